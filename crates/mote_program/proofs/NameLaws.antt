@@ -1,11 +1,13 @@
 -- Places of names, as the set that keeps them finds them.
-use Rattle.std.proofs.Common.{◌≡◌, ℕ, suc, ◌+◌, ◌≤◌, List, [], ◌∷◌, ◌++◌, map, length, cond, not, ◌||◌, nat_lt, Bool, true, false, Some, None, refl, ap, sym, ◌∙◌, arith, if◌then◌else◌}
+use Rattle.std.proofs.Common.{◌≡◌, ℕ, suc, ◌+◌, ◌≤◌, ◌<◌, slice_index_or, List, [], ◌∷◌, ◌++◌, map, length, cond, not, ◌||◌, nat_lt, Bool, true, false, Option, Some, None, is_some, refl, ap, sym, ◌∙◌, arith, if◌then◌else◌}
 use Rattle.std.specs.List.{position, position_or_len, list_any}
 use Rattle.std.specs.Prelude.{string_bytes, String}
 use Rattle.std.specs.Str.{bytes_eq}
 use Rattle.std.specs.declared.alloc.Global.{Global}
 use Rattle.std.proofs.lemmas.List.{length-map, map-append}
 use Rattle.std.proofs.lemmas.Bool.{ltb-false}
+use Rattle.std.proofs.lemmas.Slice.Eq.{bytes_eq-Decides}
+use Rattle.std.proofs.lemmas.List.Quantifiers.{position-Some}
 use Rattle.mote_program.specs.Names.{place_of}
 
 position_or_len-map : {X Y : Type 0} (p : Y → Bool) (f : X → Y) (xs : List X) → position_or_len p (map f xs) ≡ position_or_len (λ x. p (f x)) xs
@@ -45,3 +47,29 @@ added keys keys' names name x is same new after =
     absent (λ k. bytes_eq (string_bytes name) (string_bytes k)) keys (ap (λ y. position (λ k. bytes_eq y (string_bytes k)) keys) same ∙ place_among keys names x is ∙ new) in
     ap (λ ks. map string_bytes ks) (after ∙ ap (λ b. if b then keys else keys ++ name ∷ []) none)
     ∙ map-append string_bytes keys (name ∷ []) ∙ ap (λ ns. ns ++ string_bytes name ∷ []) is ∙ ap (λ y. names ++ y ∷ []) same
+
+pub same_bytes : (x y : List ℕ) → bytes_eq x y ≡ true → x ≡ y
+same_bytes x y e = (bytes_eq-Decides x y).0 e
+
+pub bytes_same : (x : List ℕ) → bytes_eq x x ≡ true
+bytes_same x = (bytes_eq-Decides x x).1 refl
+
+-- the name at the place of a name
+pub name_at : (names : List (List ℕ)) (x : List ℕ) (i : ℕ) → place_of names x ≡ Some i → slice_index_or names i [] ≡ x
+unfolding place_of
+name_at names x i e = sym (same_bytes _ _ (position-Some (λ y. bytes_eq x y) names i [] e).1)
+
+pub place_below : (names : List (List ℕ)) (x : List ℕ) (i : ℕ) → place_of names x ≡ Some i → i < length names
+unfolding place_of
+place_below names x i e = (position-Some (λ y. bytes_eq x y) names i [] e).0
+
+pub place_in_none : (x : List ℕ) → place_of [] x ≡ None
+unfolding place_of
+place_in_none x = refl
+
+pub place_is : (names : List (List ℕ)) (x : List ℕ) (i : ℕ) → place_of names x ≡ Some i → place_of names (slice_index_or names i []) ≡ Some i
+place_is names x i e = ap (place_of names) (name_at names x i e) ∙ e
+
+pub is_none : (o : Option ℕ) (b : Bool) → b ≡ is_some o → b ≡ false → o ≡ None
+is_none None b e f = refl
+is_none (Some i) b e f = absurd (cc (e, f))

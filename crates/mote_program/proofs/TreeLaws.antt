@@ -1,11 +1,11 @@
 -- Blocks as lists of statements, and what the variants of a statement stand for.
-use Rattle.std.proofs.Common.{◌≡◌, List, [], ◌∷◌, map, Option, Some, None, refl, ap, sym, ◌∙◌}
-use Rattle.mote_program.specs.Tree.{Statement, Body, end, next, nothing, otherwise, branch, while, listed, body_of, expression_of, otherwise_of, statement_layer, block_layer, statement_of, block_of}
+use Rattle.std.proofs.Common.{◌≡◌, ℕ, List, [], ◌∷◌, map, Option, Some, None, refl, ap, sym, ◌∙◌}
+use Rattle.mote_program.specs.Tree.{Statement, Body, end, next, nothing, otherwise, assign, print, branch, while, yield, yield_until, listed, body_of, expression_of, otherwise_of, statement_layer, block_layer, statement_of, block_of}
 use Rattle.mote_program.specs.declared.tree.Expr.{Expr}
-use Rattle.mote_program.specs.declared.tree.Stmt.{If, While}
+use Rattle.mote_program.specs.declared.tree.Stmt.{Assign, Print, If, While, Yield, YieldUntil}
 use Rattle.mote_program.specs.declared.tree.Block.{Block}
 use Rattle.mote_program.specs.declared.tree.Stmt.TheOpen as open_stmt
-use Rattle.mote_program.specs.declared.tree.Stmt.TheViews.{rolls-If, rolls-While}
+use Rattle.mote_program.specs.declared.tree.Stmt.TheViews.{rolls-Assign, rolls-Print, rolls-If, rolls-While, rolls-Yield, rolls-YieldUntil}
 use Rattle.mote_program.specs.declared.tree.Stmt.TheFolds.{fold-Block, fold-roll-Stmt, fold_out-Block}
 use Rattle.std.proofs.Common.{option_map}
 
@@ -36,3 +36,15 @@ pub while_of-While : (e : Expr) (a : Block) → statement_of (While e a) ≡ whi
 while_of-While e a =
     ap statement_of (sym (rolls-While e a)) ∙ fold-roll-Stmt Statement Body statement_layer block_layer (open_stmt.While e a)
     ∙ ap (λ x. while (expression_of e) x) (block_fold a)
+
+pub assign_of-Assign : (i : ℕ) (e : Expr) → statement_of (Assign i e) ≡ assign i (expression_of e)
+assign_of-Assign i e = ap statement_of (sym (rolls-Assign i e)) ∙ fold-roll-Stmt Statement Body statement_layer block_layer (open_stmt.Assign i e)
+
+pub print_of-Print : (e : Expr) → statement_of (Print e) ≡ print (expression_of e)
+print_of-Print e = ap statement_of (sym (rolls-Print e)) ∙ fold-roll-Stmt Statement Body statement_layer block_layer (open_stmt.Print e)
+
+pub yield_of-Yield : statement_of Yield ≡ yield
+yield_of-Yield = ap statement_of (sym rolls-Yield) ∙ fold-roll-Stmt Statement Body statement_layer block_layer open_stmt.Yield
+
+pub yield_until_of-YieldUntil : (e : Expr) → statement_of (YieldUntil e) ≡ yield_until (expression_of e)
+yield_until_of-YieldUntil e = ap statement_of (sym (rolls-YieldUntil e)) ∙ fold-roll-Stmt Statement Body statement_layer block_layer (open_stmt.YieldUntil e)

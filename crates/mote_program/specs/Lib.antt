@@ -1,6 +1,16 @@
+pub mod Faults
+pub mod Front
+pub mod Grammar
 pub mod Kinds
+pub mod Machine
+pub mod Named
 pub mod Names
 pub mod Program
+pub mod Reading
 pub mod Scope
+pub mod Shapes
+pub mod Steps
+pub mod Text
 pub mod Tokens
 pub mod Tree
+pub mod Words

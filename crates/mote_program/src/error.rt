@@ -7,16 +7,27 @@ use std::alloc::{AllocError, AllocFailed};
 /// The kinds of faults of a text, with the numbers that are printed.
 #[derive(Clone, Copy, Debug, PartialEq, Eq)]
 pub enum ReadErrorKind {
+    /// What stands there is no token.
     BadToken = 1,
+    /// With this token no program goes on from those before it, whatever its names and numbers.
     Unexpected = 2,
+    /// A name that nothing declared so far has.
     UnknownName = 3,
+    /// A name that is declared already, or that `autostart` lists already.
     NameTwice = 4,
+    /// A number above 65,535.
     NumberTooLarge = 5,
+    /// A wait in a block that may not wait. This notation has no such block yet.
     WaitInSimpleBlock = 6,
+    /// A brace, `!` or `(` that opens the 33rd level.
     TooDeep = 7,
+    /// The 65th variable, or the first token of the 4,097th statement.
     TooMany = 8,
+    /// The text ends where `process` should stand.
     NoProcess = 9,
+    /// A name of another class than the place takes, as a process's in the place of a variable.
     BadTarget = 10,
+    /// A growth was refused; the line is 0.
     Memory = 11,
 }
 

@@ -1,5 +1,6 @@
 //! A program and the text of each of its processes. Both are made by the reader alone.
-ghost use Rattle.std.specs.Prelude.{◌≡◌, ◌<◌, ◌≤◌, [], length, IsTrue, slice_index_or, slice_get, Some};
+ghost use Rattle.std.specs.Prelude.{◌≡◌, ◌<◌, ◌≤◌, length, map, IsTrue, slice_index_or, slice_get, Some};
+ghost use Rattle.std.specs.List.{All};
 ghost use Rattle.mote_program.specs.Tree.{height, block_of};
 ghost use Rattle.mote_program.specs.Scope.{block_fits};
 
@@ -12,6 +13,7 @@ pub struct ProcessText {
     names: Names,
     starts: Vec<u16>,
     body: Block,
+    ghost few: { length names ≤ 64 },
     ghost paired: { length names ≡ length starts.items },
     ghost shallow: { height (block_of body) ≤ 32 },
     ghost in_scope: { IsTrue (block_fits (length names) (block_of body)) },
@@ -19,6 +21,20 @@ pub struct ProcessText {
 
 impl ProcessText {
     ghost use Rattle.mote_program.specs.Program.{code_of};
+
+    pub(crate) fn new(names: Names, starts: Vec<u16>, body: Block) -> ProcessText
+        requires few { length names ≤ 64 }
+        requires paired { length names ≡ length starts.items }
+        requires shallow { height (block_of body) ≤ 32 }
+        requires in_scope { IsTrue (block_fits (length names) (block_of body)) }
+        ensures { code_of result ≡ record { names = names; starts = starts.items; body = block_of body } }
+    {
+        ProcessText {
+            names,
+            starts,
+            body,
+        }
+    }
 
     /// The names of the variables, in the order of their declaration.
     pub fn names(&self) -> &Names
@@ -31,6 +47,7 @@ impl ProcessText {
     pub fn starts(&self) -> &[u16]
         ensures value { result.now ≡ (code_of self.now).starts }
         ensures paired { length result.now ≡ length (code_of self.now).names }
+        ensures few { length result.now ≤ 64 }
     {
         &self.starts
     }
@@ -51,11 +68,25 @@ pub struct Program {
     autostart: Vec<u8>,
     codes: Vec<ProcessText>,
     ghost one_process: { length processes ≡ 1 },
+    ghost started: { All (λ i. i < length processes) autostart.items },
     ghost one_code: { length codes.items ≡ length processes },
 }
 
 impl Program {
     ghost use Rattle.mote_program.specs.Program.{code_of, tree_of};
+
+    pub(crate) fn new(processes: Names, autostart: Vec<u8>, codes: Vec<ProcessText>) -> Program
+        requires one_process { length processes ≡ 1 }
+        requires started { All (λ i. i < length processes) autostart.items }
+        requires one_code { length codes.items ≡ length processes }
+        ensures { tree_of result ≡ record { processes = processes; autostart = autostart.items; codes = map code_of codes.items } }
+    {
+        Program {
+            processes,
+            autostart,
+            codes,
+        }
+    }
 
     /// How many processes there are.
     pub fn processes(&self) -> u8
@@ -82,7 +113,8 @@ impl Program {
 
     /// The processes that start at boot, in order.
     pub fn autostart(&self) -> &[u8]
-        ensures { result.now ≡ (tree_of self.now).autostart }
+        ensures value { result.now ≡ (tree_of self.now).autostart }
+        ensures within { All (λ i. i < length (tree_of self.now).processes) result.now }
     {
         &self.autostart
     }

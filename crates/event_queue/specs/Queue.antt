@@ -1,0 +1,26 @@
+-- What a contract sees of an `EventQueue`.
+use Rattle.std.specs.Prelude.{ℕ, ◌+◌, List, [], ◌∷◌, ◌++◌, drop}
+use Rattle.mote_program.specs.declared.event.Event.{Event}
+use Rattle.mote_program.specs.declared.event.Target.{Target}
+use Rattle.event_queue.specs.declared.queue.Posted.{Posted}
+
+-- the events that wait, the oldest first, how many were ever accepted, and how many may wait
+pub record Queue : Type 0 where
+  pub events : List Posted
+  pub accepted : ℕ
+  pub capacity : ℕ
+
+abbrev pub empty_queue : ℕ → Queue
+empty_queue n = record { events = []; accepted = 0; capacity = n }
+
+-- the event goes to the back, and the count of those before it is its serial
+abbrev pub with_posted : Queue → Target → Event → Queue
+with_posted q t e = record {
+  events = q.events ++ record { serial = q.accepted; target = t; event = e } ∷ [];
+  accepted = q.accepted + 1;
+  capacity = q.capacity;
+}
+
+-- the front is gone, if there was one
+abbrev pub without_front : Queue → Queue
+without_front q = record { events = drop 1 q.events; accepted = q.accepted; capacity = q.capacity }

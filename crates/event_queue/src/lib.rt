@@ -1,0 +1,9 @@
+//! The event queue of a mote: posted events in the order in which they came, each with its serial.
+#![tactic(auto)]
+
+pub mod queue;
+
+pub use queue::{EventQueue, Full, Posted};
+
+#[cfg(test)]
+mod tests;

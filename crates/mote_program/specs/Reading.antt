@@ -1,0 +1,34 @@
+-- The tree of a text, and the told fault of one that has none.
+use Rattle.std.specs.Prelude.{◌≡◌, ℕ, List, ◌++◌, length, slice_get, Some, ◌⊎◌}
+use Rattle.mote_program.specs.Faults.{IsProgram, IsTold}
+use Rattle.mote_program.specs.Grammar.{ProgramShape}
+use Rattle.mote_program.specs.Program.{Tree}
+use Rattle.mote_program.specs.Shapes.{tree_of_shape}
+use Rattle.mote_program.specs.Text.{IsLexed}
+use Rattle.mote_program.specs.Tokens.{Token}
+use Rattle.mote_program.specs.declared.error.ReadErrorKind.{ReadErrorKind}
+
+-- the text's tokens are those of a program, and this is its tree
+pub record IsTreeOf (text : List ℕ) (tree : Tree) : Type 0 where
+  pub tokens : List Token
+  pub lines : List ℕ
+  pub lexed : IsLexed text tokens lines
+  pub shape : ProgramShape
+  pub program : IsProgram shape tokens
+  pub numbered : tree ≡ tree_of_shape shape
+
+-- the text's told fault is of this kind, and its token, or the end, stands on this line
+pub record IsToldOf (text : List ℕ) (kind : ReadErrorKind) (line : ℕ) : Type 0 where
+  pub tokens : List Token
+  pub lines : List ℕ
+  pub lexed : IsLexed text tokens lines
+  pub before : List Token
+  pub rest : List Token
+  pub split : tokens ≡ before ++ rest
+  pub told : IsTold kind before rest
+  pub stands : slice_get lines (length before) ≡ Some line
+
+-- a tree or a told fault, and never both
+pub record HasTreeOrFault (text : List ℕ) : Type 0 where
+  pub one : ((tree : Tree) × IsTreeOf text tree) ⊎ ((kind : ReadErrorKind) × (line : ℕ) × IsToldOf text kind line)
+  pub apart : (tree : Tree) (kind : ReadErrorKind) (line : ℕ) → IsTreeOf text tree → IsToldOf text kind line → ⊥

@@ -1,0 +1,5 @@
+pub mod Least
+pub mod ListedTimers
+pub mod NumberLists
+pub mod TimerLaws
+pub mod Walks

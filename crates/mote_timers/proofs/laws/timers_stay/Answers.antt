@@ -1,0 +1,5 @@
+use Rattle.mote_timers.proofs.TimerLaws as laws
+use Rattle.mote_timers.proofs.laws.timers_stay.Goals as goal
+
+pub returns : goal.returns
+returns c = laws.timers_stay

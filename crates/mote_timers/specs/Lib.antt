@@ -1,0 +1,4 @@
+pub mod Numbers
+pub mod Timer
+pub mod TimerCalls
+pub mod TimerLists

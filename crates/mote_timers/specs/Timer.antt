@@ -1,0 +1,28 @@
+-- Timers, and what each call makes of them.
+use Rattle.std.specs.Prelude.{ℕ, ◌+◌, ◌==◌, nat_le, Bool, true, false, None}
+use Rattle.std.specs.Option.{option_map_or}
+use Rattle.mote_program.specs.declared.event.Proc.{Proc}
+use Rattle.mote_program.specs.declared.event.Proc.TheVariants.{Own, Etimer, Ctimer, Radio}
+use Rattle.mote_timers.specs.declared.timer.Timer.{Timer}
+
+-- a timer before it is first set
+abbrev pub unset : Timer
+unset = record { start = 0; interval = 0; owner = None }
+
+-- the moment from which on the timer is due
+abbrev pub expiration : Timer → ℕ
+expiration t = t.start + t.interval
+
+abbrev pub is_due : ℕ → Timer → Bool
+is_due now t = nat_le (expiration t) now
+
+abbrev pub is_same : Proc → Proc → Bool
+is_same (Own a) (Own b) = a == b
+is_same Etimer Etimer = true
+is_same Ctimer Ctimer = true
+is_same Radio Radio = true
+is_same _ _ = false
+
+-- whether the process owns the timer
+abbrev pub is_owned_by : Proc → Timer → Bool
+is_owned_by p t = option_map_or (is_same p) t.owner false

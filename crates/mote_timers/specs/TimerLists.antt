@@ -1,0 +1,73 @@
+-- The timers of a mote with its timer list, and what each call makes of them.
+use Rattle.std.specs.Prelude.{◌≡◌, ℕ, ◌≤◌, ◌^◌, ◌==◌, min, not, List, [], ◌∷◌, All, length, map, filter, find, replicate, slice_index_or, slice_set, Option, Some, None, IsSome}
+use Rattle.std.specs.List.{after_first}
+use Rattle.std.specs.Option.{option_map_or}
+use Rattle.mote_program.specs.declared.event.Proc.{Proc}
+use Rattle.mote_timers.specs.declared.timer.Timer.{Timer}
+use Rattle.mote_timers.specs.Numbers.{Numbers, with_member, without_member}
+use Rattle.mote_timers.specs.Timer.{unset, expiration, is_due, is_owned_by}
+
+-- each timer by its number, and the numbers of those on the timer list, the front first
+pub record TimerLists : Type 0 where
+  pub timers : List Timer
+  pub listed : List ℕ
+
+-- the timer of this number; a number of no timer stands for one that was never set
+abbrev pub timer_at : List Timer → ℕ → Timer
+timer_at ts id = slice_index_or ts id unset
+
+-- what holds of every `Timers`: the list has room for each timer, a timer on it has an owner, and no start is past
+-- its limit
+pub record AreTimers (ts : List Timer) (listed : Numbers) : Type 0 where
+  pub room : length ts ≡ listed.limit
+  pub owned : All (λ id. IsSome (timer_at ts id).owner) listed.members
+  pub bounded : All (λ (t : Timer). t.start ≤ 2 ^ 62) ts
+
+unfoldable pub new_timers : ℕ → TimerLists
+new_timers n = record { timers = replicate n unset; listed = [] }
+
+-- the timer is now as given, and on the list
+abbrev pub with_timer : TimerLists → ℕ → Timer → TimerLists
+with_timer s id t = record { timers = slice_set s.timers id t; listed = with_member id s.listed }
+
+unfoldable pub set_timer : TimerLists → ℕ → Proc → ℕ → ℕ → TimerLists
+set_timer s id owner interval now = with_timer s id (record { start = now; interval = interval; owner = Some owner })
+
+-- from the moment at which it was due, up to the latest start
+unfoldable pub reset_timer : TimerLists → ℕ → Proc → TimerLists
+reset_timer s id owner = with_timer s id (record { start = min (expiration t) (2 ^ 62); interval = t.interval; owner = Some owner })
+  where
+    t : Timer
+    t = timer_at s.timers id
+
+unfoldable pub restart_timer : TimerLists → ℕ → Proc → ℕ → TimerLists
+restart_timer s id owner now = with_timer s id (record { start = now; interval = (timer_at s.timers id).interval; owner = Some owner })
+
+-- the timer is off the list, and has no owner
+unfoldable pub stop_timer : TimerLists → ℕ → TimerLists
+stop_timer s id = record {
+  timers = slice_set s.timers id (record (timer_at s.timers id) { owner = None });
+  listed = without_member id s.listed;
+}
+
+-- the timers of the process are off the list, and keep their owner
+unfoldable pub purge_timers : TimerLists → Proc → TimerLists
+purge_timers s p = record { timers = s.timers; listed = filter (λ id. not (is_owned_by p (timer_at s.timers id))) s.listed }
+
+-- what stands behind a member, or the whole list
+abbrev pub behind : Option ℕ → List ℕ → List ℕ
+behind None ids = ids
+behind (Some id) ids = after_first (λ other. other == id) ids
+
+-- the first timer on the list, behind the given one, that is due
+unfoldable pub first_due : TimerLists → ℕ → Option ℕ → Option ℕ
+first_due s now after = find (λ id. is_due now (timer_at s.timers id)) (behind after s.listed)
+
+-- the least number of a list
+abbrev pub least : List ℕ → Option ℕ
+least [] = None
+least (x ∷ xs) = Some (option_map_or (min x) (least xs) x)
+
+-- the least expiration on the list
+unfoldable pub next_expiration_of : TimerLists → Option ℕ
+next_expiration_of s = least (map (λ id. expiration (timer_at s.timers id)) s.listed)

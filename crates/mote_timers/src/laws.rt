@@ -1,0 +1,25 @@
+//! Laws of the timers. Each is the contract of a function that does nothing.
+
+ghost use Rattle.mote_timers.specs.TimerCalls.{ListedOnce, KeepsTimers, DueFromExpiration, DueFromSet, DueFromNextExpiration};
+
+/// Whatever calls came, a timer stands on the timer list at most once, and so a walk along it comes to an end.
+pub fn listed_once()
+    ensures { ListedOnce }
+{}
+
+/// No call makes a timer or loses one: the numbers that a caller may use stay the same.
+pub fn timers_stay()
+    ensures { KeepsTimers }
+{}
+
+/// A timer that was set, and neither fired nor stopped nor purged since, is due exactly from its start plus its
+/// interval on. Where it wasn't set again either, these are the start and the interval that it was given.
+pub fn due_from_expiration()
+    ensures last_set { DueFromExpiration }
+    ensures set_once { DueFromSet }
+{}
+
+/// The next expiration is the first moment at which `next_due` finds a timer, from the front of the list on.
+pub fn due_from_next_expiration()
+    ensures { DueFromNextExpiration }
+{}

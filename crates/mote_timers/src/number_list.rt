@@ -1,0 +1,77 @@
+//! Lists on which a number stands at most once, with room for every number below a limit.
+
+ghost use Rattle.std.specs.Prelude.{◌≡◌, ◌<◌, [], IfOk};
+ghost use Rattle.std.specs.Fn.{CalledAt};
+ghost use Rattle.std.specs.List.Retain.{IsFiltered};
+ghost use Rattle.mote_timers.specs.Numbers.{AreNumbers, numbers, is_member, with_member, without_member};
+
+use std::alloc::{AllocError, Global};
+use std::marker::Model;
+
+/// A list of numbers, each at most once and below the limit. `new` takes all its memory.
+#[derive(Drop)]
+pub struct NumberList {
+    members: Vec<u16>,
+}
+
+impl Model for NumberList {
+    ghost use Rattle.std.specs.Vec.{vec_capacity};
+    ghost use Rattle.mote_timers.specs.Numbers.{Numbers, numbers, AreNumbers};
+
+    ghost Value = { Numbers };
+
+    ghost view = { λ l. numbers l.members.items (vec_capacity l.members) };
+
+    ghost invariant = { λ l. AreNumbers l.members.items (vec_capacity l.members) };
+}
+
+impl NumberList {
+    /// An empty list of numbers below the limit.
+    pub fn new(alloc: Global, limit: u16) -> Result<NumberList, AllocError>
+        ensures { IfOk result (λ list. list ≡ numbers [] limit) }
+    {
+        Ok(NumberList {
+            members: Vec::with_capacity(alloc, usize::from(limit))?,
+        })
+    }
+
+    /// The numbers, the front first.
+    pub fn as_slice(&self) -> &[u16]
+        ensures value { result.now ≡ self.now.members }
+        ensures numbers { AreNumbers self.now.members self.now.limit }
+    {
+        self.members.as_slice()
+    }
+
+    pub fn contains(&self, number: u16) -> bool
+        ensures { result ≡ is_member number self.now.members }
+    {
+        self.members.contains(&number)
+    }
+
+    /// Puts a number at the front. One that is on the list keeps its place.
+    pub fn add(&mut self, number: u16)
+        requires { number < self.old.limit }
+        ensures { self.new ≡ numbers (with_member number self.old.members) self.old.limit }
+    {
+        if !self.contains(number) {
+            self.members.insert(0, number).unwrap();
+        }
+    }
+
+    /// Keeps the numbers at which the closure gives true.
+    pub fn retain<F: FnMut(&u16) -> bool>(&mut self, keep: F)
+        requires { F.IsAlwaysCallable keep }
+        ensures kept { IsFiltered (CalledAt F.FnMut) keep self.old.members self.new.members }
+        ensures limit { self.new.limit ≡ self.old.limit }
+    {
+        self.members.retain(keep);
+    }
+
+    /// Takes a number off the list, if it is there.
+    pub fn remove(&mut self, number: u16)
+        ensures { self.new ≡ numbers (without_member number self.old.members) self.old.limit }
+    {
+        self.retain(|k| *k != number);
+    }
+}

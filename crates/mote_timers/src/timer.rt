@@ -1,0 +1,55 @@
+//! One timer.
+
+ghost use Rattle.std.specs.Prelude.{◌≡◌, ◌≤◌, ◌^◌};
+ghost use Rattle.mote_timers.specs.Timer.{expiration, is_due, is_owned_by};
+
+use mote_program::Proc;
+
+/// A timer: its start in moments, its interval in moments, and the process that is told when it is due
+/// (`struct timer` of `timer.h`, and `p` of `struct etimer`).
+#[derive(Clone, Copy, Debug, PartialEq, Eq)]
+pub struct Timer {
+    pub start: u64,
+    pub interval: u16,
+    pub owner: Option<Proc>,
+}
+
+/// The latest start that `reset` gives a timer, 2 to the 62.
+pub const LATEST_START: u64 = 1 << 62;
+
+impl Timer {
+    ghost use Rattle.mote_timers.specs.Timer.{unset};
+
+    /// A timer before it is first set.
+    pub fn unset() -> Timer
+        ensures { result ≡ unset }
+    {
+        Timer {
+            start: 0,
+            interval: 0,
+            owner: None,
+        }
+    }
+
+    /// The moment from which on the timer is due.
+    pub fn expiration(&self) -> u64
+        requires { self.now.start ≤ 2 ^ 62 }
+        ensures { result ≡ expiration self.now }
+    {
+        self.start + u64::from(self.interval)
+    }
+
+    /// Whether the timer is due at this moment.
+    pub fn is_due(&self, now: u64) -> bool
+        ensures { result ≡ is_due now self.now }
+    {
+        now >= self.start && now - self.start >= u64::from(self.interval)
+    }
+
+    /// Whether this process owns the timer.
+    pub fn is_owned_by(&self, owner: Proc) -> bool
+        ensures { result ≡ is_owned_by owner self.now }
+    {
+        self.owner == Some(owner)
+    }
+}

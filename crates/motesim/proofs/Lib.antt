@@ -1,0 +1,14 @@
+pub mod Named
+pub mod Pieces
+pub mod Printed
+pub mod Runs
+pub mod Traces
+pub mod Written
+pub mod ScenarioEach
+pub mod ScenarioKeeps
+pub mod ScenarioTables
+pub mod ScenarioPrograms
+pub mod ScenarioNet
+pub mod ScenarioReading
+pub mod ScenarioMembers
+pub mod ScenarioLaws

@@ -1,0 +1,11 @@
+pub mod Boot
+pub mod Core
+pub mod Input
+pub mod Names
+pub mod Output
+pub mod PrintErrors
+pub mod Report
+pub mod ReportText
+pub mod Run
+pub mod Scenario
+pub mod Simulation

@@ -1,0 +1,52 @@
+-- What a simulation of some bytes answers.
+use Rattle.std.specs.Prelude.{◌<◌, ◌≤◌, ℕ, List, length, Option, Result, Ok, Err}
+use Rattle.std.specs.Str.{IsUtf8}
+use Rattle.std.specs.Io.KnownBytes.{Keeps, Appends}
+use Rattle.motesim.specs.declared.input.InputError.{InputError}
+use Rattle.motesim.specs.declared.input.InputError.TheVariants as input
+use Rattle.motesim.specs.declared.scenario.error.ScenarioError.{ScenarioError}
+use Rattle.motesim.specs.declared.scenario.error.ScenarioError.TheVariants as scenario
+use Rattle.motesim.specs.declared.simulate.SimError.{SimError}
+use Rattle.motesim.specs.declared.simulate.SimError.TheVariants as fault
+use Rattle.motesim.specs.Input.{limit, IsText}
+use Rattle.motesim.specs.Output.{AppendsFront}
+use Rattle.motesim.specs.Run.{output_of}
+use Rattle.motesim.specs.Scenario.Net.{NetTold}
+use Rattle.motesim.specs.Scenario.Reading.{TellsNet, TellsFault}
+
+abbrev pub sim_fault : InputError → SimError
+sim_fault input.Read = fault.Read
+sim_fault input.TooLong = fault.TooLong
+sim_fault input.NotText = fault.NotText
+sim_fault input.Memory = fault.Memory
+
+-- the bytes are a text of at most a mebibyte, which tells a net, and of that net's report the writer has got this
+abbrev pub Reported : List ℕ → (written : List ℕ → Type 0) → Type 0
+Reported bytes written = IsText bytes × ((n : NetTold) × TellsNet bytes n × written (output_of n))
+
+-- the text has this first fault; want of memory may come at any text
+abbrev pub RefusesText : List ℕ → ScenarioError → Type 0
+RefusesText bytes scenario.Memory = Unit {0}
+RefusesText bytes e = TellsFault bytes e
+
+-- each answer where its cause is; a failing reader and want of memory may come at any bytes
+abbrev pub Simulated : List ℕ → (old new : Option (List ℕ)) → Result (Unit {0}) SimError → Type 0
+Simulated bytes old new (Ok u) = Reported bytes (Appends old new)
+Simulated bytes old new (Err fault.Read) = Unit {0}
+Simulated bytes old new (Err fault.TooLong) = limit < length bytes
+Simulated bytes old new (Err fault.NotText) = (length bytes ≤ limit) × (¬ IsUtf8 bytes)
+Simulated bytes old new (Err (fault.Scenario e)) = IsText bytes × RefusesText bytes e
+Simulated bytes old new (Err (fault.Print e)) = Reported bytes (AppendsFront old new)
+Simulated bytes old new (Err fault.Memory) = Unit {0}
+
+-- what an answer that doesn't stand for the reader says of some bytes, whichever the reader gave
+abbrev pub SimulatedSome : (old new : Option (List ℕ)) → Result (Unit {0}) SimError → Type 0
+SimulatedSome old new (Ok u) = (bytes : List ℕ) × Simulated bytes old new (Ok u)
+SimulatedSome old new (Err (fault.Scenario e)) = (bytes : List ℕ) × Simulated bytes old new (Err (fault.Scenario e))
+SimulatedSome old new (Err (fault.Print e)) = (bytes : List ℕ) × Simulated bytes old new (Err (fault.Print e))
+SimulatedSome old new (Err e) = Unit {0}
+
+-- a fault that has written nothing, unless it came in printing
+abbrev pub Unwritten : (old new : Option (List ℕ)) → SimError → Type 0
+Unwritten old new (fault.Print e) = Unit {0}
+Unwritten old new e = Keeps old new

@@ -1,0 +1,127 @@
+//! Why a scenario was refused.
+ghost use Rattle.std.specs.Prelude.{◌≡◌};
+
+use mote_program::ReadError;
+use std::alloc::{AllocError, AllocFailed};
+
+/// A fault of a document's tables. It is told as the scenario's fault of the same name.
+#[derive(Clone, Copy, Debug, PartialEq, Eq)]
+pub enum TableFault {
+    MissingKey,
+    UnknownKey,
+    WrongKind,
+    OutOfRange,
+    UnknownProgram,
+}
+
+/// Why no medium has these numbers. `BadLoss` is for scenarios with losses, and `Memory` for a medium that keeps them.
+#[derive(Clone, Copy, Debug, PartialEq, Eq)]
+pub enum MediumError {
+    Memory = 1,
+    ZeroBase = 2,
+    ZeroPer = 3,
+    BadLoss = 4,
+}
+
+impl MediumError {
+    ghost use Rattle.motesim.specs.Scenario.Errors.{medium_number};
+
+    /// The number that is printed.
+    pub fn number(self) -> u8
+        ensures { result ≡ medium_number self }
+    {
+        self as u8
+    }
+}
+
+/// Why a text tells no net: its first fault, or want of memory in any part of the reading.
+#[derive(Debug, PartialEq, Eq, Drop)]
+pub enum ScenarioError {
+    /// The text is no TOML.
+    Toml,
+    /// A table lacks a key that it needs.
+    MissingKey,
+    /// A table has a key that it doesn't know, or a program has a name of another form.
+    UnknownKey,
+    /// A value is of another kind than its key takes.
+    WrongKind,
+    /// A number or a count is outside its limits, or the text is too long.
+    OutOfRange,
+    /// A mote's program isn't among the programs.
+    UnknownProgram,
+    /// The program with this name can't be read.
+    Program(String, ReadError),
+    /// The numbers of the medium make none.
+    Medium(MediumError),
+    Memory,
+}
+
+impl ScenarioError {
+    ghost use Rattle.motesim.specs.Scenario.Errors.{number_of};
+
+    /// The number that is printed.
+    pub fn number(&self) -> u8
+        ensures { result ≡ number_of self.now }
+    {
+        match self {
+            ScenarioError::Toml => 1,
+            ScenarioError::MissingKey => 2,
+            ScenarioError::UnknownKey => 3,
+            ScenarioError::WrongKind => 4,
+            ScenarioError::OutOfRange => 5,
+            ScenarioError::UnknownProgram => 6,
+            ScenarioError::Program(_, _) => 7,
+            ScenarioError::Medium(_) => 8,
+            ScenarioError::Memory => 9,
+        }
+    }
+}
+
+impl From<TableFault> for ScenarioError {
+    ghost use Rattle.motesim.specs.Scenario.Errors.{of_table};
+
+    ghost from_gives = { λ f e. e ≡ of_table f };
+
+    fn from(fault: TableFault) -> ScenarioError {
+        match fault {
+            TableFault::MissingKey => ScenarioError::MissingKey,
+            TableFault::UnknownKey => ScenarioError::UnknownKey,
+            TableFault::WrongKind => ScenarioError::WrongKind,
+            TableFault::OutOfRange => ScenarioError::OutOfRange,
+            TableFault::UnknownProgram => ScenarioError::UnknownProgram,
+        }
+    }
+}
+
+impl From<MediumError> for ScenarioError {
+    ghost use Rattle.motesim.specs.Scenario.Errors.{of_medium};
+
+    ghost from_gives = { λ m e. e ≡ of_medium m };
+
+    fn from(error: MediumError) -> ScenarioError {
+        match error {
+            MediumError::Memory => ScenarioError::Memory,
+            _ => ScenarioError::Medium(error),
+        }
+    }
+}
+
+impl From<AllocError> for ScenarioError {
+    ghost use Rattle.motesim.specs.declared.scenario.error.ScenarioError.TheVariants.{Memory};
+
+    ghost from_gives = { λ _ e. e ≡ Memory };
+
+    fn from(_error: AllocError) -> ScenarioError {
+        ScenarioError::Memory
+    }
+}
+
+impl<T: Drop> From<AllocFailed<T>> for ScenarioError {
+    ghost use Rattle.motesim.specs.declared.scenario.error.ScenarioError.TheVariants.{Memory};
+
+    ghost from_gives = { λ _ e. e ≡ Memory };
+
+    fn from(_error: AllocFailed<T>) -> ScenarioError {
+        ScenarioError::Memory
+    }
+}

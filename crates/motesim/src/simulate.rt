@@ -1,0 +1,105 @@
+//! A simulation, from the bytes of a scenario to the bytes of its report.
+ghost use Rattle.std.specs.Prelude.{◌≡◌, IfErr, IfSome};
+ghost use Rattle.motesim.specs.Simulation.{Simulated, SimulatedSome, Unwritten, sim_fault};
+ghost use Rattle.motesim.specs.Input.{IsText};
+ghost use Rattle.motesim.specs.declared.simulate.SimError.TheVariants as fault;
+
+use crate::input::{InputError, read_text};
+use crate::printer::{PrintError, write_report};
+use crate::run::{programs_of, run};
+use crate::scenario::{ScenarioError, read_scenario};
+use std::alloc::{AllocError, Global};
+use std::io::{Read, Write};
+
+/// Why a simulation wrote no whole report.
+#[derive(Debug, PartialEq, Eq, Drop)]
+pub enum SimError {
+    /// A call of the reader failed.
+    Read,
+    /// More than 1,048,576 bytes came.
+    TooLong,
+    /// The bytes aren't UTF-8.
+    NotText,
+    /// The scenario's first fault.
+    Scenario(ScenarioError),
+    /// A front of the report has been written.
+    Print(PrintError),
+    /// Memory ran out outside the parts above.
+    Memory,
+}
+
+impl From<InputError> for SimError {
+    ghost from_gives = { λ x e. e ≡ sim_fault x };
+
+    fn from(error: InputError) -> Self {
+        match error {
+            InputError::Read => SimError::Read,
+            InputError::TooLong => SimError::TooLong,
+            InputError::NotText => SimError::NotText,
+            InputError::Memory => SimError::Memory,
+        }
+    }
+}
+
+impl From<ScenarioError> for SimError {
+    ghost from_gives = { λ x e. e ≡ fault.Scenario x };
+
+    fn from(error: ScenarioError) -> Self {
+        SimError::Scenario(error)
+    }
+}
+
+impl From<PrintError> for SimError {
+    ghost from_gives = { λ x e. e ≡ fault.Print x };
+
+    fn from(error: PrintError) -> Self {
+        SimError::Print(error)
+    }
+}
+
+impl From<AllocError> for SimError {
+    ghost from_gives = { λ _ e. e ≡ fault.Memory };
+
+    fn from(_error: AllocError) -> Self {
+        SimError::Memory
+    }
+}
+
+/// Simulates the scenario that the text tells, and writes the report.
+fn simulate_text<W: Write>(alloc: Global, text: &str, writer: &mut W) -> Result<(), SimError>
+    requires { IsText text.now }
+    ensures answer { Simulated text.now (W.contents writer.old) (W.contents writer.new) result }
+    ensures unwritten { IfErr result (Unwritten (W.contents writer.old) (W.contents writer.new)) }
+{
+    let net = read_scenario(alloc, text)?;
+    let report = run(alloc, &net)?;
+    let programs = programs_of(alloc, &net)?;
+    write_report(alloc, writer, &programs, &report)?;
+    Ok(())
+}
+
+/// Reads a scenario to its end, simulates it on one thread, and writes its report.
+///
+/// # Errors
+/// In this order: `Read` where a call of the reader failed before the limit was passed, an interrupted one included;
+/// `TooLong` where more than 1,048,576 bytes came, also from a reader that never ends; `NotText` where they aren't
+/// UTF-8; `Scenario` with the scenario's first fault; `Print` where the writer failed or took no byte, and then a front
+/// of the report is written. `Memory`, and `Memory` of a part, stand only where a growth was refused. A fault other than
+/// `Print` has written nothing.
+#[tactic(auto, using(crate::proofs::Printed::some_bytes))]
+pub fn simulate_serial<R: Read, W: Write>(
+    alloc: Global,
+    reader: &mut R,
+    writer: &mut W,
+) -> Result<(), SimError>
+    // Where the reader tells its bytes, the answer is that of those bytes; where the writer tells its bytes, they are
+    // those of the report.
+    ensures answer { IfSome (R.remaining reader.old) (λ input. Simulated input (W.contents writer.old) (W.contents writer.new) result) }
+    // Whatever the reader, a report is that of some bytes, and a scenario's fault is that of some bytes.
+    ensures some { SimulatedSome (W.contents writer.old) (W.contents writer.new) result }
+    // Only a print has written anything.
+    ensures unwritten { IfErr result (Unwritten (W.contents writer.old) (W.contents writer.new)) }
+{
+    let text = read_text(alloc, reader)?;
+    simulate_text(alloc, text.as_str(), writer)
+}

@@ -1,0 +1,10 @@
+pub mod State
+pub mod Looks
+pub mod Value
+pub mod Remainder
+pub mod Step
+pub mod Frames
+pub mod Reach
+pub mod Laws
+pub mod Reading
+pub mod Runs

@@ -1,0 +1,11 @@
+-- What a protothread can see of its mote.
+use Rattle.std.specs.Prelude.{ℕ, List}
+
+-- the moment, the number of the mote, the timers that nobody owns, the processes that run or are called, and the
+-- count of each semaphore
+pub record Looks : Type 0 where
+  pub moment : ℕ
+  pub mote : ℕ
+  pub expired : List ℕ
+  pub running : List ℕ
+  pub counts : List ℕ

@@ -1,0 +1,41 @@
+-- The value of an expression, a number of 16 bits.
+use Rattle.std.specs.Prelude.{ℕ, ◌+◌, ◌-◌, ◌*◌, ◌/◌, ◌%◌, ◌^◌, ◌==◌, nat_lt, nat_le, Bool, not, ◌&&◌, ◌||◌, if◌then◌else◌, List, slice_index}
+use Rattle.mote_program.specs.declared.event.Event.{Event}
+use Rattle.mote_program.specs.declared.tree.Operator.{Operator}
+use Rattle.mote_program.specs.declared.tree.Operator.TheVariants.{Add, Subtract, Multiply, Divide, Remainder, Equal, Unequal, Less, AtMost, Greater, AtLeast, And, Or}
+use Rattle.mote_program.specs.Tree.{Expression, number, variable, word, sender, moment, mote, negation, binary}
+use Rattle.protothread.specs.Looks.{Looks}
+
+-- the answer of a test as a value
+abbrev pub truth : Bool → ℕ
+truth b = if b then 1 else 0
+
+-- any value but 0 is true
+abbrev pub holds : ℕ → Bool
+holds n = not (n == 0)
+
+-- sums, differences and products wrap at 16 bits, and a division by 0 gives 0
+abbrev pub applied : Operator → ℕ → ℕ → ℕ
+applied Add a b = (a + b) % 2 ^ 16
+applied Subtract a b = (a + (2 ^ 16 - b)) % 2 ^ 16
+applied Multiply a b = (a * b) % 2 ^ 16
+applied Divide a b = if b == 0 then 0 else a / b
+applied Remainder a b = if b == 0 then 0 else a % b
+applied Equal a b = truth (a == b)
+applied Unequal a b = truth (not (a == b))
+applied Less a b = truth (nat_lt a b)
+applied AtMost a b = truth (nat_le a b)
+applied Greater a b = truth (nat_lt b a)
+applied AtLeast a b = truth (nat_le b a)
+applied And a b = truth (holds a && holds b)
+applied Or a b = truth (holds a || holds b)
+
+abbrev pub value : (variables : List ℕ) → Event → Looks → Expression → ℕ
+value variables event looks (number n) = n
+value variables event looks (variable i) = slice_index variables i
+value variables event looks word = event.word
+value variables event looks sender = event.sender
+value variables event looks moment = looks.moment % 2 ^ 16
+value variables event looks mote = looks.mote
+value variables event looks (negation a) = truth (not (holds (value variables event looks a)))
+value variables event looks (binary o a b) = applied o (value variables event looks a) (value variables event looks b)

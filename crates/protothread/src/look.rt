@@ -1,0 +1,28 @@
+//! What a protothread can see of its mote.
+ghost use Rattle.std.specs.Prelude.{◌≡◌, ◌%◌, ◌^◌, ◌↔◌, IsTrue, Contains, slice_index};
+ghost use Rattle.protothread.specs.Looks.{Looks};
+
+/// What a protothread can see of its mote. All five answers are of one fixed state of the kernel, the record `looks`.
+pub trait Look {
+    ghost looks: { Self → Looks };
+
+    /// The moment, modulo 65,536.
+    fn now(&self) -> u16
+        ensures { result ≡ (looks self.now).moment % 2 ^ 16 };
+
+    /// The number of the mote.
+    fn mote(&self) -> u16
+        ensures { result ≡ (looks self.now).mote };
+
+    /// Whether a timer has expired: nobody owns it.
+    fn expired(&self, timer: u16) -> bool
+        ensures { IsTrue result ↔ Contains (looks self.now).expired timer };
+
+    /// Whether a process is running or called.
+    fn running(&self, process: u8) -> bool
+        ensures { IsTrue result ↔ Contains (looks self.now).running process };
+
+    /// The count of a semaphore.
+    fn count(&self, semaphore: u8) -> u16
+        ensures { result ≡ slice_index (looks self.now).counts semaphore };
+}

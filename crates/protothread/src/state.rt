@@ -1,0 +1,37 @@
+//! What a protothread answers.
+ghost use Rattle.std.specs.Prelude.{◌≡◌, ◌<◌, ◌↔◌, IsTrue};
+ghost use Rattle.protothread.specs.State.{number_of};
+
+/// What a protothread answers where it gives up control, as `pt.h` of Contiki has it.
+#[derive(Clone, Copy, Debug, PartialEq, Eq)]
+pub enum PtState {
+    /// It waits for a condition (`PT_WAITING`).
+    Waiting,
+    /// It gave way to others once (`PT_YIELDED`).
+    Yielded,
+    /// It left by itself (`PT_EXITED`).
+    Exited,
+    /// It reached the end of its block (`PT_ENDED`).
+    Ended,
+}
+
+impl PtState {
+    /// The number of the state in `pt.h`, 0 to 3.
+    pub fn number(self) -> u8
+        ensures { result ≡ number_of self }
+    {
+        match self {
+            PtState::Waiting => 0,
+            PtState::Yielded => 1,
+            PtState::Exited => 2,
+            PtState::Ended => 3,
+        }
+    }
+
+    /// Whether the protothread is to be called again (`PT_SCHEDULE` of `pt.h`).
+    pub fn scheduled(self) -> bool
+        ensures { IsTrue result ↔ (number_of self < 2) }
+    {
+        self.number() < 2
+    }
+}

@@ -1,0 +1,67 @@
+//! The variables of a process.
+ghost use Rattle.std.specs.Prelude.{◌≡◌, ◌<◌, length, slice_index, slice_set};
+ghost use Rattle.mote_program.specs.Program.{code_of};
+
+use arrayvec::ArrayVec;
+use mote_program::ProcessText;
+use std::marker::Model;
+
+/// How many variables a process has at most.
+const ROOM: usize = 64;
+
+/// The values of a process's variables, by the numbers of their declarations. They outlive each run of the body.
+#[derive(Drop)]
+pub struct Vars {
+    values: ArrayVec<u16, ROOM>,
+}
+
+impl Model for Vars {
+    ghost use Rattle.std.specs.Prelude.{List, ℕ};
+
+    ghost Value = { List ℕ };
+
+    ghost view = { λ v. v.values.items };
+}
+
+impl Vars {
+    /// The variables of a text with the values of their declarations.
+    pub fn new(text: &ProcessText) -> Vars
+        ensures { result ≡ (code_of text.now).starts }
+    {
+        let mut values = ArrayVec::new();
+        for start in text.starts() {
+            values.push(*start);
+        }
+        Vars { values }
+    }
+
+    /// The value of a variable, by its number.
+    pub fn get(&self, variable: u8) -> u16
+        requires { variable < length self.now }
+        ensures { result ≡ slice_index self.now variable }
+    {
+        self.values[usize::from(variable)]
+    }
+
+    /// The value of a variable, and 0 where there is no such variable.
+    pub(crate) fn value(&self, variable: u8) -> u16
+        ensures { result ≡ slice_index self.now variable }
+    {
+        let variable = usize::from(variable);
+        if variable < self.values.len() {
+            self.values[variable]
+        } else {
+            0
+        }
+    }
+
+    /// Gives a variable a value, where there is such a variable.
+    pub(crate) fn set(&mut self, variable: u8, value: u16)
+        ensures { self.new ≡ slice_set self.old variable value }
+    {
+        let variable = usize::from(variable);
+        if variable < self.values.len() {
+            self.values[variable] = value;
+        }
+    }
+}
