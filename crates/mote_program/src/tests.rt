@@ -62,6 +62,8 @@ fn faults(rt: HostRuntime) {
         ("process a;\ncode a { body { a = 1; } }", (10, 2)),
         ("process a;\ncode a { body { print\na; } }", (10, 3)),
         ("process a;\ncode a { body { print 1; } } // end", (0, 0)),
+        ("process a;\ncode a { body { \u{e9} = 1; } }", (1, 2)),
+        ("process a; // \u{e9}\ncode a { body { } }", (0, 0)),
     ] {
         assert_eq!(rt; told(alloc, text), want, "{text}");
     }

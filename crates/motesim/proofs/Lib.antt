@@ -1,3 +1,4 @@
+pub mod Bounds
 pub mod Named
 pub mod Pieces
 pub mod Printed

@@ -1,4 +1,5 @@
 pub mod Boot
+pub mod BootLaws
 pub mod Core
 pub mod Input
 pub mod Names

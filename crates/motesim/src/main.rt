@@ -4,6 +4,7 @@
 mod command;
 mod input;
 mod kernel;
+mod laws;
 mod line;
 mod output;
 mod printer;

@@ -14,8 +14,8 @@ use Rattle.protothread.specs.State.{number_of}
 use Rattle.protothread.specs.declared.thread.Step.{Step}
 use Rattle.protothread.specs.Looks.{Looks}
 use Rattle.protothread.specs.Remainder.{Remainder}
-use Rattle.protothread.specs.Step.{Advanced, Reached, goes_on, stops, reached, continued, advanced_of}
-use Rattle.protothread.specs.Laws.{MoreUnitsChangeNothing, RunAwayIsForGood, ControlIsGivenUpAtWaits, RestsAtAWait, is_wait}
+use Rattle.protothread.specs.Step.{Advanced, Reached, goes_on, stops, reached, continued, advanced_of, PaysFor}
+use Rattle.protothread.specs.Laws.{MoreUnitsChangeNothing, RunAwayIsForGood, ControlIsGivenUpAtWaits, RestsAtAWait, is_wait, OperationsCostWork}
 
 -- an advance with more units left
 abbrev with_more : Advanced → ℕ → Advanced
@@ -149,3 +149,34 @@ gives_up_so RunAway code event looks r variables units answer h low = absurd (cc
 pub gives_up_at_waits : ControlIsGivenUpAtWaits
 unfolding advanced_of
 gives_up_at_waits code event looks r variables units answer h low = gives_up_so r.mark code event looks r variables units answer h low
+
+more_left : (s : Step) (units left : ℕ) → PaysFor s units left → PaysFor s (suc units) left
+more_left (step.Op o) units left h = omega arith
+more_left (step.Done answer) units left h = omega arith
+more_left step.Runaway units left h = omega arith
+
+-- the unit of the statement that the thread stops at
+one_spent : (s : Step) (units : ℕ) → PaysFor s (suc units) units
+one_spent (step.Op o) units = omega arith
+one_spent (step.Done answer) units = omega arith
+one_spent step.Runaway units = omega arith
+
+pays : (code : Code) (part : Part) (event : Event) (looks : Looks) (y : Bool) (todo : List Statement) (vars : List ℕ) (units : ℕ)
+    → PaysFor (continued code part event looks y todo vars units).step units (continued code part event looks y todo vars units).units
+pays code part event looks y [] vars units = omega arith
+pays code part event looks y (s ∷ rest) vars zero = omega arith
+pays code part event looks y (s ∷ rest) vars (suc units) =
+    elim (reached event looks y vars s rest) as (λ r. PaysFor (follows code part event looks vars units r).step (suc units) (follows code part event looks vars units r).units) [
+      | goes_on changed todo ↦ more_left (continued code part event looks false todo changed units).step units (continued code part event looks false todo changed units).units (pays code part event looks false todo changed units)
+      | stops answer mark yielded todo ↦ one_spent answer units
+    ]
+
+pays_so : (m : Mark) (code : Code) (event : Event) (looks : Looks) (r : Remainder) (variables : List ℕ) (units : ℕ)
+    → PaysFor (advanced_of code event looks (record r { mark = m }) variables units).step units (advanced_of code event looks (record r { mark = m }) variables units).units
+unfolding advanced_of
+pays_so AtRest code event looks r variables units = pays code r.part event looks r.is_yielded r.todo variables units
+pays_so UnderWay code event looks r variables units = pays code r.part event looks r.is_yielded r.todo variables units
+pays_so RunAway code event looks r variables units = omega arith
+
+pub costs : OperationsCostWork
+costs code event looks r variables units = pays_so r.mark code event looks r variables units

@@ -9,7 +9,7 @@ use Rattle.mote_program.specs.Tree.{Statement, yield, yield_until}
 use Rattle.protothread.specs.declared.thread.Mark.TheVariants.{AtRest}
 use Rattle.protothread.specs.Looks.{Looks}
 use Rattle.protothread.specs.Remainder.{Remainder}
-use Rattle.protothread.specs.Step.{Advanced, advanced_of}
+use Rattle.protothread.specs.Step.{Advanced, advanced_of, PaysFor}
 
 -- a step that did not run away is the same with more units, and as many more are left
 abbrev pub MoreUnitsChangeNothing : Type 0
@@ -26,6 +26,13 @@ RunAwayIsForGood =
     a.step ≡ Runaway
     → (next : Event) (seen : Looks) (changed : List ℕ) (more : ℕ)
     → advanced_of code next seen a.remainder changed more ≡ record { step = Runaway; remainder = a.remainder; variables = changed; units = more }
+
+-- an operation costs a unit at least, and no step makes units
+abbrev pub OperationsCostWork : Type 0
+OperationsCostWork =
+    (code : Code) (event : Event) (looks : Looks) (r : Remainder) (variables : List ℕ) (units : ℕ)
+    → let a : Advanced = advanced_of code event looks r variables units in
+    PaysFor a.step units a.units
 
 -- the statements that wait
 abbrev pub is_wait : Statement → Bool

@@ -1,5 +1,5 @@
 //! Laws of the step of a protothread. Each is the contract of a function with an empty body.
-ghost use Rattle.protothread.specs.Laws.{ControlIsGivenUpAtWaits, MoreUnitsChangeNothing, RunAwayIsForGood};
+ghost use Rattle.protothread.specs.Laws.{ControlIsGivenUpAtWaits, MoreUnitsChangeNothing, OperationsCostWork, RunAwayIsForGood};
 ghost use Rattle.protothread.specs.Runs.{RunsAreTheText};
 
 /// More units of work change nothing: a step that answers an operation or gives up control answers the same with more
@@ -11,6 +11,11 @@ pub fn more_units_change_nothing()
 /// A thread that has run away never does anything again, whatever units of work it is given.
 pub fn run_away_is_for_good()
     ensures { RunAwayIsForGood }
+{}
+
+/// An operation costs a unit of work at least, so that a caller that performs one after another comes to an end.
+pub fn operations_cost_work()
+    ensures { OperationsCostWork }
 {}
 
 /// A step answers 0 or 1 only at a waiting statement, and the next step goes on from that very statement.

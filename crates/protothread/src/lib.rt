@@ -13,8 +13,8 @@ mod vars;
 
 pub use fuel::Fuel;
 pub use laws::{
-    control_is_given_up_at_waits, more_units_change_nothing, run_away_is_for_good,
-    runs_are_the_text,
+    control_is_given_up_at_waits, more_units_change_nothing, operations_cost_work,
+    run_away_is_for_good, runs_are_the_text,
 };
 pub use look::Look;
 pub use state::PtState;

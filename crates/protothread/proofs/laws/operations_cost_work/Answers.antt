@@ -1,0 +1,5 @@
+use Rattle.protothread.proofs.Units.{costs}
+use Rattle.protothread.proofs.laws.operations_cost_work.Goals as goal
+
+pub returns : goal.returns
+returns c = costs
