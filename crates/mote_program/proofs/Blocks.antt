@@ -1,126 +1,195 @@
--- A block of which some statements are read.
-use Rattle.std.proofs.Common.{◌≡◌, ℕ, suc, ◌+◌, ◌-◌, ◌<◌, ◌≤◌, List, [], ◌∷◌, ◌++◌, drop, map, refl, sym, ap, subst, ◌∙◌, arith, add-one}
+-- Statements with blocks, and a block of which some statements are read.
+use Rattle.std.proofs.Common.{◌≡◌, ℕ, suc, ◌+◌, ◌-◌, ◌<◌, ◌≤◌, List, [], ◌∷◌, ◌++◌, drop, length, map, refl, sym, ap, subst, ◌∙◌, arith, Option, Some, Bool, true, false, ◌&&◌}
 use Rattle.std.proofs.lemmas.List.{map-append}
 use Rattle.mote_program.specs.Faults.{Scope}
-use Rattle.mote_program.specs.Grammar.{Name, Mark, tokens, StatementShape, BlockShape, end, next, statement_marks, items_marks, block_marks, opens}
-use Rattle.mote_program.specs.Machine.{Form, Verdict, tell, first, block, items, statement}
-use Rattle.mote_program.specs.Named.{statement_shape, block_shape, StatementResolved, BodyResolved}
-use Rattle.mote_program.specs.Steps.{scope_with, Reads}
+use Rattle.mote_program.specs.Grammar.{Context, inner, Mark, begins_with, key, sign, opening, tokens, statement_marks, items_marks, else_marks, block_marks}
+use Rattle.mote_program.specs.InScope.{Names, name_in, number_in}
+use Rattle.mote_program.specs.Machine.{Pending, Verdict, tell, fault, first, expression, block, items, items_else}
+use Rattle.mote_program.specs.Scope.{Within, statement_fits, block_fits}
+use Rattle.mote_program.specs.Shapes.{Name}
+use Rattle.mote_program.specs.Steps.{Extends, Covers, Reads, ReadsStatement, ReadsElse, Begins, Numbered, Fits}
 use Rattle.mote_program.specs.Tokens as token
 use Rattle.mote_program.specs.Tokens.{Token}
-use Rattle.mote_program.specs.Tree.{Statement, Body, body_of, listed, statement_of, height, inner_height}
+use Rattle.mote_program.specs.Tree.{Class, Expression, Statement, branch, while, Body, end, next, Otherwise, otherwise, body_of, listed, statement_of, statement_map, body_map, height, inner_height, size, inner_size}
+use Rattle.mote_program.specs.declared.error.ReadErrorKind.TheVariants.{TooDeep}
+use Rattle.mote_program.specs.declared.keyword.Keyword.TheVariants as word
 use Rattle.mote_program.specs.declared.tree.Stmt.{Stmt}
-use Rattle.mote_program.proofs.ExpressionSteps.{taken, opens_sound}
+use Rattle.mote_program.proofs.ExpressionSteps.{opens_sound, opens_deep}
+use Rattle.mote_program.proofs.NameSteps.{taken, broken, front_of}
+use Rattle.mote_program.proofs.Runs.{Runs}
 use Rattle.mote_program.proofs.TreeLaws.{body_of-listed}
 
+-- `if` and `while`
+
+pub branch_reads : (s s1 s3 s4 : Scope) (c : Context) (marks others : Names → List Mark → List Mark) (old m0 m2 new : List Token) → s1.names ≡ s.names → s3.names ≡ s.names → Begins s s1 c word.If old m0 → Runs s1 s3 (λ f. expression c ∷ block c ∷ f) marks m0 m2 → ReadsElse s3 s4 c others m2 new →
+    ReadsStatement s s4 c (λ n ms. begins_with c word.If ∷ marks n (others n ms)) old new
+branch_reads s s1 s3 s4 c marks others old m0 m2 new e1 e3 b r o = record {
+  spelled = λ n h ms q.
+      b.spelled ∙ ap (λ ts. token.Keyword word.If ∷ ts) (r.spelled n (subst (λ z. Extends z n) (sym e1) h) (others n ms) (sym (o.spelled n (subst (λ z. Extends z n) (sym e3) h) ms q)));
+  goes_on = λ f. b.goes_on f ∙ r.goes_on (items_else c ∷ f) ∙ o.goes_on f;
+}
+
+pub while_reads : (s s1 s3 : Scope) (c : Context) (marks : Names → List Mark → List Mark) (old m0 new : List Token) → s1.names ≡ s.names → Begins s s1 c word.While old m0 → Runs s1 s3 (λ f. expression c ∷ block c ∷ f) marks m0 new →
+    ReadsStatement s s3 c (λ n ms. begins_with c word.While ∷ marks n ms) old new
+while_reads s s1 s3 c marks old m0 new e1 b r = record {
+  spelled = λ n h ms q. b.spelled ∙ ap (λ ts. token.Keyword word.While ∷ ts) (r.spelled n (subst (λ z. Extends z n) (sym e1) h) ms q);
+  goes_on = λ f. b.goes_on f ∙ r.goes_on (items c ∷ f);
+}
+
+pub branch_again : {e e' : Expression ℕ} {a a' : Body ℕ} {o o' : Otherwise ℕ} → e' ≡ e → a' ≡ a → o' ≡ o → branch e' a' o' ≡ branch e a o
+branch_again p q r = cc (p, q, r)
+
+pub while_again : {e e' : Expression ℕ} {a a' : Body ℕ} → e' ≡ e → a' ≡ a → while e' a' ≡ while e a
+while_again p q = cc (p, q)
+
+-- `else`
+
+pub else_start : (s : Scope) (c : Context) (f : Pending) (old : List Token) → first old ≡ Some (token.Keyword word.Else) → tell s (items_else c ∷ f) old ≡ tell s (block c ∷ items c ∷ f) (drop 1 old)
+else_start s c f old is = taken s (items_else c ∷ f) (block c ∷ items c ∷ f) old (token.Keyword word.Else) (key word.Else) is refl refl
+
+pub else_reads : (s s' : Scope) (c : Context) (b : Names → Body Name) (old m0 new : List Token) → first old ≡ Some (token.Keyword word.Else) → m0 ≡ drop 1 old → Reads s s' (block c) (λ n ms. block_marks c (b n) ms) m0 new → ReadsElse s s' c (λ n ms. else_marks c (otherwise (b n)) ms) old new
+else_reads s s' c b old m0 new is from r = record {
+  spelled = λ n h ms q. front_of old (token.Keyword word.Else) is ∙ ap (λ ts. token.Keyword word.Else ∷ ts) (sym from ∙ r.spelled n h ms q);
+  goes_on = λ f. else_start s c f old is ∙ ap (λ ts. tell s (block c ∷ items c ∷ f) ts) (sym from) ∙ r.goes_on (items c ∷ f);
+}
+
+abbrev pub IsNoElse : Option Token → Type 0
+IsNoElse (Some (token.Keyword word.Else)) = ⊥
+IsNoElse t = Unit {0}
+
+no_else_at : (s : Scope) (c : Context) (f : Pending) (t : Token) (ts : List Token) → IsNoElse (Some t) → tell s (items_else c ∷ f) (t ∷ ts) ≡ tell s (items c ∷ f) (t ∷ ts)
+no_else_at s c f (token.Keyword word.Else) ts h = absurd h
+no_else_at s c f t ts h = refl
+
+no_else : (s : Scope) (c : Context) (f : Pending) (old : List Token) → IsNoElse (first old) → tell s (items_else c ∷ f) old ≡ tell s (items c ∷ f) old
+no_else s c f [] h = refl
+no_else s c f (t ∷ ts) h = no_else_at s c f t ts h
+
+pub no_else_reads : (s : Scope) (c : Context) (old : List Token) → IsNoElse (first old) → ReadsElse s s c (λ n ms. ms) old old
+no_else_reads s c old h = record { spelled = λ n u ms q. sym q; goes_on = λ f. no_else s c f old h }
+
+-- Blocks.
+
 -- these statements, and then the rest of a block
-abbrev pub with_front : List StatementShape → BlockShape → BlockShape
+abbrev pub with_front : List (Statement Name) → Body Name → Body Name
 with_front [] b = b
 with_front (s ∷ ss) b = next s (with_front ss b)
 
-with_front-push : (ss : List StatementShape) (s : StatementShape) (b : BlockShape) → with_front (ss ++ (s ∷ [])) b ≡ with_front ss (next s b)
+with_front-push : (ss : List (Statement Name)) (s : Statement Name) (b : Body Name) → with_front (ss ++ (s ∷ [])) b ≡ with_front ss (next s b)
 with_front-push [] s b = refl
 with_front-push (t ∷ ss) s b = ap (next t) (with_front-push ss s b)
 
--- the tokens old are those of a block up to these statements, and then rest
-pub record ReadsFront (ps vs : List Name) (n n' d : ℕ) (front : List StatementShape) (old rest : List Token) : Type 0 where
-  pub spelled : (tail : BlockShape) (ms : List Mark) → tokens (items_marks (suc d) tail ms) ≡ rest → old ≡ tokens (block_marks d (with_front front tail) ms)
-  pub goes_on : (starting : List Name) (f : Form) → tell (scope_with ps vs starting n) (block d ∷ f) old ≡ tell (scope_with ps vs starting n') (items (d + 1) ∷ f) rest
+front_all : (f : Class → ℕ → Name) (ss : List (Statement ℕ)) → with_front (map (statement_map f) ss) end ≡ body_map f (body_of ss)
+front_all f [] = refl
+front_all f (s ∷ ss) = ap (next (statement_map f s)) (front_all f ss)
 
-block_start : (s : Scope) (d : ℕ) (f : Form) (old : List Token) → first old ≡ token.OpenBrace → d < 32 → tell s (block d ∷ f) old ≡ tell s (items (d + 1) ∷ f) (drop 1 old)
-block_start s d f old is h =
-    let e : suc d ≡ d + 1 = omega arith in
-    taken s (block d ∷ f) (items (suc d) ∷ f) old token.OpenBrace (opens token.OpenBrace (suc d)) is (λ z. cc) refl (opens_sound s token.OpenBrace (suc d) (omega arith))
-    ∙ ap (λ k. tell s (items k ∷ f) (drop 1 old)) e
+-- the statements of a block so far: the tokens old are those of the block up to them, and then rest
+pub record HasFront (s s' : Scope) (own : Option Name) (c : Context) (ss : List (Statement ℕ)) (old rest : List Token) : Type 0 where
+  pub spelled : (n : Names) → Extends s.names n → (tail : Body Name) (ms : List Mark) → tokens (items_marks (inner c) tail ms) ≡ rest → old ≡ tokens (block_marks c (with_front (map (statement_map (name_in n)) ss) tail) ms)
+  pub goes_on : (f : Pending) → tell s (block c ∷ f) old ≡ tell s' (items (inner c) ∷ f) rest
+  pub numbered : Numbered s.names (λ n. body_map (number_in n) (body_map (name_in n) (body_of ss))) (body_of ss)
+  pub fits : Fits s.names own (λ w. block_fits w (body_of ss))
+  pub shallow : c.level + height (body_of ss) ≤ 32
+  pub counts : size (body_of ss) + s.statements ≤ s'.statements
 
--- the opening brace
-pub front_start : (ps vs : List Name) (n d : ℕ) (old : List Token) → first old ≡ token.OpenBrace → d < 32 → ReadsFront ps vs n n d [] old (drop 1 old)
-front_start ps vs n d old is h = record { spelled = spelled old is; goes_on = λ starting f. block_start (scope_with ps vs starting n) d f old is h }
-  where
-    spelled : (old : List Token) → first old ≡ token.OpenBrace → (tail : BlockShape) (ms : List Mark) → tokens (items_marks (suc d) tail ms) ≡ drop 1 old → old ≡ tokens (block_marks d tail ms)
-    spelled [] e tail ms p = absurd cc
-    spelled (t ∷ ts) e tail ms p = cc
+pub brace_start : (s : Scope) (c : Context) (f : Pending) (old : List Token) → first old ≡ Some token.OpenBrace → c.level < 32 → tell s (block c ∷ f) old ≡ tell s (items (inner c) ∷ f) (drop 1 old)
+brace_start s c f old is h = taken s (block c ∷ f) (items (inner c) ∷ f) old token.OpenBrace (opening token.OpenBrace (c.level + 1)) is refl (opens_sound s token.OpenBrace (c.level + 1) (omega arith))
 
-items_go_on : (s : Scope) (d : ℕ) (f : Form) (t : Token) (ts : List Token) → (t ≡ token.CloseBrace → ⊥) → tell s (items d ∷ f) (t ∷ ts) ≡ tell s (statement d ∷ (items d ∷ f)) (t ∷ ts)
-items_go_on s d f token.CloseBrace ts going = absurd (going refl)
-items_go_on s d f _ ts going = refl
+pub brace_deep : (s : Scope) (c : Context) (f : Pending) (old : List Token) → first old ≡ Some token.OpenBrace → c.level ≡ 32 → tell s (block c ∷ f) old ≡ fault TooDeep (length old)
+brace_deep s c f old is h = broken s (block c ∷ f) (items (inner c) ∷ f) old token.OpenBrace (opening token.OpenBrace (c.level + 1)) TooDeep is refl (opens_deep s token.OpenBrace (c.level + 1) (omega arith))
 
-pub items_start : (s : Scope) (d : ℕ) (f : Form) (rest : List Token) → (first rest ≡ token.CloseBrace → ⊥) → tell s (items d ∷ f) rest ≡ tell s (statement d ∷ (items d ∷ f)) rest
-items_start s d f [] going = refl
-items_start s d f (t ∷ ts) going = items_go_on s d f t ts going
-
--- one more statement
-pub front_push : (ps vs : List Name) (n n' n'' d : ℕ) (front : List StatementShape) (s : StatementShape) (old mid rest : List Token) → ReadsFront ps vs n n' d front old mid → (first mid ≡ token.CloseBrace → ⊥) →
-    Reads ps vs n' n'' (statement (d + 1)) (statement_marks (d + 1) s) mid rest → ReadsFront ps vs n n'' d (front ++ (s ∷ [])) old rest
-front_push ps vs n n' n'' d front s old mid rest r going p = record {
-  spelled = λ tail ms e. r.spelled (next s tail) ms (sym (rw add-one at p.spelled (items_marks (suc d) tail ms) e)) ∙ ap (λ b. tokens (block_marks d b ms)) (sym (with_front-push front s tail));
-  goes_on = λ starting f. r.goes_on starting f ∙ items_start (scope_with ps vs starting n') (d + 1) f mid going ∙ p.goes_on starting (items (d + 1) ∷ f);
+pub none_yet : (s : Scope) (own : Option Name) (c : Context) (old rest : List Token) → first old ≡ Some token.OpenBrace → c.level < 32 → rest ≡ drop 1 old → HasFront s s own c [] old rest
+none_yet s own c old rest is h from = record {
+  spelled = λ n u tail ms q. front_of old token.OpenBrace is ∙ ap (λ ts. token.OpenBrace ∷ ts) (sym from ∙ sym q);
+  goes_on = λ f. brace_start s c f old is h ∙ ap (λ ts. tell s (items (inner c) ∷ f) ts) (sym from);
+  numbered = λ n u. refl;
+  fits = λ w u. refl;
+  shallow = omega arith;
+  counts = omega arith;
 }
 
--- the closing brace
-pub front_end : (ps vs : List Name) (n n' d : ℕ) (front : List StatementShape) (old mid : List Token) → ReadsFront ps vs n n' d front old mid → first mid ≡ token.CloseBrace →
-    Reads ps vs n n' (block d) (block_marks d (with_front front end)) old (drop 1 mid)
-front_end ps vs n n' d front old [] r e = absurd cc
-front_end ps vs n n' d front old (t ∷ ts) r e = record {
-  spelled = λ ms p. r.spelled end ms cc;
-  goes_on = λ starting f. r.goes_on starting f ∙ rw e refl;
-}
+push_again : (f : Class → Name → ℕ) (g : Class → ℕ → Name) (ss : List (Statement ℕ)) (s : Statement ℕ) → body_map f (body_map g (body_of ss)) ≡ body_of ss → statement_map f (statement_map g s) ≡ s → body_map f (body_map g (body_of (ss ++ (s ∷ [])))) ≡ body_of (ss ++ (s ∷ []))
+push_again f g [] s e h = ap (λ z. next z end) h
+push_again f g (t ∷ ss) s e h =
+    let a : statement_map f (statement_map g t) ≡ t = cc e in
+    let b : body_map f (body_map g (body_of ss)) ≡ body_of ss = cc e in
+    let ih : body_map f (body_map g (body_of (ss ++ (s ∷ [])))) ≡ body_of (ss ++ (s ∷ [])) = push_again f g ss s b h in
+    cc (a, ih)
 
--- a fault in the next statement
-pub front_fails : (ps vs : List Name) (n n' d : ℕ) (front : List StatementShape) (old mid : List Token) (v : Verdict) → ReadsFront ps vs n n' d front old mid → (first mid ≡ token.CloseBrace → ⊥) →
-    ((starting : List Name) (more : Form) → tell (scope_with ps vs starting n') (statement (d + 1) ∷ more) mid ≡ v) → (starting : List Name) (more : Form) → tell (scope_with ps vs starting n) (block d ∷ more) old ≡ v
-front_fails ps vs n n' d front old mid v r going p starting more =
-    r.goes_on starting more ∙ items_start (scope_with ps vs starting n') (d + 1) more mid going ∙ p starting (items (d + 1) ∷ more)
+and_left : (a b : Bool) → (a && b) ≡ true → a ≡ true
+and_left true b e = refl
+and_left false b e = absurd cc
 
--- the shape of a block whose statements are these
-shape_of_front : (vs : List Name) (ss : List Statement) → block_shape vs (body_of ss) ≡ with_front (map (statement_shape vs) ss) end
-shape_of_front vs [] = refl
-shape_of_front vs (s ∷ ss) = ap (next (statement_shape vs s)) (shape_of_front vs ss)
+and_right : (a b : Bool) → (a && b) ≡ true → b ≡ true
+and_right true b e = e
+and_right false b e = absurd cc
 
-body_resolved : (vs : List Name) (ss : List Statement) (s : Statement) → BodyResolved vs (body_of ss) → StatementResolved vs s → BodyResolved vs (body_of (ss ++ (s ∷ [])))
-body_resolved vs [] s h k = (k, h)
-body_resolved vs (t ∷ ss) s h k = (h.0, body_resolved vs ss s h.1 k)
+and_so : (a b : Bool) → a ≡ true → b ≡ true → (a && b) ≡ true
+and_so true b e h = h
+and_so false b e h = absurd cc
 
-height_push : (n : ℕ) (ss : List Statement) (s : Statement) → height (body_of ss) ≤ n → suc (inner_height s) ≤ n → height (body_of (ss ++ (s ∷ []))) ≤ n
+push_fits : (w : Within) (ss : List (Statement ℕ)) (s : Statement ℕ) → block_fits w (body_of ss) ≡ true → statement_fits w s ≡ true → block_fits w (body_of (ss ++ (s ∷ []))) ≡ true
+push_fits w [] s e h = and_so _ _ h refl
+push_fits w (t ∷ ss) s e h = and_so _ _ (and_left _ _ e) (push_fits w ss s (and_right _ _ e) h)
+
+height_push : (n : ℕ) (ss : List (Statement ℕ)) (s : Statement ℕ) → height (body_of ss) ≤ n → suc (inner_height s) ≤ n → height (body_of (ss ++ (s ∷ []))) ≤ n
 height_push n [] s h k = omega arith
 height_push n (t ∷ ss) s h k = let ih : height (body_of (ss ++ (s ∷ []))) ≤ n = height_push n ss s (omega arith) k in omega arith
 
--- the statements of a block so far, as the reader has them
-pub record HasFront (ps vs : List Name) (n n' d : ℕ) (ss : List Statement) (old rest : List Token) : Type 0 where
-  pub reads : ReadsFront ps vs n n' d (map (statement_shape vs) ss) old rest
-  pub resolved : BodyResolved vs (body_of ss)
-  pub shallow : d + height (body_of ss) ≤ 32
+size_push : (ss : List (Statement ℕ)) (s : Statement ℕ) → size (body_of (ss ++ (s ∷ []))) ≡ size (body_of ss) + suc (inner_size s)
+size_push [] s = omega arith
+size_push (t ∷ ss) s = let ih : size (body_of (ss ++ (s ∷ []))) ≡ size (body_of ss) + suc (inner_size s) = size_push ss s in omega (arith, ih)
 
-pub none_yet : (ps vs : List Name) (n d : ℕ) (old : List Token) → first old ≡ token.OpenBrace → d < 32 → HasFront ps vs n n d [] old (drop 1 old)
-none_yet ps vs n d old is h = record { reads = front_start ps vs n d old is h; resolved = tt; shallow = omega arith }
+at_most : (d m : ℕ) → d < 32 → m ≤ 32 - d → d + m ≤ 32
+at_most d m h k = omega arith
 
-pub one_more : (ps vs : List Name) (n n' n'' d : ℕ) (ss ss' : List Stmt) (s : Stmt) (old mid rest : List Token) → ss' ≡ ss ++ (s ∷ []) → HasFront ps vs n n' d (map statement_of ss) old mid → (first mid ≡ token.CloseBrace → ⊥) →
-    Reads ps vs n' n'' (statement (d + 1)) (statement_marks (d + 1) (statement_shape vs (statement_of s))) mid rest → StatementResolved vs (statement_of s) → d + 1 + inner_height (statement_of s) ≤ 32 →
-    HasFront ps vs n n'' d (map statement_of ss') old rest
-one_more ps vs n n' n'' d ss ss' s old mid rest pushed h going r k low =
-    let e : map statement_of ss' ≡ map statement_of ss ++ (statement_of s ∷ []) = ap (λ zs. map statement_of zs) pushed ∙ map-append statement_of ss (s ∷ []) in
-    subst (λ zs. HasFront ps vs n n'' d zs old rest) (sym e) (record {
-      reads = subst (λ zs. ReadsFront ps vs n n'' d zs old rest) (sym (map-append (statement_shape vs) (map statement_of ss) (statement_of s ∷ [])))
-          (front_push ps vs n n' n'' d (map (statement_shape vs) (map statement_of ss)) (statement_shape vs (statement_of s)) old mid rest h.reads going r);
-      resolved = body_resolved vs (map statement_of ss) (statement_of s) h.resolved k;
-      shallow = let low' : height (body_of (map statement_of ss ++ (statement_of s ∷ []))) + d ≤ 32 = summed d (height_push (32 - d) (map statement_of ss) (statement_of s) (omega (arith, h.shallow)) (omega (arith, low))) (omega (arith, low)) in omega arith;
-    })
-  where
-    summed : {m : ℕ} (d : ℕ) → m ≤ 32 - d → d ≤ 32 → m + d ≤ 32
-    summed d h k = omega arith
+-- one more statement
+pub one_more : (s s1 s2 : Scope) (own : Option Name) (c : Context) (ss : List (Statement ℕ)) (t : Statement ℕ) (old mid rest : List Token) → HasFront s s1 own c ss old mid → s1.names ≡ s.names →
+    ReadsStatement s1 s2 (inner c) (λ n ms. statement_marks (inner c) (statement_map (name_in n) t) ms) mid rest → Numbered s1.names (λ n. statement_map (number_in n) (statement_map (name_in n) t)) t → Fits s1.names own (λ w. statement_fits w t) →
+    c.level + 1 + inner_height t ≤ 32 → inner_size t + s1.statements < s2.statements → HasFront s s2 own c (ss ++ (t ∷ [])) old rest
+one_more s s1 s2 own c ss t old mid rest h e r k fit low more = record {
+  spelled = λ n u tail ms q.
+      h.spelled n u (next (statement_map (name_in n) t) tail) ms (sym (r.spelled n (subst (λ z. Extends z n) (sym e) u) (items_marks (inner c) tail ms) q))
+      ∙ ap (λ b. tokens (block_marks c b ms)) (sym (with_front-push (map (statement_map (name_in n)) ss) (statement_map (name_in n) t) tail) ∙ ap (λ zs. with_front zs tail) (sym (map-append (statement_map (name_in n)) ss (t ∷ []))));
+  goes_on = λ f. h.goes_on f ∙ r.goes_on f;
+  numbered = λ n u. push_again (number_in n) (name_in n) ss t (h.numbered n u) (k n (subst (λ z. Extends z n) (sym e) u));
+  fits = λ w u. push_fits w ss t (h.fits w u) (fit w (subst (λ z. Covers z own w) (sym e) u));
+  shallow = at_most c.level _ (omega (arith, low)) (height_push (32 - c.level) ss t (omega (arith, h.shallow)) (omega (arith, low)));
+  counts = omega (arith, size_push ss t, h.counts, more);
+}
 
 -- a block read to its end
-pub record HasBlock (ps vs : List Name) (n n' d : ℕ) (b : Body) (old new : List Token) : Type 0 where
-  pub ok : Reads ps vs n n' (block d) (block_marks d (block_shape vs b)) old new
-  pub resolved : BodyResolved vs b
-  pub shallow : d + height b ≤ 32
+pub record HasBlock (s s' : Scope) (own : Option Name) (c : Context) (b : Body ℕ) (old new : List Token) : Type 0 where
+  pub ok : Reads s s' (block c) (λ n ms. block_marks c (body_map (name_in n) b) ms) old new
+  pub numbered : Numbered s.names (λ n. body_map (number_in n) (body_map (name_in n) b)) b
+  pub fits : Fits s.names own (λ w. block_fits w b)
+  pub shallow : c.level + height b ≤ 32
+  pub counts : size b + s.statements ≤ s'.statements
 
-pub all_read : (ps vs : List Name) (n n' d : ℕ) (ss : List Statement) (b : Body) (old mid new : List Token) → HasFront ps vs n n' d ss old mid → first mid ≡ token.CloseBrace → new ≡ drop 1 mid → listed b ≡ ss →
-    HasBlock ps vs n n' d b old new
-all_read ps vs n n' d ss b old mid new h is from e =
+pub all_read : (s s' : Scope) (own : Option Name) (c : Context) (ss : List (Statement ℕ)) (b : Body ℕ) (old mid new : List Token) → HasFront s s' own c ss old mid → first mid ≡ Some token.CloseBrace → new ≡ drop 1 mid → listed b ≡ ss → HasBlock s s' own c b old new
+all_read s s' own c ss b old mid new h is from e =
     let same : body_of ss ≡ b = ap body_of (sym e) ∙ body_of-listed b in
-    subst (λ z. HasBlock ps vs n n' d b old z) (sym from) (subst (λ z. HasBlock ps vs n n' d z old (drop 1 mid)) same (record {
-      ok = subst (λ z. Reads ps vs n n' (block d) (block_marks d z) old (drop 1 mid)) (sym (shape_of_front vs ss)) (front_end ps vs n n' d (map (statement_shape vs) ss) old mid h.reads is);
-      resolved = h.resolved;
+    subst (λ z. HasBlock s s' own c z old new) same (record {
+      ok = record {
+        spelled = λ n u ms q. h.spelled n u end ms (sym (front_of mid token.CloseBrace is ∙ ap (λ ts. token.CloseBrace ∷ ts) (sym from ∙ sym q))) ∙ ap (λ z. tokens (block_marks c z ms)) (front_all (name_in n) ss);
+        goes_on = λ f. h.goes_on f ∙ taken s' (items (inner c) ∷ f) f mid token.CloseBrace (sign token.CloseBrace) is refl refl ∙ ap (λ ts. tell s' f ts) (sym from);
+      };
+      numbered = h.numbered;
+      fits = h.fits;
       shallow = h.shallow;
-    }))
+      counts = h.counts;
+    })
+
+-- a fault in the next statement
+pub front_fails : (s s' : Scope) (own : Option Name) (c : Context) (ss : List (Statement ℕ)) (old mid : List Token) (v : Verdict) → HasFront s s' own c ss old mid → ((more : Pending) → tell s' (items (inner c) ∷ more) mid ≡ v) → (more : Pending) → tell s (block c ∷ more) old ≡ v
+front_fails s s' own c ss old mid v r p more = r.goes_on more ∙ p more
+
+-- the same of a statement as it was read
+pub one_read : (s s1 s2 : Scope) (c d : Context) (ss ss' : List Stmt) (x : Stmt) (old mid rest : List Token) → d ≡ inner c → ss' ≡ ss ++ (x ∷ []) → HasFront s s1 c.thread c (map statement_of ss) old mid → s1.names ≡ s.names →
+    ReadsStatement s1 s2 d (λ n ms. statement_marks d (statement_map (name_in n) (statement_of x)) ms) mid rest → Numbered s1.names (λ n. statement_map (number_in n) (statement_map (name_in n) (statement_of x))) (statement_of x) →
+    Fits s1.names d.thread (λ w. statement_fits w (statement_of x)) → d.level + inner_height (statement_of x) ≤ 32 → inner_size (statement_of x) + s1.statements < s2.statements → HasFront s s2 c.thread c (map statement_of ss') old rest
+one_read s s1 s2 c d ss ss' x old mid rest h pushed front e r k fit low more =
+    let same : map statement_of ss' ≡ map statement_of ss ++ (statement_of x ∷ []) = ap (λ zs. map statement_of zs) pushed ∙ map-append statement_of ss (x ∷ []) in
+    subst (λ zs. HasFront s s2 c.thread c zs old rest) (sym same) (one_more s s1 s2 c.thread c (map statement_of ss) (statement_of x) old mid rest front e
+    (subst (λ z. ReadsStatement s1 s2 z (λ n ms. statement_marks z (statement_map (name_in n) (statement_of x)) ms) mid rest) h r) k
+    (subst (λ z. Fits s1.names z.thread (λ w. statement_fits w (statement_of x))) h fit) (subst (λ z. z.level + inner_height (statement_of x) ≤ 32) h low) more)

@@ -1,82 +1,137 @@
 -- How the reading goes on from the first token of an expression.
-use Rattle.std.proofs.Common.{◌≡◌, ℕ, suc, ◌+◌, ◌<◌, ◌≤◌, List, [], ◌∷◌, drop, length, refl, sym, ap, ◌∙◌, arith, Option, Some, None, IsTrue, is_some, Bool, true, false, nat_lt}
+use Rattle.std.proofs.Common.{◌≡◌, ℕ, ◌+◌, ◌<◌, ◌≤◌, List, [], ◌∷◌, drop, length, subst, refl, sym, ap, ◌∙◌, arith, Some, None, Bool, true, false, nat_lt}
 use Rattle.std.proofs.lemmas.Bool.{ltb-true, ltb-false}
-use Rattle.mote_program.specs.Faults.{Scope, scope_after, is_among}
-use Rattle.mote_program.specs.Grammar.{Name, Mark, uses, value, opens}
-use Rattle.mote_program.specs.Machine.{Form, Symbol, step, take, unfit, tell, ends, fault, first, first_broken, unfit_kind, expression, operator, close}
-use Rattle.mote_program.specs.Names.{place_of}
-use Rattle.mote_program.specs.Steps.{scope_with}
+use Rattle.mote_program.specs.Faults.{Scope}
+use Rattle.mote_program.specs.Forms as form
+use Rattle.mote_program.specs.Forms.{Operand, word_of, tells_of, alone}
+use Rattle.mote_program.specs.Grammar.{Context, inner, key, sign, valued, opening, operand_mark, expression_marks}
+use Rattle.mote_program.specs.Machine.{Pending, tell, fault, first, first_broken, word_step, expression, operand, operator, open_sign, close}
+use Rattle.mote_program.specs.InScope.{Names, name_in, number_in}
+use Rattle.mote_program.specs.Shapes.{Name, OperandShape}
+use Rattle.mote_program.specs.Steps.{ReadsSign, Reads, Numbered, Extends}
 use Rattle.mote_program.specs.Tokens as token
 use Rattle.mote_program.specs.Tokens.{Token}
-use Rattle.mote_program.specs.declared.error.ReadErrorKind.{ReadErrorKind}
-use Rattle.mote_program.specs.declared.error.ReadErrorKind.TheVariants.{Unexpected, UnknownName, NumberTooLarge, TooDeep, BadTarget}
-use Rattle.mote_program.proofs.NameLaws.{name_at, place_is}
+use Rattle.mote_program.specs.Tree.{a_variable, expression_of, expression_map, negation, binary}
+use Rattle.mote_program.specs.declared.error.ReadErrorKind.TheVariants.{NumberTooLarge, TooDeep}
+use Rattle.mote_program.specs.declared.keyword.Keyword.{Keyword}
+use Rattle.mote_program.specs.declared.tree.Expr.{Expr}
+use Rattle.mote_program.specs.declared.tree.Operator.{Operator}
+use Rattle.mote_program.proofs.NameSteps.{taken, broken, front_of}
 
--- a token that fits, and whose mark breaks no rule
-pub taken : (s : Scope) (f f' : Form) (old : List Token) (t : Token) (m : Mark) → first old ≡ t → (t ≡ token.End → ⊥) → step f t ≡ take m f' → first_broken s m ≡ None →
-    tell s f old ≡ tell (scope_after s m) f' (drop 1 old)
-taken s f f' [] t m is going fits sound = absurd (going (sym is))
-taken s f f' (x ∷ xs) t m is going fits sound = rw (is, fits, sound) refl
+pub word_start : (s : Scope) (c : Context) (f : Pending) (old : List Token) (k : Keyword) (o : Operand) → first old ≡ Some (token.Keyword k) → word_of k ≡ tells_of o →
+    tell s (expression c ∷ f) old ≡ tell s (open_sign ∷ operand c o ∷ close ∷ f) (drop 1 old)
+word_start s c f old k o is e = taken s (expression c ∷ f) (open_sign ∷ operand c o ∷ close ∷ f) old (token.Keyword k) (key k) is (ap (λ w. word_step c k w f) e) refl
 
--- a token that fits, and whose mark breaks this rule first
-pub broken : (s : Scope) (f f' : Form) (old : List Token) (t : Token) (m : Mark) (k : ReadErrorKind) → first old ≡ t → (t ≡ token.End → ⊥) → step f t ≡ take m f' → first_broken s m ≡ Some k →
-    tell s f old ≡ fault k (length old)
-broken s f f' [] t m k is going fits h = absurd (going (sym is))
-broken s f f' (x ∷ xs) t m k is going fits h = rw (is, fits, h) refl
+pub alone_start : (s : Scope) (c : Context) (f : Pending) (old : List Token) (k : Keyword) → first old ≡ Some (token.Keyword k) → word_of k ≡ alone → tell s (expression c ∷ f) old ≡ tell s f (drop 1 old)
+alone_start s c f old k is e = taken s (expression c ∷ f) f old (token.Keyword k) (key k) is (ap (λ w. word_step c k w f) e) refl
 
--- a token that doesn't fit, or the end
-pub unfitting : (s : Scope) (y : Symbol) (f : Form) (old : List Token) → step (y ∷ f) (first old) ≡ unfit → ends (y ∷ f) ≡ fault Unexpected 0 →
-    tell s (y ∷ f) old ≡ fault (unfit_kind (first old)) (length old)
-unfitting s y f [] bad at = at
-unfitting s y f (x ∷ xs) bad at = rw bad refl
-
-pub uses_sound : (s : Scope) (x : Name) (i : ℕ) → place_of s.processes x ≡ None → place_of s.variables x ≡ Some i → first_broken s (uses x) ≡ None
-uses_sound s x i p v = rw (p, v) refl
-
-pub uses_process : (s : Scope) (x : Name) → IsTrue (is_among s.processes x) → first_broken s (uses x) ≡ Some BadTarget
-uses_process s x h = go (place_of s.processes x) refl h
-  where
-    go : (o : Option ℕ) → place_of s.processes x ≡ o → IsTrue (is_some o) → first_broken s (uses x) ≡ Some BadTarget
-    go None e h = absurd cc
-    go (Some i) e h = rw e refl
-
-pub uses_unknown : (s : Scope) (x : Name) → place_of s.processes x ≡ None → place_of s.variables x ≡ None → first_broken s (uses x) ≡ Some UnknownName
-uses_unknown s x p v = rw (p, v) refl
-
-pub value_sound : (s : Scope) (n : ℕ) → n ≤ 65535 → first_broken s (value n) ≡ None
+pub value_sound : (s : Scope) (n : ℕ) → n ≤ 65535 → first_broken s (valued n) ≡ None
 value_sound s n h = go (nat_lt 65535 n) refl
   where
-    go : (b : Bool) → nat_lt 65535 n ≡ b → first_broken s (value n) ≡ None
+    go : (b : Bool) → nat_lt 65535 n ≡ b → first_broken s (valued n) ≡ None
     go true e = absurd (omega (arith, ltb-true 65535 n e))
     go false e = rw e refl
 
-pub value_large : (s : Scope) (n : ℕ) → 65535 < n → first_broken s (value n) ≡ Some NumberTooLarge
+pub value_large : (s : Scope) (n : ℕ) → 65535 < n → first_broken s (valued n) ≡ Some NumberTooLarge
 value_large s n h = go (nat_lt 65535 n) refl
   where
-    go : (b : Bool) → nat_lt 65535 n ≡ b → first_broken s (value n) ≡ Some NumberTooLarge
+    go : (b : Bool) → nat_lt 65535 n ≡ b → first_broken s (valued n) ≡ Some NumberTooLarge
     go true e = rw e refl
     go false e = absurd (omega (arith, ltb-false 65535 n e))
 
-pub opens_sound : (s : Scope) (t : Token) (l : ℕ) → l ≤ 32 → first_broken s (opens t l) ≡ None
+pub opens_sound : (s : Scope) (t : Token) (l : ℕ) → l ≤ 32 → first_broken s (opening t l) ≡ None
 opens_sound s t l h = go (nat_lt 32 l) refl
   where
-    go : (b : Bool) → nat_lt 32 l ≡ b → first_broken s (opens t l) ≡ None
+    go : (b : Bool) → nat_lt 32 l ≡ b → first_broken s (opening t l) ≡ None
     go true e = absurd (omega (arith, ltb-true 32 l e))
     go false e = rw e refl
 
-pub opens_deep : (s : Scope) (t : Token) (l : ℕ) → 32 < l → first_broken s (opens t l) ≡ Some TooDeep
+pub opens_deep : (s : Scope) (t : Token) (l : ℕ) → 32 < l → first_broken s (opening t l) ≡ Some TooDeep
 opens_deep s t l h = go (nat_lt 32 l) refl
   where
-    go : (b : Bool) → nat_lt 32 l ≡ b → first_broken s (opens t l) ≡ Some TooDeep
+    go : (b : Bool) → nat_lt 32 l ≡ b → first_broken s (opening t l) ≡ Some TooDeep
     go true e = rw e refl
     go false e = absurd (omega (arith, ltb-false 32 l e))
 
-pub open_start : (ps vs starting : List Name) (n d : ℕ) (old : List Token) (more : Form) → first old ≡ token.Open → d < 32 →
-    tell (scope_with ps vs starting n) (expression d ∷ more) old ≡ tell (scope_with ps vs starting n) (expression (d + 1) ∷ (operator ∷ (expression (d + 1) ∷ (close ∷ more)))) (drop 1 old)
-open_start ps vs starting n d old more is h =
-    let s = scope_with ps vs starting n in
-    let e : suc d ≡ d + 1 = omega arith in
-    taken s (expression d ∷ more) (expression (suc d) ∷ (operator ∷ (expression (suc d) ∷ (close ∷ more)))) old token.Open (opens token.Open (suc d)) is (λ z. cc) refl (opens_sound s token.Open (suc d) (omega arith))
-    ∙ ap (λ k. tell s (expression k ∷ (operator ∷ (expression k ∷ (close ∷ more)))) (drop 1 old)) e
+pub variable_start : (s : Scope) (c : Context) (f : Pending) (old : List Token) (x : Name) → first old ≡ Some (token.Name x) → tell s (expression c ∷ f) old ≡ tell s (operand c (form.name a_variable) ∷ f) old
+variable_start s c f [] x e = absurd cc
+variable_start s c f (t ∷ ts) x e = let is : t ≡ token.Name x = cc in rw is refl
 
-pub ruleset expression_steps = (open_start, name_at, place_is)
+pub number_start : (s : Scope) (c : Context) (f : Pending) (old : List Token) (n : ℕ) → first old ≡ Some (token.Number n) → n ≤ 65535 → tell s (expression c ∷ f) old ≡ tell s f (drop 1 old)
+number_start s c f old n is h = taken s (expression c ∷ f) f old (token.Number n) (valued n) is refl (value_sound s n h)
+
+pub number_large : (s : Scope) (c : Context) (f : Pending) (old : List Token) (n : ℕ) → first old ≡ Some (token.Number n) → 65535 < n → tell s (expression c ∷ f) old ≡ fault NumberTooLarge (length old)
+number_large s c f old n is h = broken s (expression c ∷ f) f old (token.Number n) (valued n) NumberTooLarge is refl (value_large s n h)
+
+pub bang_start : (s : Scope) (c : Context) (f : Pending) (old : List Token) → first old ≡ Some token.Bang → c.level < 32 → tell s (expression c ∷ f) old ≡ tell s (expression (inner c) ∷ f) (drop 1 old)
+bang_start s c f old is h = taken s (expression c ∷ f) (expression (inner c) ∷ f) old token.Bang (opening token.Bang (c.level + 1)) is refl (opens_sound s token.Bang (c.level + 1) (omega arith))
+
+pub bang_deep : (s : Scope) (c : Context) (f : Pending) (old : List Token) → first old ≡ Some token.Bang → c.level ≡ 32 → tell s (expression c ∷ f) old ≡ fault TooDeep (length old)
+bang_deep s c f old is h = broken s (expression c ∷ f) (expression (inner c) ∷ f) old token.Bang (opening token.Bang (c.level + 1)) TooDeep is refl (opens_deep s token.Bang (c.level + 1) (omega arith))
+
+pub open_start : (s : Scope) (c : Context) (f : Pending) (old : List Token) → first old ≡ Some token.Open → c.level < 32 →
+    tell s (expression c ∷ f) old ≡ tell s (expression (inner c) ∷ operator ∷ expression (inner c) ∷ close ∷ f) (drop 1 old)
+open_start s c f old is h =
+    taken s (expression c ∷ f) (expression (inner c) ∷ operator ∷ expression (inner c) ∷ close ∷ f) old token.Open (opening token.Open (c.level + 1)) is refl (opens_sound s token.Open (c.level + 1) (omega arith))
+
+pub open_deep : (s : Scope) (c : Context) (f : Pending) (old : List Token) → first old ≡ Some token.Open → c.level ≡ 32 → tell s (expression c ∷ f) old ≡ fault TooDeep (length old)
+open_deep s c f old is h =
+    broken s (expression c ∷ f) (expression (inner c) ∷ operator ∷ expression (inner c) ∷ close ∷ f) old token.Open (opening token.Open (c.level + 1)) TooDeep is refl (opens_deep s token.Open (c.level + 1) (omega arith))
+
+-- a keyword with its parentheses
+pub told_reads : (s : Scope) (c : Context) (k : Keyword) (o : Operand) (v : Names → OperandShape o) (old m0 m1 m2 new : List Token) → first old ≡ Some (token.Keyword k) → word_of k ≡ tells_of o → m0 ≡ drop 1 old → ReadsSign open_sign token.Open m0 m1 →
+    Reads s s (operand c o) (λ n ms. operand_mark c o (v n) ∷ ms) m1 m2 → ReadsSign close token.Close m2 new →
+    Reads s s (expression c) (λ n ms. key k ∷ sign token.Open ∷ operand_mark c o (v n) ∷ sign token.Close ∷ ms) old new
+told_reads s c k o v old m0 m1 m2 new is e from r1 r2 r3 = record {
+  spelled = λ n h ms q.
+      front_of old (token.Keyword k) is ∙ ap (λ ts. token.Keyword k ∷ ts) (sym from ∙ r1.spelled)
+      ∙ ap (λ ts. token.Keyword k ∷ token.Open ∷ ts) (r2.spelled n h (sign token.Close ∷ ms) (sym (r3.spelled ∙ ap (λ ts. token.Close ∷ ts) (sym q))));
+  goes_on = λ f.
+      word_start s c f old k o is e ∙ ap (λ ts. tell s (open_sign ∷ operand c o ∷ close ∷ f) ts) (sym from)
+      ∙ r1.goes_on s (operand c o ∷ close ∷ f) ∙ r2.goes_on (close ∷ f) ∙ r3.goes_on s f;
+}
+
+abbrev InScope : Scope → Context → Expr → List Token → List Token → Type 0
+InScope s c e old new = Reads s s (expression c) (λ n ms. expression_marks c (expression_map (name_in n) (expression_of e)) ms) old new
+
+pub bang_reads : (s : Scope) (c c1 : Context) (e e' : Expr) (old m0 new : List Token) → c1 ≡ inner c → e' ≡ e → first old ≡ Some token.Bang → c.level < 32 → m0 ≡ drop 1 old → InScope s c1 e m0 new →
+    Reads s s (expression c) (λ n ms. expression_marks c (negation (expression_map (name_in n) (expression_of e'))) ms) old new
+bang_reads s c c1 e e' old m0 new h q is low from r1 =
+    let r : InScope s (inner c) e' m0 new = subst (λ z. InScope s z e' m0 new) h (subst (λ z. InScope s c1 z m0 new) (sym q) r1) in
+    record {
+      spelled = λ n g ms p. front_of old token.Bang is ∙ ap (λ ts. token.Bang ∷ ts) (sym from ∙ r.spelled n g ms p);
+      goes_on = λ f. bang_start s c f old is low ∙ ap (λ ts. tell s (expression (inner c) ∷ f) ts) (sym from) ∙ r.goes_on f;
+    }
+
+pub open_reads : (s s1 : Scope) (c c1 c2 : Context) (o : Operator) (a a' b b' : Expr) (old m0 m1 m2 m3 new : List Token) → s1 ≡ s → c1 ≡ inner c → c2 ≡ inner c → a' ≡ a → b' ≡ b → first old ≡ Some token.Open → c.level < 32 → m0 ≡ drop 1 old →
+    InScope s c1 a m0 m1 → ReadsSign operator (token.Op o) m1 m2 → InScope s1 c2 b m2 m3 → ReadsSign close token.Close m3 new →
+    Reads s s (expression c) (λ n ms. expression_marks c (binary o (expression_map (name_in n) (expression_of a')) (expression_map (name_in n) (expression_of b'))) ms) old new
+open_reads s s1 c c1 c2 o a a' b b' old m0 m1 m2 m3 new g h1 h2 p q is low from ra r2 rb r3 =
+    let r : InScope s (inner c) a' m0 m1 = subst (λ z. InScope s z a' m0 m1) h1 (subst (λ z. InScope s c1 z m0 m1) (sym p) ra) in
+    let t : InScope s (inner c) b' m2 m3 = subst (λ z. InScope s z b' m2 m3) h2 (subst (λ z. InScope s c2 z m2 m3) (sym q) (subst (λ z. InScope z c2 b m2 m3) g rb)) in
+    record {
+      spelled = λ n e ms u.
+          let x3 = r3.spelled ∙ ap (λ ts. token.Close ∷ ts) (sym u) in
+          let x2 = t.spelled n e (sign token.Close ∷ ms) (sym x3) in
+          let x1 = r2.spelled ∙ ap (λ ts. token.Op o ∷ ts) x2 in
+          front_of old token.Open is ∙ ap (λ ts. token.Open ∷ ts) (sym from ∙ r.spelled n e (sign (token.Op o) ∷ expression_marks (inner c) (expression_map (name_in n) (expression_of b')) (sign token.Close ∷ ms)) (sym x1));
+      goes_on = λ f.
+          open_start s c f old is low ∙ ap (λ ts. tell s (expression (inner c) ∷ operator ∷ expression (inner c) ∷ close ∷ f) ts) (sym from)
+          ∙ r.goes_on (operator ∷ expression (inner c) ∷ close ∷ f) ∙ r2.goes_on s (expression (inner c) ∷ close ∷ f) ∙ t.goes_on (close ∷ f) ∙ r3.goes_on s f;
+    }
+
+abbrev Again : Names → Expr → Type 0
+Again n e = Numbered n (λ n'. expression_map (number_in n') (expression_map (name_in n') (expression_of e))) (expression_of e)
+
+pub bang_numbered : (n : Names) (e e' : Expr) → e' ≡ e → Again n e → (n' : Names) → Extends n n' → negation (expression_map (number_in n') (expression_map (name_in n') (expression_of e'))) ≡ negation (expression_of e')
+bang_numbered n e e' q r n' h = ap negation ((subst (Again n) (sym q) r) n' h)
+
+pub open_numbered : (n n1 : Names) (o : Operator) (a a' b b' : Expr) → n1 ≡ n → a' ≡ a → b' ≡ b → Again n a → Again n1 b → (n' : Names) → Extends n n' →
+    binary o (expression_map (number_in n') (expression_map (name_in n') (expression_of a'))) (expression_map (number_in n') (expression_map (name_in n') (expression_of b'))) ≡ binary o (expression_of a') (expression_of b')
+open_numbered n n1 o a a' b b' g p q ra rb n' h =
+    ap (λ z. binary o z (expression_map (number_in n') (expression_map (name_in n') (expression_of b')))) ((subst (Again n) (sym p) ra) n' h)
+    ∙ ap (binary o (expression_of a')) ((subst (Again n) (sym q) (subst (λ z. Again z b) g rb)) n' h)
+
+pub ruleset word_steps = (word_start)
+
+pub ruleset expression_steps = (variable_start, open_start, bang_start, word_start)

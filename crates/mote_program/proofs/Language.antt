@@ -1,371 +1,551 @@
 -- What each symbol stands for, and how the machine's steps follow the grammar.
-use Rattle.std.proofs.Common.{◌≡◌, ℕ, List, [], ◌∷◌, refl, sym, ap, subst, ◌∙◌, Bool, true, false, if◌then◌else◌}
+use Rattle.std.proofs.Common.{◌≡◌, ℕ, List, [], ◌∷◌, ◌++◌, refl, sym, ap, ◌∙◌, Bool, true, false, if◌then◌else◌, Option, Some, None}
 use Rattle.std.specs.Str.{bytes_eq}
-use Rattle.mote_program.specs.Grammar.{Name, Declared, Mark, plain, new_process, new_variable, listed, value, token_of_mark, tokens, ExpressionShape, number, variable, word, sender, moment, mote, negation, binary, StatementShape, assign, print, branch, while, yield, yield_until, BlockShape, end, next, ElseShape, nothing, otherwise as else_of, ProgramShape, program_of, expression_marks, statement_marks, items_marks, else_marks, block_marks, more_listed_marks, autostart_marks, content_marks, code_marks, program_marks}
-use Rattle.mote_program.specs.Machine.{Symbol, Form, Step, ends, fault, unfit, take, step, semicolon, equals, close, operator, expression, statement, block, items, otherwise, whole_program, process_name, autostart_or_code, listed_name, more_listed, code, this_name, open_brace, declarations, variable_name, first_value, close_brace}
-use Rattle.mote_program.specs.declared.tree.Operator.{Operator}
-use Rattle.mote_program.specs.declared.tree.Operator.TheVariants.{Add}
-use Rattle.mote_program.specs.declared.error.ReadErrorKind.{ReadErrorKind}
-use Rattle.mote_program.specs.declared.error.ReadErrorKind.TheVariants.{Unexpected, NoProcess}
+use Rattle.mote_program.specs.EventNames as event
+use Rattle.mote_program.specs.Forms as form
+use Rattle.mote_program.specs.Forms.{Operand, Form, ends, tells, takes, values, Beginning, no_statement, action, branches, loops, goes_on, beginning, Word, no_value, alone, tells_of, word_of}
+use Rattle.mote_program.specs.Grammar.{Context, at_thread, Mark, new, starts, sign, key, named, valued, begins_with, leaving, operand_mark, into_marks, word_marks, value_marks, expression_marks, form_marks, beginning_marks, keyword_marks, action_marks, items_marks, else_marks, block_marks, variable_marks, etimer_marks, ctimer_marks, thread_marks, handler_marks, body_marks, code_marks, codes_marks, event_marks, semaphore_marks, process_marks, starting_marks, autostart_marks, receiver_marks}
+use Rattle.mote_program.specs.Machine.{Symbol, Pending, Step, unfit, take, step, semicolon, equals, open_sign, close, open_brace, operator, number as number_symbol, operand, expression, into_end, block, items, items_else, new_name, new_thread, codes, this_name, from_variables, from_etimers, from_ctimers, from_threads, from_on_poll, from_on_exit, from_body, last_brace, from_events, from_semaphores, first_process, from_comma, more_process, from_autostart, from_receiver, starting, more_starting, symbols_of, codes_form, cast_step, sent_step, operand_step, word_step, begin_step, items_step, body_step, on_exit_step, on_poll_step, threads_step, ctimers_step, etimers_step, codes_step, receiver_step, process_step, semaphores_step}
+use Rattle.mote_program.specs.Shapes.{Name, Valued, Named, CodeShape, OperandShape, WordShape, FormShape, ActionShape}
 use Rattle.mote_program.specs.Tokens as token
 use Rattle.mote_program.specs.Tokens.{Token}
-use Rattle.mote_program.proofs.NameLaws.{same_bytes, bytes_same}
+use Rattle.mote_program.specs.Tree as tree
+use Rattle.mote_program.specs.Tree.{Class, a_thread, a_process, Expression, number, variable, sender, moment, mote, is, fired, expired, gone, running, count, negation, binary, Action, assign, print, send, wait_until, wait_while, yield, yield_until, spawn, restart, exit, pause, acquire, signal, post, broadcast, synch, poll, start, kill, set, reset, restart_timer, stop, Statement, does, branch, while, Body, end, next, Otherwise, nothing, otherwise}
+use Rattle.mote_program.specs.declared.keyword.Keyword.{Keyword}
+use Rattle.mote_program.specs.declared.keyword.Keyword.TheVariants as word
+use Rattle.mote_program.specs.declared.tree.Operator.{Operator}
+use Rattle.mote_program.specs.declared.tree.Operator.TheVariants.{Add}
+use Rattle.mote_program.proofs.NameLaws.{same_bytes}
 
--- what stands behind the process line: what starts at boot, and the code
-abbrev pub Rest : Type 0
-Rest = List Name × List Declared × BlockShape
+-- The tables and the trees.
 
--- the parts that a symbol stands for
+abbrev pub action_of : (k : Keyword) → ActionShape (beginning k) → Action Name
+action_of word.Print v = print v.0
+action_of word.Send v = send v.0
+action_of word.WaitUntil v = wait_until v.0
+action_of word.WaitWhile v = wait_while v.0
+action_of word.Yield v = yield
+action_of word.YieldUntil v = yield_until v.0
+action_of word.Spawn v = spawn v.0
+action_of word.Restart v = restart
+action_of word.Exit v = exit
+action_of word.Pause v = pause
+action_of word.Acquire v = acquire v.0
+action_of word.Signal v = signal v.0
+action_of word.Post v = post v.0 v.1.0 v.1.1.0 v.1.1.1
+action_of word.Broadcast v = broadcast v.0 v.1.0 v.1.1
+action_of word.Synch v = synch v.0 v.1.0 v.1.1.0
+action_of word.Poll v = poll v.0
+action_of word.Start v = start v.0
+action_of word.Kill v = kill v.0
+action_of word.Set v = set v.0 v.1.0
+action_of word.Reset v = reset v.0
+action_of word.RestartTimer v = restart_timer v.0
+action_of word.Stop v = stop v.0
+action_of k v = absurd v
+
+abbrev pub action_spelled : (c : Context) (k : Keyword) (v : ActionShape (beginning k)) (after : List Mark) → action_marks c (action_of k v) after ≡ keyword_marks c k v after
+action_spelled c word.Print v after = refl
+action_spelled c word.Send v after = refl
+action_spelled c word.WaitUntil v after = refl
+action_spelled c word.WaitWhile v after = refl
+action_spelled c word.Yield v after = refl
+action_spelled c word.YieldUntil v after = refl
+action_spelled c word.Spawn v after = refl
+action_spelled c word.Restart v after = refl
+action_spelled c word.Exit v after = refl
+action_spelled c word.Pause v after = refl
+action_spelled c word.Acquire v after = refl
+action_spelled c word.Signal v after = refl
+action_spelled c word.Post v after = refl
+action_spelled c word.Broadcast v after = refl
+action_spelled c word.Synch v after = refl
+action_spelled c word.Poll v after = refl
+action_spelled c word.Start v after = refl
+action_spelled c word.Kill v after = refl
+action_spelled c word.Set v after = refl
+action_spelled c word.Reset v after = refl
+action_spelled c word.RestartTimer v after = refl
+action_spelled c word.Stop v after = refl
+action_spelled c k v after = absurd v
+
+abbrev pub value_of : (k : Keyword) → WordShape (word_of k) → Expression Name
+value_of word.Data v = tree.word
+value_of word.From v = sender
+value_of word.Now v = moment
+value_of word.Own v = mote
+value_of word.Is v = is v
+value_of word.Fired v = fired v
+value_of word.Expired v = expired v
+value_of word.Gone v = gone v
+value_of word.Running v = running v
+value_of word.Count v = count v
+value_of k v = absurd v
+
+abbrev pub value_spelled : (c : Context) (k : Keyword) (v : WordShape (word_of k)) (after : List Mark) → expression_marks c (value_of k v) after ≡ value_marks c k v after
+value_spelled c word.Data v after = refl
+value_spelled c word.From v after = refl
+value_spelled c word.Now v after = refl
+value_spelled c word.Own v after = refl
+value_spelled c word.Is v after = refl
+value_spelled c word.Fired v after = refl
+value_spelled c word.Expired v after = refl
+value_spelled c word.Gone v after = refl
+value_spelled c word.Running v after = refl
+value_spelled c word.Count v after = refl
+value_spelled c k v after = absurd v
+
+-- The parts that a symbol stands for.
+
+-- the codes of these processes
+abbrev pub CodesOf : List Name → Type 0
+CodesOf [] = Unit {0}
+CodesOf (x ∷ xs) = CodeShape × (CodesOf xs)
+
+abbrev pub FromExit : Type 0
+FromExit = Option (Body Name) × (Body Name)
+
+abbrev pub FromPoll : Type 0
+FromPoll = Option (Body Name) × (FromExit)
+
+abbrev pub FromThreads : Type 0
+FromThreads = List Named × (FromPoll)
+
+abbrev pub FromCtimers : Type 0
+FromCtimers = List Named × (FromThreads)
+
+abbrev pub FromEtimers : Type 0
+FromEtimers = List Name × (FromCtimers)
+
+abbrev pub FromVariables : Type 0
+FromVariables = List Valued × (FromEtimers)
+
+abbrev pub Process : Type 0
+Process = Name × CodeShape
+
+abbrev pub Codes : List Name → Type 0
+Codes xs = CodeShape × (CodesOf xs)
+
+abbrev pub FromReceiver : List Name → Type 0
+FromReceiver xs = Option Name × (Codes xs)
+
+abbrev pub FromAutostart : List Name → Type 0
+FromAutostart xs = List Name × (FromReceiver xs)
+
+abbrev pub FromComma : List Name → Type 0
+FromComma xs = List Process × (FromAutostart xs)
+
+-- the first process, the others, what starts at boot and the receiver
+abbrev pub FromProcess : Type 0
+FromProcess = Process × (List Process × (List Name × (Option Name)))
+
+abbrev pub FromSemaphores : Type 0
+FromSemaphores = List Valued × (FromProcess)
+
+abbrev pub FromEvents : Type 0
+FromEvents = List Name × (FromSemaphores)
+
 abbrev pub PartOf : Symbol → Type 0
 PartOf operator = Operator
-PartOf (expression d) = ExpressionShape
-PartOf (statement d) = StatementShape
-PartOf (block d) = BlockShape
-PartOf (items d) = BlockShape
-PartOf (otherwise d) = ElseShape
-PartOf whole_program = ProgramShape
-PartOf process_name = ProgramShape
-PartOf (autostart_or_code x) = Rest
-PartOf listed_name = Name
-PartOf more_listed = List Name
-PartOf declarations = List Declared × BlockShape
-PartOf variable_name = Name
-PartOf first_value = ℕ
+PartOf number_symbol = ℕ
+PartOf (operand c o) = OperandShape o
+PartOf (expression c) = Expression Name
+PartOf (into_end c) = Option Name
+PartOf (block c) = Body Name
+PartOf (items c) = Body Name
+PartOf (items_else c) = Otherwise Name × (Body Name)
+PartOf (new_name k) = Name
+PartOf new_thread = Named
+PartOf (codes x xs) = Codes xs
+PartOf from_variables = FromVariables
+PartOf from_etimers = FromEtimers
+PartOf from_ctimers = FromCtimers
+PartOf from_threads = FromThreads
+PartOf from_on_poll = FromPoll
+PartOf from_on_exit = FromExit
+PartOf from_body = Body Name
+PartOf from_events = FromEvents
+PartOf from_semaphores = FromSemaphores
+PartOf first_process = FromProcess
+PartOf (from_comma x xs) = FromComma xs
+PartOf (more_process x xs) = Process × (FromComma xs)
+PartOf (from_autostart x xs) = FromAutostart xs
+PartOf (from_receiver x xs) = FromReceiver xs
+PartOf starting = Name
+PartOf more_starting = List Name
 PartOf _ = Unit {0}
 
+abbrev pub codes_spelled : (xs : List Name) → CodesOf xs → List Mark → List Mark
+codes_spelled [] cs rest = rest
+codes_spelled (x ∷ xs) cs rest = code_marks (x, cs.0) (codes_spelled xs cs.1 rest)
+
+abbrev pub exit_spelled : FromExit → List Mark → List Mark
+exit_spelled p rest = handler_marks word.OnExit p.0 (body_marks p.1 rest)
+
+abbrev pub poll_spelled : FromPoll → List Mark → List Mark
+poll_spelled p rest = handler_marks word.OnPoll p.0 (exit_spelled p.1 rest)
+
+abbrev pub threads_spelled : FromThreads → List Mark → List Mark
+threads_spelled p rest = thread_marks p.0 (poll_spelled p.1 rest)
+
+abbrev pub ctimers_spelled : FromCtimers → List Mark → List Mark
+ctimers_spelled p rest = ctimer_marks p.0 (threads_spelled p.1 rest)
+
+abbrev pub etimers_spelled : FromEtimers → List Mark → List Mark
+etimers_spelled p rest = etimer_marks p.0 (ctimers_spelled p.1 rest)
+
+abbrev pub variables_spelled : FromVariables → List Mark → List Mark
+variables_spelled p rest = variable_marks p.0 (etimers_spelled p.1 rest)
+
+abbrev pub receiver_spelled : Name → (xs : List Name) → FromReceiver xs → List Mark → List Mark
+receiver_spelled x xs p rest = receiver_marks p.0 (codes_spelled (x ∷ xs) p.1 rest)
+
+abbrev pub autostart_spelled : Name → (xs : List Name) → FromAutostart xs → List Mark → List Mark
+autostart_spelled x xs p rest = autostart_marks p.0 (receiver_spelled x xs p.1 rest)
+
+abbrev pub comma_spelled : Name → (xs : List Name) → FromComma xs → List Mark → List Mark
+comma_spelled x xs p rest = process_marks p.0 (autostart_spelled x xs p.1 (codes_marks p.0 rest))
+
+abbrev pub more_spelled : Name → (xs : List Name) → Process → FromComma xs → List Mark → List Mark
+more_spelled x xs n p rest = named n.0 (new a_process n.0) ∷ process_marks p.0 (autostart_spelled x xs p.1 (codes_marks (n ∷ p.0) rest))
+
+abbrev pub process_spelled : FromProcess → List Mark → List Mark
+process_spelled p rest =
+    named p.0.0 (new a_process p.0.0) ∷ process_marks p.1.0 (autostart_marks p.1.1.0 (receiver_marks p.1.1.1 (codes_marks (p.0 ∷ p.1.0) rest)))
+
+abbrev pub semaphores_spelled : FromSemaphores → List Mark → List Mark
+semaphores_spelled p rest = semaphore_marks p.0 (key word.Process ∷ process_spelled p.1 rest)
+
+abbrev pub events_spelled : FromEvents → List Mark → List Mark
+events_spelled p rest = event_marks p.0 (semaphores_spelled p.1 rest)
+
 abbrev pub spell : (s : Symbol) → PartOf s → List Mark → List Mark
-spell semicolon p rest = plain token.Semicolon ∷ rest
-spell equals p rest = plain token.Equals ∷ rest
-spell close p rest = plain token.Close ∷ rest
-spell operator o rest = plain (token.Op o) ∷ rest
-spell (expression d) e rest = expression_marks d e rest
-spell (statement d) s rest = statement_marks d s rest
-spell (block d) b rest = block_marks d b rest
-spell (items d) b rest = items_marks d b rest
-spell (otherwise d) b rest = else_marks d b rest
-spell whole_program p rest = program_marks p rest
-spell process_name (program_of x xs vs b) rest = new_process x ∷ (plain token.Semicolon ∷ autostart_marks xs (code_marks x vs b rest))
-spell (autostart_or_code x) p rest = autostart_marks p.0 (code_marks x p.1 p.2 rest)
-spell listed_name x rest = listed x ∷ rest
-spell more_listed xs rest = more_listed_marks xs rest
-spell code p rest = plain token.Code ∷ rest
-spell (this_name x) p rest = plain (token.Name x) ∷ rest
-spell open_brace p rest = plain token.OpenBrace ∷ rest
-spell declarations p rest = content_marks p.0 p.1 rest
-spell variable_name x rest = new_variable x ∷ rest
-spell first_value n rest = value n ∷ rest
-spell close_brace p rest = plain token.CloseBrace ∷ rest
+spell semicolon p rest = sign token.Semicolon ∷ rest
+spell equals p rest = sign token.Equals ∷ rest
+spell open_sign p rest = sign token.Open ∷ rest
+spell close p rest = sign token.Close ∷ rest
+spell open_brace p rest = sign token.OpenBrace ∷ rest
+spell operator o rest = sign (token.Op o) ∷ rest
+spell number_symbol n rest = valued n ∷ rest
+spell (operand c o) v rest = operand_mark c o v ∷ rest
+spell (expression c) e rest = expression_marks c e rest
+spell (into_end c) i rest = into_marks i rest
+spell (block c) b rest = block_marks c b rest
+spell (items c) b rest = items_marks c b rest
+spell (items_else c) p rest = else_marks c p.0 (items_marks c p.1 rest)
+spell (new_name k) x rest = named x (new k x) ∷ rest
+spell new_thread p rest = named p.0 (new a_thread p.0) ∷ block_marks (at_thread p.0) p.1 rest
+spell (codes x xs) p rest = codes_spelled (x ∷ xs) p rest
+spell (this_name x) p rest = sign (token.Name x) ∷ rest
+spell from_variables p rest = variables_spelled p rest
+spell from_etimers p rest = etimers_spelled p rest
+spell from_ctimers p rest = ctimers_spelled p rest
+spell from_threads p rest = threads_spelled p rest
+spell from_on_poll p rest = poll_spelled p rest
+spell from_on_exit p rest = exit_spelled p rest
+spell from_body b rest = body_marks b rest
+spell last_brace p rest = leaving ∷ rest
+spell from_events p rest = events_spelled p rest
+spell from_semaphores p rest = semaphores_spelled p rest
+spell first_process p rest = process_spelled p rest
+spell (from_comma x xs) p rest = comma_spelled x xs p rest
+spell (more_process x xs) p rest = more_spelled x xs p.0 p.1 rest
+spell (from_autostart x xs) p rest = autostart_spelled x xs p rest
+spell (from_receiver x xs) p rest = receiver_spelled x xs p rest
+spell starting x rest = named x (starts x) ∷ rest
+spell more_starting xs rest = starting_marks xs rest
 
 -- parts for what may come, and their marks
-abbrev pub Parts : Form → Type 0
+abbrev pub Parts : Pending → Type 0
 Parts [] = Unit {0}
-Parts (s ∷ f) = PartOf s × Parts f
+Parts (s ∷ f) = PartOf s × (Parts f)
 
-abbrev pub spell_all : (f : Form) → Parts f → List Mark
+abbrev pub spell_all : (f : Pending) → Parts f → List Mark
 spell_all [] ps = []
 spell_all (s ∷ f) ps = spell s ps.0 (spell_all f ps.1)
 
-some_part : (s : Symbol) → PartOf s
+-- something always completes it
+pub some_operand : (o : Operand) → OperandShape o
+some_operand (form.name k) = []
+some_operand form.cast = event.continue
+some_operand form.sent = event.exit
+some_operand form.any = event.init
+
+abbrev pub some_code : CodeShape
+some_code = record { variables = []; etimers = []; ctimers = []; threads = []; on_poll = None; on_exit = None; body = end }
+
+pub some_codes : (xs : List Name) → CodesOf xs
+some_codes [] = tt
+some_codes (x ∷ xs) = (some_code, some_codes xs)
+
+abbrev pub some_program : FromProcess
+some_program = (([], some_code), ([], ([], None)))
+
+pub some_part : (s : Symbol) → PartOf s
 some_part operator = Add
-some_part (expression d) = number 0
-some_part (statement d) = yield
-some_part (block d) = end
-some_part (items d) = end
-some_part (otherwise d) = nothing
-some_part whole_program = program_of [] [] [] end
-some_part process_name = program_of [] [] [] end
-some_part (autostart_or_code x) = ([], [], end)
-some_part listed_name = []
-some_part more_listed = []
-some_part declarations = ([], end)
-some_part variable_name = []
-some_part first_value = 0
+some_part number_symbol = 0
+some_part (operand c o) = some_operand o
+some_part (expression c) = number 0
+some_part (into_end c) = None
+some_part (block c) = end
+some_part (items c) = end
+some_part (items_else c) = (nothing, end)
+some_part (new_name k) = []
+some_part new_thread = ([], end)
+some_part (codes x xs) = (some_code, some_codes xs)
+some_part from_variables = ([], ([], ([], ([], (None, (None, end))))))
+some_part from_etimers = ([], ([], ([], (None, (None, end)))))
+some_part from_ctimers = ([], ([], (None, (None, end))))
+some_part from_threads = ([], (None, (None, end)))
+some_part from_on_poll = (None, (None, end))
+some_part from_on_exit = (None, end)
+some_part from_body = end
+some_part from_events = ([], ([], some_program))
+some_part from_semaphores = ([], some_program)
+some_part first_process = some_program
+some_part (from_comma x xs) = ([], ([], (None, (some_code, some_codes xs))))
+some_part (more_process x xs) = (([], some_code), ([], ([], (None, (some_code, some_codes xs)))))
+some_part (from_autostart x xs) = ([], (None, (some_code, some_codes xs)))
+some_part (from_receiver x xs) = (None, (some_code, some_codes xs))
+some_part starting = []
+some_part more_starting = []
 some_part _ = tt
 
--- something always completes it
-pub some_parts : (f : Form) → Parts f
+pub some_parts : (f : Pending) → Parts f
 some_parts [] = tt
 some_parts (s ∷ f) = (some_part s, some_parts f)
 
--- a step back: what completes the form after the token, completes with its mark the form before
-abbrev pub Back : Form → Token → Step → Type 0
+-- Lists of symbols that are made by the tables.
+
+abbrev pub form_split : (c : Context) (g : Form) (f : Pending) → Parts (symbols_of c g f) → FormShape g × (Parts f)
+form_split c ends f ps = (tt, ps.1)
+form_split c tells f ps = (ps.0, ps.1)
+form_split c (takes o g) f ps = ((ps.0, (form_split c g f ps.1).0), (form_split c g f ps.1).1)
+form_split c (values g) f ps = ((ps.0, (form_split c g f ps.1).0), (form_split c g f ps.1).1)
+
+abbrev pub form_spelled : (c : Context) (g : Form) (f : Pending) (ps : Parts (symbols_of c g f)) → form_marks c g (form_split c g f ps).0 (spell_all f (form_split c g f ps).1) ≡ spell_all (symbols_of c g f) ps
+form_spelled c ends f ps = refl
+form_spelled c tells f ps = refl
+form_spelled c (takes o g) f ps = ap (λ ms. operand_mark c o ps.0 ∷ ms) (form_spelled c g f ps.1)
+form_spelled c (values g) f ps = ap (λ ms. expression_marks c ps.0 ms) (form_spelled c g f ps.1)
+
+abbrev pub codes_split : (xs : List Name) (f : Pending) → Parts (codes_form xs f) → CodesOf xs × (Parts f)
+codes_split [] f ps = (tt, ps)
+codes_split (x ∷ xs) f ps = ps
+
+abbrev pub codes_split_spelled : (xs : List Name) (f : Pending) (ps : Parts (codes_form xs f)) → codes_spelled xs (codes_split xs f ps).0 (spell_all f (codes_split xs f ps).1) ≡ spell_all (codes_form xs f) ps
+codes_split_spelled [] f ps = refl
+codes_split_spelled (x ∷ xs) f ps = refl
+
+codes_join : (xs : List Name) (f : Pending) (cs : CodesOf xs) (ps : Parts f) → (qs : Parts (codes_form xs f)) × (spell_all (codes_form xs f) qs ≡ codes_spelled xs cs (spell_all f ps)) × (codes_split xs f qs ≡ (cs, ps))
+codes_join [] f cs ps = (ps, refl, refl)
+codes_join (x ∷ xs) f cs ps = ((cs, ps), refl, refl)
+
+-- the codes of some processes and one more
+abbrev pub all_but_last : (xs : List Name) (x : Name) → CodesOf (xs ++ x ∷ []) → CodesOf xs
+all_but_last [] x cs = tt
+all_but_last (y ∷ xs) x cs = (cs.0, all_but_last xs x cs.1)
+
+abbrev pub last : (xs : List Name) (x : Name) → CodesOf (xs ++ x ∷ []) → CodeShape
+last [] x cs = cs.0
+last (y ∷ xs) x cs = last xs x cs.1
+
+abbrev pub last_spelled : (xs : List Name) (x : Name) (cs : CodesOf (xs ++ x ∷ [])) (rest : List Mark) → codes_spelled xs (all_but_last xs x cs) (code_marks (x, last xs x cs) rest) ≡ codes_spelled (xs ++ x ∷ []) cs rest
+last_spelled [] x cs rest = refl
+last_spelled (y ∷ xs) x cs rest = ap (λ ms. code_marks (y, cs.0) ms) (last_spelled xs x cs.1 rest)
+
+pub with_last : (xs : List Name) (x : Name) (cs : CodesOf xs) (c : CodeShape) → (ds : CodesOf (xs ++ x ∷ [])) × (all_but_last xs x ds ≡ cs) × (last xs x ds ≡ c)
+with_last [] x cs c = ((c, tt), refl, refl)
+with_last (y ∷ xs) x cs c = let q = with_last xs x cs.1 c in ((cs.0, q.0), ap (λ z. (cs.0, z)) q.1, q.2)
+
+-- A step back: what completes the pending symbols after the token, completes with its mark those before.
+
+abbrev pub Back : Pending → Token → Step → Type 0
 Back f t unfit = Unit {0}
-Back f t (take m f') = (token_of_mark m ≡ t) × ((ps : Parts f') → (qs : Parts f) × (spell_all f qs ≡ m ∷ spell_all f' ps))
+Back f t (take m f') = (m.token ≡ t) × ((ps : Parts f') → (qs : Parts f) × (spell_all f qs ≡ m ∷ spell_all f' ps))
 
-abbrev back_expression : (d : ℕ) (f : Form) (t : Token) → Back (expression d ∷ f) t (step (expression d ∷ f) t)
-back_expression d f (token.Number n) = (refl, λ ps. ((number n, ps), refl))
-back_expression d f (token.Name x) = (refl, λ ps. ((variable x, ps), refl))
-back_expression d f token.Data = (refl, λ ps. ((word, ps), refl))
-back_expression d f token.From = (refl, λ ps. ((sender, ps), refl))
-back_expression d f token.Now = (refl, λ ps. ((moment, ps), refl))
-back_expression d f token.Own = (refl, λ ps. ((mote, ps), refl))
-back_expression d f token.Bang = (refl, λ ps. ((negation ps.0, ps.1), refl))
-back_expression d f token.Open = (refl, λ ps. ((binary ps.1.0 ps.0 ps.1.1.0, ps.1.1.1.1), refl))
-back_expression d f _ = tt
+-- where a symbol is passed over
+abbrev pub passed : (y z : Symbol) (f : Pending) (up : PartOf z → PartOf y) → ((p : PartOf z) (rest : List Mark) → spell y (up p) rest ≡ spell z p rest) → (t : Token) (s : Step) → Back (z ∷ f) t s → Back (y ∷ f) t s
+passed y z f up same t unfit b = tt
+passed y z f up same t (take m f') b = (b.0, λ ps. ((up (b.1 ps).0.0, (b.1 ps).0.1), same (b.1 ps).0.0 (spell_all f (b.1 ps).0.1) ∙ (b.1 ps).1))
 
-abbrev back_statement : (d : ℕ) (f : Form) (t : Token) → Back (statement d ∷ f) t (step (statement d ∷ f) t)
-back_statement d f (token.Name x) = (refl, λ ps. ((assign x ps.1.0, ps.1.1.1), refl))
-back_statement d f token.Print = (refl, λ ps. ((print ps.0, ps.1.1), refl))
-back_statement d f token.If = (refl, λ ps. ((branch ps.0 ps.1.0 ps.1.1.0, ps.1.1.1), refl))
-back_statement d f token.While = (refl, λ ps. ((while ps.0 ps.1.0, ps.1.1), refl))
-back_statement d f token.Yield = (refl, λ ps. ((yield, ps.1), refl))
-back_statement d f token.YieldUntil = (refl, λ ps. ((yield_until ps.0, ps.1.1), refl))
-back_statement d f _ = tt
+abbrev pub back_cast : (c : Context) (f : Pending) (t : Token) → Back (operand c form.cast ∷ f) t (cast_step f t)
+back_cast c f (token.Name x) = (refl, λ ps. ((event.declared x, ps), refl))
+back_cast c f (token.Keyword word.Continue) = (refl, λ ps. ((event.continue, ps), refl))
+back_cast c f (token.Keyword word.Msg) = (refl, λ ps. ((event.msg, ps), refl))
+back_cast c f (token.Keyword word.Com) = (refl, λ ps. ((event.«com», ps), refl))
+back_cast c f (token.Keyword word.Packet) = (refl, λ ps. ((event.packet, ps), refl))
+back_cast c f t = tt
 
-abbrev back_items : (d : ℕ) (f : Form) (t : Token) → Back (items d ∷ f) t (step (items d ∷ f) t)
-back_items d f token.CloseBrace = (refl, λ ps. ((end, ps), refl))
-back_items d f (token.Name x) = (refl, λ ps. ((next (assign x ps.1.0) ps.1.1.1.0, ps.1.1.1.1), refl))
-back_items d f token.Print = (refl, λ ps. ((next (print ps.0) ps.1.1.0, ps.1.1.1), refl))
-back_items d f token.If = (refl, λ ps. ((next (branch ps.0 ps.1.0 ps.1.1.0) ps.1.1.1.0, ps.1.1.1.1), refl))
-back_items d f token.While = (refl, λ ps. ((next (while ps.0 ps.1.0) ps.1.1.0, ps.1.1.1), refl))
-back_items d f token.Yield = (refl, λ ps. ((next yield ps.1.0, ps.1.1), refl))
-back_items d f token.YieldUntil = (refl, λ ps. ((next (yield_until ps.0) ps.1.1.0, ps.1.1.1), refl))
-back_items d f _ = tt
+abbrev pub back_sent : (c : Context) (f : Pending) (t : Token) → Back (operand c form.sent ∷ f) t (sent_step f t)
+back_sent c f (token.Keyword word.Exit) = (refl, λ ps. ((event.exit, ps), refl))
+back_sent c f t = passed (operand c form.sent) (operand c form.cast) f event.cast (λ p rest. refl) t (cast_step f t) (back_cast c f t)
 
-abbrev back_passed : (d : ℕ) (f : Form) (t : Token) (s : Step) → Back f t s → Back (otherwise d ∷ f) t s
-back_passed d f t unfit b = tt
-back_passed d f t (take m f') b = (b.0, λ ps. ((nothing, (b.1 ps).0), (b.1 ps).1))
+abbrev pub back_operand : (c : Context) (o : Operand) (f : Pending) (t : Token) → Back (operand c o ∷ f) t (operand_step c o f t)
+back_operand c (form.name k) f (token.Name x) = (refl, λ ps. ((x, ps), refl))
+back_operand c form.cast f t = back_cast c f t
+back_operand c form.sent f t = back_sent c f t
+back_operand c form.any f (token.Keyword word.Init) = (refl, λ ps. ((event.init, ps), refl))
+back_operand c form.any f (token.Keyword word.Poll) = (refl, λ ps. ((event.poll, ps), refl))
+back_operand c form.any f (token.Keyword word.Exited) = (refl, λ ps. ((event.exited, ps), refl))
+back_operand c form.any f (token.Keyword word.Timer) = (refl, λ ps. ((event.timer, ps), refl))
+back_operand c form.any f t = passed (operand c form.any) (operand c form.sent) f event.sent (λ p rest. refl) t (sent_step f t) (back_sent c f t)
+back_operand c o f t = tt
 
-abbrev back_otherwise : (d : ℕ) (f : Form) (t : Token) → Back f t (step f t) → Back (otherwise d ∷ f) t (step (otherwise d ∷ f) t)
-back_otherwise d f token.Else b = (refl, λ ps. ((else_of ps.0, ps.1), refl))
-back_otherwise d f t b = back_passed d f t (step f t) b
+abbrev pub back_word : (c : Context) (k : Keyword) (w : Word) (f : Pending) (make : WordShape w → Expression Name) → ((v : WordShape w) (after : List Mark) → expression_marks c (make v) after ≡ key k ∷ word_marks c w v after) → Back (expression c ∷ f) (token.Keyword k) (word_step c k w f)
+back_word c k no_value f make spelled = tt
+back_word c k alone f make spelled = (refl, λ ps. ((make tt, ps), spelled tt (spell_all f ps)))
+back_word c k (tells_of o) f make spelled = (refl, λ ps. ((make ps.1.0, ps.1.1.1), spelled ps.1.0 (spell_all f ps.1.1.1)))
 
-abbrev back_this : (x : Name) (f : Form) (y : Name) (b : Bool) → bytes_eq y x ≡ b → Back (this_name x ∷ f) (token.Name y) (if b then take (plain (token.Name y)) f else unfit)
-back_this x f y true e = (refl, λ ps. ((tt, ps), ap (λ z. plain (token.Name z) ∷ spell_all f ps) (sym (same_bytes y x e))))
+abbrev pub back_expression : (c : Context) (f : Pending) (t : Token) → Back (expression c ∷ f) t (step (expression c ∷ f) t)
+back_expression c f (token.Number n) = (refl, λ ps. ((number n, ps), refl))
+back_expression c f (token.Name x) = (refl, λ ps. ((variable x, ps), refl))
+back_expression c f (token.Keyword k) = back_word c k (word_of k) f (value_of k) (value_spelled c k)
+back_expression c f token.Bang = (refl, λ ps. ((negation ps.0, ps.1), refl))
+back_expression c f token.Open = (refl, λ ps. ((binary ps.1.0 ps.0 ps.1.1.0, ps.1.1.1.1), refl))
+back_expression c f t = tt
+
+abbrev pub IsPlain : Beginning → Type 0
+IsPlain branches = ⊥
+IsPlain loops = ⊥
+IsPlain b = Unit {0}
+
+abbrev pub back_action : (c : Context) (k : Keyword) (b : Beginning) (f : Pending) (make : ActionShape b → Action Name) → ((v : ActionShape b) (after : List Mark) → action_marks c (make v) after ≡ begins_with c k ∷ beginning_marks c b v after) → IsPlain b →
+    Back (items c ∷ f) (token.Keyword k) (begin_step c k b f)
+back_action c k no_statement f make spelled h = tt
+back_action c k (action g) f make spelled h = (
+  refl,
+  λ ps.
+      let q = form_split c g (items c ∷ f) ps in
+      ((next (does (make q.0)) q.1.0, q.1.1), spelled q.0 (spell_all (items c ∷ f) q.1) ∙ ap (λ ms. begins_with c k ∷ ms) (form_spelled c g (items c ∷ f) ps)),
+)
+back_action c k branches f make spelled h = absurd h
+back_action c k loops f make spelled h = absurd h
+back_action c k goes_on f make spelled h = tt
+
+abbrev pub back_items : (c : Context) (f : Pending) (t : Token) → Back (items c ∷ f) t (items_step c f t)
+back_items c f token.CloseBrace = (refl, λ ps. ((end, ps), refl))
+back_items c f (token.Name x) = (refl, λ ps. ((next (does (assign x ps.1.0)) ps.1.1.1.0, ps.1.1.1.1), refl))
+back_items c f (token.Keyword word.If) = (refl, λ ps. ((next (branch ps.0 ps.1.0 ps.1.1.0.0) ps.1.1.0.1, ps.1.1.1), refl))
+back_items c f (token.Keyword word.While) = (refl, λ ps. ((next (while ps.0 ps.1.0) ps.1.1.0, ps.1.1.1), refl))
+back_items c f (token.Keyword k) = back_action c k (beginning k) f (action_of k) (action_spelled c k) tt
+back_items c f t = tt
+
+abbrev pub back_items_else : (c : Context) (f : Pending) (t : Token) → Back (items_else c ∷ f) t (step (items_else c ∷ f) t)
+back_items_else c f (token.Keyword word.Else) = (refl, λ ps. (((otherwise ps.0, ps.1.0), ps.1.1), refl))
+back_items_else c f t = passed (items_else c) (items c) f (λ b. (nothing, b)) (λ p rest. refl) t (items_step c f t) (back_items c f t)
+
+abbrev pub back_body : (f : Pending) (t : Token) → Back (from_body ∷ f) t (body_step f t)
+back_body f (token.Keyword word.Body) = (refl, λ ps. ((ps.0, ps.1.1), refl))
+back_body f t = tt
+
+abbrev pub back_on_exit : (f : Pending) (t : Token) → Back (from_on_exit ∷ f) t (step (from_on_exit ∷ f) t)
+back_on_exit f (token.Keyword word.OnExit) = (refl, λ ps. (((Some ps.0, ps.1.0), ps.1.1), refl))
+back_on_exit f t = passed from_on_exit from_body f (λ p. (None, p)) (λ p rest. refl) t (body_step f t) (back_body f t)
+
+abbrev pub back_on_poll : (f : Pending) (t : Token) → Back (from_on_poll ∷ f) t (step (from_on_poll ∷ f) t)
+back_on_poll f (token.Keyword word.OnPoll) = (refl, λ ps. (((Some ps.0, ps.1.0), ps.1.1), refl))
+back_on_poll f t = passed from_on_poll from_on_exit f (λ p. (None, p)) (λ p rest. refl) t (on_exit_step f t) (back_on_exit f t)
+
+abbrev pub back_threads : (f : Pending) (t : Token) → Back (from_threads ∷ f) t (step (from_threads ∷ f) t)
+back_threads f (token.Keyword word.Thread) = (refl, λ ps. (((ps.0 ∷ ps.1.0.0, ps.1.0.1), ps.1.1), refl))
+back_threads f t = passed from_threads from_on_poll f (λ p. ([], p)) (λ p rest. refl) t (on_poll_step f t) (back_on_poll f t)
+
+abbrev pub back_ctimers : (f : Pending) (t : Token) → Back (from_ctimers ∷ f) t (step (from_ctimers ∷ f) t)
+back_ctimers f (token.Keyword word.Ctimer) = (refl, λ ps. ((((ps.0, ps.1.0) ∷ ps.1.1.0.0, ps.1.1.0.1), ps.1.1.1), refl))
+back_ctimers f t = passed from_ctimers from_threads f (λ p. ([], p)) (λ p rest. refl) t (threads_step f t) (back_threads f t)
+
+abbrev pub back_etimers : (f : Pending) (t : Token) → Back (from_etimers ∷ f) t (step (from_etimers ∷ f) t)
+back_etimers f (token.Keyword word.Etimer) = (refl, λ ps. (((ps.0 ∷ ps.1.1.0.0, ps.1.1.0.1), ps.1.1.1), refl))
+back_etimers f t = passed from_etimers from_ctimers f (λ p. ([], p)) (λ p rest. refl) t (ctimers_step f t) (back_ctimers f t)
+
+abbrev pub back_variables : (f : Pending) (t : Token) → Back (from_variables ∷ f) t (step (from_variables ∷ f) t)
+back_variables f (token.Keyword word.Var) = (refl, λ ps. ((((ps.0, ps.1.1.0) ∷ ps.1.1.1.1.0.0, ps.1.1.1.1.0.1), ps.1.1.1.1.1), refl))
+back_variables f t = passed from_variables from_etimers f (λ p. ([], p)) (λ p rest. refl) t (etimers_step f t) (back_etimers f t)
+
+abbrev pub code_from : FromVariables → CodeShape
+code_from p = record { variables = p.0; etimers = p.1.0; ctimers = p.1.1.0; threads = p.1.1.1.0; on_poll = p.1.1.1.1.0; on_exit = p.1.1.1.1.1.0; body = p.1.1.1.1.1.1 }
+
+abbrev pub parts_of_code : CodeShape → FromVariables
+parts_of_code c = (c.variables, (c.etimers, (c.ctimers, (c.threads, (c.on_poll, (c.on_exit, c.body))))))
+
+abbrev pub back_codes : (x : Name) (xs : List Name) (f : Pending) (t : Token) → Back (codes x xs ∷ f) t (codes_step x xs f t)
+back_codes x xs f (token.Keyword word.Code) = (
+  refl,
+  λ ps.
+      let q = codes_split xs f ps.1.1.1 in
+      (((code_from ps.1.1.0, q.0), q.1), ap (λ ms. code_marks (x, code_from ps.1.1.0) ms) (codes_split_spelled xs f ps.1.1.1)),
+)
+back_codes x xs f t = tt
+
+abbrev pub back_receiver : (x : Name) (xs : List Name) (f : Pending) (t : Token) → Back (from_receiver x xs ∷ f) t (receiver_step x xs f t)
+back_receiver x xs f (token.Keyword word.Receiver) = (refl, λ ps. (((Some ps.0, ps.1.1.0), ps.1.1.1), refl))
+back_receiver x xs f t = passed (from_receiver x xs) (codes x xs) f (λ p. (None, p)) (λ p rest. refl) t (codes_step x xs f t) (back_codes x xs f t)
+
+abbrev pub back_autostart : (x : Name) (xs : List Name) (f : Pending) (t : Token) → Back (from_autostart x xs ∷ f) t (step (from_autostart x xs ∷ f) t)
+back_autostart x xs f (token.Keyword word.Autostart) = (refl, λ ps. (((ps.0 ∷ ps.1.0, ps.1.1.0), ps.1.1.1), refl))
+back_autostart x xs f t = passed (from_autostart x xs) (from_receiver x xs) f (λ p. ([], p)) (λ p rest. refl) t (receiver_step x xs f t) (back_receiver x xs f t)
+
+abbrev pub back_more : (x : Name) (xs : List Name) (y : Name) (f : Pending) (ps : Parts (from_comma x (xs ++ y ∷ []) ∷ f)) → (qs : Parts (more_process x xs ∷ f)) × (spell_all (more_process x xs ∷ f) qs ≡ named y (new a_process y) ∷ spell_all (from_comma x (xs ++ y ∷ []) ∷ f) ps)
+back_more x xs y f ps = (
+  (((y, last xs y ps.0.1.1.1.1), (ps.0.0, (ps.0.1.0, (ps.0.1.1.0, (ps.0.1.1.1.0, all_but_last xs y ps.0.1.1.1.1))))), ps.1),
+  ap (λ ms. named y (new a_process y) ∷ process_marks ps.0.0 (autostart_marks ps.0.1.0 (receiver_marks ps.0.1.1.0 (code_marks (x, ps.0.1.1.1.0) ms))))
+      (last_spelled xs y ps.0.1.1.1.1 (codes_marks ps.0.0 (spell_all f ps.1))),
+)
+
+abbrev pub back_process : (f : Pending) (t : Token) → Back (from_semaphores ∷ f) t (process_step f t)
+back_process f (token.Keyword word.Process) = (refl, λ ps. ((([], ps.0), ps.1), refl))
+back_process f t = tt
+
+abbrev pub back_semaphores : (f : Pending) (t : Token) → Back (from_semaphores ∷ f) t (semaphores_step f t)
+back_semaphores f (token.Keyword word.Semaphore) = (refl, λ ps. ((((ps.0, ps.1.1.0) ∷ ps.1.1.1.1.0.0, ps.1.1.1.1.0.1), ps.1.1.1.1.1), refl))
+back_semaphores f t = back_process f t
+
+abbrev pub back_events : (f : Pending) (t : Token) → Back (from_events ∷ f) t (step (from_events ∷ f) t)
+back_events f (token.Keyword word.Event) = (refl, λ ps. (((ps.0 ∷ ps.1.1.0.0, ps.1.1.0.1), ps.1.1.1), refl))
+back_events f t = passed from_events from_semaphores f (λ p. ([], p)) (λ p rest. refl) t (semaphores_step f t) (back_semaphores f t)
+
+abbrev pub back_this : (x : Name) (f : Pending) (y : Name) (b : Bool) → bytes_eq y x ≡ b → Back (this_name x ∷ f) (token.Name y) (if b then take (sign (token.Name y)) f else unfit)
+back_this x f y true e = (refl, λ ps. ((tt, ps), ap (λ z. sign (token.Name z) ∷ spell_all f ps) (sym (same_bytes y x e))))
 back_this x f y false e = tt
 
-abbrev back_program : (f : Form) (ps : Parts (process_name ∷ f)) → (qs : Parts (whole_program ∷ f)) × (spell_all (whole_program ∷ f) qs ≡ plain token.Process ∷ spell_all (process_name ∷ f) ps)
-back_program f (program_of x xs vs b, ps) = ((program_of x xs vs b, ps), refl)
-
-abbrev pub back : (f : Form) (t : Token) → Back f t (step f t)
+abbrev pub back : (f : Pending) (t : Token) → Back f t (step f t)
 back [] t = tt
 back (semicolon ∷ f) token.Semicolon = (refl, λ ps. ((tt, ps), refl))
 back (equals ∷ f) token.Equals = (refl, λ ps. ((tt, ps), refl))
+back (open_sign ∷ f) token.Open = (refl, λ ps. ((tt, ps), refl))
 back (close ∷ f) token.Close = (refl, λ ps. ((tt, ps), refl))
-back (operator ∷ f) (token.Op o) = (refl, λ ps. ((o, ps), refl))
-back (expression d ∷ f) t = back_expression d f t
-back (statement d ∷ f) t = back_statement d f t
-back (block d ∷ f) token.OpenBrace = (refl, λ ps. (ps, refl))
-back (items d ∷ f) t = back_items d f t
-back (otherwise d ∷ f) t = back_otherwise d f t (back f t)
-back (whole_program ∷ f) token.Process = (refl, back_program f)
-back (process_name ∷ f) (token.Name x) = (refl, λ ps. ((program_of x ps.1.0.0 ps.1.0.1 ps.1.0.2, ps.1.1), refl))
-back (autostart_or_code x ∷ f) token.Autostart = (refl, λ ps. (((ps.0 ∷ ps.1.0, ps.1.1.1.1.1.0.0, ps.1.1.1.1.1.0.1), ps.1.1.1.1.1.1), refl))
-back (autostart_or_code x ∷ f) token.Code = (refl, λ ps. ((([], ps.1.1.0.0, ps.1.1.0.1), ps.1.1.1), refl))
-back (listed_name ∷ f) (token.Name x) = (refl, λ ps. ((x, ps), refl))
-back (more_listed ∷ f) token.Comma = (refl, λ ps. ((ps.0 ∷ ps.1.0, ps.1.1), refl))
-back (more_listed ∷ f) token.Semicolon = (refl, λ ps. (([], ps), refl))
-back (code ∷ f) token.Code = (refl, λ ps. ((tt, ps), refl))
-back (this_name x ∷ f) (token.Name y) = back_this x f y (bytes_eq y x) refl
 back (open_brace ∷ f) token.OpenBrace = (refl, λ ps. ((tt, ps), refl))
-back (declarations ∷ f) token.Var = (refl, λ ps. ((((ps.0, ps.1.1.0) ∷ ps.1.1.1.1.0.0, ps.1.1.1.1.0.1), ps.1.1.1.1.1), refl))
-back (declarations ∷ f) token.Body = (refl, λ ps. ((([], ps.0), ps.1.1), refl))
-back (variable_name ∷ f) (token.Name x) = (refl, λ ps. ((x, ps), refl))
-back (first_value ∷ f) (token.Number n) = (refl, λ ps. ((n, ps), refl))
-back (close_brace ∷ f) token.CloseBrace = (refl, λ ps. ((tt, ps), refl))
-back (s ∷ f) _ = tt
-
--- a step on: the marks of a whole begin with the mark that the step gives, and go on with those of what may come
-abbrev pub On : Mark → List Mark → Step → Type 0
-On m ms unfit = ⊥
-On m ms (take m' f') = (m' ≡ m) × (ps : Parts f') × (spell_all f' ps ≡ ms)
-
-abbrev pub IsDone : Form → Type 0
-IsDone [] = Unit {0}
-IsDone (s ∷ f) = ⊥
-
-abbrev pub Forth : Form → List Mark → Type 0
-Forth f [] = IsDone f
-Forth f (m ∷ ms) = On m ms (step f (token_of_mark m))
-
--- the same, where a step back leads to the parts again
-abbrev pub Again : (f : Form) (m : Mark) → List Mark → Parts f → (s : Step) → Back f (token_of_mark m) s → Type 0
-Again f m ms ps unfit b = ⊥
-Again f m ms ps (take m' f') b = (m' ≡ m) × (ps' : Parts f') × (spell_all f' ps' ≡ ms) × ((b.1 ps').0 ≡ ps)
-
-abbrev pub Turns : (f : Form) → Parts f → List Mark → Type 0
-Turns f ps [] = IsDone f
-Turns f ps (m ∷ ms) = Again f m ms ps (step f (token_of_mark m)) (back f (token_of_mark m))
-
--- After an if comes more of a block; so an else belongs to the nearest if.
-abbrev InBlock : Form → Type 0
-InBlock (items d ∷ f) = Unit {0}
-InBlock _ = ⊥
-
-abbrev pub Tidy : Form → Type 0
-Tidy [] = Unit {0}
-Tidy (statement d ∷ f) = InBlock f × Tidy f
-Tidy (otherwise d ∷ f) = InBlock f × Tidy f
-Tidy (s ∷ f) = Tidy f
-
-turns_items : (d : ℕ) (f : Form) (b : BlockShape) (ps : Parts f) → Turns (items d ∷ f) (b, ps) (items_marks d b (spell_all f ps))
-turns_items d f end ps = (refl, ps, refl, refl)
-turns_items d f (next (assign x e) b) ps = (refl, (tt, (e, (tt, (b, ps)))), refl, refl)
-turns_items d f (next (print e) b) ps = (refl, (e, (tt, (b, ps))), refl, refl)
-turns_items d f (next (branch e a o) b) ps = (refl, (e, (a, (o, (b, ps)))), refl, refl)
-turns_items d f (next (while e a) b) ps = (refl, (e, (a, (b, ps))), refl, refl)
-turns_items d f (next yield b) ps = (refl, (tt, (b, ps)), refl, refl)
-turns_items d f (next (yield_until e) b) ps = (refl, (e, (tt, (b, ps))), refl, refl)
-
-turns_nothing : (d : ℕ) (f : Form) (ps : Parts f) → InBlock f → Turns (otherwise d ∷ f) (nothing, ps) (spell_all f ps)
-turns_nothing d [] ps h = absurd h
-turns_nothing d (items k ∷ f) (end, ps) h = (refl, ps, refl, refl)
-turns_nothing d (items k ∷ f) (next (assign x e) b, ps) h = (refl, (tt, (e, (tt, (b, ps)))), refl, refl)
-turns_nothing d (items k ∷ f) (next (print e) b, ps) h = (refl, (e, (tt, (b, ps))), refl, refl)
-turns_nothing d (items k ∷ f) (next (branch e a o) b, ps) h = (refl, (e, (a, (o, (b, ps)))), refl, refl)
-turns_nothing d (items k ∷ f) (next (while e a) b, ps) h = (refl, (e, (a, (b, ps))), refl, refl)
-turns_nothing d (items k ∷ f) (next yield b, ps) h = (refl, (tt, (b, ps)), refl, refl)
-turns_nothing d (items k ∷ f) (next (yield_until e) b, ps) h = (refl, (e, (tt, (b, ps))), refl, refl)
-turns_nothing d (s ∷ f) ps h = absurd h
-
-turns_this : (x : Name) (f : Form) (ps : Parts (this_name x ∷ f)) (b : Bool) (e : bytes_eq x x ≡ b) → Again (this_name x ∷ f) (plain (token.Name x)) (spell_all f ps.1) ps (if b then take (plain (token.Name x)) f else unfit) (back_this x f x b e)
-turns_this x f ps true e = (refl, ps.1, refl, refl)
-turns_this x f ps false e = absurd (cc (e, bytes_same x))
-
-pub turns : (f : Form) → Tidy f → (ps : Parts f) → Turns f ps (spell_all f ps)
-turns [] h ps = tt
-turns (semicolon ∷ f) h ps = (refl, ps.1, refl, refl)
-turns (equals ∷ f) h ps = (refl, ps.1, refl, refl)
-turns (close ∷ f) h ps = (refl, ps.1, refl, refl)
-turns (operator ∷ f) h ps = (refl, ps.1, refl, refl)
-turns (expression d ∷ f) h (number n, ps) = (refl, ps, refl, refl)
-turns (expression d ∷ f) h (variable x, ps) = (refl, ps, refl, refl)
-turns (expression d ∷ f) h (word, ps) = (refl, ps, refl, refl)
-turns (expression d ∷ f) h (sender, ps) = (refl, ps, refl, refl)
-turns (expression d ∷ f) h (moment, ps) = (refl, ps, refl, refl)
-turns (expression d ∷ f) h (mote, ps) = (refl, ps, refl, refl)
-turns (expression d ∷ f) h (negation e, ps) = (refl, (e, ps), refl, refl)
-turns (expression d ∷ f) h (binary o a b, ps) = (refl, (a, (o, (b, (tt, ps)))), refl, refl)
-turns (statement d ∷ f) h (assign x e, ps) = (refl, (tt, (e, (tt, ps))), refl, refl)
-turns (statement d ∷ f) h (print e, ps) = (refl, (e, (tt, ps)), refl, refl)
-turns (statement d ∷ f) h (branch e a o, ps) = (refl, (e, (a, (o, ps))), refl, refl)
-turns (statement d ∷ f) h (while e a, ps) = (refl, (e, (a, ps)), refl, refl)
-turns (statement d ∷ f) h (yield, ps) = (refl, (tt, ps), refl, refl)
-turns (statement d ∷ f) h (yield_until e, ps) = (refl, (e, (tt, ps)), refl, refl)
-turns (block d ∷ f) h ps = (refl, ps, refl, refl)
-turns (items d ∷ f) h ps = turns_items d f ps.0 ps.1
-turns (otherwise d ∷ f) h (nothing, ps) = turns_nothing d f ps h.0
-turns (otherwise d ∷ f) h (else_of b, ps) = (refl, (b, ps), refl, refl)
-turns (whole_program ∷ f) h (program_of x xs vs b, ps) = (refl, (program_of x xs vs b, ps), refl, refl)
-turns (process_name ∷ f) h (program_of x xs vs b, ps) = (refl, (tt, ((xs, vs, b), ps)), refl, refl)
-turns (autostart_or_code x ∷ f) h (([], vs, b), ps) = (refl, (tt, (tt, ((vs, b), ps))), refl, refl)
-turns (autostart_or_code x ∷ f) h ((y ∷ ys, vs, b), ps) = (refl, (y, (ys, (tt, (tt, (tt, ((vs, b), ps)))))), refl, refl)
-turns (listed_name ∷ f) h ps = (refl, ps.1, refl, refl)
-turns (more_listed ∷ f) h ([], ps) = (refl, ps, refl, refl)
-turns (more_listed ∷ f) h (y ∷ ys, ps) = (refl, (y, (ys, ps)), refl, refl)
-turns (code ∷ f) h ps = (refl, ps.1, refl, refl)
-turns (this_name x ∷ f) h ps = turns_this x f ps (bytes_eq x x) refl
-turns (open_brace ∷ f) h ps = (refl, ps.1, refl, refl)
-turns (declarations ∷ f) h (([], b), ps) = (refl, (b, (tt, ps)), refl, refl)
-turns (declarations ∷ f) h ((v ∷ vs, b), ps) = (refl, (v.0, (tt, (v.1, (tt, ((vs, b), ps))))), refl, refl)
-turns (variable_name ∷ f) h ps = (refl, ps.1, refl, refl)
-turns (first_value ∷ f) h ps = (refl, ps.1, refl, refl)
-turns (close_brace ∷ f) h ps = (refl, ps.1, refl, refl)
-
-weaker : (f : Form) (m : Mark) (ms : List Mark) (ps : Parts f) (s : Step) (b : Back f (token_of_mark m) s) → Again f m ms ps s b → On m ms s
-weaker f m ms ps unfit b h = h
-weaker f m ms ps (take m' f') b h = (h.0, h.1, h.2)
-
-forth_at : (f : Form) (ps : Parts f) (ms : List Mark) → Turns f ps ms → Forth f ms
-forth_at f ps [] h = h
-forth_at f ps (m ∷ ms) h = weaker f m ms ps (step f (token_of_mark m)) (back f (token_of_mark m)) h
-
-pub forth : (f : Form) → Tidy f → (ps : Parts f) → Forth f (spell_all f ps)
-forth f h ps = forth_at f ps (spell_all f ps) (turns f h ps)
-
-abbrev pub TidyStep : Step → Type 0
-TidyStep unfit = Unit {0}
-TidyStep (take m f) = Tidy f
-
-tidy_this : (f : Form) (m : Mark) (b : Bool) → Tidy f → TidyStep (if b then take m f else unfit)
-tidy_this f m true h = h
-tidy_this f m false h = tt
-
-pub tidy : (f : Form) (t : Token) → Tidy f → TidyStep (step f t)
-tidy [] t h = tt
-tidy (semicolon ∷ f) token.Semicolon h = h
-tidy (equals ∷ f) token.Equals h = h
-tidy (close ∷ f) token.Close h = h
-tidy (operator ∷ f) (token.Op o) h = h
-tidy (expression d ∷ f) (token.Number n) h = h
-tidy (expression d ∷ f) (token.Name n) h = h
-tidy (expression d ∷ f) token.Data h = h
-tidy (expression d ∷ f) token.From h = h
-tidy (expression d ∷ f) token.Now h = h
-tidy (expression d ∷ f) token.Own h = h
-tidy (expression d ∷ f) token.Bang h = h
-tidy (expression d ∷ f) token.Open h = h
-tidy (statement d ∷ f) (token.Name x) h = h.1
-tidy (statement d ∷ f) token.Print h = h.1
-tidy (statement d ∷ f) token.If h = h
-tidy (statement d ∷ f) token.While h = h.1
-tidy (statement d ∷ f) token.Yield h = h.1
-tidy (statement d ∷ f) token.YieldUntil h = h.1
-tidy (block d ∷ f) token.OpenBrace h = h
-tidy (items d ∷ f) token.CloseBrace h = h
-tidy (items d ∷ f) (token.Name x) h = h
-tidy (items d ∷ f) token.Print h = h
-tidy (items d ∷ f) token.If h = (tt, h)
-tidy (items d ∷ f) token.While h = h
-tidy (items d ∷ f) token.Yield h = h
-tidy (items d ∷ f) token.YieldUntil h = h
-tidy (otherwise d ∷ f) token.Else h = h.1
-tidy (otherwise d ∷ f) t h = tidy f t h.1
-tidy (whole_program ∷ f) token.Process h = h
-tidy (process_name ∷ f) (token.Name x) h = h
-tidy (autostart_or_code x ∷ f) token.Autostart h = h
-tidy (autostart_or_code x ∷ f) token.Code h = h
-tidy (listed_name ∷ f) (token.Name x) h = h
-tidy (more_listed ∷ f) token.Comma h = h
-tidy (more_listed ∷ f) token.Semicolon h = h
-tidy (code ∷ f) token.Code h = h
-tidy (this_name x ∷ f) (token.Name y) h = tidy_this f (plain (token.Name y)) (bytes_eq y x) h
-tidy (open_brace ∷ f) token.OpenBrace h = h
-tidy (declarations ∷ f) token.Var h = h
-tidy (declarations ∷ f) token.Body h = h
-tidy (variable_name ∷ f) (token.Name x) h = h
-tidy (first_value ∷ f) (token.Number n) h = h
-tidy (close_brace ∷ f) token.CloseBrace h = h
-tidy (s ∷ f) t h = tt
-
--- the kind of the fault at the end of the text, where this is still to come
-abbrev pub end_kind : Symbol → ReadErrorKind
-end_kind whole_program = NoProcess
-end_kind s = Unexpected
-
-pub ends_unfit : (s : Symbol) (f : Form) → Tidy (s ∷ f) → ends (s ∷ f) ≡ fault (end_kind s) 0
-ends_unfit (otherwise d) [] h = absurd h.0
-ends_unfit (otherwise d) (items k ∷ f) h = refl
-ends_unfit (otherwise d) (s ∷ f) h = absurd h.0
-ends_unfit s f h = refl
-
-both_same : (f : Form) (m : Mark) (ms : List Mark) (ps qs : Parts f) (s : Step) (b : Back f (token_of_mark m) s) → TidyStep s →
-    ((g : Form) → Tidy g → (xs ys : Parts g) → spell_all g xs ≡ ms → spell_all g ys ≡ ms → xs ≡ ys) → Again f m ms ps s b → Again f m ms qs s b → ps ≡ qs
-both_same f m ms ps qs unfit b h ih p q = absurd p
-both_same f m ms ps qs (take m' f') b h ih p q = sym p.3 ∙ ap (λ xs. (b.1 xs).0) (ih f' h p.1 q.1 p.2 q.2) ∙ q.3
-
--- what may come has no two parts with the same marks
-pub same_parts : (ms : List Mark) (f : Form) → Tidy f → (ps qs : Parts f) → spell_all f ps ≡ ms → spell_all f qs ≡ ms → ps ≡ qs
-same_parts [] [] h ps qs p q = refl
-same_parts [] (s ∷ f) h ps qs p q = absurd (subst (λ zs. Turns (s ∷ f) ps zs) p (turns (s ∷ f) h ps))
-same_parts (m ∷ ms) f h ps qs p q =
-    both_same f m ms ps qs (step f (token_of_mark m)) (back f (token_of_mark m)) (tidy f (token_of_mark m) h) (λ g k xs ys. same_parts ms g k xs ys)
-    (subst (λ zs. Turns f ps zs) p (turns f h ps)) (subst (λ zs. Turns f qs zs) q (turns f h qs))
-
-head_mark : (f : Form) (m : Mark) (ms : List Mark) (ps : Parts f) (t : Token) (s : Step) → Tidy f → spell_all f ps ≡ m ∷ ms → token_of_mark m ≡ t → step f t ≡ s → On m ms s
-head_mark f m ms ps t s h e k is = subst (λ v. On m ms v) is (subst (λ v. On m ms (step f v)) k (subst (λ zs. Forth f zs) e (forth f h ps)))
-
-heads : (f : Form) (m n : Mark) (ms ns : List Mark) (s : Step) → TidyStep s → ((g : Form) → Tidy g → (xs ys : Parts g) → spell_all g xs ≡ ms → spell_all g ys ≡ ns → ms ≡ ns) → On m ms s → On n ns s → m ∷ ms ≡ n ∷ ns
-heads f m n ms ns unfit h ih p q = absurd p
-heads f m n ms ns (take m' f') h ih p q = let a = ih f' h p.1 q.1 p.2 q.2 in let b : m ≡ n = sym p.0 ∙ q.0 in cc (a, b)
-
--- tokens have one list of marks
-pub same_marks : (ms ns : List Mark) (f : Form) → Tidy f → (ps qs : Parts f) → spell_all f ps ≡ ms → spell_all f qs ≡ ns → tokens ms ≡ tokens ns → ms ≡ ns
-same_marks [] [] f h ps qs p q e = refl
-same_marks [] (n ∷ ns) f h ps qs p q e = absurd cc
-same_marks (m ∷ ms) [] f h ps qs p q e = absurd cc
-same_marks (m ∷ ms) (n ∷ ns) f h ps qs p q e =
-    let t : token_of_mark m ≡ token_of_mark n = cc in
-    let rest : tokens ms ≡ tokens ns = cc in
-    heads f m n ms ns (step f (token_of_mark n)) (tidy f (token_of_mark n) h) (λ g k xs ys a b. same_marks ms ns g k xs ys a b rest)
-    (head_mark f m ms ps (token_of_mark n) (step f (token_of_mark n)) h p t refl) (head_mark f n ns qs (token_of_mark n) (step f (token_of_mark n)) h q refl refl)
+back (operator ∷ f) (token.Op o) = (refl, λ ps. ((o, ps), refl))
+back (number_symbol ∷ f) (token.Number n) = (refl, λ ps. ((n, ps), refl))
+back (operand c o ∷ f) t = back_operand c o f t
+back (expression c ∷ f) t = back_expression c f t
+back (into_end c ∷ f) token.Semicolon = (refl, λ ps. ((None, ps), refl))
+back (into_end c ∷ f) (token.Keyword word.Into) = (refl, λ ps. ((Some ps.0, ps.1.1), refl))
+back (block c ∷ f) token.OpenBrace = (refl, λ ps. (ps, refl))
+back (items c ∷ f) t = back_items c f t
+back (items_else c ∷ f) t = back_items_else c f t
+back (new_name k ∷ f) (token.Name x) = (refl, λ ps. ((x, ps), refl))
+back (new_thread ∷ f) (token.Name x) = (refl, λ ps. (((x, ps.0), ps.1), refl))
+back (codes x xs ∷ f) t = back_codes x xs f t
+back (this_name x ∷ f) (token.Name y) = back_this x f y (bytes_eq y x) refl
+back (from_variables ∷ f) t = back_variables f t
+back (from_etimers ∷ f) t = back_etimers f t
+back (from_ctimers ∷ f) t = back_ctimers f t
+back (from_threads ∷ f) t = back_threads f t
+back (from_on_poll ∷ f) t = back_on_poll f t
+back (from_on_exit ∷ f) t = back_on_exit f t
+back (from_body ∷ f) t = back_body f t
+back (last_brace ∷ f) token.CloseBrace = (refl, λ ps. ((tt, ps), refl))
+back (from_events ∷ f) t = back_events f t
+back (from_semaphores ∷ f) t = back_semaphores f t
+back (first_process ∷ f) (token.Name x) = (refl, λ ps. ((((x, ps.0.1.1.1.0), (ps.0.0, (ps.0.1.0, ps.0.1.1.0))), ps.1), refl))
+back (from_comma x xs ∷ f) token.Comma = (refl, λ ps. (((ps.0.0 ∷ ps.0.1.0, ps.0.1.1), ps.1), refl))
+back (from_comma x xs ∷ f) token.Semicolon = (refl, λ ps. ((([], ps.0), ps.1), refl))
+back (more_process x xs ∷ f) (token.Name y) = (refl, back_more x xs y f)
+back (from_autostart x xs ∷ f) t = back_autostart x xs f t
+back (from_receiver x xs ∷ f) t = back_receiver x xs f t
+back (starting ∷ f) (token.Name x) = (refl, λ ps. ((x, ps), refl))
+back (more_starting ∷ f) token.Comma = (refl, λ ps. ((ps.0 ∷ ps.1.0, ps.1.1), refl))
+back (more_starting ∷ f) token.Semicolon = (refl, λ ps. (([], ps), refl))
+back (s ∷ f) t = tt

@@ -1,154 +1,142 @@
 -- How the reading goes on from the first token of a statement.
-use Rattle.std.proofs.Common.{◌≡◌, ℕ, ◌<◌, ◌≤◌, List, [], ◌∷◌, drop, length, refl, sym, ap, ◌∙◌, arith, Option, Some, None, IsTrue, is_some, Bool, true, false, nat_le}
+use Rattle.std.proofs.Common.{◌≡◌, ℕ, ◌+◌, ◌<◌, ◌≤◌, List, ◌∷◌, drop, length, refl, sym, ap, ◌∙◌, arith, Option, Some, None, Bool, true, false, not, ◌&&◌, ◌||◌, nat_le}
 use Rattle.std.proofs.lemmas.Bool.{leb-true, leb-false}
-use Rattle.mote_program.specs.Faults.{Scope, is_among}
-use Rattle.mote_program.specs.Grammar.{Name, begins, assigns, plain}
-use Rattle.mote_program.specs.Machine.{Form, step, take, tell, fault, first, first_broken, expression, statement, equals, semicolon, block, otherwise}
-use Rattle.mote_program.specs.Names.{place_of}
-use Rattle.mote_program.specs.Steps.{scope_with, IsTarget, Begun, NotBegun}
+use Rattle.mote_program.specs.Faults.{Scope, scope_after, is_other}
+use Rattle.mote_program.specs.Forms as form
+use Rattle.mote_program.specs.Forms.{Beginning, no_statement, action, branches, loops, goes_on, beginning, waits}
+use Rattle.mote_program.specs.Grammar.{Context, target, begins_with, into_marks, key, sign, operand_mark}
+use Rattle.mote_program.specs.InScope.{Names, is_a, is_in_scope, name_in, number_in}
+use Rattle.mote_program.specs.Machine.{Pending, step, take, tell, fault, first, first_broken, begin_step, items, expression, equals, semicolon, into_end, operand}
+use Rattle.mote_program.specs.Shapes.{Name}
+use Rattle.mote_program.specs.Steps.{Finds, IsFound, Numbered, Fits, pending_of, IsStatement, Begins, IsTarget, Reads, ReadsSign}
 use Rattle.mote_program.specs.Tokens as token
 use Rattle.mote_program.specs.Tokens.{Token}
-use Rattle.mote_program.specs.declared.error.ReadErrorKind.TheVariants.{UnknownName, TooMany, BadTarget}
-use Rattle.mote_program.specs.declared.fault.Fault.{Fault}
-use Rattle.mote_program.proofs.ExpressionSteps.{taken, broken}
-use Rattle.mote_program.proofs.NameLaws.{name_at, place_is}
+use Rattle.mote_program.specs.Tree.{a_variable}
+use Rattle.mote_program.specs.declared.error.ReadErrorKind.TheVariants.{UnknownName, WaitInSimpleBlock, TooMany, BadTarget}
+use Rattle.mote_program.specs.declared.keyword.Keyword.{Keyword}
+use Rattle.mote_program.specs.declared.keyword.Keyword.TheVariants as word
+use Rattle.mote_program.specs.declared.scope.Found.TheVariants as found
+use Rattle.mote_program.proofs.NameSteps.{taken, broken, front_of}
+use Rattle.mote_program.proofs.ScopeLaws.{found_is_a, a_in_scope, name_again, number_again}
 
-begins_sound : (s : Scope) (t : Token) → s.statements < 4096 → first_broken s (begins t) ≡ None
-begins_sound s t h = go (nat_le 4096 s.statements) refl
+-- with one statement more
+abbrev pub counted : Scope → Scope
+counted s = record s { statements = s.statements + 1 }
+
+step_of : (c : Context) (k : Keyword) (b : Beginning) (f : Pending) → IsStatement b → begin_step c k b f ≡ take (begins_with c k) (pending_of c b f)
+step_of c k no_statement f h = absurd h
+step_of c k (action g) f h = refl
+step_of c k branches f h = refl
+step_of c k loops f h = refl
+step_of c k goes_on f h = absurd h
+
+begins_none : (s : Scope) (c : Context) (k : Keyword) → (c.simple && waits k) ≡ false → s.statements < 4096 → first_broken s (begins_with c k) ≡ None
+begins_none s c k e h = go (nat_le 4096 s.statements) refl
   where
-    go : (b : Bool) → nat_le 4096 s.statements ≡ b → first_broken s (begins t) ≡ None
-    go true e = absurd (omega (arith, leb-true 4096 s.statements e))
-    go false e = rw e refl
+    go : (b : Bool) → nat_le 4096 s.statements ≡ b → first_broken s (begins_with c k) ≡ None
+    go true q = absurd (omega (arith, leb-true 4096 s.statements q))
+    go false q = rw (e, q) refl
 
-begins_late : (s : Scope) (t : Token) → 4096 ≤ s.statements → first_broken s (begins t) ≡ Some TooMany
-begins_late s t h = go (nat_le 4096 s.statements) refl
+begins_wait : (s : Scope) (c : Context) (k : Keyword) → (c.simple && waits k) ≡ true → first_broken s (begins_with c k) ≡ Some WaitInSimpleBlock
+begins_wait s c k e = rw e refl
+
+begins_many : (s : Scope) (c : Context) (k : Keyword) → (c.simple && waits k) ≡ false → 4096 ≤ s.statements → first_broken s (begins_with c k) ≡ Some TooMany
+begins_many s c k e h = go (nat_le 4096 s.statements) refl
   where
-    go : (b : Bool) → nat_le 4096 s.statements ≡ b → first_broken s (begins t) ≡ Some TooMany
-    go true e = rw e refl
-    go false e = absurd (omega (arith, leb-false 4096 s.statements e))
+    go : (b : Bool) → nat_le 4096 s.statements ≡ b → first_broken s (begins_with c k) ≡ Some TooMany
+    go true q = rw (e, q) refl
+    go false q = absurd (omega (arith, leb-false 4096 s.statements q))
 
-assigns_sound : (s : Scope) (x : Name) (i : ℕ) → place_of s.processes x ≡ None → place_of s.variables x ≡ Some i → s.statements < 4096 → first_broken s (assigns x) ≡ None
-assigns_sound s x i p v h = go (nat_le 4096 s.statements) refl
-  where
-    go : (b : Bool) → nat_le 4096 s.statements ≡ b → first_broken s (assigns x) ≡ None
-    go true e = absurd (omega (arith, leb-true 4096 s.statements e))
-    go false e = rw (p, v, e) refl
+begins_after : (s : Scope) (c : Context) (k : Keyword) → (c.simple && waits k) ≡ false → scope_after s (begins_with c k) ≡ counted s
+begins_after s c k e = rw e refl
 
-assigns_late : (s : Scope) (x : Name) (i : ℕ) → place_of s.processes x ≡ None → place_of s.variables x ≡ Some i → 4096 ≤ s.statements → first_broken s (assigns x) ≡ Some TooMany
-assigns_late s x i p v h = go (nat_le 4096 s.statements) refl
-  where
-    go : (b : Bool) → nat_le 4096 s.statements ≡ b → first_broken s (assigns x) ≡ Some TooMany
-    go true e = rw (p, v, e) refl
-    go false e = absurd (omega (arith, leb-false 4096 s.statements e))
+items_at : (c : Context) (k : Keyword) (f : Pending) → IsStatement (beginning k) → step (items c ∷ f) (token.Keyword k) ≡ take (begins_with c k) (pending_of c (beginning k) f)
+items_at c k f h = step_of c k (beginning k) f h
 
-assigns_unknown : (s : Scope) (x : Name) → place_of s.processes x ≡ None → place_of s.variables x ≡ None → first_broken s (assigns x) ≡ Some UnknownName
-assigns_unknown s x p v = rw (p, v) refl
-
-process_late_mark : (s : Scope) (x : Name) → IsTrue (is_among s.processes x) → 4096 ≤ s.statements → first_broken s (assigns x) ≡ Some TooMany
-process_late_mark s x p h = go (place_of s.processes x) (nat_le 4096 s.statements) refl refl p
-  where
-    go : (o : Option ℕ) (b : Bool) → place_of s.processes x ≡ o → nat_le 4096 s.statements ≡ b → IsTrue (is_some o) → first_broken s (assigns x) ≡ Some TooMany
-    go None b d e p = absurd cc
-    go (Some i) true d e p = rw (d, e) refl
-    go (Some i) false d e p = absurd (omega (arith, leb-false 4096 s.statements e))
-
-process_mark : (s : Scope) (x : Name) → IsTrue (is_among s.processes x) → s.statements < 4096 → first_broken s (assigns x) ≡ Some BadTarget
-process_mark s x p h = go (place_of s.processes x) (nat_le 4096 s.statements) refl refl p
-  where
-    go : (o : Option ℕ) (b : Bool) → place_of s.processes x ≡ o → nat_le 4096 s.statements ≡ b → IsTrue (is_some o) → first_broken s (assigns x) ≡ Some BadTarget
-    go None b d e p = absurd cc
-    go (Some i) false d e p = rw (d, e) refl
-    go (Some i) true d e p = absurd (omega (arith, leb-true 4096 s.statements e))
-
-module _ (ps vs starting : List Name) (n d : ℕ) (old : List Token) (more : Form) where
-  late : (t : Token) (f' : Form) (f : Fault) → first old ≡ t → (t ≡ token.End → ⊥) → step (statement d ∷ more) t ≡ take (begins t) f' → NotBegun n old f → tell (scope_with ps vs starting n) (statement d ∷ more) old ≡ fault f.kind f.left
-  late t f' f is going fits h =
-      broken (scope_with ps vs starting n) (statement d ∷ more) f' old t (begins t) TooMany is going fits (begins_late (scope_with ps vs starting n) t h.full) ∙ ap (λ k. fault k (length old)) (sym h.kind) ∙ ap (λ l. fault f.kind l) (sym h.left)
-
-  begun : (n' : ℕ) (new : List Token) (t : Token) (f' : Form) → first old ≡ t → (t ≡ token.End → ⊥) → step (statement d ∷ more) t ≡ take (begins t) f' → Begun n n' old new →
-      tell (scope_with ps vs starting n) (statement d ∷ more) old ≡ tell (scope_with ps vs starting n') f' new
-  begun n' new t f' is going fits h =
-      taken (scope_with ps vs starting n) (statement d ∷ more) f' old t (begins t) is going fits (begins_sound (scope_with ps vs starting n) t h.room)
-      ∙ ap (λ k. tell (scope_with ps vs starting k) f' (drop 1 old)) (sym h.counted) ∙ ap (λ ts. tell (scope_with ps vs starting n') f' ts) (sym h.read)
-
-pub print_start : (ps vs starting : List Name) (n n' d : ℕ) (old new : List Token) (more : Form) → first old ≡ token.Print → Begun n n' old new →
-    tell (scope_with ps vs starting n) (statement d ∷ more) old ≡ tell (scope_with ps vs starting n') (expression d ∷ (semicolon ∷ more)) new
-print_start ps vs starting n n' d old new more is h = begun ps vs starting n d old more n' new token.Print (expression d ∷ (semicolon ∷ more)) is (λ z. cc) refl h
-
-pub print_late : (ps vs starting : List Name) (n d : ℕ) (old : List Token) (more : Form) (f : Fault) → first old ≡ token.Print → NotBegun n old f →
-    tell (scope_with ps vs starting n) (statement d ∷ more) old ≡ fault f.kind f.left
-print_late ps vs starting n d old more f is h = late ps vs starting n d old more token.Print (expression d ∷ (semicolon ∷ more)) f is (λ z. cc) refl h
-
-pub if_start : (ps vs starting : List Name) (n n' d : ℕ) (old new : List Token) (more : Form) → first old ≡ token.If → Begun n n' old new →
-    tell (scope_with ps vs starting n) (statement d ∷ more) old ≡ tell (scope_with ps vs starting n') (expression d ∷ (block d ∷ (otherwise d ∷ more))) new
-if_start ps vs starting n n' d old new more is h = begun ps vs starting n d old more n' new token.If (expression d ∷ (block d ∷ (otherwise d ∷ more))) is (λ z. cc) refl h
-
-pub if_late : (ps vs starting : List Name) (n d : ℕ) (old : List Token) (more : Form) (f : Fault) → first old ≡ token.If → NotBegun n old f →
-    tell (scope_with ps vs starting n) (statement d ∷ more) old ≡ fault f.kind f.left
-if_late ps vs starting n d old more f is h = late ps vs starting n d old more token.If (expression d ∷ (block d ∷ (otherwise d ∷ more))) f is (λ z. cc) refl h
-
-pub while_start : (ps vs starting : List Name) (n n' d : ℕ) (old new : List Token) (more : Form) → first old ≡ token.While → Begun n n' old new →
-    tell (scope_with ps vs starting n) (statement d ∷ more) old ≡ tell (scope_with ps vs starting n') (expression d ∷ (block d ∷ more)) new
-while_start ps vs starting n n' d old new more is h = begun ps vs starting n d old more n' new token.While (expression d ∷ (block d ∷ more)) is (λ z. cc) refl h
-
-pub while_late : (ps vs starting : List Name) (n d : ℕ) (old : List Token) (more : Form) (f : Fault) → first old ≡ token.While → NotBegun n old f →
-    tell (scope_with ps vs starting n) (statement d ∷ more) old ≡ fault f.kind f.left
-while_late ps vs starting n d old more f is h = late ps vs starting n d old more token.While (expression d ∷ (block d ∷ more)) f is (λ z. cc) refl h
-
-pub yield_start : (ps vs starting : List Name) (n n' d : ℕ) (old new : List Token) (more : Form) → first old ≡ token.Yield → Begun n n' old new →
-    tell (scope_with ps vs starting n) (statement d ∷ more) old ≡ tell (scope_with ps vs starting n') (semicolon ∷ more) new
-yield_start ps vs starting n n' d old new more is h = begun ps vs starting n d old more n' new token.Yield (semicolon ∷ more) is (λ z. cc) refl h
-
-pub yield_late : (ps vs starting : List Name) (n d : ℕ) (old : List Token) (more : Form) (f : Fault) → first old ≡ token.Yield → NotBegun n old f →
-    tell (scope_with ps vs starting n) (statement d ∷ more) old ≡ fault f.kind f.left
-yield_late ps vs starting n d old more f is h = late ps vs starting n d old more token.Yield (semicolon ∷ more) f is (λ z. cc) refl h
-
-pub yield_until_start : (ps vs starting : List Name) (n n' d : ℕ) (old new : List Token) (more : Form) → first old ≡ token.YieldUntil → Begun n n' old new →
-    tell (scope_with ps vs starting n) (statement d ∷ more) old ≡ tell (scope_with ps vs starting n') (expression d ∷ (semicolon ∷ more)) new
-yield_until_start ps vs starting n n' d old new more is h = begun ps vs starting n d old more n' new token.YieldUntil (expression d ∷ (semicolon ∷ more)) is (λ z. cc) refl h
-
-pub yield_until_late : (ps vs starting : List Name) (n d : ℕ) (old : List Token) (more : Form) (f : Fault) → first old ≡ token.YieldUntil → NotBegun n old f →
-    tell (scope_with ps vs starting n) (statement d ∷ more) old ≡ fault f.kind f.left
-yield_until_late ps vs starting n d old more f is h = late ps vs starting n d old more token.YieldUntil (expression d ∷ (semicolon ∷ more)) f is (λ z. cc) refl h
-
-pub target_start : (ps vs : List Name) (x : Name) (i n n' : ℕ) (old new : List Token) → place_of ps x ≡ None → place_of vs x ≡ Some i → first old ≡ token.Name x → Begun n n' old new →
-    IsTarget ps vs x i n n' old new
-target_start ps vs x i n n' old new p v is h = record {
-  place = v;
-  read = h.read;
-  goes_on = λ level starting f.
-      taken (scope_with ps vs starting n) (statement level ∷ f) (equals ∷ (expression level ∷ (semicolon ∷ f))) old (token.Name x) (assigns x) is (λ z. cc) refl (assigns_sound (scope_with ps vs starting n) x i p v h.room)
-      ∙ ap (λ k. tell (scope_with ps vs starting k) (equals ∷ (expression level ∷ (semicolon ∷ f))) (drop 1 old)) (sym h.counted)
-      ∙ ap (λ ts. tell (scope_with ps vs starting n') (equals ∷ (expression level ∷ (semicolon ∷ f))) ts) (sym h.read);
+pub begin_ok : (s s' : Scope) (c : Context) (k : Keyword) (old new : List Token) → first old ≡ Some (token.Keyword k) → IsStatement (beginning k) → (c.simple && waits k) ≡ false → s.statements < 4096 → s' ≡ counted s → new ≡ drop 1 old → Begins s s' c k old new
+begin_ok s s' c k old new is h e low one from = record {
+  spelled = front_of old (token.Keyword k) is ∙ ap (λ ts. token.Keyword k ∷ ts) (sym from);
+  goes_on = λ f.
+      taken s (items c ∷ f) (pending_of c (beginning k) f) old (token.Keyword k) (begins_with c k) is (items_at c k f h) (begins_none s c k e low)
+      ∙ ap (λ z. tell z (pending_of c (beginning k) f) (drop 1 old)) (begins_after s c k e ∙ sym one) ∙ ap (λ ts. tell s' (pending_of c (beginning k) f) ts) (sym from);
 }
 
-module _ (ps vs starting : List Name) (x : Name) (n d : ℕ) (old : List Token) (more : Form) where
-  pub target_unknown : place_of ps x ≡ None → place_of vs x ≡ None → first old ≡ token.Name x → tell (scope_with ps vs starting n) (statement d ∷ more) old ≡ fault UnknownName (length old)
-  target_unknown p v is = broken (scope_with ps vs starting n) (statement d ∷ more) _ old (token.Name x) (assigns x) UnknownName is (λ z. cc) refl (assigns_unknown (scope_with ps vs starting n) x p v)
+pub begin_wait : (s : Scope) (c : Context) (k : Keyword) (f : Pending) (old : List Token) → first old ≡ Some (token.Keyword k) → IsStatement (beginning k) → (c.simple && waits k) ≡ true → tell s (items c ∷ f) old ≡ fault WaitInSimpleBlock (length old)
+begin_wait s c k f old is h e = broken s (items c ∷ f) (pending_of c (beginning k) f) old (token.Keyword k) (begins_with c k) WaitInSimpleBlock is (items_at c k f h) (begins_wait s c k e)
 
-  pub target_process : IsTrue (is_among ps x) → n < 4096 → first old ≡ token.Name x → tell (scope_with ps vs starting n) (statement d ∷ more) old ≡ fault BadTarget (length old)
-  target_process p h is = broken (scope_with ps vs starting n) (statement d ∷ more) _ old (token.Name x) (assigns x) BadTarget is (λ z. cc) refl (process_mark (scope_with ps vs starting n) x p h)
+pub begin_many : (s : Scope) (c : Context) (k : Keyword) (f : Pending) (old : List Token) → first old ≡ Some (token.Keyword k) → IsStatement (beginning k) → (c.simple && waits k) ≡ false → 4096 ≤ s.statements → tell s (items c ∷ f) old ≡ fault TooMany (length old)
+begin_many s c k f old is h e full = broken s (items c ∷ f) (pending_of c (beginning k) f) old (token.Keyword k) (begins_with c k) TooMany is (items_at c k f h) (begins_many s c k e full)
 
-  pub process_late : IsTrue (is_among ps x) → 4096 ≤ n → first old ≡ token.Name x → tell (scope_with ps vs starting n) (statement d ∷ more) old ≡ fault TooMany (length old)
-  process_late p h is = broken (scope_with ps vs starting n) (statement d ∷ more) _ old (token.Name x) (assigns x) TooMany is (λ z. cc) refl (process_late_mark (scope_with ps vs starting n) x p h)
+pub ruleset begin_steps = (begin_ok, begin_wait, begin_many)
 
-  pub target_late : (i : ℕ) (f : Fault) → place_of ps x ≡ None → place_of vs x ≡ Some i → first old ≡ token.Name x → NotBegun n old f → tell (scope_with ps vs starting n) (statement d ∷ more) old ≡ fault f.kind f.left
-  target_late i f p v is h =
-      broken (scope_with ps vs starting n) (statement d ∷ more) _ old (token.Name x) (assigns x) TooMany is (λ z. cc) refl (assigns_late (scope_with ps vs starting n) x i p v h.full)
-      ∙ ap (λ k. fault k (length old)) (sym h.kind) ∙ ap (λ l. fault f.kind l) (sym h.left)
+-- Assignments.
 
-pub else_start : (ps vs starting : List Name) (n d : ℕ) (old : List Token) (more : Form) → first old ≡ token.Else →
-    tell (scope_with ps vs starting n) (otherwise d ∷ more) old ≡ tell (scope_with ps vs starting n) (block d ∷ more) (drop 1 old)
-else_start ps vs starting n d old more is = taken (scope_with ps vs starting n) (otherwise d ∷ more) (block d ∷ more) old token.Else (plain token.Else) is (λ z. cc) refl refl
+target_none : (s : Scope) (x : Name) → is_in_scope s.names x ≡ true → is_a s.names a_variable x ≡ true → s.statements < 4096 → first_broken s (target x) ≡ None
+target_none s x e f h = go (nat_le 4096 s.statements) refl
+  where
+    go : (b : Bool) → nat_le 4096 s.statements ≡ b → first_broken s (target x) ≡ None
+    go true q = absurd (omega (arith, leb-true 4096 s.statements q))
+    go false q = rw (e, f, q) refl
 
-no_else_at : (s : Scope) (d : ℕ) (f : Form) (t : Token) (ts : List Token) → (t ≡ token.Else → ⊥) → tell s (otherwise d ∷ f) (t ∷ ts) ≡ tell s f (t ∷ ts)
-no_else_at s d f token.Else ts h = absurd (h refl)
-no_else_at s d f _ ts h = refl
+target_many : (s : Scope) (x : Name) → is_in_scope s.names x ≡ true → 4096 ≤ s.statements → first_broken s (target x) ≡ Some TooMany
+target_many s x e h = go (nat_le 4096 s.statements) refl
+  where
+    go : (b : Bool) → nat_le 4096 s.statements ≡ b → first_broken s (target x) ≡ Some TooMany
+    go true q = rw (e, q) refl
+    go false q = absurd (omega (arith, leb-false 4096 s.statements q))
 
-pub no_else : (s : Scope) (d : ℕ) (f : Form) (old : List Token) → (first old ≡ token.Else → ⊥) → tell s (otherwise d ∷ f) old ≡ tell s f old
-no_else s d f [] h = refl
-no_else s d f (t ∷ ts) h = no_else_at s d f t ts h
+or_false : (b : Bool) → (b || false) ≡ true → b ≡ true
+or_false true e = refl
+or_false false e = absurd cc
 
-pub ruleset target_steps = (target_start, target_unknown, target_process, target_late, process_late)
+target_bad : (s : Scope) (x : Name) → is_in_scope s.names x ≡ true → (is_other s.names a_variable x || false) ≡ true → s.statements < 4096 → first_broken s (target x) ≡ Some BadTarget
+target_bad s x e f h = go (nat_le 4096 s.statements) refl
+  where
+    go : (b : Bool) → nat_le 4096 s.statements ≡ b → first_broken s (target x) ≡ Some BadTarget
+    go true q = absurd (omega (arith, leb-true 4096 s.statements q))
+    go false q = let g : not (is_a s.names a_variable x) ≡ true = ap (λ b. b && not (is_a s.names a_variable x)) (sym e) ∙ or_false _ f in rw (e, q, g) refl
 
-pub ruleset statement_steps = (print_start, if_start, while_start, yield_start, yield_until_start, print_late, if_late, while_late, yield_late, yield_until_late, name_at, place_is)
+pub target_ok : (s s' : Scope) (c : Context) (x : Name) (i : ℕ) (old new : List Token) → first old ≡ Some (token.Name x) → Finds s.names c.thread a_variable x i → s.statements < 4096 → s' ≡ counted s → new ≡ drop 1 old → IsTarget s s' c i old new
+target_ok s s' c x i old new is g low one from =
+    let a : is_a s.names a_variable x ≡ true = found_is_a s.names a_variable x i g.found in
+    record {
+      spelled = λ n h. front_of old (token.Name x) is ∙ ap (λ y. token.Name y ∷ drop 1 old) (sym (name_again s.names n c.thread a_variable x i g h)) ∙ ap (λ ts. token.Name (name_in n a_variable i) ∷ ts) (sym from);
+      goes_on = λ f.
+          taken s (items c ∷ f) (equals ∷ expression c ∷ semicolon ∷ items c ∷ f) old (token.Name x) (target x) is refl (target_none s x (a_in_scope s.names a_variable x a) a low)
+          ∙ ap (λ z. tell z (equals ∷ expression c ∷ semicolon ∷ items c ∷ f) (drop 1 old)) (sym one) ∙ ap (λ ts. tell s' (equals ∷ expression c ∷ semicolon ∷ items c ∷ f) ts) (sym from);
+    }
+
+unknown_mark : (s : Scope) (x : Name) → is_in_scope s.names x ≡ false → first_broken s (target x) ≡ Some UnknownName
+unknown_mark s x e = rw e refl
+
+pub target_unknown : (s : Scope) (c : Context) (x : Name) (f : Pending) (old : List Token) → first old ≡ Some (token.Name x) → is_in_scope s.names x ≡ false → tell s (items c ∷ f) old ≡ fault UnknownName (length old)
+target_unknown s c x f old is e = broken s (items c ∷ f) (equals ∷ expression c ∷ semicolon ∷ items c ∷ f) old (token.Name x) (target x) UnknownName is refl (unknown_mark s x e)
+
+pub target_full_other : (s : Scope) (c : Context) (x : Name) (f : Pending) (old : List Token) → first old ≡ Some (token.Name x) → IsFound s.names c.thread a_variable x found.Other → 4096 ≤ s.statements → tell s (items c ∷ f) old ≡ fault TooMany (length old)
+target_full_other s c x f old is g full = broken s (items c ∷ f) (equals ∷ expression c ∷ semicolon ∷ items c ∷ f) old (token.Name x) (target x) TooMany is refl (target_many s x g.0 full)
+
+pub target_full : (s : Scope) (c : Context) (x : Name) (i : ℕ) (f : Pending) (old : List Token) → first old ≡ Some (token.Name x) → Finds s.names c.thread a_variable x i → 4096 ≤ s.statements → tell s (items c ∷ f) old ≡ fault TooMany (length old)
+target_full s c x i f old is g full = broken s (items c ∷ f) (equals ∷ expression c ∷ semicolon ∷ items c ∷ f) old (token.Name x) (target x) TooMany is refl (target_many s x (a_in_scope s.names a_variable x (found_is_a s.names a_variable x i g.found)) full)
+
+pub target_other : (s : Scope) (c : Context) (x : Name) (f : Pending) (old : List Token) → first old ≡ Some (token.Name x) → IsFound s.names c.thread a_variable x found.Other → s.statements < 4096 → tell s (items c ∷ f) old ≡ fault BadTarget (length old)
+target_other s c x f old is g low = broken s (items c ∷ f) (equals ∷ expression c ∷ semicolon ∷ items c ∷ f) old (token.Name x) (target x) BadTarget is refl (target_bad s x g.0 g.1 low)
+
+pub target_numbered : (n : Names) (own : Option Name) (x : Name) (i : ℕ) → Finds n own a_variable x i → Numbered n (λ n'. number_in n' a_variable (name_in n' a_variable i)) i
+target_numbered n own x i f = λ n' h. number_again n n' own a_variable x i f h
+
+pub target_fits : (n : Names) (own : Option Name) (x : Name) (i : ℕ) → Finds n own a_variable x i → Fits n own (λ w. w a_variable i)
+target_fits n own x i f = λ w h. h a_variable x i f
+
+pub ruleset target_steps = (target_ok, target_unknown, target_full_other, target_full, target_other, target_numbered, target_fits)
+
+-- `into`
+
+pub into_start : (s : Scope) (c : Context) (f : Pending) (old : List Token) → first old ≡ Some (token.Keyword word.Into) → tell s (into_end c ∷ f) old ≡ tell s (operand c (form.name a_variable) ∷ semicolon ∷ f) (drop 1 old)
+into_start s c f old is = taken s (into_end c ∷ f) (operand c (form.name a_variable) ∷ semicolon ∷ f) old (token.Keyword word.Into) (key word.Into) is refl refl
+
+pub into_reads : (s : Scope) (c : Context) (i : ℕ) (old m0 m1 new : List Token) → first old ≡ Some (token.Keyword word.Into) → m0 ≡ drop 1 old → Reads s s (operand c (form.name a_variable)) (λ n ms. operand_mark c (form.name a_variable) (name_in n a_variable i) ∷ ms) m0 m1 → ReadsSign semicolon token.Semicolon m1 new →
+    Reads s s (into_end c) (λ n ms. into_marks (Some (name_in n a_variable i)) ms) old new
+into_reads s c i old m0 m1 new is from r1 r2 = record {
+  spelled = λ n h ms q. front_of old (token.Keyword word.Into) is ∙ ap (λ ts. token.Keyword word.Into ∷ ts) (sym from ∙ r1.spelled n h (sign token.Semicolon ∷ ms) (sym (r2.spelled ∙ ap (λ ts. token.Semicolon ∷ ts) (sym q))));
+  goes_on = λ f. into_start s c f old is ∙ ap (λ ts. tell s (operand c (form.name a_variable) ∷ semicolon ∷ f) ts) (sym from) ∙ r1.goes_on (semicolon ∷ f) ∙ r2.goes_on s f;
+}

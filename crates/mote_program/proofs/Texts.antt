@@ -4,37 +4,39 @@ use Rattle.std.specs.Prelude.{slice_get}
 use Rattle.std.proofs.lemmas.Bool.{ltb-true, ltb-false}
 use Rattle.std.proofs.lemmas.List.{length-append, length-map}
 use Rattle.std.proofs.lemmas.Option.{slice_get-get_or}
-use Rattle.mote_program.specs.Faults.{nothing_yet, IsProgram, IsTold}
-use Rattle.mote_program.specs.Grammar.{ProgramShape, program_marks}
+use Rattle.mote_program.specs.Code.{Tree}
+use Rattle.mote_program.specs.Faults.{nothing_yet, IsProgram, IsTold, IsToldAt}
+use Rattle.mote_program.specs.Grammar.{program_marks}
 use Rattle.mote_program.specs.Kinds.{number_of}
-use Rattle.mote_program.specs.Machine.{Verdict, tell, whole, fault, whole_program}
-use Rattle.mote_program.specs.Program.{Tree}
-use Rattle.mote_program.specs.Reading.{IsTreeOf, IsToldOf, HasTreeOrFault}
-use Rattle.mote_program.specs.Shapes.{tree_of_shape}
-use Rattle.mote_program.specs.Steps.{IsTreeOfTokens}
+use Rattle.mote_program.specs.Machine.{Verdict, tell, whole, fault, from_events}
+use Rattle.mote_program.specs.Reading.{IsTreeOfTokens, IsTreeOf, IsToldOf, HasTreeOrFault}
+use Rattle.mote_program.specs.Numbers.{tree_of_shape}
+use Rattle.mote_program.specs.Shapes.{ProgramShape}
 use Rattle.mote_program.specs.Text.{IsLexed}
 use Rattle.mote_program.specs.Tokens.{Token, token_of}
 use Rattle.mote_program.specs.declared.error.ReadErrorKind.{ReadErrorKind}
 use Rattle.mote_program.specs.declared.error.ReadErrorKind.TheVariants.{BadToken, Unexpected, UnknownName, NameTwice, NumberTooLarge, WaitInSimpleBlock, TooDeep, TooMany, NoProcess, BadTarget, Memory}
 use Rattle.mote_program.specs.declared.token.Token.{Token as TokenRead}
-use Rattle.mote_program.proofs.Language.{same_marks, same_parts}
+use Rattle.mote_program.proofs.Turns.{same_marks, same_parts}
 use Rattle.mote_program.proofs.TextLaws.{length-lines, every_text, one_lexing}
-use Rattle.mote_program.proofs.Told.{Judged, judged, same_front}
-use Rattle.mote_program.proofs.Whole.{read_fails}
+use Rattle.mote_program.proofs.Told.{Judged, judged, same_front, shape_from, parts_of_program}
 
 -- tokens are those of one program
 only_one : (p q : ProgramShape) (text : List Token) → IsProgram p text → IsProgram q text → p ≡ q
 only_one p q text h k =
-    let same = same_marks (program_marks p []) (program_marks q []) (whole_program ∷ []) tt (p, tt) (q, tt) refl refl (h.spelled ∙ sym k.spelled) in
-    ap (λ ps. ps.0) (same_parts (program_marks q []) (whole_program ∷ []) tt (p, tt) (q, tt) same refl)
+    let same = same_marks (program_marks p []) (program_marks q []) (from_events ∷ []) (parts_of_program p, tt) (parts_of_program q, tt) refl refl (h.spelled ∙ sym k.spelled) in
+    ap (λ ps. shape_from ps.0) (same_parts (program_marks q []) (from_events ∷ []) (parts_of_program p, tt) (parts_of_program q, tt) same refl)
 
 pub one_tree : (text : List ℕ) (t u : Tree) → IsTreeOf text t → IsTreeOf text u → t ≡ u
 one_tree text t u h k =
     let e = one_lexing text h.tokens k.tokens h.lines k.lines h.lexed k.lexed in
-    h.numbered ∙ ap tree_of_shape (only_one h.shape k.shape k.tokens (subst (λ ts. IsProgram h.shape ts) e.0 h.program) k.program) ∙ sym k.numbered
+    h.spelled.numbered ∙ ap tree_of_shape (only_one h.spelled.shape k.spelled.shape k.tokens (subst (λ ts. IsProgram h.spelled.shape ts) e.0 h.spelled.program) k.spelled.program) ∙ sym k.spelled.numbered
 
 pub tree_read : (text : List ℕ) (ts : List Token) (ls : List ℕ) (t : Tree) → IsLexed text ts ls → IsTreeOfTokens ts t → IsTreeOf text t
-tree_read text ts ls t lexed h = record { tokens = ts; lines = ls; lexed = lexed; shape = h.shape; program = h.program; numbered = h.numbered }
+tree_read text ts ls t lexed h = record { tokens = ts; lines = ls; lexed = lexed; spelled = h }
+
+pub read_fails : (k : ReadErrorKind) (left : ℕ) (text : List Token) → tell nothing_yet (from_events ∷ []) text ≡ fault k left → IsToldAt k left text
+read_fails k left text e = subst (λ v. Judged v text) e (judged text)
 
 -- a told fault, as the reader has it
 line_stands : (ls : List ℕ) (i : ℕ) → i < length ls → slice_get ls i ≡ Some (get_or ls i 0)
@@ -43,7 +45,7 @@ line_stands ls i h = slice_get-get_or ls i 0 h
 at_split : (ts before rest : List Token) (left : ℕ) → ts ≡ before ++ rest → length rest ≡ left → length before ≡ length ts - left
 at_split ts before rest left e h = omega (arith, ap length e, length-append before rest, h)
 
-pub told_within : (k : ReadErrorKind) (left : ℕ) (ts : List TokenRead) → tell nothing_yet (whole_program ∷ []) (map token_of ts) ≡ fault k left → left ≤ length ts
+pub told_within : (k : ReadErrorKind) (left : ℕ) (ts : List TokenRead) → tell nothing_yet (from_events ∷ []) (map token_of ts) ≡ fault k left → left ≤ length ts
 told_within k left ts e =
     let t = read_fails k left (map token_of ts) e in
     omega (arith, ap length t.2, length-append t.0 t.1, t.3, length-map ts token_of)
@@ -51,7 +53,7 @@ told_within k left ts e =
 pub line_within : (text : List ℕ) (ts : List TokenRead) (ls : List ℕ) (left : ℕ) → IsLexed text (map token_of ts) ls → length ts - left < length ls
 line_within text ts ls left h = omega (arith, length-lines text (map token_of ts) ls h, length-map ts token_of)
 
-pub told_read : (text : List ℕ) (ts : List TokenRead) (ls : List ℕ) (k : ReadErrorKind) (left line : ℕ) → IsLexed text (map token_of ts) ls → tell nothing_yet (whole_program ∷ []) (map token_of ts) ≡ fault k left →
+pub told_read : (text : List ℕ) (ts : List TokenRead) (ls : List ℕ) (k : ReadErrorKind) (left line : ℕ) → IsLexed text (map token_of ts) ls → tell nothing_yet (from_events ∷ []) (map token_of ts) ≡ fault k left →
     slice_get ls (length ts - left) ≡ Some line → IsToldOf text k line
 told_read text ts ls k left line lexed e at =
     let t = read_fails k left (map token_of ts) e in
@@ -69,10 +71,10 @@ told_no_memory text line h = never_memory h.before h.rest h.told
 pub never_both : (text : List ℕ) (t : Tree) (k : ReadErrorKind) (line : ℕ) → IsTreeOf text t → IsToldOf text k line → ⊥
 never_both text t k line h f =
     let e = one_lexing text h.tokens f.tokens h.lines f.lines h.lexed f.lexed in
-    h.program.sound f.before f.rest k (e.0 ∙ f.split) f.told.here
+    h.spelled.program.sound f.before f.rest k (e.0 ∙ f.split) f.told.here
 
 by_verdict : (text : List ℕ) (ts : List Token) (ls : List ℕ) (v : Verdict) → IsLexed text ts ls → Judged v ts → ((t : Tree) × IsTreeOf text t) ⊎ ((k : ReadErrorKind) × (line : ℕ) × IsToldOf text k line)
-by_verdict text ts ls whole lexed h = inl (tree_of_shape h.0, record { tokens = ts; lines = ls; lexed = lexed; shape = h.0; program = h.1; numbered = refl })
+by_verdict text ts ls whole lexed h = inl (tree_of_shape h.0, record { tokens = ts; lines = ls; lexed = lexed; spelled = record { shape = h.0; program = h.1; numbered = refl } })
 by_verdict text ts ls (fault k left) lexed h = inr (
   k,
   get_or ls (length h.0) 0,
@@ -91,7 +93,7 @@ by_verdict text ts ls (fault k left) lexed h = inr (
 pub tree_or_told : (text : List ℕ) → HasTreeOrFault text
 tree_or_told text =
     let l = every_text text in
-    record { one = by_verdict text l.0 l.1 (tell nothing_yet (whole_program ∷ []) l.0) l.2 (judged l.0); apart = never_both text }
+    record { one = by_verdict text l.0 l.1 (tell nothing_yet (from_events ∷ []) l.0) l.2 (judged l.0); apart = never_both text }
 
 -- one told fault
 same_kind : (j k : ReadErrorKind) → number_of j ≡ number_of k → j ≡ k

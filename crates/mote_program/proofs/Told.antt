@@ -2,13 +2,17 @@
 use Rattle.std.proofs.Common.{◌≡◌, ℕ, suc, ◌<◌, List, [], ◌∷◌, ◌++◌, length, refl, sym, ap, ◌∙◌, subst, arith, append_assoc, Bool, true, false, nat_lt, if◌then◌else◌, Option, Some, None, IsTrue, ◌⊎◌, inl, inr}
 use Rattle.std.proofs.lemmas.List.{map-append, length-append, append-nil}
 use Rattle.std.proofs.lemmas.Bool.{ltb-true, ltb-false}
-use Rattle.mote_program.specs.Grammar.{Mark, token_of_mark, tokens, ProgramShape, program_of, program_marks, end}
-use Rattle.mote_program.specs.Machine.{Symbol, Form, Step, unfit, take, step, tell, after, Verdict, whole, fault, whole_program, process_name, otherwise, items, first_broken_of, rules_on_marks, first_broken, fault_or, unfit_kind}
+use Rattle.mote_program.specs.Grammar.{Mark, tokens, program_marks}
+use Rattle.mote_program.specs.Machine.{Symbol, Pending, Step, unfit, take, step, tell, after, end_kind, Verdict, whole, fault, from_events, from_semaphores, first_process, first_broken_of, rules_on_marks, first_broken, fault_or, unfit_kind, operand}
+use Rattle.mote_program.specs.Forms as form
+use Rattle.mote_program.specs.Shapes.{ProgramShape}
 use Rattle.mote_program.specs.Kinds.{number_of}
 use Rattle.mote_program.specs.Faults.{Scope, nothing_yet, scope_after, scope_from, scope_of, breaks, CanFollow, LacksProcess, Breach, IsFault, IsToldAt, IsProgram}
-use Rattle.mote_program.proofs.Language.{Parts, spell_all, some_parts, Back, back, On, Forth, forth, Tidy, TidyStep, tidy, end_kind, ends_unfit}
+use Rattle.mote_program.proofs.Language.{Parts, spell_all, some_parts, some_program, Back, back, FromEvents}
+use Rattle.mote_program.proofs.Turns.{On, Forth, forth}
 use Rattle.mote_program.specs.Tokens as token
 use Rattle.mote_program.specs.Tokens.{Token}
+use Rattle.mote_program.specs.declared.keyword.Keyword.TheVariants as word
 use Rattle.mote_program.specs.declared.error.ReadErrorKind.{ReadErrorKind}
 use Rattle.mote_program.specs.declared.error.ReadErrorKind.TheVariants.{BadToken, Unexpected, UnknownName, NameTwice, NumberTooLarge, WaitInSimpleBlock, TooDeep, TooMany, NoProcess, BadTarget, Memory}
 
@@ -63,10 +67,7 @@ least_in broken (j ∷ js) k r e = go (broken j) refl e (least_in broken js k r.
     go false is h ih = (λ l. is, ih h)
 
 rising : Rising rules_on_marks
-rising = (
-  (omega arith, (omega arith, (omega arith, (omega arith, (omega arith, tt))))),
-  ((omega arith, (omega arith, (omega arith, (omega arith, tt)))), ((omega arith, (omega arith, (omega arith, tt))), ((omega arith, (omega arith, tt)), ((omega arith, tt), (tt, tt))))),
-)
+rising = ((omega arith, (omega arith, (omega arith, (omega arith, (omega arith, (omega arith, tt)))))), ((omega arith, (omega arith, (omega arith, (omega arith, (omega arith, tt))))), ((omega arith, (omega arith, (omega arith, (omega arith, tt)))), ((omega arith, (omega arith, (omega arith, tt))), ((omega arith, (omega arith, tt)), ((omega arith, tt), (tt, tt)))))))
 
 not_broken : (b : Bool) → b ≡ false → IsTrue b → ⊥
 not_broken true e h = absurd cc
@@ -79,9 +80,10 @@ no_rule s m e j h = go j (none_broken (λ k. breaks k s m) rules_on_marks e) h
     go UnknownName n h = not_broken _ n.0 h
     go NameTwice n h = not_broken _ n.1.0 h
     go NumberTooLarge n h = not_broken _ n.1.1.0 h
-    go TooDeep n h = not_broken _ n.1.1.1.0 h
-    go TooMany n h = not_broken _ n.1.1.1.1.0 h
-    go BadTarget n h = not_broken _ n.1.1.1.1.1.0 h
+    go WaitInSimpleBlock n h = not_broken _ n.1.1.1.0 h
+    go TooDeep n h = not_broken _ n.1.1.1.1.0 h
+    go TooMany n h = not_broken _ n.1.1.1.1.1.0 h
+    go BadTarget n h = not_broken _ n.1.1.1.1.1.1.0 h
     go _ n h = not_broken _ refl h
 
 no_lesser : (s : Scope) (m : Mark) (k : ReadErrorKind) → first_broken s m ≡ Some k → (j : ReadErrorKind) → number_of j < number_of k → IsTrue (breaks j s m) → ⊥
@@ -91,9 +93,10 @@ no_lesser s m k e j l h = go j (least_in (λ i. breaks i s m) rules_on_marks k r
     go UnknownName n l h = not_broken _ (n.0 l) h
     go NameTwice n l h = not_broken _ (n.1.0 l) h
     go NumberTooLarge n l h = not_broken _ (n.1.1.0 l) h
-    go TooDeep n l h = not_broken _ (n.1.1.1.0 l) h
-    go TooMany n l h = not_broken _ (n.1.1.1.1.0 l) h
-    go BadTarget n l h = not_broken _ (n.1.1.1.1.1.0 l) h
+    go WaitInSimpleBlock n l h = not_broken _ (n.1.1.1.0 l) h
+    go TooDeep n l h = not_broken _ (n.1.1.1.1.0 l) h
+    go TooMany n l h = not_broken _ (n.1.1.1.1.1.0 l) h
+    go BadTarget n l h = not_broken _ (n.1.1.1.1.1.1.0 l) h
     go _ n l h = not_broken _ refl h
 
 -- the kinds of the rules on marks
@@ -116,53 +119,57 @@ on_marks s m NoProcess e = absurd cc
 on_marks s m k e = tt
 
 -- after these tokens, which are those of these marks, this may come, and nothing else
-pub record Reached (before : List Token) (ms : List Mark) (f : Form) (s : Scope) : Type 0 where
+pub record Reached (before : List Token) (ms : List Mark) (f : Pending) (s : Scope) : Type 0 where
   pub marks : tokens ms ≡ before
   pub here : (ps : Parts f) → (p : ProgramShape) × (program_marks p [] ≡ ms ++ spell_all f ps)
   pub only : (p : ProgramShape) (xs ys : List Mark) → program_marks p [] ≡ xs ++ ys → tokens xs ≡ before → (xs ≡ ms) × (ps : Parts f) × (spell_all f ps ≡ ys)
   pub scope : s ≡ scope_of ms
-  pub tidy : Tidy f
 
 no_tokens : (xs : List Mark) → tokens xs ≡ [] → xs ≡ []
 no_tokens [] e = refl
 no_tokens (x ∷ xs) e = absurd cc
 
-pub begin : Reached [] [] (whole_program ∷ []) nothing_yet
+abbrev pub shape_from : FromEvents → ProgramShape
+shape_from p = record { events = p.0; semaphores = p.1.0; first = p.1.1.0; others = p.1.1.1.0; autostart = p.1.1.1.1.0; receiver = p.1.1.1.1.1 }
+
+abbrev pub parts_of_program : ProgramShape → FromEvents
+parts_of_program p = (p.events, (p.semaphores, (p.first, (p.others, (p.autostart, p.receiver)))))
+
+pub begin : Reached [] [] (from_events ∷ []) nothing_yet
 begin = record {
   marks = refl;
-  here = λ ps. (ps.0, refl);
-  only = λ p xs ys e h. let n = no_tokens xs h in (n, (p, tt), e ∙ ap (λ zs. zs ++ ys) n);
+  here = λ ps. (shape_from ps.0, refl);
+  only = λ p xs ys e h. let n = no_tokens xs h in (n, (parts_of_program p, tt), e ∙ ap (λ zs. zs ++ ys) n);
   scope = refl;
-  tidy = tt;
 }
 
 -- the marks of some tokens and one more
 split_last : (before : List Token) (t : Token) (xs : List Mark) → tokens xs ≡ before ++ (t ∷ []) →
-    (front : List Mark) × (m : Mark) × (xs ≡ front ++ (m ∷ [])) × (tokens front ≡ before) × (token_of_mark m ≡ t)
+    (front : List Mark) × (m : Mark) × (xs ≡ front ++ (m ∷ [])) × (tokens front ≡ before) × (m.token ≡ t)
 split_last [] t [] e = absurd cc
 split_last [] t (x ∷ []) e = ([], x, refl, refl, cc)
 split_last [] t (x ∷ y ∷ xs) e = absurd cc
 split_last (b ∷ bs) t [] e = absurd cc
 split_last (b ∷ bs) t (x ∷ xs) e =
     let h : tokens xs ≡ bs ++ (t ∷ []) = cc in
-    let k : token_of_mark x ≡ b = cc in
+    let k : x.token ≡ b = cc in
     let r = split_last bs t xs h in
     (x ∷ r.0, r.1, ap (λ zs. x ∷ zs) r.2, cc (k, r.3), r.4)
 
-on_at : (f : Form) (ps : Parts f) (m : Mark) (ys : List Mark) (t : Token) (s : Step) → Tidy f → spell_all f ps ≡ m ∷ ys → token_of_mark m ≡ t → step f t ≡ s → On m ys s
-on_at f ps m ys t s h e k is =
-    subst (λ v. On m ys v) is (subst (λ v. On m ys (step f v)) k (subst (λ zs. Forth f zs) e (forth f h ps)))
+on_at : (f : Pending) (ps : Parts f) (m : Mark) (ys : List Mark) (t : Token) (s : Step) → spell_all f ps ≡ m ∷ ys → m.token ≡ t → step f t ≡ s → On m ys s
+on_at f ps m ys t s e k is =
+    subst (λ v. On m ys v) is (subst (λ v. On m ys (step f v)) k (subst (λ zs. Forth f zs) e (forth f ps)))
 
 scope_push : (s : Scope) (ms : List Mark) (m : Mark) → scope_from s (ms ++ (m ∷ [])) ≡ scope_after (scope_from s ms) m
 scope_push s [] m = refl
 scope_push s (n ∷ ms) m = scope_push (scope_after s n) ms m
 
-pub advance : (before : List Token) (ms : List Mark) (f : Form) (s : Scope) (t : Token) (m : Mark) (f' : Form) → Reached before ms f s → step f t ≡ take m f' →
+pub advance : (before : List Token) (ms : List Mark) (f : Pending) (s : Scope) (t : Token) (m : Mark) (f' : Pending) → Reached before ms f s → step f t ≡ take m f' →
     Reached (before ++ (t ∷ [])) (ms ++ (m ∷ [])) f' (scope_after s m)
 advance before ms f s t m f' r is =
     let b = subst (λ s. Back f t s) is (back f t) in
     record {
-      marks = map-append token_of_mark ms (m ∷ []) ∙ ap (λ zs. zs ++ (token_of_mark m ∷ [])) r.marks ∙ ap (λ z. before ++ (z ∷ [])) b.0;
+      marks = map-append (λ z. z.token) ms (m ∷ []) ∙ ap (λ zs. zs ++ (m.token ∷ [])) r.marks ∙ ap (λ z. before ++ (z ∷ [])) b.0;
       here = λ ps.
           let q = b.1 ps in
           let p = r.here q.0 in
@@ -171,10 +178,9 @@ advance before ms f s t m f' r is =
           let s = split_last before t xs h in
           let e' : program_marks p [] ≡ s.0 ++ (s.1 ∷ ys) = e ∙ ap (λ zs. zs ++ ys) s.2 ∙ append_assoc s.0 (s.1 ∷ []) ys in
           let o = r.only p s.0 (s.1 ∷ ys) e' s.3 in
-          let n = on_at f o.1 s.1 ys t (take m f') r.tidy o.2 s.4 is in
+          let n = on_at f o.1 s.1 ys t (take m f') o.2 s.4 is in
           (s.2 ∙ ap (λ zs. zs ++ (s.1 ∷ [])) o.0 ∙ ap (λ z. ms ++ (z ∷ [])) (sym n.0), n.1, n.2);
       scope = ap (λ z. scope_after z m) r.scope ∙ sym (scope_push nothing_yet ms m);
-      tidy = subst TidyStep is (tidy f t r.tidy);
     }
 
 -- no fault before these tokens
@@ -187,7 +193,7 @@ Judged whole text = (p : ProgramShape) × IsProgram p text
 Judged (fault k left) text = IsToldAt k left text
 
 -- a token that fits, with its mark
-record Stage (before ts : List Token) (ms : List Mark) (f : Form) (s : Scope) (t : Token) (m : Mark) (f' : Form) : Type 0 where
+record Stage (before ts : List Token) (ms : List Mark) (f : Pending) (s : Scope) (t : Token) (m : Mark) (f' : Pending) : Type 0 where
   reached : Reached before ms f s
   is : step f t ≡ take m f'
   clean : Clean before (t ∷ ts)
@@ -205,40 +211,45 @@ same_front (a ∷ as') (b ∷ bs) x y e h =
     (cc (k, r.0), r.1)
 
 -- a bad token never fits
-bad_unfit : (f : Form) → step f token.Bad ≡ unfit
+bad_unfit : (f : Pending) → step f token.Bad ≡ unfit
 bad_unfit [] = refl
-bad_unfit (otherwise d ∷ f) = bad_unfit f
+bad_unfit (operand c (form.name k) ∷ f) = refl
+bad_unfit (operand c form.cast ∷ f) = refl
+bad_unfit (operand c form.sent ∷ f) = refl
+bad_unfit (operand c form.any ∷ f) = refl
 bad_unfit (y ∷ f) = refl
 
-process_unfit : (y : Symbol) (f : Form) → end_kind y ≡ Unexpected → Tidy (y ∷ f) → step (y ∷ f) token.Process ≡ unfit
-process_unfit whole_program f e h = absurd cc
-process_unfit (otherwise d) [] e h = absurd h.0
-process_unfit (otherwise d) (items k ∷ f) e h = refl
-process_unfit (otherwise d) (y ∷ f) e h = absurd h.0
-process_unfit y f e h = refl
+process_unfit : (y : Symbol) (f : Pending) → end_kind y ≡ Unexpected → step (y ∷ f) (token.Keyword word.Process) ≡ unfit
+process_unfit from_events f e = absurd cc
+process_unfit from_semaphores f e = absurd cc
+process_unfit (operand c (form.name k)) f e = refl
+process_unfit (operand c form.cast) f e = refl
+process_unfit (operand c form.sent) f e = refl
+process_unfit (operand c form.any) f e = refl
+process_unfit y f e = refl
 
-module _ (before ts : List Token) (ms : List Mark) (f : Form) (s : Scope) (t : Token) (m : Mark) (f' : Form) (st : Stage before ts ms f s t m f') where
+module _ (before ts : List Token) (ms : List Mark) (f : Pending) (s : Scope) (t : Token) (m : Mark) (f' : Pending) (st : Stage before ts ms f s t m f') where
   next_one : Reached (before ++ (t ∷ [])) (ms ++ (m ∷ [])) f' (scope_after s m)
   next_one = advance before ms f s t m f' st.reached st.is
 
   whole_of : (p : ProgramShape) × (program_marks p [] ≡ ms ++ (m ∷ spell_all f' (some_parts f')))
   whole_of = let q = next_one.here (some_parts f') in (q.0, q.1 ∙ append_assoc ms (m ∷ []) (spell_all f' (some_parts f')))
 
-  token_is : token_of_mark m ≡ t
+  token_is : m.token ≡ t
   token_is = (subst (λ s. Back f t s) st.is (back f t)).0
 
   can : CanFollow before (t ∷ ts)
   can = (
     whole_of.0,
     tokens (spell_all f' (some_parts f')),
-    ap tokens whole_of.1 ∙ map-append token_of_mark ms (m ∷ spell_all f' (some_parts f')) ∙ ap (λ zs. zs ++ (token_of_mark m ∷ tokens (spell_all f' (some_parts f')))) st.reached.marks ∙ ap (λ z. before ++ (z ∷ tokens (spell_all f' (some_parts f')))) token_is,
+    ap tokens whole_of.1 ∙ map-append (λ z. z.token) ms (m ∷ spell_all f' (some_parts f')) ∙ ap (λ zs. zs ++ (m.token ∷ tokens (spell_all f' (some_parts f')))) st.reached.marks ∙ ap (λ z. before ++ (z ∷ tokens (spell_all f' (some_parts f')))) token_is,
   )
 
   breach_is : (k : ReadErrorKind) → Breach k before (t ∷ ts) → IsTrue (breaks k s m)
   breach_is k b =
-      let e : token_of_mark b.mark ≡ t = cc (b.at) in
+      let e : b.mark.token ≡ t = cc (b.at) in
       let o = st.reached.only b.shape b.marks (b.mark ∷ b.later) b.spelled b.begins in
-      let n = on_at f o.1 b.mark b.later t (take m f') st.reached.tidy o.2 e st.is in
+      let n = on_at f o.1 b.mark b.later t (take m f') o.2 e st.is in
       subst (λ z. IsTrue (breaks k z m)) (ap scope_of o.0 ∙ sym st.reached.scope) (subst (λ y. IsTrue (breaks k (scope_of b.marks) y)) (sym n.0) b.broken)
 
   not_bad : (after : List Token) → t ∷ ts ≡ token.Bad ∷ after → ⊥
@@ -334,8 +345,8 @@ no_breach k before [] bad b = absurd (cc (b.at))
 no_breach k before (t ∷ ts) bad b = bad (
   b.shape,
   tokens b.later,
-  ap tokens b.spelled ∙ map-append token_of_mark b.marks (b.mark ∷ b.later) ∙ ap (λ zs. zs ++ (token_of_mark b.mark ∷ tokens b.later)) b.begins
-      ∙ ap (λ z. before ++ (z ∷ tokens b.later)) (let e : token_of_mark b.mark ≡ t = cc (b.at) in e),
+  ap tokens b.spelled ∙ map-append (λ z. z.token) b.marks (b.mark ∷ b.later) ∙ ap (λ zs. zs ++ (b.mark.token ∷ tokens b.later)) b.begins
+      ∙ ap (λ z. before ++ (z ∷ tokens b.later)) (let e : b.mark.token ≡ t = cc (b.at) in e),
 )
 
 below_two : (before rest : List Token) → ((after : List Token) → rest ≡ token.Bad ∷ after → ⊥) → (j : ReadErrorKind) → number_of j < 2 → IsFault j before rest → ⊥
@@ -376,36 +387,36 @@ told_no_process before bad lacks clean = (before, [], refl, refl, record { here 
 
 -- the marks of some tokens and more
 split_at : (before : List Token) (t : Token) (more : List Token) (xs : List Mark) → tokens xs ≡ before ++ (t ∷ more) →
-    (front : List Mark) × (m : Mark) × (later : List Mark) × (xs ≡ front ++ (m ∷ later)) × (tokens front ≡ before) × (token_of_mark m ≡ t)
+    (front : List Mark) × (m : Mark) × (later : List Mark) × (xs ≡ front ++ (m ∷ later)) × (tokens front ≡ before) × (m.token ≡ t)
 split_at [] t more [] e = absurd cc
 split_at [] t more (x ∷ xs) e = ([], x, xs, refl, refl, cc)
 split_at (b ∷ bs) t more [] e = absurd cc
 split_at (b ∷ bs) t more (x ∷ xs) e =
     let h : tokens xs ≡ bs ++ (t ∷ more) = cc in
-    let k : token_of_mark x ≡ b = cc in
+    let k : x.token ≡ b = cc in
     let r = split_at bs t more xs h in
     (x ∷ r.0, r.1, r.2, ap (λ zs. x ∷ zs) r.3, cc (k, r.4), r.5)
 
-cannot : (before : List Token) (ms : List Mark) (f : Form) (s : Scope) (t : Token) (ts : List Token) → Reached before ms f s → step f t ≡ unfit → CanFollow before (t ∷ ts) → ⊥
+cannot : (before : List Token) (ms : List Mark) (f : Pending) (s : Scope) (t : Token) (ts : List Token) → Reached before ms f s → step f t ≡ unfit → CanFollow before (t ∷ ts) → ⊥
 cannot before ms f s t ts r is h =
     let x = split_at before t h.1 (program_marks h.0 []) h.2 in
     let o = r.only h.0 x.0 (x.1 ∷ x.2) x.3 x.4 in
-    on_at f o.1 x.1 x.2 t unfit r.tidy o.2 x.5 is
+    on_at f o.1 x.1 x.2 t unfit o.2 x.5 is
 
-cannot_end : (before : List Token) (ms : List Mark) (y : Symbol) (f : Form) (s : Scope) → Reached before ms (y ∷ f) s → CanFollow before [] → ⊥
+cannot_end : (before : List Token) (ms : List Mark) (y : Symbol) (f : Pending) (s : Scope) → Reached before ms (y ∷ f) s → CanFollow before [] → ⊥
 cannot_end before ms y f s r h =
     let o = r.only h.0 (program_marks h.0 []) [] (sym (append-nil (program_marks h.0 []))) h.1 in
-    subst (λ zs. Forth (y ∷ f) zs) o.2 (forth (y ∷ f) r.tidy o.1)
+    subst (λ zs. Forth (y ∷ f) zs) o.2 (forth (y ∷ f) o.1)
 
 -- where `process` fits, nothing but a whole program is still to come
-lacks_none : (before : List Token) (ms : List Mark) (y : Symbol) (f : Form) (s : Scope) → Reached before ms (y ∷ f) s → end_kind y ≡ Unexpected → LacksProcess before [] → ⊥
-lacks_none before ms y f s r e h = cannot before ms (y ∷ f) s token.Process [] r (process_unfit y f e r.tidy) h
+lacks_none : (before : List Token) (ms : List Mark) (y : Symbol) (f : Pending) (s : Scope) → Reached before ms (y ∷ f) s → end_kind y ≡ Unexpected → LacksProcess before [] → ⊥
+lacks_none before ms y f s r e h = cannot before ms (y ∷ f) s (token.Keyword word.Process) [] r (process_unfit y f e) h
 
-can_begin : (before : List Token) (ms : List Mark) (f : Form) (s : Scope) → Reached before ms (whole_program ∷ f) s → LacksProcess before []
-can_begin before ms f s r =
-    let some : Parts (whole_program ∷ f) = (program_of [] [] [] end, some_parts f) in
-    let q = r.here some in
-    (q.0, tokens (spell_all (process_name ∷ f) some), ap tokens q.1 ∙ map-append token_of_mark ms (spell_all (whole_program ∷ f) some) ∙ ap (λ zs. zs ++ tokens (spell_all (whole_program ∷ f) some)) r.marks)
+can_begin : (before : List Token) (ms : List Mark) (y : Symbol) (f : Pending) (s : Scope) → Reached before ms (y ∷ f) s → (ps : Parts (y ∷ f)) (more : List Mark) → tokens (spell_all (y ∷ f) ps) ≡ token.Keyword word.Process ∷ tokens more →
+    LacksProcess before []
+can_begin before ms y f s r ps more e =
+    let q = r.here ps in
+    (q.0, tokens more, ap tokens q.1 ∙ map-append (λ z. z.token) ms (spell_all (y ∷ f) ps) ∙ ap (λ zs. zs ++ tokens (spell_all (y ∷ f) ps)) r.marks ∙ ap (λ zs. before ++ zs) e)
 
 none_at_end : (before : List Token) (p : ProgramShape) → tokens (program_marks p []) ≡ before → (LacksProcess before [] → ⊥) → (j : ReadErrorKind) → IsFault j before [] → ⊥
 none_at_end before p text lacks BadToken i = absurd (cc (i.1))
@@ -420,18 +431,21 @@ none_at_end before p text lacks TooMany i = absurd (cc (i.at))
 none_at_end before p text lacks BadTarget i = absurd (cc (i.at))
 none_at_end before p text lacks Memory i = absurd (cc (i.at))
 
-at_end_unexpected : (before : List Token) (ms : List Mark) (y : Symbol) (f : Form) (s : Scope) → Reached before ms (y ∷ f) s → Clean before [] → end_kind y ≡ Unexpected → Judged (fault Unexpected 0) (before ++ [])
+at_end_unexpected : (before : List Token) (ms : List Mark) (y : Symbol) (f : Pending) (s : Scope) → Reached before ms (y ∷ f) s → Clean before [] → end_kind y ≡ Unexpected → Judged (fault Unexpected 0) (before ++ [])
 at_end_unexpected before ms y f s r clean e = told_unexpected before [] no (λ after h. absurd cc) clean
   where
     no : CanFollow before [] ⊎ LacksProcess before [] → ⊥
     no (inl h) = cannot_end before ms y f s r h
     no (inr h) = lacks_none before ms y f s r e h
 
-at_end : (before : List Token) (ms : List Mark) (y : Symbol) (f : Form) (s : Scope) → Reached before ms (y ∷ f) s → Clean before [] → Judged (fault (end_kind y) 0) (before ++ [])
-at_end before ms whole_program f s r clean = told_no_process before (cannot_end before ms whole_program f s r) (can_begin before ms f s r) clean
-at_end before ms y f s r clean = at_end_unexpected before ms y f s r clean refl
+ends_so : (before : List Token) (ms : List Mark) (y : Symbol) (f : Pending) (s : Scope) → Reached before ms (y ∷ f) s → Clean before [] → Judged (fault (end_kind y) 0) (before ++ [])
+ends_so before ms from_events f s r clean =
+    told_no_process before (cannot_end before ms from_events f s r) (can_begin before ms from_events f s r (([], ([], some_program)), some_parts f) (spell_all (first_process ∷ f) (some_program, some_parts f)) refl) clean
+ends_so before ms from_semaphores f s r clean =
+    told_no_process before (cannot_end before ms from_semaphores f s r) (can_begin before ms from_semaphores f s r (([], some_program), some_parts f) (spell_all (first_process ∷ f) (some_program, some_parts f)) refl) clean
+ends_so before ms y f s r clean = at_end_unexpected before ms y f s r clean refl
 
-pub law : (ts before : List Token) (ms : List Mark) (f : Form) (s : Scope) → Reached before ms f s → Clean before ts → Judged (tell s f ts) (before ++ ts)
+pub law : (ts before : List Token) (ms : List Mark) (f : Pending) (s : Scope) → Reached before ms f s → Clean before ts → Judged (tell s f ts) (before ++ ts)
 law [] before ms [] s r clean =
     let q = r.here tt in
     let text : tokens (program_marks q.0 []) ≡ before = ap tokens (q.1 ∙ append-nil ms) ∙ r.marks in
@@ -445,8 +459,8 @@ law [] before ms [] s r clean =
         go false w =
             let l : length before ≡ length b = omega (arith, ltb-false _ _ w, ap length e, length-append before [], length-append b x) in
             let q = same_front before b [] x e l in
-            none_at_end before p text (cannot before ms [] s token.Process [] r refl) j (subst (λ z. IsFault j z []) (sym q.0) (subst (λ z. IsFault j b z) (sym q.1) i))
-law [] before ms (y ∷ f) s r clean = subst (λ v. Judged v (before ++ [])) (sym (ends_unfit y f r.tidy)) (at_end before ms y f s r clean)
+            none_at_end before p text (cannot before ms [] s (token.Keyword word.Process) [] r refl) j (subst (λ z. IsFault j z []) (sym q.0) (subst (λ z. IsFault j b z) (sym q.1) i))
+law [] before ms (y ∷ f) s r clean = ends_so before ms y f s r clean
 law (t ∷ ts) before ms f s r clean = go (step f t) refl (λ m f' r' c'. law ts (before ++ (t ∷ [])) (ms ++ (m ∷ [])) f' (scope_after s m) r' c')
   where
     no : step f t ≡ unfit → CanFollow before (t ∷ ts) ⊎ LacksProcess before (t ∷ ts) → ⊥
@@ -458,10 +472,10 @@ law (t ∷ ts) before ms f s r clean = go (step f t) refl (λ m f' r' c'. law ts
     unexpected u e is = told_unexpected before (t ∷ ts) (no is) (λ after h. absurd (cc (h, e))) clean
 
     go : (x : Step) → step f t ≡ x →
-        ((m : Mark) (f' : Form) → Reached (before ++ (t ∷ [])) (ms ++ (m ∷ [])) f' (scope_after s m) → Clean (before ++ (t ∷ [])) ts → Judged (tell (scope_after s m) f' ts) ((before ++ (t ∷ [])) ++ ts)) →
+        ((m : Mark) (f' : Pending) → Reached (before ++ (t ∷ [])) (ms ++ (m ∷ [])) f' (scope_after s m) → Clean (before ++ (t ∷ [])) ts → Judged (tell (scope_after s m) f' ts) ((before ++ (t ∷ [])) ++ ts)) →
         Judged (after s (suc (length ts)) t x (λ n g. tell n g ts)) (before ++ (t ∷ ts))
     go unfit is ih = unexpected t refl is
     go (take m f') is ih = on_mark before ts ms f s t m f' (record { reached = r; is = is; clean = clean; go_on = ih m f' }) (first_broken s m) refl
 
-pub judged : (text : List Token) → Judged (tell nothing_yet (whole_program ∷ []) text) text
-judged text = law text [] [] (whole_program ∷ []) nothing_yet begin (λ b r j e h i. omega arith)
+pub judged : (text : List Token) → Judged (tell nothing_yet (from_events ∷ []) text) text
+judged text = law text [] [] (from_events ∷ []) nothing_yet begin (λ b r j e h i. omega arith)

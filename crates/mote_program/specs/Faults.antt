@@ -1,31 +1,39 @@
 -- Which tokens are a program, and the first fault of those that are not.
-use Rattle.std.specs.Prelude.{◌≡◌, ℕ, ◌+◌, ◌<◌, nat_lt, nat_le, List, [], ◌∷◌, ◌++◌, length, Bool, false, not, ◌||◌, IsTrue, is_some, ◌⊎◌}
-use Rattle.mote_program.specs.Grammar.{Name, Mark, new_process, new_variable, listed, uses, value, opens, begins, assigns, token_of_mark, tokens, ProgramShape, program_marks}
+use Rattle.std.specs.Prelude.{◌≡◌, ℕ, ◌+◌, ◌<◌, nat_lt, nat_le, List, [], ◌∷◌, ◌++◌, length, Bool, true, false, not, ◌&&◌, ◌||◌, IsTrue, Option, Some, None, ◌⊎◌}
+use Rattle.std.specs.Str.{bytes_eq}
+use Rattle.mote_program.specs.InScope.{Names, no_names, with_new, outside, is_a, is_among, is_in_scope}
+use Rattle.mote_program.specs.Grammar.{Role, new, uses, spawns, starts, value, opens, leaves, Begun, none_begins, statement, wait, Mark, tokens, program_marks}
 use Rattle.mote_program.specs.Kinds.{number_of}
-use Rattle.mote_program.specs.Names.{place_of}
+use Rattle.mote_program.specs.Shapes.{Name, ProgramShape}
 use Rattle.mote_program.specs.Tokens as token
 use Rattle.mote_program.specs.Tokens.{Token}
+use Rattle.mote_program.specs.Tree.{Class, an_event, a_semaphore, a_process, a_variable, a_timer, a_thread}
+use Rattle.mote_program.specs.declared.keyword.Keyword.TheVariants.{Process}
 use Rattle.mote_program.specs.declared.error.ReadErrorKind.{ReadErrorKind}
-use Rattle.mote_program.specs.declared.error.ReadErrorKind.TheVariants.{BadToken, Unexpected, UnknownName, NameTwice, NumberTooLarge, TooDeep, TooMany, NoProcess, BadTarget}
+use Rattle.mote_program.specs.declared.error.ReadErrorKind.TheVariants.{BadToken, Unexpected, UnknownName, NameTwice, NumberTooLarge, WaitInSimpleBlock, TooDeep, TooMany, NoProcess, BadTarget}
 
--- the names that some marks declare, those that `autostart` lists, and how many statements they begin
+-- the names in scope behind some marks, those that `autostart` lists, and how many statements have begun
 pub record Scope : Type 0 where
-  pub processes : List Name
-  pub variables : List Name
+  pub names : Names
   pub starting : List Name
   pub statements : ℕ
 
 abbrev pub nothing_yet : Scope
-nothing_yet = record { processes = []; variables = []; starting = []; statements = 0 }
+nothing_yet = record { names = no_names; starting = []; statements = 0 }
+
+abbrev pub with_role : Scope → Role → Scope
+with_role s (new c x) = record s { names = with_new s.names c x }
+with_role s (starts x) = record s { starting = s.starting ++ x ∷ [] }
+with_role s leaves = record s { names = outside s.names }
+with_role s r = s
+
+abbrev pub with_begun : Scope → Begun → Scope
+with_begun s none_begins = s
+with_begun s b = record s { statements = s.statements + 1 }
 
 -- with one mark more
 abbrev pub scope_after : Scope → Mark → Scope
-scope_after s (new_process x) = record s { processes = s.processes ++ x ∷ [] }
-scope_after s (new_variable x) = record s { variables = s.variables ++ x ∷ [] }
-scope_after s (listed x) = record s { starting = s.starting ++ x ∷ [] }
-scope_after s (begins t) = record s { statements = s.statements + 1 }
-scope_after s (assigns x) = record s { statements = s.statements + 1 }
-scope_after s m = s
+scope_after s m = with_begun (with_role s m.role) m.begins
 
 abbrev pub scope_from : Scope → List Mark → Scope
 scope_from s [] = s
@@ -34,29 +42,47 @@ scope_from s (m ∷ ms) = scope_from (scope_after s m) ms
 abbrev pub scope_of : List Mark → Scope
 scope_of ms = scope_from nothing_yet ms
 
-abbrev pub is_among : List Name → Name → Bool
-is_among names x = is_some (place_of names x)
+-- no further name of this class may be declared
+abbrev pub is_full : Names → Class → Bool
+is_full n an_event = nat_le 117 (length n.events)
+is_full n a_semaphore = nat_le 64 (length n.semaphores)
+is_full n a_process = nat_le 64 (length n.processes)
+is_full n a_variable = nat_le 64 (length n.variables)
+is_full n a_timer = nat_le 64 (n.first_timer + length n.timers)
+is_full n a_thread = nat_le 7 (length n.threads)
 
-abbrev pub is_in_scope : Scope → Name → Bool
-is_in_scope s x = is_among s.processes x || is_among s.variables x
+-- a name in scope of another class than the place takes
+abbrev pub is_other : Names → Class → Name → Bool
+is_other n c x = is_in_scope n x && not (is_a n c x)
 
--- the mark breaks this rule, where those before it have made this scope
+abbrev pub is_own : Option Name → Name → Bool
+is_own None x = false
+is_own (Some own) x = bytes_eq own x
+
+-- the token's part breaks this rule, where the marks before it have made this scope
+abbrev pub role_breaks : ReadErrorKind → Scope → Role → Bool
+role_breaks UnknownName s (uses c x) = not (is_in_scope s.names x)
+role_breaks UnknownName s (spawns own x) = not (is_in_scope s.names x)
+role_breaks UnknownName s (starts x) = not (is_in_scope s.names x)
+role_breaks NameTwice s (new c x) = is_in_scope s.names x
+role_breaks NameTwice s (starts x) = is_among s.starting x
+role_breaks NumberTooLarge s (value n) = nat_lt 65535 n
+role_breaks TooDeep s (opens level) = nat_lt 32 level
+role_breaks TooMany s (new c x) = is_full s.names c
+role_breaks BadTarget s (uses c x) = is_other s.names c x
+role_breaks BadTarget s (spawns own x) = is_other s.names a_thread x || is_own own x
+role_breaks BadTarget s (starts x) = is_other s.names a_process x
+role_breaks k s r = false
+
+-- the statement that begins breaks it
+abbrev pub begun_breaks : ReadErrorKind → Scope → Begun → Bool
+begun_breaks WaitInSimpleBlock s wait = true
+begun_breaks TooMany s statement = nat_le 4096 s.statements
+begun_breaks TooMany s wait = nat_le 4096 s.statements
+begun_breaks k s b = false
+
 abbrev pub breaks : ReadErrorKind → Scope → Mark → Bool
-breaks UnknownName s (uses x) = not (is_in_scope s x)
-breaks UnknownName s (assigns x) = not (is_in_scope s x)
-breaks UnknownName s (listed x) = not (is_in_scope s x)
-breaks NameTwice s (new_process x) = is_in_scope s x
-breaks NameTwice s (new_variable x) = is_in_scope s x
-breaks NameTwice s (listed x) = is_among s.starting x
-breaks NumberTooLarge s (value n) = nat_lt 65535 n
-breaks TooDeep s (opens t level) = nat_lt 32 level
-breaks TooMany s (new_variable x) = nat_le 64 (length s.variables)
-breaks TooMany s (begins t) = nat_le 4096 s.statements
-breaks TooMany s (assigns x) = nat_le 4096 s.statements
-breaks BadTarget s (uses x) = is_among s.processes x
-breaks BadTarget s (assigns x) = is_among s.processes x
-breaks BadTarget s (listed x) = is_among s.variables x
-breaks k s m = false
+breaks k s m = role_breaks k s m.role || begun_breaks k s m.begins
 
 -- some program has the next token of rest after the tokens before, or ends where rest does
 abbrev pub CanFollow : (before rest : List Token) → Type 0
@@ -65,7 +91,7 @@ CanFollow before (t ∷ rest) = (p : ProgramShape) × (more : List Token) × (to
 
 -- the text ends where `process` could stand
 abbrev pub LacksProcess : (before rest : List Token) → Type 0
-LacksProcess before [] = CanFollow before (token.Process ∷ [])
+LacksProcess before [] = CanFollow before (token.Keyword Process ∷ [])
 LacksProcess before (t ∷ rest) = ⊥
 
 -- in some program that begins with the tokens before and the next of rest, that one breaks the rule
@@ -77,7 +103,7 @@ pub record Breach (k : ReadErrorKind) (before rest : List Token) : Type 0 where
   pub after : List Token
   pub spelled : program_marks shape [] ≡ marks ++ (mark ∷ later)
   pub begins : tokens marks ≡ before
-  pub at : rest ≡ token_of_mark mark ∷ after
+  pub at : rest ≡ mark.token ∷ after
   pub broken : IsTrue (breaks k (scope_of marks) mark)
 
 -- a fault at the first token of rest, or at the end where there is none

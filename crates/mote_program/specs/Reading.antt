@@ -1,21 +1,25 @@
 -- The tree of a text, and the told fault of one that has none.
 use Rattle.std.specs.Prelude.{◌≡◌, ℕ, List, ◌++◌, length, slice_get, Some, ◌⊎◌}
+use Rattle.mote_program.specs.Code.{Tree}
 use Rattle.mote_program.specs.Faults.{IsProgram, IsTold}
-use Rattle.mote_program.specs.Grammar.{ProgramShape}
-use Rattle.mote_program.specs.Program.{Tree}
-use Rattle.mote_program.specs.Shapes.{tree_of_shape}
+use Rattle.mote_program.specs.Numbers.{tree_of_shape}
+use Rattle.mote_program.specs.Shapes.{ProgramShape}
 use Rattle.mote_program.specs.Text.{IsLexed}
 use Rattle.mote_program.specs.Tokens.{Token}
 use Rattle.mote_program.specs.declared.error.ReadErrorKind.{ReadErrorKind}
 
--- the text's tokens are those of a program, and this is its tree
+-- the tokens are those of a program, and this is its tree
+pub record IsTreeOfTokens (tokens : List Token) (tree : Tree) : Type 0 where
+  pub shape : ProgramShape
+  pub program : IsProgram shape tokens
+  pub numbered : tree ≡ tree_of_shape shape
+
+-- the same of a text
 pub record IsTreeOf (text : List ℕ) (tree : Tree) : Type 0 where
   pub tokens : List Token
   pub lines : List ℕ
   pub lexed : IsLexed text tokens lines
-  pub shape : ProgramShape
-  pub program : IsProgram shape tokens
-  pub numbered : tree ≡ tree_of_shape shape
+  pub spelled : IsTreeOfTokens tokens tree
 
 -- the text's told fault is of this kind, and its token, or the end, stands on this line
 pub record IsToldOf (text : List ℕ) (kind : ReadErrorKind) (line : ℕ) : Type 0 where

@@ -1,27 +1,120 @@
--- Trees whose variables are all declared.
-use Rattle.std.specs.Prelude.{ℕ, nat_lt, Bool, true, ◌&&◌}
-use Rattle.mote_program.specs.Tree.{Expression, variable, negation, binary, Statement, assign, print, branch, while, yield, yield_until, Body, end, next, Otherwise, nothing, otherwise}
+-- Trees whose numbers all stand for something that is declared.
+use Rattle.std.specs.Prelude.{ℕ, ◌+◌, nat_lt, nat_le, Bool, true, ◌&&◌, List, [], ◌∷◌, Option, None, Some, length}
+use Rattle.std.specs.List.{list_all}
+use Rattle.mote_program.specs.Code.{Code, Tree}
+use Rattle.mote_program.specs.EventNames as event
+use Rattle.mote_program.specs.EventNames.{CastEvent, SentEvent, AnyEvent}
+use Rattle.mote_program.specs.Tree.{Class, an_event, a_semaphore, a_process, a_variable, a_timer, a_thread, Expression, variable, is, fired, expired, gone, running, count, negation, binary, Action, assign, print, send, wait_until, wait_while, yield, yield_until, spawn, restart, exit, pause, acquire, signal, post, broadcast, synch, poll, start, kill, set, reset, restart_timer, stop, Statement, does, branch, while, Body, end, next, Otherwise, nothing, otherwise}
 
--- each variable is one of the first `count`
-abbrev pub expression_fits : (count : ℕ) → Expression → Bool
-expression_fits count (variable i) = nat_lt i count
-expression_fits count (negation e) = expression_fits count e
-expression_fits count (binary o a b) = expression_fits count a && expression_fits count b
-expression_fits count e = true
+-- which numbers of a class stand for something
+abbrev pub Within : Type 0
+Within = Class → ℕ → Bool
+
+abbrev pub cast_fits : Within → CastEvent ℕ → Bool
+cast_fits w (event.declared i) = w an_event i
+cast_fits w e = true
+
+abbrev pub sent_fits : Within → SentEvent ℕ → Bool
+sent_fits w (event.cast e) = cast_fits w e
+sent_fits w event.exit = true
+
+abbrev pub any_fits : Within → AnyEvent ℕ → Bool
+any_fits w (event.sent e) = sent_fits w e
+any_fits w e = true
+
+abbrev pub expression_fits : Within → Expression ℕ → Bool
+expression_fits w (variable i) = w a_variable i
+expression_fits w (is e) = any_fits w e
+expression_fits w (fired t) = w a_timer t
+expression_fits w (expired t) = w a_timer t
+expression_fits w (gone p) = w a_process p
+expression_fits w (running p) = w a_process p
+expression_fits w (count s) = w a_semaphore s
+expression_fits w (negation e) = expression_fits w e
+expression_fits w (binary o a b) = expression_fits w a && expression_fits w b
+expression_fits w e = true
+
+abbrev pub into_fits : Within → Option ℕ → Bool
+into_fits w None = true
+into_fits w (Some i) = w a_variable i
+
+abbrev pub action_fits : Within → Action ℕ → Bool
+action_fits w (assign i e) = w a_variable i && expression_fits w e
+action_fits w (print e) = expression_fits w e
+action_fits w (send e) = expression_fits w e
+action_fits w (wait_until e) = expression_fits w e
+action_fits w (wait_while e) = expression_fits w e
+action_fits w yield = true
+action_fits w (yield_until e) = expression_fits w e
+action_fits w (spawn t) = w a_thread t
+action_fits w restart = true
+action_fits w exit = true
+action_fits w pause = true
+action_fits w (acquire s) = w a_semaphore s
+action_fits w (signal s) = w a_semaphore s
+action_fits w (post p e a i) = w a_process p && sent_fits w e && expression_fits w a && into_fits w i
+action_fits w (broadcast e a i) = cast_fits w e && expression_fits w a && into_fits w i
+action_fits w (synch p e a) = w a_process p && sent_fits w e && expression_fits w a
+action_fits w (poll p) = w a_process p
+action_fits w (start p) = w a_process p
+action_fits w (kill p) = w a_process p
+action_fits w (set t e) = w a_timer t && expression_fits w e
+action_fits w (reset t) = w a_timer t
+action_fits w (restart_timer t) = w a_timer t
+action_fits w (stop t) = w a_timer t
 
 abbrev mutual
-  pub statement_fits : (count : ℕ) → Statement → Bool
-  statement_fits count (assign i e) = nat_lt i count && expression_fits count e
-  statement_fits count (print e) = expression_fits count e
-  statement_fits count (branch e a o) = expression_fits count e && block_fits count a && other_fits count o
-  statement_fits count (while e a) = expression_fits count e && block_fits count a
-  statement_fits count yield = true
-  statement_fits count (yield_until e) = expression_fits count e
+  pub statement_fits : Within → Statement ℕ → Bool
+  statement_fits w (does a) = action_fits w a
+  statement_fits w (branch e a o) = expression_fits w e && block_fits w a && other_fits w o
+  statement_fits w (while e a) = expression_fits w e && block_fits w a
 
-  pub block_fits : (count : ℕ) → Body → Bool
-  block_fits count end = true
-  block_fits count (next s b) = statement_fits count s && block_fits count b
+  pub block_fits : Within → Body ℕ → Bool
+  block_fits w end = true
+  block_fits w (next s b) = statement_fits w s && block_fits w b
 
-  pub other_fits : (count : ℕ) → Otherwise → Bool
-  other_fits count nothing = true
-  other_fits count (otherwise b) = block_fits count b
+  pub other_fits : Within → Otherwise ℕ → Bool
+  other_fits w nothing = true
+  other_fits w (otherwise b) = block_fits w b
+
+-- what a code declares: so many variables, the timers from one number to below another, and the threads before this one
+abbrev pub own_names : (variables first_timer end_timer threads : ℕ) → Within
+own_names variables first last threads a_variable i = nat_lt i variables
+own_names variables first last threads a_timer i = nat_le first i && nat_lt i last
+own_names variables first last threads a_thread i = nat_lt i threads
+own_names variables first last threads c i = true
+
+-- the threads before this one, and whatever else
+abbrev pub earlier_threads : (thread : ℕ) → Within
+earlier_threads k a_thread i = nat_lt i k
+earlier_threads k c i = true
+
+-- what a program declares
+abbrev pub program_names : (events semaphores processes : ℕ) → Within
+program_names events semaphores processes an_event i = nat_lt i events
+program_names events semaphores processes a_semaphore i = nat_lt i semaphores
+program_names events semaphores processes a_process i = nat_lt i processes
+program_names events semaphores processes c i = true
+
+abbrev pub optional_fits : Within → Option (Body ℕ) → Bool
+optional_fits w None = true
+optional_fits w (Some b) = block_fits w b
+
+-- each of them fits, thread k naming the threads before k alone
+abbrev pub threads_fit : (ℕ → Within) → (k : ℕ) → List (Body ℕ) → Bool
+threads_fit w k [] = true
+threads_fit w k (b ∷ bs) = block_fits (w k) b && threads_fit w (k + 1) bs
+
+abbrev pub code_fits : (ℕ → Within) → Code → Bool
+code_fits w c =
+    threads_fit w 0 c.thread_bodies && list_all (block_fits (w (length c.threads))) c.callbacks
+    && optional_fits (w (length c.threads)) c.on_poll && optional_fits (w (length c.threads)) c.on_exit && block_fits (w (length c.threads)) c.body
+
+-- in what a code runs, each variable, timer and thread is one of its own
+abbrev pub names_its_own : Code → Bool
+names_its_own c =
+    code_fits (own_names (length c.variables) c.first_timer (c.first_timer + length c.etimers + length c.ctimers)) c
+
+-- in what the processes run, each event, semaphore and process is one of the program's
+abbrev pub names_the_programs : Tree → Code → Bool
+names_the_programs t c = code_fits (λ k. program_names (length t.events) (length t.semaphores) (length t.processes)) c

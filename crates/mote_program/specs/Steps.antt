@@ -1,165 +1,202 @@
--- What reading one part of a program gives: its tokens are spelled by its marks, and the machine goes on behind it,
--- whatever comes after.
-use Rattle.std.specs.Prelude.{◌≡◌, ℕ, ◌+◌, ◌<◌, ◌≤◌, List, [], ◌∷◌, ◌++◌, length, drop, map, Result, Err, Some, None, IsTrue}
-use Rattle.std.specs.List.{All}
-use Rattle.mote_program.specs.Grammar.{Name, Declared, ProgramShape, Mark, plain, new_process, tokens, more_listed_marks, autostart_marks, variable_marks}
-use Rattle.mote_program.specs.Faults.{Scope, nothing_yet, is_among, IsProgram}
+-- What reading one part of a program gives: its tokens are spelled by its marks, and the machine goes on behind it, whatever
+-- comes after.
+use Rattle.std.specs.Prelude.{◌≡◌, ℕ, ◌+◌, List, ◌∷◌, ◌++◌, Bool, true, false, ◌||◌, Option, Some, option_map, Result, Err}
+use Rattle.mote_program.specs.Faults.{Scope, is_other, is_own}
+use Rattle.mote_program.specs.Forms.{Beginning, no_statement, action, branches, loops, goes_on, beginning}
+use Rattle.mote_program.specs.Grammar.{Context, Mark, tokens}
+use Rattle.mote_program.specs.InScope.{Names, names_of, name_in, is_in_scope}
+use Rattle.mote_program.specs.Machine.{Symbol, Pending, fault, tell, semicolon, equals, open_sign, close, open_brace, expression, block, items, items_else, symbols_of}
 use Rattle.mote_program.specs.Names.{place_of}
-use Rattle.mote_program.specs.Machine.{Symbol, Form, fault, tell, expression, statement, equals, semicolon, whole_program, autostart_or_code, listed_name, more_listed, code_rest, variable_name, declarations}
-use Rattle.mote_program.specs.Program.{Tree}
-use Rattle.mote_program.specs.Shapes.{number_in, tree_of_shape}
+use Rattle.mote_program.specs.Scope.{Within}
+use Rattle.mote_program.specs.Shapes.{Name}
 use Rattle.mote_program.specs.Tokens as token
 use Rattle.mote_program.specs.Tokens.{Token}
-use Rattle.mote_program.specs.declared.error.ReadErrorKind.TheVariants.{TooMany}
+use Rattle.mote_program.specs.Tree.{Class, an_event, a_semaphore, a_process, a_variable, a_timer, a_thread}
+use Rattle.mote_program.specs.declared.cursor.Sign.{Sign}
+use Rattle.mote_program.specs.declared.cursor.Sign.TheVariants as read_sign
 use Rattle.mote_program.specs.declared.fault.Fault.{Fault}
 use Rattle.mote_program.specs.declared.fault.Refusal.{Refusal}
 use Rattle.mote_program.specs.declared.fault.Refusal.TheVariants as refusal
-use Rattle.mote_program.specs.declared.names.Class.{Class}
-use Rattle.mote_program.specs.declared.names.Class.TheVariants as class
+use Rattle.mote_program.specs.declared.keyword.Keyword.{Keyword}
+use Rattle.mote_program.specs.declared.scope.Class.{Class as ClassRead}
+use Rattle.mote_program.specs.declared.scope.Class.TheVariants as read
+use Rattle.mote_program.specs.declared.scope.Context.{Context as ContextRead}
+use Rattle.mote_program.specs.declared.scope.Found.{Found}
+use Rattle.mote_program.specs.declared.scope.Found.TheVariants as found
+use Rattle.mote_program.specs.declared.scope.Scope.{Scope as ScopeRead}
 
-abbrev pub scope_with : (processes variables starting : List Name) → (statements : ℕ) → Scope
-scope_with ps vs starting n = record { processes = ps; variables = vs; starting = starting; statements = n }
+-- What the types of `src/scope.rt` and `src/cursor.rt` stand for.
 
--- what a name stands for
-abbrev pub IsClass : (processes variables : List Name) → Name → Class → Type 0
-IsClass ps vs x class.Unknown = (place_of ps x ≡ None) × (place_of vs x ≡ None)
-IsClass ps vs x class.Process = IsTrue (is_among ps x)
-IsClass ps vs x (class.Variable i) = (place_of ps x ≡ None) × (place_of vs x ≡ Some i)
+abbrev pub scope_of : ScopeRead → Scope
+scope_of s = record {
+  names = record {
+    events = s.events;
+    semaphores = s.semaphores;
+    processes = s.processes;
+    variables = s.variables;
+    first_timer = s.first_timer;
+    timers = s.etimers ++ s.ctimers;
+    threads = s.threads;
+  };
+  starting = s.starting;
+  statements = s.statements;
+}
 
--- the tokens old are those of a symbol with these marks, and then new, in every scope
-pub record ReadsSign (y : Symbol) (marks : List Mark → List Mark) (old new : List Token) : Type 0 where
-  pub spelled : (ms : List Mark) → tokens ms ≡ new → old ≡ tokens (marks ms)
-  pub goes_on : (s : Scope) (f : Form) → tell s (y ∷ f) old ≡ tell s f new
+abbrev pub context_of : ContextRead → Context
+context_of c = record { level = c.level; simple = c.simple; thread = option_map (λ x. x.now) c.thread }
+
+abbrev pub class_of : ClassRead → Class
+class_of read.Event = an_event
+class_of read.Semaphore = a_semaphore
+class_of read.Process = a_process
+class_of read.Variable = a_variable
+class_of read.Timer = a_timer
+class_of read.Thread = a_thread
+
+-- numbers of events are below this, and those of all others below that
+abbrev pub most_of : Class → ℕ
+most_of an_event = 117
+most_of c = 64
+
+abbrev pub symbol_of : Sign → Symbol
+symbol_of read_sign.Semicolon = semicolon
+symbol_of read_sign.Equals = equals
+symbol_of read_sign.Open = open_sign
+symbol_of read_sign.Close = close
+symbol_of read_sign.OpenBrace = open_brace
+
+abbrev pub token_of_sign : Sign → Token
+token_of_sign read_sign.Semicolon = token.Semicolon
+token_of_sign read_sign.Equals = token.Equals
+token_of_sign read_sign.Open = token.Open
+token_of_sign read_sign.Close = token.Close
+token_of_sign read_sign.OpenBrace = token.OpenBrace
+
+-- Names as they are looked up.
+
+-- the number of a name of a class
+abbrev pub look : Names → Class → Name → Option ℕ
+look n a_timer x = option_map (λ i. n.first_timer + i) (place_of n.timers x)
+look n c x = place_of (names_of n c) x
+
+abbrev pub is_own_thread : Option Name → Class → Name → Bool
+is_own_thread own a_thread x = is_own own x
+is_own_thread own c x = false
+
+-- the name stands for this one, which isn't the thread that is being read
+pub record Finds (n : Names) (own : Option Name) (c : Class) (x : Name) (i : ℕ) : Type 0 where
+  pub found : look n c x ≡ Some i
+  pub other : is_own_thread own c x ≡ false
+
+-- what a name stands for, where one of this class is asked for
+abbrev pub IsFound : Names → Option Name → Class → Name → Found → Type 0
+IsFound n own c x found.Unknown = is_in_scope n x ≡ false
+IsFound n own c x found.Other = (is_in_scope n x ≡ true) × ((is_other n c x || is_own_thread own c x) ≡ true)
+IsFound n own c x (found.Here i) = Finds n own c x i
+
+-- what is in scope stays there, and more may be declared
+abbrev pub IsFront : List Name → List Name → Type 0
+IsFront xs ys = (more : List Name) × (ys ≡ xs ++ more)
+
+pub record Extends (n n' : Names) : Type 0 where
+  pub front : (c : Class) → IsFront (names_of n c) (names_of n' c)
+  pub first_timer : n'.first_timer ≡ n.first_timer
+
+-- all that is found is within
+abbrev pub Covers : Names → Option Name → Within → Type 0
+Covers n own w = (c : Class) (x : Name) (i : ℕ) → Finds n own c x i → w c i ≡ true
+
+-- with its names put back and numbered again the tree is the same, whatever more is declared
+abbrev pub Numbered : {T : Type 0} → Names → (again : Names → T) → T → Type 0
+Numbered n again t = (n' : Names) → Extends n n' → again n' ≡ t
+
+-- what the tree names is in scope
+abbrev pub Fits : Names → Option Name → (fits : Within → Bool) → Type 0
+Fits n own fits = (w : Within) → Covers n own w → fits w ≡ true
+
+-- What is read.
+
+-- a sign that must stand there
+pub record ReadsSign (y : Symbol) (t : Token) (old new : List Token) : Type 0 where
+  pub spelled : old ≡ t ∷ new
+  pub goes_on : (s : Scope) (f : Pending) → tell s (y ∷ f) old ≡ tell s f new
+
+abbrev pub FailsSign : {T : Type 0} → Symbol → List Token → Result T Refusal → Type 0
+FailsSign y old result = (f : Fault) → result ≡ Err (refusal.Fault f) → (s : Scope) (more : Pending) → tell s (y ∷ more) old ≡ fault f.kind f.left
+
+-- a part in which the marks stand so with the names put back
+pub record Reads (s s' : Scope) (y : Symbol) (marks : Names → List Mark → List Mark) (old new : List Token) : Type 0 where
+  pub spelled : (n : Names) → Extends s.names n → (ms : List Mark) → tokens ms ≡ new → old ≡ tokens (marks n ms)
+  pub goes_on : (f : Pending) → tell s (y ∷ f) old ≡ tell s' f new
 
 -- where the result is a fault, it is the first one, whatever comes after the symbol
-abbrev pub FailsSign : {T : Type 0} → Symbol → List Token → Result T Refusal → Type 0
-FailsSign y old result = (f : Fault) → result ≡ Err (refusal.Fault f) → (s : Scope) (more : Form) → tell s (y ∷ more) old ≡ fault f.kind f.left
+abbrev pub Fails : {T : Type 0} → Scope → Symbol → List Token → Result T Refusal → Type 0
+Fails s y old result = (f : Fault) → result ≡ Err (refusal.Fault f) → (more : Pending) → tell s (y ∷ more) old ≡ fault f.kind f.left
 
--- the same of an expression, which these names decide
-pub record ReadsExpression (ps vs : List Name) (level : ℕ) (marks : List Mark → List Mark) (old new : List Token) : Type 0 where
-  pub spelled : (ms : List Mark) → tokens ms ≡ new → old ≡ tokens (marks ms)
-  pub goes_on : (starting : List Name) (n : ℕ) (f : Form) → tell (scope_with ps vs starting n) (expression level ∷ f) old ≡ tell (scope_with ps vs starting n) f new
+-- a statement of a block, of which more comes
+pub record ReadsStatement (s s' : Scope) (c : Context) (marks : Names → List Mark → List Mark) (old new : List Token) : Type 0 where
+  pub spelled : (n : Names) → Extends s.names n → (ms : List Mark) → tokens ms ≡ new → old ≡ tokens (marks n ms)
+  pub goes_on : (f : Pending) → tell s (items c ∷ f) old ≡ tell s' (items c ∷ f) new
 
-abbrev pub FailsExpression : {T : Type 0} → (ps vs : List Name) → ℕ → List Token → Result T Refusal → Type 0
-FailsExpression ps vs level old result = (f : Fault) → result ≡ Err (refusal.Fault f) → (starting : List Name) (n : ℕ) (more : Form) →
-    tell (scope_with ps vs starting n) (expression level ∷ more) old ≡ fault f.kind f.left
+-- what follows the first block of an `if`
+pub record ReadsElse (s s' : Scope) (c : Context) (marks : Names → List Mark → List Mark) (old new : List Token) : Type 0 where
+  pub spelled : (n : Names) → Extends s.names n → (ms : List Mark) → tokens ms ≡ new → old ≡ tokens (marks n ms)
+  pub goes_on : (f : Pending) → tell s (items_else c ∷ f) old ≡ tell s' (items c ∷ f) new
 
--- the same of a part with statements, of which there were n before and n' then, and after which more symbols come
-pub record Reaches (ps vs : List Name) (n n' : ℕ) (y : Symbol) (marks : List Mark → List Mark) (old : List Token) (more : Form) (new : List Token) : Type 0 where
-  pub spelled : (ms : List Mark) → tokens ms ≡ new → old ≡ tokens (marks ms)
-  pub goes_on : (starting : List Name) (f : Form) → tell (scope_with ps vs starting n) (y ∷ f) old ≡ tell (scope_with ps vs starting n') (more ++ f) new
+-- what the first token of a statement asks for
+abbrev pub pending_of : Context → Beginning → Pending → Pending
+pending_of c no_statement f = f
+pending_of c (action g) f = symbols_of c g (items c ∷ f)
+pending_of c branches f = expression c ∷ block c ∷ items_else c ∷ f
+pending_of c loops f = expression c ∷ block c ∷ items c ∷ f
+pending_of c goes_on f = f
 
-abbrev pub Reads : (ps vs : List Name) → (n n' : ℕ) → Symbol → (List Mark → List Mark) → (old new : List Token) → Type 0
-Reads ps vs n n' y marks old new = Reaches ps vs n n' y marks old [] new
+abbrev pub IsStatement : Beginning → Type 0
+IsStatement no_statement = ⊥
+IsStatement goes_on = ⊥
+IsStatement b = Unit {0}
 
-abbrev pub Fails : {T : Type 0} → (ps vs : List Name) → (n : ℕ) → Symbol → List Token → Result T Refusal → Type 0
-Fails ps vs n y old result = (f : Fault) → result ≡ Err (refusal.Fault f) → (starting : List Name) (more : Form) →
-    tell (scope_with ps vs starting n) (y ∷ more) old ≡ fault f.kind f.left
+abbrev pub IsPlain : Beginning → Type 0
+IsPlain branches = ⊥
+IsPlain loops = ⊥
+IsPlain b = Unit {0}
 
--- a statement's first token is read, and counts
-pub record Begun (n n' : ℕ) (old new : List Token) : Type 0 where
-  pub room : n < 4096
-  pub counted : n' ≡ n + 1
-  pub read : new ≡ drop 1 old
+-- a block doesn't end here
+abbrev pub IsInside : Option Token → Type 0
+IsInside (Some token.CloseBrace) = ⊥
+IsInside t = Unit {0}
 
--- no more statement may begin
-pub record NotBegun (n : ℕ) (old : List Token) (f : Fault) : Type 0 where
-  pub full : 4096 ≤ n
-  pub kind : f.kind ≡ TooMany
-  pub left : f.left ≡ length old
+-- the keyword of a statement is read, and the statement counts
+pub record Begins (s s' : Scope) (c : Context) (k : Keyword) (old new : List Token) : Type 0 where
+  pub spelled : old ≡ token.Keyword k ∷ new
+  pub goes_on : (f : Pending) → tell s (items c ∷ f) old ≡ tell s' (pending_of c (beginning k) f) new
 
--- the variable that a statement assigns to is read
-pub record IsTarget (ps vs : List Name) (x : Name) (i n n' : ℕ) (old new : List Token) : Type 0 where
-  pub place : place_of vs x ≡ Some i
-  pub read : new ≡ drop 1 old
-  pub goes_on : (level : ℕ) (starting : List Name) (f : Form) →
-      tell (scope_with ps vs starting n) (statement level ∷ f) old ≡ tell (scope_with ps vs starting n') (equals ∷ (expression level ∷ (semicolon ∷ f))) new
+-- the variable that a statement assigns to is read, and the statement counts
+pub record IsTarget (s s' : Scope) (c : Context) (i : ℕ) (old new : List Token) : Type 0 where
+  pub spelled : (n : Names) → Extends s.names n → old ≡ token.Name (name_in n a_variable i) ∷ new
+  pub goes_on : (f : Pending) → tell s (items c ∷ f) old ≡ tell s' (equals ∷ expression c ∷ semicolon ∷ items c ∷ f) new
 
-abbrev pub FailsTarget : {T : Type 0} → (ps vs : List Name) → (n : ℕ) → List Token → Result T Refusal → Type 0
-FailsTarget ps vs n old result = (f : Fault) → result ≡ Err (refusal.Fault f) → (level : ℕ) (starting : List Name) (more : Form) →
-    tell (scope_with ps vs starting n) (statement level ∷ more) old ≡ fault f.kind f.left
+-- all that statements don't change
+pub record Fixed : Type 0 where
+  pub events : List Name
+  pub semaphores : List Name
+  pub processes : List Name
+  pub variables : List Name
+  pub first_timer : ℕ
+  pub etimers : List Name
+  pub ctimers : List Name
+  pub threads : List Name
+  pub starting : List Name
 
--- The head of a program, before its statements.
-
--- the process line, which declares one process
-pub record ReadsProcess (ps : List Name) (old new : List Token) : Type 0 where
-  pub name : Name
-  pub declared : ps ≡ name ∷ []
-  pub spelled : (ms : List Mark) → tokens ms ≡ new → old ≡ tokens (plain token.Process ∷ (new_process name ∷ (plain token.Semicolon ∷ ms)))
-  pub goes_on : (f : Form) → tell nothing_yet (whole_program ∷ f) old ≡ tell (scope_with ps [] [] 0) (autostart_or_code name ∷ f) new
-
-abbrev pub FailsProcess : {T : Type 0} → List Token → Result T Refusal → Type 0
-FailsProcess old result = (f : Fault) → result ≡ Err (refusal.Fault f) → (more : Form) → tell nothing_yet (whole_program ∷ more) old ≡ fault f.kind f.left
-
--- one name of `autostart`
-pub record Lists (ps starting starting' : List Name) (numbers numbers' : List ℕ) (old new : List Token) : Type 0 where
-  pub name : Name
-  pub known : number_in ps name < length ps
-  pub added : starting' ≡ starting ++ name ∷ []
-  pub numbered : numbers' ≡ numbers ++ number_in ps name ∷ []
-  pub spelled : old ≡ token.Name name ∷ new
-  pub goes_on : (f : Form) → tell (scope_with ps [] starting 0) (listed_name ∷ f) old ≡ tell (scope_with ps [] starting' 0) f new
-
--- some of the further names, and then the rest of them
-pub record ListsSome (ps starting starting' : List Name) (numbers numbers' : List ℕ) (old rest : List Token) : Type 0 where
-  pub names : List Name
-  pub known : All (λ i. i < length ps) (map (number_in ps) names)
-  pub added : starting' ≡ starting ++ names
-  pub numbered : numbers' ≡ numbers ++ map (number_in ps) names
-  pub spelled : (tail : List Name) (ms : List Mark) → tokens (more_listed_marks tail ms) ≡ rest → old ≡ tokens (more_listed_marks (names ++ tail) ms)
-  pub goes_on : (f : Form) → tell (scope_with ps [] starting 0) (more_listed ∷ f) old ≡ tell (scope_with ps [] starting' 0) (more_listed ∷ f) rest
-
--- all further names and the semicolon
-pub record ListsMore (ps starting starting' : List Name) (numbers numbers' : List ℕ) (old new : List Token) : Type 0 where
-  pub names : List Name
-  pub known : All (λ i. i < length ps) (map (number_in ps) names)
-  pub added : starting' ≡ starting ++ names
-  pub numbered : numbers' ≡ numbers ++ map (number_in ps) names
-  pub spelled : (ms : List Mark) → tokens ms ≡ new → old ≡ tokens (more_listed_marks names ms)
-  pub goes_on : (f : Form) → tell (scope_with ps [] starting 0) (more_listed ∷ f) old ≡ tell (scope_with ps [] starting' 0) f new
-
-abbrev pub FailsList : {T : Type 0} → (ps starting : List Name) → Symbol → List Token → Result T Refusal → Type 0
-FailsList ps starting y old result = (f : Fault) → result ≡ Err (refusal.Fault f) → (more : Form) →
-    tell (scope_with ps [] starting 0) (y ∷ more) old ≡ fault f.kind f.left
-
--- `autostart`, if it is there, and the keyword `code`
-pub record ReadsAutostart (ps : List Name) (numbers : List ℕ) (old new : List Token) : Type 0 where
-  pub names : List Name
-  pub known : All (λ i. i < length ps) numbers
-  pub numbered : numbers ≡ map (number_in ps) names
-  pub spelled : (ms : List Mark) → tokens ms ≡ new → old ≡ tokens (autostart_marks names (plain token.Code ∷ ms))
-  pub goes_on : (x : Name) (f : Form) → tell (scope_with ps [] [] 0) (autostart_or_code x ∷ f) old ≡ tell (scope_with ps [] names 0) (code_rest x f) new
-
-abbrev pub FailsAutostart : {T : Type 0} → (ps : List Name) → List Token → Result T Refusal → Type 0
-FailsAutostart ps old result = (f : Fault) → result ≡ Err (refusal.Fault f) → (x : Name) (more : Form) →
-    tell (scope_with ps [] [] 0) (autostart_or_code x ∷ more) old ≡ fault f.kind f.left
-
--- the name of a variable, which is in scope from then on
-pub record ReadsNew (ps vs vs' : List Name) (old new : List Token) : Type 0 where
-  pub name : Name
-  pub added : vs' ≡ vs ++ name ∷ []
-  pub spelled : old ≡ token.Name name ∷ new
-  pub goes_on : (starting : List Name) (f : Form) → tell (scope_with ps vs starting 0) (variable_name ∷ f) old ≡ tell (scope_with ps vs' starting 0) f new
-
--- a variable with its first value
-pub record Declares (ps vs vs' : List Name) (starts starts' : List ℕ) (old new : List Token) : Type 0 where
-  pub name : Name
-  pub start : ℕ
-  pub named : vs' ≡ vs ++ name ∷ []
-  pub started : starts' ≡ starts ++ start ∷ []
-  pub spelled : (ms : List Mark) → tokens ms ≡ new → old ≡ tokens (variable_marks ((name, start) ∷ []) ms)
-  pub goes_on : (starting : List Name) (f : Form) → tell (scope_with ps vs starting 0) (declarations ∷ f) old ≡ tell (scope_with ps vs' starting 0) (declarations ∷ f) new
-
--- all variables
-pub record DeclaresAll (ps vs : List Name) (starts : List ℕ) (old new : List Token) : Type 0 where
-  pub declared : List Declared
-  pub named : vs ≡ map (λ v. v.0) declared
-  pub started : starts ≡ map (λ v. v.1) declared
-  pub spelled : (ms : List Mark) → tokens ms ≡ new → old ≡ tokens (variable_marks declared ms)
-  pub goes_on : (starting : List Name) (f : Form) → tell (scope_with ps [] starting 0) (declarations ∷ f) old ≡ tell (scope_with ps vs starting 0) (declarations ∷ f) new
-
--- the tokens are those of a program, and this is its tree
-pub record IsTreeOfTokens (text : List Token) (tree : Tree) : Type 0 where
-  pub shape : ProgramShape
-  pub program : IsProgram shape text
-  pub numbered : tree ≡ tree_of_shape shape
+abbrev pub fixed : ScopeRead → Fixed
+fixed s = record {
+  events = s.events;
+  semaphores = s.semaphores;
+  processes = s.processes;
+  variables = s.variables;
+  first_timer = s.first_timer;
+  etimers = s.etimers;
+  ctimers = s.ctimers;
+  threads = s.threads;
+  starting = s.starting;
+}

@@ -17,15 +17,16 @@ pub enum ReadErrorKind {
     NameTwice = 4,
     /// A number above 65,535.
     NumberTooLarge = 5,
-    /// A wait in a block that may not wait. This notation has no such block yet.
+    /// A statement that waits, in `onpoll`, `onexit` or the block of a callback timer.
     WaitInSimpleBlock = 6,
     /// A brace, `!` or `(` that opens the 33rd level.
     TooDeep = 7,
-    /// The 65th variable, or the first token of the 4,097th statement.
+    /// The 65th process, semaphore or timer, the 118th event, the 65th variable or 8th thread of a process, or the first token of
+    /// the 4,097th statement.
     TooMany = 8,
     /// The text ends where `process` should stand.
     NoProcess = 9,
-    /// A name of another class than the place takes, as a process's in the place of a variable.
+    /// A name of another class than the place takes, as a process's in the place of a variable, or the spawning of the very thread that stands there.
     BadTarget = 10,
     /// A growth was refused; the line is 0.
     Memory = 11,

@@ -1,6 +1,6 @@
 //! Laws of the notation, each as the contract of a function that does nothing.
 ghost use Rattle.std.specs.Prelude.{◌≡◌, ℕ, List};
-ghost use Rattle.mote_program.specs.Program.{Tree};
+ghost use Rattle.mote_program.specs.Code.{Tree};
 ghost use Rattle.mote_program.specs.Reading.{IsTreeOf, IsToldOf, HasTreeOrFault};
 ghost use Rattle.mote_program.specs.declared.error.ReadErrorKind.{ReadErrorKind};
 

@@ -3,7 +3,7 @@ ghost use Rattle.std.specs.Prelude.{◌≡◌, ◌<◌, ◌≤◌, ◌++◌, map
 ghost use Rattle.std.specs.List.{prefix_len, starts_with};
 ghost use Rattle.mote_program.specs.Tokens.{token_of};
 ghost use Rattle.mote_program.specs.Words.{is_word_byte};
-ghost use Rattle.mote_program.specs.Text.{IsLexed, is_feed, is_blank, sign_at};
+ghost use Rattle.mote_program.specs.Text.{IsLexed, is_feed, is_blank};
 ghost use Rattle.mote_program.specs.Front.{BeginsWith, BeginsOther, entry_of};
 
 use crate::token::Token;
@@ -63,11 +63,9 @@ fn word_len(rest: &[u8]) -> usize
     ensures len { result ≡ prefix_len is_word_byte rest.now }
     ensures within { result ≤ length rest.now }
 {
-    let mut len = 0;
-    while len < rest.len() && words::is_word_byte(rest[len]) {
-        len += 1;
-    }
-    len
+    rest.iter()
+        .position(|byte| !words::is_word_byte(*byte))
+        .unwrap_or(rest.len())
 }
 
 /// How far it is to the end of the line.
@@ -75,30 +73,16 @@ fn line_len(rest: &[u8]) -> usize
     ensures len { result ≡ prefix_len (λ b. not (is_feed b)) rest.now }
     ensures within { result ≤ length rest.now }
 {
-    let mut len = 0;
-    while len < rest.len() && rest[len] != b'\n' {
-        len += 1;
-    }
-    len
+    rest.iter()
+        .position(|byte| *byte == b'\n')
+        .unwrap_or(rest.len())
 }
 
 /// The first of the signs that a text begins with.
-fn first_sign<'a>(mut signs: &[Entry<'a>], rest: &[u8]) -> Option<Entry<'a>>
-    ensures { option_map entry_of result ≡ find (λ s. starts_with nat_eq rest.now s.0) (map entry_of signs.entry.now) }
+fn first_sign<'a>(signs: &[Entry<'a>], rest: &[u8]) -> Option<Entry<'a>>
+    ensures { option_map entry_of result ≡ find (λ s. starts_with nat_eq rest.now s.0) (map entry_of signs.now) }
 {
-    while let [sign, others @ ..] = signs {
-        if rest.starts_with(sign.0) {
-            return Some(*sign);
-        }
-        signs = others;
-    }
-    None
-}
-
-fn sign_at<'a>(rest: &[u8]) -> Option<Entry<'a>>
-    ensures { option_map entry_of result ≡ sign_at rest.now }
-{
-    first_sign(&SIGNS, rest)
+    signs.iter().find(|sign| rest.starts_with(sign.0)).copied()
 }
 
 /// The sign or the bad byte that a text begins with.
@@ -108,7 +92,7 @@ fn sign_or_bad<'a>(rest: &[u8]) -> Front<'a>
     ensures moves { 0 < result.len }
     ensures within { result.len ≤ length rest.now }
 {
-    match sign_at(rest) {
+    match first_sign(&SIGNS, rest) {
         Some((sign, token)) => Front {
             token: Some(token),
             len: sign.len(),

@@ -1,7 +1,6 @@
 //! Names in the order of their declaration.
 ghost use Rattle.std.specs.Prelude.{◌≡◌, ◌==◌, ◌<◌, ◌≤◌, ◌++◌, [], ◌∷◌, List, length, None, OnOk, OnErr, IfSome, slice_index_or, map, string_bytes};
 ghost use Rattle.mote_program.specs.Names.{place_of};
-ghost use Rattle.mote_program.specs.Steps.{IsClass};
 
 use indexmap::IndexSet;
 use std::alloc::{AllocError, Global};
@@ -68,31 +67,5 @@ impl Names {
         let name = String::from_str(alloc, name)?;
         self.set.insert(name)?;
         Ok(())
-    }
-}
-
-/// What a name in the text stands for.
-#[derive(Clone, Copy, Debug)]
-pub(crate) enum Class {
-    Unknown,
-    Process,
-    /// A variable with its number.
-    Variable(u8),
-}
-
-/// How many variables a process may have.
-pub(crate) const VARIABLES: usize = 64;
-
-/// What a name stands for in a body, where these are in scope.
-pub(crate) fn class_of(processes: &Names, variables: &Names, name: &str) -> Class
-    requires { length variables.now ≤ VARIABLES }
-    ensures { IsClass processes.now variables.now name.now result }
-{
-    if processes.place_of(name).is_some() {
-        return Class::Process;
-    }
-    match variables.place_of(name) {
-        Some(place) => Class::Variable(place as u8),
-        None => Class::Unknown,
     }
 }

@@ -1,87 +1,140 @@
-//! From a text to its program.
-ghost use Rattle.std.specs.Prelude.{◌≡◌, [], ◌∷◌, length, map, IfOk, OnOk};
-ghost use Rattle.mote_program.specs.Machine.{tell, whole_program, fault};
-ghost use Rattle.mote_program.specs.Faults.{nothing_yet, Scope};
-ghost use Rattle.mote_program.specs.Program.{Tree, tree_of};
-ghost use Rattle.mote_program.specs.Reading.{IsTreeOf, IsToldOf};
-ghost use Rattle.mote_program.specs.Steps.{IsTreeOfTokens};
-ghost use Rattle.mote_program.specs.Tokens.{token_of};
-ghost use Rattle.mote_program.specs.declared.fault.Fault.{Fault};
+//! The reader of a program: the tokens that are left, and what is in scope before them.
+ghost use Rattle.std.specs.Prelude.{◌≡◌, ◌∷◌, ◌≤◌, ◌<◌, length, IfOk};
+ghost use Rattle.mote_program.specs.EventNames.{cast_of, sent_of, any_of, cast_map, sent_map, any_map};
+ghost use Rattle.mote_program.specs.Forms.{name, cast, sent, any};
+ghost use Rattle.mote_program.specs.Grammar.{operand_mark};
+ghost use Rattle.mote_program.specs.InScope.{name_in, number_in};
+ghost use Rattle.mote_program.specs.Machine.{operand};
+ghost use Rattle.mote_program.specs.Scope.{cast_fits, sent_fits, any_fits};
+ghost use Rattle.mote_program.specs.Steps.{scope_of, context_of, class_of, most_of, Reads, Fails, Numbered, Fits};
+ghost use Rattle.mote_program.specs.Tree.{an_event};
 
 use crate::cursor::Cursor;
-use crate::error::{ReadError, ReadErrorKind};
+use crate::error::ReadErrorKind;
+use crate::event_name::{AnyEvent, CastEvent, DeclaredEvent, SentEvent};
 use crate::fault::Refusal;
-use crate::lexer::lex;
-use crate::names::Names;
-use crate::program::{ProcessText, Program};
-use crate::statements::Reader;
+use crate::keyword::Keyword;
+use crate::scope::{Class, Context, Found, Scope};
 use crate::token::Token;
 use std::alloc::Global;
 
-impl Cursor<'_> {
-    /// The end of the text.
-    fn end(&self) -> Result<(), Refusal>
-        ensures ok { OnOk result (self.now ≡ []) }
-        ensures err { (f : Fault) → result ≡ Err (Refusal.Fault f) → (s : Scope) → tell s [] self.now ≡ fault f.kind f.left }
+/// The tokens that are left, and what is in scope before them.
+#[derive(Drop)]
+pub(crate) struct Reader<'a> {
+    pub alloc: Global,
+    pub cursor: Cursor<'a>,
+    pub scope: Scope,
+}
+
+impl Reader<'_> {
+    /// A name that stands for something of this class, by its number.
+    #[tactic(auto, using(crate::proofs::NameSteps::name_steps))]
+    pub(crate) fn name(&mut self, place: &Context, class: Class) -> Result<u8, Refusal>
+        ensures no_longer { length self.new.cursor ≤ length self.old.cursor }
+        ensures same { self.new.scope ≡ self.old.scope }
+        ensures ok { IfOk result (λ i. Reads (scope_of self.old.scope) (scope_of self.old.scope) (operand (context_of place.now) (name (class_of class)))
+            (λ n ms. operand_mark (context_of place.now) (name (class_of class)) (name_in n (class_of class) i) ∷ ms) self.old.cursor self.new.cursor) }
+        ensures few { IfOk result (λ i. i < most_of (class_of class)) }
+        ensures numbered { IfOk result (λ i. Numbered (scope_of self.old.scope).names (λ n. number_in n (class_of class) (name_in n (class_of class) i)) i) }
+        ensures fits { IfOk result (λ i. Fits (scope_of self.old.scope).names (context_of place.now).thread (λ w. w (class_of class) i)) }
+        ensures err { Fails (scope_of self.old.scope) (operand (context_of place.now) (name (class_of class))) self.old.cursor result }
     {
-        if self.left() == 0 {
-            return Ok(());
+        match self.cursor.peek() {
+            Some(Token::Name(name)) => match self.scope.find(place, class, name) {
+                Found::Here(number) => {
+                    self.cursor.advance();
+                    Ok(number)
+                }
+                Found::Other => Err(self.cursor.fault(ReadErrorKind::BadTarget)),
+                Found::Unknown => Err(self.cursor.fault(ReadErrorKind::UnknownName)),
+            },
+            _ => Err(self.cursor.unfit()),
         }
-        Err(self.unfit())
     }
-}
 
-/// The program that the tokens are, or their first fault.
-pub(crate) fn program<'a>(alloc: Global, tokens: &'a [Token<'a>]) -> Result<Program, Refusal>
-    ensures ok { IfOk result (λ p. IsTreeOfTokens (map token_of tokens.now) (tree_of p)) }
-    ensures err { (f : Fault) → result ≡ Err (Refusal.Fault f) →
-        tell nothing_yet (whole_program ∷ []) (map token_of tokens.now) ≡ fault f.kind f.left }
-{
-    let mut cursor = Cursor::new(tokens);
-    let mut processes = Names::new(alloc);
-    cursor.process_line(alloc, &mut processes)?;
-    let autostart = cursor.autostart(alloc, &processes)?;
-    cursor.this_name(processes.get(0))?;
-    cursor.open_brace()?;
-    let (variables, starts) = cursor.variables(alloc, &processes)?;
-    let mut reader = Reader {
-        alloc,
-        cursor,
-        statements: 0,
-    };
-    let body = reader.body(&processes, &variables)?;
-    reader.cursor.end()?;
-    let mut codes = Vec::new(alloc);
-    codes.push(ProcessText::new(variables, starts, body))?;
-    Ok(Program::new(processes, autostart, codes))
-}
+    /// An event that may be broadcast.
+    #[tactic(auto, using(crate::proofs::EventSteps::cast_name, crate::proofs::EventSteps::key_reads))]
+    pub(crate) fn cast(&mut self, place: &Context) -> Result<CastEvent, Refusal>
+        ensures no_longer { length self.new.cursor ≤ length self.old.cursor }
+        ensures same { self.new.scope ≡ self.old.scope }
+        ensures ok { IfOk result (λ e. Reads (scope_of self.old.scope) (scope_of self.old.scope) (operand (context_of place.now) cast)
+            (λ n ms. operand_mark (context_of place.now) cast (cast_map (name_in n an_event) (cast_of e)) ∷ ms) self.old.cursor self.new.cursor) }
+        ensures numbered { IfOk result (λ e. Numbered (scope_of self.old.scope).names (λ n. cast_map (number_in n an_event) (cast_map (name_in n an_event) (cast_of e))) (cast_of e)) }
+        ensures fits { IfOk result (λ e. Fits (scope_of self.old.scope).names (context_of place.now).thread (λ w. cast_fits w (cast_of e))) }
+        ensures err { Fails (scope_of self.old.scope) (operand (context_of place.now) cast) self.old.cursor result }
+    {
+        match self.cursor.peek() {
+            Some(Token::Name(_)) => {
+                let place = self.name(place, Class::Event)?;
+                Ok(CastEvent::Declared(DeclaredEvent { place }))
+            }
+            Some(Token::Keyword(Keyword::Continue)) => {
+                self.cursor.advance();
+                Ok(CastEvent::Continue)
+            }
+            Some(Token::Keyword(Keyword::Msg)) => {
+                self.cursor.advance();
+                Ok(CastEvent::Msg)
+            }
+            Some(Token::Keyword(Keyword::Com)) => {
+                self.cursor.advance();
+                Ok(CastEvent::Com)
+            }
+            Some(Token::Keyword(Keyword::Packet)) => {
+                self.cursor.advance();
+                Ok(CastEvent::Packet)
+            }
+            _ => Err(self.cursor.unfit()),
+        }
+    }
 
-/// The program of a text, or its told fault: the one at the earliest token, and of several there the one of the
-/// least number. The time is linear in the length of the text.
-///
-/// A program has one process with at most 64 variables, at most 4,096 statements, counted by their first tokens over
-/// all blocks, and at most 32 levels of blocks and expressions in one another, of which the body is the first.
-///
-/// # Errors
-///
-/// The told fault, with the line of its token; want of memory, with line 0.
-pub fn read(alloc: Global, text: &str) -> Result<Program, ReadError>
-    ensures ok { IfOk result (λ p. IsTreeOf text.now (tree_of p)) }
-    ensures told { (e : ReadError) → result ≡ Err e → (e.kind ≡ ReadErrorKind.Memory → ⊥) → IsToldOf text.now e.kind e.line }
-    ensures memory { (e : ReadError) → result ≡ Err e → e.kind ≡ ReadErrorKind.Memory → e.line ≡ 0 }
-    ensures only { (t : Tree) → IsTreeOf text.now t → IfOk result (λ p. tree_of p ≡ t) }
-    ensures accepts { (t : Tree) → IsTreeOf text.now t → (e : ReadError) → result ≡ Err e → e.kind ≡ ReadErrorKind.Memory }
-{
-    let lexed = lex(alloc, text)?;
-    match program(alloc, &lexed.tokens) {
-        Ok(program) => Ok(program),
-        Err(Refusal::Memory) => Err(ReadError {
-            kind: ReadErrorKind::Memory,
-            line: 0,
-        }),
-        Err(Refusal::Fault(fault)) => Err(ReadError {
-            kind: fault.kind,
-            line: lexed.lines[lexed.tokens.len() - fault.left],
-        }),
+    /// An event that may be posted to one process.
+    pub(crate) fn sent(&mut self, place: &Context) -> Result<SentEvent, Refusal>
+        ensures no_longer { length self.new.cursor ≤ length self.old.cursor }
+        ensures same { self.new.scope ≡ self.old.scope }
+        ensures ok { IfOk result (λ e. Reads (scope_of self.old.scope) (scope_of self.old.scope) (operand (context_of place.now) sent)
+            (λ n ms. operand_mark (context_of place.now) sent (sent_map (name_in n an_event) (sent_of e)) ∷ ms) self.old.cursor self.new.cursor) }
+        ensures numbered { IfOk result (λ e. Numbered (scope_of self.old.scope).names (λ n. sent_map (number_in n an_event) (sent_map (name_in n an_event) (sent_of e))) (sent_of e)) }
+        ensures fits { IfOk result (λ e. Fits (scope_of self.old.scope).names (context_of place.now).thread (λ w. sent_fits w (sent_of e))) }
+        ensures err { Fails (scope_of self.old.scope) (operand (context_of place.now) sent) self.old.cursor result }
+    {
+        match self.cursor.peek() {
+            Some(Token::Keyword(Keyword::Exit)) => {
+                self.cursor.advance();
+                Ok(SentEvent::Exit)
+            }
+            _ => Ok(SentEvent::Cast(self.cast(place)?)),
+        }
+    }
+
+    /// An event that may come.
+    pub(crate) fn any(&mut self, place: &Context) -> Result<AnyEvent, Refusal>
+        ensures no_longer { length self.new.cursor ≤ length self.old.cursor }
+        ensures same { self.new.scope ≡ self.old.scope }
+        ensures ok { IfOk result (λ e. Reads (scope_of self.old.scope) (scope_of self.old.scope) (operand (context_of place.now) any)
+            (λ n ms. operand_mark (context_of place.now) any (any_map (name_in n an_event) (any_of e)) ∷ ms) self.old.cursor self.new.cursor) }
+        ensures numbered { IfOk result (λ e. Numbered (scope_of self.old.scope).names (λ n. any_map (number_in n an_event) (any_map (name_in n an_event) (any_of e))) (any_of e)) }
+        ensures fits { IfOk result (λ e. Fits (scope_of self.old.scope).names (context_of place.now).thread (λ w. any_fits w (any_of e))) }
+        ensures err { Fails (scope_of self.old.scope) (operand (context_of place.now) any) self.old.cursor result }
+    {
+        match self.cursor.peek() {
+            Some(Token::Keyword(Keyword::Init)) => {
+                self.cursor.advance();
+                Ok(AnyEvent::Init)
+            }
+            Some(Token::Keyword(Keyword::Poll)) => {
+                self.cursor.advance();
+                Ok(AnyEvent::Poll)
+            }
+            Some(Token::Keyword(Keyword::Exited)) => {
+                self.cursor.advance();
+                Ok(AnyEvent::Exited)
+            }
+            Some(Token::Keyword(Keyword::Timer)) => {
+                self.cursor.advance();
+                Ok(AnyEvent::Timer)
+            }
+            _ => Ok(AnyEvent::Sent(self.sent(place)?)),
+        }
     }
 }

@@ -1,232 +1,459 @@
 //! Statements and blocks as they are read.
-ghost use Rattle.std.specs.Prelude.{◌≡◌, ◌≢◌, [], ◌+◌, ◌≤◌, ◌<◌, length, IfOk, OnOk};
+ghost use Rattle.std.specs.Prelude.{◌≡◌, ◌∷◌, [], ◌+◌, ◌≤◌, ◌<◌, length, IfOk, OnOk, Some};
 ghost use Rattle.std.proofs.Common.{option_map};
-ghost use Rattle.mote_program.specs.Grammar.{expression_marks, statement_marks, block_marks, else_marks, content_marks};
-ghost use Rattle.mote_program.specs.Machine.{first, statement, block, otherwise, declarations};
-ghost use Rattle.mote_program.specs.Named.{expression_shape, IsResolved, statement_shape, block_shape, else_shape, StatementResolved, BodyResolved, ElseResolved};
-ghost use Rattle.mote_program.specs.Steps.{Reads, Fails, ReadsExpression, FailsExpression, IsTarget, FailsTarget, Begun, NotBegun};
+ghost use Rattle.mote_program.specs.Forms as form;
+ghost use Rattle.mote_program.specs.Forms.{beginning, waits, action, ends, takes, values};
+ghost use Rattle.mote_program.specs.Grammar.{begins_with, sign, named, used, operand_mark, into_marks, expression_marks, action_marks, statement_marks, else_marks, block_marks};
+ghost use Rattle.mote_program.specs.InScope.{name_in, number_in};
+ghost use Rattle.mote_program.specs.Machine.{first, into_end, items, items_else, block};
+ghost use Rattle.mote_program.specs.Scope.{expression_fits, into_fits, action_fits, statement_fits, other_fits, block_fits};
+ghost use Rattle.mote_program.specs.Steps.{scope_of, context_of, class_of, fixed, IsStatement, IsPlain, IsInside, Begins, IsTarget, Reads, ReadsStatement, ReadsElse, Fails, Numbered, Fits};
 ghost use Rattle.mote_program.specs.Tokens as token;
-ghost use Rattle.mote_program.specs.Tree.{expression_of, statement_of, block_of, otherwise_of, height, inner_height, other_height};
-ghost use Rattle.mote_program.specs.declared.fault.Fault.{Fault};
+ghost use Rattle.mote_program.specs.Tree.{a_variable, expression_of, expression_map, action_of, action_map, statement_of, statement_map, block_of, body_map, otherwise_of, otherwise_map, height, inner_height, other_height, size, inner_size, other_size};
 
-use crate::cursor::Cursor;
+use crate::cursor::Sign;
 use crate::error::ReadErrorKind;
-use crate::expressions::LEVELS;
 use crate::fault::Refusal;
-use crate::names::{Class, Names, VARIABLES, class_of};
+use crate::keyword::Keyword;
+use crate::reader::Reader;
+use crate::scope::{Class, Context, Found, LEVELS};
 use crate::token::Token;
-use crate::tree::{Block, Expr, Stmt};
-use std::alloc::Global;
+use crate::tree::{Action, Block, Expr, Stmt};
 
 /// How many statements a program may have.
-const STATEMENTS: usize = 4096;
+const STATEMENTS: usize = 4_096;
 
-/// The rest of the text, and how many statements have begun before it.
-#[derive(Drop)]
-pub(crate) struct Reader<'a> {
-    pub alloc: Global,
-    pub cursor: Cursor<'a>,
-    pub statements: usize,
+/// Whether a statement can't stand in a simple block.
+fn is_wait(keyword: Keyword) -> bool
+    ensures { result ≡ waits keyword }
+{
+    matches!(
+        keyword,
+        Keyword::WaitUntil
+            | Keyword::WaitWhile
+            | Keyword::Yield
+            | Keyword::YieldUntil
+            | Keyword::Spawn
+            | Keyword::Restart
+            | Keyword::Exit
+            | Keyword::Pause
+            | Keyword::Acquire
+    )
 }
 
 impl Reader<'_> {
     /// Reads the keyword that a statement begins with. The statement counts.
-    fn begin(&mut self) -> Result<(), Refusal>
-        ensures ok { OnOk result (Begun self.old.statements self.new.statements self.old.cursor self.new.cursor) }
-        ensures err { (f : Fault) → result ≡ Err (Refusal.Fault f) → NotBegun self.old.statements self.old.cursor f }
+    #[tactic(auto, using(crate::proofs::StatementSteps::begin_steps))]
+    fn begin(&mut self, place: &Context, keyword: Keyword) -> Result<(), Refusal>
+        requires here { first self.old.cursor ≡ Some (token.Keyword keyword) }
+        requires statement { IsStatement (beginning keyword) }
+        ensures names { fixed self.new.scope ≡ fixed self.old.scope }
+        ensures shorter { OnOk result (length self.new.cursor < length self.old.cursor) }
+        ensures counts { OnOk result (self.old.scope.statements < self.new.scope.statements) }
+        ensures ok { OnOk result (Begins (scope_of self.old.scope) (scope_of self.new.scope) (context_of place.now) keyword self.old.cursor self.new.cursor) }
+        ensures err { Fails (scope_of self.old.scope) (items (context_of place.now)) self.old.cursor result }
     {
-        if self.statements >= STATEMENTS {
+        if place.simple && is_wait(keyword) {
+            return Err(self.cursor.fault(ReadErrorKind::WaitInSimpleBlock));
+        }
+        if self.scope.statements >= STATEMENTS {
             return Err(self.cursor.fault(ReadErrorKind::TooMany));
         }
-        self.statements += 1;
+        self.scope.statements += 1;
         self.cursor.advance();
         Ok(())
     }
 
-    /// Reads the variable that an assignment begins with.
+    /// Reads the variable that an assignment begins with. The statement counts.
     #[tactic(auto, using(crate::proofs::StatementSteps::target_steps))]
-    fn target(&mut self, processes: &Names, variables: &Names, name: &str) -> Result<u8, Refusal>
-        requires few { length variables.now ≤ VARIABLES }
-        requires here { first self.old.cursor ≡ token.Name name.now }
-        ensures ok { IfOk result (λ i. IsTarget processes.now variables.now name.now i
-            self.old.statements self.new.statements self.old.cursor self.new.cursor) }
-        ensures err { FailsTarget processes.now variables.now self.old.statements self.old.cursor result }
+    fn target(&mut self, place: &Context, name: &str) -> Result<u8, Refusal>
+        requires here { first self.old.cursor ≡ Some (token.Name name.now) }
+        ensures names { fixed self.new.scope ≡ fixed self.old.scope }
+        ensures shorter { OnOk result (length self.new.cursor < length self.old.cursor) }
+        ensures counts { OnOk result (self.old.scope.statements < self.new.scope.statements) }
+        ensures ok { IfOk result (λ i. IsTarget (scope_of self.old.scope) (scope_of self.new.scope) (context_of place.now) i self.old.cursor self.new.cursor) }
+        ensures numbered { IfOk result (λ i. Numbered (scope_of self.old.scope).names (λ n. number_in n a_variable (name_in n a_variable i)) i) }
+        ensures fits { IfOk result (λ i. Fits (scope_of self.old.scope).names (context_of place.now).thread (λ w. w a_variable i)) }
+        ensures err { Fails (scope_of self.old.scope) (items (context_of place.now)) self.old.cursor result }
     {
-        match class_of(processes, variables, name) {
-            Class::Unknown => Err(self.cursor.fault(ReadErrorKind::UnknownName)),
-            Class::Process if self.statements >= STATEMENTS => {
+        match self.scope.find(place, Class::Variable, name) {
+            Found::Unknown => Err(self.cursor.fault(ReadErrorKind::UnknownName)),
+            _ if self.scope.statements >= STATEMENTS => {
                 Err(self.cursor.fault(ReadErrorKind::TooMany))
             }
-            Class::Process => Err(self.cursor.fault(ReadErrorKind::BadTarget)),
-            Class::Variable(place) => {
-                self.begin()?;
-                Ok(place)
+            Found::Other => Err(self.cursor.fault(ReadErrorKind::BadTarget)),
+            Found::Here(number) => {
+                self.scope.statements += 1;
+                self.cursor.advance();
+                Ok(number)
             }
         }
     }
 
-    fn expression(
-        &mut self,
-        processes: &Names,
-        variables: &Names,
-        level: usize,
-    ) -> Result<Expr, Refusal>
-        requires few { length variables.now ≤ VARIABLES }
-        requires shallow { level ≤ LEVELS }
+    /// `;`, or `into`, a variable that is told the answer and `;`.
+    #[tactic(auto, using(crate::proofs::StatementSteps::into_start))]
+    fn into_end(&mut self, place: &Context) -> Result<Option<u8>, Refusal>
         ensures no_longer { length self.new.cursor ≤ length self.old.cursor }
-        ensures same { self.new.statements ≡ self.old.statements }
-        ensures ok { IfOk result (λ e. ReadsExpression processes.now variables.now level
-            (expression_marks level (expression_shape variables.now (expression_of e))) self.old.cursor self.new.cursor) }
-        ensures resolved { IfOk result (λ e. IsResolved variables.now (expression_of e)) }
-        ensures err { FailsExpression processes.now variables.now level self.old.cursor result }
-    {
-        self.cursor
-            .expression(self.alloc, processes, variables, level)
-    }
-
-    /// A statement that stands below so many levels.
-    #[cycle(statement)]
-    #[tactic(auto, using(crate::proofs::StatementSteps::statement_steps))]
-    fn statement(
-        &mut self,
-        processes: &Names,
-        variables: &Names,
-        level: usize,
-    ) -> Result<Stmt, Refusal>
-        requires few { length variables.now ≤ VARIABLES }
-        requires shallow { level ≤ LEVELS }
-        ensures shorter { OnOk result (length self.new.cursor < length self.old.cursor) }
-        ensures ok { IfOk result (λ s. Reads processes.now variables.now self.old.statements self.new.statements (statement level)
-            (statement_marks level (statement_shape variables.now (statement_of s))) self.old.cursor self.new.cursor) }
-        ensures resolved { IfOk result (λ s. StatementResolved variables.now (statement_of s)) }
-        ensures shallow { IfOk result (λ s. level + inner_height (statement_of s) ≤ LEVELS) }
-        ensures err { Fails processes.now variables.now self.old.statements (statement level) self.old.cursor result }
+        ensures same { self.new.scope ≡ self.old.scope }
+        ensures ok { IfOk result (λ i. Reads (scope_of self.old.scope) (scope_of self.old.scope) (into_end (context_of place.now))
+            (λ n ms. into_marks (option_map (name_in n a_variable) i) ms) self.old.cursor self.new.cursor) }
+        ensures numbered { IfOk result (λ i. Numbered (scope_of self.old.scope).names (λ n. option_map (number_in n a_variable) (option_map (name_in n a_variable) i)) i) }
+        ensures fits { IfOk result (λ i. Fits (scope_of self.old.scope).names (context_of place.now).thread (λ w. into_fits w i)) }
+        ensures err { Fails (scope_of self.old.scope) (into_end (context_of place.now)) self.old.cursor result }
     {
         match self.cursor.peek() {
-            Token::Name(name) => {
-                let place = self.target(processes, variables, name)?;
-                self.cursor.equals()?;
-                let value = self.expression(processes, variables, level)?;
-                self.cursor.semicolon()?;
-                Ok(Stmt::Assign(place, value))
+            Some(Token::Semicolon) => {
+                self.cursor.advance();
+                Ok(None)
             }
-            Token::Print => {
-                self.begin()?;
-                let value = self.expression(processes, variables, level)?;
-                self.cursor.semicolon()?;
-                Ok(Stmt::Print(value))
-            }
-            Token::If => {
-                self.begin()?;
-                let test = self.expression(processes, variables, level)?;
-                let then = self.block(processes, variables, level)?;
-                let otherwise = self.otherwise(processes, variables, level)?;
-                Ok(Stmt::If(test, then, otherwise))
-            }
-            Token::While => {
-                self.begin()?;
-                let test = self.expression(processes, variables, level)?;
-                let block = self.block(processes, variables, level)?;
-                Ok(Stmt::While(test, block))
-            }
-            Token::Yield => {
-                self.begin()?;
-                self.cursor.semicolon()?;
-                Ok(Stmt::Yield)
-            }
-            Token::YieldUntil => {
-                self.begin()?;
-                let test = self.expression(processes, variables, level)?;
-                self.cursor.semicolon()?;
-                Ok(Stmt::YieldUntil(test))
+            Some(Token::Keyword(Keyword::Into)) => {
+                self.cursor.advance();
+                let variable = self.name(place, Class::Variable)?;
+                self.cursor.sign(Sign::Semicolon)?;
+                Ok(Some(variable))
             }
             _ => Err(self.cursor.unfit()),
         }
     }
 
+    /// A statement that is its keyword alone.
+    fn bare(&mut self, place: &Context, keyword: Keyword) -> Result<(), Refusal>
+        requires here { first self.old.cursor ≡ Some (token.Keyword keyword) }
+        requires form { beginning keyword ≡ action ends }
+        ensures names { fixed self.new.scope ≡ fixed self.old.scope }
+        ensures shorter { OnOk result (length self.new.cursor < length self.old.cursor) }
+        ensures counts { OnOk result (self.old.scope.statements < self.new.scope.statements) }
+        ensures ok { OnOk result (ReadsStatement (scope_of self.old.scope) (scope_of self.new.scope) (context_of place.now)
+            (λ n ms. begins_with (context_of place.now) keyword ∷ sign token.Semicolon ∷ ms) self.old.cursor self.new.cursor) }
+        ensures err { Fails (scope_of self.old.scope) (items (context_of place.now)) self.old.cursor result }
+    {
+        self.begin(place, keyword)?;
+        self.cursor.sign(Sign::Semicolon)?;
+        Ok(())
+    }
+
+    /// A statement that is its keyword and an expression.
+    fn valued(&mut self, place: &Context, keyword: Keyword) -> Result<Expr, Refusal>
+        requires shallow { place.now.level ≤ LEVELS }
+        requires here { first self.old.cursor ≡ Some (token.Keyword keyword) }
+        requires form { beginning keyword ≡ action (values ends) }
+        ensures names { fixed self.new.scope ≡ fixed self.old.scope }
+        ensures shorter { OnOk result (length self.new.cursor < length self.old.cursor) }
+        ensures counts { OnOk result (self.old.scope.statements < self.new.scope.statements) }
+        ensures ok { IfOk result (λ e. ReadsStatement (scope_of self.old.scope) (scope_of self.new.scope) (context_of place.now)
+            (λ n ms. begins_with (context_of place.now) keyword ∷ expression_marks (context_of place.now) (expression_map (name_in n) (expression_of e)) (sign token.Semicolon ∷ ms))
+            self.old.cursor self.new.cursor) }
+        ensures numbered { IfOk result (λ e. Numbered (scope_of self.old.scope).names (λ n. expression_map (number_in n) (expression_map (name_in n) (expression_of e))) (expression_of e)) }
+        ensures fits { IfOk result (λ e. Fits (scope_of self.old.scope).names (context_of place.now).thread (λ w. expression_fits w (expression_of e))) }
+        ensures err { Fails (scope_of self.old.scope) (items (context_of place.now)) self.old.cursor result }
+    {
+        self.begin(place, keyword)?;
+        let value = self.expression(place)?;
+        self.cursor.sign(Sign::Semicolon)?;
+        Ok(value)
+    }
+
+    /// A statement that is its keyword and a name of this class.
+    fn about(&mut self, place: &Context, keyword: Keyword, class: Class) -> Result<u8, Refusal>
+        requires here { first self.old.cursor ≡ Some (token.Keyword keyword) }
+        requires form { beginning keyword ≡ action (takes (form.name (class_of class)) ends) }
+        ensures names { fixed self.new.scope ≡ fixed self.old.scope }
+        ensures shorter { OnOk result (length self.new.cursor < length self.old.cursor) }
+        ensures counts { OnOk result (self.old.scope.statements < self.new.scope.statements) }
+        ensures ok { IfOk result (λ i. ReadsStatement (scope_of self.old.scope) (scope_of self.new.scope) (context_of place.now)
+            (λ n ms. begins_with (context_of place.now) keyword ∷ operand_mark (context_of place.now) (form.name (class_of class)) (name_in n (class_of class) i) ∷ sign token.Semicolon ∷ ms)
+            self.old.cursor self.new.cursor) }
+        ensures numbered { IfOk result (λ i. Numbered (scope_of self.old.scope).names (λ n. number_in n (class_of class) (name_in n (class_of class) i)) i) }
+        ensures fits { IfOk result (λ i. Fits (scope_of self.old.scope).names (context_of place.now).thread (λ w. w (class_of class) i)) }
+        ensures err { Fails (scope_of self.old.scope) (items (context_of place.now)) self.old.cursor result }
+    {
+        self.begin(place, keyword)?;
+        let number = self.name(place, class)?;
+        self.cursor.sign(Sign::Semicolon)?;
+        Ok(number)
+    }
+
+    fn post(&mut self, place: &Context) -> Result<Action, Refusal>
+        requires shallow { place.now.level ≤ LEVELS }
+        requires here { first self.old.cursor ≡ Some (token.Keyword Keyword.Post) }
+        ensures names { fixed self.new.scope ≡ fixed self.old.scope }
+        ensures shorter { OnOk result (length self.new.cursor < length self.old.cursor) }
+        ensures counts { OnOk result (self.old.scope.statements < self.new.scope.statements) }
+        ensures ok { IfOk result (λ a. ReadsStatement (scope_of self.old.scope) (scope_of self.new.scope) (context_of place.now)
+            (λ n ms. action_marks (context_of place.now) (action_map (name_in n) (action_of a)) ms) self.old.cursor self.new.cursor) }
+        ensures numbered { IfOk result (λ a. Numbered (scope_of self.old.scope).names (λ n. action_map (number_in n) (action_map (name_in n) (action_of a))) (action_of a)) }
+        ensures fits { IfOk result (λ a. Fits (scope_of self.old.scope).names (context_of place.now).thread (λ w. action_fits w (action_of a))) }
+        ensures err { Fails (scope_of self.old.scope) (items (context_of place.now)) self.old.cursor result }
+    {
+        self.begin(place, Keyword::Post)?;
+        let process = self.name(place, Class::Process)?;
+        let event = self.sent(place)?;
+        let word = self.expression(place)?;
+        let told = self.into_end(place)?;
+        Ok(Action::Post(process, event, word, told))
+    }
+
+    fn broadcast(&mut self, place: &Context) -> Result<Action, Refusal>
+        requires shallow { place.now.level ≤ LEVELS }
+        requires here { first self.old.cursor ≡ Some (token.Keyword Keyword.Broadcast) }
+        ensures names { fixed self.new.scope ≡ fixed self.old.scope }
+        ensures shorter { OnOk result (length self.new.cursor < length self.old.cursor) }
+        ensures counts { OnOk result (self.old.scope.statements < self.new.scope.statements) }
+        ensures ok { IfOk result (λ a. ReadsStatement (scope_of self.old.scope) (scope_of self.new.scope) (context_of place.now)
+            (λ n ms. action_marks (context_of place.now) (action_map (name_in n) (action_of a)) ms) self.old.cursor self.new.cursor) }
+        ensures numbered { IfOk result (λ a. Numbered (scope_of self.old.scope).names (λ n. action_map (number_in n) (action_map (name_in n) (action_of a))) (action_of a)) }
+        ensures fits { IfOk result (λ a. Fits (scope_of self.old.scope).names (context_of place.now).thread (λ w. action_fits w (action_of a))) }
+        ensures err { Fails (scope_of self.old.scope) (items (context_of place.now)) self.old.cursor result }
+    {
+        self.begin(place, Keyword::Broadcast)?;
+        let event = self.cast(place)?;
+        let word = self.expression(place)?;
+        let told = self.into_end(place)?;
+        Ok(Action::Broadcast(event, word, told))
+    }
+
+    fn synch(&mut self, place: &Context) -> Result<Action, Refusal>
+        requires shallow { place.now.level ≤ LEVELS }
+        requires here { first self.old.cursor ≡ Some (token.Keyword Keyword.Synch) }
+        ensures names { fixed self.new.scope ≡ fixed self.old.scope }
+        ensures shorter { OnOk result (length self.new.cursor < length self.old.cursor) }
+        ensures counts { OnOk result (self.old.scope.statements < self.new.scope.statements) }
+        ensures ok { IfOk result (λ a. ReadsStatement (scope_of self.old.scope) (scope_of self.new.scope) (context_of place.now)
+            (λ n ms. action_marks (context_of place.now) (action_map (name_in n) (action_of a)) ms) self.old.cursor self.new.cursor) }
+        ensures numbered { IfOk result (λ a. Numbered (scope_of self.old.scope).names (λ n. action_map (number_in n) (action_map (name_in n) (action_of a))) (action_of a)) }
+        ensures fits { IfOk result (λ a. Fits (scope_of self.old.scope).names (context_of place.now).thread (λ w. action_fits w (action_of a))) }
+        ensures err { Fails (scope_of self.old.scope) (items (context_of place.now)) self.old.cursor result }
+    {
+        self.begin(place, Keyword::Synch)?;
+        let process = self.name(place, Class::Process)?;
+        let event = self.sent(place)?;
+        let word = self.expression(place)?;
+        self.cursor.sign(Sign::Semicolon)?;
+        Ok(Action::Synch(process, event, word))
+    }
+
+    fn set(&mut self, place: &Context) -> Result<Action, Refusal>
+        requires shallow { place.now.level ≤ LEVELS }
+        requires here { first self.old.cursor ≡ Some (token.Keyword Keyword.Set) }
+        ensures names { fixed self.new.scope ≡ fixed self.old.scope }
+        ensures shorter { OnOk result (length self.new.cursor < length self.old.cursor) }
+        ensures counts { OnOk result (self.old.scope.statements < self.new.scope.statements) }
+        ensures ok { IfOk result (λ a. ReadsStatement (scope_of self.old.scope) (scope_of self.new.scope) (context_of place.now)
+            (λ n ms. action_marks (context_of place.now) (action_map (name_in n) (action_of a)) ms) self.old.cursor self.new.cursor) }
+        ensures numbered { IfOk result (λ a. Numbered (scope_of self.old.scope).names (λ n. action_map (number_in n) (action_map (name_in n) (action_of a))) (action_of a)) }
+        ensures fits { IfOk result (λ a. Fits (scope_of self.old.scope).names (context_of place.now).thread (λ w. action_fits w (action_of a))) }
+        ensures err { Fails (scope_of self.old.scope) (items (context_of place.now)) self.old.cursor result }
+    {
+        self.begin(place, Keyword::Set)?;
+        let timer = self.name(place, Class::Timer)?;
+        let interval = self.expression(place)?;
+        self.cursor.sign(Sign::Semicolon)?;
+        Ok(Action::Set(timer, interval))
+    }
+
+    fn assign(&mut self, place: &Context, name: &str) -> Result<Action, Refusal>
+        requires shallow { place.now.level ≤ LEVELS }
+        requires here { first self.old.cursor ≡ Some (token.Name name.now) }
+        ensures names { fixed self.new.scope ≡ fixed self.old.scope }
+        ensures shorter { OnOk result (length self.new.cursor < length self.old.cursor) }
+        ensures counts { OnOk result (self.old.scope.statements < self.new.scope.statements) }
+        ensures ok { IfOk result (λ a. ReadsStatement (scope_of self.old.scope) (scope_of self.new.scope) (context_of place.now)
+            (λ n ms. action_marks (context_of place.now) (action_map (name_in n) (action_of a)) ms) self.old.cursor self.new.cursor) }
+        ensures numbered { IfOk result (λ a. Numbered (scope_of self.old.scope).names (λ n. action_map (number_in n) (action_map (name_in n) (action_of a))) (action_of a)) }
+        ensures fits { IfOk result (λ a. Fits (scope_of self.old.scope).names (context_of place.now).thread (λ w. action_fits w (action_of a))) }
+        ensures err { Fails (scope_of self.old.scope) (items (context_of place.now)) self.old.cursor result }
+    {
+        let variable = self.target(place, name)?;
+        self.cursor.sign(Sign::Equals)?;
+        let value = self.expression(place)?;
+        self.cursor.sign(Sign::Semicolon)?;
+        Ok(Action::Assign(variable, value))
+    }
+
+    /// A statement that begins with a keyword and has no block.
+    fn action(&mut self, place: &Context, keyword: Keyword) -> Result<Action, Refusal>
+        requires shallow { place.now.level ≤ LEVELS }
+        requires here { first self.old.cursor ≡ Some (token.Keyword keyword) }
+        requires plain { IsPlain (beginning keyword) }
+        ensures names { fixed self.new.scope ≡ fixed self.old.scope }
+        ensures shorter { OnOk result (length self.new.cursor < length self.old.cursor) }
+        ensures counts { OnOk result (self.old.scope.statements < self.new.scope.statements) }
+        ensures ok { IfOk result (λ a. ReadsStatement (scope_of self.old.scope) (scope_of self.new.scope) (context_of place.now)
+            (λ n ms. action_marks (context_of place.now) (action_map (name_in n) (action_of a)) ms) self.old.cursor self.new.cursor) }
+        ensures numbered { IfOk result (λ a. Numbered (scope_of self.old.scope).names (λ n. action_map (number_in n) (action_map (name_in n) (action_of a))) (action_of a)) }
+        ensures fits { IfOk result (λ a. Fits (scope_of self.old.scope).names (context_of place.now).thread (λ w. action_fits w (action_of a))) }
+        ensures err { Fails (scope_of self.old.scope) (items (context_of place.now)) self.old.cursor result }
+    {
+        match keyword {
+            Keyword::Print => Ok(Action::Print(self.valued(place, Keyword::Print)?)),
+            Keyword::Send => Ok(Action::Send(self.valued(place, Keyword::Send)?)),
+            Keyword::WaitUntil => Ok(Action::WaitUntil(self.valued(place, Keyword::WaitUntil)?)),
+            Keyword::WaitWhile => Ok(Action::WaitWhile(self.valued(place, Keyword::WaitWhile)?)),
+            Keyword::Yield => {
+                self.bare(place, Keyword::Yield)?;
+                Ok(Action::Yield)
+            }
+            Keyword::YieldUntil => Ok(Action::YieldUntil(self.valued(place, Keyword::YieldUntil)?)),
+            Keyword::Spawn => Ok(Action::Spawn(self.about(place, Keyword::Spawn, Class::Thread)?)),
+            Keyword::Restart => {
+                self.bare(place, Keyword::Restart)?;
+                Ok(Action::Restart)
+            }
+            Keyword::Exit => {
+                self.bare(place, Keyword::Exit)?;
+                Ok(Action::Exit)
+            }
+            Keyword::Pause => {
+                self.bare(place, Keyword::Pause)?;
+                Ok(Action::Pause)
+            }
+            Keyword::Acquire => {
+                Ok(Action::Acquire(self.about(place, Keyword::Acquire, Class::Semaphore)?))
+            }
+            Keyword::Signal => {
+                Ok(Action::Signal(self.about(place, Keyword::Signal, Class::Semaphore)?))
+            }
+            Keyword::Post => self.post(place),
+            Keyword::Broadcast => self.broadcast(place),
+            Keyword::Synch => self.synch(place),
+            Keyword::Poll => Ok(Action::Poll(self.about(place, Keyword::Poll, Class::Process)?)),
+            Keyword::Start => Ok(Action::Start(self.about(place, Keyword::Start, Class::Process)?)),
+            Keyword::Kill => Ok(Action::Kill(self.about(place, Keyword::Kill, Class::Process)?)),
+            Keyword::Set => self.set(place),
+            Keyword::Reset => Ok(Action::Reset(self.about(place, Keyword::Reset, Class::Timer)?)),
+            Keyword::RestartTimer => {
+                Ok(Action::RestartTimer(self.about(place, Keyword::RestartTimer, Class::Timer)?))
+            }
+            Keyword::Stop => Ok(Action::Stop(self.about(place, Keyword::Stop, Class::Timer)?)),
+            _ => Err(self.cursor.unfit()),
+        }
+    }
+
     #[cycle(statement)]
-    #[tactic(auto, using(crate::proofs::StatementSteps::else_start, crate::proofs::StatementSteps::no_else))]
-    fn otherwise(
-        &mut self,
-        processes: &Names,
-        variables: &Names,
-        level: usize,
-    ) -> Result<Option<Block>, Refusal>
-        requires few { length variables.now ≤ VARIABLES }
-        requires shallow { level ≤ LEVELS }
-        ensures no_longer { OnOk result (length self.new.cursor ≤ length self.old.cursor) }
-        ensures ok { IfOk result (λ o. Reads processes.now variables.now self.old.statements self.new.statements (otherwise level)
-            (else_marks level (else_shape variables.now (otherwise_of (option_map block_of o)))) self.old.cursor self.new.cursor) }
-        ensures resolved { IfOk result (λ o. ElseResolved variables.now (otherwise_of (option_map block_of o))) }
-        ensures shallow { IfOk result (λ o. level + other_height (otherwise_of (option_map block_of o)) ≤ LEVELS) }
-        ensures err { Fails processes.now variables.now self.old.statements (otherwise level) self.old.cursor result }
+    fn branch(&mut self, place: &Context) -> Result<Stmt, Refusal>
+        requires low { place.now.level ≤ LEVELS }
+        requires here { first self.old.cursor ≡ Some (token.Keyword Keyword.If) }
+        ensures names { fixed self.new.scope ≡ fixed self.old.scope }
+        ensures shorter { OnOk result (length self.new.cursor < length self.old.cursor) }
+        ensures ok { IfOk result (λ s. ReadsStatement (scope_of self.old.scope) (scope_of self.new.scope) (context_of place.now)
+            (λ n ms. statement_marks (context_of place.now) (statement_map (name_in n) (statement_of s)) ms) self.old.cursor self.new.cursor) }
+        ensures numbered { IfOk result (λ s. Numbered (scope_of self.old.scope).names (λ n. statement_map (number_in n) (statement_map (name_in n) (statement_of s))) (statement_of s)) }
+        ensures fits { IfOk result (λ s. Fits (scope_of self.old.scope).names (context_of place.now).thread (λ w. statement_fits w (statement_of s))) }
+        ensures shallow { IfOk result (λ s. place.now.level + inner_height (statement_of s) ≤ LEVELS) }
+        ensures counts { IfOk result (λ s. inner_size (statement_of s) + self.old.scope.statements < self.new.scope.statements) }
+        ensures err { Fails (scope_of self.old.scope) (items (context_of place.now)) self.old.cursor result }
+    {
+        self.begin(place, Keyword::If)?;
+        let test = self.expression(place)?;
+        let then = self.block(place)?;
+        let otherwise = self.otherwise(place)?;
+        Ok(Stmt::If(test, then, otherwise))
+    }
+
+    #[cycle(statement)]
+    fn repeat(&mut self, place: &Context) -> Result<Stmt, Refusal>
+        requires low { place.now.level ≤ LEVELS }
+        requires here { first self.old.cursor ≡ Some (token.Keyword Keyword.While) }
+        ensures names { fixed self.new.scope ≡ fixed self.old.scope }
+        ensures shorter { OnOk result (length self.new.cursor < length self.old.cursor) }
+        ensures ok { IfOk result (λ s. ReadsStatement (scope_of self.old.scope) (scope_of self.new.scope) (context_of place.now)
+            (λ n ms. statement_marks (context_of place.now) (statement_map (name_in n) (statement_of s)) ms) self.old.cursor self.new.cursor) }
+        ensures numbered { IfOk result (λ s. Numbered (scope_of self.old.scope).names (λ n. statement_map (number_in n) (statement_map (name_in n) (statement_of s))) (statement_of s)) }
+        ensures fits { IfOk result (λ s. Fits (scope_of self.old.scope).names (context_of place.now).thread (λ w. statement_fits w (statement_of s))) }
+        ensures shallow { IfOk result (λ s. place.now.level + inner_height (statement_of s) ≤ LEVELS) }
+        ensures counts { IfOk result (λ s. inner_size (statement_of s) + self.old.scope.statements < self.new.scope.statements) }
+        ensures err { Fails (scope_of self.old.scope) (items (context_of place.now)) self.old.cursor result }
+    {
+        self.begin(place, Keyword::While)?;
+        let test = self.expression(place)?;
+        let block = self.block(place)?;
+        Ok(Stmt::While(test, block))
+    }
+
+    /// A statement of a block.
+    #[cycle(statement)]
+    fn statement(&mut self, place: &Context) -> Result<Stmt, Refusal>
+        requires low { place.now.level ≤ LEVELS }
+        requires inside { IsInside (first self.old.cursor) }
+        ensures names { fixed self.new.scope ≡ fixed self.old.scope }
+        ensures shorter { OnOk result (length self.new.cursor < length self.old.cursor) }
+        ensures ok { IfOk result (λ s. ReadsStatement (scope_of self.old.scope) (scope_of self.new.scope) (context_of place.now)
+            (λ n ms. statement_marks (context_of place.now) (statement_map (name_in n) (statement_of s)) ms) self.old.cursor self.new.cursor) }
+        ensures numbered { IfOk result (λ s. Numbered (scope_of self.old.scope).names (λ n. statement_map (number_in n) (statement_map (name_in n) (statement_of s))) (statement_of s)) }
+        ensures fits { IfOk result (λ s. Fits (scope_of self.old.scope).names (context_of place.now).thread (λ w. statement_fits w (statement_of s))) }
+        ensures shallow { IfOk result (λ s. place.now.level + inner_height (statement_of s) ≤ LEVELS) }
+        ensures counts { IfOk result (λ s. inner_size (statement_of s) + self.old.scope.statements < self.new.scope.statements) }
+        ensures err { Fails (scope_of self.old.scope) (items (context_of place.now)) self.old.cursor result }
     {
         match self.cursor.peek() {
-            Token::Else => {
+            Some(Token::Name(name)) => Ok(Stmt::Do(self.assign(place, name)?)),
+            Some(Token::Keyword(Keyword::If)) => self.branch(place),
+            Some(Token::Keyword(Keyword::While)) => self.repeat(place),
+            Some(Token::Keyword(keyword)) => Ok(Stmt::Do(self.action(place, keyword)?)),
+            _ => Err(self.cursor.unfit()),
+        }
+    }
+
+    /// What may follow the first block of an `if`.
+    #[cycle(statement)]
+    #[tactic(auto, using(crate::proofs::Blocks::else_start))]
+    fn otherwise(&mut self, place: &Context) -> Result<Option<Block>, Refusal>
+        requires low { place.now.level ≤ LEVELS }
+        ensures names { fixed self.new.scope ≡ fixed self.old.scope }
+        ensures no_longer { OnOk result (length self.new.cursor ≤ length self.old.cursor) }
+        ensures ok { IfOk result (λ o. ReadsElse (scope_of self.old.scope) (scope_of self.new.scope) (context_of place.now)
+            (λ n ms. else_marks (context_of place.now) (otherwise_map (name_in n) (otherwise_of (option_map block_of o))) ms) self.old.cursor self.new.cursor) }
+        ensures numbered { IfOk result (λ o. Numbered (scope_of self.old.scope).names (λ n. otherwise_map (number_in n) (otherwise_map (name_in n) (otherwise_of (option_map block_of o)))) (otherwise_of (option_map block_of o))) }
+        ensures fits { IfOk result (λ o. Fits (scope_of self.old.scope).names (context_of place.now).thread (λ w. other_fits w (otherwise_of (option_map block_of o)))) }
+        ensures shallow { IfOk result (λ o. place.now.level + other_height (otherwise_of (option_map block_of o)) ≤ LEVELS) }
+        ensures counts { IfOk result (λ o. other_size (otherwise_of (option_map block_of o)) + self.old.scope.statements ≤ self.new.scope.statements) }
+        ensures err { Fails (scope_of self.old.scope) (items_else (context_of place.now)) self.old.cursor result }
+    {
+        match self.cursor.peek() {
+            Some(Token::Keyword(Keyword::Else)) => {
                 self.cursor.advance();
-                let block = self.block(processes, variables, level)?;
+                let block = self.block(place)?;
                 Ok(Some(block))
             }
             _ => Ok(None),
         }
     }
 
-    /// A block that stands below so many levels.
+    /// A block that stands there.
     #[cycle(statement)]
-    pub(crate) fn block(
-        &mut self,
-        processes: &Names,
-        variables: &Names,
-        level: usize,
-    ) -> Result<Block, Refusal>
-        requires few { length variables.now ≤ VARIABLES }
-        requires shallow { level ≤ LEVELS }
+    pub(crate) fn block(&mut self, place: &Context) -> Result<Block, Refusal>
+        requires low { place.now.level ≤ LEVELS }
+        ensures names { fixed self.new.scope ≡ fixed self.old.scope }
         ensures no_longer { OnOk result (length self.new.cursor ≤ length self.old.cursor) }
-        ensures ok { IfOk result (λ b. Reads processes.now variables.now self.old.statements self.new.statements (block level)
-            (block_marks level (block_shape variables.now (block_of b))) self.old.cursor self.new.cursor) }
-        ensures resolved { IfOk result (λ b. BodyResolved variables.now (block_of b)) }
-        ensures shallow { IfOk result (λ b. level + height (block_of b) ≤ LEVELS) }
-        ensures err { Fails processes.now variables.now self.old.statements (block level) self.old.cursor result }
+        ensures ok { IfOk result (λ b. Reads (scope_of self.old.scope) (scope_of self.new.scope) (block (context_of place.now))
+            (λ n ms. block_marks (context_of place.now) (body_map (name_in n) (block_of b)) ms) self.old.cursor self.new.cursor) }
+        ensures numbered { IfOk result (λ b. Numbered (scope_of self.old.scope).names (λ n. body_map (number_in n) (body_map (name_in n) (block_of b))) (block_of b)) }
+        ensures fits { IfOk result (λ b. Fits (scope_of self.old.scope).names (context_of place.now).thread (λ w. block_fits w (block_of b))) }
+        ensures shallow { IfOk result (λ b. place.now.level + height (block_of b) ≤ LEVELS) }
+        ensures counts { IfOk result (λ b. size (block_of b) + self.old.scope.statements ≤ self.new.scope.statements) }
+        ensures err { Fails (scope_of self.old.scope) (block (context_of place.now)) self.old.cursor result }
     {
         match self.cursor.peek() {
-            Token::OpenBrace => {}
+            Some(Token::OpenBrace) => {}
             _ => return Err(self.cursor.unfit()),
         }
-        if level == LEVELS {
+        if place.level == LEVELS {
             return Err(self.cursor.fault(ReadErrorKind::TooDeep));
         }
         self.cursor.advance();
+        let within = place.inner();
         let mut statements = Vec::new(self.alloc);
         'statements: loop {
             match self.cursor.peek() {
-                Token::CloseBrace => {
+                Some(Token::CloseBrace) => {
                     self.cursor.advance();
                     return Ok(Block::new(statements));
                 }
                 _ => {
-                    let statement = self.statement(processes, variables, level + 1)?;
+                    let statement = self.statement(&within)?;
                     statements.push(statement)?;
                 }
             }
         }
-    }
-
-    /// The body of a process, and the closing brace of its code.
-    pub(crate) fn body(&mut self, processes: &Names, variables: &Names) -> Result<Block, Refusal>
-        requires few { length variables.now ≤ VARIABLES }
-        requires here { first self.old.cursor ≢ token.Var }
-        ensures ok { IfOk result (λ b. Reads processes.now variables.now self.old.statements self.new.statements declarations
-            (content_marks [] (block_shape variables.now (block_of b))) self.old.cursor self.new.cursor) }
-        ensures resolved { IfOk result (λ b. BodyResolved variables.now (block_of b)) }
-        ensures shallow { IfOk result (λ b. height (block_of b) ≤ LEVELS) }
-        ensures err { Fails processes.now variables.now self.old.statements declarations self.old.cursor result }
-    {
-        match self.cursor.peek() {
-            Token::Body => self.cursor.advance(),
-            _ => return Err(self.cursor.unfit()),
-        }
-        let body = self.block(processes, variables, 0)?;
-        self.cursor.close_brace()?;
-        Ok(body)
     }
 }

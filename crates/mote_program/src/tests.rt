@@ -29,39 +29,109 @@ fn repeated(
 }
 
 #[test]
-fn faults(rt: HostRuntime) {
+fn reader_faults(rt: HostRuntime) {
     let alloc = rt.alloc();
     for (text, want) in [
         ("", (9, 1)),
-        ("// nothing\n", (9, 2)),
         ("process A;", (1, 1)),
-        ("process", (2, 1)),
-        ("process a, b;", (2, 1)),
-        ("process a;\n", (2, 2)),
+        ("process a, a;", (4, 1)),
         ("process a;\ncode a { }", (2, 2)),
-        ("process a;\ncode\nzz { body { } }", (2, 3)),
-        (
-            "process a;\ncode a { body { } }\ncode a { body { } }",
-            (2, 3),
-        ),
+        ("process a;\ncode a { body { x = 1; } }", (3, 2)),
+        ("process a;\ncode a { body { print 65536; } }", (5, 2)),
         (
             "process a;\ncode a { ctimer c { yield; } body { } }",
-            (2, 2),
+            (6, 2),
         ),
-        ("process a;\ncode a { body {\nzz\n; } }", (3, 3)),
-        ("process a;\ncode a { body { x = 1; } }", (3, 2)),
+        (
+            "process a;\ncode a { thread t { spawn t; } body { } }",
+            (10, 2),
+        ),
+    ] {
+        assert_eq!(rt; told(alloc, text), want, "{text}");
+    }
+}
+
+#[test]
+fn where_a_program_ends(rt: HostRuntime) {
+    let alloc = rt.alloc();
+    for (text, want) in [
+        ("// nothing\n", (9, 2)),
+        ("event e;\nsemaphore s = 1;\n", (9, 3)),
+        ("event e;\nevent", (2, 2)),
+        ("semaphore s =\n", (2, 2)),
+        ("process", (2, 1)),
+        ("process a, b;", (2, 1)),
+        ("process a;\ncode a { body { } }\ncode", (2, 3)),
+        ("process a, b;\ncode a { body { } }\n", (2, 3)),
+        ("process a, b;\ncode\nb { body { } }", (2, 3)),
+        ("process a;\ncode\nzz { body { } }", (2, 3)),
+        ("process a;\ncode a { body { print 1; } } // end", (0, 0)),
+    ] {
+        assert_eq!(rt; told(alloc, text), want, "{text}");
+    }
+}
+
+#[test]
+fn names_in_scope(rt: HostRuntime) {
+    let alloc = rt.alloc();
+    for (text, want) in [
+        ("process etimer;", (2, 1)),
         ("process a;\nautostart b;", (3, 2)),
         ("process a;\nautostart a,\na;", (4, 3)),
+        ("event e;\nprocess a;\nautostart e;", (10, 3)),
+        ("semaphore s = 0;\nprocess a;\nreceiver s;", (10, 3)),
+        ("event e;\nsemaphore e = 0;", (4, 2)),
+        ("process a;\ncode a { var a = 1; body { } }", (4, 2)),
         (
-            "process a;\ncode a { var x = 1; var\nx = 2; body { } }",
+            "process a;\ncode a { var x = 1; etimer\nx; body { } }",
             (4, 3),
         ),
-        ("process a;\ncode a { var a = 1; body { } }", (4, 2)),
-        ("process a;\ncode a { body { print 65536; } }", (5, 2)),
-        ("process a;\ncode a { var x = 70000; body { } }", (5, 2)),
         ("process a;\ncode a { body { a = 1; } }", (10, 2)),
         ("process a;\ncode a { body { print\na; } }", (10, 3)),
-        ("process a;\ncode a { body { print 1; } } // end", (0, 0)),
+        ("process a;\ncode a { body {\nzz\n; } }", (3, 3)),
+        (
+            "process a, b;\ncode a { var x = 1; body { } }\ncode b { body { print x; } }",
+            (3, 3),
+        ),
+        (
+            "process a, b;\ncode a { var x = 1; body { } }\ncode b { var x = 2; body { } }",
+            (0, 0),
+        ),
+        (
+            "process a;\ncode a { thread t { spawn u; } thread u { } body { } }",
+            (3, 2),
+        ),
+        (
+            "process a;\ncode a { thread t { } thread u { spawn t; } body { spawn u; spawn t; } }",
+            (0, 0),
+        ),
+        (
+            "process a;\ncode a { etimer t; onpoll { spawn t; } body { } }",
+            (6, 2),
+        ),
+        ("process a;\ncode a { onpoll { yield; } body { } }", (6, 2)),
+        (
+            "process a;\ncode a { etimer t; body { set t t; } }",
+            (10, 2),
+        ),
+        ("process a;\ncode a { body { post a timer 0; } }", (2, 2)),
+        ("process a;\ncode a { body { broadcast exit 0; } }", (2, 2)),
+        ("process a;\ncode a { body { post a exit 0; } }", (0, 0)),
+        (
+            "process a;\ncode a { body { broadcast a 0 into a; } }",
+            (10, 2),
+        ),
+    ] {
+        assert_eq!(rt; told(alloc, text), want, "{text}");
+    }
+}
+
+#[test]
+fn tokens_and_numbers(rt: HostRuntime) {
+    let alloc = rt.alloc();
+    for (text, want) in [
+        ("process a;\ncode a { var x = 70000; body { } }", (5, 2)),
+        ("semaphore s = 65536;", (5, 1)),
         ("process a;\ncode a { body { \u{e9} = 1; } }", (1, 2)),
         ("process a; // \u{e9}\ncode a { body { } }", (0, 0)),
     ] {
@@ -70,7 +140,7 @@ fn faults(rt: HostRuntime) {
 }
 
 #[test]
-fn limits(rt: HostRuntime) -> Result<(), Fail> {
+fn notation_limits(rt: HostRuntime) -> Result<(), Fail> {
     let alloc = rt.alloc();
     let head = "process a;code a{body{";
     for (times, want) in [(31, (0, 0)), (32, (7, 1))] {
@@ -84,99 +154,65 @@ fn limits(rt: HostRuntime) -> Result<(), Fail> {
         let text = repeated(alloc, head, "yield;\n", times, "}}")?;
         assert_eq!(rt; told(alloc, text.as_str()), want, "{times} statements");
     }
-    let inner = repeated(
-        alloc,
-        "process a;code a{body{if 1 {",
-        "print 1;",
-        4095,
-        "\nprint 1;}}}",
-    )?;
-    assert_eq!(rt; told(alloc, inner.as_str()), (8, 2));
     Ok(())
 }
 
+/// A declaration of many names, each on a line of its own, and what comes behind them.
+fn declared(
+    alloc: Global,
+    front: &str,
+    before: &str,
+    count: usize,
+    after: &str,
+    back: &str,
+) -> Result<String, Fail> {
+    let mut text = String::from_str(alloc, front)?;
+    for number in 0..count {
+        let line = format!(in alloc; "{before}n{number}{after}\n")?;
+        text.push_str(line.as_str())?;
+    }
+    text.push_str(back)?;
+    Ok(text)
+}
+
 #[test]
-fn variables(rt: HostRuntime) -> Result<(), Fail> {
+fn limits_of_names(rt: HostRuntime) -> Result<(), Fail> {
     let alloc = rt.alloc();
-    for (count, want) in [(64, (0, 0)), (65, (8, 65))] {
-        let mut text = String::from_str(alloc, "process a;code a{")?;
-        for number in 0..count {
-            let line = format!(in alloc; "var v{number} = 1;\n")?;
-            text.push_str(line.as_str())?;
-        }
-        text.push_str("body{}}")?;
-        assert_eq!(rt; told(alloc, text.as_str()), want, "{count} variables");
+    for (front, before, after, most) in [
+        ("", "event ", ";", 117),
+        ("", "semaphore ", " = 1;", 64),
+        ("process a;code a{", "var ", " = 1;", 64),
+        ("process a;code a{", "etimer ", ";", 64),
+        ("process a;code a{", "ctimer ", "{}", 64),
+        ("process a;code a{", "thread ", "{}", 7),
+    ] {
+        let back = if front.is_empty() {
+            "process a;code a{body{}}"
+        } else {
+            "body{}}"
+        };
+        let full = declared(alloc, front, before, most, after, back)?;
+        assert_eq!(rt; told(alloc, full.as_str()), (0, 0), "{most} of {before}");
+        let more = declared(alloc, front, before, most + 1, after, back)?;
+        assert_eq!(rt; told(alloc, more.as_str()), (8, most + 1), "{before}");
     }
     Ok(())
 }
 
-const WHOLE: &str = "process a; autostart a; code a { var x = 3; var y = 0; body { \
-if (x <= !y) { y = x; } else { while data { print (from - now); yield_until self; } } yield; } }";
-
-fn parts(alloc: Global, program: &Program) -> Result<String, Fail> {
-    if program.processes() != 1 {
-        return Ok(String::new(alloc));
-    }
-    let code = program.process(0);
-    Ok(format!(in alloc;
-        "{} {:?} {:?} {:?} {:?} {:?}",
-        program.processes(),
-        program.name(0),
-        program.autostart(),
-        code.names(),
-        code.starts(),
-        code.body().statements()
-    )?)
-}
-
 #[test]
-fn a_tree(rt: HostRuntime) -> Result<(), Fail> {
+fn processes(rt: HostRuntime) -> Result<(), Fail> {
     let alloc = rt.alloc();
-    match read(alloc, WHOLE) {
-        Ok(program) => {
-            let text = parts(alloc, &program)?;
-            assert_eq!(rt;
-                text.as_str(),
-                "1 \"a\" [0] Names { set: {\"x\", \"y\"} } [3, 0] \
-[If(Binary(AtMost, Variable(0), Not(Variable(1))), Block { statements: [Assign(1, Variable(0))] }, \
-Some(Block { statements: [While(Word, Block { statements: [Print(Binary(Subtract, Sender, Moment)), \
-YieldUntil(Mote)] })] })), Yield]"
-            );
-        }
-        Err(error) => assert_eq!(rt; error.line, 0),
+    let mut line = String::from_str(alloc, "process n0")?;
+    let mut codes = String::from_str(alloc, ";\ncode n0 { body { } }\n")?;
+    for number in 1..64 {
+        let name = format!(in alloc; ", n{number}")?;
+        line.push_str(name.as_str())?;
+        let code = format!(in alloc; "code n{number} {{ body {{ }} }}\n")?;
+        codes.push_str(code.as_str())?;
     }
+    let full = format!(in alloc; "{line}{codes}")?;
+    assert_eq!(rt; told(alloc, full.as_str()), (0, 0));
+    let more = format!(in alloc; "{line},\nn64;")?;
+    assert_eq!(rt; told(alloc, more.as_str()), (8, 2));
     Ok(())
-}
-
-#[test]
-fn names_in_order(rt: HostRuntime) {
-    match read(rt.alloc(), WHOLE) {
-        Ok(program) => {
-            if program.processes() == 1 {
-                let names = program.process(0).names();
-                assert!(rt; !names.is_empty());
-                assert_eq!(rt; names.len(), 2);
-                assert_eq!(rt; names.place_of("y"), Some(1));
-                assert_eq!(rt; names.place_of("a"), None);
-                if names.len() == 2 {
-                    assert_eq!(rt; names.get(0), "x");
-                }
-            }
-        }
-        Err(error) => assert_eq!(rt; error.kind, ReadErrorKind::Memory),
-    }
-}
-
-#[test]
-fn refused_memory(rt: HostRuntime) {
-    match read(rt.alloc(), WHOLE) {
-        Ok(program) => assert_eq!(rt; program.processes(), 1),
-        Err(error) => {
-            let want = ReadError {
-                kind: ReadErrorKind::Memory,
-                line: 0,
-            };
-            assert_eq!(rt; error, want);
-        }
-    }
 }

@@ -1,26 +1,12 @@
 //! The tokens of a text.
 
+use crate::keyword::Keyword;
 use crate::tree::Operator;
 
-/// A token. All keywords of the whole notation are reserved; those that stand nowhere yet are `Reserved`.
+/// A token.
 #[derive(Clone, Copy, Debug)]
 pub(crate) enum Token<'a> {
-    Process,
-    Autostart,
-    Code,
-    Var,
-    Body,
-    Print,
-    If,
-    Else,
-    While,
-    Yield,
-    YieldUntil,
-    Data,
-    From,
-    Now,
-    Own,
-    Reserved,
+    Keyword(Keyword),
     Semicolon,
     Comma,
     Equals,
@@ -34,5 +20,4 @@ pub(crate) enum Token<'a> {
     /// A number, of which all above 65,535 are 65,536.
     Number(u32),
     Bad,
-    End,
 }

@@ -7,6 +7,7 @@ ghost use Rattle.mote_program.specs.Tokens.{token_of, Name, Bad};
 ghost use Rattle.mote_program.specs.Front.{entry_of};
 ghost use Rattle.mote_program.specs.Words as spec;
 
+use crate::keyword::Keyword;
 use crate::token::Token;
 
 /// A text and the token that it is.
@@ -20,64 +21,64 @@ const LONGEST_NAME: usize = 16;
 
 /// The words that no program can have as names.
 const KEYWORDS: [Entry<'static>; 58] = [
-    (b"process", Token::Process),
-    (b"autostart", Token::Autostart),
-    (b"code", Token::Code),
-    (b"var", Token::Var),
-    (b"body", Token::Body),
-    (b"print", Token::Print),
-    (b"if", Token::If),
-    (b"else", Token::Else),
-    (b"while", Token::While),
-    (b"yield", Token::Yield),
-    (b"yield_until", Token::YieldUntil),
-    (b"data", Token::Data),
-    (b"from", Token::From),
-    (b"now", Token::Now),
-    (b"self", Token::Own),
-    (b"event", Token::Reserved),
-    (b"semaphore", Token::Reserved),
-    (b"receiver", Token::Reserved),
-    (b"etimer", Token::Reserved),
-    (b"ctimer", Token::Reserved),
-    (b"thread", Token::Reserved),
-    (b"onpoll", Token::Reserved),
-    (b"onexit", Token::Reserved),
-    (b"send", Token::Reserved),
-    (b"wait_until", Token::Reserved),
-    (b"wait_while", Token::Reserved),
-    (b"spawn", Token::Reserved),
-    (b"restart", Token::Reserved),
-    (b"exit", Token::Reserved),
-    (b"pause", Token::Reserved),
-    (b"acquire", Token::Reserved),
-    (b"signal", Token::Reserved),
-    (b"post", Token::Reserved),
-    (b"broadcast", Token::Reserved),
-    (b"synch", Token::Reserved),
-    (b"poll", Token::Reserved),
-    (b"start", Token::Reserved),
-    (b"kill", Token::Reserved),
-    (b"set", Token::Reserved),
-    (b"reset", Token::Reserved),
-    (b"restart_timer", Token::Reserved),
-    (b"stop", Token::Reserved),
-    (b"into", Token::Reserved),
-    (b"continue", Token::Reserved),
-    (b"msg", Token::Reserved),
-    (b"com", Token::Reserved),
-    (b"packet", Token::Reserved),
-    (b"init", Token::Reserved),
-    (b"exited", Token::Reserved),
-    (b"timer", Token::Reserved),
-    (b"is", Token::Reserved),
-    (b"fired", Token::Reserved),
-    (b"expired", Token::Reserved),
-    (b"gone", Token::Reserved),
-    (b"running", Token::Reserved),
-    (b"count", Token::Reserved),
-    (b"radio", Token::Reserved),
-    (b"all", Token::Reserved),
+    (b"event", Token::Keyword(Keyword::Event)),
+    (b"semaphore", Token::Keyword(Keyword::Semaphore)),
+    (b"process", Token::Keyword(Keyword::Process)),
+    (b"autostart", Token::Keyword(Keyword::Autostart)),
+    (b"receiver", Token::Keyword(Keyword::Receiver)),
+    (b"code", Token::Keyword(Keyword::Code)),
+    (b"var", Token::Keyword(Keyword::Var)),
+    (b"etimer", Token::Keyword(Keyword::Etimer)),
+    (b"ctimer", Token::Keyword(Keyword::Ctimer)),
+    (b"thread", Token::Keyword(Keyword::Thread)),
+    (b"onpoll", Token::Keyword(Keyword::OnPoll)),
+    (b"onexit", Token::Keyword(Keyword::OnExit)),
+    (b"body", Token::Keyword(Keyword::Body)),
+    (b"print", Token::Keyword(Keyword::Print)),
+    (b"send", Token::Keyword(Keyword::Send)),
+    (b"if", Token::Keyword(Keyword::If)),
+    (b"else", Token::Keyword(Keyword::Else)),
+    (b"while", Token::Keyword(Keyword::While)),
+    (b"wait_until", Token::Keyword(Keyword::WaitUntil)),
+    (b"wait_while", Token::Keyword(Keyword::WaitWhile)),
+    (b"yield", Token::Keyword(Keyword::Yield)),
+    (b"yield_until", Token::Keyword(Keyword::YieldUntil)),
+    (b"spawn", Token::Keyword(Keyword::Spawn)),
+    (b"restart", Token::Keyword(Keyword::Restart)),
+    (b"exit", Token::Keyword(Keyword::Exit)),
+    (b"pause", Token::Keyword(Keyword::Pause)),
+    (b"acquire", Token::Keyword(Keyword::Acquire)),
+    (b"signal", Token::Keyword(Keyword::Signal)),
+    (b"post", Token::Keyword(Keyword::Post)),
+    (b"broadcast", Token::Keyword(Keyword::Broadcast)),
+    (b"synch", Token::Keyword(Keyword::Synch)),
+    (b"poll", Token::Keyword(Keyword::Poll)),
+    (b"start", Token::Keyword(Keyword::Start)),
+    (b"kill", Token::Keyword(Keyword::Kill)),
+    (b"set", Token::Keyword(Keyword::Set)),
+    (b"reset", Token::Keyword(Keyword::Reset)),
+    (b"restart_timer", Token::Keyword(Keyword::RestartTimer)),
+    (b"stop", Token::Keyword(Keyword::Stop)),
+    (b"into", Token::Keyword(Keyword::Into)),
+    (b"continue", Token::Keyword(Keyword::Continue)),
+    (b"msg", Token::Keyword(Keyword::Msg)),
+    (b"com", Token::Keyword(Keyword::Com)),
+    (b"packet", Token::Keyword(Keyword::Packet)),
+    (b"init", Token::Keyword(Keyword::Init)),
+    (b"exited", Token::Keyword(Keyword::Exited)),
+    (b"timer", Token::Keyword(Keyword::Timer)),
+    (b"data", Token::Keyword(Keyword::Data)),
+    (b"from", Token::Keyword(Keyword::From)),
+    (b"now", Token::Keyword(Keyword::Now)),
+    (b"self", Token::Keyword(Keyword::Own)),
+    (b"is", Token::Keyword(Keyword::Is)),
+    (b"fired", Token::Keyword(Keyword::Fired)),
+    (b"expired", Token::Keyword(Keyword::Expired)),
+    (b"gone", Token::Keyword(Keyword::Gone)),
+    (b"running", Token::Keyword(Keyword::Running)),
+    (b"count", Token::Keyword(Keyword::Count)),
+    (b"radio", Token::Keyword(Keyword::Radio)),
+    (b"all", Token::Keyword(Keyword::All)),
 ];
 
 /// `a` to `z`, `0` to `9` and `_`.
@@ -123,22 +124,13 @@ fn begins_lowercase(word: &[u8]) -> bool
 }
 
 /// The token beside a text in a table.
-fn lookup<'a>(mut table: &[Entry<'a>], word: &[u8]) -> Option<Token<'a>>
-    ensures { option_map token_of result ≡ spec.lookup (map entry_of table.entry.now) word.now }
+fn lookup<'a>(table: &[Entry<'a>], word: &[u8]) -> Option<Token<'a>>
+    ensures { option_map token_of result ≡ spec.lookup (map entry_of table.now) word.now }
 {
-    while let [entry, rest @ ..] = table {
-        if entry.0 == word {
-            return Some(entry.1);
-        }
-        table = rest;
-    }
-    None
-}
-
-fn keyword<'a>(word: &[u8]) -> Option<Token<'a>>
-    ensures { option_map token_of result ≡ spec.lookup spec.keywords word.now }
-{
-    lookup(&KEYWORDS, word)
+    table
+        .iter()
+        .find(|entry| entry.0 == word)
+        .map(|entry| entry.1)
 }
 
 /// The token of a name, which is bad where it is too long or doesn't begin with a letter.
@@ -163,7 +155,7 @@ pub(crate) fn word_token<'a>(word: &'a [u8]) -> Token<'a>
     if is_number(word) {
         return Token::Number(number_value(word));
     }
-    match keyword(word) {
+    match lookup(&KEYWORDS, word) {
         Some(token) => token,
         None => name(word),
     }

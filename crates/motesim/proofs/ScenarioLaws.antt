@@ -1,7 +1,7 @@
 -- A text tells at most one net, at most one fault, and never both.
 use Rattle.std.proofs.Common.{◌≡◌, ℕ, List, [], ◌∷◌, ◌++◌, refl, sym, ap, ◌∙◌, subst, Err, string_bytes}
 use Rattle.toml.specs.Data.{Members}
-use Rattle.mote_program.specs.Program.{Tree}
+use Rattle.mote_program.specs.Code.{Tree}
 use Rattle.mote_program.specs.Reading.{IsTreeOf, IsToldOf}
 use Rattle.mote_program.specs.declared.error.ReadError.{ReadError}
 use Rattle.mote_program.specs.declared.error.ReadErrorKind.{ReadErrorKind}

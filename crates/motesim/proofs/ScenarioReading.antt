@@ -20,7 +20,7 @@ use Rattle.motesim.specs.Scenario.Errors.{of_medium}
 use Rattle.motesim.specs.Scenario.Document.{natural, integer_at, natural_at, table_at, tables_at, document_fault}
 use Rattle.motesim.specs.Scenario.Programs.{named_tree, texts_of, AllRead, ReadsPrograms}
 use Rattle.motesim.specs.Scenario.Net.{MoteTold, mote_of, mote_told, MakesMedium}
-use Rattle.motesim.specs.Scenario.Reading.{document_of, HasTrees, medium_fault_of, TellsFault, IsNetOf, MakesNet, Answers}
+use Rattle.motesim.specs.Scenario.Reading.{document_of, HasTrees, medium_fault_of, IsNetOf, MakesNet, Answers}
 
 -- a document makes what its text tells
 pub answered : (text : List ℕ) (top : Members) (r : Result Net ScenarioError) → document_of text ≡ Ok top → MakesNet top r → Answers text r
@@ -34,21 +34,6 @@ answered text top (Err UnknownKey) is m = absurd m
 answered text top (Err WrongKind) is m = absurd m
 answered text top (Err OutOfRange) is m = absurd m
 answered text top (Err UnknownProgram) is m = absurd m
-
-told_at : (text : List ℕ) (e : ScenarioError) → Answers text (Err e) → (e ≡ Memory → ⊥) → TellsFault text e
-told_at text (Program name e) a other = a
-told_at text (Medium e) a other = a
-told_at text Memory a other = other refl
-told_at text Toml a other = a
-told_at text MissingKey a other = a
-told_at text UnknownKey a other = a
-told_at text WrongKind a other = a
-told_at text OutOfRange a other = a
-told_at text UnknownProgram a other = a
-
--- an answer other than want of memory is the first fault
-pub told : (text : List ℕ) (r : Result Net ScenarioError) (e : ScenarioError) → Answers text r → r ≡ Err e → (e ≡ Memory → ⊥) → TellsFault text e
-told text r e a is other = told_at text e (rw is at a) other
 
 -- a program that isn't read
 pub refused : (top : Members) (e : ScenarioError) → ReadsPrograms (texts_of (table_at (codes "programs") top)) (Err e) → MakesNet top (Err e)

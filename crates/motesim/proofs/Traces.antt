@@ -1,20 +1,22 @@
 -- The motes of a net one after another, with what is known of each.
-use Rattle.std.proofs.Common.{◌≡◌, ◌<◌, ◌+◌, ℕ, List, [], ◌∷◌, ◌++◌, map, take, length, get_or, Some, slice_get, ap, sym, ◌∙◌, subst, arith, option_map}
+use Rattle.std.proofs.Common.{◌≡◌, ◌<◌, ◌+◌, ℕ, List, [], ◌∷◌, ◌++◌, map, take, length, get_or, Some, slice_get, ap, sym, ◌∙◌, arith, option_map, append_assoc, append-nil}
+use Rattle.std.specs.List.{flat_map}
 use Rattle.std.specs.Prelude.{pos, Vec}
 use Rattle.std.specs.declared.alloc.Global.{Global}
 use Rattle.std.proofs.lemmas.List.{map-append, take_more, length-take-le}
 use Rattle.std.proofs.lemmas.Option.{slice_get-get_or}
-use Rattle.mote_program.specs.Program.{Tree}
-use Rattle.motesim.specs.Boot.{boot_lines}
-use Rattle.motesim.specs.Names.{Naming}
-use Rattle.motesim.specs.Report.{lines_of}
-use Rattle.motesim.specs.ReportText.{AreNamed, IsTraceNamed}
-use Rattle.motesim.specs.Run.{naming_told, traces_from}
-use Rattle.motesim.specs.Scenario.Net.{MoteTold}
-use Rattle.motesim.specs.declared.line.Line.{Line}
+use Rattle.mote_program.specs.Code.{Tree}
+use Rattle.mote_node.specs.Node.{new_node}
+use Rattle.motesim.specs.Alone.{Written, alone_of}
+use Rattle.motesim.specs.Names.{naming}
+use Rattle.motesim.specs.Report.{Packet, lines_in}
+use Rattle.motesim.specs.Run.{naming_told, queue_length, runs_from, unheard, trace_of, packets_of}
+use Rattle.motesim.specs.Scenario.Net.{MoteTold, no_program}
+use Rattle.process_kernel.specs.declared.line.Line.{Line}
+use Rattle.process_kernel.specs.declared.line.Sent.{Sent}
 
 abbrev pub no_mote : MoteTold
-no_mote = record { x = pos 0; y = pos 0; program = []; tree = record { processes = []; autostart = []; codes = [] } }
+no_mote = record { x = pos 0; y = pos 0; program = no_program.name; tree = no_program.tree }
 
 abbrev pub name_in : MoteTold → List ℕ
 name_in m = m.program
@@ -27,51 +29,45 @@ read_at f ms i x h e = let q : Some (f (get_or ms i no_mote)) ≡ Some x = ap (o
 
 module _ (ms : List MoteTold) (i : ℕ) (name : List ℕ) (tree : Tree) (h : i < length ms)
     (named : option_map name_in (slice_get ms i) ≡ Some name) (grown : option_map tree_in (slice_get ms i) ≡ Some tree) where
-  same_naming : naming_told (get_or ms i no_mote) ≡ record { program = name; processes = tree.processes }
+  same_naming : naming_told (get_or ms i no_mote) ≡ naming name tree
   same_naming =
-      ap (λ p. record { program = p; processes = (tree_in (get_or ms i no_mote)).processes }) (read_at name_in ms i name h named)
-      ∙ ap (λ (t : Tree). record { program = name; processes = t.processes }) (read_at tree_in ms i tree h grown)
+      ap (λ p. naming p (tree_in (get_or ms i no_mote))) (read_at name_in ms i name h named)
+      ∙ ap (λ (t : Tree). naming name t) (read_at tree_in ms i tree h grown)
 
   -- the naming of the next mote
-  pub naming_next : map naming_told (take (i + 1) ms) ≡ map naming_told (take i ms) ++ record { program = name; processes = tree.processes } ∷ []
+  pub naming_next : map naming_told (take (i + 1) ms) ≡ map naming_told (take i ms) ++ naming name tree ∷ []
   naming_next = ap (map naming_told) (take_more ms i no_mote h) ∙ map-append naming_told (take i ms) (get_or ms i no_mote ∷ []) ∙ ap (λ n. map naming_told (take i ms) ++ n ∷ []) same_naming
 
-module _ (ms : List MoteTold) (i : ℕ) (tree : Tree) (h : i < length ms) (grown : option_map tree_in (slice_get ms i) ≡ Some tree) where
-  pub names_next : map naming_told (take (i + 1) ms) ≡ map naming_told (take i ms) ++ record { program = (get_or ms i no_mote).program; processes = tree.processes } ∷ []
-  names_next =
-      ap (map naming_told) (take_more ms i no_mote h) ∙ map-append naming_told (take i ms) (get_or ms i no_mote ∷ [])
-      ∙ ap (λ (t : Tree). map naming_told (take i ms) ++ record { program = (get_or ms i no_mote).program; processes = t.processes } ∷ []) (read_at tree_in ms i tree h grown)
+runs_push : (end k : ℕ) (ms : List MoteTold) (m : MoteTold) → runs_from end k (ms ++ m ∷ []) ≡ runs_from end k ms ++ alone_of end (new_node m.tree (k + length ms) queue_length) ∷ []
+runs_push end k [] m = ap (λ n. alone_of end (new_node m.tree n queue_length) ∷ []) (omega arith)
+runs_push end k (n ∷ ms) m =
+    ap (λ ws. alone_of end (new_node n.tree k queue_length) ∷ ws)
+    (runs_push end (k + 1) ms m ∙ ap (λ j. runs_from end (k + 1) ms ++ alone_of end (new_node m.tree j queue_length) ∷ []) (omega arith))
 
-named_push : (ns : List Naming) (ts : List (List Line)) (n : Naming) (t : List Line) → AreNamed ns ts → IsTraceNamed n t → AreNamed (ns ++ n ∷ []) (ts ++ t ∷ [])
-named_push [] [] n t h k = (k, tt)
-named_push [] (u ∷ ts) n t h k = absurd h
-named_push (m ∷ ns) [] n t h k = absurd h
-named_push (m ∷ ns) (u ∷ ts) n t h k = (h.0, named_push ns ts n t h.1 k)
-
-traces_push : (k : ℕ) (ms : List MoteTold) (m : MoteTold) → traces_from k (ms ++ m ∷ []) ≡ traces_from k ms ++ boot_lines (k + length ms) m.tree ∷ []
-traces_push k [] m = ap (λ n. boot_lines n m.tree ∷ []) (omega arith)
-traces_push k (n ∷ ms) m = ap (λ ts. boot_lines k n.tree ∷ ts) (traces_push (k + 1) ms m ∙ ap (λ j. traces_from (k + 1) ms ++ boot_lines j m.tree ∷ []) (omega arith))
-
--- the trace of the next mote
-trace_next : (ms : List MoteTold) (i : ℕ) (tree : Tree) → i < length ms → option_map tree_in (slice_get ms i) ≡ Some tree
-    → traces_from 0 (take (i + 1) ms) ≡ traces_from 0 (take i ms) ++ boot_lines i tree ∷ []
-trace_next ms i tree h grown =
+-- the run of the next mote
+pub run_next : (end : ℕ) (ms : List MoteTold) (i : ℕ) (tree : Tree) → i < length ms → option_map tree_in (slice_get ms i) ≡ Some tree
+    → runs_from end 0 (take (i + 1) ms) ≡ runs_from end 0 (take i ms) ++ alone_of end (new_node tree i queue_length) ∷ []
+run_next end ms i tree h grown =
     let n : 0 + length (take i ms) ≡ i = omega (arith, length-take-le i ms (omega arith)) in
-    ap (traces_from 0) (take_more ms i no_mote h) ∙ traces_push 0 (take i ms) (get_or ms i no_mote)
-    ∙ ap (λ j. traces_from 0 (take i ms) ++ boot_lines j (get_or ms i no_mote).tree ∷ []) n
-    ∙ ap (λ t. traces_from 0 (take i ms) ++ boot_lines i t ∷ []) (read_at tree_in ms i tree h grown)
+    ap (runs_from end 0) (take_more ms i no_mote h) ∙ runs_push end 0 (take i ms) (get_or ms i no_mote)
+    ∙ ap (λ j. runs_from end 0 (take i ms) ++ alone_of end (new_node (get_or ms i no_mote).tree j queue_length) ∷ []) n
+    ∙ ap (λ t. runs_from end 0 (take i ms) ++ alone_of end (new_node t i queue_length) ∷ []) (read_at tree_in ms i tree h grown)
 
 -- one trace more
-pub one_more_trace : (ms : List MoteTold) (i : ℕ) (tree : Tree) (v v' : List (Vec Line Global)) (t : Vec Line Global) → i < length ms → option_map tree_in (slice_get ms i) ≡ Some tree
-    → map lines_of v ≡ traces_from 0 (take i ms) → v' ≡ v ++ t ∷ [] → t.items ≡ boot_lines i tree → map lines_of v' ≡ traces_from 0 (take (i + 1) ms)
-one_more_trace ms i tree v v' t h grown so pushed is =
-    ap (map lines_of) pushed ∙ map-append lines_of v (t ∷ []) ∙ ap (λ l. l ++ t.items ∷ []) so ∙ ap (λ l. traces_from 0 (take i ms) ++ l ∷ []) is
-    ∙ sym (trace_next ms i tree h grown)
+pub one_more_trace : (runs all : List Written) (w : Written) (v v' : List (Vec Line Global)) (t : Vec Line Global) → all ≡ runs ++ w ∷ []
+    → map lines_in v ≡ map trace_of runs → v' ≡ v ++ t ∷ [] → t.items ≡ w.lines → map lines_in v' ≡ map trace_of all
+one_more_trace runs all w v v' t next so pushed is =
+    ap (map lines_in) pushed ∙ map-append lines_in v (t ∷ []) ∙ ap (λ l. l ++ t.items ∷ []) so ∙ ap (λ l. map trace_of runs ++ l ∷ []) is
+    ∙ sym (map-append trace_of runs (w ∷ [])) ∙ ap (map trace_of) (sym next)
 
-pub one_more_named : (ms : List MoteTold) (i : ℕ) (tree : Tree) (v v' : List (Vec Line Global)) (t : Vec Line Global) → i < length ms → option_map tree_in (slice_get ms i) ≡ Some tree
-    → AreNamed (map naming_told (take i ms)) (map lines_of v) → v' ≡ v ++ t ∷ [] → IsTraceNamed (record { program = []; processes = tree.processes }) t.items
-    → AreNamed (map naming_told (take (i + 1) ms)) (map lines_of v')
-one_more_named ms i tree v v' t h grown so pushed is =
-    subst (λ ns. AreNamed ns (map lines_of v')) (sym (names_next ms i tree h grown))
-    (subst (λ ts. AreNamed (map naming_told (take i ms) ++ record { program = (get_or ms i no_mote).program; processes = tree.processes } ∷ []) ts) (sym (ap (map lines_of) pushed ∙ map-append lines_of v (t ∷ [])))
-    (named_push (map naming_told (take i ms)) (map lines_of v) (record { program = (get_or ms i no_mote).program; processes = tree.processes }) t.items so is))
+packets_push : (runs : List Written) (w : Written) → flat_map packets_of (runs ++ w ∷ []) ≡ flat_map packets_of runs ++ packets_of w
+packets_push [] w = append-nil (packets_of w)
+packets_push (x ∷ runs) w =
+    ap (λ l. packets_of x ++ l) (packets_push runs w) ∙ sym (append_assoc (packets_of x) (flat_map packets_of runs) (packets_of w))
+
+-- the packets of one mote more
+pub one_more_log : (runs all : List Written) (w : Written) (old new : List Packet) (sends : List Sent) → all ≡ runs ++ w ∷ []
+    → old ≡ flat_map packets_of runs → new ≡ old ++ map unheard sends → sends ≡ w.sends → new ≡ flat_map packets_of all
+one_more_log runs all w old new sends next so logged is =
+    logged ∙ ap (λ l. l ++ map unheard sends) so ∙ ap (λ l. flat_map packets_of runs ++ map unheard l) is
+    ∙ sym (packets_push runs w) ∙ ap (flat_map packets_of) (sym next)

@@ -3,6 +3,6 @@ use Rattle.std.specs.Prelude.{ℕ}
 use Rattle.motesim.specs.declared.printer.error.PrintError.{PrintError}
 use Rattle.motesim.specs.declared.printer.error.PrintError.TheVariants.{Write, Memory}
 
-abbrev pub number_of : PrintError → ℕ
-number_of Write = 1
-number_of Memory = 2
+abbrev pub print_fault_number : PrintError → ℕ
+print_fault_number Write = 1
+print_fault_number Memory = 2

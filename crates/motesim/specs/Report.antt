@@ -1,16 +1,28 @@
 -- What a report tells.
 use Rattle.std.specs.Prelude.{ℕ, List, map, Vec}
 use Rattle.std.specs.declared.alloc.Global.{Global}
-use Rattle.motesim.specs.declared.line.Line.{Line}
+use Rattle.process_kernel.specs.declared.line.Line.{Line}
+use Rattle.motesim.specs.declared.log.Fate.{Fate}
+use Rattle.motesim.specs.declared.log.LogLine.{LogLine}
+use Rattle.process_kernel.specs.declared.line.Sent.{Sent}
 use Rattle.motesim.specs.declared.report.Report.{Report}
 
--- the trace of each mote, and the number of copies still on their way
+-- a packet that was sent, and the fate of each of its copies
+pub record Packet : Type 0 where
+  pub sent : Sent
+  pub fates : List Fate
+
+-- the trace of each mote, the packets that the medium carried, and the number of copies still on their way
 pub record ReportTold : Type 0 where
   pub traces : List (List Line)
+  pub log : List Packet
   pub left : ℕ
 
-abbrev pub lines_of : Vec Line Global → List Line
-lines_of t = t.items
+abbrev pub lines_in : Vec Line Global → List Line
+lines_in t = t.items
+
+abbrev pub packet_of : LogLine → Packet
+packet_of l = record { sent = l.sent; fates = l.fates.items }
 
 abbrev pub report_of : Report → ReportTold
-report_of r = record { traces = map lines_of r.traces.items; left = r.left }
+report_of r = record { traces = map lines_in r.traces.items; log = map packet_of r.log.items; left = r.left }

@@ -8,9 +8,10 @@ use Rattle.motesim.specs.declared.scenario.error.ScenarioError.{ScenarioError}
 use Rattle.motesim.specs.declared.scenario.error.ScenarioError.TheVariants as scenario
 use Rattle.motesim.specs.declared.simulate.SimError.{SimError}
 use Rattle.motesim.specs.declared.simulate.SimError.TheVariants as fault
-use Rattle.motesim.specs.Input.{limit, IsText}
+use Rattle.motesim.specs.Input.{IsText}
 use Rattle.motesim.specs.Output.{AppendsFront}
 use Rattle.motesim.specs.Run.{output_of}
+use Rattle.motesim.specs.Scenario.Limits.{longest_text}
 use Rattle.motesim.specs.Scenario.Net.{NetTold}
 use Rattle.motesim.specs.Scenario.Reading.{TellsNet, TellsFault}
 
@@ -33,8 +34,8 @@ RefusesText bytes e = TellsFault bytes e
 abbrev pub Simulated : List ℕ → (old new : Option (List ℕ)) → Result (Unit {0}) SimError → Type 0
 Simulated bytes old new (Ok u) = Reported bytes (Appends old new)
 Simulated bytes old new (Err fault.Read) = Unit {0}
-Simulated bytes old new (Err fault.TooLong) = limit < length bytes
-Simulated bytes old new (Err fault.NotText) = (length bytes ≤ limit) × (¬ IsUtf8 bytes)
+Simulated bytes old new (Err fault.TooLong) = longest_text < length bytes
+Simulated bytes old new (Err fault.NotText) = (length bytes ≤ longest_text) × (¬ IsUtf8 bytes)
 Simulated bytes old new (Err (fault.Scenario e)) = IsText bytes × RefusesText bytes e
 Simulated bytes old new (Err (fault.Print e)) = Reported bytes (AppendsFront old new)
 Simulated bytes old new (Err fault.Memory) = Unit {0}

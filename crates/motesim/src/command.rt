@@ -1,5 +1,8 @@
 //! The program: a scenario on standard input, its report on standard output, a fault's line on standard error.
 
+ghost use Rattle.std.specs.Prelude.{Some};
+ghost use Rattle.motesim.specs.FaultLines.{fault_line};
+
 use crate::printer::PrintError;
 use crate::scenario::{MediumError, ScenarioError};
 use crate::simulate::{SimError, simulate_serial};
@@ -7,6 +10,8 @@ use std::fmt;
 use std::io::{Read, Write};
 
 impl fmt::Display for SimError {
+    ghost output = { λ fault. Some (fault_line fault) };
+
     fn fmt<W: fmt::Write>(&self, f: &mut fmt::Formatter<W>) -> fmt::Result {
         match self {
             SimError::Read => write!(f, "read fault"),

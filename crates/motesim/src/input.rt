@@ -1,16 +1,15 @@
 //! Reading the whole of an input as a text.
 ghost use Rattle.std.specs.Prelude.{◌≡◌, ◌≤◌, IfOk, IfSome, string_len, vec_len};
-ghost use Rattle.motesim.specs.Input.{limit, ReadsAll, ReadsText};
+ghost use Rattle.motesim.specs.Input.{ReadsBytes, ReadsText};
+ghost use Rattle.motesim.specs.Scenario.Limits.{longest_text};
 ghost use Rattle.motesim.specs.declared.input.InputError.TheVariants.{Memory};
 
+use crate::scenario::LONGEST_TEXT;
 use std::alloc::{AllocError, Global};
 use std::io::Read;
 
 #[cfg(test)]
 mod tests;
-
-/// The length of the longest input that is read, in bytes.
-pub const LIMIT: usize = 1_048_576;
 
 /// How many bytes are asked for at a time.
 const CHUNK: usize = 4096;
@@ -20,7 +19,7 @@ const CHUNK: usize = 4096;
 pub enum InputError {
     /// The reader failed. An interrupted call counts as a failure.
     Read,
-    /// More than `LIMIT` bytes came.
+    /// More than `LONGEST_TEXT` bytes came.
     TooLong,
     /// The bytes aren't UTF-8.
     NotText,
@@ -36,15 +35,15 @@ impl From<AllocError> for InputError {
     }
 }
 
-/// All bytes of a reader, where they are at most `LIMIT`. It stops at the first read that goes past that limit, so it
+/// All bytes of a reader, where they are at most `LONGEST_TEXT`. It stops at the first read that goes past that limit, so it
 /// ends at a reader that never does.
 fn read_all<R: Read>(alloc: Global, reader: &mut R) -> Result<Vec<u8>, InputError>
-    ensures told { IfSome (R.remaining reader.old) (λ input. ReadsAll input result) }
-    ensures bounded { IfOk result (λ bytes. vec_len bytes ≤ limit) }
+    ensures told { IfSome (R.remaining reader.old) (λ input. ReadsBytes input result) }
+    ensures bounded { IfOk result (λ bytes. vec_len bytes ≤ longest_text) }
 {
     let mut bytes = Vec::new(alloc);
     let mut chunk = [0u8; CHUNK];
-    while bytes.len() <= LIMIT {
+    while bytes.len() <= LONGEST_TEXT {
         match reader.read(&mut chunk) {
             Ok(0) => return Ok(bytes),
             Ok(n) => bytes.extend_from_slice(&chunk[..n])?,
@@ -54,15 +53,15 @@ fn read_all<R: Read>(alloc: Global, reader: &mut R) -> Result<Vec<u8>, InputErro
     Err(InputError::TooLong)
 }
 
-/// The text that a reader holds, of at most `LIMIT` bytes of UTF-8.
+/// The text that a reader holds, of at most `LONGEST_TEXT` bytes of UTF-8.
 ///
 /// # Errors
 /// In this order: `Read` where a call of the reader failed before the limit was passed, `TooLong` where more than
-/// `LIMIT` bytes came, `NotText` where they aren't UTF-8. `Memory` only where a growth was refused.
+/// `LONGEST_TEXT` bytes came, `NotText` where they aren't UTF-8. `Memory` only where a growth was refused.
 pub fn read_text<R: Read>(alloc: Global, reader: &mut R) -> Result<String, InputError>
     // Where the reader tells its bytes, the answer is that of those bytes.
     ensures told { IfSome (R.remaining reader.old) (λ input. ReadsText input result) }
-    ensures bounded { IfOk result (λ text. string_len text ≤ limit) }
+    ensures bounded { IfOk result (λ text. string_len text ≤ longest_text) }
 {
     let bytes = read_all(alloc, reader)?;
     match String::from_utf8(bytes) {

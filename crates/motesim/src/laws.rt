@@ -1,12 +1,11 @@
 //! Laws of the definitions. Nothing runs here: each function's contract is a law.
-ghost use Rattle.motesim.specs.BootLaws.{BoundsAgree};
+ghost use Rattle.motesim.specs.Laws.{OneReport};
 
-use protothread::operations_cost_work;
+use crate::scenario::laws::at_most_one_net;
 
-/// The bound in boot's definition is never reached: any number above the units left gives the same run, since each
-/// operation costs a unit.
-pub fn any_bound_gives_the_same_run()
-    ensures { BoundsAgree }
+/// The same scenario, the same bytes: a text has at most one report.
+pub fn at_most_one_report()
+    ensures { OneReport }
 {
-    operations_cost_work();
+    at_most_one_net();
 }

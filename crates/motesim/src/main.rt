@@ -1,11 +1,11 @@
 //! Motes simulated, from the bytes of a scenario to the bytes of its report.
 #![tactic(auto)]
 
+mod alone;
 mod command;
 mod input;
-mod kernel;
 mod laws;
-mod line;
+mod log;
 mod output;
 mod printer;
 mod report;

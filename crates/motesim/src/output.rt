@@ -7,15 +7,16 @@ use std::io::Write;
 #[derive(Clone, Copy, Debug, PartialEq, Eq)]
 pub struct WriteFault;
 
-/// Writes all of the text. After a fault a front of it has been written.
-pub fn write_text<W: Write>(writer: &mut W, text: &str) -> Result<(), WriteFault>
-    ensures { Writes (W.contents writer.old) (W.contents writer.new) result text.now }
+/// Writes all of the bytes. After a fault a front of them has been written, which lacks at least a byte.
+pub fn write_bytes<W: Write>(writer: &mut W, bytes: &[u8]) -> Result<(), WriteFault>
+    ensures { Writes (W.contents writer.old) (W.contents writer.new) result bytes.now }
 {
-    let mut rest = text.as_bytes();
+    let mut rest = bytes;
     while !rest.is_empty() {
         match writer.write(rest) {
-            Ok(0) | Err(_) => return Err(WriteFault),
+            Ok(0) => return Err(WriteFault),
             Ok(n) => rest = &rest[n..],
+            Err(_) => return Err(WriteFault),
         }
     }
     Ok(())

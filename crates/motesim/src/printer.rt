@@ -3,10 +3,13 @@
 mod error;
 mod lines;
 mod named;
-#[cfg(test)]
-mod tests;
-mod traces;
+mod page;
+mod report;
+mod words;
 
 pub use error::PrintError;
 pub use named::MoteProgram;
-pub use traces::write_report;
+pub use report::write_report;
+
+#[cfg(test)]
+mod tests;

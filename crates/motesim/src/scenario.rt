@@ -29,6 +29,7 @@ mod tests;
 mod values;
 
 pub use error::{MediumError, ScenarioError};
+pub use limits::LONGEST_TEXT;
 pub use medium::Medium;
 pub use net::Net;
 pub use read::read_scenario;

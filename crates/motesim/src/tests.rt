@@ -1,10 +1,13 @@
 //! Runs of whole scenarios, with values worked by hand.
 
+mod fault_lines;
+mod motes;
 mod scenarios;
 mod streams;
 
 use crate::simulate::{SimError, simulate_serial};
 use std::alloc::{AllocError, Global};
+use std::test::Fail;
 
 /// A scenario whose process prints, and yields for ever.
 pub(crate) const PRINT_THEN_YIELD: &str =
@@ -21,9 +24,22 @@ pub(crate) fn report_of(alloc: Global, scenario: &str) -> Result<Vec<u8>, SimErr
     Ok(output)
 }
 
-/// The scenario of one mote at its place with this program.
+/// The scenario of one mote with this program, up to moment 9.
 pub(crate) fn scenario_of(alloc: Global, program: &str) -> Result<String, AllocError> {
+    scenario_to(alloc, 9, program)
+}
+
+/// The scenario of one mote with this program, up to this moment.
+pub(crate) fn scenario_to(alloc: Global, end: u32, program: &str) -> Result<String, AllocError> {
     format!(in alloc;
-        "version = 1\nend = 9\n[medium]\nrange = 10\nbase = 1\nper = 100\n[programs]\np = \"\"\"\n{program}\"\"\"\n[[mote]]\nx = 0\ny = 0\nprogram = \"p\"\n"
+        "version = 1\nend = {end}\n[medium]\nrange = 10\nbase = 1\nper = 100\n[programs]\np = \"\"\"\n{program}\"\"\"\n[[mote]]\nx = 0\ny = 0\nprogram = \"p\"\n"
     )
+}
+
+/// The scenario of `PRINT_THEN_YIELD`, with one text in the place of another.
+pub(crate) fn changed(alloc: Global, old: &str, new: &str) -> Result<String, Fail> {
+    let (before, after) = PRINT_THEN_YIELD
+        .split_once(old)
+        .ok_or("the text isn't there")?;
+    Ok(format!(in alloc; "{before}{new}{after}")?)
 }

@@ -1,103 +1,233 @@
 -- The step of a thread, one statement or one end of a block at a time.
-use Rattle.std.proofs.Common.{◌≡◌, ℕ, suc, ◌+◌, ◌≤◌, Bool, false, List, [], ◌∷◌, ◌++◌, length, Some, ap, sym, ◌∙◌}
-use Rattle.std.specs.Prelude.{slice_get}
+use Rattle.std.proofs.Common.{◌≡◌, ℕ, zero, suc, ◌-◌, ◌<◌, ◌≤◌, Bool, true, false, if◌then◌else◌, List, [], ◌∷◌, ◌++◌, length, Option, Some, refl, ap, sym, ◌∙◌, arith}
+use Rattle.std.specs.Prelude.{slice_get, nat_lt}
 use Rattle.std.proofs.lemmas.List.{drop_all}
+use Rattle.std.proofs.lemmas.Bool.Decides.{nat_tests}
 use Rattle.mote_program.specs.declared.event.Event.{Event}
 use Rattle.mote_program.specs.Tree.{Statement}
-use Rattle.mote_program.specs.Program.{Code}
-use Rattle.protothread.specs.declared.thread.Part.{Part}
-use Rattle.protothread.specs.declared.thread.Mark.TheVariants.{RunAway}
-use Rattle.protothread.specs.declared.thread.Frame.{Frame}
+use Rattle.mote_program.specs.Code.{Code}
+use Rattle.protothread.specs.declared.part.Part.{Part}
+use Rattle.protothread.specs.declared.thread.Mark.TheVariants.{AtRest, UnderWay, Pausing, RunAway}
+use Rattle.protothread.specs.declared.frame.Frame.{Frame}
 use Rattle.protothread.specs.declared.thread.Thread.{Thread}
-use Rattle.protothread.specs.declared.thread.Step.{Step}
-use Rattle.protothread.specs.declared.thread.Step.TheVariants as step
+use Rattle.protothread.specs.declared.step.Op.{Op}
+use Rattle.protothread.specs.declared.step.Step.TheVariants as step
+use Rattle.protothread.specs.declared.state.PtState.{PtState}
 use Rattle.protothread.specs.declared.state.PtState.TheVariants.{Ended}
 use Rattle.protothread.specs.Looks.{Looks}
-use Rattle.protothread.specs.Remainder.{fresh_of, whole_of}
-use Rattle.protothread.specs.Step.{Advanced, Reached, goes_on, stops, reached, continued}
-use Rattle.protothread.specs.Frames.{block_at, rest_of, todo_of, remainder_of}
-use Rattle.protothread.specs.Reach.{GoesOnAt, StopsWith}
-use Rattle.protothread.proofs.FrameLaws.{todo_of-at, rest_of-push}
+use Rattle.protothread.specs.Remainder.{Place, ended, at, before, settled, fresh_of, whole_of}
+use Rattle.protothread.specs.Step.{Advanced, Reached, goes_on, operates, answers, reached, continued, advanced_of, passed, yield_answer}
+use Rattle.protothread.specs.Frames.{block_at, is_thread, spawns, yielding, rest_of, Caller, callers_in, callers_of, nested, place_of, remainder_of}
+use Rattle.protothread.specs.Reach.{behind_of, reached_at, GoesOnAt, OperatesSo, AnswersSo}
+use Rattle.protothread.proofs.FrameLaws.{rest_of-push, callers_in-block, callers_in-thread, caller_at, length-callers_in, place_of-at, settled-at, settled-end}
 
--- past the end of a block there is what follows it
-todo_of-past : (whole : List Statement) (fs : List Frame) (p : ℕ) → length (block_at whole fs) ≤ p → todo_of whole fs p ≡ rest_of whole fs
-todo_of-past whole fs p past = ap (λ d. d ++ rest_of whole fs) (drop_all p (block_at whole fs) past)
+-- what a call passes, and what a thread answers that yields
+passed-before : (y : Bool) (ss : List (Statement ℕ)) → passed (before y ss) ≡ 0
+passed-before y [] = refl
+passed-before y (s ∷ ss) = refl
+
+passed-nested : (cs : List Caller) (y : Bool) (ss : List (Statement ℕ)) → passed (nested cs (before y ss)) ≡ length cs
+passed-nested [] y ss = passed-before y ss
+passed-nested (c ∷ cs) y ss = ap (λ n. suc n) (passed-nested cs y ss)
+
+yield_answer-before : (y : Bool) (ss : List (Statement ℕ)) → yield_answer (before y ss) ≡ yielding 0
+yield_answer-before y [] = refl
+yield_answer-before y (s ∷ ss) = refl
+
+yield_answer-nested : (cs : List Caller) (y : Bool) (ss : List (Statement ℕ)) → yield_answer (nested cs (before y ss)) ≡ yielding (length cs)
+yield_answer-nested [] y ss = yield_answer-before y ss
+yield_answer-nested (c ∷ cs) y ss = refl
+
+pub passed-place_of : (code : Code) (whole : List (Statement ℕ)) (t : Thread) → passed (place_of code whole t) ≡ spawns t.frames.items
+passed-place_of code whole t = passed-nested (callers_of code whole t) t.is_yielded _ ∙ length-callers_in code whole t.frames.items []
+
+pub yield_answer-place_of : (code : Code) (whole : List (Statement ℕ)) (t : Thread) → yield_answer (place_of code whole t) ≡ yielding (spawns t.frames.items)
+yield_answer-place_of code whole t = yield_answer-nested (callers_of code whole t) t.is_yielded _ ∙ ap yielding (length-callers_in code whole t.frames.items [])
+
+module _ (code : Code) (event : Event) (looks : Looks) (t : Thread) (vars : List ℕ) (units : ℕ) where
+  pub resumes_at_rest : t.mark ≡ AtRest → spawns t.frames.items ≤ units
+      → advanced_of code event looks (remainder_of code t) vars units ≡ continued code t.part event looks (place_of code (whole_of code t.part) t) vars (units - spawns t.frames.items)
+  unfolding advanced_of
+  resumes_at_rest rests enough =
+      let place : Place = place_of code (whole_of code t.part) t in
+      ap (λ m. advanced_of code event looks (record { part = t.part; mark = m; place = place }) vars units) rests
+      ∙ ap (λ n. if nat_lt units n then record { step = step.Runaway; remainder = record { part = t.part; mark = RunAway; place = place }; variables = vars; units = 0 } else continued code t.part event looks place vars (units - n)) (passed-place_of code (whole_of code t.part) t)
+      ∙ ap (λ b. if b then record { step = step.Runaway; remainder = record { part = t.part; mark = RunAway; place = place }; variables = vars; units = 0 } else continued code t.part event looks place vars (units - spawns t.frames.items)) (not_less units (spawns t.frames.items) enough)
+    where
+      not_less : (a b : ℕ) → b ≤ a → nat_lt a b ≡ false
+      not_less a b h = grind (arith, nat_tests)
+
+  pub cannot_resume : t.mark ≡ AtRest → units < spawns t.frames.items
+      → advanced_of code event looks (remainder_of code t) vars units ≡ record { step = step.Runaway; remainder = remainder_of code (record t { mark = RunAway }); variables = vars; units = 0 }
+  unfolding advanced_of
+  cannot_resume rests short =
+      let place : Place = place_of code (whole_of code t.part) t in
+      ap (λ m. advanced_of code event looks (record { part = t.part; mark = m; place = place }) vars units) rests
+      ∙ ap (λ n. if nat_lt units n then record { step = step.Runaway; remainder = record { part = t.part; mark = RunAway; place = place }; variables = vars; units = 0 } else continued code t.part event looks place vars (units - n)) (passed-place_of code (whole_of code t.part) t)
+      ∙ ap (λ b. if b then record { step = step.Runaway; remainder = record { part = t.part; mark = RunAway; place = place }; variables = vars; units = 0 } else continued code t.part event looks place vars (units - spawns t.frames.items)) (less units (spawns t.frames.items) short)
+    where
+      less : (a b : ℕ) → a < b → nat_lt a b ≡ true
+      less a b h = grind (arith, nat_tests)
+
+  pub goes_on_under_way : (into : Option ℕ) → t.mark ≡ UnderWay into
+      → advanced_of code event looks (remainder_of code t) vars units ≡ continued code t.part event looks (place_of code (whole_of code t.part) t) vars units
+  unfolding advanced_of
+  goes_on_under_way into under =
+      ap (λ m. advanced_of code event looks (record { part = t.part; mark = m; place = place_of code (whole_of code t.part) t }) vars units) under
+
+  pub gives_up_now : t.mark ≡ Pausing
+      → advanced_of code event looks (remainder_of code t) vars units ≡ record { step = step.Done (yielding (spawns t.frames.items)); remainder = remainder_of code (record t { mark = AtRest }); variables = vars; units = units }
+  unfolding advanced_of
+  gives_up_now pausing =
+      ap (λ m. advanced_of code event looks (record { part = t.part; mark = m; place = place_of code (whole_of code t.part) t }) vars units) pausing
+      ∙ ap (λ a. record { step = step.Done a; remainder = record { part = t.part; mark = AtRest; place = place_of code (whole_of code t.part) t }; variables = vars; units = units }) (yield_answer-place_of code (whole_of code t.part) t)
+
+  pub stays_away : t.mark ≡ RunAway
+      → advanced_of code event looks (remainder_of code t) vars units ≡ record { step = step.Runaway; remainder = remainder_of code t; variables = vars; units = units }
+  unfolding advanced_of
+  stays_away away =
+      ap (λ m. advanced_of code event looks (record { part = t.part; mark = m; place = place_of code (whole_of code t.part) t }) vars units) away
+      ∙ ap (λ m. record { step = step.Runaway; remainder = record { part = t.part; mark = m; place = place_of code (whole_of code t.part) t }; variables = vars; units = units }) (sym away)
 
 module _ (code : Code) (part : Part) (event : Event) (looks : Looks) where
-  -- the remainder of a thread that runs this part
-  meant : (whole : List Statement) (t : Thread) → whole ≡ whole_of code part → t.part ≡ part
-      → record { part = part; mark = t.mark; is_yielded = t.is_yielded; todo = todo_of whole t.frames.items t.position } ≡ remainder_of code t
-  meant whole t is_whole same =
-      ap (λ w. record { part = part; mark = t.mark; is_yielded = t.is_yielded; todo = todo_of w t.frames.items t.position }) is_whole
-      ∙ ap (λ p. record { part = p; mark = t.mark; is_yielded = t.is_yielded; todo = todo_of (whole_of code p) t.frames.items t.position }) (sym same)
-
   -- what follows one statement that was paid for
-  follows : (vars : List ℕ) (units : ℕ) → Reached → Advanced
+  abbrev follows : (vars : List ℕ) (units : ℕ) → Reached → Advanced
   follows vars units r =
       elim r [
-        | goes_on changed todo ↦ continued code part event looks false todo changed units
-        | stops step mark is_yielded todo ↦ record { step = step; remainder = record { part = part; mark = mark; is_yielded = is_yielded; todo = todo }; variables = vars; units = units }
+        | goes_on changed p ↦ continued code part event looks p changed units
+        | operates o mark p ↦ record { step = step.Op o; remainder = record { part = part; mark = mark; place = p }; variables = vars; units = units }
+        | answers a p ↦ record { step = step.Done a; remainder = record { part = part; mark = AtRest; place = p }; variables = vars; units = units }
       ]
 
-  paid : (y : Bool) (s : Statement) (todo rest : List Statement) (vars : List ℕ) (before after : ℕ) (r : Reached)
-      → todo ≡ s ∷ rest → before ≡ suc after → reached event looks y vars s rest ≡ r
-      → continued code part event looks y todo vars before ≡ follows vars after r
-  unfolding follows
-  paid y s todo rest vars before after r split spent does =
-      ap (λ l. continued code part event looks y l vars before) split ∙ ap (λ u. continued code part event looks y (s ∷ rest) vars u) spent
-      ∙ ap (λ q. follows vars after q) does
+  abbrev finished : (vars : List ℕ) (units : ℕ) → Advanced
+  finished vars units = record { step = step.Done Ended; remainder = fresh_of code part; variables = vars; units = units }
+
+  -- a step from a settled place
+  abbrev stepped : (vars : List ℕ) (units : ℕ) → Place → Advanced
+  stepped vars zero q =
+      elim q [
+        | ended ↦ finished vars 0
+        | p ↦ record { step = step.Runaway; remainder = record { part = part; mark = RunAway; place = p }; variables = vars; units = 0 }
+      ]
+  stepped vars (suc units) q =
+      elim q [
+        | ended ↦ finished vars (suc units)
+        | p ↦ follows vars units (reached code (whole_of code part) vars event looks p)
+      ]
+
+  settles : (p : Place) (vars : List ℕ) (units : ℕ) → continued code part event looks p vars units ≡ stepped vars units (settled p)
+  settles p vars zero = refl
+  settles p vars (suc units) = refl
+
+  settled_same : (p q : Place) (vars : List ℕ) (units : ℕ) → settled p ≡ settled q → continued code part event looks p vars units ≡ continued code part event looks q vars units
+  settled_same p q vars units same = settles p vars units ∙ ap (λ r. stepped vars units r) same ∙ sym (settles q vars units)
+
+  at_statement : (cs : List Caller) (y : Bool) (s : Statement ℕ) (rest : List (Statement ℕ)) (vars : List ℕ) (units : ℕ)
+      → stepped vars (suc units) (nested cs (at y s rest)) ≡ follows vars units (reached code (whole_of code part) vars event looks (nested cs (at y s rest)))
+  at_statement [] y s rest vars units = refl
+  at_statement (c ∷ cs) y s rest vars units = refl
+
+  without_unit : (cs : List Caller) (y : Bool) (s : Statement ℕ) (rest : List (Statement ℕ)) (vars : List ℕ)
+      → stepped vars 0 (nested cs (at y s rest)) ≡ record { step = step.Runaway; remainder = record { part = part; mark = RunAway; place = nested cs (at y s rest) }; variables = vars; units = 0 }
+  without_unit [] y s rest vars = refl
+  without_unit (c ∷ cs) y s rest vars = refl
+
+  -- the remainder of a thread that runs this part
+  meant : (whole : List (Statement ℕ)) (t : Thread) → whole ≡ whole_of code part → t.part ≡ part
+      → record { part = part; mark = t.mark; place = place_of code whole t } ≡ remainder_of code t
+  meant whole t is_whole same =
+      ap (λ w. record { part = part; mark = t.mark; place = place_of code w t }) is_whole
+      ∙ ap (λ p. record { part = p; mark = t.mark; place = place_of code (whole_of code p) t }) (sym same)
 
   -- a statement without a unit
-  pub runs_away : (whole : List Statement) (t : Thread) (s : Statement) (vars : List ℕ) (units : ℕ)
+  pub runs_away : (whole : List (Statement ℕ)) (t : Thread) (s : Statement ℕ) (vars : List ℕ) (units : ℕ)
       → whole ≡ whole_of code part → t.part ≡ part
-      → slice_get (block_at whole t.frames.items) t.position ≡ Some s → units ≡ 0
-      → continued code part event looks t.is_yielded (todo_of whole t.frames.items t.position) vars units
+      → slice_get (block_at code whole t.frames.items) t.position ≡ Some s → units ≡ 0
+      → continued code part event looks (place_of code whole t) vars units
       ≡ record { step = step.Runaway; remainder = remainder_of code (record t { mark = RunAway }); variables = vars; units = units }
-  runs_away whole t s vars units is_whole same at none =
-      let todo = todo_of whole t.frames.items t.position in
-      let split = todo_of-at whole t.frames.items t.position s at in
-      ap (λ l. continued code part event looks t.is_yielded l vars units) split
-      ∙ ap (λ u. continued code part event looks t.is_yielded (s ∷ todo_of whole t.frames.items (t.position + 1)) vars u) none
-      ∙ ap (λ l. record { step = step.Runaway; remainder = record { part = part; mark = RunAway; is_yielded = t.is_yielded; todo = l }; variables = vars; units = 0 }) (sym split)
-      ∙ ap (λ u. record { step = step.Runaway; remainder = record { part = part; mark = RunAway; is_yielded = t.is_yielded; todo = todo }; variables = vars; units = u }) (sym none)
+  runs_away whole t s vars units is_whole same here none =
+      let place : Place = place_of code whole t in
+      let p : Place = nested (callers_of code whole t) (at t.is_yielded s (behind_of code whole t)) in
+      let stands : place ≡ p = place_of-at code whole t s here in
+      ap (λ u. continued code part event looks place vars u) none ∙ settles place vars 0
+      ∙ ap (λ q. stepped vars 0 q) (ap settled stands ∙ settled-at (callers_of code whole t) t.is_yielded s (behind_of code whole t))
+      ∙ without_unit (callers_of code whole t) t.is_yielded s (behind_of code whole t) vars
+      ∙ ap (λ q. record { step = step.Runaway; remainder = record { part = part; mark = RunAway; place = q }; variables = vars; units = 0 }) (sym stands)
+      ∙ ap (λ u. record { step = step.Runaway; remainder = record { part = part; mark = RunAway; place = place }; variables = vars; units = u }) (sym none)
       ∙ ap (λ r. record { step = step.Runaway; remainder = r; variables = vars; units = units }) (meant whole (record t { mark = RunAway }) is_whole same)
 
-  -- a statement after which the thread goes on
-  pub goes_on_from : (whole : List Statement) (old : Thread) (s : Statement) (block : List Statement) (new : Thread) (vars changed : List ℕ) (before after : ℕ)
-      → slice_get (block_at whole old.frames.items) old.position ≡ Some s → before ≡ suc after
-      → GoesOnAt whole event looks old vars s block new changed
-      → continued code part event looks old.is_yielded (todo_of whole old.frames.items old.position) vars before
-      ≡ continued code part event looks new.is_yielded (todo_of whole new.frames.items new.position) changed after
-  unfolding follows
-  goes_on_from whole old s block new vars changed before after at spent does =
-      paid old.is_yielded s _ _ vars before after _ (todo_of-at whole old.frames.items old.position s at) spent does.does
-      ∙ ap (λ y. continued code part event looks y (todo_of whole new.frames.items new.position) changed after) (sym does.unyielded)
+  -- one that is paid for
+  paid : (whole : List (Statement ℕ)) (t : Thread) (s : Statement ℕ) (vars : List ℕ) (units left : ℕ) (r : Reached)
+      → whole ≡ whole_of code part → slice_get (block_at code whole t.frames.items) t.position ≡ Some s → units ≡ suc left
+      → reached_at code whole t vars event looks s ≡ r
+      → continued code part event looks (place_of code whole t) vars units ≡ follows vars left r
+  paid whole t s vars units left r is_whole here spent made =
+      let cs : List Caller = callers_of code whole t in
+      ap (λ u. continued code part event looks (place_of code whole t) vars u) spent ∙ settles (place_of code whole t) vars (suc left)
+      ∙ ap (λ q. stepped vars (suc left) q) (ap settled (place_of-at code whole t s here) ∙ settled-at cs t.is_yielded s (behind_of code whole t))
+      ∙ at_statement cs t.is_yielded s (behind_of code whole t) vars left
+      ∙ ap (λ w. follows vars left (reached code w vars event looks (nested cs (at t.is_yielded s (behind_of code whole t))))) (sym is_whole)
+      ∙ ap (λ q. follows vars left q) made
 
-  -- a statement at which it stops
-  pub stops_at : (whole : List Statement) (old : Thread) (s : Statement) (answer : Step) (new : Thread) (vars changed : List ℕ) (before after : ℕ)
-      → whole ≡ whole_of code part → old.part ≡ part
-      → slice_get (block_at whole old.frames.items) old.position ≡ Some s → before ≡ suc after
-      → StopsWith whole event looks old vars s answer new changed
-      → continued code part event looks old.is_yielded (todo_of whole old.frames.items old.position) vars before
-      ≡ record { step = answer; remainder = remainder_of code new; variables = changed; units = after }
-  unfolding follows
-  stops_at whole old s answer new vars changed before after is_whole same at spent does =
-      paid old.is_yielded s _ _ vars before after _ (todo_of-at whole old.frames.items old.position s at) spent does.does
-      ∙ ap (λ v. record { step = answer; remainder = record { part = part; mark = new.mark; is_yielded = new.is_yielded; todo = todo_of whole new.frames.items new.position }; variables = v; units = after }) (sym does.variables)
-      ∙ ap (λ r. record { step = answer; remainder = r; variables = changed; units = after }) (meant whole new is_whole (does.part ∙ same))
+  pub goes_on_from : (whole : List (Statement ℕ)) (old : Thread) (s : Statement ℕ) (block : List (Statement ℕ)) (new : Thread) (vars changed : List ℕ) (units left : ℕ)
+      → whole ≡ whole_of code part → slice_get (block_at code whole old.frames.items) old.position ≡ Some s → units ≡ suc left
+      → GoesOnAt code whole block (reached_at code whole old vars event looks s) old new changed
+      → continued code part event looks (place_of code whole old) vars units ≡ continued code part event looks (place_of code whole new) changed left
+  goes_on_from whole old s block new vars changed units left is_whole here spent does = paid whole old s vars units left _ is_whole here spent does.made_so
+
+  pub operates_at : (whole : List (Statement ℕ)) (old : Thread) (s : Statement ℕ) (o : Op) (new : Thread) (vars changed : List ℕ) (units left : ℕ)
+      → whole ≡ whole_of code part → old.part ≡ part → slice_get (block_at code whole old.frames.items) old.position ≡ Some s → units ≡ suc left
+      → OperatesSo code whole (reached_at code whole old vars event looks s) o old new vars changed
+      → continued code part event looks (place_of code whole old) vars units ≡ record { step = step.Op o; remainder = remainder_of code new; variables = changed; units = left }
+  operates_at whole old s o new vars changed units left is_whole same here spent does =
+      paid whole old s vars units left _ is_whole here spent does.made_so
+      ∙ ap (λ v. record { step = step.Op o; remainder = record { part = part; mark = new.mark; place = place_of code whole new }; variables = v; units = left }) (sym does.variables)
+      ∙ ap (λ r. record { step = step.Op o; remainder = r; variables = changed; units = left }) (meant whole new is_whole (does.part ∙ same))
+
+  pub answers_at : (whole : List (Statement ℕ)) (old : Thread) (s : Statement ℕ) (a : PtState) (new : Thread) (vars changed : List ℕ) (units left : ℕ)
+      → whole ≡ whole_of code part → old.part ≡ part → slice_get (block_at code whole old.frames.items) old.position ≡ Some s → units ≡ suc left
+      → AnswersSo code whole (reached_at code whole old vars event looks s) a old new vars changed
+      → continued code part event looks (place_of code whole old) vars units ≡ record { step = step.Done a; remainder = remainder_of code new; variables = changed; units = left }
+  answers_at whole old s a new vars changed units left is_whole same here spent does =
+      paid whole old s vars units left _ is_whole here spent does.made_so
+      ∙ ap (λ m. record { step = step.Done a; remainder = record { part = part; mark = m; place = place_of code whole new }; variables = vars; units = left }) (sym does.mark)
+      ∙ ap (λ v. record { step = step.Done a; remainder = record { part = part; mark = new.mark; place = place_of code whole new }; variables = v; units = left }) (sym does.variables)
+      ∙ ap (λ r. record { step = step.Done a; remainder = r; variables = changed; units = left }) (meant whole new is_whole (does.part ∙ same))
+
+  ends_at : (vars : List ℕ) (units : ℕ) → continued code part event looks ended vars units ≡ finished vars units
+  ends_at vars zero = refl
+  ends_at vars (suc units) = refl
 
   -- the end of the outermost block
-  pub ends : (whole : List Statement) (fs : List Frame) (p : ℕ) (y : Bool) (vars : List ℕ) (units : ℕ)
-      → length (block_at whole fs) ≤ p → fs ≡ []
-      → continued code part event looks y (todo_of whole fs p) vars units
-      ≡ record { step = step.Done Ended; remainder = fresh_of code part; variables = vars; units = units }
-  ends whole fs p y vars units past none =
-      ap (λ l. continued code part event looks y l vars units) (todo_of-past whole fs p past ∙ ap (λ r. rest_of whole r) none)
+  pub ends : (whole : List (Statement ℕ)) (t : Thread) (vars : List ℕ) (units : ℕ)
+      → length (block_at code whole t.frames.items) ≤ t.position → t.frames.items ≡ []
+      → continued code part event looks (place_of code whole t) vars units ≡ record { step = step.Done Ended; remainder = fresh_of code part; variables = vars; units = units }
+  ends whole t vars units past none =
+      ap (λ d. continued code part event looks (nested (callers_of code whole t) (before t.is_yielded (d ++ rest_of code whole t.frames.items []))) vars units) (drop_all t.position (block_at code whole t.frames.items) past)
+      ∙ ap (λ fs. continued code part event looks (nested (callers_in code whole fs []) (before t.is_yielded (rest_of code whole fs []))) vars units) none
+      ∙ ends_at vars units
 
   -- the end of an inner one
-  pub leaves : (whole : List Statement) (fs rest : List Frame) (f : Frame) (p : ℕ) (y : Bool) (vars : List ℕ) (units : ℕ)
-      → length (block_at whole fs) ≤ p → fs ≡ rest ++ f ∷ []
-      → continued code part event looks y (todo_of whole fs p) vars units
-      ≡ continued code part event looks y (todo_of whole rest f.position) vars units
-  leaves whole fs rest f p y vars units past last =
-      ap (λ l. continued code part event looks y l vars units) (todo_of-past whole fs p past ∙ ap (λ r. rest_of whole r) last ∙ rest_of-push whole rest f)
+  pub leaves : (whole : List (Statement ℕ)) (t : Thread) (rest : List Frame) (f : Frame) (new : Thread) (vars : List ℕ) (units : ℕ)
+      → length (block_at code whole t.frames.items) ≤ t.position → t.frames.items ≡ rest ++ f ∷ []
+      → new ≡ record t { is_yielded = (if is_thread f.branch then false else t.is_yielded); position = f.position; frames = record { items = rest } }
+      → continued code part event looks (place_of code whole t) vars units ≡ continued code part event looks (place_of code whole new) vars units
+  leaves whole t rest f new vars units past last moved =
+      let cs : List Caller = callers_in code whole rest [] in
+      let c : Caller = caller_at code whole rest f [] in
+      let first : continued code part event looks (place_of code whole t) vars units
+      ≡ continued code part event looks (nested (callers_in code whole (rest ++ f ∷ []) []) (before t.is_yielded (rest_of code whole (rest ++ f ∷ []) []))) vars units =
+      ap (λ d. continued code part event looks (nested (callers_of code whole t) (before t.is_yielded (d ++ rest_of code whole t.frames.items []))) vars units) (drop_all t.position (block_at code whole t.frames.items) past)
+      ∙ ap (λ fs. continued code part event looks (nested (callers_in code whole fs []) (before t.is_yielded (rest_of code whole fs []))) vars units) last in
+      first
+      ∙ ap (λ r. continued code part event looks (nested (callers_in code whole (rest ++ f ∷ []) []) (before t.is_yielded r)) vars units) (rest_of-push code whole rest f [])
+      ∙ (elim (is_thread f.branch) as (λ b. is_thread f.branch ≡ b
+      → continued code part event looks (nested (callers_in code whole (rest ++ f ∷ []) []) (before t.is_yielded (if b then [] else c.rest))) vars units
+      ≡ continued code part event looks (nested cs (before (if b then false else t.is_yielded) c.rest)) vars units) [
+        | true ↦ λ thread.
+            ap (λ ds. continued code part event looks (nested ds ended) vars units) (callers_in-thread code whole rest f [] thread)
+            ∙ settled_same (nested (cs ++ c ∷ []) ended) (nested cs (before false c.rest)) vars units (settled-end cs c)
+        | false ↦ λ block.
+            ap (λ ds. continued code part event looks (nested ds (before t.is_yielded c.rest)) vars units) (callers_in-block code whole rest f [] block)
+      ]) refl
+      ∙ ap (λ n. continued code part event looks (place_of code whole n) vars units) (sym moved)

@@ -1,165 +1,470 @@
 -- What a text says is what a run of it does.
-use Rattle.std.proofs.Common.{◌≡◌, ℕ, suc, ◌+◌, Bool, true, false, if◌then◌else◌, List, [], ◌∷◌, ◌++◌, slice_set, refl, ap, sym, ◌∙◌, arith, append_assoc, subst}
+use Rattle.std.proofs.Common.{◌≡◌, ℕ, suc, ◌+◌, ◌-◌, ◌<◌, Bool, true, false, if◌then◌else◌, nat_lt, List, [], ◌∷◌, ◌++◌, Option, None, Some, slice_set, refl, ap, sym, ◌∙◌, arith, append_assoc, subst, ◌==◌}
+use Rattle.std.proofs.lemmas.Bool.Decides.{nat_tests}
 use Rattle.std.proofs.lemmas.List.{append-nil}
-use Rattle.mote_program.specs.Tree.{Expression, Statement, assign, branch, while, yield, yield_until, listed}
-use Rattle.mote_program.specs.Program.{Code}
-use Rattle.protothread.specs.declared.state.PtState.TheVariants.{Yielded, Ended}
-use Rattle.protothread.specs.declared.thread.Part.{Part}
-use Rattle.protothread.specs.declared.thread.Mark.TheVariants.{AtRest, UnderWay}
-use Rattle.protothread.specs.declared.thread.Op.TheVariants.{Print}
-use Rattle.protothread.specs.declared.thread.Step.TheVariants as step
-use Rattle.protothread.specs.Value.{value, holds}
-use Rattle.protothread.specs.Remainder.{Remainder, whole_of, fresh_of}
-use Rattle.protothread.specs.Step.{goes_on, stops, reached, continued, advanced_of, other_block}
-use Rattle.protothread.specs.Reading.{Call, Happening, gives_up, Outcome, done, waits, Awaits, met, again, never, Reads, ReadsAll, assigns, prints, chooses, repeats, leaves, yields, yields_last, yields_until, yields_until_last, nothing_left, in_turn, stands}
-use Rattle.protothread.specs.Runs.{Runs, operated, gave_up, waited, ended}
-use Rattle.protothread.proofs.Goes.{follows}
+use Rattle.mote_program.specs.declared.event.Proc.TheVariants.{Own}
+use Rattle.mote_program.specs.declared.event.Target.TheVariants.{One}
+use Rattle.mote_program.specs.EventNames.{sent, cast, continue}
+use Rattle.mote_program.specs.Tree.{Expression, is, yield, yield_until, spawn, restart, exit, pause, Statement, does, branch, while, listed}
+use Rattle.mote_program.specs.Code.{Code}
+use Rattle.protothread.specs.declared.state.PtState.{PtState}
+use Rattle.protothread.specs.declared.state.PtState.TheVariants.{Waiting, Yielded, Exited}
+use Rattle.protothread.specs.declared.part.Part.{Part}
+use Rattle.protothread.specs.declared.thread.Mark.TheVariants.{AtRest, UnderWay, Pausing, RunAway}
+use Rattle.protothread.specs.declared.deed.Deed.TheVariants.{Yields}
+use Rattle.protothread.specs.declared.step.Op.{Op}
+use Rattle.protothread.specs.declared.step.Op.TheVariants.{Post}
+use Rattle.protothread.specs.declared.step.Step.TheVariants as step
+use Rattle.protothread.specs.State.{number_of}
+use Rattle.protothread.specs.Value.{holds, truth}
+use Rattle.protothread.specs.Remainder.{Place, ended, at, within, before, spawner_place, settled, Remainder, thread_block, whole_of, fresh_of}
+use Rattle.protothread.specs.Step.{Advanced, goes_on, operates as stops, answers, passes_where, performed, other_block, spawner_reached, reached, continued, passed, yield_answer, advanced_of, variables_answered}
+use Rattle.protothread.proofs.Units.{follows, stepped, settles}
+use Rattle.protothread.specs.Reading.{Sight, Happening, operates, gives_up, Outcome, done, restarts, exits, stands, IsDone, Restarts, told, resumed, meaning, Awaits, met, again, never, Reads, passes, assigns, performs, waits, waits_last, yields, yields_until, yields_until_last, pauses, pauses_last, posts_last, spawn_ends, spawn_exits, spawn_stands, restarted, restarted_last, exited, chooses, repeats, leaves, ReadsAll, nothing_left, in_turn, breaks_off, ReadsThread, once, anew}
+use Rattle.protothread.specs.Runs.{Runs, operated, operated_last, gave_up, gave_up_last, has_exited, has_ended}
 
 -- a run from a remainder whose next step, with so many more units, is the same
-later_run : (code : Code) (more : ℕ) (r next : Remainder) (vars changed : List ℕ) (now : Call) (later : List Call) (h : List Happening) (out : Outcome)
+later_run : (code : Code) (more : ℕ) (r next : Remainder) (vars changed : List ℕ) (now : Sight) (later : List Sight) (h : List Happening) (out : Outcome)
     → ((units : ℕ) → advanced_of code now.event now.looks r vars (units + more) ≡ advanced_of code now.event now.looks next changed units)
     → Runs code next changed now later h out → Runs code r vars now later h out
-later_run code more r _ vars _ _ _ _ _ same (operated next left before after now later units spare o h out is run) =
-    operated r left vars after now later (units + more) spare o h out (same units ∙ is) run
-later_run code more r _ vars _ _ _ _ _ same (gave_up next left before after now resumed later units spare answer h out is low run) =
-    gave_up r left vars after now resumed later (units + more) spare answer h out (same units ∙ is) low run
-later_run code more r _ vars _ _ _ _ _ same (waited next left before after now units spare answer is low) =
-    waited r left vars after now (units + more) spare answer (same units ∙ is) low
-later_run code more r _ vars _ _ _ _ _ same (ended next left before after now later units spare answer is high) =
-    ended r left vars after now later (units + more) spare answer (same units ∙ is) high
+later_run code more r _ vars _ _ _ _ _ same (operated next left old new now call later o h out s run) =
+    operated r left vars new now call later o h out (s.0 + more, s.1, same s.0 ∙ s.2) run
+later_run code more r _ vars _ _ _ _ _ same (operated_last next left old new now o s) =
+    operated_last r left vars new now o (s.0 + more, s.1, same s.0 ∙ s.2)
+later_run code more r _ vars _ _ _ _ _ same (gave_up next left old new now call later answer h out s low run) =
+    gave_up r left vars new now call later answer h out (s.0 + more, s.1, same s.0 ∙ s.2) low run
+later_run code more r _ vars _ _ _ _ _ same (gave_up_last next left old new now answer s low) =
+    gave_up_last r left vars new now answer (s.0 + more, s.1, same s.0 ∙ s.2) low
+later_run code more r _ vars _ _ _ _ _ same (has_exited next left old new now later s) =
+    has_exited r left vars new now later (s.0 + more, s.1, same s.0 ∙ s.2)
+later_run code more r _ vars _ _ _ _ _ same (has_ended next left old new now later s) =
+    has_ended r left vars new now later (s.0 + more, s.1, same s.0 ∙ s.2)
+
+-- a place at a statement
+abbrev pub IsLive : Place → Type 0
+IsLive ended = ⊥
+IsLive (at y s rest) = Unit {0}
+IsLive (within t p rest) = IsLive p
+
+pub keeps : (t : ℕ) (p : Place) (rest : List (Statement ℕ)) → IsLive p → spawner_place t p rest ≡ within t p rest
+keeps t ended rest live = absurd live
+keeps t (at y s others) rest live = refl
+keeps t (within u p others) rest live = refl
+
+pub still : (p : Place) → IsLive p → settled p ≡ p
+still ended live = absurd live
+still (at y s rest) live = refl
+still (within t p rest) live = ap (λ q. spawner_place t q rest) (still p live) ∙ keeps t p rest live
+
+pub behind_end : (t : ℕ) (rest : List (Statement ℕ)) → settled (within t ended rest) ≡ settled (before false rest)
+behind_end t [] = refl
+behind_end t (s ∷ rest) = refl
+
+enough : (units n : ℕ) → nat_lt (units + n) n ≡ false
+enough units n = grind (arith, nat_tests)
+
+less_again : (units n : ℕ) → units + n - n ≡ units
+less_again units n = omega arith
 
 no_more : (units : ℕ) → units + 0 ≡ units
 no_more units = omega arith
 
+one_more : (units : ℕ) → units + 1 ≡ suc units
+one_more units = omega arith
+
+-- a test as a value
+pub is_true : (b : Bool) → holds (truth b) ≡ true → b ≡ true
+is_true true h = refl
+is_true false h = absurd (cc)
+
+pub is_false : (b : Bool) → holds (truth b) ≡ false → b ≡ false
+is_false true h = absurd (cc)
+is_false false h = refl
+
+pub heard : (into : Option ℕ) (vars : List ℕ) (answer : ℕ) → told into vars answer ≡ variables_answered (UnderWay into) vars answer
+heard None vars answer = refl
+heard (Some i) vars answer = refl
+
 module _ (code : Code) (part : Part) where
-  -- a run from these statements
-  abbrev From : (yielded : Bool) → List Statement → (now : Call) → (later : List Call) → List ℕ → List Happening → Outcome → Type 0
-  From y todo now later vars h out = Runs code (record { part = part; mark = AtRest; is_yielded = y; todo = todo }) vars now later h out
+  abbrev whole : List (Statement ℕ)
+  whole = whole_of code part
+
+  -- a run from this place on, in a call that has come there
+  abbrev From : Place → (now : Sight) → (later : List Sight) → List ℕ → List Happening → Outcome → Type 0
+  From p now later vars h out = Runs code (record { part = part; mark = UnderWay None; place = p }) vars now later h out
+
+  steps : (p : Place) (now : Sight) (vars : List ℕ) (units : ℕ) → IsLive p
+      → continued code part now.event now.looks p vars (suc units) ≡ follows code part now.event now.looks vars units (reached code whole vars now.event now.looks p)
+  steps p now vars units live =
+      settles code part now.event now.looks p vars (suc units)
+      ∙ ap (λ q. stepped code part now.event now.looks vars (suc units) q) (still p live)
+      ∙ at_live p live
+    where
+      at_live : (q : Place) → IsLive q → stepped code part now.event now.looks vars (suc units) q ≡ follows code part now.event now.looks vars units (reached code whole vars now.event now.looks q)
+      at_live ended l = absurd l
+      at_live (at y s rest) l = refl
+      at_live (within t r rest) l = refl
 
   -- a statement after which the thread goes on
-  past : (y : Bool) (s : Statement) (rest todo : List Statement) (now : Call) (later : List Call) (vars changed : List ℕ) (h : List Happening) (out : Outcome)
-      → reached now.event now.looks y vars s rest ≡ goes_on changed todo
-      → From false todo now later changed h out → From y (s ∷ rest) now later vars h out
+  goes : (p q : Place) (now : Sight) (later : List Sight) (vars changed : List ℕ) (h : List Happening) (out : Outcome)
+      → IsLive p → reached code whole vars now.event now.looks p ≡ goes_on changed q
+      → From q now later changed h out → From p now later vars h out
   unfolding advanced_of
-  past y s rest todo now later vars changed h out does run =
+  goes p q now later vars changed h out live does_so run =
       later_run code 1 _ _ vars changed now later h out
-      (λ units. ap (λ u. continued code part now.event now.looks y (s ∷ rest) vars u) (more_by_one units) ∙ ap (λ r. follows code part now vars units r) does)
+      (λ units. ap (λ u. continued code part now.event now.looks p vars u) (one_more units) ∙ steps p now vars units live ∙ ap (λ r. follows code part now.event now.looks vars units r) does_so)
       run
-    where
-      more_by_one : (units : ℕ) → units + 1 ≡ suc units
-      more_by_one units = omega arith
 
-  -- where such an outcome leads: a run of what comes behind is a run of these statements before it, or the run waits in them
-  abbrev Leads : (yielded : Bool) → List Statement → (now : Call) → (later : List Call) → List ℕ → List Happening → Outcome → Type 0
-  Leads y ss now later vars h (done call calls changed) =
-      (rest : List Statement) (k : List Happening) (out : Outcome) → From false rest call calls changed k out → From y (ss ++ rest) now later vars (h ++ k) out
-  Leads y ss now later vars h (waits changed) = (rest : List Statement) → From y (ss ++ rest) now later vars h (waits changed)
-
-  -- a statement that goes on with a block leads where the block leads
-  into : (y : Bool) (s : Statement) (block : List Statement) (now : Call) (later : List Call) (vars : List ℕ) (h : List Happening) (out : Outcome)
-      → ((rest : List Statement) → reached now.event now.looks y vars s rest ≡ goes_on vars (block ++ rest))
-      → Leads false block now later vars h out → Leads y (s ∷ []) now later vars h out
-  into y s block now later vars h (done call calls changed) does lead =
-      λ rest k out run. past y s rest (block ++ rest) now later vars vars (h ++ k) out (does rest) (lead rest k out run)
-  into y s block now later vars h (waits changed) does lead =
-      λ rest. past y s rest (block ++ rest) now later vars vars h (waits changed) (does rest) (lead rest)
-
-  -- a statement after which the thread goes on with the rest
-  onward : (y : Bool) (s : Statement) (now : Call) (later : List Call) (vars changed : List ℕ)
-      → ((rest : List Statement) → reached now.event now.looks y vars s rest ≡ goes_on changed rest)
-      → Leads y (s ∷ []) now later vars [] (done now later changed)
-  onward y s now later vars changed does = λ rest k out run. past y s rest rest now later vars changed k out (does rest) run
-
-  -- one after another
-  chain : (s : Statement) (ss : List Statement) (now : Call) (later : List Call) (vars : List ℕ) (h k : List Happening) (call : Call) (calls : List Call) (changed : List ℕ) (out : Outcome)
-      → Leads false (s ∷ []) now later vars h (done call calls changed) → Leads false ss call calls changed k out
-      → Leads false (s ∷ ss) now later vars (h ++ k) out
-  chain s ss now later vars h k call calls changed (done next nexts last) first others =
-      λ rest j out run. subst (λ (x : List Happening). From false (s ∷ (ss ++ rest)) now later vars x out) (sym (append_assoc h k j)) (first (ss ++ rest) (k ++ j) out (others rest j out run))
-  chain s ss now later vars h k call calls changed (waits last) first others =
-      λ rest. first (ss ++ rest) k (waits last) (others rest)
-
-  -- control is given up at a statement that yields
-  yielded_first : (s : Statement) (y : Bool) (rest : List Statement) (now next : Call) (later : List Call) (vars : List ℕ) (h : List Happening) (out : Outcome)
-      → reached now.event now.looks y vars s rest ≡ stops (step.Done Yielded) AtRest true (s ∷ rest)
-      → From true (s ∷ rest) next later vars h out → From y (s ∷ rest) now (next ∷ later) vars (gives_up Yielded ∷ h) out
+  -- two places that are one
+  same_place : (p q : Place) (now : Sight) (later : List Sight) (vars : List ℕ) (h : List Happening) (out : Outcome)
+      → settled p ≡ settled q → From q now later vars h out → From p now later vars h out
   unfolding advanced_of
-  yielded_first s y rest now next later vars h out does run =
-      gave_up _ (record { part = part; mark = AtRest; is_yielded = true; todo = s ∷ rest }) vars vars now next later 1 0 Yielded h out (ap (λ r. follows code part now vars 0 r) does) (omega arith) run
+  same_place p q now later vars h out same run =
+      later_run code 0 _ _ vars vars now later h out
+      (λ units.
+      ap (λ u. continued code part now.event now.looks p vars u) (no_more units)
+      ∙ settles code part now.event now.looks p vars units
+      ∙ ap (λ r. stepped code part now.event now.looks vars units r) same
+      ∙ sym (settles code part now.event now.looks q vars units))
+      run
 
-  yielded_last : (s : Statement) (y : Bool) (rest : List Statement) (now : Call) (vars : List ℕ)
-      → reached now.event now.looks y vars s rest ≡ stops (step.Done Yielded) AtRest true (s ∷ rest)
-      → From y (s ∷ rest) now [] vars (gives_up Yielded ∷ []) (waits vars)
+  -- a call that comes back to a place
+  called_again : (p : Place) (now : Sight) (later : List Sight) (vars : List ℕ) (h : List Happening) (out : Outcome)
+      → From p now later vars h out → Runs code (record { part = part; mark = AtRest; place = p }) vars now later h out
   unfolding advanced_of
-  yielded_last s y rest now vars does =
-      waited _ (record { part = part; mark = AtRest; is_yielded = true; todo = s ∷ rest }) vars vars now 1 0 Yielded (ap (λ r. follows code part now vars 0 r) does) (omega arith)
+  called_again p now later vars h out run =
+      later_run code (passed p) _ _ vars vars now later h out
+      (λ units.
+      let away : ℕ → Advanced = λ u. record { step = step.Runaway; remainder = record { part = part; mark = RunAway; place = p }; variables = vars; units = 0 } in
+      ap (λ b. if b then away 0 else continued code part now.event now.looks p vars (units + passed p - passed p)) (enough units (passed p))
+      ∙ ap (λ u. continued code part now.event now.looks p vars u) (less_again units (passed p)))
+      run
 
-  -- a `yield_until` whose condition fails, or holds, once it has yielded
-  fails_so : (c : Expression) (now : Call) (vars : List ℕ) (rest : List Statement) → holds (value vars now.event now.looks c) ≡ false
-      → reached now.event now.looks true vars (yield_until c) rest ≡ stops (step.Done Yielded) AtRest true (yield_until c ∷ rest)
-  fails_so c now vars rest not = ap (λ b. if b then goes_on vars rest else stops (step.Done Yielded) AtRest true (yield_until c ∷ rest)) not
+  -- control is given up
+  gives : (p q : Place) (a : PtState) (now next : Sight) (later : List Sight) (vars : List ℕ) (h : List Happening) (out : Outcome)
+      → IsLive p → number_of a < 2 → reached code whole vars now.event now.looks p ≡ answers a q
+      → From q next later vars h out → From p now (next ∷ later) vars (gives_up a ∷ h) out
+  unfolding advanced_of
+  gives p q a now next later vars h out live low does_so run =
+      gave_up _ (record { part = part; mark = AtRest; place = q }) vars vars now next later a h out
+      (1, 0, steps p now vars 0 live ∙ ap (λ r. follows code part now.event now.looks vars 0 r) does_so) low
+      (called_again q next later vars h out run)
 
-  holds_so : (c : Expression) (now : Call) (vars : List ℕ) (rest : List Statement) → holds (value vars now.event now.looks c) ≡ true
-      → reached now.event now.looks true vars (yield_until c) rest ≡ goes_on vars rest
-  holds_so c now vars rest is = ap (λ b. if b then goes_on vars rest else stops (step.Done Yielded) AtRest true (yield_until c ∷ rest)) is
+  gives_last : (p q : Place) (a : PtState) (now : Sight) (vars : List ℕ) (h : List Happening) (out : Outcome)
+      → IsLive p → number_of a < 2 → reached code whole vars now.event now.looks p ≡ answers a q
+      → h ≡ [] → out ≡ stands vars → From p now [] vars (gives_up a ∷ h) out
+  unfolding advanced_of
+  gives_last p q a now vars h out live low does_so none standing =
+      subst (λ (x : List Happening). From p now [] vars (gives_up a ∷ x) out) (sym none)
+      (subst (λ (o : Outcome). From p now [] vars (gives_up a ∷ []) o) (sym standing)
+      (gave_up_last _ (record { part = part; mark = AtRest; place = q }) vars vars now a
+      (1, 0, steps p now vars 0 live ∙ ap (λ r. follows code part now.event now.looks vars 0 r) does_so) low))
 
-  -- giving up control in such a call leads where the next call leads
-  passes_on : (s : Statement) (y : Bool) (now next : Call) (later : List Call) (vars : List ℕ) (h : List Happening) (out : Outcome)
-      → ((rest : List Statement) → reached now.event now.looks y vars s rest ≡ stops (step.Done Yielded) AtRest true (s ∷ rest))
-      → Leads true (s ∷ []) next later vars h out → Leads y (s ∷ []) now (next ∷ later) vars (gives_up Yielded ∷ h) out
-  passes_on s y now next later vars h (done call calls changed) does lead =
-      λ rest k out run. yielded_first s y rest now next later vars (h ++ k) out (does rest) (lead rest k out run)
-  passes_on s y now next later vars h (waits changed) does lead =
-      λ rest. yielded_first s y rest now next later vars h (waits changed) (does rest) (lead rest)
+  -- what a run does behind an `exit`: the whole thread's ends so, and a spawned one's goes on behind its spawn
+  abbrev Left : Option Place → (now : Sight) → (later : List Sight) → List ℕ → List Happening → Outcome → Type 0
+  Left None now later vars h out = (h ≡ []) × (out ≡ exits now later vars)
+  Left (Some p) now later vars h out = From p now later vars h out
 
-  awaits_leads : (c : Expression) {now : Call} {later : List Call} {vars : List ℕ} {h : List Happening} {out : Outcome}
-      → Awaits c now later vars h out → Leads true (yield_until c ∷ []) now later vars h out
-  awaits_leads c (met now later vars is) = onward true (yield_until c) now later vars vars (λ rest. holds_so c now vars rest is)
-  awaits_leads c (again now next later vars h out not more) = passes_on (yield_until c) true now next later vars h out (λ rest. fails_so c now vars rest not) (awaits_leads c more)
-  awaits_leads c (never now vars not) = λ rest. yielded_last (yield_until c) true rest now vars (fails_so c now vars rest not)
+  -- where a thread with this block stands in the whole one, by where it stands in its own block
+  record Context (home : List (Statement ℕ)) (yields : PtState) : Type 0 where
+    place : Place → Place
+    behind : Option Place
+    low : number_of yields < 2
+    live : (p : Place) → IsLive p → IsLive (place p)
+    settles_so : (p q : Place) → settled p ≡ settled q → settled (place p) ≡ settled (place q)
+    onward : (vars : List ℕ) (now : Sight) (p q : Place) (changed : List ℕ) → reached code home vars now.event now.looks p ≡ goes_on changed q → reached code whole vars now.event now.looks (place p) ≡ goes_on changed (place q)
+    operating : (vars : List ℕ) (now : Sight) (p q : Place) (o : Op) (into : Option ℕ) → reached code home vars now.event now.looks p ≡ stops o (UnderWay into) q → reached code whole vars now.event now.looks (place p) ≡ stops o (UnderWay into) (place q)
+    pausing : (vars : List ℕ) (now : Sight) (p q : Place) (o : Op) → reached code home vars now.event now.looks p ≡ stops o Pausing q → reached code whole vars now.event now.looks (place p) ≡ stops o Pausing (place q)
+    waiting : (vars : List ℕ) (now : Sight) (p q : Place) → reached code home vars now.event now.looks p ≡ answers Waiting q → reached code whole vars now.event now.looks (place p) ≡ answers Waiting (place q)
+    yielding : (vars : List ℕ) (now : Sight) (p q : Place) → reached code home vars now.event now.looks p ≡ answers Yielded q → reached code whole vars now.event now.looks (place p) ≡ answers yields (place q)
+    answers_at : (y : Bool) (s : Statement ℕ) (rest : List (Statement ℕ)) → yield_answer (place (at y s rest)) ≡ yields
+    answers_within : (t : ℕ) (p : Place) (rest : List (Statement ℕ)) → yield_answer (place (within t p rest)) ≡ Waiting
+    leaving : (vars : List ℕ) (now : Sight) (later : List Sight) (p q : Place) (h : List Happening) (out : Outcome) → IsLive p → reached code home vars now.event now.looks p ≡ answers Exited q
+        → Left behind now later vars h out → From (place p) now later vars h out
+
+  exits_so : (vars : List ℕ) (now : Sight) (later : List Sight) (p q : Place) (h : List Happening) (out : Outcome)
+      → IsLive p → reached code whole vars now.event now.looks p ≡ answers Exited q → Left None now later vars h out → From p now later vars h out
+  unfolding advanced_of
+  exits_so vars now later p q h out live e f =
+      subst (λ (x : List Happening). From p now later vars x out) (sym f.0)
+      (subst (λ (o : Outcome). From p now later vars [] o) (sym f.1)
+      (has_exited _ (record { part = part; mark = AtRest; place = q }) vars vars now later
+      (1, 0, steps p now vars 0 live ∙ ap (λ r. follows code part now.event now.looks vars 0 r) e)))
+
+  abbrev top : Context whole Yielded
+  top = record {
+    place = λ p. p;
+    behind = None;
+    low = omega arith;
+    live = λ p l. l;
+    settles_so = λ p q e. e;
+    onward = λ vars now p q changed e. e;
+    operating = λ vars now p q o into e. e;
+    pausing = λ vars now p q o e. e;
+    waiting = λ vars now p q e. e;
+    yielding = λ vars now p q e. e;
+    answers_at = λ y s rest. refl;
+    answers_within = λ t p rest. refl;
+    leaving = exits_so;
+  }
+
+  -- a thread that is spawned there
+  abbrev child : {home : List (Statement ℕ)} {y : PtState} (c : Context home y) (t : ℕ) (rest : List (Statement ℕ)) → Context (thread_block code t) Waiting
+  child c t rest = record {
+    place = λ p. c.place (within t p rest);
+    behind = Some (c.place (before false rest));
+    low = omega arith;
+    live = λ p l. c.live (within t p rest) l;
+    settles_so = λ p q e. c.settles_so (within t p rest) (within t q rest) (ap (λ u. spawner_place t u rest) e);
+    onward = λ vars now p q changed e. c.onward vars now (within t p rest) (within t q rest) changed (ap (λ r. spawner_reached t rest vars r) e);
+    operating = λ vars now p q o into e. c.operating vars now (within t p rest) (within t q rest) o into (ap (λ r. spawner_reached t rest vars r) e);
+    pausing = λ vars now p q o e. c.pausing vars now (within t p rest) (within t q rest) o (ap (λ r. spawner_reached t rest vars r) e);
+    waiting = λ vars now p q e. c.waiting vars now (within t p rest) (within t q rest) (ap (λ r. spawner_reached t rest vars r) e);
+    yielding = λ vars now p q e. c.waiting vars now (within t p rest) (within t q rest) (ap (λ r. spawner_reached t rest vars r) e);
+    answers_at = λ y s others. c.answers_within t (at y s others) rest;
+    answers_within = λ u p others. c.answers_within t (within u p others) rest;
+    leaving = λ vars now later p q h out l e f.
+        goes (c.place (within t p rest)) (c.place (before false rest)) now later vars vars h out (c.live (within t p rest) l)
+        (c.onward vars now (within t p rest) (before false rest) vars (ap (λ r. spawner_reached t rest vars r) e)) f;
+  }
+
+  -- what a run does behind statements of which this became
+  abbrev Next : (home : List (Statement ℕ)) (y : PtState) → Context home y → (rest : List (Statement ℕ)) → Outcome → List Happening → Outcome → Type 0
+  Next home y c rest (done now later vars) h out = From (c.place (before false rest)) now later vars h out
+  Next home y c rest (restarts now later vars) h out = From (c.place (before false home)) now later vars h out
+  Next home y c rest (exits now later vars) h out = Left c.behind now later vars h out
+  Next home y c rest (stands vars) h out = (h ≡ []) × (out ≡ stands vars)
+
+  -- a statement that isn't done
+  elsewhere : (home : List (Statement ℕ)) (y : PtState) (c : Context home y) (rest others : List (Statement ℕ)) (became : Outcome) (h : List Happening) (out : Outcome)
+      → (IsDone became → ⊥) → Next home y c rest became h out → Next home y c others became h out
+  elsewhere home y c rest others (done now later vars) h out over f = absurd (over tt)
+  elsewhere home y c rest others (restarts now later vars) h out over f = f
+  elsewhere home y c rest others (exits now later vars) h out over f = f
+  elsewhere home y c rest others (stands vars) h out over f = f
+
+  -- an operation
+  does_op : (home : List (Statement ℕ)) (y : PtState) (c : Context home y) (p : Place) (rest : List (Statement ℕ)) (o : Op) (into : Option ℕ) (now : Sight) (later : List Sight) (vars : List ℕ) (h : List Happening) (out : Outcome)
+      → IsLive p → reached code home vars now.event now.looks p ≡ stops o (UnderWay into) (before false rest)
+      → Next home y c rest (resumed into later vars) h out → From (c.place p) now later vars (operates o ∷ h) out
+  unfolding advanced_of
+  does_op home y c p rest o into now [] vars h out live e f =
+      subst (λ (x : List Happening). From (c.place p) now [] vars (operates o ∷ x) out) (sym f.0)
+      (subst (λ (z : Outcome). From (c.place p) now [] vars (operates o ∷ []) z) (sym f.1)
+      (operated_last _ (record { part = part; mark = UnderWay into; place = c.place (before false rest) }) vars vars now o
+      (1, 0, steps (c.place p) now vars 0 (c.live p live) ∙ ap (λ r. follows code part now.event now.looks vars 0 r) (c.operating vars now p (before false rest) o into e))))
+  does_op home y c p rest o into now (next ∷ later) vars h out live e f =
+      operated _ (record { part = part; mark = UnderWay into; place = c.place (before false rest) }) vars vars now next later o h out
+      (1, 0, steps (c.place p) now vars 0 (c.live p live) ∙ ap (λ r. follows code part now.event now.looks vars 0 r) (c.operating vars now p (before false rest) o into e))
+      (subst (λ (v : List ℕ). From (c.place (before false rest)) next later v h out) (heard into vars next.answer) f)
+
+  -- a statement after which the thread goes on, where it gives up control, and where no sight is left
+  past : (home : List (Statement ℕ)) (y : PtState) (c : Context home y) (p q : Place) (now : Sight) (later : List Sight) (vars changed : List ℕ) (h : List Happening) (out : Outcome)
+      → IsLive p → reached code home vars now.event now.looks p ≡ goes_on changed q
+      → From (c.place q) now later changed h out → From (c.place p) now later vars h out
+  past home y c p q now later vars changed h out live e run =
+      goes (c.place p) (c.place q) now later vars changed h out (c.live p live) (c.onward vars now p q changed e) run
+
+  yields_at : (home : List (Statement ℕ)) (y : PtState) (c : Context home y) (p q : Place) (now next : Sight) (later : List Sight) (vars : List ℕ) (h : List Happening) (out : Outcome)
+      → IsLive p → reached code home vars now.event now.looks p ≡ answers Yielded q
+      → From (c.place q) next later vars h out → From (c.place p) now (next ∷ later) vars (gives_up y ∷ h) out
+  yields_at home y c p q now next later vars h out live e run =
+      gives (c.place p) (c.place q) y now next later vars h out (c.live p live) c.low (c.yielding vars now p q e) run
+
+  yields_at_last : (home : List (Statement ℕ)) (y : PtState) (c : Context home y) (p q : Place) (now : Sight) (vars : List ℕ) (h : List Happening) (out : Outcome)
+      → IsLive p → reached code home vars now.event now.looks p ≡ answers Yielded q
+      → (h ≡ []) × (out ≡ stands vars) → From (c.place p) now [] vars (gives_up y ∷ h) out
+  yields_at_last home y c p q now vars h out live e f =
+      gives_last (c.place p) (c.place q) y now vars h out (c.live p live) c.low (c.yielding vars now p q e) f.0 f.1
+
+  waits_at : (home : List (Statement ℕ)) (y : PtState) (c : Context home y) (p q : Place) (now next : Sight) (later : List Sight) (vars : List ℕ) (h : List Happening) (out : Outcome)
+      → IsLive p → reached code home vars now.event now.looks p ≡ answers Waiting q
+      → From (c.place q) next later vars h out → From (c.place p) now (next ∷ later) vars (gives_up Waiting ∷ h) out
+  waits_at home y c p q now next later vars h out live e run =
+      gives (c.place p) (c.place q) Waiting now next later vars h out (c.live p live) (omega arith) (c.waiting vars now p q e) run
+
+  waits_at_last : (home : List (Statement ℕ)) (y : PtState) (c : Context home y) (p q : Place) (now : Sight) (vars : List ℕ) (h : List Happening) (out : Outcome)
+      → IsLive p → reached code home vars now.event now.looks p ≡ answers Waiting q
+      → (h ≡ []) × (out ≡ stands vars) → From (c.place p) now [] vars (gives_up Waiting ∷ h) out
+  waits_at_last home y c p q now vars h out live e f =
+      gives_last (c.place p) (c.place q) Waiting now vars h out (c.live p live) (omega arith) (c.waiting vars now p q e) f.0 f.1
+
+  -- a `yield`
+  yields_once : (home : List (Statement ℕ)) (y : PtState) (c : Context home y) (rest : List (Statement ℕ)) (now : Sight) (later : List Sight) (vars : List ℕ) (h : List Happening) (out : Outcome)
+      → Next home y c rest (resumed None later vars) h out → From (c.place (at false (does yield) rest)) now later vars (gives_up y ∷ h) out
+  yields_once home y c rest now [] vars h out f =
+      yields_at_last home y c (at false (does yield) rest) (at true (does yield) rest) now vars h out tt refl f
+  yields_once home y c rest now (next ∷ later) vars h out f =
+      yields_at home y c (at false (does yield) rest) (at true (does yield) rest) now next later vars h out tt refl
+      (past home y c (at true (does yield) rest) (before false rest) next later vars vars h out tt refl f)
+
+  -- a statement that has yielded, by its condition
+  module _ (home : List (Statement ℕ)) (y : PtState) (c : Context home y) (s : Statement ℕ) (e : Expression ℕ) (rest : List (Statement ℕ))
+      (passing : (now : Sight) (vars : List ℕ) → holds (meaning e now vars) ≡ true → reached code home vars now.event now.looks (at true s rest) ≡ goes_on vars (before false rest))
+      (failing : (now : Sight) (vars : List ℕ) → holds (meaning e now vars) ≡ false → reached code home vars now.event now.looks (at true s rest) ≡ answers Yielded (at true s rest)) where
+    awaits : {now : Sight} {later : List Sight} {vars : List ℕ} {h : List Happening} {out : Outcome}
+        → Awaits y e now later vars h out → (k : List Happening) (o : Outcome) → Next home y c rest out k o → From (c.place (at true s rest)) now later vars (h ++ k) o
+    awaits (met now later vars m) = λ k o f. past home y c (at true s rest) (before false rest) now later vars vars k o tt (passing now vars m) f
+    awaits (again now next later vars h out m more) =
+        λ k o f. yields_at home y c (at true s rest) (at true s rest) now next later vars (h ++ k) o tt (failing now vars m) (awaits more k o f)
+    awaits (never now vars m) = λ k o f. yields_at_last home y c (at true s rest) (at true s rest) now vars k o tt (failing now vars m) f
+
+  -- a `yield_until` that has yielded
+  awaits_condition : (home : List (Statement ℕ)) (y : PtState) (c : Context home y) (e : Expression ℕ) (rest : List (Statement ℕ)) (now : Sight) (later : List Sight) (vars : List ℕ) (h : List Happening) (out : Outcome)
+      → Awaits y e now later vars h out → (k : List Happening) (o : Outcome) → Next home y c rest out k o → From (c.place (at true (does (yield_until e)) rest)) now later vars (h ++ k) o
+  awaits_condition home y c e rest now later vars h out a =
+      awaits home y c (does (yield_until e)) e rest
+      (λ now vars m. ap (λ b. performed code home vars (does (yield_until e)) rest (passes_where b Yields)) m)
+      (λ now vars m. ap (λ b. performed code home vars (does (yield_until e)) rest (passes_where b Yields)) m)
+      a
+
+  -- a `pause` that has yielded
+  awaits_continue : (home : List (Statement ℕ)) (y : PtState) (c : Context home y) (rest : List (Statement ℕ)) (now : Sight) (later : List Sight) (vars : List ℕ) (h : List Happening) (out : Outcome)
+      → Awaits y (is (sent (cast continue))) now later vars h out → (k : List Happening) (o : Outcome) → Next home y c rest out k o → From (c.place (at true (does pause) rest)) now later vars (h ++ k) o
+  awaits_continue home y c rest now later vars h out a =
+      awaits home y c (does pause) (is (sent (cast continue))) rest
+      (λ now vars m. ap (λ b. performed code home vars (does pause) rest (passes_where b Yields)) (is_true (now.event.number == 0x85) m))
+      (λ now vars m. ap (λ b. performed code home vars (does pause) rest (passes_where b Yields)) (is_false (now.event.number == 0x85) m))
+      a
+
+  -- the post of a `pause`, and what follows it at once
+  paused : (home : List (Statement ℕ)) (y : PtState) (c : Context home y) (rest : List (Statement ℕ)) (now next second : Sight) (later : List Sight) (vars : List ℕ) (h : List Happening) (out : Outcome)
+      → From (c.place (at true (does pause) rest)) second later vars h out
+      → From (c.place (at false (does pause) rest)) now (next ∷ second ∷ later) vars (operates (Post (One (Own code.number)) 0x85 0) ∷ gives_up y ∷ h) out
+  unfolding advanced_of
+  paused home y c rest now next second later vars h out run =
+      let held : Remainder = record { part = part; mark = Pausing; place = c.place (at true (does pause) rest) } in
+      let resting : Remainder = record { part = part; mark = AtRest; place = c.place (at true (does pause) rest) } in
+      operated _ held vars vars now next (second ∷ later) (Post (One (Own code.number)) 0x85 0) (gives_up y ∷ h) out
+      (1, 0, steps (c.place (at false (does pause) rest)) now vars 0 (c.live (at false (does pause) rest) tt) ∙ ap (λ r. follows code part now.event now.looks vars 0 r) (c.pausing vars now (at false (does pause) rest) (at true (does pause) rest) (Post (One (Own code.number)) 0x85 0) refl))
+      (gave_up held resting vars vars next second later y h out
+      (0, 0, ap (λ a. record { step = step.Done a; remainder = resting; variables = vars; units = 0 }) (c.answers_at true (does pause) rest)) c.low
+      (called_again (c.place (at true (does pause) rest)) second later vars h out run))
+
+  paused_last : (home : List (Statement ℕ)) (y : PtState) (c : Context home y) (rest : List (Statement ℕ)) (now next : Sight) (vars : List ℕ) (h : List Happening) (out : Outcome)
+      → (h ≡ []) × (out ≡ stands vars)
+      → From (c.place (at false (does pause) rest)) now (next ∷ []) vars (operates (Post (One (Own code.number)) 0x85 0) ∷ gives_up y ∷ h) out
+  unfolding advanced_of
+  paused_last home y c rest now next vars h out f =
+      let held : Remainder = record { part = part; mark = Pausing; place = c.place (at true (does pause) rest) } in
+      let resting : Remainder = record { part = part; mark = AtRest; place = c.place (at true (does pause) rest) } in
+      subst (λ (x : List Happening). From (c.place (at false (does pause) rest)) now (next ∷ []) vars (operates (Post (One (Own code.number)) 0x85 0) ∷ gives_up y ∷ x) out) (sym f.0)
+      (subst (λ (z : Outcome). From (c.place (at false (does pause) rest)) now (next ∷ []) vars (operates (Post (One (Own code.number)) 0x85 0) ∷ gives_up y ∷ []) z) (sym f.1)
+      (operated _ held vars vars now next [] (Post (One (Own code.number)) 0x85 0) (gives_up y ∷ []) (stands vars)
+      (1, 0, steps (c.place (at false (does pause) rest)) now vars 0 (c.live (at false (does pause) rest) tt) ∙ ap (λ r. follows code part now.event now.looks vars 0 r) (c.pausing vars now (at false (does pause) rest) (at true (does pause) rest) (Post (One (Own code.number)) 0x85 0) refl))
+      (gave_up_last held resting vars vars next y
+      (0, 0, ap (λ a. record { step = step.Done a; remainder = resting; variables = vars; units = 0 }) (c.answers_at true (does pause) rest)) c.low)))
+
+  posted_last : (home : List (Statement ℕ)) (y : PtState) (c : Context home y) (rest : List (Statement ℕ)) (now : Sight) (vars : List ℕ) (h : List Happening) (out : Outcome)
+      → (h ≡ []) × (out ≡ stands vars)
+      → From (c.place (at false (does pause) rest)) now [] vars (operates (Post (One (Own code.number)) 0x85 0) ∷ h) out
+  unfolding advanced_of
+  posted_last home y c rest now vars h out f =
+      subst (λ (x : List Happening). From (c.place (at false (does pause) rest)) now [] vars (operates (Post (One (Own code.number)) 0x85 0) ∷ x) out) (sym f.0)
+      (subst (λ (z : Outcome). From (c.place (at false (does pause) rest)) now [] vars (operates (Post (One (Own code.number)) 0x85 0) ∷ []) z) (sym f.1)
+      (operated_last _ (record { part = part; mark = Pausing; place = c.place (at true (does pause) rest) }) vars vars now (Post (One (Own code.number)) 0x85 0)
+      (1, 0, steps (c.place (at false (does pause) rest)) now vars 0 (c.live (at false (does pause) rest) tt) ∙ ap (λ r. follows code part now.event now.looks vars 0 r) (c.pausing vars now (at false (does pause) rest) (at true (does pause) rest) (Post (One (Own code.number)) 0x85 0) refl))))
 
   mutual
-    unfolding advanced_of
+    -- what one statement leads to, in any place of that thread
+    leads : {y : PtState} {s : Statement ℕ} {now : Sight} {later : List Sight} {vars : List ℕ} {h : List Happening} {out : Outcome}
+        → Reads code y s now later vars h out → (home : List (Statement ℕ)) (c : Context home y) (rest : List (Statement ℕ)) (k : List Happening) (o : Outcome)
+        → Next home y c rest out k o → From (c.place (at false s rest)) now later vars (h ++ k) o
+    leads (passes y a now later vars e) =
+        λ home c rest k o f. past home y c (at false (does a) rest) (before false rest) now later vars vars k o tt (ap (λ d. performed code home vars (does a) rest d) e) f
+    leads (assigns y a i v now later vars e) =
+        λ home c rest k o f. past home y c (at false (does a) rest) (before false rest) now later vars (slice_set vars i v) k o tt (ap (λ d. performed code home vars (does a) rest d) e) f
+    leads (performs y a p into now later vars e) =
+        λ home c rest k o f. does_op home y c (at false (does a) rest) rest p into now later vars k o tt (ap (λ d. performed code home vars (does a) rest d) e) f
+    leads (waits y a now next later vars h out e more) =
+        λ home c rest k o f.
+        waits_at home y c (at false (does a) rest) (at false (does a) rest) now next later vars (h ++ k) o tt (ap (λ d. performed code home vars (does a) rest d) e)
+        (leads more home c rest k o f)
+    leads (waits_last y a now vars e) =
+        λ home c rest k o f. waits_at_last home y c (at false (does a) rest) (at false (does a) rest) now vars k o tt (ap (λ d. performed code home vars (does a) rest d) e) f
+    leads (yields y now later vars) = λ home c rest k o f. yields_once home y c rest now later vars k o f
+    leads (yields_until y e now next later vars h out a) =
+        λ home c rest k o f.
+        yields_at home y c (at false (does (yield_until e)) rest) (at true (does (yield_until e)) rest) now next later vars (h ++ k) o tt refl
+        (awaits_condition home y c e rest next later vars h out a k o f)
+    leads (yields_until_last y e now vars) =
+        λ home c rest k o f. yields_at_last home y c (at false (does (yield_until e)) rest) (at true (does (yield_until e)) rest) now vars k o tt refl f
+    leads (pauses y now next second later vars h out a) =
+        λ home c rest k o f. paused home y c rest now next second later vars (h ++ k) o (awaits_continue home y c rest second later vars h out a k o f)
+    leads (pauses_last y now next vars) = λ home c rest k o f. paused_last home y c rest now next vars k o f
+    leads (posts_last y now vars) = λ home c rest k o f. posted_last home y c rest now vars k o f
+    leads (spawn_ends y t now later vars h call calls changed more) =
+        λ home c rest k o f.
+        past home y c (at false (does (spawn t)) rest) (within t (before false (thread_block code t)) rest) now later vars vars (h ++ k) o tt refl
+        (leads_thread more (child c t rest) k o
+        (same_place (c.place (within t ended rest)) (c.place (before false rest)) call calls changed k o (c.settles_so (within t ended rest) (before false rest) (behind_end t rest)) f))
+    leads (spawn_exits y t now later vars h call calls changed more) =
+        λ home c rest k o f.
+        past home y c (at false (does (spawn t)) rest) (within t (before false (thread_block code t)) rest) now later vars vars (h ++ k) o tt refl
+        (leads_thread more (child c t rest) k o f)
+    leads (spawn_stands y t now later vars h changed more) =
+        λ home c rest k o f.
+        past home y c (at false (does (spawn t)) rest) (within t (before false (thread_block code t)) rest) now later vars vars (h ++ k) o tt refl
+        (leads_thread more (child c t rest) k o f)
+    leads (restarted y now next later vars) =
+        λ home c rest k o f. waits_at home y c (at false (does restart) rest) (before false home) now next later vars k o tt refl f
+    leads (restarted_last y now vars) =
+        λ home c rest k o f. waits_at_last home y c (at false (does restart) rest) (before false home) now vars k o tt refl f
+    leads (exited y now later vars) =
+        λ home c rest k o f. c.leaving vars now later (at false (does exit) rest) (before false home) k o tt refl f
+    leads (chooses y e a other now later vars h out more) =
+        λ home c rest k o f.
+        let chosen : List (Statement ℕ) = if holds (meaning e now vars) then listed a else other_block other in
+        past home y c (at false (branch e a other) rest) (before false (chosen ++ rest)) now later vars vars (h ++ k) o tt refl
+        (leads_all more home c rest k o f)
+    leads (repeats y e a now later vars h out m more) =
+        λ home c rest k o f.
+        past home y c (at false (while e a) rest) (before false ((listed a ++ while e a ∷ []) ++ rest)) now later vars vars (h ++ k) o tt
+        (ap (λ b. goes_on vars (before false (if b then listed a ++ while e a ∷ rest else rest))) m ∙ ap (λ l. goes_on vars (before false l)) (sym (append_assoc (listed a) (while e a ∷ []) rest)))
+        (leads_all more home c rest k o f)
+    leads (leaves y e a now later vars m) =
+        λ home c rest k o f.
+        past home y c (at false (while e a) rest) (before false rest) now later vars vars k o tt
+        (ap (λ b. goes_on vars (before false (if b then listed a ++ while e a ∷ rest else rest))) m) f
 
-    leads : {s : Statement} {now : Call} {later : List Call} {vars : List ℕ} {h : List Happening} {out : Outcome}
-        → Reads s now later vars h out → Leads false (s ∷ []) now later vars h out
-    leads (assigns i e now later vars) = onward false (assign i e) now later vars (slice_set vars i (value vars now.event now.looks e)) (λ rest. refl)
-    leads (prints e now later vars) =
-        λ rest k out run.
-        operated _ (record { part = part; mark = UnderWay; is_yielded = false; todo = rest }) vars vars now later 1 0 (Print (value vars now.event now.looks e)) k out refl
-        (later_run code 0 _ _ vars vars now later k out (λ units. ap (λ u. continued code part now.event now.looks false rest vars u) (no_more units)) run)
-    leads (chooses c a o now later vars h out more) =
-        into false (branch c a o) (if holds (value vars now.event now.looks c) then listed a else other_block o) now later vars h out (λ rest. refl) (leads_all more)
-    leads (repeats c a now later vars h out is more) =
-        into false (while c a) (listed a ++ while c a ∷ []) now later vars h out
-        (λ rest. ap (λ b. goes_on vars (if b then listed a ++ while c a ∷ rest else rest)) is ∙ ap (λ l. goes_on vars l) (sym (append_assoc (listed a) (while c a ∷ []) rest)))
-        (leads_all more)
-    leads (leaves c a now later vars not) =
-        onward false (while c a) now later vars vars (λ rest. ap (λ b. goes_on vars (if b then listed a ++ while c a ∷ rest else rest)) not)
-    leads (yields now next later vars) =
-        λ rest k out run. yielded_first yield false rest now next later vars k out refl (past true yield rest rest next later vars vars k out refl run)
-    leads (yields_last now vars) = λ rest. yielded_last yield false rest now vars refl
-    leads (yields_until c now next later vars h out more) = passes_on (yield_until c) false now next later vars h out (λ rest. refl) (awaits_leads c more)
-    leads (yields_until_last c now vars) = λ rest. yielded_last (yield_until c) false rest now vars refl
+    leads_all : {y : PtState} {ss : List (Statement ℕ)} {now : Sight} {later : List Sight} {vars : List ℕ} {h : List Happening} {out : Outcome}
+        → ReadsAll code y ss now later vars h out → (home : List (Statement ℕ)) (c : Context home y) (rest : List (Statement ℕ)) (k : List Happening) (o : Outcome)
+        → Next home y c rest out k o → From (c.place (before false (ss ++ rest))) now later vars (h ++ k) o
+    leads_all (nothing_left y now later vars) = λ home c rest k o f. f
+    leads_all (in_turn y s ss now later vars h j call calls changed out first others) =
+        λ home c rest k o f.
+        subst (λ (x : List Happening). From (c.place (at false s (ss ++ rest))) now later vars x o) (sym (append_assoc h j k))
+        (leads first home c (ss ++ rest) (j ++ k) o (leads_all others home c rest k o f))
+    leads_all (breaks_off y s ss now later vars h out left first) =
+        λ home c rest k o f. leads first home c (ss ++ rest) k o (elsewhere home y c rest (ss ++ rest) out k o left f)
 
-    leads_all : {ss : List Statement} {now : Call} {later : List Call} {vars : List ℕ} {h : List Happening} {out : Outcome}
-        → ReadsAll ss now later vars h out → Leads false ss now later vars h out
-    leads_all (nothing_left now later vars) = λ rest k out run. run
-    leads_all (in_turn s ss now later vars h k call calls changed out first others) = chain s ss now later vars h k call calls changed out (leads first) (leads_all others)
-    leads_all (stands s ss now later vars changed h first) = λ rest. leads first (ss ++ rest)
+    leads_thread : {y : PtState} {block : List (Statement ℕ)} {now : Sight} {later : List Sight} {vars : List ℕ} {h : List Happening} {out : Outcome}
+        → ReadsThread code y block now later vars h out → (c : Context block y) (k : List Happening) (o : Outcome)
+        → Next block y c [] out k o → From (c.place (before false block)) now later vars (h ++ k) o
+    leads_thread (once y block now later vars h out never_anew all) =
+        λ c k o f. subst (λ (l : List (Statement ℕ)). From (c.place (before false l)) now later vars (h ++ k) o) (append-nil block) (leads_all all block c [] k o f)
+    leads_thread (anew y block now later vars h j call calls changed out all more) =
+        λ c k o f.
+        subst (λ (x : List Happening). From (c.place (before false block)) now later vars x o) (sym (append_assoc h j k))
+        (subst (λ (l : List (Statement ℕ)). From (c.place (before false l)) now later vars (h ++ (j ++ k)) o) (append-nil block)
+        (leads_all all block c [] (j ++ k) o (leads_thread more c k o f)))
 
-  -- the run of a whole block
-  ends_so : (whole : List Statement) (now : Call) (later : List Call) (vars : List ℕ) (h : List Happening) (out : Outcome)
-      → Leads false whole now later vars h out → From false whole now later vars h out
+  -- a thread comes to an end, or stands
+  pub comes_to_an_end : {y : PtState} {block : List (Statement ℕ)} {now : Sight} {later : List Sight} {vars : List ℕ} {h : List Happening} {out : Outcome}
+      → ReadsThread code y block now later vars h out → Restarts out → ⊥
+  comes_to_an_end (once y block now later vars h out never_anew all) = never_anew
+  comes_to_an_end (anew y block now later vars h j call calls changed out all more) = comes_to_an_end more
+
+  at_last : (out : Outcome) → (Restarts out → ⊥) → Next whole Yielded top [] out [] out
   unfolding advanced_of
-  ends_so whole now later vars h (done call calls changed) lead =
-      subst (λ (l : List Statement). From false l now later vars h (done call calls changed)) (append-nil whole)
-      (subst (λ (x : List Happening). From false (whole ++ []) now later vars x (done call calls changed)) (append-nil h)
-      (lead [] [] (done call calls changed) (ended _ (fresh_of code part) changed changed call calls 0 0 Ended refl (omega arith))))
-  ends_so whole now later vars h (waits changed) lead =
-      subst (λ (l : List Statement). From false l now later vars h (waits changed)) (append-nil whole) (lead [])
+  at_last (done now later vars) over = has_ended _ (fresh_of code part) vars vars now later (0, 0, refl)
+  at_last (restarts now later vars) over = absurd (over tt)
+  at_last (exits now later vars) over = (refl, refl)
+  at_last (stands vars) over = (refl, refl)
 
-pub text_runs : (code : Code) (part : Part) (vars : List ℕ) (now : Call) (later : List Call) (h : List Happening) (out : Outcome)
-    → ReadsAll (whole_of code part) now later vars h out → Runs code (fresh_of code part) vars now later h out
+pub text_runs : (code : Code) (part : Part) (vars : List ℕ) (now : Sight) (later : List Sight) (h : List Happening) (out : Outcome)
+    → ReadsThread code Yielded (whole_of code part) now later vars h out → Runs code (fresh_of code part) vars now later h out
 text_runs code part vars now later h out reads =
-    ends_so code part (whole_of code part) now later vars h out (leads_all code part reads)
+    called_again code part (before false (whole_of code part)) now later vars h out
+    (subst (λ (x : List Happening). From code part (before false (whole_of code part)) now later vars x out) (append-nil h)
+    (leads_thread code part reads (top code part) [] out (at_last code part out (comes_to_an_end code part reads))))

@@ -1,127 +1,147 @@
 -- What frames mean, step by step.
-use Rattle.std.proofs.Common.{◌≡◌, ℕ, ◌+◌, Bool, true, false, ◌&&◌, if◌then◌else◌, List, [], ◌∷◌, ◌++◌, drop, Some, refl, ap, sym, ◌∙◌, arith, append_assoc}
+use Rattle.std.proofs.Common.{◌≡◌, ℕ, ◌+◌, Bool, true, false, if◌then◌else◌, List, [], ◌∷◌, ◌++◌, drop, length, Option, Some, refl, ap, sym, ◌∙◌, arith, zero-add}
 use Rattle.std.specs.Prelude.{slice_get}
-use Rattle.std.proofs.lemmas.Option.{slice_get-map, slice_get_past, slice_get_read, slice_get_within, get_or_from_slice_get}
-use Rattle.std.proofs.lemmas.List.{append-nil, drop_more}
-use Rattle.mote_program.specs.declared.event.Event.{Event}
-use Rattle.mote_program.specs.Tree.{Expression, Statement, branch, while, yield, yield_until, Body, Otherwise, listed}
-use Rattle.protothread.specs.Value.{value, holds}
-use Rattle.mote_program.proofs.TreeLaws.{branch_of-If, while_of-While, body_of-listed}
-use Rattle.protothread.specs.declared.thread.Mark.TheVariants.{AtRest}
-use Rattle.protothread.specs.declared.thread.Branch.{Branch}
-use Rattle.protothread.specs.declared.thread.Frame.{Frame}
+use Rattle.std.proofs.lemmas.Option.{slice_get_within, get_or_from_slice_get}
+use Rattle.std.proofs.lemmas.List.{drop_more}
+use Rattle.mote_program.specs.Tree.{Statement}
+use Rattle.mote_program.specs.Code.{Code}
+use Rattle.protothread.specs.declared.frame.Branch.{Branch}
+use Rattle.protothread.specs.declared.frame.Branch.TheVariants.{Then, Else, Loop, Spawned}
+use Rattle.protothread.specs.declared.frame.Frame.{Frame}
 use Rattle.protothread.specs.declared.thread.Thread.{Thread}
-use Rattle.protothread.specs.declared.thread.Step.{Step}
-use Rattle.protothread.specs.declared.thread.Step.TheVariants as step
-use Rattle.protothread.specs.declared.state.PtState.TheVariants.{Yielded}
-use Rattle.std.proofs.lemmas.Grind.{common_steps}
-use Rattle.protothread.specs.Looks.{Looks}
-use Rattle.protothread.specs.Step.{reached, goes_on, stops, other_block}
-use Rattle.protothread.specs.Frames.{branch_block, statement_place, inner_block, block_at, rest_of, todo_of}
-use Rattle.protothread.specs.Reach.{GoesOnAt, StopsWith}
-
-pub ruleset blocks = (branch_of-If, while_of-While, slice_get-map, slice_get_past, slice_get_read)
-
-pub ruleset listings = (body_of-listed)
+use Rattle.protothread.specs.Remainder.{Place, ended, at, within, before, spawner_place, settled, thread_block}
+use Rattle.protothread.specs.Frames.{branch_block, statement_at, inner_block, block_at, is_thread, spawns, rest_of, Caller, thread_of, callers_in, callers_of, nested, place_of}
+use Rattle.protothread.specs.Reach.{home_of, behind_of, IsAtHome, in_the_part, in_a_thread}
 
 -- one more frame, at the innermost end
-pub block_at-push : (whole : List Statement) (fs : List Frame) (f : Frame) → block_at whole (fs ++ f ∷ []) ≡ inner_block (block_at whole fs) f
-block_at-push whole [] f = refl
-block_at-push whole (g ∷ fs) f = block_at-push (inner_block whole g) fs f
+pub block_at-push : (code : Code) (whole : List (Statement ℕ)) (fs : List Frame) (f : Frame) → block_at code whole (fs ++ f ∷ []) ≡ inner_block code (block_at code whole fs) f
+block_at-push code whole [] f = refl
+block_at-push code whole (g ∷ fs) f = block_at-push code (inner_block code whole g) fs f
 
-pub rest_of-push : (whole : List Statement) (fs : List Frame) (f : Frame) → rest_of whole (fs ++ f ∷ []) ≡ drop f.position (block_at whole fs) ++ rest_of whole fs
-rest_of-push whole [] f = sym (append-nil (drop f.position whole))
-rest_of-push whole (g ∷ fs) f =
-    ap (λ r. r ++ drop g.position whole) (rest_of-push (inner_block whole g) fs f)
-    ∙ append_assoc (drop f.position (block_at (inner_block whole g) fs)) (rest_of (inner_block whole g) fs) (drop g.position whole)
+pub rest_of-push : (code : Code) (whole : List (Statement ℕ)) (fs : List Frame) (f : Frame) (behind : List (Statement ℕ))
+    → rest_of code whole (fs ++ f ∷ []) behind ≡ (if is_thread f.branch then [] else drop f.position (block_at code whole fs) ++ rest_of code whole fs behind)
+rest_of-push code whole [] f behind = refl
+rest_of-push code whole (g ∷ fs) f behind =
+    rest_of-push code (inner_block code whole g) fs f (if is_thread g.branch then [] else drop g.position whole ++ behind)
 
--- at the beginning of a block, that block is to be done before what follows it
-pub todo_of-push : (whole : List Statement) (fs : List Frame) (f : Frame) → todo_of whole (fs ++ f ∷ []) 0 ≡ inner_block (block_at whole fs) f ++ todo_of whole fs f.position
-todo_of-push whole fs f = ap (λ b. b ++ rest_of whole (fs ++ f ∷ [])) (block_at-push whole fs f) ∙ ap (λ r. inner_block (block_at whole fs) f ++ r) (rest_of-push whole fs f)
+-- the frame of a block changes nothing in the threads that are spawned
+pub callers_in-block : (code : Code) (whole : List (Statement ℕ)) (fs : List Frame) (f : Frame) (behind : List (Statement ℕ))
+    → is_thread f.branch ≡ false → callers_in code whole (fs ++ f ∷ []) behind ≡ callers_in code whole fs behind
+callers_in-block code whole [] f behind h =
+    ap (λ b. if b then record { thread = thread_of (statement_at whole f); rest = drop f.position whole ++ behind } ∷ callers_in code (inner_block code whole f) [] [] else callers_in code (inner_block code whole f) [] (drop f.position whole ++ behind)) h
+callers_in-block code whole (g ∷ fs) f behind h =
+    elim (is_thread g.branch) as (λ b.
+    (if b then record { thread = thread_of (statement_at whole g); rest = drop g.position whole ++ behind } ∷ callers_in code (inner_block code whole g) (fs ++ f ∷ []) [] else callers_in code (inner_block code whole g) (fs ++ f ∷ []) (drop g.position whole ++ behind))
+    ≡ (if b then record { thread = thread_of (statement_at whole g); rest = drop g.position whole ++ behind } ∷ callers_in code (inner_block code whole g) fs [] else callers_in code (inner_block code whole g) fs (drop g.position whole ++ behind))) [
+      | true ↦ ap (λ cs. record { thread = thread_of (statement_at whole g); rest = drop g.position whole ++ behind } ∷ cs) (callers_in-block code (inner_block code whole g) fs f [] h)
+      | false ↦ callers_in-block code (inner_block code whole g) fs f (drop g.position whole ++ behind) h
+    ]
+
+-- that of a thread is one more
+abbrev pub caller_at : Code → (whole : List (Statement ℕ)) → List Frame → Frame → (behind : List (Statement ℕ)) → Caller
+caller_at code whole fs f behind =
+    record { thread = thread_of (statement_at (block_at code whole fs) f); rest = drop f.position (block_at code whole fs) ++ rest_of code whole fs behind }
+
+pub callers_in-thread : (code : Code) (whole : List (Statement ℕ)) (fs : List Frame) (f : Frame) (behind : List (Statement ℕ))
+    → is_thread f.branch ≡ true → callers_in code whole (fs ++ f ∷ []) behind ≡ callers_in code whole fs behind ++ caller_at code whole fs f behind ∷ []
+callers_in-thread code whole [] f behind h =
+    ap (λ b. if b then record { thread = thread_of (statement_at whole f); rest = drop f.position whole ++ behind } ∷ callers_in code (inner_block code whole f) [] [] else callers_in code (inner_block code whole f) [] (drop f.position whole ++ behind)) h
+callers_in-thread code whole (g ∷ fs) f behind h =
+    elim (is_thread g.branch) as (λ b.
+    (if b then record { thread = thread_of (statement_at whole g); rest = drop g.position whole ++ behind } ∷ callers_in code (inner_block code whole g) (fs ++ f ∷ []) [] else callers_in code (inner_block code whole g) (fs ++ f ∷ []) (drop g.position whole ++ behind))
+    ≡ (if b then record { thread = thread_of (statement_at whole g); rest = drop g.position whole ++ behind } ∷ callers_in code (inner_block code whole g) fs [] else callers_in code (inner_block code whole g) fs (drop g.position whole ++ behind))
+    ++ record { thread = thread_of (statement_at (block_at code (inner_block code whole g) fs) f); rest = drop f.position (block_at code (inner_block code whole g) fs) ++ rest_of code (inner_block code whole g) fs (if b then [] else drop g.position whole ++ behind) } ∷ []) [
+      | true ↦ ap (λ cs. record { thread = thread_of (statement_at whole g); rest = drop g.position whole ++ behind } ∷ cs) (callers_in-thread code (inner_block code whole g) fs f [] h)
+      | false ↦ callers_in-thread code (inner_block code whole g) fs f (drop g.position whole ++ behind) h
+    ]
+
+-- and so many frames of blocks change nothing either
+none_spawned : (code : Code) (whole : List (Statement ℕ)) (left : List Frame) (behind : List (Statement ℕ)) → spawns left ≡ 0 → callers_in code whole left behind ≡ []
+none_spawned code whole [] behind h = refl
+none_spawned code whole (f ∷ left) behind h =
+    (elim (is_thread f.branch) as (λ b. (if b then 1 else 0) + spawns left ≡ 0
+    → (if b then record { thread = thread_of (statement_at whole f); rest = drop f.position whole ++ behind } ∷ callers_in code (inner_block code whole f) left [] else callers_in code (inner_block code whole f) left (drop f.position whole ++ behind)) ≡ []) [
+      | true ↦ λ k. absurd (omega arith)
+      | false ↦ λ k. none_spawned code (inner_block code whole f) left (drop f.position whole ++ behind) (omega arith)
+    ]) h
+
+pub callers_in-blocks : (code : Code) (whole : List (Statement ℕ)) (fs left : List Frame) (behind : List (Statement ℕ))
+    → spawns left ≡ 0 → callers_in code whole (fs ++ left) behind ≡ callers_in code whole fs behind
+callers_in-blocks code whole [] left behind h = none_spawned code whole left behind h
+callers_in-blocks code whole (g ∷ fs) left behind h =
+    elim (is_thread g.branch) as (λ b.
+    (if b then record { thread = thread_of (statement_at whole g); rest = drop g.position whole ++ behind } ∷ callers_in code (inner_block code whole g) (fs ++ left) [] else callers_in code (inner_block code whole g) (fs ++ left) (drop g.position whole ++ behind))
+    ≡ (if b then record { thread = thread_of (statement_at whole g); rest = drop g.position whole ++ behind } ∷ callers_in code (inner_block code whole g) fs [] else callers_in code (inner_block code whole g) fs (drop g.position whole ++ behind))) [
+      | true ↦ ap (λ cs. record { thread = thread_of (statement_at whole g); rest = drop g.position whole ++ behind } ∷ cs) (callers_in-blocks code (inner_block code whole g) fs left [] h)
+      | false ↦ callers_in-blocks code (inner_block code whole g) fs left (drop g.position whole ++ behind) h
+    ]
+
+-- as many threads are spawned as there are frames of threads
+pub length-callers_in : (code : Code) (whole : List (Statement ℕ)) (fs : List Frame) (behind : List (Statement ℕ)) → length (callers_in code whole fs behind) ≡ spawns fs
+length-callers_in code whole [] behind = refl
+length-callers_in code whole (f ∷ fs) behind =
+    elim (is_thread f.branch) as (λ b.
+    length (if b then record { thread = thread_of (statement_at whole f); rest = drop f.position whole ++ behind } ∷ callers_in code (inner_block code whole f) fs [] else callers_in code (inner_block code whole f) fs (drop f.position whole ++ behind))
+    ≡ (if b then 1 else 0) + spawns fs) [
+      | true ↦ omega (arith, length-callers_in code (inner_block code whole f) fs [])
+      | false ↦ length-callers_in code (inner_block code whole f) fs (drop f.position whole ++ behind) ∙ sym (zero-add (spawns fs))
+    ]
+
+-- the frame of a thread stands for the thread's block
+pub thread_inner : (code : Code) (block : List (Statement ℕ)) (f : Frame) → is_thread f.branch ≡ true → inner_block code block f ≡ thread_block code (thread_of (statement_at block f))
+thread_inner code block f h = by_branch f.branch (statement_at block f) h
+  where
+    by_branch : (b : Branch) (s : Option (Statement ℕ)) → is_thread b ≡ true → branch_block code b s ≡ thread_block code (thread_of s)
+    by_branch Then s k = absurd (cc)
+    by_branch Else s k = absurd (cc)
+    by_branch Loop s k = absurd (cc)
+    by_branch Spawned s k = refl
+
+-- the innermost of the threads
+pub nested-snoc : (cs : List Caller) (c : Caller) (p : Place) → nested (cs ++ c ∷ []) p ≡ nested cs (within c.thread p c.rest)
+nested-snoc [] c p = refl
+nested-snoc (d ∷ cs) c p = ap (λ q. within d.thread q d.rest) (nested-snoc cs c p)
+
+pub home_of-snoc : (code : Code) (whole : List (Statement ℕ)) (cs : List Caller) (c : Caller) → home_of code whole (cs ++ c ∷ []) ≡ thread_block code c.thread
+home_of-snoc code whole [] c = refl
+home_of-snoc code whole (d ∷ cs) c = home_of-snoc code (thread_block code d.thread) cs c
+
+-- at home the innermost block is the whole one of the innermost thread, and nothing follows it
+pub home_block : (code : Code) (whole : List (Statement ℕ)) (fs : List Frame) → IsAtHome fs → block_at code whole fs ≡ home_of code whole (callers_in code whole fs [])
+home_block code whole fs (in_the_part none) =
+    ap (λ gs. block_at code whole gs) none ∙ sym (ap (λ gs. home_of code whole (callers_in code whole gs [])) none)
+home_block code whole fs (in_a_thread gs f is thread) =
+    ap (λ hs. block_at code whole hs) is ∙ block_at-push code whole gs f ∙ thread_inner code (block_at code whole gs) f thread
+    ∙ sym (ap (λ hs. home_of code whole (callers_in code whole hs [])) is ∙ ap (λ cs. home_of code whole cs) (callers_in-thread code whole gs f [] thread)
+    ∙ home_of-snoc code whole (callers_in code whole gs []) (caller_at code whole gs f []))
+
+pub home_rest : (code : Code) (whole : List (Statement ℕ)) (fs : List Frame) → IsAtHome fs → rest_of code whole fs [] ≡ []
+home_rest code whole fs (in_the_part none) = ap (λ gs. rest_of code whole gs []) none
+home_rest code whole fs (in_a_thread gs f is thread) =
+    ap (λ hs. rest_of code whole hs []) is ∙ rest_of-push code whole gs f []
+    ∙ ap (λ b. if b then [] else drop f.position (block_at code whole gs) ++ rest_of code whole gs []) thread
 
 -- the statement at a position comes before those behind it
-pub drop_at : (block : List Statement) (p : ℕ) (s : Statement) → slice_get block p ≡ Some s → drop p block ≡ s ∷ drop (p + 1) block
+pub drop_at : (block : List (Statement ℕ)) (p : ℕ) (s : Statement ℕ) → slice_get block p ≡ Some s → drop p block ≡ s ∷ drop (p + 1) block
 drop_at block p s h = drop_more block p s (slice_get_within block p s h) ∙ ap (λ x. x ∷ drop (p + 1) block) (get_or_from_slice_get block p s s h)
 
-pub todo_of-at : (whole : List Statement) (fs : List Frame) (p : ℕ) (s : Statement) → slice_get (block_at whole fs) p ≡ Some s → todo_of whole fs p ≡ s ∷ todo_of whole fs (p + 1)
-todo_of-at whole fs p s h = ap (λ d. d ++ rest_of whole fs) (drop_at (block_at whole fs) p s h)
+-- where a thread stands at a statement
+pub place_of-at : (code : Code) (whole : List (Statement ℕ)) (t : Thread) (s : Statement ℕ) → slice_get (block_at code whole t.frames.items) t.position ≡ Some s
+    → place_of code whole t ≡ nested (callers_of code whole t) (at t.is_yielded s (behind_of code whole t))
+place_of-at code whole t s h =
+    ap (λ d. nested (callers_of code whole t) (before t.is_yielded (d ++ rest_of code whole t.frames.items []))) (drop_at (block_at code whole t.frames.items) t.position s h)
 
--- going on at the beginning of a block of a statement
-pub entered : (whole : List Statement) (event : Event) (looks : Looks) (old : Thread) (before : List ℕ) (s : Statement) (block inner : List Statement) (new : Thread) (which : Branch) (p : ℕ)
-    → block_at whole old.frames.items ≡ block
-    → slice_get block old.position ≡ Some s
-    → new ≡ record old { is_yielded = false; position = 0; frames = record { items = old.frames.items ++ record { branch = which; position = p } ∷ [] } }
-    → statement_place which p ≡ old.position
-    → branch_block which (Some s) ≡ inner
-    → reached event looks old.is_yielded before s (todo_of whole old.frames.items (old.position + 1)) ≡ goes_on before (inner ++ todo_of whole old.frames.items p)
-    → GoesOnAt whole event looks old before s inner new before
-entered whole event looks old before s block inner new which p inside at moved place inner_is does =
-    let f : Frame = record { branch = which; position = p } in
-    let fs : List Frame = old.frames.items in
-    let stands : inner_block (block_at whole fs) f ≡ inner =
-    ap (λ b. inner_block b f) inside ∙ ap (λ q. branch_block which (slice_get block q)) place ∙ ap (branch_block which) at ∙ inner_is in
-    record {
-      part = ap (λ t. t.part) moved;
-      mark = ap (λ t. t.mark) moved;
-      unyielded = ap (λ t. t.is_yielded) moved;
-      innermost = ap (λ t. block_at whole t.frames.items) moved ∙ block_at-push whole fs f ∙ stands;
-      does = does ∙ ap (λ todo. goes_on before todo) (sym (ap (λ t. todo_of whole t.frames.items t.position) moved ∙ todo_of-push whole fs f ∙ ap (λ b. b ++ todo_of whole fs p) stands));
-    }
+-- what stands at a statement is settled
+pub settled-at : (cs : List Caller) (y : Bool) (s : Statement ℕ) (rest : List (Statement ℕ)) → settled (nested cs (at y s rest)) ≡ nested cs (at y s rest)
+settled-at [] y s rest = refl
+settled-at (c ∷ []) y s rest = refl
+settled-at (c ∷ d ∷ cs) y s rest = ap (λ p. spawner_place c.thread p c.rest) (settled-at (d ∷ cs) y s rest)
 
--- a value but 0 is true
-pub holds_true : (n : ℕ) → (n ≡ 0 → ⊥) → holds n ≡ true
-holds_true n h = grind (arith, common_steps)
-
-pub holds_false : (n : ℕ) → n ≡ 0 → holds n ≡ false
-holds_false n h = ap holds h
-
--- what the statements with blocks do, by their conditions
-pub takes_then : (event : Event) (looks : Looks) (y : Bool) (vars : List ℕ) (s : Statement) (rest : List Statement) (c : Expression) (a : Body) (o : Otherwise)
-    → s ≡ branch c a o → holds (value vars event looks c) ≡ true → reached event looks y vars s rest ≡ goes_on vars (listed a ++ rest)
-takes_then event looks y vars s rest c a o p q =
-    ap (λ t. reached event looks y vars t rest) p ∙ ap (λ b. goes_on vars ((if b then listed a else other_block o) ++ rest)) q
-
-pub takes_else : (event : Event) (looks : Looks) (y : Bool) (vars : List ℕ) (s : Statement) (rest : List Statement) (c : Expression) (a : Body) (o : Otherwise)
-    → s ≡ branch c a o → holds (value vars event looks c) ≡ false → reached event looks y vars s rest ≡ goes_on vars (other_block o ++ rest)
-takes_else event looks y vars s rest c a o p q =
-    ap (λ t. reached event looks y vars t rest) p ∙ ap (λ b. goes_on vars ((if b then listed a else other_block o) ++ rest)) q
-
-pub takes_loop : (event : Event) (looks : Looks) (y : Bool) (vars : List ℕ) (s : Statement) (rest : List Statement) (c : Expression) (a : Body)
-    → s ≡ while c a → holds (value vars event looks c) ≡ true → reached event looks y vars s rest ≡ goes_on vars (listed a ++ s ∷ rest)
-takes_loop event looks y vars s rest c a p q =
-    ap (λ t. reached event looks y vars t rest) p ∙ ap (λ b. goes_on vars (if b then listed a ++ while c a ∷ rest else rest)) q
-    ∙ ap (λ t. goes_on vars (listed a ++ t ∷ rest)) (sym p)
-
-pub yields : (event : Event) (looks : Looks) (y : Bool) (vars : List ℕ) (s : Statement) (rest : List Statement)
-    → s ≡ yield → y ≡ false → reached event looks y vars s rest ≡ stops (step.Done Yielded) AtRest true (s ∷ rest)
-yields event looks y vars s rest p q =
-    ap (λ t. reached event looks y vars t rest) p ∙ ap (λ b. reached event looks b vars yield rest) q
-    ∙ ap (λ t. stops (step.Done Yielded) AtRest true (t ∷ rest)) (sym p)
-
-pub yields_until : (event : Event) (looks : Looks) (y : Bool) (vars : List ℕ) (s : Statement) (rest : List Statement) (c : Expression)
-    → s ≡ yield_until c → y && holds (value vars event looks c) ≡ false → reached event looks y vars s rest ≡ stops (step.Done Yielded) AtRest true (s ∷ rest)
-yields_until event looks y vars s rest c p q =
-    ap (λ t. reached event looks y vars t rest) p
-    ∙ ap (λ b. if b then goes_on vars rest else stops (step.Done Yielded) AtRest true (yield_until c ∷ rest)) q
-    ∙ ap (λ t. stops (step.Done Yielded) AtRest true (t ∷ rest)) (sym p)
-
--- giving up control at a statement, which then stands first and has yielded
-pub waited : (whole : List Statement) (event : Event) (looks : Looks) (old : Thread) (before : List ℕ) (s : Statement) (block : List Statement) (answer : Step) (new : Thread)
-    → block_at whole old.frames.items ≡ block
-    → slice_get block old.position ≡ Some s
-    → answer ≡ step.Done Yielded
-    → new ≡ record old { mark = AtRest; is_yielded = true }
-    → ((rest : List Statement) → reached event looks old.is_yielded before s rest ≡ stops (step.Done Yielded) AtRest true (s ∷ rest))
-    → StopsWith whole event looks old before s answer new before
-waited whole event looks old before s block answer new inside at answered moved does =
-    let fs : List Frame = old.frames.items in
-    let stands : slice_get (block_at whole fs) old.position ≡ Some s = ap (λ b. slice_get b old.position) inside ∙ at in
-    record {
-      part = ap (λ t. t.part) moved;
-      variables = refl;
-      does =
-          does (todo_of whole fs (old.position + 1))
-          ∙ ap (λ todo. stops (step.Done Yielded) AtRest true todo) (sym (todo_of-at whole fs old.position s stands))
-          ∙ ap (λ t. stops (step.Done Yielded) t.mark t.is_yielded (todo_of whole t.frames.items t.position)) (sym moved)
-          ∙ ap (λ r. stops r new.mark new.is_yielded (todo_of whole new.frames.items new.position)) (sym answered);
-    }
+-- behind the end of a thread its spawner goes on
+pub settled-end : (cs : List Caller) (c : Caller) → settled (nested (cs ++ c ∷ []) ended) ≡ settled (nested cs (before false c.rest))
+settled-end [] c = before_settled c.rest
+  where
+    before_settled : (ss : List (Statement ℕ)) → before false ss ≡ settled (before false ss)
+    before_settled [] = refl
+    before_settled (s ∷ ss) = refl
+settled-end (d ∷ cs) c = ap (λ p. spawner_place d.thread p d.rest) (settled-end cs c)

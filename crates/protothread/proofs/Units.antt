@@ -1,182 +1,207 @@
--- What the units of work are to a step.
-use Rattle.std.proofs.Common.{◌≡◌, ℕ, zero, suc, ◌+◌, Bool, true, false, ◌&&◌, if◌then◌else◌, List, [], ◌∷◌, refl, ap, ◌∙◌, arith, ◌<◌, subst, IsTrue, IfSome, slice_get, sym}
+-- What the units of work are to a step, and where it gives up control.
+use Rattle.std.proofs.Common.{◌≡◌, ℕ, zero, suc, ◌+◌, ◌-◌, ◌<◌, ◌≤◌, ◌⊎◌, inl, inr, Bool, true, false, if◌then◌else◌, List, refl, ap, sym, ◌∙◌, arith, subst}
+use Rattle.std.specs.Prelude.{nat_lt}
+use Rattle.std.proofs.lemmas.Bool.Decides.{nat_tests}
 use Rattle.mote_program.specs.declared.event.Event.{Event}
-use Rattle.mote_program.specs.Tree.{Statement, assign, print, branch, while, yield, yield_until}
-use Rattle.protothread.specs.Value.{value, holds}
-use Rattle.mote_program.specs.Program.{Code}
-use Rattle.protothread.specs.declared.thread.Part.{Part}
+use Rattle.mote_program.specs.Code.{Code}
+use Rattle.protothread.specs.declared.part.Part.{Part}
 use Rattle.protothread.specs.declared.thread.Mark.{Mark}
-use Rattle.protothread.specs.declared.thread.Mark.TheVariants.{AtRest, UnderWay, RunAway}
-use Rattle.protothread.specs.declared.thread.Step.TheVariants as step
-use Rattle.protothread.specs.declared.state.PtState.TheVariants.{Yielded, Ended}
-use Rattle.protothread.specs.declared.state.PtState.{PtState}
-use Rattle.protothread.specs.State.{number_of}
-use Rattle.protothread.specs.declared.thread.Step.{Step}
+use Rattle.protothread.specs.declared.thread.Mark.TheVariants.{AtRest, UnderWay, Pausing, RunAway}
+use Rattle.protothread.specs.declared.step.Step.{Step}
+use Rattle.protothread.specs.declared.step.Step.TheVariants as step
+use Rattle.protothread.specs.declared.state.PtState.TheVariants.{Ended}
 use Rattle.protothread.specs.Looks.{Looks}
-use Rattle.protothread.specs.Remainder.{Remainder}
-use Rattle.protothread.specs.Step.{Advanced, Reached, goes_on, stops, reached, continued, advanced_of, PaysFor}
-use Rattle.protothread.specs.Laws.{MoreUnitsChangeNothing, RunAwayIsForGood, ControlIsGivenUpAtWaits, RestsAtAWait, is_wait, OperationsCostWork}
+use Rattle.protothread.specs.Remainder.{Place, ended, at, within, settled, Remainder, fresh_of, whole_of}
+use Rattle.protothread.specs.Step.{Advanced, Reached, goes_on, operates, answers, reached, continued, passed, advanced_of, PaysFor}
+use Rattle.protothread.specs.Laws.{MoreUnitsChangeNothing, RunAwayIsForGood, OperationsCostWork}
+
+one_more : (s : Step) (units left : ℕ) → PaysFor s units left → PaysFor s (suc units) left
+one_more (step.Op o) units left h = omega arith
+one_more (step.Done a) units left h = omega arith
+one_more step.Runaway units left h = omega arith
 
 -- an advance with more units left
 abbrev with_more : Advanced → ℕ → Advanced
 with_more a n = record a { units = a.units + n }
 
 module _ (code : Code) (part : Part) (event : Event) (looks : Looks) where
-  abbrev follows : (vars : List ℕ) (units : ℕ) → Reached → Advanced
+  abbrev pub follows : (vars : List ℕ) (units : ℕ) → Reached → Advanced
   follows vars units r =
       elim r [
-        | goes_on changed todo ↦ continued code part event looks false todo changed units
-        | stops step mark is_yielded todo ↦ record { step = step; remainder = record { part = part; mark = mark; is_yielded = is_yielded; todo = todo }; variables = vars; units = units }
+        | goes_on changed p ↦ continued code part event looks p changed units
+        | operates o mark p ↦ record { step = step.Op o; remainder = record { part = part; mark = mark; place = p }; variables = vars; units = units }
+        | answers a p ↦ record { step = step.Done a; remainder = record { part = part; mark = AtRest; place = p }; variables = vars; units = units }
       ]
 
-  more : (y : Bool) (todo : List Statement) (vars : List ℕ) (units n : ℕ)
-      → ((continued code part event looks y todo vars units).step ≡ step.Runaway → ⊥)
-      → continued code part event looks y todo vars (units + n) ≡ with_more (continued code part event looks y todo vars units) n
-  more y [] vars units n h = refl
-  more y (s ∷ rest) vars zero n h = absurd (h refl)
-  more y (s ∷ rest) vars (suc units) n h =
-      let added : suc units + n ≡ suc (units + n) = omega arith in
-      ap (λ u. continued code part event looks y (s ∷ rest) vars u) added
-      ∙ (elim (reached event looks y vars s rest) as (λ r. ((follows vars units r).step ≡ step.Runaway → ⊥) → follows vars (units + n) r ≡ with_more (follows vars units r) n) [
-        | goes_on changed todo ↦ λ k. more false todo changed units n k
-        | stops answer mark yielded todo ↦ λ k. refl
-      ]) h
+  abbrev pub stepped : (vars : List ℕ) (units : ℕ) → Place → Advanced
+  stepped vars zero q =
+      elim q [
+        | ended ↦ record { step = step.Done Ended; remainder = fresh_of code part; variables = vars; units = 0 }
+        | p ↦ record { step = step.Runaway; remainder = record { part = part; mark = RunAway; place = p }; variables = vars; units = 0 }
+      ]
+  stepped vars (suc units) q =
+      elim q [
+        | ended ↦ record { step = step.Done Ended; remainder = fresh_of code part; variables = vars; units = suc units }
+        | p ↦ follows vars units (reached code (whole_of code part) vars event looks p)
+      ]
 
-more_marked : (m : Mark) (code : Code) (event : Event) (looks : Looks) (r : Remainder) (variables : List ℕ) (units n : ℕ)
-    → ((advanced_of code event looks (record r { mark = m }) variables units).step ≡ step.Runaway → ⊥)
-    → advanced_of code event looks (record r { mark = m }) variables (units + n) ≡ with_more (advanced_of code event looks (record r { mark = m }) variables units) n
+  pub settles : (p : Place) (vars : List ℕ) (units : ℕ) → continued code part event looks p vars units ≡ stepped vars units (settled p)
+  settles p vars zero = refl
+  settles p vars (suc units) = refl
+
+  finish : (vars : List ℕ) (units : ℕ) → stepped vars units ended ≡ record { step = step.Done Ended; remainder = fresh_of code part; variables = vars; units = units }
+  finish vars zero = refl
+  finish vars (suc units) = refl
+
+  -- more units
+  abbrev Same : (few many : Advanced) → ℕ → Type 0
+  Same few many n = (few.step ≡ step.Runaway → ⊥) → many ≡ with_more few n
+
+  none_more : (q : Place) (vars : List ℕ) (n : ℕ) → Same (stepped vars 0 q) (stepped vars (0 + n) q) n
+  none_more ended vars n h = finish vars (0 + n)
+  none_more (at y s rest) vars n h = absurd (h refl)
+  none_more (within t p rest) vars n h = absurd (h refl)
+
+  more : (units : ℕ) (p : Place) (vars : List ℕ) (n : ℕ) → Same (continued code part event looks p vars units) (continued code part event looks p vars (units + n)) n
+  more zero p vars n h =
+      let P : Advanced → Type 0 = λ a. a.step ≡ step.Runaway → ⊥ in
+      settles p vars (0 + n) ∙ none_more (settled p) vars n (subst P (settles p vars 0) h) ∙ ap (λ a. with_more a n) (sym (settles p vars 0))
+  more (suc units) p vars n h =
+      let P : Advanced → Type 0 = λ a. a.step ≡ step.Runaway → ⊥ in
+      let added : suc units + n ≡ suc (units + n) = omega arith in
+      let after : (r : Reached) → Same (follows vars units r) (follows vars (units + n) r) n =
+      λ r. elim r as (λ r. Same (follows vars units r) (follows vars (units + n) r) n) [
+        | goes_on changed q ↦ λ k. more units q changed n k
+        | operates o mark q ↦ λ k. refl
+        | answers a q ↦ λ k. refl
+      ] in
+      let there : (q : Place) → Same (stepped vars (suc units) q) (stepped vars (suc (units + n)) q) n =
+      λ q. elim q as (λ q. Same (stepped vars (suc units) q) (stepped vars (suc (units + n)) q) n) [
+        | ended ↦ λ k. ap (λ u. record { step = step.Done Ended; remainder = fresh_of code part; variables = vars; units = u }) (sym added)
+        | at y s rest ↦ λ k. after (reached code (whole_of code part) vars event looks (at y s rest)) k
+        | within t p' rest ↦ λ k. after (reached code (whole_of code part) vars event looks (within t p' rest)) k
+      ] in
+      ap (λ u. continued code part event looks p vars u) added
+      ∙ settles p vars (suc (units + n)) ∙ there (settled p) (subst P (settles p vars (suc units)) h) ∙ ap (λ a. with_more a n) (sym (settles p vars (suc units)))
+
+  -- a step that ran away is marked so
+  away : (units : ℕ) (p : Place) (vars : List ℕ) → (continued code part event looks p vars units).step ≡ step.Runaway
+      → (continued code part event looks p vars units).remainder.mark ≡ RunAway
+  away zero p vars =
+      elim (settled p) as (λ q. (stepped vars 0 q).step ≡ step.Runaway → (stepped vars 0 q).remainder.mark ≡ RunAway) [
+        | ended ↦ λ h. cc
+        | at y s rest ↦ λ h. refl
+        | within t p' rest ↦ λ h. refl
+      ]
+  away (suc units) p vars =
+      let after : (r : Reached) → (follows vars units r).step ≡ step.Runaway → (follows vars units r).remainder.mark ≡ RunAway =
+      λ r. elim r as (λ r. (follows vars units r).step ≡ step.Runaway → (follows vars units r).remainder.mark ≡ RunAway) [
+        | goes_on changed q ↦ λ k. away units q changed k
+        | operates o mark q ↦ λ k. cc
+        | answers a q ↦ λ k. cc
+      ] in
+      elim (settled p) as (λ q. (stepped vars (suc units) q).step ≡ step.Runaway → (stepped vars (suc units) q).remainder.mark ≡ RunAway) [
+        | ended ↦ λ h. cc
+        | at y s rest ↦ after (reached code (whole_of code part) vars event looks (at y s rest))
+        | within t p' rest ↦ after (reached code (whole_of code part) vars event looks (within t p' rest))
+      ]
+
+  -- what a step pays
+  pays : (units : ℕ) (p : Place) (vars : List ℕ)
+      → PaysFor (continued code part event looks p vars units).step units (continued code part event looks p vars units).units
+  pays zero p vars =
+      elim (settled p) as (λ q. PaysFor (stepped vars 0 q).step 0 (stepped vars 0 q).units) [
+        | ended ↦ omega arith
+        | at y s rest ↦ omega arith
+        | within t p' rest ↦ omega arith
+      ]
+  pays (suc units) p vars =
+      let after : (r : Reached) → PaysFor (follows vars units r).step (suc units) (follows vars units r).units =
+      λ r. elim r as (λ r. PaysFor (follows vars units r).step (suc units) (follows vars units r).units) [
+        | goes_on changed q ↦ one_more (continued code part event looks q changed units).step units (continued code part event looks q changed units).units (pays units q changed)
+        | operates o mark q ↦ omega arith
+        | answers a q ↦ omega arith
+      ] in
+      elim (settled p) as (λ q. PaysFor (stepped vars (suc units) q).step (suc units) (stepped vars (suc units) q).units) [
+        | ended ↦ omega arith
+        | at y s rest ↦ after (reached code (whole_of code part) vars event looks (at y s rest))
+        | within t p' rest ↦ after (reached code (whole_of code part) vars event looks (within t p' rest))
+      ]
+
+not_less : (a b : ℕ) → b ≤ a → nat_lt a b ≡ false
+not_less a b h = grind (arith, nat_tests)
+
+by_test : (a b : ℕ) → ((nat_lt a b ≡ true) × (a < b)) ⊎ ((nat_lt a b ≡ false) × (b ≤ a))
+by_test a b = grind (arith, nat_tests)
+
+more_from : (m : Mark) (code : Code) (event : Event) (looks : Looks) (r : Remainder) (vars : List ℕ) (units n : ℕ)
+    → Same code r.part event looks (advanced_of code event looks (record r { mark = m }) vars units) (advanced_of code event looks (record r { mark = m }) vars (units + n)) n
 unfolding advanced_of
-more_marked AtRest code event looks r variables units n h = more code r.part event looks r.is_yielded r.todo variables units n h
-more_marked UnderWay code event looks r variables units n h = more code r.part event looks r.is_yielded r.todo variables units n h
-more_marked RunAway code event looks r variables units n h = absurd (h refl)
+more_from AtRest code event looks r vars units n h =
+    let k : ℕ = passed r.place in
+    let few : Bool → Advanced = λ b. if b then record { step = step.Runaway; remainder = record r { mark = RunAway }; variables = vars; units = 0 } else continued code r.part event looks r.place vars (units - k) in
+    let many : Bool → Advanced = λ b. if b then record { step = step.Runaway; remainder = record r { mark = RunAway }; variables = vars; units = 0 } else continued code r.part event looks r.place vars (units + n - k) in
+    let P : Advanced → Type 0 = λ a. a.step ≡ step.Runaway → ⊥ in
+    elim (by_test units k) [
+      | inl short ↦ absurd (subst P (ap few short.0) h refl)
+      | inr enough ↦
+          let left : units + n - k ≡ units - k + n = omega (arith, enough.1) in
+          ap many (not_less (units + n) k (omega (arith, enough.1)))
+          ∙ ap (λ u. continued code r.part event looks r.place vars u) left
+          ∙ more code r.part event looks (units - k) r.place vars n (subst P (ap few enough.0) h)
+          ∙ ap (λ a. with_more a n) (sym (ap few enough.0))
+    ]
+more_from (UnderWay into) code event looks r vars units n h = more code r.part event looks units r.place vars n h
+more_from Pausing code event looks r vars units n h = refl
+more_from RunAway code event looks r vars units n h = absurd (h refl)
 
 pub more_units : MoreUnitsChangeNothing
-unfolding advanced_of
-more_units code event looks r variables units n h = more_marked r.mark code event looks r variables units n h
+more_units code event looks r vars units n h = more_from r.mark code event looks r vars units n h
 
--- no statement runs away by itself
-stops_otherwise : (event : Event) (looks : Looks) (y : Bool) (vars : List ℕ) (s : Statement) (rest : List Statement) (mark : Mark) (yielded : Bool) (todo : List Statement)
-    → reached event looks y vars s rest ≡ stops step.Runaway mark yielded todo → ⊥
-stops_otherwise event looks y vars (assign i e) rest mark yielded todo h = cc
-stops_otherwise event looks y vars (print e) rest mark yielded todo h = cc
-stops_otherwise event looks y vars (branch c a o) rest mark yielded todo h = cc
-stops_otherwise event looks y vars (while c a) rest mark yielded todo h = cc
-stops_otherwise event looks true vars yield rest mark yielded todo h = cc
-stops_otherwise event looks false vars yield rest mark yielded todo h = cc
-stops_otherwise event looks y vars (yield_until c) rest mark yielded todo h =
-    (elim (y && holds (value vars event looks c)) as (λ b. (if b then goes_on vars rest else stops (step.Done Yielded) AtRest true (yield_until c ∷ rest)) ≡ stops step.Runaway mark yielded todo → ⊥) [
-      | true ↦ λ k. cc
-      | false ↦ λ k. cc
+-- a call of a thread at rest, by whether its units are too few for the spawns that it passes
+abbrev pub called : Code → Event → Looks → Remainder → (vars : List ℕ) (units : ℕ) → Bool → Advanced
+called code event looks r vars units b =
+    if b then record { step = step.Runaway; remainder = record r { mark = RunAway }; variables = vars; units = 0 } else continued code r.part event looks r.place vars (units - passed r.place)
+
+away_from : (m : Mark) (code : Code) (event : Event) (looks : Looks) (r : Remainder) (vars : List ℕ) (units : ℕ)
+    → (advanced_of code event looks (record r { mark = m }) vars units).step ≡ step.Runaway → (advanced_of code event looks (record r { mark = m }) vars units).remainder.mark ≡ RunAway
+unfolding advanced_of
+away_from AtRest code event looks r vars units h =
+    (elim (nat_lt units (passed r.place)) as (λ b. (called code event looks r vars units b).step ≡ step.Runaway → (called code event looks r vars units b).remainder.mark ≡ RunAway) [
+      | true ↦ λ h. refl
+      | false ↦ λ k. away code r.part event looks (units - passed r.place) r.place vars k
     ]) h
+away_from (UnderWay into) code event looks r vars units h = away code r.part event looks units r.place vars h
+away_from Pausing code event looks r vars units h = absurd (cc)
+away_from RunAway code event looks r vars units h = refl
 
-marked : (code : Code) (part : Part) (event : Event) (looks : Looks) (y : Bool) (todo : List Statement) (vars : List ℕ) (units : ℕ)
-    → (continued code part event looks y todo vars units).step ≡ step.Runaway
-    → (continued code part event looks y todo vars units).remainder.mark ≡ RunAway
-marked code part event looks y [] vars units h = absurd (cc)
-marked code part event looks y (s ∷ rest) vars zero h = refl
-marked code part event looks y (s ∷ rest) vars (suc units) h =
-    (elim (reached event looks y vars s rest) as (λ r. reached event looks y vars s rest ≡ r → (follows code part event looks vars units r).step ≡ step.Runaway → (follows code part event looks vars units r).remainder.mark ≡ RunAway) [
-      | goes_on changed todo ↦ λ e k. marked code part event looks false todo changed units k
-      | stops answer mark yielded todo ↦ λ e k. absurd (stops_otherwise event looks y vars s rest mark yielded todo (e ∙ ap (λ a. stops a mark yielded todo) k))
-    ]) refl h
-
-marked_so : (m : Mark) (code : Code) (event : Event) (looks : Looks) (r : Remainder) (variables : List ℕ) (units : ℕ)
-    → (advanced_of code event looks (record r { mark = m }) variables units).step ≡ step.Runaway
-    → (advanced_of code event looks (record r { mark = m }) variables units).remainder.mark ≡ RunAway
+stays_away : (r : Remainder) → r.mark ≡ RunAway → (code : Code) (event : Event) (looks : Looks) (vars : List ℕ) (units : ℕ)
+    → advanced_of code event looks r vars units ≡ record { step = step.Runaway; remainder = r; variables = vars; units = units }
 unfolding advanced_of
-marked_so AtRest code event looks r variables units h = marked code r.part event looks r.is_yielded r.todo variables units h
-marked_so UnderWay code event looks r variables units h = marked code r.part event looks r.is_yielded r.todo variables units h
-marked_so RunAway code event looks r variables units h = refl
-
-stays_away : (m : Mark) (code : Code) (event : Event) (looks : Looks) (r : Remainder) (variables : List ℕ) (units : ℕ)
-    → m ≡ RunAway
-    → advanced_of code event looks (record r { mark = m }) variables units ≡ record { step = step.Runaway; remainder = record r { mark = m }; variables = variables; units = units }
-unfolding advanced_of
-stays_away AtRest code event looks r variables units h = absurd (cc)
-stays_away UnderWay code event looks r variables units h = absurd (cc)
-stays_away RunAway code event looks r variables units h = refl
+stays_away r is code event looks vars units =
+    ap (λ m. advanced_of code event looks (record r { mark = m }) vars units) is
+    ∙ ap (λ m. record { step = step.Runaway; remainder = record r { mark = m }; variables = vars; units = units }) (sym is)
 
 pub run_away : RunAwayIsForGood
+run_away code event looks r vars units h = λ next seen changed more.
+    stays_away (advanced_of code event looks r vars units).remainder (away_from r.mark code event looks r vars units h) code next seen changed more
+
+less_first : (s : Step) (units k left : ℕ) → PaysFor s (units - k) left → PaysFor s units left
+less_first (step.Op o) units k left h = omega arith
+less_first (step.Done a) units k left h = omega arith
+less_first step.Runaway units k left h = omega arith
+
+pays_from : (m : Mark) (code : Code) (event : Event) (looks : Looks) (r : Remainder) (vars : List ℕ) (units : ℕ)
+    → PaysFor (advanced_of code event looks (record r { mark = m }) vars units).step units (advanced_of code event looks (record r { mark = m }) vars units).units
 unfolding advanced_of
-run_away code event looks r variables units h next seen changed n =
-    let left : Remainder = (advanced_of code event looks r variables units).remainder in
-    stays_away left.mark code next seen left changed n (marked_so r.mark code event looks r variables units h)
-
-ended_high : number_of Ended < 2 → ⊥
-ended_high h = omega arith
-
--- what a stop says of where the thread then rests
-abbrev Rests : Reached → Type 0
-Rests (goes_on vars todo) = Unit {0}
-Rests (stops (step.Done answer) mark yielded todo) = (mark ≡ AtRest) × (yielded ≡ true) × IfSome (slice_get todo 0) (λ s. IsTrue (is_wait s))
-Rests (stops answer mark yielded todo) = Unit {0}
-
-rests : (event : Event) (looks : Looks) (y : Bool) (vars : List ℕ) (s : Statement) (rest : List Statement) → Rests (reached event looks y vars s rest)
-rests event looks y vars (assign i e) rest = tt
-rests event looks y vars (print e) rest = tt
-rests event looks y vars (branch c a o) rest = tt
-rests event looks y vars (while c a) rest = tt
-rests event looks true vars yield rest = tt
-rests event looks false vars yield rest = (refl, refl, refl)
-rests event looks y vars (yield_until c) rest =
-    elim (y && holds (value vars event looks c)) as (λ b. Rests (if b then goes_on vars rest else stops (step.Done Yielded) AtRest true (yield_until c ∷ rest))) [
-      | true ↦ tt
-      | false ↦ (refl, refl, refl)
+pays_from AtRest code event looks r vars units =
+    elim (nat_lt units (passed r.place)) as (λ b. PaysFor (called code event looks r vars units b).step units (called code event looks r vars units b).units) [
+      | true ↦ omega arith
+      | false ↦ less_first (continued code r.part event looks r.place vars (units - passed r.place)).step units (passed r.place) (continued code r.part event looks r.place vars (units - passed r.place)).units (pays code r.part event looks (units - passed r.place) r.place vars)
     ]
-
-gives_up : (code : Code) (part : Part) (event : Event) (looks : Looks) (y : Bool) (todo : List Statement) (vars : List ℕ) (units : ℕ) (answer : PtState)
-    → (continued code part event looks y todo vars units).step ≡ step.Done answer → number_of answer < 2
-    → RestsAtAWait (continued code part event looks y todo vars units).remainder
-gives_up code part event looks y [] vars units answer h low =
-    let P : PtState → Type 0 = λ a. number_of a < 2 in
-    let same : Ended ≡ answer = cc in
-    absurd (ended_high (subst P (sym same) low))
-gives_up code part event looks y (s ∷ rest) vars zero answer h low = absurd (cc)
-gives_up code part event looks y (s ∷ rest) vars (suc units) answer h low =
-    (elim (reached event looks y vars s rest) as (λ r. Rests r → (follows code part event looks vars units r).step ≡ step.Done answer → RestsAtAWait (follows code part event looks vars units r).remainder) [
-      | goes_on changed todo ↦ λ e k. gives_up code part event looks false todo changed units answer k low
-      | stops given mark yielded todo ↦ λ e k. let P : Step → Type 0 = λ a. Rests (stops a mark yielded todo) in subst P k e
-    ]) (rests event looks y vars s rest) h
-
-gives_up_so : (m : Mark) (code : Code) (event : Event) (looks : Looks) (r : Remainder) (variables : List ℕ) (units : ℕ) (answer : PtState)
-    → (advanced_of code event looks (record r { mark = m }) variables units).step ≡ step.Done answer → number_of answer < 2
-    → RestsAtAWait (advanced_of code event looks (record r { mark = m }) variables units).remainder
-unfolding advanced_of
-gives_up_so AtRest code event looks r variables units answer h low = gives_up code r.part event looks r.is_yielded r.todo variables units answer h low
-gives_up_so UnderWay code event looks r variables units answer h low = gives_up code r.part event looks r.is_yielded r.todo variables units answer h low
-gives_up_so RunAway code event looks r variables units answer h low = absurd (cc)
-
-pub gives_up_at_waits : ControlIsGivenUpAtWaits
-unfolding advanced_of
-gives_up_at_waits code event looks r variables units answer h low = gives_up_so r.mark code event looks r variables units answer h low
-
-more_left : (s : Step) (units left : ℕ) → PaysFor s units left → PaysFor s (suc units) left
-more_left (step.Op o) units left h = omega arith
-more_left (step.Done answer) units left h = omega arith
-more_left step.Runaway units left h = omega arith
-
--- the unit of the statement that the thread stops at
-one_spent : (s : Step) (units : ℕ) → PaysFor s (suc units) units
-one_spent (step.Op o) units = omega arith
-one_spent (step.Done answer) units = omega arith
-one_spent step.Runaway units = omega arith
-
-pays : (code : Code) (part : Part) (event : Event) (looks : Looks) (y : Bool) (todo : List Statement) (vars : List ℕ) (units : ℕ)
-    → PaysFor (continued code part event looks y todo vars units).step units (continued code part event looks y todo vars units).units
-pays code part event looks y [] vars units = omega arith
-pays code part event looks y (s ∷ rest) vars zero = omega arith
-pays code part event looks y (s ∷ rest) vars (suc units) =
-    elim (reached event looks y vars s rest) as (λ r. PaysFor (follows code part event looks vars units r).step (suc units) (follows code part event looks vars units r).units) [
-      | goes_on changed todo ↦ more_left (continued code part event looks false todo changed units).step units (continued code part event looks false todo changed units).units (pays code part event looks false todo changed units)
-      | stops answer mark yielded todo ↦ one_spent answer units
-    ]
-
-pays_so : (m : Mark) (code : Code) (event : Event) (looks : Looks) (r : Remainder) (variables : List ℕ) (units : ℕ)
-    → PaysFor (advanced_of code event looks (record r { mark = m }) variables units).step units (advanced_of code event looks (record r { mark = m }) variables units).units
-unfolding advanced_of
-pays_so AtRest code event looks r variables units = pays code r.part event looks r.is_yielded r.todo variables units
-pays_so UnderWay code event looks r variables units = pays code r.part event looks r.is_yielded r.todo variables units
-pays_so RunAway code event looks r variables units = omega arith
+pays_from (UnderWay into) code event looks r vars units = pays code r.part event looks units r.place vars
+pays_from Pausing code event looks r vars units = omega arith
+pays_from RunAway code event looks r vars units = omega arith
 
 pub costs : OperationsCostWork
-costs code event looks r variables units = pays_so r.mark code event looks r variables units
+costs code event looks r vars units = pays_from r.mark code event looks r vars units

@@ -1,14 +1,14 @@
 -- Laws of the step of a protothread.
-use Rattle.std.specs.Prelude.{ℕ, ◌≡◌, ◌≢◌, ◌+◌, List, ◌<◌, Bool, true, false, IsTrue, IfSome, slice_get}
+use Rattle.std.specs.Prelude.{ℕ, ◌≡◌, ◌≢◌, ◌+◌, List, [], ◌<◌, Bool, true, false, IsTrue, ◌⊎◌}
 use Rattle.mote_program.specs.declared.event.Event.{Event}
-use Rattle.mote_program.specs.Program.{Code}
-use Rattle.protothread.specs.declared.thread.Step.TheVariants.{Runaway, Done}
+use Rattle.mote_program.specs.Code.{Code}
+use Rattle.mote_program.specs.Tree.{Statement, does, wait_until, wait_while, yield, yield_until, pause, acquire}
+use Rattle.protothread.specs.declared.step.Step.TheVariants.{Runaway, Done}
 use Rattle.protothread.specs.declared.state.PtState.{PtState}
+use Rattle.protothread.specs.declared.thread.Mark.TheVariants.{AtRest, Pausing}
 use Rattle.protothread.specs.State.{number_of}
-use Rattle.mote_program.specs.Tree.{Statement, yield, yield_until}
-use Rattle.protothread.specs.declared.thread.Mark.TheVariants.{AtRest}
 use Rattle.protothread.specs.Looks.{Looks}
-use Rattle.protothread.specs.Remainder.{Remainder}
+use Rattle.protothread.specs.Remainder.{Place, ended, at, within, before, Remainder, thread_block, whole_of}
 use Rattle.protothread.specs.Step.{Advanced, advanced_of, PaysFor}
 
 -- a step that did not run away is the same with more units, and as many more are left
@@ -35,18 +35,34 @@ OperationsCostWork =
     PaysFor a.step units a.units
 
 -- the statements that wait
-abbrev pub is_wait : Statement → Bool
-is_wait yield = true
-is_wait (yield_until c) = true
+abbrev pub is_wait : Statement ℕ → Bool
+is_wait (does (wait_until c)) = true
+is_wait (does (wait_while c)) = true
+is_wait (does yield) = true
+is_wait (does (yield_until c)) = true
+is_wait (does pause) = true
+is_wait (does (acquire s)) = true
 is_wait s = false
 
--- a remainder that is at rest at a waiting statement, which has yielded and comes first
-abbrev pub RestsAtAWait : Remainder → Type 0
-RestsAtAWait r = (r.mark ≡ AtRest) × (r.is_yielded ≡ true) × IfSome (slice_get r.todo 0) (λ s. IsTrue (is_wait s))
+-- A place in a thread whose block is `whole`: the thread, or the innermost of those that it spawned, is at a waiting
+-- statement, or has restarted.
+abbrev pub IsHeld : Code → (whole : List (Statement ℕ)) → Place → Type 0
+IsHeld code whole ended = whole ≡ []
+IsHeld code whole (at yielded s rest) = IsTrue (is_wait s) ⊎ (before false whole ≡ at yielded s rest)
+IsHeld code whole (within t p rest) = IsHeld code (thread_block code t) p
 
--- control is given up at waiting statements alone, and the next step goes on from that very statement
+-- behind the post of a `pause` a thread stands at a wait
+abbrev pub IsSound : Code → Remainder → Type 0
+IsSound code r = r.mark ≡ Pausing → IsHeld code (whole_of code r.part) r.place
+
+-- A step that gives up control leaves the thread at rest, held in such a place, from which the next call goes on.
+pub record GivesUpAtAWait (code : Code) (a : Advanced) : Type 0 where
+  pub gives_up : (answer : PtState) → a.step ≡ Done answer → number_of answer < 2
+      → (a.remainder.mark ≡ AtRest) × IsHeld code (whole_of code a.remainder.part) a.remainder.place
+  pub stays_sound : IsSound code a.remainder
+
+-- control is given up at waits alone, from a fresh thread on
 abbrev pub ControlIsGivenUpAtWaits : Type 0
 ControlIsGivenUpAtWaits =
-    (code : Code) (event : Event) (looks : Looks) (r : Remainder) (variables : List ℕ) (units : ℕ) (answer : PtState)
-    → let a : Advanced = advanced_of code event looks r variables units in
-    a.step ≡ Done answer → number_of answer < 2 → RestsAtAWait a.remainder
+    (code : Code) (event : Event) (looks : Looks) (r : Remainder) (variables : List ℕ) (units : ℕ)
+    → IsSound code r → GivesUpAtAWait code (advanced_of code event looks r variables units)

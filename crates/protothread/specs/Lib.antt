@@ -1,10 +1,11 @@
-pub mod State
-pub mod Looks
-pub mod Value
-pub mod Remainder
-pub mod Step
 pub mod Frames
-pub mod Reach
 pub mod Laws
+pub mod Looks
+pub mod Reach
 pub mod Reading
+pub mod Remainder
 pub mod Runs
+pub mod Semaphores
+pub mod State
+pub mod Step
+pub mod Value

@@ -1,30 +1,106 @@
 -- What the code of a thread does at one statement.
-use Rattle.std.specs.Prelude.{ℕ, ◌+◌, ◌≡◌, false, List, map}
+use Rattle.std.specs.Prelude.{ℕ, ◌+◌, ◌≡◌, ◌≤◌, true, false, List, [], ◌∷◌, ◌++◌, drop, map, Option, None, Some}
 use Rattle.mote_program.specs.declared.event.Event.{Event}
-use Rattle.mote_program.specs.Tree.{Statement, statement_of}
+use Rattle.mote_program.specs.Code.{Code}
+use Rattle.mote_program.specs.Tree.{Statement, does, spawn, statement_of}
+use Rattle.protothread.specs.declared.state.PtState.{PtState}
 use Rattle.protothread.specs.declared.thread.Thread.{Thread}
+use Rattle.protothread.specs.declared.thread.Mark.TheVariants.{AtRest}
 use Rattle.protothread.specs.declared.thread.Reach.{Reach}
-use Rattle.protothread.specs.declared.thread.Reach.TheVariants.{GoesOn, Stops}
-use Rattle.protothread.specs.declared.thread.Step.{Step}
+use Rattle.protothread.specs.declared.thread.Reach.TheVariants.{GoesOn, Operates, Answers}
+use Rattle.protothread.specs.declared.step.Op.{Op}
+use Rattle.protothread.specs.declared.step.Step.{Step}
+use Rattle.protothread.specs.declared.deed.Deed.{Deed}
+use Rattle.protothread.specs.declared.deed.Deed.TheVariants.{Spawns}
+use Rattle.protothread.specs.declared.frame.Frame.{Frame}
 use Rattle.protothread.specs.Looks.{Looks}
-use Rattle.protothread.specs.Step.{reached, goes_on, stops}
-use Rattle.protothread.specs.Frames.{block_at, todo_of}
+use Rattle.protothread.specs.Remainder.{at, thread_block, whole_of}
+use Rattle.protothread.specs.Step.{Reached, goes_on, operates, answers, spawner_reached, performed, reached, advanced_of, continued, PaysFor}
+use Rattle.protothread.specs.Frames.{Caller, block_at, rest_of, is_thread, spawns, nested, callers_of, place_of, remainder_of}
 
--- a thread that did the statement `s` stands in this block, and goes on there at what it now stands for
-pub record GoesOnAt (whole : List Statement) (event : Event) (looks : Looks) (old : Thread) (before : List ℕ) (s : Statement) (block : List Statement) (new : Thread) (after : List ℕ) : Type 0 where
+-- the block of the innermost of the threads
+abbrev pub home_of : Code → (whole : List (Statement ℕ)) → List Caller → List (Statement ℕ)
+home_of code whole [] = whole
+home_of code whole (c ∷ cs) = home_of code (thread_block code c.thread) cs
+
+-- what the innermost of the threads makes of the outermost
+abbrev pub made_of : List Caller → (variables : List ℕ) → Reached → Reached
+made_of [] vars r = r
+made_of (c ∷ cs) vars r = spawner_reached c.thread c.rest vars (made_of cs vars r)
+
+-- what is left behind the statement where a thread stands, in its innermost thread
+abbrev pub behind_of : Code → (whole : List (Statement ℕ)) → Thread → List (Statement ℕ)
+behind_of code whole t = drop (t.position + 1) (block_at code whole t.frames.items) ++ rest_of code whole t.frames.items []
+
+-- what a deed at the statement `s`, where a thread stands, makes of the thread
+abbrev pub performed_at : Code → (whole : List (Statement ℕ)) → Thread → (variables : List ℕ) → (s : Statement ℕ) → Deed → Reached
+performed_at code whole t vars s deed =
+    made_of (callers_of code whole t) vars (performed code (home_of code whole (callers_of code whole t)) vars s (behind_of code whole t) deed)
+
+-- what the statement `s`, where a thread stands, makes of it
+abbrev pub reached_at : Code → (whole : List (Statement ℕ)) → Thread → (variables : List ℕ) → Event → Looks → (s : Statement ℕ) → Reached
+reached_at code whole t vars event looks s =
+    reached code whole vars event looks (nested (callers_of code whole t) (at t.is_yielded s (behind_of code whole t)))
+
+-- a deed of a statement spawns the thread that the statement names
+abbrev pub IsDoneBy : Statement ℕ → Deed → Type 0
+IsDoneBy s (Spawns t) = s ≡ does (spawn t)
+IsDoneBy s d = Unit {0}
+
+-- frames of which the last, if any, is that of a thread
+pub data IsAtHome (frames : List Frame) : Type 0 where
+  in_the_part : frames ≡ [] → IsAtHome frames
+  in_a_thread : (before : List Frame) (last : Frame) → frames ≡ before ++ last ∷ [] → is_thread last.branch ≡ true → IsAtHome frames
+
+-- a thread that goes back to the beginning of the innermost of its threads
+pub record LeavesBlocks (old new : Thread) : Type 0 where
   pub part : new.part ≡ old.part
   pub mark : new.mark ≡ old.mark
   pub unyielded : new.is_yielded ≡ false
-  pub innermost : block_at whole new.frames.items ≡ block
-  pub does : reached event looks old.is_yielded before s (todo_of whole old.frames.items (old.position + 1)) ≡ goes_on after (todo_of whole new.frames.items new.position)
+  pub start : new.position ≡ 0
+  pub left : List Frame
+  pub frames : old.frames.items ≡ new.frames.items ++ left
+  pub no_threads : spawns left ≡ 0
+  pub home : IsAtHome new.frames.items
 
--- a thread that did the statement `s` stops with this step
-pub record StopsWith (whole : List Statement) (event : Event) (looks : Looks) (old : Thread) (before : List ℕ) (s : Statement) (answer : Step) (new : Thread) (after : List ℕ) : Type 0 where
+-- a thread that did a statement stands in this block, and goes on where it now stands
+pub record GoesOnAt (code : Code) (whole block : List (Statement ℕ)) (made : Reached) (old new : Thread) (after : List ℕ) : Type 0 where
   pub part : new.part ≡ old.part
-  pub variables : after ≡ before
-  pub does : reached event looks old.is_yielded before s (todo_of whole old.frames.items (old.position + 1)) ≡ stops answer new.mark new.is_yielded (todo_of whole new.frames.items new.position)
+  pub innermost : block_at code whole new.frames.items ≡ block
+  pub made_so : made ≡ goes_on after (place_of code whole new)
+
+-- it stops with an operation
+pub record OperatesSo (code : Code) (whole : List (Statement ℕ)) (made : Reached) (o : Op) (old new : Thread) (vars after : List ℕ) : Type 0 where
+  pub part : new.part ≡ old.part
+  pub variables : after ≡ vars
+  pub made_so : made ≡ operates o new.mark (place_of code whole new)
+
+-- it gives up control
+pub record AnswersSo (code : Code) (whole : List (Statement ℕ)) (made : Reached) (answer : PtState) (old new : Thread) (vars after : List ℕ) : Type 0 where
+  pub part : new.part ≡ old.part
+  pub mark : new.mark ≡ AtRest
+  pub variables : after ≡ vars
+  pub made_so : made ≡ answers answer (place_of code whole new)
 
 -- what became of the statement that a thread stands at
-abbrev pub Reaches : (whole : List Statement) → Event → Looks → (old : Thread) → (before : List ℕ) → (s : Statement) → Reach → (new : Thread) → (after : List ℕ) → Type 0
-Reaches whole event looks old before s (GoesOn block) new after = GoesOnAt whole event looks old before s (map statement_of block.now) new after
-Reaches whole event looks old before s (Stops answer) new after = StopsWith whole event looks old before s answer new after
+abbrev pub Reaches : Code → (whole : List (Statement ℕ)) → (made : Reached) → Reach → (old new : Thread) → (vars after : List ℕ) → Type 0
+Reaches code whole made (GoesOn block) old new vars after = GoesOnAt code whole (map statement_of block.now) made old new after
+Reaches code whole made (Operates o) old new vars after = OperatesSo code whole made o old new vars after
+Reaches code whole made (Answers a) old new vars after = AnswersSo code whole made a old new vars after
+
+-- a thread that comes back to where it stands, in which it has paid for the spawns that it passed
+pub record GoesOnFrom (old new : Thread) (units left : ℕ) : Type 0 where
+  pub same : new ≡ old
+  pub none_made : left ≤ units
+  pub goes_on_so : (code : Code) (event : Event) (looks : Looks) (vars : List ℕ)
+      → advanced_of code event looks (remainder_of code old) vars units ≡ continued code old.part event looks (place_of code (whole_of code old.part) old) vars left
+
+-- a thread that stops before it comes there
+pub record StopsAtOnce (answer : Step) (old new : Thread) (units left : ℕ) : Type 0 where
+  pub pays : PaysFor answer units left
+  pub stops_so : (code : Code) (event : Event) (looks : Looks) (vars : List ℕ)
+      → advanced_of code event looks (remainder_of code old) vars units ≡ record { step = answer; remainder = remainder_of code new; variables = vars; units = left }
+
+abbrev pub Resumes : Option Step → (old new : Thread) → (units left : ℕ) → Type 0
+Resumes None old new units left = GoesOnFrom old new units left
+Resumes (Some answer) old new units left = StopsAtOnce answer old new units left

@@ -1,79 +1,152 @@
--- What a block says, read by its structure: it knows statements and calls, and no remainder.
-use Rattle.std.specs.Prelude.{ℕ, ◌≡◌, true, false, List, [], ◌∷◌, ◌++◌, slice_set, if◌then◌else◌}
+-- What a thread's block says, read by its structure: the reading knows statements, blocks, threads and what is seen, and
+-- nothing of how a thread keeps its place.
+use Rattle.std.specs.Prelude.{ℕ, ◌≡◌, true, false, List, [], ◌∷◌, ◌++◌, slice_set, Option, None, Some, if◌then◌else◌}
 use Rattle.mote_program.specs.declared.event.Event.{Event}
-use Rattle.mote_program.specs.Tree.{Expression, Statement, assign, print, branch, while, yield, yield_until, Body, Otherwise, listed}
+use Rattle.mote_program.specs.declared.event.Proc.TheVariants.{Own}
+use Rattle.mote_program.specs.declared.event.Target.TheVariants.{One}
+use Rattle.mote_program.specs.EventNames.{sent, cast, continue}
+use Rattle.mote_program.specs.Tree.{Expression, is, Action, yield, yield_until, spawn, restart, exit, pause, Statement, does, branch, while, Body, Otherwise, listed}
+use Rattle.mote_program.specs.Code.{Code}
 use Rattle.protothread.specs.declared.state.PtState.{PtState}
-use Rattle.protothread.specs.declared.state.PtState.TheVariants.{Yielded}
-use Rattle.protothread.specs.declared.thread.Op.{Op}
-use Rattle.protothread.specs.declared.thread.Op.TheVariants.{Print}
+use Rattle.protothread.specs.declared.state.PtState.TheVariants.{Waiting}
+use Rattle.protothread.specs.declared.deed.Deed.{Deed}
+use Rattle.protothread.specs.declared.deed.Deed.TheVariants.{Passes, Assigns, Operates, Waits}
+use Rattle.protothread.specs.declared.step.Op.{Op}
+use Rattle.protothread.specs.declared.step.Op.TheVariants.{Post}
 use Rattle.protothread.specs.Looks.{Looks}
 use Rattle.protothread.specs.Value.{value, holds}
-use Rattle.protothread.specs.Step.{other_block}
+use Rattle.protothread.specs.Remainder.{thread_block}
+use Rattle.protothread.specs.Step.{deed_of, other_block}
 
--- a call of a protothread: the event, and what it can see
-pub record Call : Type 0 where
+-- What a thread is shown each time that it is advanced: what its last operation answered, the event, and what it sees of
+-- its mote, which each operation may change.
+pub record Sight : Type 0 where
+  pub answer : ℕ
   pub event : Event
   pub looks : Looks
 
--- what a caller sees of it, in order: operations, and each time that it gives up control
+-- what a caller sees of a thread, in order: operations, and each time that it gives up control
 pub data Happening : Type 0 where
   operates : Op → Happening
   gives_up : PtState → Happening
 
--- what became of statements: they were done in this call, with those calls to come and these variables; or the thread waits
--- in one of them, and no call is left
+-- What became of statements: they were done; or they were left, since the thread restarts or exits. The thread goes on in
+-- the sight `now`, before the later ones. Or it stands in them, and no sight is left.
 pub data Outcome : Type 0 where
-  done : (now : Call) → (later : List Call) → (variables : List ℕ) → Outcome
-  waits : (variables : List ℕ) → Outcome
+  done : (now : Sight) → (later : List Sight) → (variables : List ℕ) → Outcome
+  restarts : (now : Sight) → (later : List Sight) → (variables : List ℕ) → Outcome
+  exits : (now : Sight) → (later : List Sight) → (variables : List ℕ) → Outcome
+  stands : (variables : List ℕ) → Outcome
 
--- whether a condition holds in a call
-abbrev pub condition : Expression → Call → (variables : List ℕ) → Type 0
-condition c now variables = holds (value variables now.event now.looks c) ≡ true
+abbrev pub IsDone : Outcome → Type 0
+IsDone (done now later vars) = Unit {0}
+IsDone out = ⊥
 
-abbrev pub fails : Expression → Call → (variables : List ℕ) → Type 0
-fails c now variables = holds (value variables now.event now.looks c) ≡ false
+abbrev pub Restarts : Outcome → Type 0
+Restarts (restarts now later vars) = Unit {0}
+Restarts out = ⊥
 
--- a `yield_until` that has yielded goes on in the first call in which its condition holds, and yields in each before
-pub data Awaits (c : Expression) : (now : Call) → (later : List Call) → (variables : List ℕ) → List Happening → Outcome → Type 0 where
-  met : (now : Call) (later : List Call) (variables : List ℕ) → condition c now variables
-      → Awaits c now later variables [] (done now later variables)
-  again : (now next : Call) (later : List Call) (variables : List ℕ) (h : List Happening) (out : Outcome)
-      → fails c now variables → Awaits c next later variables h out → Awaits c now (next ∷ later) variables (gives_up Yielded ∷ h) out
-  never : (now : Call) (variables : List ℕ) → fails c now variables
-      → Awaits c now [] variables (gives_up Yielded ∷ []) (waits variables)
+-- the variable behind `into` gets the answer
+abbrev pub told : (into : Option ℕ) → (variables : List ℕ) → (answer : ℕ) → List ℕ
+told None vars answer = vars
+told (Some i) vars answer = slice_set vars i answer
+
+-- a statement that goes on in the next sight
+abbrev pub resumed : (into : Option ℕ) → (later : List Sight) → (variables : List ℕ) → Outcome
+resumed into [] vars = stands vars
+resumed into (next ∷ later) vars = done next later (told into vars next.answer)
+
+-- what a statement that is reached does at once
+abbrev pub deed : Code → Action ℕ → Sight → (variables : List ℕ) → Deed
+deed code a now vars = deed_of code.number false vars now.event now.looks a
+
+abbrev pub meaning : Expression ℕ → Sight → (variables : List ℕ) → ℕ
+meaning e now vars = value vars now.event now.looks e
+
+-- once it has yielded, a thread goes on in the first sight in which the condition holds, and yields in each before
+pub data Awaits (yields : PtState) (c : Expression ℕ) : (now : Sight) → (later : List Sight) → (variables : List ℕ) → List Happening → Outcome → Type 0 where
+  met : (now : Sight) (later : List Sight) (vars : List ℕ) → holds (meaning c now vars) ≡ true
+      → Awaits yields c now later vars [] (done now later vars)
+  again : (now next : Sight) (later : List Sight) (vars : List ℕ) (h : List Happening) (out : Outcome)
+      → holds (meaning c now vars) ≡ false → Awaits yields c next later vars h out
+      → Awaits yields c now (next ∷ later) vars (gives_up yields ∷ h) out
+  never : (now : Sight) (vars : List ℕ) → holds (meaning c now vars) ≡ false
+      → Awaits yields c now [] vars (gives_up yields ∷ []) (stands vars)
 
 mutual
-  -- what one statement does from a call on
-  pub data Reads : Statement → (now : Call) → (later : List Call) → (variables : List ℕ) → List Happening → Outcome → Type 0 where
-    assigns : (i : ℕ) (e : Expression) (now : Call) (later : List Call) (variables : List ℕ)
-        → Reads (assign i e) now later variables [] (done now later (slice_set variables i (value variables now.event now.looks e)))
-    prints : (e : Expression) (now : Call) (later : List Call) (variables : List ℕ)
-        → Reads (print e) now later variables (operates (Print (value variables now.event now.looks e)) ∷ []) (done now later variables)
+  -- What one statement does. `yields` is what the part's caller is answered where the thread yields: YIELDED, and from a
+  -- spawned thread WAITING.
+  pub data Reads (code : Code) : (yields : PtState) → Statement ℕ → (now : Sight) → (later : List Sight) → (variables : List ℕ) → List Happening → Outcome → Type 0 where
+    passes : (y : PtState) (a : Action ℕ) (now : Sight) (later : List Sight) (vars : List ℕ)
+        → deed code a now vars ≡ Passes → Reads code y (does a) now later vars [] (done now later vars)
+    assigns : (y : PtState) (a : Action ℕ) (i v : ℕ) (now : Sight) (later : List Sight) (vars : List ℕ)
+        → deed code a now vars ≡ Assigns i v → Reads code y (does a) now later vars [] (done now later (slice_set vars i v))
+    performs : (y : PtState) (a : Action ℕ) (o : Op) (into : Option ℕ) (now : Sight) (later : List Sight) (vars : List ℕ)
+        → deed code a now vars ≡ Operates o into → Reads code y (does a) now later vars (operates o ∷ []) (resumed into later vars)
+    -- WAITING, and then the statement again in the next sight: `wait_until`, `wait_while` and `acquire`
+    waits : (y : PtState) (a : Action ℕ) (now next : Sight) (later : List Sight) (vars : List ℕ) (h : List Happening) (out : Outcome)
+        → deed code a now vars ≡ Waits → Reads code y (does a) next later vars h out
+        → Reads code y (does a) now (next ∷ later) vars (gives_up Waiting ∷ h) out
+    waits_last : (y : PtState) (a : Action ℕ) (now : Sight) (vars : List ℕ)
+        → deed code a now vars ≡ Waits → Reads code y (does a) now [] vars (gives_up Waiting ∷ []) (stands vars)
+    -- control is given up once
+    yields : (y : PtState) (now : Sight) (later : List Sight) (vars : List ℕ)
+        → Reads code y (does yield) now later vars (gives_up y ∷ []) (resumed None later vars)
+    yields_until : (y : PtState) (c : Expression ℕ) (now next : Sight) (later : List Sight) (vars : List ℕ) (h : List Happening) (out : Outcome)
+        → Awaits y c next later vars h out
+        → Reads code y (does (yield_until c)) now (next ∷ later) vars (gives_up y ∷ h) out
+    yields_until_last : (y : PtState) (c : Expression ℕ) (now : Sight) (vars : List ℕ)
+        → Reads code y (does (yield_until c)) now [] vars (gives_up y ∷ []) (stands vars)
+    -- CONTINUE to its own process, and then as `yield_until is(continue)`
+    pauses : (y : PtState) (now next second : Sight) (later : List Sight) (vars : List ℕ) (h : List Happening) (out : Outcome)
+        → Awaits y (is (sent (cast continue))) second later vars h out
+        → Reads code y (does pause) now (next ∷ second ∷ later) vars (operates (Post (One (Own code.number)) 0x85 0) ∷ gives_up y ∷ h) out
+    pauses_last : (y : PtState) (now next : Sight) (vars : List ℕ)
+        → Reads code y (does pause) now (next ∷ []) vars (operates (Post (One (Own code.number)) 0x85 0) ∷ gives_up y ∷ []) (stands vars)
+    posts_last : (y : PtState) (now : Sight) (vars : List ℕ)
+        → Reads code y (does pause) now [] vars (operates (Post (One (Own code.number)) 0x85 0) ∷ []) (stands vars)
+    -- the block of the thread, in the same call; it goes on behind the spawn where that ends or exits
+    spawn_ends : (y : PtState) (t : ℕ) (now : Sight) (later : List Sight) (vars : List ℕ) (h : List Happening) (call : Sight) (calls : List Sight) (changed : List ℕ)
+        → ReadsThread code Waiting (thread_block code t) now later vars h (done call calls changed)
+        → Reads code y (does (spawn t)) now later vars h (done call calls changed)
+    spawn_exits : (y : PtState) (t : ℕ) (now : Sight) (later : List Sight) (vars : List ℕ) (h : List Happening) (call : Sight) (calls : List Sight) (changed : List ℕ)
+        → ReadsThread code Waiting (thread_block code t) now later vars h (exits call calls changed)
+        → Reads code y (does (spawn t)) now later vars h (done call calls changed)
+    spawn_stands : (y : PtState) (t : ℕ) (now : Sight) (later : List Sight) (vars : List ℕ) (h : List Happening) (changed : List ℕ)
+        → ReadsThread code Waiting (thread_block code t) now later vars h (stands changed)
+        → Reads code y (does (spawn t)) now later vars h (stands changed)
+    restarted : (y : PtState) (now next : Sight) (later : List Sight) (vars : List ℕ)
+        → Reads code y (does restart) now (next ∷ later) vars (gives_up Waiting ∷ []) (restarts next later vars)
+    restarted_last : (y : PtState) (now : Sight) (vars : List ℕ)
+        → Reads code y (does restart) now [] vars (gives_up Waiting ∷ []) (stands vars)
+    exited : (y : PtState) (now : Sight) (later : List Sight) (vars : List ℕ)
+        → Reads code y (does exit) now later vars [] (exits now later vars)
     -- the block that the condition chooses
-    chooses : (c : Expression) (a : Body) (o : Otherwise) (now : Call) (later : List Call) (variables : List ℕ) (h : List Happening) (out : Outcome)
-        → ReadsAll (if holds (value variables now.event now.looks c) then listed a else other_block o) now later variables h out
-        → Reads (branch c a o) now later variables h out
+    chooses : (y : PtState) (c : Expression ℕ) (a : Body ℕ) (o : Otherwise ℕ) (now : Sight) (later : List Sight) (vars : List ℕ) (h : List Happening) (out : Outcome)
+        → ReadsAll code y (if holds (meaning c now vars) then listed a else other_block o) now later vars h out
+        → Reads code y (branch c a o) now later vars h out
     -- the body, and then the loop again
-    repeats : (c : Expression) (a : Body) (now : Call) (later : List Call) (variables : List ℕ) (h : List Happening) (out : Outcome)
-        → condition c now variables → ReadsAll (listed a ++ while c a ∷ []) now later variables h out
-        → Reads (while c a) now later variables h out
-    leaves : (c : Expression) (a : Body) (now : Call) (later : List Call) (variables : List ℕ)
-        → fails c now variables → Reads (while c a) now later variables [] (done now later variables)
-    -- control is given up once, and comes back in the next call
-    yields : (now next : Call) (later : List Call) (variables : List ℕ)
-        → Reads yield now (next ∷ later) variables (gives_up Yielded ∷ []) (done next later variables)
-    yields_last : (now : Call) (variables : List ℕ) → Reads yield now [] variables (gives_up Yielded ∷ []) (waits variables)
-    yields_until : (c : Expression) (now next : Call) (later : List Call) (variables : List ℕ) (h : List Happening) (out : Outcome)
-        → Awaits c next later variables h out → Reads (yield_until c) now (next ∷ later) variables (gives_up Yielded ∷ h) out
-    yields_until_last : (c : Expression) (now : Call) (variables : List ℕ)
-        → Reads (yield_until c) now [] variables (gives_up Yielded ∷ []) (waits variables)
+    repeats : (y : PtState) (c : Expression ℕ) (a : Body ℕ) (now : Sight) (later : List Sight) (vars : List ℕ) (h : List Happening) (out : Outcome)
+        → holds (meaning c now vars) ≡ true → ReadsAll code y (listed a ++ while c a ∷ []) now later vars h out
+        → Reads code y (while c a) now later vars h out
+    leaves : (y : PtState) (c : Expression ℕ) (a : Body ℕ) (now : Sight) (later : List Sight) (vars : List ℕ)
+        → holds (meaning c now vars) ≡ false → Reads code y (while c a) now later vars [] (done now later vars)
 
-  -- what statements do, one after another
-  pub data ReadsAll : List Statement → (now : Call) → (later : List Call) → (variables : List ℕ) → List Happening → Outcome → Type 0 where
-    nothing_left : (now : Call) (later : List Call) (variables : List ℕ) → ReadsAll [] now later variables [] (done now later variables)
-    in_turn : (s : Statement) (ss : List Statement) (now : Call) (later : List Call) (variables : List ℕ) (h k : List Happening)
-        (resumed : Call) (after : List Call) (changed : List ℕ) (out : Outcome)
-        → Reads s now later variables h (done resumed after changed) → ReadsAll ss resumed after changed k out
-        → ReadsAll (s ∷ ss) now later variables (h ++ k) out
-    stands : (s : Statement) (ss : List Statement) (now : Call) (later : List Call) (variables changed : List ℕ) (h : List Happening)
-        → Reads s now later variables h (waits changed) → ReadsAll (s ∷ ss) now later variables h (waits changed)
+  -- what statements do, one after another, up to one that isn't done
+  pub data ReadsAll (code : Code) : (yields : PtState) → List (Statement ℕ) → (now : Sight) → (later : List Sight) → (variables : List ℕ) → List Happening → Outcome → Type 0 where
+    nothing_left : (y : PtState) (now : Sight) (later : List Sight) (vars : List ℕ) → ReadsAll code y [] now later vars [] (done now later vars)
+    in_turn : (y : PtState) (s : Statement ℕ) (ss : List (Statement ℕ)) (now : Sight) (later : List Sight) (vars : List ℕ) (h k : List Happening)
+        (call : Sight) (calls : List Sight) (changed : List ℕ) (out : Outcome)
+        → Reads code y s now later vars h (done call calls changed) → ReadsAll code y ss call calls changed k out
+        → ReadsAll code y (s ∷ ss) now later vars (h ++ k) out
+    breaks_off : (y : PtState) (s : Statement ℕ) (ss : List (Statement ℕ)) (now : Sight) (later : List Sight) (vars : List ℕ) (h : List Happening) (out : Outcome)
+        → (IsDone out → ⊥) → Reads code y s now later vars h out → ReadsAll code y (s ∷ ss) now later vars h out
+
+  -- what a thread does whose block this is: after a `restart` the whole block again
+  pub data ReadsThread (code : Code) : (yields : PtState) → List (Statement ℕ) → (now : Sight) → (later : List Sight) → (variables : List ℕ) → List Happening → Outcome → Type 0 where
+    once : (y : PtState) (block : List (Statement ℕ)) (now : Sight) (later : List Sight) (vars : List ℕ) (h : List Happening) (out : Outcome)
+        → (Restarts out → ⊥) → ReadsAll code y block now later vars h out → ReadsThread code y block now later vars h out
+    anew : (y : PtState) (block : List (Statement ℕ)) (now : Sight) (later : List Sight) (vars : List ℕ) (h k : List Happening)
+        (call : Sight) (calls : List Sight) (changed : List ℕ) (out : Outcome)
+        → ReadsAll code y block now later vars h (restarts call calls changed) → ReadsThread code y block call calls changed k out
+        → ReadsThread code y block now later vars (h ++ k) out

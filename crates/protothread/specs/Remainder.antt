@@ -1,24 +1,54 @@
 -- What a protothread has still to do.
-use Rattle.std.specs.Prelude.{Bool, false, List}
-use Rattle.mote_program.specs.Tree.{Statement, listed}
-use Rattle.mote_program.specs.Program.{Code}
-use Rattle.protothread.specs.declared.thread.Part.{Part}
-use Rattle.protothread.specs.declared.thread.Part.TheVariants.{Body}
+use Rattle.std.specs.Prelude.{ℕ, Bool, false, List, [], ◌∷◌, Option, None, Some, slice_get}
+use Rattle.mote_program.specs.Tree.{Statement, Body, listed}
+use Rattle.mote_program.specs.Code.{Code, callback_at}
+use Rattle.protothread.specs.declared.part.Part.{Part}
+use Rattle.protothread.specs.declared.part.Part.TheVariants as part
 use Rattle.protothread.specs.declared.thread.Mark.{Mark}
 use Rattle.protothread.specs.declared.thread.Mark.TheVariants.{AtRest}
 
--- the block that the thread runs; whether it is at rest, under way or run away; whether the first statement has yielded;
--- and the statements that are left, those of the innermost block first
+-- Where a thread stands: at its end; at a statement, which may have yielded, before the others that are left, those of the
+-- innermost block first; or at the spawn of a thread, which stands somewhere itself, before the others.
+pub data Place : Type 0 where
+  ended : Place
+  at : (is_yielded : Bool) → Statement ℕ → (rest : List (Statement ℕ)) → Place
+  within : (thread : ℕ) → Place → (rest : List (Statement ℕ)) → Place
+
+-- before these statements
+abbrev pub before : (is_yielded : Bool) → List (Statement ℕ) → Place
+before yielded [] = ended
+before yielded (s ∷ rest) = at yielded s rest
+
+-- the spawner of a thread that is at its end goes on behind the spawn
+abbrev pub spawner_place : (thread : ℕ) → Place → (rest : List (Statement ℕ)) → Place
+spawner_place thread ended rest = before false rest
+spawner_place thread p rest = within thread p rest
+
+abbrev pub settled : Place → Place
+settled (within t p rest) = spawner_place t (settled p) rest
+settled p = p
+
+-- the part that the thread runs; whether it is at rest, under way, or run away; and where it stands
 pub record Remainder : Type 0 where
   pub part : Part
   pub mark : Mark
-  pub is_yielded : Bool
-  pub todo : List Statement
+  pub place : Place
+
+-- a block that a code lacks is empty
+abbrev pub statements_of : Option (Body ℕ) → List (Statement ℕ)
+statements_of None = []
+statements_of (Some b) = listed b
+
+abbrev pub thread_block : Code → (thread : ℕ) → List (Statement ℕ)
+thread_block code thread = statements_of (slice_get code.thread_bodies thread)
 
 -- the statements of a part of the code
-abbrev pub whole_of : Code → Part → List Statement
-whole_of code Body = listed code.body
+abbrev pub whole_of : Code → Part → List (Statement ℕ)
+whole_of code part.Body = listed code.body
+whole_of code part.OnPoll = statements_of code.on_poll
+whole_of code part.OnExit = statements_of code.on_exit
+whole_of code (part.Callback timer) = statements_of (callback_at code timer)
 
 -- the whole block, at rest
 abbrev pub fresh_of : Code → Part → Remainder
-fresh_of code part = record { part = part; mark = AtRest; is_yielded = false; todo = whole_of code part }
+fresh_of code part = record { part = part; mark = AtRest; place = before false (whole_of code part) }

@@ -1,39 +1,47 @@
--- Runs of a protothread: it is advanced up to each answer, with units of work that suffice, once for each call.
-use Rattle.std.specs.Prelude.{ℕ, ◌≡◌, ◌<◌, ◌≤◌, List, [], ◌∷◌, ◌↔◌}
-use Rattle.mote_program.specs.Program.{Code}
+-- Runs of a thread: it is advanced once for each sight, with units of work that suffice, up to an answer 2 or 3.
+use Rattle.std.specs.Prelude.{ℕ, ◌≡◌, ◌<◌, ◌↔◌, List, [], ◌∷◌}
+use Rattle.mote_program.specs.Code.{Code}
 use Rattle.protothread.specs.declared.state.PtState.{PtState}
-use Rattle.protothread.specs.declared.thread.Part.{Part}
-use Rattle.protothread.specs.declared.thread.Op.{Op}
-use Rattle.protothread.specs.declared.thread.Step.TheVariants as step
+use Rattle.protothread.specs.declared.state.PtState.TheVariants.{Yielded, Exited, Ended}
+use Rattle.protothread.specs.declared.part.Part.{Part}
+use Rattle.protothread.specs.declared.step.Op.{Op}
+use Rattle.protothread.specs.declared.step.Step.{Step}
+use Rattle.protothread.specs.declared.step.Step.TheVariants as step
 use Rattle.protothread.specs.State.{number_of}
 use Rattle.protothread.specs.Remainder.{Remainder, whole_of, fresh_of}
-use Rattle.protothread.specs.Step.{advanced_of}
-use Rattle.protothread.specs.Reading.{Call, Happening, operates, gives_up, Outcome, done, waits, ReadsAll}
+use Rattle.protothread.specs.Step.{advanced_of, answered_of}
+use Rattle.protothread.specs.Reading.{Sight, Happening, operates, gives_up, Outcome, done, exits, stands, ReadsThread}
 
-pub data Runs (code : Code) : Remainder → (variables : List ℕ) → (now : Call) → (later : List Call) → List Happening → Outcome → Type 0 where
-  -- an operation, after which it is advanced again in the same call
-  operated : (r next : Remainder) (variables changed : List ℕ) (now : Call) (later : List Call) (units left : ℕ) (o : Op) (h : List Happening) (out : Outcome)
-      → advanced_of code now.event now.looks r variables units ≡ record { step = step.Op o; remainder = next; variables = changed; units = left }
-      → Runs code next changed now later h out
-      → Runs code r variables now later (operates o ∷ h) out
-  -- an answer 0 or 1, after which it is advanced in the next call
-  gave_up : (r next : Remainder) (variables changed : List ℕ) (now resumed : Call) (later : List Call) (units left : ℕ) (answer : PtState) (h : List Happening) (out : Outcome)
-      → advanced_of code now.event now.looks r variables units ≡ record { step = step.Done answer; remainder = next; variables = changed; units = left }
-      → number_of answer < 2
+-- with some units of work, that thread answers this step and leaves this remainder and these variables
+abbrev pub Steps : Code → Sight → Remainder → (variables : List ℕ) → Step → (next : Remainder) → (changed : List ℕ) → Type 0
+Steps code now r vars answer next changed =
+    (units : ℕ) × (left : ℕ) × (advanced_of code now.event now.looks r vars units ≡ record { step = answer; remainder = next; variables = changed; units = left })
+
+pub data Runs (code : Code) : Remainder → (variables : List ℕ) → (now : Sight) → (later : List Sight) → List Happening → Outcome → Type 0 where
+  -- An operation, whose answer the thread is told before it is advanced again. Nothing but a variable behind `into` hears it.
+  operated : (r next : Remainder) (vars changed : List ℕ) (now resumed : Sight) (later : List Sight) (o : Op) (h : List Happening) (out : Outcome)
+      → Steps code now r vars (step.Op o) next changed
+      → Runs code (answered_of next changed resumed.answer).remainder (answered_of next changed resumed.answer).variables resumed later h out
+      → Runs code r vars now (resumed ∷ later) (operates o ∷ h) out
+  operated_last : (r next : Remainder) (vars changed : List ℕ) (now : Sight) (o : Op)
+      → Steps code now r vars (step.Op o) next changed
+      → Runs code r vars now [] (operates o ∷ []) (stands changed)
+  -- an answer 0 or 1
+  gave_up : (r next : Remainder) (vars changed : List ℕ) (now resumed : Sight) (later : List Sight) (answer : PtState) (h : List Happening) (out : Outcome)
+      → Steps code now r vars (step.Done answer) next changed → number_of answer < 2
       → Runs code next changed resumed later h out
-      → Runs code r variables now (resumed ∷ later) (gives_up answer ∷ h) out
-  waited : (r next : Remainder) (variables changed : List ℕ) (now : Call) (units left : ℕ) (answer : PtState)
-      → advanced_of code now.event now.looks r variables units ≡ record { step = step.Done answer; remainder = next; variables = changed; units = left }
-      → number_of answer < 2
-      → Runs code r variables now [] (gives_up answer ∷ []) (waits changed)
+      → Runs code r vars now (resumed ∷ later) (gives_up answer ∷ h) out
+  gave_up_last : (r next : Remainder) (vars changed : List ℕ) (now : Sight) (answer : PtState)
+      → Steps code now r vars (step.Done answer) next changed → number_of answer < 2
+      → Runs code r vars now [] (gives_up answer ∷ []) (stands changed)
   -- an answer 2 or 3
-  ended : (r next : Remainder) (variables changed : List ℕ) (now : Call) (later : List Call) (units left : ℕ) (answer : PtState)
-      → advanced_of code now.event now.looks r variables units ≡ record { step = step.Done answer; remainder = next; variables = changed; units = left }
-      → 2 ≤ number_of answer
-      → Runs code r variables now later [] (done now later changed)
+  has_exited : (r next : Remainder) (vars changed : List ℕ) (now : Sight) (later : List Sight)
+      → Steps code now r vars (step.Done Exited) next changed → Runs code r vars now later [] (exits now later changed)
+  has_ended : (r next : Remainder) (vars changed : List ℕ) (now : Sight) (later : List Sight)
+      → Steps code now r vars (step.Done Ended) next changed → Runs code r vars now later [] (done now later changed)
 
--- the runs of a fresh thread are what its block says
+-- the runs of a fresh thread are what the text of its part says
 abbrev pub RunsAreTheText : Type 0
 RunsAreTheText =
-    (code : Code) (part : Part) (variables : List ℕ) (now : Call) (later : List Call) (h : List Happening) (out : Outcome)
-    → Runs code (fresh_of code part) variables now later h out ↔ ReadsAll (whole_of code part) now later variables h out
+    (code : Code) (part : Part) (vars : List ℕ) (now : Sight) (later : List Sight) (h : List Happening) (out : Outcome)
+    → Runs code (fresh_of code part) vars now later h out ↔ ReadsThread code Yielded (whole_of code part) now later vars h out

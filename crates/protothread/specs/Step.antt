@@ -1,18 +1,25 @@
 -- The step of a protothread: from its remainder to its next operation or its answer.
-use Rattle.std.specs.Prelude.{ℕ, zero, suc, Bool, true, false, ◌&&◌, if◌then◌else◌, List, [], ◌∷◌, ◌++◌, slice_set, ◌<◌, ◌≤◌}
+use Rattle.std.specs.Prelude.{ℕ, zero, suc, ◌-◌, ◌==◌, nat_lt, Bool, true, false, not, ◌&&◌, if◌then◌else◌, List, [], ◌∷◌, ◌++◌, None, Some, slice_set, slice_index, ◌<◌, ◌≤◌}
 use Rattle.mote_program.specs.declared.event.Event.{Event}
-use Rattle.mote_program.specs.Tree.{Statement, assign, print, branch, while, yield, yield_until, Otherwise, nothing, otherwise, listed}
-use Rattle.mote_program.specs.Program.{Code}
-use Rattle.protothread.specs.declared.state.PtState.TheVariants.{Yielded, Ended}
-use Rattle.protothread.specs.declared.thread.Part.{Part}
+use Rattle.mote_program.specs.declared.event.Proc.TheVariants.{Own}
+use Rattle.mote_program.specs.declared.event.Target.TheVariants.{One, All}
+use Rattle.mote_program.specs.Tree.{Action, assign, print, send, wait_until, wait_while, yield, yield_until, spawn, restart, exit, pause, acquire, signal, post, broadcast, synch, poll, start, kill, set, reset, restart_timer, stop, Statement, does, branch, while, Otherwise, nothing, otherwise, listed}
+use Rattle.mote_program.specs.Code.{Code}
+use Rattle.mote_program.specs.EventNames.{cast_number, sent_number}
+use Rattle.protothread.specs.declared.state.PtState.{PtState}
+use Rattle.protothread.specs.declared.state.PtState.TheVariants.{Waiting, Yielded, Exited, Ended}
+use Rattle.protothread.specs.declared.part.Part.{Part}
 use Rattle.protothread.specs.declared.thread.Mark.{Mark}
-use Rattle.protothread.specs.declared.thread.Mark.TheVariants.{AtRest, UnderWay, RunAway}
-use Rattle.protothread.specs.declared.thread.Op.TheVariants.{Print}
-use Rattle.protothread.specs.declared.thread.Step.{Step}
-use Rattle.protothread.specs.declared.thread.Step.TheVariants as step
+use Rattle.protothread.specs.declared.thread.Mark.TheVariants.{AtRest, UnderWay, Pausing, RunAway}
+use Rattle.protothread.specs.declared.deed.Deed.{Deed}
+use Rattle.protothread.specs.declared.deed.Deed.TheVariants.{Passes, Assigns, Operates, Pauses, Waits, Yields, Spawns, Restarts, Exits}
+use Rattle.protothread.specs.declared.step.Op.{Op}
+use Rattle.protothread.specs.declared.step.Op.TheVariants as op
+use Rattle.protothread.specs.declared.step.Step.{Step}
+use Rattle.protothread.specs.declared.step.Step.TheVariants as step
 use Rattle.protothread.specs.Looks.{Looks}
 use Rattle.protothread.specs.Value.{value, holds}
-use Rattle.protothread.specs.Remainder.{Remainder, fresh_of}
+use Rattle.protothread.specs.Remainder.{Place, ended, at, within, before, settled, Remainder, thread_block, whole_of, fresh_of}
 
 -- a step, and the remainder, the variables and the units of work that it leaves
 pub record Advanced : Type 0 where
@@ -21,53 +28,151 @@ pub record Advanced : Type 0 where
   pub variables : List ℕ
   pub units : ℕ
 
--- what one statement does: the thread goes on with these variables at these statements, or stops with a step, and is
--- then marked so, its first statement yielded or not, with these statements left
-pub data Reached : Type 0 where
-  goes_on : (variables : List ℕ) → (todo : List Statement) → Reached
-  stops : Step → Mark → (is_yielded : Bool) → (todo : List Statement) → Reached
+-- goes on behind the statement where the test holds, and else does the other
+abbrev pub passes_where : Bool → (other : Deed) → Deed
+passes_where test other = if test then Passes else other
 
-abbrev pub other_block : Otherwise → List Statement
+-- What a statement without blocks does in a process of this number, when it is reached, or when the thread is resumed at it
+-- because it has yielded. A `pause` posts CONTINUE to its own process, and then waits for a CONTINUE.
+abbrev pub deed_of : (process : ℕ) → (is_yielded : Bool) → (variables : List ℕ) → Event → Looks → Action ℕ → Deed
+deed_of process yielded vars event looks (assign i e) = Assigns i (value vars event looks e)
+deed_of process yielded vars event looks (print e) = Operates (op.Print (value vars event looks e)) None
+deed_of process yielded vars event looks (send e) = Operates (op.Send (value vars event looks e)) None
+deed_of process yielded vars event looks (wait_until c) = passes_where (holds (value vars event looks c)) Waits
+deed_of process yielded vars event looks (wait_while c) = passes_where (not (holds (value vars event looks c))) Waits
+deed_of process yielded vars event looks yield = passes_where yielded Yields
+deed_of process yielded vars event looks (yield_until c) = passes_where (yielded && holds (value vars event looks c)) Yields
+deed_of process yielded vars event looks (spawn t) = Spawns t
+deed_of process yielded vars event looks restart = Restarts
+deed_of process yielded vars event looks exit = Exits
+deed_of process yielded vars event looks pause =
+    if yielded then passes_where (event.number == 0x85) Yields else Pauses (op.Post (One (Own process)) 0x85 0)
+deed_of process yielded vars event looks (acquire s) =
+    if slice_index looks.counts s == 0 then Waits else Operates (op.Take s) None
+deed_of process yielded vars event looks (signal s) = Operates (op.Signal s) None
+deed_of process yielded vars event looks (post p e w into) =
+    Operates (op.Post (One (Own p)) (sent_number e) (value vars event looks w)) into
+deed_of process yielded vars event looks (broadcast e w into) =
+    Operates (op.Post All (cast_number e) (value vars event looks w)) into
+deed_of process yielded vars event looks (synch p e w) =
+    Operates (op.Synch (Own p) (sent_number e) (value vars event looks w)) None
+deed_of process yielded vars event looks (poll p) = Operates (op.Poll (Own p)) None
+deed_of process yielded vars event looks (start p) = Operates (op.Start (Own p)) None
+deed_of process yielded vars event looks (kill p) = Operates (op.Kill (Own p)) None
+deed_of process yielded vars event looks (set t e) = Operates (op.Set t (value vars event looks e)) None
+deed_of process yielded vars event looks (reset t) = Operates (op.Reset t) None
+deed_of process yielded vars event looks (restart_timer t) = Operates (op.RestartTimer t) None
+deed_of process yielded vars event looks (stop t) = Operates (op.Stop t) None
+
+-- what one statement makes of a thread: it goes on with these variables from there, stops with an operation and is then
+-- marked so, or gives up control
+pub data Reached : Type 0 where
+  goes_on : (variables : List ℕ) → Place → Reached
+  operates : Op → Mark → Place → Reached
+  answers : PtState → Place → Reached
+
+-- what a deed makes of the thread whose block is `whole`, at the statement `s` before the rest
+abbrev pub performed : Code → (whole : List (Statement ℕ)) → (variables : List ℕ) → (s : Statement ℕ) → (rest : List (Statement ℕ)) → Deed → Reached
+performed code whole vars s rest Passes = goes_on vars (before false rest)
+performed code whole vars s rest (Assigns i v) = goes_on (slice_set vars i v) (before false rest)
+performed code whole vars s rest (Operates o into) = operates o (UnderWay into) (before false rest)
+performed code whole vars s rest (Pauses o) = operates o Pausing (at true s rest)
+performed code whole vars s rest Waits = answers Waiting (at false s rest)
+performed code whole vars s rest Yields = answers Yielded (at true s rest)
+-- the thread is fresh, and called at once
+performed code whole vars s rest (Spawns t) = goes_on vars (within t (before false (thread_block code t)) rest)
+performed code whole vars s rest Restarts = answers Waiting (before false whole)
+performed code whole vars s rest Exits = answers Exited (before false whole)
+
+abbrev pub other_block : Otherwise ℕ → List (Statement ℕ)
 other_block nothing = []
 other_block (otherwise b) = listed b
 
--- what a statement does when it is reached, or when the thread is resumed at it because it has yielded, before the rest
-abbrev pub reached : Event → Looks → (is_yielded : Bool) → (variables : List ℕ) → Statement → (rest : List Statement) → Reached
-reached event looks yielded vars (assign i e) rest = goes_on (slice_set vars i (value vars event looks e)) rest
-reached event looks yielded vars (print e) rest = stops (step.Op (Print (value vars event looks e))) UnderWay false rest
-reached event looks yielded vars (branch c a o) rest =
-    goes_on vars ((if holds (value vars event looks c) then listed a else other_block o) ++ rest)
-reached event looks yielded vars (while c a) rest =
-    goes_on vars (if holds (value vars event looks c) then listed a ++ while c a ∷ rest else rest)
-reached event looks yielded vars yield rest =
-    if yielded then goes_on vars rest else stops (step.Done Yielded) AtRest true (yield ∷ rest)
-reached event looks yielded vars (yield_until c) rest =
-    if yielded && holds (value vars event looks c) then goes_on vars rest else stops (step.Done Yielded) AtRest true (yield_until c ∷ rest)
+abbrev pub statement_reached : Code → (whole : List (Statement ℕ)) → (is_yielded : Bool) → (variables : List ℕ) → Event → Looks → (s : Statement ℕ) → (rest : List (Statement ℕ)) → Reached
+statement_reached code whole yielded vars event looks (does a) rest =
+    performed code whole vars (does a) rest (deed_of code.number yielded vars event looks a)
+statement_reached code whole yielded vars event looks (branch c a o) rest =
+    goes_on vars (before false ((if holds (value vars event looks c) then listed a else other_block o) ++ rest))
+statement_reached code whole yielded vars event looks (while c a) rest =
+    goes_on vars (before false (if holds (value vars event looks c) then listed a ++ while c a ∷ rest else rest))
 
--- a thread that goes on at these statements: each statement that is reached costs a unit, and the end of the last block
--- costs none
-abbrev pub continued : Code → Part → Event → Looks → (is_yielded : Bool) → (todo : List Statement) → (variables : List ℕ) → (units : ℕ) → Advanced
-continued code part event looks yielded [] vars units =
-    record { step = step.Done Ended; remainder = fresh_of code part; variables = vars; units = units }
-continued code part event looks yielded (s ∷ rest) vars zero =
-    record { step = step.Runaway; remainder = record { part = part; mark = RunAway; is_yielded = yielded; todo = s ∷ rest }; variables = vars; units = 0 }
-continued code part event looks yielded (s ∷ rest) vars (suc units) =
-    elim (reached event looks yielded vars s rest) [
-      | goes_on changed todo ↦ continued code part event looks false todo changed units
-      | stops step mark is_yielded todo ↦ record { step = step; remainder = record { part = part; mark = mark; is_yielded = is_yielded; todo = todo }; variables = vars; units = units }
+-- what its thread makes of a spawn: while it answers 0 or 1 the spawner answers 0, and on 2 or 3 the spawner goes on behind
+abbrev pub spawner_reached : (thread : ℕ) → (rest : List (Statement ℕ)) → (variables : List ℕ) → Reached → Reached
+spawner_reached thread rest vars (goes_on changed p) = goes_on changed (within thread p rest)
+spawner_reached thread rest vars (operates o mark p) = operates o mark (within thread p rest)
+spawner_reached thread rest vars (answers Waiting p) = answers Waiting (within thread p rest)
+spawner_reached thread rest vars (answers Yielded p) = answers Waiting (within thread p rest)
+spawner_reached thread rest vars (answers Exited p) = goes_on vars (before false rest)
+spawner_reached thread rest vars (answers Ended p) = goes_on vars (before false rest)
+
+-- what the statement where a thread stands makes of it; its block is `whole`
+abbrev pub reached : Code → (whole : List (Statement ℕ)) → (variables : List ℕ) → Event → Looks → Place → Reached
+reached code whole vars event looks ended = answers Ended ended
+reached code whole vars event looks (at yielded s rest) = statement_reached code whole yielded vars event looks s rest
+reached code whole vars event looks (within t p rest) =
+    spawner_reached t rest vars (reached code (thread_block code t) vars event looks p)
+
+-- A thread that goes on from there: each statement that is reached costs a unit, and the end of a block or of a spawned
+-- thread costs none.
+abbrev pub continued : Code → Part → Event → Looks → Place → (variables : List ℕ) → (units : ℕ) → Advanced
+continued code part event looks place vars zero =
+    elim (settled place) [
+      | ended ↦ record { step = step.Done Ended; remainder = fresh_of code part; variables = vars; units = 0 }
+      | p ↦ record { step = step.Runaway; remainder = record { part = part; mark = RunAway; place = p }; variables = vars; units = 0 }
+    ]
+continued code part event looks place vars (suc units) =
+    elim (settled place) [
+      | ended ↦ record { step = step.Done Ended; remainder = fresh_of code part; variables = vars; units = suc units }
+      | p ↦ elim (reached code (whole_of code part) vars event looks p) [
+        | goes_on changed q ↦ continued code part event looks q changed units
+        | operates o mark q ↦ record { step = step.Op o; remainder = record { part = part; mark = mark; place = q }; variables = vars; units = units }
+        | answers a q ↦ record { step = step.Done a; remainder = record { part = part; mark = AtRest; place = q }; variables = vars; units = units }
+      ]
     ]
 
--- a step of a thread with this remainder; one that has run away stays so
+-- how many spawns a call passes on its way to where the thread stands
+abbrev pub passed : Place → ℕ
+passed (within t p rest) = suc (passed p)
+passed p = 0
+
+-- what a thread answers that yields there: its spawner waits for it
+abbrev pub yield_answer : Place → PtState
+yield_answer (within t p rest) = Waiting
+yield_answer p = Yielded
+
+-- A step of a thread with this remainder. A call of a thread at rest pays a unit for each spawn that it passes. Behind the
+-- post of a `pause` control is given up, and one that has run away stays so.
 unfoldable pub advanced_of : Code → Event → Looks → Remainder → (variables : List ℕ) → (units : ℕ) → Advanced
 advanced_of code event looks r vars units =
     elim r.mark [
-      | AtRest ↦ continued code r.part event looks r.is_yielded r.todo vars units
-      | UnderWay ↦ continued code r.part event looks r.is_yielded r.todo vars units
+      | AtRest ↦
+          if nat_lt units (passed r.place) then record { step = step.Runaway; remainder = record r { mark = RunAway }; variables = vars; units = 0 }
+          else continued code r.part event looks r.place vars (units - passed r.place)
+      | UnderWay into ↦ continued code r.part event looks r.place vars units
+      | Pausing ↦ record { step = step.Done (yield_answer r.place); remainder = record r { mark = AtRest }; variables = vars; units = units }
       | RunAway ↦ record { step = step.Runaway; remainder = r; variables = vars; units = units }
     ]
 
+-- a remainder and the variables once a thread was told the answer of a post
+pub record Answered : Type 0 where
+  pub remainder : Remainder
+  pub variables : List ℕ
+
+-- the variable named after `into`, if any, gets the answer, and no later one
+abbrev pub marked_answered : Mark → Mark
+marked_answered (UnderWay into) = UnderWay None
+marked_answered m = m
+
+abbrev pub variables_answered : Mark → (variables : List ℕ) → (answer : ℕ) → List ℕ
+variables_answered (UnderWay (Some i)) vars answer = slice_set vars i answer
+variables_answered m vars answer = vars
+
+abbrev pub answered_of : Remainder → (variables : List ℕ) → (answer : ℕ) → Answered
+answered_of r vars answer =
+    record { remainder = record r { mark = marked_answered r.mark }; variables = variables_answered r.mark vars answer }
+
 -- an operation has cost a unit of work, and no step makes units
 abbrev pub PaysFor : Step → (before after : ℕ) → Type 0
-PaysFor (step.Op op) before after = after < before
-PaysFor (step.Done answer) before after = after ≤ before
+PaysFor (step.Op o) before after = after < before
+PaysFor (step.Done a) before after = after ≤ before
 PaysFor step.Runaway before after = after ≤ before

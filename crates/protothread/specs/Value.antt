@@ -1,9 +1,11 @@
 -- The value of an expression, a number of 16 bits.
 use Rattle.std.specs.Prelude.{ℕ, ◌+◌, ◌-◌, ◌*◌, ◌/◌, ◌%◌, ◌^◌, ◌==◌, nat_lt, nat_le, Bool, not, ◌&&◌, ◌||◌, if◌then◌else◌, List, slice_index}
+use Rattle.std.specs.List.{list_any}
 use Rattle.mote_program.specs.declared.event.Event.{Event}
 use Rattle.mote_program.specs.declared.tree.Operator.{Operator}
 use Rattle.mote_program.specs.declared.tree.Operator.TheVariants.{Add, Subtract, Multiply, Divide, Remainder, Equal, Unequal, Less, AtMost, Greater, AtLeast, And, Or}
-use Rattle.mote_program.specs.Tree.{Expression, number, variable, word, sender, moment, mote, negation, binary}
+use Rattle.mote_program.specs.EventNames.{any_number}
+use Rattle.mote_program.specs.Tree.{Expression, number, variable, word, sender, moment, mote, is, fired, expired, gone, running, count, negation, binary}
 use Rattle.protothread.specs.Looks.{Looks}
 
 -- the answer of a test as a value
@@ -30,12 +32,24 @@ applied AtLeast a b = truth (nat_le b a)
 applied And a b = truth (holds a && holds b)
 applied Or a b = truth (holds a || holds b)
 
-abbrev pub value : (variables : List ℕ) → Event → Looks → Expression → ℕ
+-- the event has this number and this word
+abbrev pub is_event : Event → (number : ℕ) → (word : ℕ) → Bool
+is_event event n w = event.number == n && event.word == w
+
+-- A variable is one of the code's, which the list has where it was made from that code.
+abbrev pub value : (variables : List ℕ) → Event → Looks → Expression ℕ → ℕ
 value variables event looks (number n) = n
 value variables event looks (variable i) = slice_index variables i
 value variables event looks word = event.word
 value variables event looks sender = event.sender
 value variables event looks moment = looks.moment % 2 ^ 16
 value variables event looks mote = looks.mote
+value variables event looks (is e) = truth (event.number == any_number e)
+-- TIMER of the timer, and EXITED of the process
+value variables event looks (fired t) = truth (is_event event 0x88 t)
+value variables event looks (gone p) = truth (is_event event 0x87 p)
+value variables event looks (expired t) = truth (list_any (λ u. t == u) looks.expired)
+value variables event looks (running p) = truth (list_any (λ q. p == q) looks.running)
+value variables event looks (count s) = slice_index looks.counts s
 value variables event looks (negation a) = truth (not (holds (value variables event looks a)))
 value variables event looks (binary o a b) = applied o (value variables event looks a) (value variables event looks b)

@@ -1,6 +1,7 @@
 //! Laws of the step of a protothread. Each is the contract of a function with an empty body.
 ghost use Rattle.protothread.specs.Laws.{ControlIsGivenUpAtWaits, MoreUnitsChangeNothing, OperationsCostWork, RunAwayIsForGood};
 ghost use Rattle.protothread.specs.Runs.{RunsAreTheText};
+ghost use Rattle.protothread.specs.Semaphores.{CountsAreSignalsLessTakes};
 
 /// More units of work change nothing: a step that answers an operation or gives up control answers the same with more
 /// units, and as many more are left.
@@ -18,15 +19,21 @@ pub fn operations_cost_work()
     ensures { OperationsCostWork }
 {}
 
-/// A step answers 0 or 1 only at a waiting statement, and the next step goes on from that very statement.
+/// A step answers 0 or 1 only where the thread, or the innermost of those that it spawned, waits or has restarted, and the
+/// next call goes on from there.
 pub fn control_is_given_up_at_waits()
     ensures { ControlIsGivenUpAtWaits }
 {}
 
-/// A wait is the only place where control is given up, and everything between two waits happens once and in the order of
-/// the text: the operations and answers of a run of a fresh thread, over any calls, are those of its block read by its
-/// structure, and what is read so is a run. The reading knows statements and events, and nothing of how a thread keeps its
-/// place. A run advances the thread up to each answer, with units of work that suffice, once for each call.
+/// A semaphore's count is the first one and the signals, less what was taken, modulo 65,536.
+pub fn counts_are_signals_less_takes()
+    ensures { CountsAreSignalsLessTakes }
+{}
+
+/// The runs of a fresh thread are exactly what the block of its part says, read by its structure: the same operations and
+/// answers in the same order, over whatever it is shown each time that it is advanced. Spawned threads are read as blocks of
+/// their own: a `restart` or `exit` is that thread's alone, and while it yields or waits its spawner answers WAITING. The
+/// reading knows statements, blocks and threads, and nothing of how a thread keeps its place.
 pub fn runs_are_the_text()
     ensures { RunsAreTheText }
 {}

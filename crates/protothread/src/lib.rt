@@ -1,22 +1,31 @@
 //! Protothreads: stackless threads that are advanced from wait to wait.
 #![tactic(auto)]
 
+mod deed;
+mod frame;
 mod fuel;
 mod laws;
 mod look;
+mod part;
+mod semaphore;
 mod state;
-#[cfg(test)]
-mod tests;
+mod step;
 mod thread;
 mod value;
 mod vars;
 
 pub use fuel::Fuel;
 pub use laws::{
-    control_is_given_up_at_waits, more_units_change_nothing, operations_cost_work,
-    run_away_is_for_good, runs_are_the_text,
+    control_is_given_up_at_waits, counts_are_signals_less_takes, more_units_change_nothing,
+    operations_cost_work, run_away_is_for_good, runs_are_the_text,
 };
 pub use look::Look;
+pub use part::Part;
+pub use semaphore::Semaphore;
 pub use state::PtState;
-pub use thread::{Op, Part, Step, Thread};
+pub use step::{Op, Step};
+pub use thread::Thread;
 pub use vars::Vars;
+
+#[cfg(test)]
+mod tests;

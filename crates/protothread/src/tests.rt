@@ -1,8 +1,8 @@
 //! Whole protothreads, by `advance` alone.
 ghost use Rattle.std.specs.Prelude.{[], ◌∷◌};
 
-use crate::{Fuel, Look, Op, Part, PtState, Step, Thread, Vars};
-use mote_program::{Event, ProcessText, read};
+use crate::{Fuel, Look, Op, Part, PtState, Semaphore, Step, Thread, Vars};
+use mote_program::{Event, Proc, ProcessText, Target, read};
 use std::process::Abort;
 use std::test::Fail;
 
@@ -337,6 +337,202 @@ fn values_are_of_16_bits(rt: HostRuntime) -> Result<(), Fail> {
             &mut fuel,
             (Step::Op(Op::Print(value)), 0),
         );
+    }
+    Ok(())
+}
+
+#[test]
+fn a_semaphore_wraps(rt: HostRuntime) {
+    let mut semaphore = Semaphore::new(0);
+    assert!(rt; !semaphore.take());
+    assert_eq!(rt; semaphore.count(), 0);
+    for _ in 0..65_536u32 {
+        semaphore.signal();
+    }
+    assert_eq!(rt; semaphore.count(), 0);
+    semaphore.signal();
+    assert!(rt; semaphore.take());
+    assert!(rt; !semaphore.take());
+}
+
+/// The three calls of the body answer 0, 0 and 3. Each later call pays for the two spawns that it passes.
+#[test]
+fn spawn_and_restart(rt: HostRuntime) -> Result<(), Fail> {
+    let program = read(
+        rt.alloc(),
+        "process a; autostart a; code a { var n = 0; thread c { n = (n + 1); if (n == 1) { poll a; yield; poll a; restart; } print n; exit; print 8; } thread d { spawn c; print 7; } body { spawn d; print 6; } }",
+    )?;
+    assert!(rt; program.processes() == 1);
+    let text = program.process(0);
+    let mut vars = Vars::new(text);
+    let mut fuel = Fuel::new(100);
+    let mut thread = Thread::fresh(Part::Body);
+    for wanted in [
+        (Step::Op(Op::Poll(Proc::Own(0))), 95),
+        (Step::Done(PtState::Waiting), 94),
+        (Step::Op(Op::Poll(Proc::Own(0))), 90),
+        (Step::Done(PtState::Waiting), 89),
+        (Step::Op(Op::Print(2)), 84),
+        (Step::Op(Op::Print(7)), 82),
+        (Step::Op(Op::Print(6)), 81),
+        (Step::Done(PtState::Ended), 81),
+    ] {
+        expect_step(&rt, &mut thread, text, &INIT, &mut vars, &mut fuel, wanted);
+    }
+    Ok(())
+}
+
+/// The answer of the post isn't asked for, and any CONTINUE ends the wait.
+#[test]
+fn a_pause_waits_for_continue(rt: HostRuntime) -> Result<(), Fail> {
+    let program = read(
+        rt.alloc(),
+        "process a; code a { var v = 7; body { pause; print v; exit; print 9; } }",
+    )?;
+    assert!(rt; program.processes() == 1);
+    let text = program.process(0);
+    let mut vars = Vars::new(text);
+    let mut fuel = Fuel::new(10);
+    let mut thread = Thread::fresh(Part::Body);
+    let post = Op::Post(Target::One(Proc::Own(0)), 0x85, 0);
+    expect_step(
+        &rt,
+        &mut thread,
+        text,
+        &INIT,
+        &mut vars,
+        &mut fuel,
+        (Step::Op(post), 9),
+    );
+    thread.answer(&mut vars, 1);
+    for wanted in [
+        (Step::Done(PtState::Yielded), 9),
+        (Step::Done(PtState::Yielded), 8),
+    ] {
+        expect_step(&rt, &mut thread, text, &INIT, &mut vars, &mut fuel, wanted);
+    }
+    let event = Event {
+        number: 0x85,
+        word: 3,
+        sender: 0,
+    };
+    for wanted in [
+        (Step::Op(Op::Print(7)), 6),
+        (Step::Done(PtState::Exited), 5),
+    ] {
+        expect_step(&rt, &mut thread, text, &event, &mut vars, &mut fuel, wanted);
+    }
+    Ok(())
+}
+
+/// Only the variable behind `into` is told the answer.
+#[test]
+fn an_answer_goes_into_its_variable(rt: HostRuntime) -> Result<(), Fail> {
+    let program = read(
+        rt.alloc(),
+        "event e; process a, b; code a { var v = 7; body { post b e 5 into v; print v; broadcast msg 6; print v; synch b exit 2; } } code b { body { } }",
+    )?;
+    assert!(rt; program.processes() == 2);
+    let text = program.process(0);
+    let mut vars = Vars::new(text);
+    let mut fuel = Fuel::new(10);
+    let mut thread = Thread::fresh(Part::Body);
+    let post = Op::Post(Target::One(Proc::Own(1)), 0x8b, 5);
+    expect_step(
+        &rt,
+        &mut thread,
+        text,
+        &INIT,
+        &mut vars,
+        &mut fuel,
+        (Step::Op(post), 9),
+    );
+    thread.answer(&mut vars, 1);
+    expect_step(
+        &rt,
+        &mut thread,
+        text,
+        &INIT,
+        &mut vars,
+        &mut fuel,
+        (Step::Op(Op::Print(1)), 8),
+    );
+    let broadcast = Op::Post(Target::All, 0x86, 6);
+    expect_step(
+        &rt,
+        &mut thread,
+        text,
+        &INIT,
+        &mut vars,
+        &mut fuel,
+        (Step::Op(broadcast), 7),
+    );
+    thread.answer(&mut vars, 0);
+    expect_step(
+        &rt,
+        &mut thread,
+        text,
+        &INIT,
+        &mut vars,
+        &mut fuel,
+        (Step::Op(Op::Print(1)), 6),
+    );
+    let synch = Op::Synch(Proc::Own(1), 0x83, 2);
+    expect_step(
+        &rt,
+        &mut thread,
+        text,
+        &INIT,
+        &mut vars,
+        &mut fuel,
+        (Step::Op(synch), 5),
+    );
+    Ok(())
+}
+
+/// The look has a count of 4 for semaphore 0, and of 0 for any other.
+#[test]
+fn acquire_waits_at_0(rt: HostRuntime) -> Result<(), Fail> {
+    let program = read(
+        rt.alloc(),
+        "semaphore s = 4; semaphore t = 0; process a; code a { body { acquire s; signal t; acquire t; } }",
+    )?;
+    assert!(rt; program.processes() == 1);
+    let text = program.process(0);
+    let mut vars = Vars::new(text);
+    let mut fuel = Fuel::new(10);
+    let mut thread = Thread::fresh(Part::Body);
+    for wanted in [
+        (Step::Op(Op::Take(0)), 9),
+        (Step::Op(Op::Signal(1)), 8),
+        (Step::Done(PtState::Waiting), 7),
+        (Step::Done(PtState::Waiting), 6),
+    ] {
+        expect_step(&rt, &mut thread, text, &INIT, &mut vars, &mut fuel, wanted);
+    }
+    Ok(())
+}
+
+/// A part that the text lacks is an empty block.
+#[test]
+fn absent_parts_are_empty(rt: HostRuntime) -> Result<(), Fail> {
+    let program = read(
+        rt.alloc(),
+        "process a; code a { ctimer c { print 5; } onexit { print 6; } body { print 7; } }",
+    )?;
+    assert!(rt; program.processes() == 1);
+    let text = program.process(0);
+    let mut vars = Vars::new(text);
+    let mut fuel = Fuel::new(10);
+    for (part, wanted) in [
+        (Part::OnPoll, (Step::Done(PtState::Ended), 10)),
+        (Part::Callback(1), (Step::Done(PtState::Ended), 10)),
+        (Part::Callback(0), (Step::Op(Op::Print(5)), 9)),
+        (Part::OnExit, (Step::Op(Op::Print(6)), 8)),
+        (Part::Body, (Step::Op(Op::Print(7)), 7)),
+    ] {
+        let mut thread = Thread::fresh(part);
+        expect_step(&rt, &mut thread, text, &INIT, &mut vars, &mut fuel, wanted);
     }
     Ok(())
 }

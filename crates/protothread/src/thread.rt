@@ -1,73 +1,42 @@
 //! Protothreads.
-ghost use Rattle.std.specs.Prelude.{◌≡◌, ℕ, ◌+◌, ◌^◌, ◌<◌, ◌≤◌, List, [], ◌∷◌, ◌++◌, false, true, length, map, Some, slice_get};
-ghost use Rattle.mote_program.specs.Tree.{Statement, statement_of, body_of, height};
-ghost use Rattle.mote_program.specs.Program.{Code, code_of};
-ghost use Rattle.protothread.specs.Remainder.{whole_of, fresh_of};
-ghost use Rattle.protothread.specs.Frames.{branch_block, block_at, inner_block, remainder_of};
-ghost use Rattle.protothread.specs.Step.{advanced_of, PaysFor};
-ghost use Rattle.protothread.specs.Reach.{Reaches};
+ghost use Rattle.std.specs.Prelude.{◌≡◌, ℕ, ◌+◌, ◌^◌, ◌<◌, ◌≤◌, if◌then◌else◌, [], ◌∷◌, ◌++◌, false, length, map, Some, slice_get};
+ghost use Rattle.mote_program.specs.Tree.{Statement, statement_of};
+ghost use Rattle.mote_program.specs.Code.{Code};
+ghost use Rattle.mote_program.specs.Program.{code_of};
+ghost use Rattle.protothread.specs.Remainder.{fresh_of};
+ghost use Rattle.protothread.specs.Step.{advanced_of, answered_of, PaysFor};
+ghost use Rattle.protothread.specs.Frames.{block_at, is_thread, spawns, yielding, remainder_of};
+ghost use Rattle.protothread.specs.Reach.{IsDoneBy, Reaches, LeavesBlocks, Resumes, performed_at, reached_at};
 
+use crate::deed::{Deed, done_by};
+use crate::frame::{Branch, Frame, count_spawns, innermost, thread_statements};
 use crate::fuel::Fuel;
 use crate::look::Look;
+use crate::part::Part;
 use crate::state::PtState;
+use crate::step::{Op, Step};
 use crate::value::evaluate;
 use crate::vars::Vars;
 use arrayvec::ArrayVec;
 use mote_program::{Event, ProcessText, Stmt};
 
-/// How deep blocks stand in one another at most.
-const DEPTH: usize = 32;
+/// How many blocks can be run in one another by spawns: a part, and at most 7 threads, each spawned by a later one.
+const STACKS: u8 = 8;
 
-/// A block of a process's text that a thread runs.
-#[derive(Clone, Copy, Debug, PartialEq, Eq)]
-pub enum Part {
-    Body,
-}
-
-/// An operation that the caller performs for the thread, with its operands evaluated.
-#[derive(Clone, Copy, Debug, PartialEq, Eq)]
-pub enum Op {
-    /// Prints a value.
-    Print(u16),
-}
-
-/// What a thread answers when it is advanced.
-#[derive(Clone, Copy, Debug, PartialEq, Eq)]
-pub enum Step {
-    /// An operation, after which it is advanced again with the same event.
-    Op(Op),
-    /// It gave up control.
-    Done(PtState),
-    /// It wanted a unit of work where none was left, and has run away for good.
-    Runaway,
-}
+/// How many blocks stand in one another at most: 32 in each of those.
+const DEPTH: usize = 256;
 
 /// What a thread did last.
 #[derive(Clone, Copy, Debug, PartialEq, Eq)]
 enum Mark {
     /// It answered `Done`, or is fresh.
     AtRest,
-    /// It answered an operation.
-    UnderWay,
+    /// It answered an operation. Where that is a post that this variable is told the answer of, it hasn't been told yet.
+    UnderWay(Option<u8>),
+    /// It answered the post of a `pause`, and now gives up control.
+    Pausing,
     /// It answered `Runaway`.
     RunAway,
-}
-
-/// Which block of a statement.
-#[derive(Clone, Copy, Debug, Default, PartialEq, Eq)]
-enum Branch {
-    #[default]
-    Then,
-    Else,
-    Loop,
-}
-
-/// A block that the thread stands in: which block of a statement it is, and where the block around goes on behind it.
-/// That is behind an `if`, and at a `while` itself, whose test comes again.
-#[derive(Clone, Copy, Debug, Default, PartialEq, Eq)]
-struct Frame {
-    branch: Branch,
-    position: usize,
 }
 
 /// A thread: the part that it runs, and where it stands. The frames lead from the part's block to the innermost one.
@@ -76,78 +45,16 @@ pub struct Thread {
     part: Part,
     mark: Mark,
     is_yielded: bool,
-    position: usize,
+    position: u16,
     frames: ArrayVec<Frame, DEPTH>,
 }
 
-impl Part {
-    /// The statements of the part.
-    #[tactic(auto, using(crate::proofs::FrameLaws::listings))]
-    fn statements(self, text: &ProcessText) -> &[Stmt]
-        ensures value { map statement_of result.now ≡ whole_of (code_of text.now) self }
-        ensures shallow { height (body_of (map statement_of result.now)) ≤ 32 }
-    {
-        match self {
-            Part::Body => text.body().statements(),
-        }
-    }
-}
-
-/// The statements of a block of a statement: none where the statement has no such block.
-#[tactic(auto, using(crate::proofs::FrameLaws::blocks))]
-fn block_of_statement(statement: &Stmt, branch: Branch) -> &[Stmt]
-    ensures { map statement_of result.now ≡ branch_block branch (Some (statement_of statement.now)) }
-{
-    match statement {
-        Stmt::If(_, then, other) => match branch {
-            Branch::Then => then.statements(),
-            Branch::Else => match other {
-                Some(other) => other.statements(),
-                None => &[],
-            },
-            Branch::Loop => &[],
-        },
-        Stmt::While(_, body) => match branch {
-            Branch::Loop => body.statements(),
-            Branch::Then | Branch::Else => &[],
-        },
-        Stmt::Assign(..) | Stmt::Print(_) | Stmt::Yield | Stmt::YieldUntil(_) => &[],
-    }
-}
-
-impl Frame {
-    /// The block that the frame stands for in the block around it.
-    #[tactic(auto, using(crate::proofs::FrameLaws::blocks))]
-    fn inner<'a>(&self, block: &'a [Stmt]) -> &'a [Stmt]
-        ensures { map statement_of result.now ≡ inner_block (map statement_of block.now) self.now }
-    {
-        let position = match self.branch {
-            Branch::Then | Branch::Else => self.position.saturating_sub(1),
-            Branch::Loop => self.position,
-        };
-        match block.get(position) {
-            Some(statement) => block_of_statement(statement, self.branch),
-            None => &[],
-        }
-    }
-}
-
-/// The innermost block, by the frames from the outermost on.
-fn innermost<'a>(whole: &'a [Stmt], frames: &[Frame]) -> &'a [Stmt]
-    ensures { map statement_of result.now ≡ block_at (map statement_of whole.now) frames.now }
-{
-    let mut block = whole;
-    for frame in frames {
-        block = frame.inner(block);
-    }
-    block
-}
-
-/// What became of a statement: the thread goes on in a block, or stops with a step.
+/// What became of a statement: the thread goes on in a block, or stops.
 #[derive(Clone, Copy)]
 enum Reach<'a> {
     GoesOn(&'a [Stmt]),
-    Stops(Step),
+    Operates(Op),
+    Answers(PtState),
 }
 
 impl Thread {
@@ -164,18 +71,35 @@ impl Thread {
         }
     }
 
+    /// How many spawns a call passes on its way to where the thread stands.
+    fn spawns(&self) -> usize
+        ensures { result ≡ spawns self.now.frames.items }
+    {
+        count_spawns(&self.frames)
+    }
+
+    /// What the thread answers that yields here: a spawner waits for the thread that it spawned.
+    fn yield_answer(&self) -> PtState
+        ensures { result ≡ yielding (spawns self.now.frames.items) }
+    {
+        match self.spawns() {
+            0 => PtState::Yielded,
+            _ => PtState::Waiting,
+        }
+    }
+
     /// Goes on behind the statement.
     fn pass(&mut self)
-        requires { self.old.position + 1 < 2 ^ 64 }
+        requires { self.old.position + 1 < 2 ^ 16 }
         ensures { self.new ≡ record self.old { is_yielded = false; position = self.old.position + 1 } }
     {
         self.is_yielded = false;
         self.position += 1;
     }
 
-    /// Goes on at the beginning of a block of the statement.
-    fn enter(&mut self, branch: Branch, position: usize)
-        requires { length self.old.frames.items < 32 }
+    /// Goes on at the beginning of a block of the statement, and behind it at that position.
+    fn enter(&mut self, branch: Branch, position: u16)
+        requires { length self.old.frames.items < 256 }
         ensures { self.new ≡ record self.old { is_yielded = false; position = 0; frames = record { items = self.old.frames.items ++ record { branch = branch; position = position } ∷ [] } } }
     {
         self.frames.push(Frame { branch, position });
@@ -183,44 +107,131 @@ impl Thread {
         self.position = 0;
     }
 
-    /// Gives up control at the statement, which has yielded.
-    fn wait(&mut self) -> Step
-        ensures result { result ≡ Step.Done PtState.Yielded }
-        ensures thread { self.new ≡ record self.old { mark = Mark.AtRest; is_yielded = true } }
+    /// Leaves the blocks of the innermost thread but its outermost one, and goes on at the beginning of that.
+    fn leave_blocks(&mut self)
+        ensures { LeavesBlocks self.old self.new }
+    {
+        self.is_yielded = false;
+        self.position = 0;
+        while let Some(frame) = self.frames.last() {
+            if frame.is_of_a_thread() {
+                return;
+            }
+            self.frames.pop();
+        }
+    }
+
+    /// Goes on behind the block of a frame.
+    fn go_on_behind(&mut self, frame: Frame)
+        ensures { self.new ≡ record self.old { is_yielded = (if is_thread frame.branch then false else self.old.is_yielded); position = frame.position } }
+    {
+        if frame.is_of_a_thread() {
+            self.is_yielded = false;
+        }
+        self.position = frame.position;
+    }
+
+    /// Gives up control at the statement, which has yielded or not.
+    fn give_up(&mut self, is_yielded: bool)
+        ensures { self.new ≡ record self.old { mark = Mark.AtRest; is_yielded = is_yielded } }
     {
         self.mark = Mark::AtRest;
-        self.is_yielded = true;
-        Step::Done(PtState::Yielded)
+        self.is_yielded = is_yielded;
+    }
+
+    /// Does a statement without blocks, the one at the thread's position in the innermost block.
+    fn perform<'a>(
+        &mut self,
+        text: &'a ProcessText,
+        whole: &'a [Stmt],
+        block: &'a [Stmt],
+        deed: Deed,
+        vars: &mut Vars,
+    ) -> Reach<'a>
+        requires room { length self.old.frames.items < 256 }
+        requires fits { self.old.position + 1 < 2 ^ 16 }
+        requires inside { block_at (code_of text.now) (map statement_of whole.now) self.old.frames.items ≡ map statement_of block.now }
+        ensures kept { length vars.new ≡ length vars.old }
+        ensures frames { length self.new.frames.items ≤ length self.old.frames.items + 1 }
+        ensures reaches { (s : Statement ℕ) → slice_get (map statement_of block.now) self.old.position ≡ Some s → IsDoneBy s deed → Reaches (code_of text.now) (map statement_of whole.now) (performed_at (code_of text.now) (map statement_of whole.now) self.old vars.old s deed) result self.old self.new vars.old vars.new }
+    {
+        match deed {
+            Deed::Passes => {
+                self.pass();
+                Reach::GoesOn(block)
+            }
+            Deed::Assigns(variable, value) => {
+                vars.set(variable, value);
+                self.pass();
+                Reach::GoesOn(block)
+            }
+            Deed::Operates(op, into) => {
+                self.mark = Mark::UnderWay(into);
+                self.pass();
+                Reach::Operates(op)
+            }
+            Deed::Pauses(op) => {
+                self.mark = Mark::Pausing;
+                self.is_yielded = true;
+                Reach::Operates(op)
+            }
+            Deed::Waits => {
+                self.give_up(false);
+                Reach::Answers(PtState::Waiting)
+            }
+            Deed::Yields => {
+                self.give_up(true);
+                Reach::Answers(self.yield_answer())
+            }
+            Deed::Spawns(thread) => {
+                self.enter(Branch::Spawned, self.position + 1);
+                Reach::GoesOn(thread_statements(text, thread))
+            }
+            Deed::Restarts => {
+                self.leave_blocks();
+                self.mark = Mark::AtRest;
+                Reach::Answers(PtState::Waiting)
+            }
+            Deed::Exits => {
+                self.leave_blocks();
+                match self.frames.pop() {
+                    Some(frame) => {
+                        self.position = frame.position;
+                        Reach::GoesOn(innermost(text, whole, &self.frames))
+                    }
+                    None => {
+                        self.mark = Mark::AtRest;
+                        Reach::Answers(PtState::Exited)
+                    }
+                }
+            }
+        }
     }
 
     /// Does a statement, the one at the thread's position in the innermost block.
     fn reach<'a, L: Look>(
         &mut self,
+        text: &'a ProcessText,
+        whole: &'a [Stmt],
         block: &'a [Stmt],
         statement: &'a Stmt,
         event: &Event,
         vars: &mut Vars,
         look: &L,
     ) -> Reach<'a>
-        requires within { self.old.position < length block.now }
-        requires room { length self.old.frames.items < 32 }
-        ensures frames { length self.new.frames.items ≤ length self.old.frames.items + 1 }
+        requires room { length self.old.frames.items < 256 }
+        requires fits { self.old.position + 1 < 2 ^ 16 }
+        requires inside { block_at (code_of text.now) (map statement_of whole.now) self.old.frames.items ≡ map statement_of block.now }
+        requires here { slice_get (map statement_of block.now) self.old.position ≡ Some (statement_of statement.now) }
         ensures kept { length vars.new ≡ length vars.old }
-        ensures reaches { (whole : List Statement) → block_at whole self.old.frames.items ≡ map statement_of block.now → slice_get (map statement_of block.now) self.old.position ≡ Some (statement_of statement.now) → Reaches whole event.now (L.looks look.now) self.old vars.old (statement_of statement.now) result self.new vars.new }
+        ensures frames { length self.new.frames.items ≤ length self.old.frames.items + 1 }
+        ensures reaches { Reaches (code_of text.now) (map statement_of whole.now) (reached_at (code_of text.now) (map statement_of whole.now) self.old vars.old event.now (L.looks look.now) (statement_of statement.now)) result self.old self.new vars.old vars.new }
     {
         let position = self.position;
         match statement {
-            Stmt::Assign(variable, expression) => {
-                let value = evaluate(expression, vars, event, look);
-                vars.set(*variable, value);
-                self.pass();
-                Reach::GoesOn(block)
-            }
-            Stmt::Print(expression) => {
-                let value = evaluate(expression, vars, event, look);
-                self.mark = Mark::UnderWay;
-                self.pass();
-                Reach::Stops(Step::Op(Op::Print(value)))
+            Stmt::Do(action) => {
+                let deed = done_by(action, text.number(), self.is_yielded, vars, event, look);
+                self.perform(text, whole, block, deed, vars)
             }
             Stmt::If(condition, then, other) => {
                 if evaluate(condition, vars, event, look) != 0 {
@@ -243,28 +254,36 @@ impl Thread {
                     Reach::GoesOn(block)
                 }
             }
-            Stmt::Yield => {
-                if self.is_yielded {
-                    self.pass();
-                    Reach::GoesOn(block)
-                } else {
-                    Reach::Stops(self.wait())
+        }
+    }
+
+    /// Comes back to where the thread stands, and pays for the spawns that a new call passes. There is a step at once where
+    /// they can't be paid, behind the post of a `pause`, and where the thread has run away.
+    #[tactic(auto, unfolding(crate::specs::Step::advanced_of))]
+    fn resume(&mut self, fuel: &mut Fuel) -> Option<Step>
+        ensures { Resumes result self.old self.new fuel.old fuel.new }
+    {
+        match self.mark {
+            Mark::AtRest => {
+                if fuel.pay(self.spawns()) {
+                    return None;
                 }
+                self.mark = Mark::RunAway;
+                Some(Step::Runaway)
             }
-            Stmt::YieldUntil(condition) => {
-                if self.is_yielded && evaluate(condition, vars, event, look) != 0 {
-                    self.pass();
-                    Reach::GoesOn(block)
-                } else {
-                    Reach::Stops(self.wait())
-                }
+            Mark::UnderWay(_) => None,
+            Mark::Pausing => {
+                self.mark = Mark::AtRest;
+                Some(Step::Done(self.yield_answer()))
             }
+            Mark::RunAway => Some(Step::Runaway),
         }
     }
 
     /// Goes on up to the next operation or answer. Each statement that the thread reaches costs a unit of work, and so do
-    /// each further test of a `while` and the statement where it stands when it is resumed, each time. After the answers
-    /// `Exited` and `Ended` the thread is fresh; once it has run away, it answers `Runaway` for good.
+    /// each further test of a `while`, each spawn that a call passes on its way to where the thread stands, and the
+    /// statement where it stands when it is resumed, each time. After the answers `Exited` and `Ended` the thread is fresh;
+    /// once it has run away, it answers `Runaway` for good.
     ///
     /// The text is the same at each call, and the variables are made from it.
     #[tactic(auto, unfolding(crate::specs::Step::advanced_of))]
@@ -281,21 +300,23 @@ impl Thread {
         // It has as many variables as before, so that `Vars::get` may ask for the same ones.
         ensures kept { length vars.new ≡ length vars.old }
     {
-        if self.mark == Mark::RunAway {
-            return Step::Runaway;
+        if let Some(step) = self.resume(fuel) {
+            return step;
         }
+        let threads = text.threads();
+        prove!(threads < STACKS);
         let whole = self.part.statements(text);
-        let mut block = innermost(whole, &self.frames);
+        let mut block = innermost(text, whole, &self.frames);
         loop {
-            match block.get(self.position) {
+            match block.get(usize::from(self.position)) {
                 None => match self.frames.pop() {
                     None => {
                         *self = Thread::fresh(self.part);
                         return Step::Done(PtState::Ended);
                     }
                     Some(frame) => {
-                        self.position = frame.position;
-                        block = innermost(whole, &self.frames);
+                        self.go_on_behind(frame);
+                        block = innermost(text, whole, &self.frames);
                     }
                 },
                 Some(statement) => {
@@ -303,12 +324,27 @@ impl Thread {
                         self.mark = Mark::RunAway;
                         return Step::Runaway;
                     }
-                    match self.reach(block, statement, event, vars, look) {
+                    match self.reach(text, whole, block, statement, event, vars, look) {
                         Reach::GoesOn(next) => block = next,
-                        Reach::Stops(step) => return step,
+                        Reach::Operates(op) => return Step::Op(op),
+                        Reach::Answers(state) => return Step::Done(state),
                     }
                 }
             }
+        }
+    }
+
+    /// Tells the thread the answer of its post, 0 where the event was accepted and 1 where the queue was full. The variable
+    /// named after `into` gets it, if there is one.
+    pub fn answer(&mut self, vars: &mut Vars, answer: u16)
+        ensures exact { (code : Code) → answered_of (remainder_of code self.old) vars.old answer ≡ record { remainder = remainder_of code self.new; variables = vars.new } }
+        ensures kept { length vars.new ≡ length vars.old }
+    {
+        if let Mark::UnderWay(into) = self.mark {
+            if let Some(variable) = into {
+                vars.set(variable, answer);
+            }
+            self.mark = Mark::UnderWay(None);
         }
     }
 }

@@ -1,11 +1,13 @@
 //! The values of expressions.
-ghost use Rattle.std.specs.Prelude.{◌≡◌};
+ghost use Rattle.std.specs.Prelude.{◌≡◌, ◌==◌};
+ghost use Rattle.std.specs.List.{list_any};
+ghost use Rattle.mote_program.specs.Events.{system_number};
 ghost use Rattle.mote_program.specs.Tree.{expression_of};
-ghost use Rattle.protothread.specs.Value.{applied, value};
+ghost use Rattle.protothread.specs.Value.{applied, is_event as has_number_and_word, value};
 
 use crate::look::Look;
 use crate::vars::Vars;
-use mote_program::{Event, Expr, Operator};
+use mote_program::{Event, Expr, Operator, SystemEvent};
 
 /// The value of an operator between two values.
 fn apply(operator: Operator, left: u16, right: u16) -> u16
@@ -28,6 +30,27 @@ fn apply(operator: Operator, left: u16, right: u16) -> u16
     }
 }
 
+/// Whether this is the event with this word.
+fn is_event(event: &Event, system: SystemEvent, word: u8) -> bool
+    ensures { result ≡ has_number_and_word event.now (system_number system) word }
+{
+    event.number == system.number() && event.word == u16::from(word)
+}
+
+/// Whether a timer has expired, as a test of the list of those that have.
+fn has_expired<L: Look>(look: &L, timer: u8) -> bool
+    ensures { result ≡ list_any (λ t. timer == t) (L.looks look.now).expired }
+{
+    look.expired(u16::from(timer))
+}
+
+/// Whether a process is running or called, as a test of the list of those that are.
+fn is_running<L: Look>(look: &L, process: u8) -> bool
+    ensures { result ≡ list_any (λ p. process == p) (L.looks look.now).running }
+{
+    look.running(process)
+}
+
 /// The value of an expression.
 pub(crate) fn evaluate<L: Look>(expression: &Expr, vars: &Vars, event: &Event, look: &L) -> u16
     ensures { result ≡ value vars.now event.now (L.looks look.now) (expression_of expression.now) }
@@ -39,6 +62,12 @@ pub(crate) fn evaluate<L: Look>(expression: &Expr, vars: &Vars, event: &Event, l
         Expr::Sender => event.sender,
         Expr::Moment => look.now(),
         Expr::Mote => look.mote(),
+        Expr::Is(named) => u16::from(event.number == named.number()),
+        Expr::Fired(timer) => u16::from(is_event(event, SystemEvent::Timer, *timer)),
+        Expr::Gone(process) => u16::from(is_event(event, SystemEvent::Exited, *process)),
+        Expr::Expired(timer) => u16::from(has_expired(look, *timer)),
+        Expr::Running(process) => u16::from(is_running(look, *process)),
+        Expr::Count(semaphore) => look.count(*semaphore),
         Expr::Not(inner) => u16::from(evaluate(inner, vars, event, look) == 0),
         Expr::Binary(operator, left, right) => {
             let left = evaluate(left, vars, event, look);

@@ -43,7 +43,7 @@ impl Vars {
         self.values[usize::from(variable)]
     }
 
-    /// The value of a variable, and 0 where there is no such variable.
+    /// The value of a variable of the text that these are made from. (There is no other variable; it would be 0.)
     pub(crate) fn value(&self, variable: u8) -> u16
         ensures { result ≡ slice_index self.now variable }
     {

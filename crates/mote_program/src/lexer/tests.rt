@@ -21,11 +21,11 @@ fn the_empty_text_has_only_its_end(rt: HostRuntime) -> Result<(), Fail> {
 fn a_declaration(rt: HostRuntime) -> Result<(), Fail> {
     assert_eq!(rt;
         told(rt.alloc(), "process a_1;")?.as_str(),
-        "[Process, Name(\"a_1\"), Semicolon] [1, 1, 1, 1]"
+        "[Keyword(Process), Name(\"a_1\"), Semicolon] [1, 1, 1, 1]"
     );
     assert_eq!(rt;
         told(rt.alloc(), "process A;")?.as_str(),
-        "[Process, Bad, Semicolon] [1, 1, 1, 1]"
+        "[Keyword(Process), Bad, Semicolon] [1, 1, 1, 1]"
     );
     Ok(())
 }
@@ -34,25 +34,28 @@ fn a_declaration(rt: HostRuntime) -> Result<(), Fail> {
 fn lf_alone_ends_a_line(rt: HostRuntime) -> Result<(), Fail> {
     assert_eq!(rt;
         told(rt.alloc(), "now\r\nself\r\n")?.as_str(),
-        "[Now, Own] [1, 2, 3]"
+        "[Keyword(Now), Keyword(Own)] [1, 2, 3]"
     );
     assert_eq!(rt;
         told(rt.alloc(), "now\rself\t\nfrom")?.as_str(),
-        "[Now, Own, From] [1, 1, 2, 2]"
+        "[Keyword(Now), Keyword(Own), Keyword(From)] [1, 1, 2, 2]"
     );
     Ok(())
 }
 
 #[test]
 fn comments(rt: HostRuntime) -> Result<(), Fail> {
-    assert_eq!(rt; told(rt.alloc(), "now // self")?.as_str(), "[Now] [1, 1]");
+    assert_eq!(rt;
+        told(rt.alloc(), "now // self")?.as_str(),
+        "[Keyword(Now)] [1, 1]"
+    );
     assert_eq!(rt;
         told(rt.alloc(), "now//\nself")?.as_str(),
-        "[Now, Own] [1, 2, 2]"
+        "[Keyword(Now), Keyword(Own)] [1, 2, 2]"
     );
     assert_eq!(rt;
         told(rt.alloc(), "// a\r now // b\n/ self")?.as_str(),
-        "[Op(Divide), Own] [2, 2, 2]"
+        "[Op(Divide), Keyword(Own)] [2, 2, 2]"
     );
     Ok(())
 }
@@ -99,7 +102,7 @@ fn names(rt: HostRuntime) -> Result<(), Fail> {
     );
     assert_eq!(rt;
         told(rt.alloc(), "radio radios yield_until yield_")?.as_str(),
-        "[Reserved, Name(\"radios\"), YieldUntil, Name(\"yield_\")] [1, 1, 1, 1, 1]"
+        "[Keyword(Radio), Name(\"radios\"), Keyword(YieldUntil), Name(\"yield_\")] [1, 1, 1, 1, 1]"
     );
     Ok(())
 }
@@ -109,6 +112,55 @@ fn each_other_byte_is_bad(rt: HostRuntime) -> Result<(), Fail> {
     assert_eq!(rt;
         told(rt.alloc(), "é\n// é\n\u{c}")?.as_str(),
         "[Bad, Bad, Bad] [1, 1, 3, 3]"
+    );
+    Ok(())
+}
+
+#[test]
+fn keywords(rt: HostRuntime) -> Result<(), Fail> {
+    assert_eq!(rt;
+        told(
+            rt.alloc(),
+            "event semaphore process autostart receiver code var etimer ctimer thread"
+        )?
+        .as_str(),
+        "[Keyword(Event), Keyword(Semaphore), Keyword(Process), Keyword(Autostart), Keyword(Receiver), Keyword(Code), Keyword(Var), Keyword(Etimer), Keyword(Ctimer), Keyword(Thread)] [1, 1, 1, 1, 1, 1, 1, 1, 1, 1, 1]"
+    );
+    assert_eq!(rt;
+        told(
+            rt.alloc(),
+            "onpoll onexit body print send if else while wait_until wait_while"
+        )?
+        .as_str(),
+        "[Keyword(OnPoll), Keyword(OnExit), Keyword(Body), Keyword(Print), Keyword(Send), Keyword(If), Keyword(Else), Keyword(While), Keyword(WaitUntil), Keyword(WaitWhile)] [1, 1, 1, 1, 1, 1, 1, 1, 1, 1, 1]"
+    );
+    assert_eq!(rt;
+        told(
+            rt.alloc(),
+            "yield yield_until spawn restart exit pause acquire signal post broadcast"
+        )?
+        .as_str(),
+        "[Keyword(Yield), Keyword(YieldUntil), Keyword(Spawn), Keyword(Restart), Keyword(Exit), Keyword(Pause), Keyword(Acquire), Keyword(Signal), Keyword(Post), Keyword(Broadcast)] [1, 1, 1, 1, 1, 1, 1, 1, 1, 1, 1]"
+    );
+    assert_eq!(rt;
+        told(
+            rt.alloc(),
+            "synch poll start kill set reset restart_timer stop into continue"
+        )?
+        .as_str(),
+        "[Keyword(Synch), Keyword(Poll), Keyword(Start), Keyword(Kill), Keyword(Set), Keyword(Reset), Keyword(RestartTimer), Keyword(Stop), Keyword(Into), Keyword(Continue)] [1, 1, 1, 1, 1, 1, 1, 1, 1, 1, 1]"
+    );
+    assert_eq!(rt;
+        told(
+            rt.alloc(),
+            "msg com packet init exited timer data from now self"
+        )?
+        .as_str(),
+        "[Keyword(Msg), Keyword(Com), Keyword(Packet), Keyword(Init), Keyword(Exited), Keyword(Timer), Keyword(Data), Keyword(From), Keyword(Now), Keyword(Own)] [1, 1, 1, 1, 1, 1, 1, 1, 1, 1, 1]"
+    );
+    assert_eq!(rt;
+        told(rt.alloc(), "is fired expired gone running count radio all")?.as_str(),
+        "[Keyword(Is), Keyword(Fired), Keyword(Expired), Keyword(Gone), Keyword(Running), Keyword(Count), Keyword(Radio), Keyword(All)] [1, 1, 1, 1, 1, 1, 1, 1, 1]"
     );
     Ok(())
 }

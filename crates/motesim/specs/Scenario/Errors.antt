@@ -7,22 +7,22 @@ use Rattle.motesim.specs.declared.scenario.error.MediumError.TheVariants as medi
 use Rattle.motesim.specs.declared.scenario.error.ScenarioError.{ScenarioError}
 use Rattle.motesim.specs.declared.scenario.error.ScenarioError.TheVariants.{Toml, MissingKey, UnknownKey, WrongKind, OutOfRange, UnknownProgram, Program, Medium, Memory}
 
-abbrev pub medium_number : MediumError → ℕ
-medium_number medium.Memory = 1
-medium_number medium.ZeroBase = 2
-medium_number medium.ZeroPer = 3
-medium_number medium.BadLoss = 4
+abbrev pub medium_fault_number : MediumError → ℕ
+medium_fault_number medium.Memory = 1
+medium_fault_number medium.ZeroBase = 2
+medium_fault_number medium.ZeroPer = 3
+medium_fault_number medium.BadLoss = 4
 
-abbrev pub number_of : ScenarioError → ℕ
-number_of Toml = 1
-number_of MissingKey = 2
-number_of UnknownKey = 3
-number_of WrongKind = 4
-number_of OutOfRange = 5
-number_of UnknownProgram = 6
-number_of (Program name e) = 7
-number_of (Medium e) = 8
-number_of Memory = 9
+abbrev pub scenario_fault_number : ScenarioError → ℕ
+scenario_fault_number Toml = 1
+scenario_fault_number MissingKey = 2
+scenario_fault_number UnknownKey = 3
+scenario_fault_number WrongKind = 4
+scenario_fault_number OutOfRange = 5
+scenario_fault_number UnknownProgram = 6
+scenario_fault_number (Program name e) = 7
+scenario_fault_number (Medium e) = 8
+scenario_fault_number Memory = 9
 
 -- a fault of the tables keeps its name
 abbrev pub of_table : TableFault → ScenarioError

@@ -1,6 +1,6 @@
 -- What a text may tell: at most one net, at most one fault, and never both.
 use Rattle.std.specs.Prelude.{◌≡◌, ℕ, List, string_bytes}
-use Rattle.mote_program.specs.Program.{Tree}
+use Rattle.mote_program.specs.Code.{Tree}
 use Rattle.mote_program.specs.Reading.{IsTreeOf, IsToldOf}
 use Rattle.mote_program.specs.declared.error.ReadErrorKind.{ReadErrorKind}
 use Rattle.motesim.specs.declared.scenario.error.ScenarioError.{ScenarioError}

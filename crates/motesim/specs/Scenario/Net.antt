@@ -2,7 +2,7 @@
 use Rattle.std.specs.Prelude.{ℕ, ℤ, List, [], map, codes, slice_get, Option, Some, None, option_map, unwrap_or, find, is_none, ◌==◌, if◌then◌else◌, ◌≡◌, Result, Ok, Err}
 use Rattle.std.specs.Str.{bytes_eq}
 use Rattle.toml.specs.Data.{Members}
-use Rattle.mote_program.specs.Program.{Tree}
+use Rattle.mote_program.specs.Code.{Tree}
 use Rattle.motesim.specs.declared.scenario.error.MediumError.{MediumError}
 use Rattle.motesim.specs.declared.scenario.error.MediumError.TheVariants.{ZeroBase, ZeroPer}
 use Rattle.motesim.specs.declared.scenario.error.TableFault.{TableFault}
@@ -31,7 +31,10 @@ pub record NetTold : Type 0 where
 
 -- stands for a program that isn't there, which no net has
 abbrev pub no_program : NamedTree
-no_program = record { name = []; tree = record { processes = []; autostart = []; codes = [] } }
+no_program = record {
+  name = [];
+  tree = record { events = []; semaphores = []; counts = []; processes = []; autostart = []; receiver = None; codes = []; timers = [] };
+}
 
 -- the program of a name
 abbrev pub program_named : List NamedTree → List ℕ → NamedTree

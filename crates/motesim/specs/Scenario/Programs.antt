@@ -2,7 +2,8 @@
 use Rattle.std.specs.Prelude.{◌≡◌, ℕ, List, [], ◌∷◌, ◌++◌, map, string_bytes, unwrap_or, Result, Ok, Err, Vec}
 use Rattle.std.specs.declared.alloc.Global.{Global}
 use Rattle.toml.specs.Data.{Members, no_members, member, as_str}
-use Rattle.mote_program.specs.Program.{Tree, tree_of}
+use Rattle.mote_program.specs.Code.{Tree}
+use Rattle.mote_program.specs.Program.{tree_of}
 use Rattle.mote_program.specs.Reading.{IsTreeOf, IsToldOf}
 use Rattle.mote_program.specs.declared.error.ReadError.{ReadError}
 use Rattle.motesim.specs.declared.scenario.programs.NamedProgram.{NamedProgram}

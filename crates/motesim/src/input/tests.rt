@@ -1,4 +1,4 @@
-use super::{InputError, LIMIT, read_text};
+use super::{InputError, read_text};
 use std::io;
 use std::io::Read;
 use std::test::Fail;
@@ -71,4 +71,45 @@ fn tells_a_failing_reader(rt: HostRuntime) {
             "after {left} bytes"
         );
     }
+}
+
+/// A reader that gives a part of what is asked for.
+#[derive(Drop)]
+struct Sparing<'a> {
+    rest: &'a [u8],
+    most: usize,
+}
+
+impl Read for Sparing<'_> {
+    fn read(&mut self, buffer: &mut [u8]) -> io::Result<usize> {
+        let n = buffer.len().min(self.most).min(self.rest.len());
+        buffer[..n].copy_from_slice(&self.rest[..n]);
+        self.rest = &self.rest[n..];
+        Ok(n)
+    }
+}
+
+#[test]
+fn reads_whole_chunks_and_one_byte_to_either_side(rt: HostRuntime) -> Result<(), Fail> {
+    let mut text = String::new(rt.alloc());
+    for k in 0..3_000u32 {
+        let line = format!(in rt.alloc(); "{k}\n")?;
+        text.push_str(line.as_str())?;
+    }
+    let bytes = text.as_bytes();
+    for len in [
+        4_095usize, 4_096, 4_097, 8_191, 8_192, 8_193, 12_287, 12_288, 12_289,
+    ] {
+        let Some(front) = bytes.get(..len) else {
+            return Err(Fail::from("the text is too short"));
+        };
+        let whole = read_text(rt.alloc(), &mut &front[..])?;
+        assert_eq!(rt; whole.as_bytes(), front, "{len} bytes");
+        for most in [1_000, 4_096] {
+            let mut sparing = Sparing { rest: front, most };
+            let whole = read_text(rt.alloc(), &mut sparing)?;
+            assert_eq!(rt; whole.as_bytes(), front, "{len} bytes by {most}");
+        }
+    }
+    Ok(())
 }

@@ -15,11 +15,11 @@ pub enum PrintError {
 }
 
 impl PrintError {
-    ghost use Rattle.motesim.specs.PrintErrors.{number_of};
+    ghost use Rattle.motesim.specs.PrintErrors.{print_fault_number};
 
     /// The number that is printed.
     pub fn number(self) -> u8
-        ensures { result ≡ number_of self }
+        ensures { result ≡ print_fault_number self }
     {
         self as u8
     }

@@ -1,16 +1,20 @@
-ghost use Rattle.std.specs.Prelude.{◌≡◌, length};
-ghost use Rattle.mote_program.specs.Program.{tree_of};
+ghost use Rattle.std.specs.Prelude.{◌≡◌};
+
+mod lines;
+mod long;
 
 use super::{MoteProgram, PrintError, write_report};
-use crate::line::{Line, What};
+use crate::log::{Fate, LogLine};
 use crate::report::Report;
 use mote_program::{Proc, Program, read};
+use process_kernel::{Line, Sent, What};
 use std::alloc::{AllocError, Global};
 use std::io;
 use std::io::Write;
 use std::test::Fail;
 
-const TEXT: &str = "process a; autostart a; code a { body { print 1; yield; print 2; } }";
+pub(crate) const TEXT: &str =
+    "process a; autostart a; code a { body { print 1; yield; print 2; } }";
 
 const OUTPUT: &str =
     "mote 0 p\n0 start etimer\n0 start ctimer\n0 start radio\n0 start a\n0 print a 1\nmedium\nleft 0\n";
@@ -53,16 +57,18 @@ impl Write for Closed {
     }
 }
 
-fn line(at: u64, what: What) -> Line
+pub(crate) fn line(at: u64, what: What) -> Line
     ensures { result ≡ record { at = at; what = what } }
 {
     Line { at, what }
 }
 
 /// Writes what a net of one mote with the program `TEXT` reports.
-fn write_alone<W: Write>(alloc: Global, writer: &mut W, program: &Program) -> Result<(), PrintError>
-    requires { length (tree_of program.now).processes ≡ 1 }
-{
+fn write_alone<W: Write>(
+    alloc: Global,
+    writer: &mut W,
+    program: &Program,
+) -> Result<(), PrintError> {
     let trace = Vec::from_slice(
         alloc,
         &[
@@ -74,7 +80,11 @@ fn write_alone<W: Write>(alloc: Global, writer: &mut W, program: &Program) -> Re
         ],
     )?;
     let traces = vec![in alloc; trace].map_err(AllocError::from)?;
-    let report = Report { traces, left: 0 };
+    let report = Report {
+        traces,
+        log: Vec::new(alloc),
+        left: 0,
+    };
     write_report(
         alloc,
         writer,
@@ -84,9 +94,11 @@ fn write_alone<W: Write>(alloc: Global, writer: &mut W, program: &Program) -> Re
 }
 
 /// Writes what a net of two motes reports, one of which halts and one of which ends.
-fn write_pair<W: Write>(alloc: Global, writer: &mut W, program: &Program) -> Result<(), PrintError>
-    requires { length (tree_of program.now).processes ≡ 1 }
-{
+fn write_pair<W: Write>(
+    alloc: Global,
+    writer: &mut W,
+    program: &Program,
+) -> Result<(), PrintError> {
     let first = Vec::from_slice(
         alloc,
         &[line(0, What::Start(Proc::Own(0))), line(0, What::Halt)],
@@ -100,7 +112,35 @@ fn write_pair<W: Write>(alloc: Global, writer: &mut W, program: &Program) -> Res
         ],
     )?;
     let traces = vec![in alloc; first, second].map_err(AllocError::from)?;
-    let report = Report { traces, left: 12 };
+    let sent = Sent {
+        at: 2,
+        sender: 1,
+        number: 0,
+        value: 9,
+    };
+    let fates = Vec::from_slice(
+        alloc,
+        &[Fate { to: 0, at: Some(5) }, Fate { to: 3, at: None }],
+    )?;
+    let unheard = Sent {
+        at: 7,
+        sender: 0,
+        number: 40,
+        value: 65535,
+    };
+    let log = vec![in alloc;
+        LogLine { sent, fates },
+        LogLine {
+            sent: unheard,
+            fates: Vec::new(alloc)
+        },
+    ]
+    .map_err(AllocError::from)?;
+    let report = Report {
+        traces,
+        log,
+        left: 12,
+    };
     let programs = [
         MoteProgram { name: "p", program },
         MoteProgram {
@@ -129,7 +169,7 @@ fn numbers_its_motes(rt: HostRuntime) -> Result<(), Fail> {
     let mut out = Vec::new(rt.alloc());
     assert_eq!(rt; write_pair(rt.alloc(), &mut out, &program), Ok(()));
     let wanted =
-        "mote 0 p\n0 start a\n0 halt\nmote 1 q_2\n0 print a 65535\n1000000 leave a\n1000000 leave radio\nmedium\nleft 12\n";
+        "mote 0 p\n0 start a\n0 halt\nmote 1 q_2\n0 print a 65535\n1000000 leave a\n1000000 leave radio\nmedium\n2 1 0 9 0@5 3@lost\n7 0 40 65535\nleft 12\n";
     assert_eq!(rt; out.as_slice(), wanted.as_bytes());
     Ok(())
 }

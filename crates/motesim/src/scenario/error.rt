@@ -24,11 +24,11 @@ pub enum MediumError {
 }
 
 impl MediumError {
-    ghost use Rattle.motesim.specs.Scenario.Errors.{medium_number};
+    ghost use Rattle.motesim.specs.Scenario.Errors.{medium_fault_number};
 
     /// The number that is printed.
     pub fn number(self) -> u8
-        ensures { result ≡ medium_number self }
+        ensures { result ≡ medium_fault_number self }
     {
         self as u8
     }
@@ -57,11 +57,11 @@ pub enum ScenarioError {
 }
 
 impl ScenarioError {
-    ghost use Rattle.motesim.specs.Scenario.Errors.{number_of};
+    ghost use Rattle.motesim.specs.Scenario.Errors.{scenario_fault_number};
 
     /// The number that is printed.
     pub fn number(&self) -> u8
-        ensures { result ≡ number_of self.now }
+        ensures { result ≡ scenario_fault_number self.now }
     {
         match self {
             ScenarioError::Toml => 1,

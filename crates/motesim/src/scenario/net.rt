@@ -1,5 +1,5 @@
 //! Nets: motes at their places, each with a program, and the medium between them.
-ghost use Rattle.std.specs.Prelude.{◌≡◌, ◌<◌, ◌≤◌, nat_lt, length, map, IsTrue, Some, option_map, slice_get};
+ghost use Rattle.std.specs.Prelude.{◌≡◌, ◌<◌, ◌≤◌, ◌^◌, nat_lt, length, map, IsTrue, Some, option_map, slice_get};
 ghost use Rattle.std.specs.List.{list_all};
 
 use super::medium::Medium;
@@ -46,7 +46,8 @@ impl Net {
 
     /// The last moment at which turns are taken.
     pub fn end(&self) -> u64
-        ensures { result ≡ (net_of self.now).end }
+        ensures value { result ≡ (net_of self.now).end }
+        ensures early { result < 2 ^ 32 }
     {
         u64::from(self.end)
     }

@@ -1,11 +1,10 @@
 //! The net of a scenario's text.
-ghost use Rattle.std.specs.Prelude.{◌≡◌, None, Err, IfOk, codes};
+ghost use Rattle.std.specs.Prelude.{◌≡◌, None, codes};
 ghost use Rattle.toml.specs.View.{table_view};
-ghost use Rattle.motesim.specs.declared.scenario.error.ScenarioError.{ScenarioError};
 ghost use Rattle.motesim.specs.Scenario.Document.{document_fault, natural_at};
 ghost use Rattle.motesim.specs.Scenario.Rules.{keys_fault, medium_rules};
-ghost use Rattle.motesim.specs.Scenario.Net.{net_of, MakesMedium};
-ghost use Rattle.motesim.specs.Scenario.Reading.{Parses, MakesNet, Answers, TellsNet, TellsFault};
+ghost use Rattle.motesim.specs.Scenario.Net.{MakesMedium};
+ghost use Rattle.motesim.specs.Scenario.Reading.{Parses, MakesNet, Answers};
 
 use super::document::check_document;
 use super::error::{MediumError, ScenarioError};
@@ -41,7 +40,7 @@ fn medium_of(table: &Table) -> Result<Medium, MediumError>
 }
 
 /// The net of a document without fault, where its programs are read and its medium is one.
-fn net_of(alloc: Global, top: &Table) -> Result<Net, ScenarioError>
+fn net_from(alloc: Global, top: &Table) -> Result<Net, ScenarioError>
     requires { document_fault (table_view top.now) ≡ None }
     ensures { MakesNet (table_view top.now) result }
 {
@@ -51,8 +50,10 @@ fn net_of(alloc: Global, top: &Table) -> Result<Net, ScenarioError>
     Ok(Net::new(natural_at(top, "end"), medium, programs, motes))
 }
 
-/// What may be answered to a text.
-fn read_text(alloc: Global, text: &str) -> Result<Net, ScenarioError>
+/// The net that a scenario's text tells, or the first fault of the text: its length, its TOML, its tables in order, the
+/// motes' programs, the programs' texts in byte order of their names, and the numbers of the medium. Want of memory may be
+/// answered in place of any of these.
+pub fn read_scenario(alloc: Global, text: &str) -> Result<Net, ScenarioError>
     ensures { Answers text.now result }
 {
     if text.len() > LONGEST_TEXT {
@@ -60,15 +61,5 @@ fn read_text(alloc: Global, text: &str) -> Result<Net, ScenarioError>
     }
     let top = table_of(alloc, text)?;
     check_document(&top)?;
-    net_of(alloc, &top)
-}
-
-/// The net that a scenario's text tells, or the first fault of the text: its length, its TOML, its tables in order, the
-/// motes' programs, the programs' texts in byte order of their names, and the numbers of the medium. Want of memory may be
-/// answered in place of any of these.
-pub fn read_scenario(alloc: Global, text: &str) -> Result<Net, ScenarioError>
-    ensures ok { IfOk result (λ net. TellsNet text.now (net_of net)) }
-    ensures fault { (e : ScenarioError) → result ≡ Err e → (e ≡ ScenarioError.Memory → ⊥) → TellsFault text.now e }
-{
-    read_text(alloc, text)
+    net_from(alloc, &top)
 }

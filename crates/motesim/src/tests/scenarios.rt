@@ -2,22 +2,13 @@
 
 use crate::scenario::{MediumError, ScenarioError};
 use crate::simulate::{SimError, simulate_serial};
-use crate::tests::{PRINT_THEN_YIELD, PRINT_THEN_YIELD_REPORT, report_of, scenario_of};
+use crate::tests::{PRINT_THEN_YIELD, PRINT_THEN_YIELD_REPORT, changed, report_of, scenario_of};
 use mote_program::{ReadError, ReadErrorKind};
-use std::alloc::Global;
 use std::test::Fail;
 
 const STARTS: &str = "mote 0 p\n0 start etimer\n0 start ctimer\n0 start radio\n";
 
 const ENDS: &str = "medium\nleft 0\n";
-
-/// The scenario of `PRINT_THEN_YIELD`, with one text in the place of another.
-fn changed(alloc: Global, old: &str, new: &str) -> Result<String, Fail> {
-    let (before, after) = PRINT_THEN_YIELD
-        .split_once(old)
-        .ok_or("the text isn't there")?;
-    Ok(format!(in alloc; "{before}{new}{after}")?)
-}
 
 #[test]
 fn print_then_yield(rt: HostRuntime) -> Result<(), Fail> {

@@ -1,6 +1,5 @@
-//! Failing readers and writers, the ends of what is read, and the program.
+//! Failing readers and writers, and the ends of what is read.
 
-use crate::command::run_command;
 use crate::printer::PrintError;
 use crate::simulate::{SimError, simulate_serial};
 use crate::tests::{PRINT_THEN_YIELD, PRINT_THEN_YIELD_REPORT, report_of};
@@ -10,9 +9,9 @@ use std::test::Fail;
 
 /// A reader that gives at most 16 bytes a call, and fails after some calls.
 #[derive(Drop)]
-struct Failing<'a> {
-    rest: &'a [u8],
-    calls: usize,
+pub(crate) struct Failing<'a> {
+    pub(crate) rest: &'a [u8],
+    pub(crate) calls: usize,
 }
 
 impl Read for Failing<'_> {
@@ -30,10 +29,10 @@ impl Read for Failing<'_> {
 
 /// A writer that takes one byte a call, and fails after some calls, or takes nothing then.
 #[derive(Drop)]
-struct Narrow {
-    bytes: Vec<u8>,
-    calls: usize,
-    fails: bool,
+pub(crate) struct Narrow {
+    pub(crate) bytes: Vec<u8>,
+    pub(crate) calls: usize,
+    pub(crate) fails: bool,
 }
 
 impl Write for Narrow {
@@ -137,26 +136,5 @@ fn ends_of_the_input(rt: HostRuntime) -> Result<(), Fail> {
         Err(SimError::NotText)
     );
     assert!(rt; output.is_empty());
-    Ok(())
-}
-
-#[test]
-fn command(rt: HostRuntime) -> Result<(), Fail> {
-    let cases = [
-        (PRINT_THEN_YIELD, 0, PRINT_THEN_YIELD_REPORT, ""),
-        ("version = 1\nend =\n", 1, "", "motesim: scenario fault 1\n"),
-        ("version = 1\n", 1, "", "motesim: scenario fault 2\n"),
-    ];
-    for (input, status, output, errors) in cases {
-        let mut out = Vec::new(rt.alloc());
-        let mut err = Vec::new(rt.alloc());
-        let words = ["motesim"];
-        assert_eq!(rt;
-            run_command(&rt, &words, &mut input.as_bytes(), &mut out, &mut err),
-            status
-        );
-        assert_eq!(rt; out.as_slice(), output.as_bytes());
-        assert_eq!(rt; err.as_slice(), errors.as_bytes());
-    }
     Ok(())
 }

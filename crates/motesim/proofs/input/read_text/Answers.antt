@@ -2,12 +2,12 @@ use Rattle.std.proofs.Common.{◌≡◌, ℕ, List, Option, Some, None, IfSome, 
 use Rattle.std.specs.String.{string_vec}
 use Rattle.std.specs.Str.{IsUtf8}
 use Rattle.std.proofs.lemmas.Str.{IsUtf8-string_bytes}
-use Rattle.motesim.specs.Input.{ReadsAll, ReadsText}
+use Rattle.motesim.specs.Input.{ReadsBytes, ReadsText}
 use Rattle.motesim.proofs.input.read_text.Goals as goal
 
 -- a text with the bytes that were read is the text that was read
 text_read : (known : Option (List ℕ)) (bytes : Vec ℕ Global) (text : String Global) → string_vec text ≡ bytes
-    → IfSome known (λ input. ReadsAll input (Ok bytes)) → IfSome known (λ input. ReadsText input (Ok text))
+    → IfSome known (λ input. ReadsBytes input (Ok bytes)) → IfSome known (λ input. ReadsText input (Ok text))
 text_read None bytes text is told = tt
 text_read (Some input) bytes text is told =
     let same : string_bytes text ≡ input = ap (λ v. v.items) is ∙ told.0 in

@@ -1,5 +1,7 @@
-use Rattle.motesim.proofs.ScenarioReading.{told}
+use Rattle.std.proofs.Common.{rules}
+use Rattle.toml.specs.View.{table_view}
+use Rattle.motesim.proofs.ScenarioReading.{answered, document_is}
 use Rattle.motesim.proofs.scenario.read.read_scenario.Goals as goal
 
-pub returns-clause-fault : goal.returns-clause-fault
-returns-clause-fault c = λ e is other. told _ _ e c.read_text.ensures is other
+pub returns : goal.returns
+returns c = answered _ (table_view c.in_ok-top.top) _ (document_is _ _ (search rules) c.in_ok-top.ensures (search rules)) c.net_from.ensures

@@ -1,20 +1,20 @@
 use Rattle.std.proofs.Common.{◌≡◌, ◌+◌, ◌*◌, ◌≤◌, length, map}
 use Rattle.mote_program.specs.Tree.{statement_of}
 use Rattle.mote_program.specs.Program.{code_of}
-use Rattle.protothread.specs.Frames.{block_at, todo_of, remainder_of}
+use Rattle.protothread.specs.Frames.{block_at, place_of, remainder_of}
 use Rattle.protothread.specs.Step.{advanced_of, continued}
 use Rattle.protothread.proofs.thread.Thread.advance.Given as goal
 
 abbrev pub invariant-loop-self : goal.invariant-loop-self
 invariant-loop-self g l =
     record {
-      innermost : block_at (map statement_of l.whole) l.self.frames.items ≡ map statement_of l.block;
+      innermost : block_at (code_of l.fn.text) (map statement_of l.whole) l.self.frames.items ≡ map statement_of l.block;
       part : l.self.part ≡ l.fn.self.part;
       units : l.fuel ≤ l.fn.fuel;
       kept : length l.vars ≡ length l.fn.vars;
       goes_on :
           advanced_of (code_of l.fn.text) l.fn.event (g.L.Look.looks l.fn.look) (remainder_of (code_of l.fn.text) l.fn.self) l.fn.vars l.fn.fuel
-          ≡ continued (code_of l.fn.text) l.fn.self.part l.fn.event (g.L.Look.looks l.fn.look) l.self.is_yielded (todo_of (map statement_of l.whole) l.self.frames.items l.self.position) l.vars l.fuel;
+          ≡ continued (code_of l.fn.text) l.fn.self.part l.fn.event (g.L.Look.looks l.fn.look) (place_of (code_of l.fn.text) (map statement_of l.whole) l.self) l.vars l.fuel;
     }
 
 abbrev pub decreases-loop-self : goal.decreases-loop-self

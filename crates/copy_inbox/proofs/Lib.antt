@@ -1,0 +1,5 @@
+pub mod Counts
+pub mod Drains
+pub mod Moves
+pub mod Parts
+pub mod Takers

@@ -1,0 +1,315 @@
+-- Each move keeps the rule.
+use Rattle.std.proofs.Common.{◌≡◌, ◌≢◌, ◌⊎◌, ℕ, zero, suc, ◌+◌, ◌^◌, ◌≤◌, ◌<◌, true, false, cond, eqb, Option, Some, None, List, [], ◌∷◌, ◌++◌, length, set, refl, sym, ap, ◌∙◌, subst, inl, inr, ⊎_elim, arith, eq-eqb, ne_eqb, length-append}
+use mathlib.Core.Option.{some, some-injective, some-ne-none}
+use lib.ListN.{get_elem?}
+use Rattle.std.specs.List.{AllByRecursion as Each}
+use Rattle.std.proofs.lemmas.Bool.Decides.{eqb_tells}
+use Rattle.crossbeam_queue.specs.Fifo.{Pushes, Pops, Forks, Merges, Learns}
+use Rattle.crossbeam_queue.proofs.Lists.{at_set, set_else, at_longer, at_last}
+use Rattle.copy_inbox.specs.declared.items.Carried.{Carried}
+use Rattle.copy_inbox.specs.declared.items.Item.{Item}
+use Rattle.copy_inbox.specs.declared.rule.Gathered.{Gathered}
+use Rattle.copy_inbox.specs.declared.rule.Desk.{Desk}
+use Rattle.copy_inbox.specs.declared.rule.Post.{Post}
+use Rattle.copy_inbox.specs.declared.rule.View.{View}
+use Rattle.copy_inbox.specs.declared.rule.View.TheVariants.{Taking, Sending, Spent}
+use Rattle.copy_inbox.specs.Items.{part}
+use Rattle.copy_inbox.specs.Gathered.{is_gathered}
+use Rattle.copy_inbox.specs.Views.{make_desk, make_post, make_gathered, new_taker, with_one_more, next_sender, with_gathered, with_pushed}
+use Rattle.copy_inbox.specs.Rule.{Fits, Sound, InboxRule, SeenBy, Took, Pushed}
+use Rattle.copy_inbox.proofs.Parts.{part-snoc_here, part-snoc_else, part-moved, part-nil_right, behind-snoc, behind-fresh}
+
+-- ---- lists of views
+abbrev pub All : (ℕ → View → Type 0) → List View → Type 0
+All F views = (port : ℕ) (v : View) → get_elem? views port ≡ some v → F port v
+
+all_set : (F : ℕ → View → Type 0) (views : List View) (port : ℕ) (w : View) → F port w → ((j : ℕ) (u : View) → j ≢ port → get_elem? views j ≡ some u → F j u) → All F (set views port w)
+all_set F views port w mine others j u e = ⊎_elim (λ (x : (j ≡ port) × (w ≡ u)). subst (λ (y : ℕ × View). F y.0 y.1) (λ i. (sym x.0 i, x.1 i)) mine)
+    (λ (x : (j ≢ port) × (get_elem? views j ≡ some u)). others j u x.0 x.1) (at_set views port j w u e)
+
+at_end : (l : List View) (a b : View) (j : ℕ) → get_elem? (l ++ a ∷ []) j ≡ some b → (get_elem? l j ≡ some b) ⊎ ((j ≡ length l) × (a ≡ b))
+at_end [] a b zero e = inr (refl, some-injective a b e)
+at_end [] a b (suc j) e = absurd (some-ne-none b (sym e))
+at_end (x ∷ xs) a b zero e = inl e
+at_end (x ∷ xs) a b (suc j) e = ⊎_elim inl (λ (t : (j ≡ length xs) × (a ≡ b)). inr (ap suc t.0, t.1)) (at_end xs a b j e)
+
+set_at : (l : List View) (i : ℕ) (a b : View) → get_elem? l i ≡ some b → get_elem? (set l i a) i ≡ some a
+set_at [] i a b e = absurd (some-ne-none b (sym e))
+set_at (x ∷ xs) zero a b e = refl
+set_at (x ∷ xs) (suc i) a b e = set_at xs i a b e
+
+-- a pass has one view
+one_view : (l : List View) (i j : ℕ) (a b : View) → get_elem? l i ≡ some a → get_elem? l j ≡ some b → i ≡ j → a ≡ b
+one_view l i j a b p q e = some-injective a b (sym p ∙ (ap (get_elem? l) e ∙ q))
+
+apart_views : (l : List View) (i j : ℕ) (d : Desk) (p : Post) → get_elem? l i ≡ some (Taking d) → get_elem? l j ≡ some (Sending p) → i ≢ j
+apart_views l i j d p a b e = let k = one_view l i j (Taking d) (Sending p) a b e in absurd cc
+
+post_same : (p q : Post) → Sending p ≡ Sending q → p ≡ q
+post_same p q e = cc
+
+-- ---- each gathered sender
+pub each_map : {P Q : Gathered → Type 0} (gs : List Gathered) → ((g : Gathered) → P g → Q g) → Each P gs → Each Q gs
+each_map [] f h = tt
+each_map (g ∷ gs) f h = (f g h.0, each_map gs f h.1)
+
+-- a sender that has a pass isn't gathered
+not_gathered : (seat : ℕ → Option ℕ) (gs : List Gathered) (s pass : ℕ) → Each (λ (g : Gathered). seat g.number ≡ None) gs → seat s ≡ Some pass → is_gathered gs s ≡ false
+not_gathered seat [] s pass h e = refl
+not_gathered seat (g ∷ gs) s pass h e = let n : g.number ≢ s = λ x. let k : seat g.number ≡ seat s = ap seat x in let z = h.0 in absurd cc in
+    rw (ne_eqb g.number s n) (not_gathered seat gs s pass h.1 e)
+
+-- ---- the first pass
+one : (v w : View) (pass : ℕ) → get_elem? (w ∷ []) pass ≡ some v → (pass ≡ 0) × (w ≡ v)
+one v w zero e = (refl, some-injective w v e)
+one v w (suc pass) e = absurd (some-ne-none v (sym e))
+
+pub begins : InboxRule [] (new_taker ∷ [])
+begins =
+    let F : ℕ → View → Type 0 = Fits 0 (λ s. None) (make_desk 0 [] []) (λ s. []) in
+    record {
+      taker = 0;
+      seat = λ s. None;
+      desk_of = make_desk 0 [] [];
+      pushed = λ s. [];
+      sound = record { parts = λ s. refl; few = λ s. omega arith; unmade = λ s h. (refl, refl); still = λ s lt _. absurd (omega arith); joined = tt; apart = tt };
+      taking = refl;
+      sending = λ s pass e. absurd cc;
+      fits = λ pass v e. let o = one v new_taker pass e in subst (λ (y : ℕ × View). F y.0 y.1) (λ i. (sym o.0 i, o.1 i)) (refl, refl);
+    }
+
+-- ---- a push
+-- two passes of senders with one number are one
+one_seat : (seat : ℕ → Option ℕ) (s t i j : ℕ) → seat s ≡ Some i → seat t ≡ Some j → j ≢ i → t ≢ s
+one_seat seat s t i j a b n e = let k : seat t ≡ seat s = ap seat e in let m : Some j ≡ Some i = cc in n cc
+
+fits_push : (taker : ℕ) (seat : ℕ → Option ℕ) (d : Desk) (old now : ℕ → List Carried) (s pass j : ℕ) (u : View)
+    → seat s ≡ Some pass → j ≢ pass → ((t : ℕ) → t ≢ s → now t ≡ old t) → Fits taker seat d old j u → Fits taker seat d now j u
+fits_push taker seat d old now s pass j (Taking e) at n same f = f
+fits_push taker seat d old now s pass j (Sending q) at n same f = (f.0, f.1 ∙ sym (same q.number (one_seat seat s q.number pass j at f.0 n)))
+fits_push taker seat d old now s pass j Spent at n same f = f
+
+longer : (l : List Carried) (c : Carried) → length l < 2 ^ 62 → length (l ++ c ∷ []) ≤ 2 ^ 62
+longer l c h = omega (arith, length-append l (c ∷ []))
+
+sends_push : (views : List View) (pass q s : ℕ) (p : Post) (w : View) (old now : ℕ → List Carried) (x : Item) → get_elem? views pass ≡ some (Sending p) → get_elem? views q ≡ some (Sending (make_post s (old s)))
+    → (q ≢ pass → s ≢ p.number) → ((t : ℕ) → t ≢ p.number → now t ≡ old t) → now p.number ≡ p.pushed ++ x.what ∷ [] → w ≡ with_pushed (Sending p) x
+    → get_elem? (set views pass w) q ≡ some (Sending (make_post s (now s)))
+sends_push views pass q s p w old now x at was other same more is = ⊎_elim
+    (λ (e : (eqb q pass ≡ true) × (q ≡ pass)).
+    let z : make_post s (old s) ≡ p = post_same (make_post s (old s)) p (one_view views q pass (Sending (make_post s (old s))) (Sending p) was at e.1) in
+    let num : s ≡ p.number = ap (λ (k : Post). k.number) z in
+    let end : w ≡ Sending (make_post s (now s)) = is ∙ (λ i. Sending (make_post (sym num i) ((sym more ∙ ap now (sym num)) i))) in
+    ap (get_elem? (set views pass w)) e.1 ∙ (set_at views pass w (Sending p) at ∙ ap some end))
+    (λ (e : (eqb q pass ≡ false) × (q ≢ pass)).
+    set_else views pass q w e.1 ∙ (was ∙ (λ i. some (Sending (make_post s (sym (same s (other e.1)) i))))))
+    (eqb_tells q pass)
+
+pub pushes : (n pass : ℕ) (p : Post) (x : Item) → x.sender ≡ p.number → length p.pushed < 2 ^ 62 → Pushes InboxRule n pass (Sending p) x (Pushed (Sending p) x)
+pushes n pass p x of room items views _ h at =
+    let d = h.desk_of in
+    let w : View = with_pushed (Sending p) x in
+    let mine = h.fits pass (Sending p) at in
+    let now : ℕ → List Carried = λ s. part s (d.taken ++ (items ++ x ∷ [])) in
+    let same : (s : ℕ) → s ≢ p.number → now s ≡ h.pushed s = λ s n. part-snoc_else s d.taken items x (λ e. n (sym e ∙ of)) ∙ h.sound.parts s in
+    let more : now p.number ≡ p.pushed ++ x.what ∷ [] = part-snoc_here p.number d.taken items x of ∙ ap (λ l. l ++ x.what ∷ []) (h.sound.parts p.number ∙ sym mine.1) in
+    let apart : (s : ℕ) → h.seat s ≡ None → s ≢ p.number = λ s e k. let z : h.seat s ≡ h.seat p.number = ap h.seat k in let y = mine.0 in absurd cc in (
+      w,
+      record {
+        taker = h.taker;
+        seat = h.seat;
+        desk_of = d;
+        pushed = now;
+        sound = record {
+          parts = λ s. refl;
+          few = λ s. ⊎_elim (λ (t : (eqb s p.number ≡ true) × (s ≡ p.number)). let k : length (now s) ≡ length (p.pushed ++ x.what ∷ []) = ap (λ z. length (now z)) t.1 ∙ ap length more in subst (λ m. m ≤ 2 ^ 62) (sym k) (longer p.pushed x.what room))
+              (λ (t : (eqb s p.number ≡ false) × (s ≢ p.number)). subst (λ (l : List Carried). length l ≤ 2 ^ 62) (sym (same s t.1)) (h.sound.few s)) (eqb_tells s p.number);
+          unmade = λ s le. let o = h.sound.unmade s le in (same s (apart s o.1) ∙ o.0, o.1);
+          still = h.sound.still;
+          joined = each_map d.gathered (λ g j. record { was_made = j.was_made; spent = j.spent; all = same g.number (apart g.number j.spent) ∙ j.all; behind = behind-snoc g.number g.made items x (λ e. apart g.number j.spent (sym e ∙ of)) j.behind }) h.sound.joined;
+          apart = h.sound.apart;
+        };
+        taking = set_else views pass h.taker w (apart_views views h.taker pass d p h.taking at) ∙ h.taking;
+        sending = λ s q e. sends_push views pass q s p w h.pushed now x at (h.sending s q e) (λ n k. n (let z : h.seat s ≡ h.seat p.number = ap h.seat k in let y = mine.0 in let m : Some q ≡ Some pass = cc in cc)) same more refl;
+        fits = all_set (Fits h.taker h.seat d now) views pass w (mine.0, sym more) (λ j u other e. fits_push h.taker h.seat d h.pushed now p.number pass j u mine.0 other same (h.fits j u e));
+      },
+      refl,
+    )
+
+pub pushes_as : (n pass : ℕ) (v : View) (p : Post) (x : Item) → v ≡ Sending p → x.sender ≡ p.number → length p.pushed < 2 ^ 62 → Pushes InboxRule n pass v x (Pushed v x)
+pushes_as n pass v p x is of room = subst (λ (u : View). Pushes InboxRule n pass u x (Pushed u x)) (sym is) (pushes n pass p x of room)
+
+-- ---- a pop
+sound_of : (d e : Desk) (seat : ℕ → Option ℕ) (pushed : ℕ → List Carried) (items : List Item) → e ≡ d → Sound d seat pushed items → Sound e seat pushed items
+sound_of d e seat pushed items is s = subst (λ (k : Desk). Sound k seat pushed items) (sym is) s
+
+fits_take : (taker : ℕ) (seat : ℕ → Option ℕ) (d e : Desk) (pushed : ℕ → List Carried) (j : ℕ) (u : View) → j ≢ taker → Fits taker seat d pushed j u → Fits taker seat e pushed j u
+fits_take taker seat d e pushed j (Taking k) n f = absurd (n f.0)
+fits_take taker seat d e pushed j (Sending q) n f = f
+fits_take taker seat d e pushed j Spent n f = f
+
+pub takes : (pass : ℕ) (d : Desk) → Pops InboxRule pass (Taking d) (Took (Taking d))
+takes pass d x items views h at =
+    let mine = h.fits pass (Taking d) at in
+    let s = sound_of h.desk_of d h.seat h.pushed (x ∷ items) mine.1 h.sound in
+    let w : Desk = make_desk d.made (d.taken ++ x ∷ []) d.gathered in (
+      Taking w,
+      record {
+        taker = h.taker;
+        seat = h.seat;
+        desk_of = w;
+        pushed = h.pushed;
+        sound = record {
+          parts = λ u. part-moved u d.taken items x ∙ s.parts u;
+          few = s.few;
+          unmade = s.unmade;
+          still = s.still;
+          joined = each_map d.gathered (λ g j. record { was_made = j.was_made; spent = j.spent; all = j.all; behind = j.behind.1 }) s.joined;
+          apart = s.apart;
+        };
+        taking = ap (get_elem? (set views pass (Taking w))) (sym mine.0) ∙ set_at views pass (Taking w) (Taking d) at;
+        sending = λ t q e. let was = h.sending t q e in set_else views pass q (Taking w) (λ k. apart_views views pass q d (make_post t (h.pushed t)) at was (sym k)) ∙ was;
+        fits = all_set (Fits h.taker h.seat w h.pushed) views pass (Taking w) (mine.0, refl)
+            (λ j u other e. fits_take h.taker h.seat h.desk_of w h.pushed j u (λ k. other (k ∙ sym mine.0)) (h.fits j u e));
+      },
+      (refl, (items, (views, pass, h, at))),
+    )
+
+pub takes_as : (pass : ℕ) (v : View) (d : Desk) → v ≡ Taking d → Pops InboxRule pass v (Took v)
+takes_as pass v d is = subst (λ (u : View). Pops InboxRule pass u (Took u)) (sym is) (takes pass d)
+
+pub learns : (pass : ℕ) (v : View) → Learns InboxRule pass v (SeenBy v)
+learns pass v items views h at = (views, pass, h, at)
+
+-- what a step told, of a taker's desk
+abbrev pub SoundWith : Desk → List Item → Type 0
+SoundWith d items = (seat : ℕ → Option ℕ) × (pushed : ℕ → List Carried) × Sound d seat pushed items
+
+seen : (d : Desk) (items : List Item) → SeenBy (Taking d) items → SoundWith d items
+seen d items s = let h = s.2 in (h.seat, h.pushed, sound_of h.desk_of d h.seat h.pushed items (h.fits s.1 (Taking d) s.3).1 h.sound)
+
+pub seen_sound : (v : View) (d : Desk) (items : List Item) → v ≡ Taking d → SeenBy v items → SoundWith d items
+seen_sound v d items is s = seen d items (subst (λ (u : View). SeenBy u items) is s)
+
+-- ---- a sender more
+at_other : (seat : ℕ → Option ℕ) (n : ℕ) (o : Option ℕ) (s : ℕ) → s ≢ n → cond (eqb s n) o (seat s) ≡ seat s
+at_other seat n o s e = ap (λ b. cond b o (seat s)) (ne_eqb s n e)
+
+at_this : (seat : ℕ → Option ℕ) (n : ℕ) (o : Option ℕ) (s : ℕ) → s ≡ n → cond (eqb s n) o (seat s) ≡ o
+at_this seat n o s e = ap (λ b. cond b o (seat s)) (eq-eqb s n e)
+
+-- a sender with a pass isn't the one without
+seated : (seat : ℕ → Option ℕ) (s n pass : ℕ) → seat s ≡ Some pass → seat n ≡ None → s ≢ n
+seated seat s n pass a b e = let k : seat s ≡ seat n = ap seat e in absurd cc
+
+fits_fork : (taker : ℕ) (seat : ℕ → Option ℕ) (d e : Desk) (pushed : ℕ → List Carried) (n : ℕ) (o : Option ℕ) (j : ℕ) (u : View)
+    → j ≢ taker → seat n ≡ None → Fits taker seat d pushed j u → Fits taker (λ s. cond (eqb s n) o (seat s)) e pushed j u
+fits_fork taker seat d e pushed n o j (Taking k) apart none f = absurd (apart f.0)
+fits_fork taker seat d e pushed n o j (Sending q) apart none f = (at_other seat n o q.number (seated seat q.number n j f.0 none) ∙ f.0, f.1)
+fits_fork taker seat d e pushed n o j Spent apart none f = f
+
+pub forks : (pass : ℕ) (d : Desk) → Forks InboxRule pass (Taking d) (with_one_more (Taking d)) (next_sender (Taking d))
+forks pass d items views h at =
+    let mine = h.fits pass (Taking d) at in
+    let s = sound_of h.desk_of d h.seat h.pushed items mine.1 h.sound in
+    let w : Desk = make_desk (d.made + 1) d.taken d.gathered in
+    let new : Post = make_post d.made [] in
+    let vs : List View = set views pass (Taking w) in
+    let seat : ℕ → Option ℕ = λ t. cond (eqb t d.made) (Some (length vs)) (h.seat t) in
+    let free = s.unmade d.made (omega arith) in
+    let F : ℕ → View → Type 0 = Fits h.taker seat w h.pushed in
+    let old : All F vs = all_set F views pass (Taking w) (mine.0, refl)
+    (λ j u other e. fits_fork h.taker h.seat h.desk_of w h.pushed d.made (Some (length vs)) j u (λ k. other (k ∙ sym mine.0)) free.1 (h.fits j u e)) in
+    let mine_new : F (length vs) (Sending new) = (at_this h.seat d.made (Some (length vs)) d.made refl, sym free.0) in
+    record {
+      taker = h.taker;
+      seat = seat;
+      desk_of = w;
+      pushed = h.pushed;
+      sound = record {
+        parts = s.parts;
+        few = s.few;
+        unmade = λ t le. let o = s.unmade t (omega arith) in (o.0, at_other h.seat d.made (Some (length vs)) t (omega arith) ∙ o.1);
+        still = λ t lt no. ⊎_elim (λ (e : (eqb t d.made ≡ true) × (t ≡ d.made)). (length vs, at_this h.seat d.made (Some (length vs)) t e.1))
+            (λ (e : (eqb t d.made ≡ false) × (t ≢ d.made)). let n = e.1 in let o = s.still t (omega arith) no in (o.0, at_other h.seat d.made (Some (length vs)) t n ∙ o.1)) (eqb_tells t d.made);
+        joined = each_map d.gathered (λ g j. let lt = j.was_made in record { was_made = omega arith; spent = at_other h.seat d.made (Some (length vs)) g.number (omega arith) ∙ j.spent; all = j.all; behind = j.behind }) s.joined;
+        apart = s.apart;
+      };
+      taking = at_longer vs (Sending new ∷ []) h.taker (Taking w) (ap (get_elem? vs) (sym mine.0) ∙ set_at views pass (Taking w) (Taking d) at);
+      sending = λ t q e. ⊎_elim
+          (λ (k : (eqb t d.made ≡ true) × (t ≡ d.made)).
+          let here : Some (length vs) ≡ Some q = sym (at_this h.seat d.made (Some (length vs)) t k.1) ∙ e in
+          let q_is : length vs ≡ q = cc in
+          at_last vs (Sending new) q q_is ∙ (λ i. some (Sending (make_post (sym k.1 i) ((sym free.0 ∙ ap h.pushed (sym k.1)) i)))))
+          (λ (k : (eqb t d.made ≡ false) × (t ≢ d.made)).
+          let was = h.sending t q (sym (at_other h.seat d.made (Some (length vs)) t k.1) ∙ e) in
+          at_longer vs (Sending new ∷ []) q (Sending (make_post t (h.pushed t))) (set_else views pass q (Taking w) (λ z. apart_views views pass q d (make_post t (h.pushed t)) at was (sym z)) ∙ was))
+          (eqb_tells t d.made);
+      fits = λ j u e. ⊎_elim (old j u) (λ (t : (j ≡ length vs) × (Sending new ≡ u)). subst (λ (y : ℕ × View). F y.0 y.1) (λ i. (sym t.0 i, t.1 i)) mine_new) (at_end vs (Sending new) u j e);
+    }
+
+pub forks_as : (pass : ℕ) (v : View) (d : Desk) → v ≡ Taking d → Forks InboxRule pass v (with_one_more v) (next_sender v)
+forks_as pass v d is = subst (λ (u : View). Forks InboxRule pass u (with_one_more u) (next_sender u)) (sym is) (forks pass d)
+
+-- ---- a sender taken in
+pub below : (m s : ℕ) → ((m ≤ s) → ⊥) → s < m
+below m s h = omega arith
+
+fits_join : (taker : ℕ) (seat : ℕ → Option ℕ) (d e : Desk) (pushed : ℕ → List Carried) (s other j : ℕ) (u : View)
+    → j ≢ taker → seat s ≡ Some other → j ≢ other → Fits taker seat d pushed j u → Fits taker (λ t. cond (eqb t s) None (seat t)) e pushed j u
+fits_join taker seat d e pushed s other j (Taking k) apart is n f = absurd (apart f.0)
+fits_join taker seat d e pushed s other j (Sending q) apart is n f = (at_other seat s None q.number (one_seat seat s q.number other j is f.0 n) ∙ f.0, f.1)
+fits_join taker seat d e pushed s other j Spent apart is n f = f
+
+h_was : (views : List View) (pass other : ℕ) (p : Post) (w : View) → other ≢ pass → get_elem? (set views pass w) other ≡ some (Sending p) → get_elem? views other ≡ some (Sending p)
+h_was views pass other p w two at' = ⊎_elim (λ (x : (other ≡ pass) × (w ≡ Sending p)). absurd (two x.0)) (λ (x : (other ≢ pass) × (get_elem? views other ≡ some (Sending p))). x.1) (at_set views pass other w (Sending p) at')
+
+pub merges : (pass : ℕ) (d : Desk) (other : ℕ) (p : Post) → Merges InboxRule pass (Taking d) other (Sending p) (with_gathered (Taking d) (Sending p)) Spent
+merges pass d other p items views h at two at' =
+    let mine = h.fits pass (Taking d) at in
+    let s = sound_of h.desk_of d h.seat h.pushed items mine.1 h.sound in
+    let g : Gathered = make_gathered p.number d.made p.pushed in
+    let w : Desk = make_desk d.made d.taken (g ∷ d.gathered) in
+    let vs : List View = set views pass (Taking w) in
+    let was = h_was views pass other p (Taking w) two at' in
+    let theirs = h.fits other (Sending p) was in
+    let seat : ℕ → Option ℕ = λ t. cond (eqb t p.number) None (h.seat t) in
+    let F : ℕ → View → Type 0 = Fits h.taker seat w h.pushed in
+    let N : ℕ → View → Type 0 = λ j u. j ≢ other → F j u in
+    let now : All N vs = all_set N views pass (Taking w) (λ _. (mine.0, refl))
+    (λ j u apart e n. fits_join h.taker h.seat h.desk_of w h.pushed p.number other j u (λ k. apart (k ∙ sym mine.0)) theirs.0 n (h.fits j u e)) in
+    let made : p.number < d.made = below d.made p.number (λ le. seated h.seat p.number p.number other theirs.0 (s.unmade p.number le).1 refl) in
+    let none : Each (λ (k : Gathered). h.seat k.number ≡ None) d.gathered = each_map d.gathered (λ k j. j.spent) s.joined in
+    record {
+      taker = h.taker;
+      seat = seat;
+      desk_of = w;
+      pushed = h.pushed;
+      sound = record {
+        parts = s.parts;
+        few = s.few;
+        unmade = λ t le. let o = s.unmade t le in (o.0, at_other h.seat p.number None t (omega arith) ∙ o.1);
+        still = λ t lt no. ⊎_elim
+            (λ (e : (eqb p.number t ≡ true) × (p.number ≡ t)). let yes : is_gathered w.gathered t ≡ true = rw e.0 refl in absurd cc)
+            (λ (e : (eqb p.number t ≡ false) × (p.number ≢ t)). let same : is_gathered w.gathered t ≡ is_gathered d.gathered t = rw e.0 refl in
+            let o = s.still t lt (sym same ∙ no) in (o.0, at_other h.seat p.number None t (λ z. e.1 (sym z)) ∙ o.1))
+            (eqb_tells p.number t);
+        joined = (
+          record { was_made = made; spent = at_this h.seat p.number None p.number refl; all = sym theirs.1; behind = behind-fresh p.number d.made items (λ u le. part-nil_right u d.taken items (s.parts u ∙ (s.unmade u le).0)) },
+          each_map d.gathered (λ k j. record { was_made = j.was_made; spent = at_other h.seat p.number None k.number (λ e. seated h.seat p.number k.number other theirs.0 j.spent (sym e)) ∙ j.spent; all = j.all; behind = j.behind }) s.joined,
+        );
+        apart = (not_gathered h.seat d.gathered p.number other none theirs.0, s.apart);
+      };
+      taking = set_else vs other h.taker Spent (λ z. two (sym z ∙ sym mine.0)) ∙ (ap (get_elem? vs) (sym mine.0) ∙ set_at views pass (Taking w) (Taking d) at);
+      sending = λ t q e. ⊎_elim
+          (λ (k : (eqb t p.number ≡ true) × (t ≡ p.number)). let no = at_this h.seat p.number None t k.1 in absurd cc)
+          (λ (k : (eqb t p.number ≡ false) × (t ≢ p.number)).
+          let was = h.sending t q (sym (at_other h.seat p.number None t k.1) ∙ e) in
+          set_else vs other q Spent (λ z. k.1 (ap (λ (y : Post). y.number) (post_same (make_post t (h.pushed t)) p (one_view views q other (Sending (make_post t (h.pushed t))) (Sending p) was (h_was views pass other p (Taking w) two at') z))))
+          ∙ (set_else views pass q (Taking w) (λ z. apart_views views pass q d (make_post t (h.pushed t)) at was (sym z)) ∙ was))
+          (eqb_tells t p.number);
+      fits = all_set F vs other Spent tt (λ j u apart e. now j u e apart);
+    }
+
+pub merges_as : (pass : ℕ) (v : View) (d : Desk) (other : ℕ) (u : View) (p : Post) → v ≡ Taking d → u ≡ Sending p → Merges InboxRule pass v other u (with_gathered v u) Spent
+merges_as pass v d other u p is is' = subst (λ (y : View × View). Merges InboxRule pass y.0 other y.1 (with_gathered y.0 y.1) Spent) (λ i. (sym is i, sym is' i)) (merges pass d other p)

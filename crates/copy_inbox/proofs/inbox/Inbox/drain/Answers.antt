@@ -1,0 +1,26 @@
+use Rattle.std.proofs.Common.{◌≡◌, subst, arith}
+use Rattle.copy_inbox.specs.Gathered.{Begun}
+use Rattle.copy_inbox.specs.Handles.{TakerView}
+use Rattle.copy_inbox.proofs.Counts.{whole_of}
+use Rattle.copy_inbox.proofs.Drains.{drain_goes, known_to}
+use Rattle.copy_inbox.proofs.inbox.Inbox.drain.Goals as goal
+
+pub loop-preserved : goal.loop-preserved
+loop-preserved g c =
+    let i = c.loop.invariant in
+    let d = drain_goes c.args.taker.now c.loop.taker c.take_next.new.taker c.loop.copies.items _ c.loop.counter c.in-Some.item _ i.drained c.in-Some.ensures.taken c.in-Some.ensures.next c.copy.ensures c.push_reserved.ensures.items in
+    let len = c.push_reserved.ensures.len in
+    let capacity = c.push_reserved.ensures.capacity in
+    let long = i.long in
+    let room = i.room in
+    record { drained = d; long = omega arith; room = omega arith }
+
+pub returns-clause-whole : goal.returns-clause-whole
+returns-clause-whole g c = λ all later.
+    let P : TakerView → Type 0 = λ t. Begun t.desk.gathered t.desk.taken in
+    let begun = subst P c.taker.view_is c.taker.invariant.0.begun in
+    let end = c.loop-test.false in
+    let top = c.loop.auto.counter-end in
+    let known = c.loop.invariant.drained.later later (omega arith) in
+    let none : known_to c.loop.taker ≡ 0 = omega arith in
+    whole_of c.loop.taker.desk.gathered c.loop.taker.desk.taken none begun

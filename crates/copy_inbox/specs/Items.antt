@@ -1,0 +1,29 @@
+-- What was pushed, sender by sender.
+use Rattle.std.specs.Prelude.{◌≡◌, ℕ, ◌≤◌, ◌==◌, List, [], ◌++◌, map}
+use Rattle.std.specs.List.{filter}
+use Rattle.radio_medium.specs.declared.copy.RadioCopy.{RadioCopy}
+use Rattle.copy_inbox.specs.declared.items.Carried.{Carried}
+use Rattle.copy_inbox.specs.declared.items.Carried.TheVariants.{Packet}
+use Rattle.copy_inbox.specs.declared.items.Item.{Item}
+
+abbrev pub what_of : Item → Carried
+what_of x = x.what
+
+abbrev pub packet_of : Carried → RadioCopy
+packet_of (Packet copy) = copy
+
+-- the copies in these items, in order
+abbrev pub copies_of : List Item → List RadioCopy
+copies_of items = map (λ (x : Item). packet_of x.what) items
+
+-- what the sender numbered s pushed of these items, in order
+abbrev pub part : ℕ → List Item → List Carried
+part s items = map what_of (filter (λ x. x.sender == s) items)
+
+-- the list begins with the whole of the other
+abbrev pub BeginsWith : List Carried → List Carried → Type 0
+BeginsWith xs front = (rest : List Carried) × (xs ≡ front ++ rest)
+
+-- each item is of one of the first `made` senders
+abbrev pub OfMade : ℕ → List Item → Type 0
+OfMade made items = (s : ℕ) → made ≤ s → part s items ≡ []

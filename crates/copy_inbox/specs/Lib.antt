@@ -1,0 +1,5 @@
+pub mod Gathered
+pub mod Handles
+pub mod Items
+pub mod Rule
+pub mod Views

@@ -1,0 +1,92 @@
+//! The rule of an inbox's queue, and what each pass of the queue knows. No value of these types is made when a program
+//! runs: they are what the contracts and their proofs speak of.
+
+use crate::items::{Carried, Item};
+use crossbeam_queue::protocol::{Join, Lesson, Outcome, Protocol, Split};
+use std::collections::LinkedList;
+
+/// A sender that was gathered: its number, how many senders had been made by then, and all that it pushed.
+pub struct Gathered {
+    pub number: u64,
+    pub made: u64,
+    pub pushed: LinkedList<Carried>,
+}
+
+/// What the taker knows: how many senders it has made, what it has taken, and the senders that it gathered, the newest first.
+pub struct Desk {
+    pub made: u64,
+    pub taken: LinkedList<Item>,
+    pub gathered: LinkedList<Gathered>,
+}
+
+/// What a sender knows: its number, and what it has pushed.
+pub struct Post {
+    pub number: u64,
+    pub pushed: LinkedList<Carried>,
+}
+
+/// What a pass of the queue knows. A spent one was joined to the taker's.
+pub enum View {
+    Taking(Desk),
+    Sending(Post),
+    Spent,
+}
+
+/// The rule of the queue.
+pub struct Ruled;
+
+impl Protocol<Item, View> for Ruled {
+    ghost use Rattle.copy_inbox.specs.Rule.{InboxRule};
+    ghost use Rattle.copy_inbox.specs.Views.{new_taker};
+
+    ghost holds = { InboxRule };
+
+    ghost first = { new_taker };
+}
+
+/// The taker makes a sender.
+pub struct Makes;
+
+impl Split<View> for Makes {
+    ghost use Rattle.copy_inbox.specs.Views.{with_one_more, next_sender};
+
+    ghost left = { with_one_more };
+
+    ghost right = { next_sender };
+}
+
+/// The taker gathers a sender.
+pub struct Gathers;
+
+impl Join<View> for Gathers {
+    ghost use Rattle.copy_inbox.specs.Views.{with_gathered};
+    ghost use Rattle.copy_inbox.specs.declared.rule.View.TheVariants.{Spent};
+
+    ghost both = { with_gathered };
+
+    ghost spent = { Spent };
+}
+
+/// A sender pushes an item.
+pub struct Pushes;
+
+impl Outcome<Item, View> for Pushes {
+    ghost use Rattle.copy_inbox.specs.Rule.{Pushed};
+
+    ghost then = { Pushed };
+}
+
+/// The taker takes an item, or finds the queue empty.
+pub struct Takes;
+
+impl Outcome<Item, View> for Takes {
+    ghost use Rattle.copy_inbox.specs.Rule.{Took};
+
+    ghost then = { Took };
+}
+
+impl Lesson<Item, View> for Takes {
+    ghost use Rattle.copy_inbox.specs.Rule.{SeenBy};
+
+    ghost fact = { SeenBy };
+}

@@ -1,0 +1,10 @@
+pub mod Broken
+pub mod Ends
+pub mod Follows
+pub mod Given
+pub mod Joined
+pub mod Lines
+pub mod Stands
+pub mod StartsAndHalts
+pub mod Views
+pub mod Whole

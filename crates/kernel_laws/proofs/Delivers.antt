@@ -1,0 +1,218 @@
+-- A kernel run is a run of the delivery machine.
+use Rattle.std.proofs.Common.{ℕ, ◌≡◌, ◌+◌, ◌<◌, ◌∙◌, ap, arith, length, Bool, true, false, List, [], ◌∷◌, ◌++◌, refl, sym, subst, append-nil, map}
+use Rattle.std.proofs.lemmas.List.{map-append}
+use Rattle.std.specs.List.{All}
+use Rattle.std.proofs.lemmas.List.Elements.{All-head, All-tail, All-nil, All-cons}
+use Rattle.std.proofs.lemmas.Bool.Decides.{nat_tests}
+use Rattle.handed_on.specs.HandedOn.{is_on, ToAll, ToOne}
+use Rattle.handed_on.specs.Delivery.{Machine, given, Runs, stays, Halts}
+use Rattle.handed_on.specs.View.{machine_at}
+use Rattle.handed_on.proofs.Joined.{runs_joined, halts_joined}
+use Rattle.handed_on.proofs.Views.{gives, begins, walks, numbers}
+use Rattle.mote_program.specs.declared.event.Proc.{Proc}
+use Rattle.mote_program.specs.declared.event.Proc.TheVariants.{Own, Etimer, Ctimer, Radio}
+use Rattle.mote_program.specs.declared.event.Target.{Target}
+use Rattle.mote_program.specs.declared.event.Target.TheVariants.{One, All as ToEach}
+use Rattle.mote_program.specs.declared.event.SystemEvent.TheVariants.{Init, Poll, Exit}
+use Rattle.mote_program.specs.Events.{system_number}
+use Rattle.event_queue.specs.declared.queue.Posted.{Posted}
+use Rattle.process_kernel.specs.declared.line.Line.{Line}
+use Rattle.process_kernel.specs.declared.line.What.TheVariants as what
+use Rattle.process_kernel.specs.declared.process.Member.{Member}
+use Rattle.process_kernel.specs.Members.{place_of, holds_member, stands_in}
+use Rattle.process_kernel.specs.State.{State, Outcome, Ends, Goes, ◌>>=◌}
+use Rattle.process_kernel.specs.Processes.{has_process, is_busy, is_listed, is_on_list}
+use Rattle.process_kernel.specs.ProcessList.{numbered_from, enlist_of}
+use Rattle.process_kernel.specs.Writes.{with_line, write_of}
+use Rattle.process_kernel.specs.Calls.{Calls, told}
+use Rattle.process_kernel.specs.Polls.{walk_polls, polls_of, polls_due_of, poll_turn_of}
+use Rattle.process_kernel.specs.Delivery.{give_of, turn_of, walk_event, deliver_to, deliver_of}
+use Rattle.process_kernel.specs.Run.{begun_of, deliver_front, kernel_of}
+use Rattle.process_kernel.specs.Start.{start_of}
+use Rattle.process_kernel.specs.Boot.{starts_of, boot_of}
+use Rattle.kernel_laws.specs.Own.{FitsTarget}
+use Rattle.kernel_laws.specs.Seen.{seen_lines, seen_member, seen_posted, view_of}
+use Rattle.kernel_laws.specs.Going.{IsSound}
+use Rattle.kernel_laws.proofs.Steps.{Reach, quiet, reaches_bind, reaches_from, reaches_if, goes_still, mark_quiet, listed_alike, lines_joined, enlists, first_sound}
+use Rattle.kernel_laws.proofs.CallSteps.{AreRuns, fits_other, start_runs}
+
+-- the machine that the kernel is, in the midst of a walk: the serial of its event and the members still to come
+abbrev pub machine_of : State → ℕ → List Member → Machine
+machine_of s walked coming = machine_at (view_of s) walked (map seen_member coming)
+
+-- from this machine and this state on, the lines are a run to a machine that walks no more, and the state is sound
+pub record Rests (m : Machine) (s t : State) : Type 0 where
+  pub added : List Line
+  pub wrote : t.lines ≡ s.lines ++ added
+  pub walked : ℕ
+  pub runs : Runs m (seen_lines added) (machine_of t walked [])
+  pub sound : IsSound t
+
+pub record HaltsAt (m : Machine) (s t : State) : Type 0 where
+  pub added : List Line
+  pub wrote : t.lines ≡ s.lines ++ added
+  pub halts : Halts m (seen_lines added)
+
+abbrev pub RestsAt : {A : Type 0} → Machine → State → Outcome A → Type 0
+RestsAt m s (Ends t) = HaltsAt m s t
+RestsAt m s (Goes a t) = Rests m s t
+
+-- some lines first
+pub rests_behind : (A : Type 0) (m : Machine) (s u : State) (m' : Machine) (o : Outcome A) (added : List Line) → u.lines ≡ s.lines ++ added → Runs m (seen_lines added) m' → RestsAt m' u o → RestsAt m s o
+rests_behind A m s u m' (Ends t) added w r h = record {
+  added = added ++ h.added;
+  wrote = lines_joined s.lines u.lines t.lines added h.added w h.wrote;
+  halts = rw map-append (halts_joined m _ m' _ r h.halts);
+}
+rests_behind A m s u m' (Goes a t) added w r h = record {
+  added = added ++ h.added;
+  wrote = lines_joined s.lines u.lines t.lines added h.added w h.wrote;
+  walked = h.walked;
+  runs = rw map-append (runs_joined m _ m' _ _ r h.runs);
+  sound = h.sound;
+}
+
+-- what calls do first, in the midst of a walk, where their outcome is known
+rests_first : (A B : Type 0) (s : State) (walked : ℕ) (coming : List Member) (o : Outcome A) (g : A → State → Outcome B) → Reach A s o →
+    ((a : A) (t : State) → o ≡ Goes a t → (IsSound s → IsSound t) → RestsAt (machine_of t walked coming) t (g a t)) → RestsAt (machine_of s walked coming) s (o >>= g)
+rests_first A B s walked coming (Ends t) g r f = let e = r.reached in record { added = e.added; wrote = e.wrote; halts = e.halts walked (map seen_member coming) }
+rests_first A B s walked coming (Goes a t) g r f =
+    let e = r.reached in rests_behind B (machine_of s walked coming) s t (machine_of t walked coming) (g a t) e.added e.wrote (e.moves walked (map seen_member coming)) (f a t refl e.sound)
+
+-- what calls do first, from a sound state
+rests_after : (A B : Type 0) (s : State) (walked : ℕ) (coming : List Member) (o : Outcome A) (g : A → State → Outcome B) → Reach A s o → IsSound s →
+    ((a : A) (t : State) → IsSound t → RestsAt (machine_of t walked coming) t (g a t)) → RestsAt (machine_of s walked coming) s (o >>= g)
+rests_after A B s walked coming o g r h f = rests_first A B s walked coming o g r (λ a t q i. f a t (i h))
+
+-- one part of a run after another
+rests_then : (A B : Type 0) (m : Machine) (s : State) (o : Outcome A) (g : A → State → Outcome B) → RestsAt m s o → ((a : A) (t : State) (walked : ℕ) → IsSound t → RestsAt (machine_of t walked []) t (g a t)) → RestsAt m s (o >>= g)
+rests_then A B m s (Ends t) g r f = r
+rests_then A B m s (Goes a t) g r f = rests_behind B m s t (machine_of t r.walked []) (g a t) r.added r.wrote r.runs (f a t r.walked r.sound)
+
+on_alike : (ms : List Member) (x : Member) → holds_member ms x ≡ is_on (map seen_member ms) (seen_member x)
+on_alike [] x = refl
+on_alike (m ∷ ms) x = grind (arith, nat_tests, on_alike ms x)
+
+pub rests_now : (s : State) (walked : ℕ) → IsSound s → Rests (machine_of s walked []) s s
+rests_now s walked h = record { added = []; wrote = sym (append-nil s.lines); walked = walked; runs = stays; sound = h }
+
+rests_twice : (A B C : Type 0) (m : Machine) (s : State) (o : Outcome A) (h : A → State → Outcome B) (g : B → State → Outcome C) → RestsAt m s (o >>= λ a t. (h a t >>= g)) → RestsAt m s ((o >>= h) >>= g)
+rests_twice A B C m s (Ends t) h g r = r
+rests_twice A B C m s (Goes a t) h g r = r
+
+rests_unit : (A : Type 0) (m : Machine) (s : State) (o : Outcome A) → RestsAt m s (o >>= λ a t. Goes a t) → RestsAt m s o
+rests_unit A m s (Ends t) r = r
+rests_unit A m s (Goes a t) r = r
+
+some_listed : (ms : List Member) → stands_in ms Etimer ≡ true → map seen_member ms ≡ [] → ⊥
+some_listed [] h e = absurd (cc)
+some_listed (m ∷ ms) h e = cc
+
+-- numbering anew changes numbers alone
+
+same_processes : (k : ℕ) (ms : List Member) → map (λ i. i.process) (map seen_member (numbered_from k ms)) ≡ map (λ i. i.process) (map seen_member ms)
+same_processes k [] = refl
+same_processes k (m ∷ ms) = ap (λ ps. place_of m.process ∷ ps) (same_processes (k + 1) ms)
+
+small_numbers : (k n : ℕ) (ms : List Member) → k + length ms ≡ n → All (λ i. i.number < n) (map seen_member (numbered_from k ms))
+small_numbers k n [] e = All-nil _
+small_numbers k n (m ∷ ms) e = All-cons (λ i. i.number < n) _ _ (omega arith) (small_numbers (k + 1) n ms (omega arith))
+
+listed_anew : (k : ℕ) (ms : List Member) (p : Proc) → stands_in (numbered_from k ms) p ≡ stands_in ms p
+listed_anew k [] p = refl
+listed_anew k (m ∷ ms) p = rw (listed_anew (k + 1) ms p) refl
+
+pub begun_run : (s : State) (moment walked : ℕ) → Runs (machine_of s walked []) [] (machine_of (begun_of s moment) walked [])
+unfolding begun_of
+begun_run s moment walked = numbers (view_of s) walked (map seen_member (numbered_from 0 s.members)) (length s.members) (same_processes 0 s.members) (small_numbers 0 (length s.members) s.members (omega arith))
+
+pub begun_lines : (s : State) (moment : ℕ) → (begun_of s moment).lines ≡ s.lines ++ []
+unfolding begun_of
+begun_lines s moment = sym (append-nil s.lines)
+
+pub begun_sound : (s : State) (moment : ℕ) → IsSound s → IsSound (begun_of s moment)
+unfolding begun_of
+begun_sound s moment h = record { stays = listed_anew 0 s.members Etimer ∙ h.stays; fits = h.fits }
+
+module _ (calls : Calls) (are : AreRuns calls) where
+  polls_run : (ms : List Member) (s : State) → Reach (Unit {0}) s (walk_polls calls ms s)
+  unfolding poll_turn_of
+  polls_run [] s = goes_still _ s tt
+  polls_run (m ∷ ms) s =
+      reaches_bind _ _ s _ _ (reaches_if _ s _ _ _ (reaches_from _ (quiet s _ (mark_quiet s m.process false)) (are.call _ m.process (told Poll 0) (fits_other m.process _ refl))) (goes_still _ s tt)) (λ a t. polls_run ms t)
+
+  polls_due_run : (s : State) → Reach (Unit {0}) s (polls_due_of calls s)
+  unfolding polls_due_of polls_of
+  polls_due_run s = reaches_if _ s s.flag _ _ (reaches_from _ (quiet s (record s { flag = false }) (record { lines = refl; members = refl; started = refl; queue = refl })) (polls_run s.members _)) (goes_still _ s tt)
+
+  -- the line of an event that reaches a process, and the call that follows it
+  given_run : (A : Type 0) (m : Machine) (s : State) (x : Posted) (p : Proc) (there : Bool) (walked : ℕ) (coming : List Member) (g : Unit {0} → State → Outcome A) → FitsTarget (One p) x.event.number → IsSound s →
+      Runs m (given there x.serial (place_of p) ∷ []) (machine_of s walked coming) → ((t : State) → IsSound t → RestsAt (machine_of t walked coming) t (g tt t)) → RestsAt m s (give_of calls s x p there >>= g)
+  unfolding give_of write_of
+  given_run A m s x p true walked coming g f h r k =
+      let s1 = with_line s (what.Take x.serial p) in
+      rests_behind A m s s1 (machine_of s walked coming) _ _ refl r (rests_after (Unit {0}) A s1 walked coming _ g (are.call s1 p x.event f) (record { stays = h.stays; fits = h.fits }) (λ a t i. k t i))
+  given_run A m s x p false walked coming g f h r k =
+      let s1 = with_line s (what.Drop x.serial p) in
+      rests_behind A m s s1 (machine_of s walked coming) _ _ refl r (k s1 (record { stays = h.stays; fits = h.fits }))
+
+  -- the walk of an event that goes to all, from the members that are still to come
+  walk_run : (x : Posted) (ms : List Member) (s : State) → (x.event.number ≡ system_number Exit → ⊥) → IsSound s → RestsAt (machine_of s x.serial ms) s (walk_event calls x ms s)
+  unfolding turn_of
+  walk_run x [] s f h = rests_now s x.serial h
+  walk_run x (m ∷ ms) s f h =
+      rests_twice (Unit {0}) (Unit {0}) (Unit {0}) _ s (polls_due_of calls s) _ _ (rests_after (Unit {0}) (Unit {0}) s x.serial (m ∷ ms) (polls_due_of calls s) _ (polls_due_run s) h (λ a t i.
+      given_run (Unit {0}) (machine_of t x.serial (m ∷ ms)) t x m.process (is_on_list t m) x.serial ms _ (λ q. absurd (f q)) i (walks (view_of t) x.serial (seen_member m) (map seen_member ms) (is_on_list t m) (on_alike t.members m)) (λ u j. walk_run x ms u f j)))
+
+  -- the front event was taken, and is delivered
+  target_run : (target : Target) (x : Posted) (q : List Posted) (s s' : State) (walked : ℕ) → x.target ≡ target → s.queue.events ≡ x ∷ q → s' ≡ record s { queue = record { events = q; accepted = s.queue.accepted; capacity = s.queue.capacity } } → IsSound s →
+      RestsAt (machine_of s walked []) s (deliver_to target calls s' x)
+  target_run (One p) x q s s' walked e w a h =
+      let fits = subst (λ l. All (λ y. FitsTarget y.target y.event.number) l) w h.fits in
+      let first : FitsTarget x.target x.event.number = All-head (λ y. FitsTarget y.target y.event.number) x q fits in
+      let u = record s { queue = record { events = q; accepted = s.queue.accepted; capacity = s.queue.capacity } } in
+      let queue : map seen_posted s.queue.events ≡ record { serial = x.serial; target = ToOne (place_of p) } ∷ map seen_posted q = rw (w, e) refl in
+      rw a (rests_unit (Unit {0}) _ s _ (rests_behind (Unit {0}) (machine_of s walked []) s u (machine_of s walked []) _ [] (sym (append-nil s.lines)) stays
+      (given_run (Unit {0}) (machine_of s walked []) u x p (is_listed u p) walked [] (λ a t. Goes a t) (subst (λ t. FitsTarget t x.event.number) e first) (record { stays = h.stays; fits = All-tail (λ y. FitsTarget y.target y.event.number) x q fits })
+      (gives (view_of s) walked x.serial (place_of p) (is_listed s p) (map seen_posted q) queue (listed_alike s.members p)) (λ t i. rests_now t walked i))))
+  target_run ToEach x q s s' walked e w a h =
+      let fits = subst (λ l. All (λ y. FitsTarget y.target y.event.number) l) w h.fits in
+      let first : FitsTarget x.target x.event.number = All-head (λ y. FitsTarget y.target y.event.number) x q fits in
+      let u = record s { queue = record { events = q; accepted = s.queue.accepted; capacity = s.queue.capacity } } in
+      let queue : map seen_posted s.queue.events ≡ record { serial = x.serial; target = ToAll } ∷ map seen_posted q = rw (w, e) refl in
+      rw a (rests_behind (Unit {0}) (machine_of s walked []) s u (machine_of u x.serial s.members) _ [] (sym (append-nil s.lines))
+      (begins (view_of s) walked x.serial (map seen_posted q) queue (some_listed s.members h.stays))
+      (walk_run x s.members u (subst (λ t. FitsTarget t x.event.number) e first) (record { stays = h.stays; fits = All-tail (λ y. FitsTarget y.target y.event.number) x q fits })))
+
+  front_run : (q : List Posted) (s : State) (walked : ℕ) → s.queue.events ≡ q → IsSound s → RestsAt (machine_of s walked []) s (deliver_front calls q s)
+  unfolding deliver_of
+  front_run [] s walked e h = rests_now s walked h
+  front_run (x ∷ q) s walked e h = target_run x.target x q s _ walked refl e (rw e refl) h
+
+  -- a kernel run, from any moment when no walk is under way
+  pub kernel_run : (s : State) (walked : ℕ) → IsSound s → RestsAt (machine_of s walked []) s (kernel_of calls s)
+  unfolding kernel_of
+  kernel_run s walked h =
+      rests_after (Unit {0}) ℕ s walked [] (polls_due_of calls s) _ (polls_due_run s) h (λ a t i. rests_then (Unit {0}) ℕ _ t _ _ (front_run t.queue.events t walked refl i) (λ b u w j. rests_now u w j))
+
+  starts_run : (ps : List Proc) (s : State) (walked : ℕ) → IsSound s → RestsAt (machine_of s walked []) s (starts_of calls ps s)
+  starts_run [] s walked h = rests_now s walked h
+  starts_run (p ∷ ps) s walked h = rests_after (Unit {0}) (Unit {0}) s walked [] _ _ (start_runs calls are s p) h (λ a t i. starts_run ps t walked i)
+
+  -- the etimer process starts on an empty list
+  first_start : (s : State) → is_busy s Etimer ≡ false → has_process s Etimer ≡ true → is_listed s Etimer ≡ false → start_of calls s Etimer ≡ (enlist_of s Etimer >>= λ _ s1. calls.call s1 Etimer (told Init 0))
+  unfolding start_of
+  first_start s b t n = rw (b, t, n) refl
+
+  -- boot, from a state in which nothing was started or posted
+  pub boot_run : (s : State) (walked : ℕ) → s.members ≡ [] → s.queue.events ≡ [] → is_busy s Etimer ≡ false → has_process s Etimer ≡ true → RestsAt (machine_of s walked []) s (boot_of calls s)
+  unfolding boot_of
+  boot_run s walked m q b t =
+      let l : is_listed s Etimer ≡ false = rw m refl in
+      let f = first_start s b t l in
+      let others = Ctimer ∷ Radio ∷ map Own s.program.autostart in
+      let r : RestsAt (machine_of s walked []) s ((enlist_of s Etimer >>= λ _ s1. calls.call s1 Etimer (told Init 0)) >>= λ _ s1. starts_of calls others s1) =
+      rests_twice (Unit {0}) (Unit {0}) (Unit {0}) (machine_of s walked []) s (enlist_of s Etimer) _ _ (rests_first (Unit {0}) (Unit {0}) s walked [] (enlist_of s Etimer) _ (enlists s Etimer l) (λ a t g i.
+      rests_after (Unit {0}) (Unit {0}) t walked [] _ _ (are.call t Etimer (told Init 0) (fits_other Etimer _ refl)) (first_sound s a t q g) (λ b u j. starts_run others u walked j))) in
+      let r' : RestsAt (machine_of s walked []) s (start_of calls s Etimer >>= λ _ s1. starts_of calls others s1) = rw f r in
+      rests_then (Unit {0}) ℕ (machine_of s walked []) s _ _ r' (λ a t w i. rests_now t w i)

@@ -1,0 +1,63 @@
+-- Each operation of a thread that exits a process, exits one of the program's own.
+use Rattle.std.proofs.Common.{ℕ, List}
+use Rattle.mote_program.specs.declared.event.Proc.{Proc}
+use Rattle.mote_program.specs.declared.event.Proc.TheVariants.{Own, Etimer, Ctimer, Radio}
+use Rattle.mote_program.specs.declared.event.Target.{Target}
+use Rattle.mote_program.specs.declared.event.Target.TheVariants.{One, All}
+use Rattle.mote_program.specs.declared.event.Event.{Event}
+use Rattle.mote_program.specs.Code.{Code}
+use Rattle.protothread.specs.declared.step.Op.{Op}
+use Rattle.protothread.specs.declared.step.Op.TheVariants as op
+use Rattle.protothread.specs.declared.step.Step.{Step}
+use Rattle.protothread.specs.declared.step.Step.TheVariants as step
+use Rattle.protothread.specs.Looks.{Looks}
+use Rattle.protothread.specs.Remainder.{Remainder}
+use Rattle.protothread.specs.Step.{advanced_of}
+use Rattle.protothread.proofs.Own as thread
+use Rattle.protothread.proofs.Own.{NamesOwn, StepNamesOwn, step_names_own}
+use Rattle.kernel_laws.specs.Own.{IsOwn, FitsTarget}
+
+-- what it posts, gives at once or kills goes to a process of the program, where it is an exit
+abbrev pub FitsOp : Op → Type 0
+FitsOp (op.Post t e w) = FitsTarget t e
+FitsOp (op.Synch p e w) = FitsTarget (One p) e
+FitsOp (op.Kill p) = IsOwn p
+FitsOp o = Unit {0}
+
+abbrev pub FitsStep : Step → Type 0
+FitsStep (step.Op o) = FitsOp o
+FitsStep (step.Done a) = Unit {0}
+FitsStep step.Runaway = Unit {0}
+
+own_is : (p : Proc) → thread.IsOwn p → IsOwn p
+own_is (Own p) h = tt
+own_is Etimer h = absurd h
+own_is Ctimer h = absurd h
+own_is Radio h = absurd h
+
+post_fits : (t : Target) (e w : ℕ) → NamesOwn (op.Post t e w) → FitsTarget t e
+post_fits (One p) e w h = λ q. own_is p h
+post_fits All e w h = h
+
+op_fits : (o : Op) → NamesOwn o → FitsOp o
+op_fits (op.Post t e w) h = post_fits t e w h
+op_fits (op.Synch p e w) h = λ q. own_is p h
+op_fits (op.Poll p) h = tt
+op_fits (op.Start p) h = tt
+op_fits (op.Kill p) h = own_is p h
+op_fits (op.Set t n) h = tt
+op_fits (op.Reset t) h = tt
+op_fits (op.RestartTimer t) h = tt
+op_fits (op.Stop t) h = tt
+op_fits (op.Send v) h = tt
+op_fits (op.Print v) h = tt
+op_fits (op.Take k) h = tt
+op_fits (op.Signal k) h = tt
+
+step_fits : (s : Step) → StepNamesOwn s → FitsStep s
+step_fits (step.Op o) h = op_fits o h
+step_fits (step.Done a) h = tt
+step_fits step.Runaway h = tt
+
+pub fits_advanced : (code : Code) (e : Event) (looks : Looks) (r : Remainder) (variables : List ℕ) (units : ℕ) → FitsStep (advanced_of code e looks r variables units).step
+fits_advanced code e looks r variables units = step_fits _ (step_names_own code e looks r variables units)

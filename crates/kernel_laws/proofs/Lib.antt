@@ -1,0 +1,9 @@
+pub mod CallSteps
+pub mod Delivers
+pub mod Fits
+pub mod InStep
+pub mod Motes
+pub mod Resting
+pub mod Steps
+pub mod Tables
+pub mod Traces

@@ -1,0 +1,69 @@
+-- Whether the lines of a mote so far go with the mote as it stands.
+use Rattle.std.specs.Prelude.{Bool, true, false, ◌≡◌, List, [], ◌++◌}
+use Rattle.std.specs.List.{All}
+use Rattle.handed_on.specs.HandedOn.{HandedOn}
+use Rattle.handed_on.specs.StartsAndHalts.{HaltIsLast, StartsTheUnlisted}
+use Rattle.handed_on.specs.View as view
+use Rattle.handed_on.specs.View.{HasHalted}
+use Rattle.mote_program.specs.declared.event.Proc.TheVariants.{Etimer}
+use Rattle.process_kernel.specs.declared.line.Line.{Line}
+use Rattle.process_kernel.specs.declared.line.What.{What}
+use Rattle.process_kernel.specs.declared.line.What.TheVariants as what
+use Rattle.process_kernel.specs.State.{State}
+use Rattle.process_kernel.specs.Processes.{has_process, is_busy, is_listed}
+use Rattle.process_kernel.specs.Mote.{Mote}
+use Rattle.process_kernel.specs.Public.{Given}
+use Rattle.kernel_laws.specs.Own.{FitsTarget}
+use Rattle.kernel_laws.specs.Seen.{seen_lines, view_of}
+
+-- the etimer process is on the list, and no event that waits can make a system process leave
+pub record IsSound (s : State) : Type 0 where
+  pub stays : is_listed s Etimer ≡ true
+  pub fits : All (λ x. FitsTarget x.target x.event.number) s.queue.events
+
+-- nothing was started or posted, and the etimer process can start
+pub record IsBlank (s : State) : Type 0 where
+  pub members : s.members ≡ []
+  pub events : s.queue.events ≡ []
+  pub idle : is_busy s Etimer ≡ false
+  pub there : has_process s Etimer ≡ true
+
+-- the lines are a run of the delivery machine to where the mote stands, with no walk under way
+pub record Stands (lines : List Line) (s : State) : Type 0 where
+  pub told : view.GoesWith (seen_lines lines) (view_of s)
+  pub sound : IsSound s
+
+-- and the mote was not booted
+pub record StandsFirst (lines : List Line) (s : State) : Type 0 where
+  pub told : view.GoesWith (seen_lines lines) (view_of s)
+  pub blank : IsBlank s
+
+abbrev pub GoesWithAs : (booted halted : Bool) → List Line → State → Type 0
+GoesWithAs false false lines s = StandsFirst lines s
+GoesWithAs false true lines s = ⊥
+GoesWithAs true false lines s = Stands lines s
+GoesWithAs true true lines s = HasHalted (seen_lines lines)
+
+-- The lines of a mote are a run of the delivery machine: to where the mote stands, or to its halt. No mote halts before it
+-- is booted.
+abbrev pub GoesWith : List Line → Mote → Type 0
+GoesWith lines m = GoesWithAs m.booted m.halted lines m.state
+
+-- A boot or a run that had so many lines before it adds some, and with these the mote's lines go with it.
+pub record Adds (lines before : List Line) (g : Given) : Type 0 where
+  pub added : List Line
+  pub wrote : g.lines ≡ before ++ added
+  pub goes : GoesWith (lines ++ added) g.mote
+
+-- a line of a packet that arrives: it goes into the ring, or is lost
+abbrev pub IsNote : What → Type 0
+IsNote (what.Recv f n v) = Unit {0}
+IsNote (what.Lost f n) = Unit {0}
+IsNote (what.Collide f n) = Unit {0}
+IsNote w = ⊥
+
+-- the lines hand the events on, nothing follows a halt, and only a process that is not listed starts
+pub record IsInOrder (lines : List Line) : Type 0 where
+  pub handed_on : HandedOn (seen_lines lines)
+  pub halt_is_last : HaltIsLast (seen_lines lines)
+  pub starts : StartsTheUnlisted (seen_lines lines)

@@ -1,0 +1,61 @@
+-- The laws of a kernel's lines.
+use Rattle.std.specs.Prelude.{ℕ, ◌≡◌, ◌+◌, true, false, List, [], ◌∷◌, ◌++◌}
+use Rattle.mote_program.specs.declared.event.Proc.{Proc}
+use Rattle.mote_program.specs.declared.event.Event.{Event}
+use Rattle.mote_program.specs.Code.{Tree}
+use Rattle.process_kernel.specs.declared.line.Arrival.{Arrival}
+use Rattle.process_kernel.specs.declared.line.Line.{Line}
+use Rattle.process_kernel.specs.declared.line.Sent.{Sent}
+use Rattle.process_kernel.specs.State.{State, Goes}
+use Rattle.process_kernel.specs.Processes.{is_running, is_listed}
+use Rattle.process_kernel.specs.Call.{calls_of}
+use Rattle.process_kernel.specs.Mote.{Mote, unbooted, with_packet, with_poll}
+use Rattle.process_kernel.specs.Public.{boot_given, run_given}
+use Rattle.kernel_laws.specs.Going.{GoesWith, Adds, IsNote, IsInOrder}
+use Rattle.kernel_laws.specs.InStep.{IsInStep, IsAsBusy}
+use Rattle.kernel_laws.specs.Traces.{KernelCall, after_calls, booted_at, trace_of}
+
+-- whatever the program is, and whatever calls follow the boot
+abbrev pub KernelsHandOn : Type 0
+KernelsHandOn = (program : Tree) (mote queue moment : ℕ) (calls : List KernelCall) → IsInOrder (trace_of program mote queue moment calls)
+
+-- Lines that go with a mote are in order, and each call of its kernel keeps that they go with it.
+
+abbrev pub GoingIsInOrder : Type 0
+GoingIsInOrder = (lines : List Line) (m : Mote) → GoesWith lines m → IsInOrder lines
+
+abbrev pub NoLinesGoFirst : Type 0
+NoLinesGoFirst = (program : Tree) (mote queue : ℕ) → GoesWith [] (unbooted program mote queue)
+
+abbrev pub BootAddsItsLines : Type 0
+BootAddsItsLines =
+    (lines : List Line) (m : Mote) (moment : ℕ) (before : List Line) (sends : List Sent) → m.booted ≡ false → GoesWith lines m → Adds lines before (boot_given moment m before sends)
+
+abbrev pub RunAddsItsLines : Type 0
+RunAddsItsLines =
+    (lines : List Line) (m : Mote) (moment : ℕ) (before : List Line) (sends : List Sent) → m.booted ≡ true → GoesWith lines m → Adds lines before (run_given moment m before sends)
+
+abbrev pub PollKeeps : Type 0
+PollKeeps = (lines : List Line) (m : Mote) (p : Proc) → GoesWith lines m → GoesWith lines (with_poll m p)
+
+abbrev pub PacketKeeps : Type 0
+PacketKeeps = (lines : List Line) (m : Mote) (a : Arrival) → GoesWith lines m → GoesWith lines (with_packet m a)
+
+abbrev pub NoteKeeps : Type 0
+NoteKeeps = (lines : List Line) (m : Mote) (l : Line) → m.halted ≡ false → IsNote l.what → GoesWith lines m → GoesWith (lines ++ l ∷ []) m
+
+-- Processes are called only while they are running, and those that are running or called are on the process list.
+
+-- for a process that is not running the event is lost
+abbrev pub OnlyTheRunningAreCalled : Type 0
+OnlyTheRunningAreCalled = (depth : ℕ) (s : State) (p : Proc) (e : Event) → is_running s p ≡ false → (calls_of (depth + 1)).call s p e ≡ Goes tt s
+
+-- whatever a call does in its turn, it keeps the process list and the states in step, and who was busy stays so
+abbrev pub CallsKeepStep : Type 0
+CallsKeepStep = (depth : ℕ) (s t : State) (p : Proc) (e : Event) → IsInStep s → (calls_of depth).call s p e ≡ Goes tt t → IsInStep t × IsAsBusy s t
+
+-- between the calls of a kernel that has not halted, the processes on the list are running, and no others
+abbrev pub ListedAreRunning : Type 0
+ListedAreRunning =
+    (program : Tree) (mote queue moment : ℕ) (calls : List KernelCall) → let m = (after_calls (booted_at program mote queue moment) calls).mote in
+    m.halted ≡ false → (p : Proc) → is_running m.state p ≡ is_listed m.state p

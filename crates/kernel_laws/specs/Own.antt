@@ -1,0 +1,19 @@
+-- The processes that leave: those of the program alone.
+use Rattle.std.specs.Prelude.{ℕ, ◌≡◌}
+use Rattle.mote_program.specs.declared.event.Proc.{Proc}
+use Rattle.mote_program.specs.declared.event.Proc.TheVariants.{Own, Etimer, Ctimer, Radio}
+use Rattle.mote_program.specs.declared.event.Target.{Target}
+use Rattle.mote_program.specs.declared.event.Target.TheVariants.{One, All}
+use Rattle.mote_program.specs.declared.event.SystemEvent.TheVariants.{Exit}
+use Rattle.mote_program.specs.Events.{system_number}
+
+abbrev pub IsOwn : Proc → Type 0
+IsOwn (Own p) = Unit {0}
+IsOwn Etimer = ⊥
+IsOwn Ctimer = ⊥
+IsOwn Radio = ⊥
+
+-- an event EXIT is only for a process of the program
+abbrev pub FitsTarget : Target → (number : ℕ) → Type 0
+FitsTarget (One p) number = number ≡ system_number Exit → IsOwn p
+FitsTarget All number = number ≡ system_number Exit → ⊥

@@ -1,0 +1,43 @@
+-- What the delivery of events sees of a kernel: its lines, and where it stands as a delivery machine.
+use Rattle.std.specs.Prelude.{List, map}
+use Rattle.handed_on.specs.HandedOn as handed
+use Rattle.handed_on.specs.HandedOn.{Incarnation, ToOne, ToAll}
+use Rattle.handed_on.specs.Delivery.{Waiting}
+use Rattle.handed_on.specs.View.{View}
+use Rattle.mote_program.specs.declared.event.Target.{Target}
+use Rattle.mote_program.specs.declared.event.Target.TheVariants.{One, All}
+use Rattle.event_queue.specs.declared.queue.Posted.{Posted}
+use Rattle.process_kernel.specs.declared.line.Line.{Line}
+use Rattle.process_kernel.specs.declared.line.What.{What}
+use Rattle.process_kernel.specs.declared.line.What.TheVariants as what
+use Rattle.process_kernel.specs.declared.process.Member.{Member}
+use Rattle.process_kernel.specs.Members.{place_of}
+use Rattle.process_kernel.specs.State.{State}
+
+abbrev pub seen_target : Target → handed.Target
+seen_target (One p) = ToOne (place_of p)
+seen_target All = ToAll
+
+abbrev pub seen_what : What → handed.Line
+seen_what (what.Start p) = handed.Start (place_of p)
+seen_what (what.Leave p) = handed.Leave (place_of p)
+seen_what (what.Post n t e w) = handed.Post n (seen_target t)
+seen_what (what.Take n p) = handed.Take n (place_of p)
+seen_what (what.Drop n p) = handed.Drop n (place_of p)
+seen_what what.Halt = handed.Halt
+seen_what w = handed.Other
+
+abbrev pub seen_line : Line → handed.Line
+seen_line l = seen_what l.what
+
+abbrev pub seen_lines : List Line → List handed.Line
+seen_lines lines = map seen_line lines
+
+abbrev pub seen_member : Member → Incarnation
+seen_member m = record { process = place_of m.process; number = m.incarnation }
+
+abbrev pub seen_posted : Posted → Waiting
+seen_posted x = record { serial = x.serial; target = seen_target x.target }
+
+abbrev pub view_of : State → View
+view_of s = record { list = map seen_member s.members; numbered = s.started; queue = map seen_posted s.queue.events; accepted = s.queue.accepted }

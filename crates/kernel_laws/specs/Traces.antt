@@ -1,0 +1,44 @@
+-- The trace of a kernel: the lines of its boot and of the calls that follow, joined.
+use Rattle.std.specs.Prelude.{ℕ, List, [], ◌∷◌, ◌++◌, if◌then◌else◌}
+use Rattle.mote_program.specs.declared.event.Proc.{Proc}
+use Rattle.mote_program.specs.Code.{Tree}
+use Rattle.process_kernel.specs.declared.line.Arrival.{Arrival}
+use Rattle.process_kernel.specs.declared.line.Line.{Line}
+use Rattle.process_kernel.specs.Mote.{Mote, unbooted, with_packet, with_poll}
+use Rattle.process_kernel.specs.Public.{Given, boot_given, run_given}
+use Rattle.kernel_laws.specs.Going.{IsNote}
+
+-- A call of a kernel after its boot: a kernel run at a moment, a process that is to be polled, or a packet for the ring.
+-- Between the calls lines of packets that arrive may be written.
+pub data KernelCall : Type 0 where
+  RunAt : (moment : ℕ) → KernelCall
+  PollOf : Proc → KernelCall
+  Accepts : Arrival → KernelCall
+  Notes : (l : Line) → IsNote l.what → KernelCall
+
+-- a mote, and its lines so far
+pub record Traced : Type 0 where
+  pub mote : Mote
+  pub lines : List Line
+
+abbrev pub with_given : Traced → Given → Traced
+with_given t g = record { mote = g.mote; lines = t.lines ++ g.lines }
+
+abbrev pub after_call : Traced → KernelCall → Traced
+after_call t (RunAt moment) = with_given t (run_given moment t.mote [] [])
+after_call t (PollOf p) = record t { mote = with_poll t.mote p }
+after_call t (Accepts a) = record t { mote = with_packet t.mote a }
+after_call t (Notes l n) = if t.mote.halted then t else record t { lines = t.lines ++ l ∷ [] }
+
+abbrev pub after_calls : Traced → List KernelCall → Traced
+after_calls t [] = t
+after_calls t (c ∷ cs) = after_calls (after_call t c) cs
+
+-- a mote of this program is booted at a moment
+abbrev pub booted_at : Tree → (mote queue moment : ℕ) → Traced
+booted_at program mote queue moment =
+    let m = unbooted program mote queue in with_given (record { mote = m; lines = [] }) (boot_given moment m [] [])
+
+-- the lines of its boot and of these calls
+abbrev pub trace_of : Tree → (mote queue moment : ℕ) → List KernelCall → List Line
+trace_of program mote queue moment calls = (after_calls (booted_at program mote queue moment) calls).lines

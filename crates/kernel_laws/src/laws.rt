@@ -1,0 +1,29 @@
+//! Laws of the traces of a kernel. Each is the contract of a function that does nothing.
+
+ghost use Rattle.kernel_laws.specs.Laws.{KernelsHandOn, GoingIsInOrder, NoLinesGoFirst, BootAddsItsLines, RunAddsItsLines, PollKeeps, PacketKeeps, NoteKeeps, OnlyTheRunningAreCalled, CallsKeepStep, ListedAreRunning};
+
+/// Whatever its program is, and whatever calls follow its boot: the lines of a kernel, joined, hand its events on, nothing
+/// follows a halt, and only a process that is not listed starts.
+pub fn kernels_hand_on()
+    ensures { KernelsHandOn }
+{}
+
+/// Lines that go with a mote are in order; a mote that was not booted has none, and each call of its kernel keeps that its lines go
+/// with it.
+pub fn each_call_keeps_order()
+    ensures in_order { GoingIsInOrder }
+    ensures first { NoLinesGoFirst }
+    ensures boot { BootAddsItsLines }
+    ensures run { RunAddsItsLines }
+    ensures poll { PollKeeps }
+    ensures packet { PacketKeeps }
+    ensures note { NoteKeeps }
+{}
+
+/// A process is called only while it is on the process list and running: the event is lost for one that isn't running, and the
+/// states of the processes stay in step with the list, within calls and between those of the kernel.
+pub fn the_listed_are_running()
+    ensures lost { OnlyTheRunningAreCalled }
+    ensures within { CallsKeepStep }
+    ensures between { ListedAreRunning }
+{}

@@ -1,0 +1,4 @@
+//! Laws of the traces of a kernel.
+#![tactic(auto)]
+
+pub mod laws;

@@ -1,0 +1,23 @@
+-- The laws of a mote's lines, turn by turn.
+use Rattle.std.specs.Prelude.{ℕ, List, [], ◌++◌}
+use Rattle.mote_program.specs.Code.{Tree}
+use Rattle.process_kernel.specs.declared.line.Arrival.{Arrival}
+use Rattle.process_kernel.specs.declared.line.Line.{Line}
+use Rattle.kernel_laws.specs.Going.{GoesWith, IsInOrder}
+use Rattle.mote_node.specs.Node.{Node, new_node}
+use Rattle.mote_node.specs.Turn.{turn_of}
+use Rattle.mote_node.specs.Laws.{Given, Turns}
+
+-- the lines of a mote so far, with those of a turn behind them, go with the mote after the turn
+abbrev pub TurnKeeps : Type 0
+TurnKeeps =
+    (lines : List Line) (moment : ℕ) (arrivals : List Arrival) (n : Node) → GoesWith lines n.mote → let t = turn_of moment arrivals n in GoesWith (lines ++ t.lines) t.node.mote
+
+-- before its first turn a mote has no lines
+abbrev pub NewGoesWithNoLines : Type 0
+NewGoesWithNoLines = (program : Tree) (number queue : ℕ) → GoesWith [] (new_node program number queue).mote
+
+-- whatever its program is, and whatever turns it takes
+abbrev pub MotesHandOn : Type 0
+MotesHandOn =
+    (program : Tree) (number queue : ℕ) (given : List Given) (lines : List Line) (last : Node) → Turns (new_node program number queue) given lines last → IsInOrder lines

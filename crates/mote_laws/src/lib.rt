@@ -1,0 +1,4 @@
+//! Laws of the traces of a mote.
+#![tactic(auto)]
+
+pub mod laws;

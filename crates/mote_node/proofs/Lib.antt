@@ -1,0 +1,6 @@
+pub mod HearLemmas
+pub mod RunLemmas
+pub mod StepLemmas
+pub mod TurnLaws
+pub mod TurnLemmas
+pub mod WakeLaws

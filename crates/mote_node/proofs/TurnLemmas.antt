@@ -1,0 +1,64 @@
+-- The steps of a turn, put together.
+use Rattle.std.proofs.Common.{ℕ, ◌≡◌, Bool, true, false, List, option_map, Option, Some, None, refl, sym, ap, ◌∙◌, subst, IfSome, IsSome, if◌then◌else◌}
+use Rattle.mote_program.specs.Code.{Tree}
+use Rattle.process_kernel.specs.declared.kernel.Kernel.{Kernel}
+use Rattle.process_kernel.specs.declared.line.Arrival.{Arrival}
+use Rattle.process_kernel.specs.declared.line.Out.{Out}
+use Rattle.process_kernel.specs.Mote.{Mote}
+use Rattle.process_kernel.specs.Public.{mote_in}
+use Rattle.mote_node.specs.Underway.{Underway}
+use Rattle.mote_node.specs.Arrivals.{hear_all}
+use Rattle.mote_node.specs.Steps.{underway_in, GoesOn}
+use Rattle.mote_node.specs.Turn.{boot_due, poll_due, most_runs, runs_of, work_of, mote_turn}
+use Rattle.mote_node.proofs.StepLemmas.{underway, if_true, if_false, mote_step}
+
+-- what a reader of the mote tells, told of the turn under way
+pub halted_at : (old : Option Mote) (out : Out) (u : Underway) (b : Bool) → IfSome old (λ m. b ≡ m.halted) → underway_in old out ≡ Some u → b ≡ u.mote.halted
+halted_at None out u b h is = cc
+halted_at (Some m) out u b h is =
+    let same : underway m out ≡ u = cc in
+    let P : Underway → Type 0 = λ v. b ≡ v.mote.halted in subst P same h
+
+-- the boot halted the mote
+pub halted_turn : (moment : ℕ) (packets : List Arrival) (old new : Option Mote) (out out' : Out)
+    → GoesOn (boot_due moment) old out new out' → IfSome new (λ m. true ≡ m.halted) → GoesOn (mote_turn moment packets) old out new out'
+unfolding mote_turn
+halted_turn moment packets old new out out' boot halted = record {
+  leads = λ u is.
+      let booted = boot.leads u is in
+      let b : true ≡ (boot_due moment u).mote.halted = halted_at new out' (boot_due moment u) true halted booted in
+      booted ∙ ap Some (sym (if_true (boot_due moment u).mote.halted (boot_due moment u) (work_of moment packets (boot_due moment u)) b));
+}
+
+-- all of a turn
+pub whole_turn : (moment : ℕ) (packets : List Arrival) (m1 m2 m3 m4 m5 : Option Mote) (o1 o2 o3 o5 : Out)
+    → GoesOn (boot_due moment) m1 o1 m2 o2 → IfSome m2 (λ m. false ≡ m.halted)
+    → GoesOn (hear_all moment packets) m2 o2 m3 o3 → m4 ≡ option_map (poll_due moment) m3
+    → GoesOn (runs_of most_runs moment) m4 o3 m5 o5 → GoesOn (mote_turn moment packets) m1 o1 m5 o5
+unfolding mote_turn work_of
+whole_turn moment packets m1 m2 m3 m4 m5 o1 o2 o3 o5 boot going hear poll run = record {
+  leads = λ u is.
+      let booted = boot.leads u is in
+      let heard = hear.leads (boot_due moment u) booted in
+      let polled = (mote_step (poll_due moment) m3 m4 o3 poll).leads (hear_all moment packets (boot_due moment u)) heard in
+      let b : false ≡ (boot_due moment u).mote.halted = halted_at m2 o2 (boot_due moment u) false going booted in
+      run.leads _ polled ∙ ap Some (sym (if_false (boot_due moment u).mote.halted (boot_due moment u) (work_of moment packets (boot_due moment u)) b));
+}
+
+some_underway : (new : Option Mote) (out : Out) (u : Underway) → underway_in new out ≡ Some u → IsSome new
+some_underway None out u h = cc
+some_underway (Some m) out u h = refl
+
+-- a mote that goes on has not failed
+pub some_after : (step : Underway → Underway) (old new : Option Mote) (out out' : Out) → GoesOn step old out new out' → IsSome old → IsSome new
+some_after step None new out out' goes h = cc
+some_after step (Some m) new out out' goes h = some_underway new out' (step (underway m out)) (goes.leads (underway m out) refl)
+
+some_if : {A : Type 0} (failed : Bool) (x y : A) → IsSome (if failed then None else Some x) → IsSome (if failed then None else Some y)
+some_if true x y h = h
+some_if false x y h = refl
+
+-- a kernel that has not failed, whatever its program
+pub some_anyhow : (t t' : Tree) (k : Kernel) → IsSome (mote_in t k) → IsSome (mote_in t' k)
+unfolding mote_in
+some_anyhow t t' k h = some_if k.failed _ _ h

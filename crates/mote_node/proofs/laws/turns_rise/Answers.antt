@@ -1,0 +1,5 @@
+use Rattle.mote_node.proofs.TurnLaws as laws
+use Rattle.mote_node.proofs.laws.turns_rise.Goals as goal
+
+pub returns : goal.returns
+returns c = laws.turns_rise

@@ -1,0 +1,10 @@
+use Rattle.std.proofs.Common.{refl, IsSome}
+use Rattle.mote_program.specs.Program.{tree_of}
+use Rattle.process_kernel.specs.Public.{mote_in}
+use Rattle.mote_node.proofs.TurnLemmas.{some_anyhow}
+use Rattle.mote_node.proofs.mote.Mote.new.Goals as goal
+
+pub invariant_of-result-clause-running : goal.invariant_of-result-clause-running
+invariant_of-result-clause-running c =
+    let some : IsSome (mote_in (tree_of c.args.program.now) c.in-Ok.kernel) = rw c.in-Ok.ensures.ok refl in
+    λ t e. some_anyhow (tree_of c.args.program.now) t c.in-Ok.kernel some

@@ -1,0 +1,48 @@
+-- Laws of the turns of a node.
+use Rattle.std.specs.List.Sorted.{IsStrictlyIncreasing}
+use Rattle.std.specs.Prelude.{ℕ, ◌≡◌, ◌+◌, ◌<◌, ◌≤◌, max, true, false, List, [], ◌∷◌, ◌++◌, map, Option, Some, None}
+use Rattle.mote_timers.specs.TimerLists.{next_expiration_of}
+use Rattle.process_kernel.specs.declared.line.Arrival.{Arrival}
+use Rattle.process_kernel.specs.declared.line.Line.{Line}
+use Rattle.mote_node.specs.Node.{Node, is_past}
+use Rattle.mote_node.specs.Turn.{turn_of}
+
+abbrev pub IsLater : (moment : ℕ) → (wake : Option ℕ) → Type 0
+IsLater moment None = Unit {0}
+IsLater moment (Some wake) = moment < wake
+
+-- the wake that a turn gives is above its own moment
+abbrev pub WakesLater : Type 0
+WakesLater = (moment : ℕ) (arrivals : List Arrival) (n : Node) → IsLater moment (turn_of moment arrivals n).wake
+
+-- there is a wake, and it isn't later than this
+abbrev pub WakesBy : (limit : ℕ) → (wake : Option ℕ) → Type 0
+WakesBy limit wake = (w : ℕ) × (wake ≡ Some w) × (w ≤ limit)
+
+-- no timer is forgotten: a node that has not halted wakes when its first timer is due, or before, but for the turn's own moment
+abbrev pub WakesInTime : Type 0
+WakesInTime =
+    (moment : ℕ) (arrivals : List Arrival) (n : Node) (due : ℕ) → let after = (turn_of moment arrivals n).node in
+    after.mote.halted ≡ false → next_expiration_of after.mote.state.timers ≡ Some due → WakesBy (max (moment + 1) due) (turn_of moment arrivals n).wake
+
+-- a turn that a node is to take
+pub record Given : Type 0 where
+  pub moment : ℕ
+  pub arrivals : List Arrival
+
+-- turns one after another, each at a moment that isn't past, lead from a node to a node, and write these lines
+pub data Turns : Node → List Given → List Line → Node → Type 0 where
+  Rests : {n : Node} → Turns n [] [] n
+  Takes : {n last : Node} {given : Given} {later : List Given} {lines : List Line}
+      → is_past given.moment n.last ≡ false → Turns (turn_of given.moment given.arrivals n).node later lines last
+      → Turns n (given ∷ later) ((turn_of given.moment given.arrivals n).lines ++ lines) last
+
+-- turns happen at rising moments alone
+abbrev pub TurnsRise : Type 0
+TurnsRise = (n last : Node) (given : List Given) (lines : List Line) → Turns n given lines last → IsStrictlyIncreasing (map (λ g. g.moment) given)
+
+-- a turn of a node that has halted changes its clock alone, writes and sends nothing, and gives no wake
+abbrev pub HaltedRests : Type 0
+HaltedRests =
+    (moment : ℕ) (arrivals : List Arrival) (n : Node) → n.mote.halted ≡ true
+    → turn_of moment arrivals n ≡ record { node = record n { last = Some moment }; lines = []; sends = []; wake = None }

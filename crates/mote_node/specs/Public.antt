@@ -1,0 +1,34 @@
+-- What the calls of a `Mote` tell.
+use Rattle.std.specs.Prelude.{ℕ, Bool, false, if◌then◌else◌, Option, Some, None, option_map}
+use Rattle.mote_program.specs.Code.{Tree}
+use Rattle.process_kernel.specs.Mote.{Mote}
+use Rattle.process_kernel.specs.Public.{mote_in}
+use Rattle.mote_node.specs.declared.mote.Mote.{Mote as MoteOfCode}
+use Rattle.mote_node.specs.declared.mote.TurnOut.{TurnOut}
+use Rattle.mote_node.specs.Node.{Node, is_past}
+use Rattle.mote_node.specs.Wake.{wake_of}
+use Rattle.mote_node.specs.Turn.{Turned}
+
+abbrev pub node_over : (last : Option ℕ) → (collides : Bool) → Mote → Node
+node_over last collides m = record { mote = m; last = last; collides = collides }
+
+-- The node that a `Mote` is, where its program is this; one that found no memory is none.
+unfoldable pub node_in : Tree → MoteOfCode → Option Node
+node_in t m = if m.failed then None else option_map (node_over m.last m.collide) (mote_in t m.kernel)
+
+-- what failed wakes no more
+abbrev pub wake_in : Option Node → Option ℕ
+wake_in None = None
+wake_in (Some n) = wake_of n
+
+-- there is a node, and this moment isn't above that of its last turn
+abbrev pub is_past_in : (moment : ℕ) → Option Node → Bool
+is_past_in moment None = false
+is_past_in moment (Some n) = is_past moment n.last
+
+abbrev pub with_collide : Bool → Node → Node
+with_collide collides n = record n { collides = collides }
+
+-- what a turn told, and the node that it left
+abbrev pub told : TurnOut → Node → Turned
+told out n = record { node = n; lines = out.lines.items; sends = out.sends.items; wake = out.wake }

@@ -1,0 +1,81 @@
+-- A turn of a node.
+use Rattle.std.specs.Prelude.{ℕ, zero, suc, nat_le, Bool, false, ◌&&◌, List, [], Option, Some, None, if◌then◌else◌}
+use Rattle.mote_program.specs.declared.event.Proc.TheVariants.{Etimer}
+use Rattle.mote_timers.specs.TimerLists.{next_expiration_of}
+use Rattle.process_kernel.specs.declared.kernel.Ran.{Ran}
+use Rattle.process_kernel.specs.declared.kernel.Ran.TheVariants as ran
+use Rattle.process_kernel.specs.declared.line.Arrival.{Arrival}
+use Rattle.process_kernel.specs.declared.line.Line.{Line}
+use Rattle.process_kernel.specs.declared.line.Sent.{Sent}
+use Rattle.process_kernel.specs.Mote.{Mote, with_poll}
+use Rattle.process_kernel.specs.Public.{boot_given, run_given}
+use Rattle.mote_node.specs.Node.{Node}
+use Rattle.mote_node.specs.Wake.{wake_of}
+use Rattle.mote_node.specs.Underway.{Underway, unless_halted, with_mote, after}
+use Rattle.mote_node.specs.Arrivals.{hear_all, is_collision, with_collisions}
+
+-- the first turn boots the mote
+unfoldable pub boot_due : (moment : ℕ) → Underway → Underway
+boot_due moment u = if u.mote.booted then u else after (boot_given moment u.mote u.lines u.sends)
+
+abbrev pub is_due : (moment : ℕ) → (expiration : Option ℕ) → Bool
+is_due moment None = false
+is_due moment (Some expiration) = nat_le expiration moment
+
+-- the etimer process is polled where a timer is due by now
+unfoldable pub poll_due : (moment : ℕ) → Mote → Mote
+poll_due moment m = if is_due moment (next_expiration_of m.state.timers) then with_poll m Etimer else m
+
+-- a run that left something to do is followed by the others
+abbrev pub follow : Ran → (others : Underway → Underway) → Underway → Underway
+follow ran.Halted others u = u
+follow (ran.Left zero) others u = u
+follow (ran.Left (suc n)) others u = others u
+
+-- kernel runs, at most so many, until one leaves nothing to do or the mote halts
+unfoldable pub runs_of : (most : ℕ) → (moment : ℕ) → Underway → Underway
+runs_of zero moment u = u
+runs_of (suc most) moment u =
+    let given = run_given moment u.mote u.lines u.sends in follow given.ran (runs_of most moment) (after given)
+
+-- the most kernel runs of a turn; the boot is none of them
+abbrev pub most_runs : ℕ
+most_runs = 64
+
+-- once it is booted: the packets that arrive, the timers, and the kernel runs
+unfoldable pub work_of : (moment : ℕ) → List Arrival → Underway → Underway
+work_of moment arrivals u =
+    let heard = hear_all moment arrivals u in runs_of most_runs moment (with_mote heard (poll_due moment heard.mote))
+
+unfoldable pub mote_turn : (moment : ℕ) → List Arrival → Underway → Underway
+mote_turn moment arrivals u = let booted = boot_due moment u in unless_halted booted (work_of moment arrivals booted)
+
+-- the turn of a mote in a net: where packets collide, and that is asked for, it has none of them
+unfoldable pub net_turn : (collides : Bool) → (moment : ℕ) → List Arrival → Underway → Underway
+net_turn collides moment arrivals u =
+    if collides && is_collision u.mote arrivals then mote_turn moment [] (with_collisions moment arrivals u)
+    else mote_turn moment arrivals u
+
+-- what a turn gives: the node after it, its lines and packets, and the next wake
+pub record Turned : Type 0 where
+  pub node : Node
+  pub lines : List Line
+  pub sends : List Sent
+  pub wake : Option ℕ
+
+-- the node after a turn at this moment that left its mote like this
+abbrev pub node_after : Node → (moment : ℕ) → Mote → Node
+node_after n moment m = record n { mote = m; last = Some moment }
+
+abbrev pub turned_to : Node → (moment : ℕ) → Underway → Turned
+turned_to n moment u = record {
+  node = node_after n moment u.mote;
+  lines = u.lines;
+  sends = u.sends;
+  wake = wake_of (node_after n moment u.mote);
+}
+
+-- the turn of a node at this moment, with the packets that arrive, in order
+unfoldable pub turn_of : (moment : ℕ) → List Arrival → Node → Turned
+turn_of moment arrivals n =
+    turned_to n moment (net_turn n.collides moment arrivals (record { mote = n.mote; lines = []; sends = [] }))

@@ -1,0 +1,20 @@
+-- When a node wakes next.
+use Rattle.std.specs.Prelude.{ℕ, ◌+◌, max, if◌then◌else◌, Option, Some, None, option_map}
+use Rattle.mote_timers.specs.TimerLists.{next_expiration_of}
+use Rattle.process_kernel.specs.Mote.{Mote, is_pending}
+use Rattle.mote_node.specs.Node.{Node}
+
+-- After a turn at this moment: the next moment, where events or polls are left; else when the first timer is due, but not
+-- before the next moment; else none.
+unfoldable pub wake_after : (moment : ℕ) → Mote → Option ℕ
+wake_after moment m =
+    if is_pending m then Some (moment + 1) else option_map (λ due. max (moment + 1) due) (next_expiration_of m.state.timers)
+
+-- at 0, before the first turn
+abbrev pub wake_since : (last : Option ℕ) → Mote → Option ℕ
+wake_since None m = Some 0
+wake_since (Some last) m = wake_after last m
+
+-- a mote that has halted wakes no more
+abbrev pub wake_of : Node → Option ℕ
+wake_of n = if n.mote.halted then None else wake_since n.last n.mote

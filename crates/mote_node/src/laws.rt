@@ -1,0 +1,24 @@
+//! Laws of turns. Each is the contract of a function that does nothing.
+
+ghost use Rattle.mote_node.specs.Laws.{HaltedRests, TurnsRise, WakesInTime, WakesLater};
+
+/// The wake that a turn gives is above the turn's own moment.
+pub fn wakes_later()
+    ensures { WakesLater }
+{}
+
+/// A node that has not halted wakes when its first timer is due, or before: at the moment after its turn, where the timer is
+/// due by then.
+pub fn wakes_in_time()
+    ensures { WakesInTime }
+{}
+
+/// Turns happen at rising moments alone.
+pub fn turns_rise()
+    ensures { TurnsRise }
+{}
+
+/// A turn of a node that has halted changes its clock alone, and writes nothing.
+pub fn halted_rests()
+    ensures { HaltedRests }
+{}

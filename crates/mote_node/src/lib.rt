@@ -1,0 +1,12 @@
+//! A mote of a net: its turns, and when it wakes next.
+#![tactic(auto)]
+
+mod laws;
+mod mote;
+mod turn;
+
+pub use laws::{halted_rests, turns_rise, wakes_in_time, wakes_later};
+pub use mote::{Mote, MoteError, TurnOut};
+
+#[cfg(test)]
+mod tests;

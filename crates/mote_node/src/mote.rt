@@ -1,0 +1,190 @@
+//! A mote with its clock: one turn after another.
+
+ghost use Rattle.std.specs.Prelude.{◌≡◌, ◌≤◌, ◌^◌, ◌↔◌, true, false, IsTrue, IsSome, IfSome, IfOk, IfErr, Some, None, Err, option_map, OnOk, OnErr};
+ghost use Rattle.mote_program.specs.Code.{Tree};
+ghost use Rattle.mote_program.specs.Program.{tree_of};
+ghost use Rattle.process_kernel.specs.Public.{mote_in};
+ghost use Rattle.mote_node.specs.Node.{is_past};
+ghost use Rattle.mote_node.specs.Wake.{wake_after};
+ghost use Rattle.std.proofs.Props.{props};
+
+use crate::turn::turn_in_net;
+use mote_program::Program;
+use process_kernel::{Arrival, Kernel, KernelError, Line, Out, Sent};
+use std::alloc::Global;
+use std::error::Error;
+use std::fmt;
+
+/// Why a mote gives no turn.
+#[derive(Clone, Copy, Debug, PartialEq, Eq)]
+pub enum MoteError {
+    /// No memory was found.
+    Memory = 1,
+    /// An earlier turn found no memory.
+    Failed = 2,
+    /// The moment isn't above that of the last turn.
+    Past = 3,
+}
+
+impl fmt::Display for MoteError {
+    fn fmt<W: fmt::Write>(&self, f: &mut fmt::Formatter<W>) -> fmt::Result {
+        match self {
+            MoteError::Memory => write!(f, "out of memory"),
+            MoteError::Failed => write!(f, "an earlier turn of the mote found no memory"),
+            MoteError::Past => write!(f, "the moment isn't above that of the last turn"),
+        }
+    }
+}
+
+impl Error for MoteError {}
+
+/// What a turn gives: its lines and packets, and when the mote wakes next.
+#[derive(Debug, Drop)]
+pub struct TurnOut {
+    pub lines: Vec<Line>,
+    pub sends: Vec<Sent>,
+    pub wake: Option<u64>,
+}
+
+/// A mote of a net. Its turns come at rising moments, always with the same program.
+#[derive(Drop)]
+pub struct Mote {
+    alloc: Global,
+    kernel: Kernel,
+    last: Option<u64>,
+    collide: bool,
+    failed: bool,
+    ghost early: { IfSome last (λ moment. moment ≤ 2 ^ 40) } by { Prim.hlevel props },
+    ghost running: { (t : Tree) → failed ≡ false → IsSome (mote_in t kernel) } by { Prim.hlevel props },
+}
+
+/// When a mote wakes after its turn at this moment, where it has not halted.
+#[tactic(auto, unfolding(crate::specs::Wake::wake_after))]
+fn wake_after(kernel: &Kernel, moment: u64) -> Option<u64>
+    requires { moment ≤ 2 ^ 40 }
+    ensures { (t : Tree) → IfSome (mote_in t kernel.now) (λ m. result ≡ wake_after moment m) }
+{
+    if kernel.pending() {
+        return Some(moment + 1);
+    }
+    match kernel.next_expiration() {
+        Some(due) => Some(due.max(moment + 1)),
+        None => None,
+    }
+}
+
+/// Whether the moment isn't above that of the last turn.
+fn is_past(moment: u64, last: Option<u64>) -> bool
+    ensures { result ≡ is_past moment last }
+{
+    match last {
+        Some(last) => moment <= last,
+        None => false,
+    }
+}
+
+impl Mote {
+    ghost use Rattle.mote_node.specs.Node.{new_node};
+    ghost use Rattle.mote_node.specs.Turn.{turn_of};
+    ghost use Rattle.mote_node.specs.Public.{node_in, wake_in, is_past_in, with_collide, told};
+
+    /// The mote with this number and program, before its first turn. Its event queue has room for this many events, 1 to 128.
+    ///
+    /// # Errors
+    /// `Memory` alone.
+    #[tactic(auto, unfolding(crate::specs::Public::node_in, crate::specs::Node::new_node))]
+    pub fn new(alloc: Global, number: u16, program: &Program, queue: u16) -> Result<Mote, MoteError>
+        requires some_room { 1 ≤ queue }
+        requires limit { queue ≤ 128 }
+        ensures new { let t = tree_of program.now in IfOk result (λ mote. node_in t mote ≡ Some (new_node t number queue)) }
+        ensures err { IfErr result (λ error. error ≡ MoteError.Memory) }
+    {
+        match Kernel::new(alloc, program, number, queue) {
+            Ok(kernel) => Ok(Mote {
+                alloc,
+                kernel,
+                last: None,
+                collide: false,
+                failed: false,
+            }),
+            Err(_) => Err(MoteError::Memory),
+        }
+    }
+
+    /// Whether packets that arrive together are lost. They aren't, before this is called.
+    #[tactic(auto, unfolding(crate::specs::Public::node_in))]
+    pub fn set_collide(&mut self, collide: bool)
+        ensures { (t : Tree) → node_in t self.new ≡ option_map (with_collide collide) (node_in t self.old) }
+    {
+        self.collide = collide;
+    }
+
+    /// When it wakes next: at 0 before its first turn; never, once it has halted or failed.
+    #[tactic(auto, unfolding(crate::specs::Public::node_in))]
+    pub fn wake(&self) -> Option<u64>
+        ensures { (t : Tree) → result ≡ wake_in (node_in t self.now) }
+    {
+        if self.failed || self.kernel.is_halted() {
+            return None;
+        }
+        match self.last {
+            Some(last) => wake_after(&self.kernel, last),
+            None => Some(0),
+        }
+    }
+
+    /// A turn at this moment with the packets that arrive, in order of sender and number. The first turn boots the mote.
+    ///
+    /// # Errors
+    /// In this order: `Failed` after a turn that found no memory, for good; `Past` where the moment isn't above that of the
+    /// last turn, and nothing changes. `Memory` only where a growth was refused.
+    #[tactic(auto, unfolding(crate::specs::Public::node_in, crate::specs::Turn::turn_of))]
+    pub fn turn(
+        &mut self,
+        program: &Program,
+        moment: u64,
+        arrivals: &[Arrival],
+    ) -> Result<TurnOut, MoteError>
+        requires { moment ≤ 2 ^ 40 }
+        ensures ok { let t = tree_of program.now in IfOk result (λ out. option_map (told out) (node_in t self.new) ≡ option_map (turn_of moment arrivals.now) (node_in t self.old)) }
+
+        ensures failed { let t = tree_of program.now in (result ≡ Err MoteError.Failed) ↔ (node_in t self.old ≡ None) }
+        ensures past { let t = tree_of program.now in (result ≡ Err MoteError.Past) ↔ IsTrue (is_past_in moment (node_in t self.old)) }
+        ensures unchanged { result ≡ Err MoteError.Past → self.new ≡ self.old }
+
+        // It has failed for good, whatever its program.
+        ensures fails { (t : Tree) → result ≡ Err MoteError.Memory → node_in t self.new ≡ None }
+        ensures stays_failed { result ≡ Err MoteError.Failed → self.new ≡ self.old }
+    {
+        if self.failed {
+            return Err(MoteError::Failed);
+        }
+        if is_past(moment, self.last) {
+            return Err(MoteError::Past);
+        }
+        let mut out = Out {
+            lines: Vec::new(self.alloc),
+            sends: Vec::new(self.alloc),
+        };
+        let turned = turn_in_net(
+            &mut self.kernel,
+            program,
+            self.collide,
+            moment,
+            arrivals,
+            &mut out,
+        );
+        match turned {
+            Ok(()) => {
+                self.last = Some(moment);
+                let wake = self.wake();
+                let Out { lines, sends } = out;
+                Ok(TurnOut { lines, sends, wake })
+            }
+            Err(_) => {
+                self.failed = true;
+                Err(MoteError::Memory)
+            }
+        }
+    }
+}

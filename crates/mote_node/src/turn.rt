@@ -1,0 +1,170 @@
+//! The steps of a turn, over a kernel and what it writes in the turn.
+
+ghost use Rattle.std.specs.Prelude.{◌≡◌, ◌≤◌, ◌^◌, ◌++◌, map, option_map, OnOk, IfOk, IfSome};
+ghost use Rattle.mote_program.specs.Code.{Tree};
+ghost use Rattle.mote_program.specs.Program.{tree_of};
+ghost use Rattle.process_kernel.specs.Mote.{has_room};
+ghost use Rattle.process_kernel.specs.Public.{mote_in};
+ghost use Rattle.mote_node.specs.Arrivals.{hear, hear_all, collision_line};
+ghost use Rattle.mote_node.specs.Steps.{GoesOn};
+ghost use Rattle.mote_node.specs.Turn.{boot_due, poll_due, most_runs, runs_of, mote_turn, net_turn};
+
+use mote_program::{Proc, Program};
+use process_kernel::{Arrival, Kernel, Line, Out, Ran, What};
+use std::alloc::AllocError;
+
+/// The most kernel runs of a turn; the boot is none of them.
+const RUNS: u8 = 64;
+
+/// The first turn boots the mote.
+#[tactic(auto, unfolding(crate::specs::Turn::boot_due))]
+fn boot(
+    kernel: &mut Kernel,
+    program: &Program,
+    moment: u64,
+    out: &mut Out,
+) -> Result<(), AllocError>
+    requires { moment ≤ 2 ^ 40 }
+    ensures { let t = tree_of program.now in OnOk result (GoesOn (boot_due moment) (mote_in t kernel.old) out.old (mote_in t kernel.new) out.new) }
+{
+    if !kernel.is_booted() {
+        let Ok(_) = kernel.boot(program, moment, out) else {
+            return Err(AllocError);
+        };
+    }
+    Ok(())
+}
+
+/// A packet goes into the receive ring, or is lost where that is full. The answer is whether it went there.
+#[tactic(auto, unfolding(crate::specs::Arrivals::hear))]
+fn hear(
+    kernel: &mut Kernel,
+    moment: u64,
+    packet: Arrival,
+    out: &mut Out,
+) -> Result<bool, AllocError>
+    ensures heard { (t : Tree) → OnOk result (GoesOn (hear moment packet) (mote_in t kernel.old) out.old (mote_in t kernel.new) out.new) }
+    ensures room { (t : Tree) → IfOk result (λ heard. IfSome (mote_in t kernel.old) (λ m. heard ≡ has_room m)) }
+{
+    let heard = kernel.accept_packet(packet);
+    let what = if heard {
+        What::Recv(packet.sender, packet.number, packet.value)
+    } else {
+        What::Lost(packet.sender, packet.number)
+    };
+    out.lines.push(Line { at: moment, what })?;
+    Ok(heard)
+}
+
+/// The packets go into the ring in their order. Where any does, the radio process is to be polled.
+fn hear_all(
+    kernel: &mut Kernel,
+    moment: u64,
+    packets: &[Arrival],
+    out: &mut Out,
+) -> Result<(), AllocError>
+    ensures { (t : Tree) → OnOk result (GoesOn (hear_all moment packets.now) (mote_in t kernel.old) out.old (mote_in t kernel.new) out.new) }
+{
+    let mut any = false;
+    for packet in packets {
+        let heard = hear(kernel, moment, *packet, out)?;
+        any = any || heard;
+    }
+    if any {
+        kernel.poll(Proc::Radio);
+    }
+    Ok(())
+}
+
+/// Where a timer is due, the etimer process is to be polled.
+#[tactic(auto, unfolding(crate::specs::Turn::poll_due))]
+fn poll_due(kernel: &mut Kernel, moment: u64)
+    ensures { (t : Tree) → mote_in t kernel.new ≡ option_map (poll_due moment) (mote_in t kernel.old) }
+{
+    if let Some(due) = kernel.next_expiration() {
+        if due <= moment {
+            kernel.poll(Proc::Etimer);
+        }
+    }
+}
+
+/// Kernel runs, until one leaves nothing to do or the mote halts.
+fn run_all(
+    kernel: &mut Kernel,
+    program: &Program,
+    moment: u64,
+    out: &mut Out,
+) -> Result<(), AllocError>
+    requires { moment ≤ 2 ^ 40 }
+    ensures { let t = tree_of program.now in OnOk result (GoesOn (runs_of most_runs moment) (mote_in t kernel.old) out.old (mote_in t kernel.new) out.new) }
+{
+    'runs: for _run in 0..RUNS {
+        let Ok(ran) = kernel.run(program, moment, out) else {
+            return Err(AllocError);
+        };
+        match ran {
+            Ran::Halted => return Ok(()),
+            Ran::Left(left) => {
+                if left == 0 {
+                    return Ok(());
+                }
+            }
+        }
+    }
+    Ok(())
+}
+
+/// The turn of the mote with these packets.
+#[tactic(auto, unfolding(crate::specs::Turn::mote_turn, crate::specs::Turn::work_of))]
+fn turn_mote(
+    kernel: &mut Kernel,
+    program: &Program,
+    moment: u64,
+    packets: &[Arrival],
+    out: &mut Out,
+) -> Result<(), AllocError>
+    requires { moment ≤ 2 ^ 40 }
+    ensures { let t = tree_of program.now in OnOk result (GoesOn (mote_turn moment packets.now) (mote_in t kernel.old) out.old (mote_in t kernel.new) out.new) }
+{
+    boot(kernel, program, moment, out)?;
+    if kernel.is_halted() {
+        return Ok(());
+    }
+    hear_all(kernel, moment, packets, out)?;
+    poll_due(kernel, moment);
+    run_all(kernel, program, moment, out)
+}
+
+/// Writes that each of these packets was lost by a collision.
+fn write_collisions(moment: u64, packets: &[Arrival], out: &mut Out) -> Result<(), AllocError>
+    ensures lines { OnOk result (out.new.lines.items ≡ out.old.lines.items ++ map (collision_line moment) packets.now) }
+    ensures sends { OnOk result (out.new.sends.items ≡ out.old.sends.items) }
+{
+    for packet in packets {
+        out.lines.push(Line {
+            at: moment,
+            what: What::Collide(packet.sender, packet.number),
+        })?;
+    }
+    Ok(())
+}
+
+/// The turn of a mote in a net: where packets collide, and that is asked for, it has none of them.
+#[tactic(auto, unfolding(crate::specs::Turn::net_turn))]
+pub fn turn_in_net(
+    kernel: &mut Kernel,
+    program: &Program,
+    collide: bool,
+    moment: u64,
+    packets: &[Arrival],
+    out: &mut Out,
+) -> Result<(), AllocError>
+    requires { moment ≤ 2 ^ 40 }
+    ensures { let t = tree_of program.now in OnOk result (GoesOn (net_turn collide moment packets.now) (mote_in t kernel.old) out.old (mote_in t kernel.new) out.new) }
+{
+    if collide && !kernel.is_halted() && packets.len() >= 2 {
+        write_collisions(moment, packets, out)?;
+        return turn_mote(kernel, program, moment, &[], out);
+    }
+    turn_mote(kernel, program, moment, packets, out)
+}

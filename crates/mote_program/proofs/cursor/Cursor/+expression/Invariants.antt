@@ -1,5 +1,0 @@
-use Rattle.std.proofs.Common.{◌-◌}
-use Rattle.mote_program.proofs.cursor.Cursor.+expression.Given as goal
-
-abbrev pub decreases-expression : goal.decreases-expression
-decreases-expression l = 32 - l.level

@@ -1,0 +1,50 @@
+-- What reading the codes of a program gives.
+use Rattle.std.specs.Prelude.{◌≡◌, ℕ, List, [], ◌∷◌, ◌++◌, length, replicate, false, true, Option}
+use Rattle.mote_program.specs.Code.{Code}
+use Rattle.mote_program.specs.Faults.{Scope}
+use Rattle.mote_program.specs.Grammar.{Mark, tokens, codes_marks, event_marks, semaphore_marks}
+use Rattle.mote_program.specs.Head.{ReadsNames, ReadsValues, ReadsProcesses, ReadsAutostart, ReadsReceiver}
+use Rattle.mote_program.specs.InScope.{Names, outside}
+use Rattle.mote_program.specs.Machine.{Pending, tell, codes_form, from_events, from_semaphores}
+use Rattle.mote_program.specs.Numbers.{named_of, values_of, inside, codes_in, timer_of}
+use Rattle.mote_program.specs.Shapes.{Name, CodeShape}
+use Rattle.mote_program.specs.Tokens.{Token}
+use Rattle.mote_program.specs.Tree.{an_event, a_semaphore}
+use Rattle.mote_program.specs.declared.timer.Timer.{Timer}
+
+-- the names in scope behind some codes
+abbrev pub behind : Names → List CodeShape → Names
+behind n [] = n
+behind n (c ∷ cs) = behind (outside (inside n c)) cs
+
+-- the codes of the first processes are read, and those of these are left
+pub record HasCodes (trees : List Code) (left : List Name) (s s' : Scope) (old rest : List Token) : Type 0 where
+  pub shapes : List (Name × CodeShape)
+  pub named : s.names.processes ≡ named_of shapes ++ left
+  pub numbered : trees ≡ codes_in 0 s.names (values_of shapes)
+  pub names : s'.names ≡ behind s.names (values_of shapes)
+  pub spelled : (ms : List Mark) → tokens ms ≡ rest → old ≡ tokens (codes_marks shapes ms)
+  pub goes_on : (f : Pending) → tell s (codes_form s.names.processes f) old ≡ tell s' (codes_form left f) rest
+
+-- what stands before the codes is read
+pub record ReadsHead (counts autostart : List ℕ) (receiver : Option ℕ) (s s' : Scope) (old new : List Token) : Type 0 where
+  pub s1 : Scope
+  pub s2 : Scope
+  pub s3 : Scope
+  pub m1 : List Token
+  pub m2 : List Token
+  pub m3 : List Token
+  pub m4 : List Token
+  pub events : ReadsNames an_event from_events from_semaphores event_marks s s1 old m1
+  pub semaphores : ReadsValues a_semaphore from_semaphores from_semaphores semaphore_marks counts s1 s2 m1 m2
+  pub processes : ReadsProcesses s2 s3 m2 m3
+  pub starting : ReadsAutostart s3 s' autostart m3 m4
+  pub receiving : ReadsReceiver s' receiver m4 new
+
+-- the timers of a code, and of all
+abbrev pub timers_of_code : Code → List Timer
+timers_of_code c = replicate (length c.etimers) (timer_of c.number false) ++ replicate (length c.ctimers) (timer_of c.number true)
+
+abbrev pub all_timers : List Code → List Timer
+all_timers [] = []
+all_timers (c ∷ cs) = timers_of_code c ++ all_timers cs

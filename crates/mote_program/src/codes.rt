@@ -1,0 +1,137 @@
+//! The codes of a program, and the program.
+ghost use Rattle.std.specs.Prelude.{◌≡◌, ◌≤◌, ◌<◌, ◌++◌, ◌∷◌, [], length, map, replicate, List, IfOk, OnOk};
+ghost use Rattle.mote_program.specs.Codes.{HasCodes, ReadsHead, all_timers};
+ghost use Rattle.mote_program.specs.Head.{FailsIn};
+ghost use Rattle.mote_program.specs.Machine as machine;
+ghost use Rattle.mote_program.specs.Faults.{nothing_yet, Scope};
+ghost use Rattle.mote_program.specs.Program.{code_of, tree_of};
+ghost use Rattle.mote_program.specs.Reading.{IsTreeOfTokens};
+ghost use Rattle.mote_program.specs.Tokens.{token_of};
+ghost use Rattle.mote_program.specs.Steps.{scope_of};
+ghost use Rattle.mote_program.specs.declared.fault.Fault.{Fault};
+
+use crate::cursor::Cursor;
+use crate::fault::Refusal;
+use crate::program::{ProcessText, Program};
+use crate::reader::Reader;
+use crate::scope::Scope as ScopeRead;
+use crate::timer::Timer;
+use crate::token::Token;
+use std::alloc::{AllocError, Global};
+
+/// Adds so many timers of one kind.
+fn add_timers(timers: &mut Vec<Timer>, count: usize, timer: Timer) -> Result<(), AllocError>
+    ensures { OnOk result (timers.new.items ≡ timers.old.items ++ replicate count timer) }
+{
+    for _added in 0..count {
+        timers.push(timer)?;
+    }
+    Ok(())
+}
+
+/// The timers of all processes, in the order of the text.
+fn timers(alloc: Global, mut codes: &[ProcessText]) -> Result<Vec<Timer>, AllocError>
+    ensures { IfOk result (λ timers. timers.items ≡ all_timers (map code_of codes.entry.now)) }
+{
+    let mut timers = Vec::new(alloc);
+    while let [code, rest @ ..] = codes {
+        let etimer = Timer {
+            process: code.number,
+            is_callback: false,
+        };
+        add_timers(&mut timers, code.etimers.len(), etimer)?;
+        let ctimer = Timer {
+            process: code.number,
+            is_callback: true,
+        };
+        add_timers(&mut timers, code.ctimers.len(), ctimer)?;
+        codes = rest;
+    }
+    Ok(timers)
+}
+
+impl Reader<'_> {
+    /// The codes of the processes, in their order.
+    fn codes(&mut self) -> Result<Vec<ProcessText>, Refusal>
+        requires variables { self.old.scope.variables ≡ [] }
+        requires etimers { self.old.scope.etimers ≡ [] }
+        requires ctimers { self.old.scope.ctimers ≡ [] }
+        requires threads { self.old.scope.threads ≡ [] }
+        ensures ok { IfOk result (λ codes. HasCodes (map code_of codes.items) [] (scope_of self.old.scope) (scope_of self.new.scope) self.old.cursor self.new.cursor) }
+        ensures err { (f : Fault) → result ≡ Err (Refusal.Fault f) → (more : machine.Pending) →
+            machine.tell (scope_of self.old.scope) (machine.codes_form self.old.scope.processes more) self.old.cursor ≡ machine.fault f.kind f.left }
+    {
+        let mut codes = Vec::new(self.alloc);
+        'codes: while codes.len() < self.scope.processes.len() {
+            let code = self.code(codes.len())?;
+            codes.push(code)?;
+        }
+        Ok(codes)
+    }
+}
+
+impl Cursor<'_> {
+    /// The end of the text.
+    fn end(&self) -> Result<(), Refusal>
+        ensures ok { OnOk result (self.now ≡ []) }
+        ensures err { (f : Fault) → result ≡ Err (Refusal.Fault f) → (s : Scope) → machine.tell s [] self.now ≡ machine.fault f.kind f.left }
+    {
+        if self.left() == 0 {
+            return Ok(());
+        }
+        Err(self.unfit())
+    }
+}
+
+/// What stands before the codes of a program: the first counts of the semaphores, the processes that start at boot, and the one that
+/// packets go to.
+#[derive(Drop)]
+struct Head {
+    counts: Vec<u16>,
+    autostart: Vec<u8>,
+    receiver: Option<u8>,
+}
+
+impl Reader<'_> {
+    /// What stands before the codes.
+    fn head(&mut self) -> Result<Head, Refusal>
+        ensures ok { IfOk result (λ h. ReadsHead h.counts.items h.autostart.items h.receiver (scope_of self.old.scope) (scope_of self.new.scope) self.old.cursor self.new.cursor) }
+        ensures err { FailsIn (scope_of self.old.scope) (machine.from_events ∷ []) self.old.cursor result }
+    {
+        self.events()?;
+        let counts = self.semaphores()?;
+        self.processes()?;
+        let autostart = self.autostart()?;
+        let receiver = self.receiver()?;
+        Ok(Head {
+            counts,
+            autostart,
+            receiver,
+        })
+    }
+}
+
+/// The program that the tokens are, or their first fault.
+pub(crate) fn program<'a>(alloc: Global, tokens: &'a [Token<'a>]) -> Result<Program, Refusal>
+    ensures ok { IfOk result (λ p. IsTreeOfTokens (map token_of tokens.now) (tree_of p)) }
+    ensures err { (f : Fault) → result ≡ Err (Refusal.Fault f) →
+        machine.tell nothing_yet (machine.from_events ∷ []) (map token_of tokens.now) ≡ machine.fault f.kind f.left }
+{
+    let mut reader = Reader {
+        alloc,
+        cursor: Cursor::new(tokens),
+        scope: ScopeRead::new(alloc),
+    };
+    let head = reader.head()?;
+    let codes = reader.codes()?;
+    reader.cursor.end()?;
+    let timers = timers(alloc, &codes)?;
+    Ok(Program::new(
+        reader.scope,
+        head.counts,
+        head.autostart,
+        head.receiver,
+        codes,
+        timers,
+    ))
+}

@@ -1,0 +1,47 @@
+use Rattle.std.proofs.Common.{◌≡◌, ◌++◌, ap, sym, List, map, Vec, Global}
+use Rattle.std.proofs.lemmas.Result.{err_from_is_err_and}
+use Rattle.motesim.specs.Names.{naming_of}
+use Rattle.motesim.specs.Report.{lines_in, packet_of, report_of}
+use Rattle.motesim.specs.ReportText.{motes_text, medium_text, left_text, report_text}
+use Rattle.process_kernel.specs.declared.line.Line.{Line}
+use Rattle.motesim.specs.declared.log.LogLine.{LogLine}
+use Rattle.motesim.specs.declared.printer.named.MoteProgram.{MoteProgram}
+use Rattle.motesim.specs.declared.report.Report.{Report}
+use Rattle.motesim.proofs.Written.{written_none, written_start, written_front, written_then, printed_next, stopped_before}
+use Rattle.motesim.proofs.printer.report.write_report.Goals as goal
+
+-- the parts of a report's text
+motes_first : (ns : List MoteProgram) (r : Report) (ts : List (Vec Line Global)) → ts ≡ r.traces.items
+    → report_text (map naming_of ns) (report_of r) ≡ motes_text 0 (map naming_of ns) (map lines_in ts) ++ (medium_text (report_of r).log ++ left_text r.left)
+motes_first ns r ts is = ap (λ (l : List (Vec Line Global)). motes_text 0 (map naming_of ns) (map lines_in l) ++ (medium_text (report_of r).log ++ left_text r.left)) (sym is)
+
+medium_next : (r : Report) (log : List LogLine) → log ≡ r.log.items → medium_text (report_of r).log ++ left_text r.left ≡ medium_text (map packet_of log) ++ left_text r.left
+medium_next r log is = ap (λ (l : List LogLine). medium_text (map packet_of l) ++ left_text r.left) (sym is)
+
+pub returns-in_err-page : goal.returns-in_err-page
+returns-in_err-page g c =
+    let p = err_from_is_err_and c.from_residual.result c.from_residual.ensures.1 in
+    rw p.1 (written_front _ _ _ (motes_text 0 (map naming_of c.args.programs.now) (report_of c.args.report.now).traces) 109 _ (written_none _ _))
+
+pub returns-in_err-print_motes : goal.returns-in_err-print_motes
+returns-in_err-print_motes g c =
+    let p = err_from_is_err_and c.from_residual-in_err-print_motes.result c.from_residual-in_err-print_motes.ensures.1 in
+    rw p.1 (stopped_before _ _ _ _ c.in_ok-page.page (motes_text 0 (map naming_of c.args.programs.now) (map lines_in c.deref.result.now)) 109 _ _
+    (written_start _ c.in_ok-page.page _ c.in_ok-page.ensures) (motes_first c.args.programs.now c.args.report.now c.deref.result.now c.deref.ensures.value) c.in_err-print_motes.ensures)
+
+pub returns-in_err-print_medium : goal.returns-in_err-print_medium
+returns-in_err-print_medium g c =
+    let p = err_from_is_err_and c.from_residual-in_err-print_medium.result c.from_residual-in_err-print_medium.ensures.1 in
+    rw p.1 (stopped_before _ _ _ _ c.print_motes.new.page (medium_text (map packet_of c.deref-2.result.now)) 108 _ _
+    (printed_next _ _ _ _ c.in_ok-page.page _ _ _ _ (written_start _ c.in_ok-page.page _ c.in_ok-page.ensures)
+    (motes_first c.args.programs.now c.args.report.now c.deref.result.now c.deref.ensures.value) c.in_ok-print_motes.ensures)
+    (medium_next c.args.report.now c.deref-2.result.now c.deref-2.ensures.value) c.in_err-print_medium.ensures)
+
+pub returns : goal.returns
+returns g c =
+    written_then _ _ _ c.write_end.result _ _
+    (printed_next _ _ _ _ c.print_motes.new.page _ _ _ _
+    (printed_next _ _ _ _ c.in_ok-page.page _ _ _ _ (written_start _ c.in_ok-page.page _ c.in_ok-page.ensures)
+    (motes_first c.args.programs.now c.args.report.now c.deref.result.now c.deref.ensures.value) c.in_ok-print_motes.ensures)
+    (medium_next c.args.report.now c.deref-2.result.now c.deref-2.ensures.value) c.in_ok-print_medium.ensures)
+    c.write_end.ensures

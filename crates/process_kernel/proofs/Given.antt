@@ -1,0 +1,58 @@
+-- What a boot or a run of a kernel gives.
+use Rattle.std.proofs.Common.{ℕ, ◌≡◌, Bool, true, false, List, [], append-nil, Result, Ok, Err, refl, sym, ap, ◌∙◌}
+use Rattle.mote_program.specs.Code.{Tree}
+use Rattle.process_kernel.specs.declared.line.Line.{Line}
+use Rattle.process_kernel.specs.declared.line.Sent.{Sent}
+use Rattle.process_kernel.specs.declared.line.Out.{Out}
+use Rattle.process_kernel.specs.declared.kernel.Kernel.{Kernel}
+use Rattle.process_kernel.specs.declared.kernel.Ran.{Ran}
+use Rattle.process_kernel.specs.declared.kernel.Ran.TheVariants as ran
+use Rattle.process_kernel.specs.declared.kernel.KernelError.{KernelError}
+use Rattle.process_kernel.specs.declared.kernel.KernelError.TheVariants as error
+use Rattle.process_kernel.specs.declared.machine.Stop.{Stop}
+use Rattle.process_kernel.specs.declared.machine.Stop.TheVariants.{Halted, Memory}
+use Rattle.process_kernel.specs.State.{State, Outcome}
+use Rattle.process_kernel.specs.Mote.{Mote, at_rest}
+use Rattle.process_kernel.specs.Views as views
+use Rattle.process_kernel.specs.Views.{state_of, mote_of, Begins}
+use Rattle.process_kernel.specs.Public.{mote_in, Given, given, BeginsWith, Tells, Closes}
+
+-- a kernel that an earlier call left without memory
+pub failed : (t : Tree) (gives : Mote → List Line → List Sent → Given) (k : Kernel) (out : Out) → k.failed ≡ true → Tells gives (mote_in t k) out (Err error.Failed) (mote_in t k) out
+unfolding mote_in
+failed t gives k out is = rw is (refl, refl, refl)
+
+-- a kernel of a mote that has halted
+pub halted : (t : Tree) (gives : Mote → List Line → List Sent → Given) (k : Kernel) (out : Out) → k.failed ≡ false
+    → gives (mote_of t k.machine k.booted k.halted) out.lines.items out.sends.items ≡ record { ran = ran.Halted; mote = mote_of t k.machine k.booted k.halted; lines = out.lines.items; sends = out.sends.items }
+    → Tells gives (mote_in t k) out (Ok ran.Halted) (mote_in t k) out
+unfolding mote_in
+halted t gives k out going is = rw going (mote_of t k.machine k.booted k.halted, refl, is)
+
+same_given : (r : Ran) (h : Bool) (a b : State) (ls ms : List Line) (ss us : List Sent) → a ≡ b → ms ≡ ls → us ≡ ss
+    → let x : Given = record { ran = r; mote = record { state = a; booted = true; halted = h }; lines = ls; sends = ss } in
+    let y : Given = record { ran = r; mote = record { state = b; booted = true; halted = h }; lines = ms; sends = us } in x ≡ y
+same_given r h a b ls ms ss us p q u = cc
+
+-- a kernel that was booted or run
+pub finished : (t : Tree) (gives : Mote → List Line → List Sent → Given) (k k1 k2 : Kernel) (out out' : Out) (s1 : State) (o : Outcome ℕ) (r : Result ℕ Stop) (result : Result Ran KernelError)
+    → k.failed ≡ false → k1.failed ≡ false → k1.halted ≡ false
+    → gives (mote_of t k.machine k.booted k.halted) out.lines.items out.sends.items ≡ given o
+    → views.Tells r s1 o → at_rest s1 ≡ at_rest (state_of t k1.machine) → out'.lines.items ≡ s1.lines → out'.sends.items ≡ s1.sends
+    → BeginsWith out out' → Closes k1 r result k2 → Tells gives (mote_in t k) out result (mote_in t k2) out'
+unfolding mote_in
+finished t gives k k1 k2 out out' s1 o (Ok left) result going going1 running gives_it told rest ls ss begins closes =
+    rw (going, closes.0, closes.1, going1, running)
+    (mote_of t k1.machine true false, refl, gives_it ∙ ap given told ∙ same_given (ran.Left left) false (at_rest s1) (at_rest (state_of t k1.machine)) s1.lines out'.lines.items s1.sends out'.sends.items rest ls ss)
+finished t gives k k1 k2 out out' s1 o (Err Halted) result going going1 running gives_it told rest ls ss begins closes =
+    rw (going, closes.0, closes.1, going1)
+    (mote_of t k1.machine true true, refl, gives_it ∙ ap given told ∙ same_given ran.Halted true (at_rest s1) (at_rest (state_of t k1.machine)) s1.lines out'.lines.items s1.sends out'.sends.items rest ls ss)
+finished t gives k k1 k2 out out' s1 o (Err Memory) result going going1 running gives_it told rest ls ss begins closes =
+    rw (going, closes.0, closes.1) (refl, refl, begins)
+
+-- what grew from what was written begins with it
+pub begins_with : (old new : Out) → ((lines : List Line) (sends : List Sent) → Begins lines sends old → Begins lines sends new) → BeginsWith old new
+unfolding Begins
+begins_with old new grows =
+    let b = grows old.lines.items old.sends.items (([], sym (append-nil old.lines.items)), ([], sym (append-nil old.sends.items))) in
+    record { lines = b.0; sends = b.1 }

@@ -1,0 +1,9 @@
+pub mod Depth
+pub mod First
+pub mod Given
+pub mod Left
+pub mod Lists
+pub mod Places
+pub mod Remainders
+pub mod Starts
+pub mod Walks

@@ -1,0 +1,103 @@
+-- Process lists.
+use Rattle.std.proofs.Common.{ℕ, suc, ◌≡◌, ◌+◌, ◌<◌, ◌≤◌, Bool, true, false, not, ◌&&◌, eqb, List, [], ◌∷◌, length, map, filter, refl, ap, ◌∙◌, arith}
+use Rattle.std.specs.List.{All, AllByRecursion, IsDistinct}
+use Rattle.std.proofs.lemmas.Bool.{or_parts, and_parts, cond_both, not-true, eqb-true, not_from_false}
+use Rattle.std.proofs.lemmas.List.Elements.{All-cons, All-contains, recursion_from_All, All-from_recursion}
+use Rattle.std.proofs.lemmas.Map.Steps.{length-le_from_distinct_below}
+use Rattle.std.proofs.lemmas.Map.Views.{Contains-from_any}
+use Rattle.mote_program.specs.declared.event.Proc.{Proc}
+use Rattle.process_kernel.specs.declared.process.Member.{Member}
+use Rattle.process_kernel.specs.Members.{place_of, is_same, stands_in, are_once, AreMembers}
+use Rattle.process_kernel.specs.ProcessList.{numbered_from}
+
+-- both tests hold
+both : (a b : Bool) → a ≡ true → b ≡ true → (a && b) ≡ true
+both a b h i = rw (h, i) refl
+
+abbrev places : List Member → List ℕ
+places ms = map (λ m. place_of m.process) ms
+
+apart : (m : Member) (ms : List Member) → stands_in ms m.process ≡ false → AllByRecursion (λ y. eqb (place_of m.process) y ≡ false) (places ms)
+apart m [] h = tt
+apart m (x ∷ xs) h = let parts = or_parts (is_same m.process x.process) (stands_in xs m.process) h in (parts.0, apart m xs parts.1)
+
+distinct : (ms : List Member) → are_once ms ≡ true → IsDistinct eqb (places ms)
+unfolding IsDistinct
+distinct [] h = tt
+distinct (m ∷ ms) h =
+    let parts = and_parts (not (stands_in ms m.process)) (are_once ms) h in (apart m ms (not-true _ parts.0), distinct ms parts.1)
+
+below : (n : ℕ) (ms : List Member) → AllByRecursion (λ m. place_of m.process < n) ms → AllByRecursion (λ k. k < n) (places ms)
+below n [] h = tt
+below n (m ∷ ms) h = (h.0, below n ms h.1)
+
+length-places : (ms : List Member) → length (places ms) ≡ length ms
+length-places [] = refl
+length-places (m ∷ ms) = ap suc (length-places ms)
+
+-- no more processes are on the list than the mote has
+pub length-le : (ms : List Member) (n : ℕ) → AreMembers ms n → length ms ≤ n
+length-le ms n are =
+    let ks : All (λ k. k < n) (places ms) = All-from_recursion _ _ (below n ms (recursion_from_All _ ms are.within)) in
+    let most = length-le_from_distinct_below (places ms) n (distinct ms are.once) (λ q there. All-contains (λ j. j < n) (places ms) q ks (Contains-from_any eqb-true q (places ms) there)) in
+    omega (arith, most, length-places ms)
+
+-- a process of the mote that is not on the list goes there
+pub AreMembers-cons : (m : Member) (ms : List Member) (n : ℕ) → AreMembers ms n → place_of m.process < n → stands_in ms m.process ≡ false → AreMembers (m ∷ ms) n
+AreMembers-cons m ms n are within away = record {
+  once = both _ _ (not_from_false _ away) are.once;
+  within = All-cons (λ x. place_of x.process < n) m ms within are.within;
+}
+
+-- and there is room for it
+pub length-lt : (m : Member) (ms : List Member) (n : ℕ) → AreMembers ms n → place_of m.process < n → stands_in ms m.process ≡ false → length ms < n
+length-lt m ms n are within away = let most : length (m ∷ ms) ≤ n = length-le (m ∷ ms) n (AreMembers-cons m ms n are within away) in omega (arith, most)
+
+-- what stays on the list
+stands_in-filter : (f : Member → Bool) (ms : List Member) (p : Proc) → stands_in ms p ≡ false → stands_in (filter f ms) p ≡ false
+stands_in-filter f [] p h = refl
+stands_in-filter f (m ∷ ms) p h =
+    let parts = or_parts (is_same p m.process) (stands_in ms p) h in
+    cond_both (f m) (m ∷ filter f ms) (filter f ms) (λ (xs : List Member). stands_in xs p ≡ false) (λ _. rw (parts.0, stands_in-filter f ms p parts.1) refl) (λ _. stands_in-filter f ms p parts.1)
+
+are_once-filter : (f : Member → Bool) (ms : List Member) → are_once ms ≡ true → are_once (filter f ms) ≡ true
+are_once-filter f [] h = refl
+are_once-filter f (m ∷ ms) h =
+    let parts = and_parts (not (stands_in ms m.process)) (are_once ms) h in
+    cond_both (f m) (m ∷ filter f ms) (filter f ms) (λ (xs : List Member). are_once xs ≡ true)
+    (λ _. both _ _ (not_from_false _ (stands_in-filter f ms m.process (not-true _ parts.0))) (are_once-filter f ms parts.1))
+    (λ _. are_once-filter f ms parts.1)
+
+within-filter : (n : ℕ) (f : Member → Bool) (ms : List Member) → AllByRecursion (λ m. place_of m.process < n) ms → AllByRecursion (λ m. place_of m.process < n) (filter f ms)
+within-filter n f [] h = tt
+within-filter n f (m ∷ ms) h =
+    cond_both (f m) (m ∷ filter f ms) (filter f ms) (AllByRecursion (λ m. place_of m.process < n)) (λ _. (h.0, within-filter n f ms h.1)) (λ _. within-filter n f ms h.1)
+
+pub AreMembers-filter : (f : Member → Bool) (ms : List Member) (n : ℕ) → AreMembers ms n → AreMembers (filter f ms) n
+AreMembers-filter f ms n are = record {
+  once = are_once-filter f ms are.once;
+  within = All-from_recursion _ _ (within-filter n f ms (recursion_from_All _ ms are.within));
+}
+
+-- new numbers change no process
+stands_in-numbered : (k : ℕ) (ms : List Member) (p : Proc) → stands_in (numbered_from k ms) p ≡ stands_in ms p
+stands_in-numbered k [] p = refl
+stands_in-numbered k (m ∷ ms) p = rw (stands_in-numbered (k + 1) ms p) refl
+
+are_once-numbered : (k : ℕ) (ms : List Member) → are_once (numbered_from k ms) ≡ are_once ms
+are_once-numbered k [] = refl
+are_once-numbered k (m ∷ ms) = rw (stands_in-numbered (k + 1) ms m.process, are_once-numbered (k + 1) ms) refl
+
+within-numbered : (n k : ℕ) (ms : List Member) → AllByRecursion (λ m. place_of m.process < n) ms → AllByRecursion (λ m. place_of m.process < n) (numbered_from k ms)
+within-numbered n k [] h = tt
+within-numbered n k (m ∷ ms) h = (h.0, within-numbered n (k + 1) ms h.1)
+
+pub AreMembers-numbered : (k : ℕ) (ms : List Member) (n : ℕ) → AreMembers ms n → AreMembers (numbered_from k ms) n
+AreMembers-numbered k ms n are = record {
+  once = are_once-numbered k ms ∙ are.once;
+  within = All-from_recursion _ _ (within-numbered n k ms (recursion_from_All _ ms are.within));
+}
+
+pub length-numbered : (k : ℕ) (ms : List Member) → length (numbered_from k ms) ≡ length ms
+length-numbered k [] = refl
+length-numbered k (m ∷ ms) = ap suc (length-numbered (k + 1) ms)

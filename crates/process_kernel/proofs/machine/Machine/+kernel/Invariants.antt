@@ -1,0 +1,73 @@
+use Rattle.std.proofs.Common.{◌≡◌, ◌<◌, ◌+◌, ◌*◌, ℕ, drop}
+use Rattle.mote_program.specs.Program.{tree_of, code_of}
+use Rattle.protothread.specs.Frames.{remainder_of}
+use Rattle.process_kernel.specs.Calls.{walk_of}
+use Rattle.process_kernel.specs.Call.{calls_of}
+use Rattle.process_kernel.specs.Views.{state_of, Spends, Grows}
+use Rattle.process_kernel.proofs.machine.Machine.+kernel.Given as goal
+
+-- Each call of a running process and each step of a thread spends a unit of work. What calls it at once, and spends
+-- nothing, ranks higher.
+abbrev pub decreases-call : goal.decreases-call
+decreases-call l = 6 * l.self.now.fuel + 0
+
+abbrev pub decreases-react : goal.decreases-react
+decreases-react l = 6 * l.self.now.fuel + 3
+
+abbrev pub decreases-react_as_own : goal.decreases-react_as_own
+decreases-react_as_own l = 6 * l.self.now.fuel + 2
+
+abbrev pub decreases-handle : goal.decreases-handle
+decreases-handle l = 6 * l.self.now.fuel + 1
+
+abbrev pub decreases-resume : goal.decreases-resume
+decreases-resume l = 6 * l.self.now.fuel + 1
+
+abbrev pub decreases-react_as_ctimer : goal.decreases-react_as_ctimer
+decreases-react_as_ctimer l = 6 * l.self.now.fuel + 2
+
+abbrev pub decreases-call_back : goal.decreases-call_back
+decreases-call_back l = 6 * l.self.now.fuel + 1
+
+abbrev pub decreases-run : goal.decreases-run
+decreases-run l = 6 * l.self.now.fuel + 0
+
+abbrev pub decreases-perform : goal.decreases-perform
+decreases-perform l = 6 * l.self.now.fuel + 5
+
+abbrev pub decreases-act : goal.decreases-act
+decreases-act l = 6 * l.self.now.fuel + 4
+
+abbrev pub decreases-start : goal.decreases-start
+decreases-start l = 6 * l.self.now.fuel + 1
+
+abbrev pub decreases-kill : goal.decreases-kill
+decreases-kill l = 6 * l.self.now.fuel + 3
+
+abbrev pub decreases-exit : goal.decreases-exit
+decreases-exit l = 6 * l.self.now.fuel + 2
+
+abbrev pub decreases-run_last : goal.decreases-run_last
+decreases-run_last l = 6 * l.self.now.fuel + 0
+
+abbrev pub decreases-walk : goal.decreases-walk
+decreases-walk l = 6 * l.self.now.fuel + 1
+
+-- the run of the thread as it stood, from the start, is its run as it stands now
+abbrev pub invariant-run-loop-op : goal.invariant-run-loop-op
+invariant-run-loop-op l =
+    Spends 0 l.fn.self l.self
+    × Grows l.fn.self.out l.self.out
+    × ((k : ℕ) → l.fn.self.fuel < k → (m : ℕ) × (l.self.fuel < m)
+    × ((calls_of k).run (state_of (tree_of l.program) l.fn.self) (code_of l.text) (remainder_of (code_of l.text) l.fn.thread) l.process l.event
+    ≡ (calls_of m).run (state_of (tree_of l.program) l.self) (code_of l.text) (remainder_of (code_of l.text) l.thread) l.process l.event))
+
+abbrev pub decreases-run-loop-op : goal.decreases-run-loop-op
+decreases-run-loop-op l = l.self.fuel
+
+abbrev pub invariant-walk-loop-member : goal.invariant-walk-loop-member
+invariant-walk-loop-member l =
+    Spends 0 l.fn.self l.self
+    × Grows l.fn.self.out l.self.out
+    × ((k : ℕ) → l.fn.self.fuel < k → walk_of (calls_of k) l.event l.skipped l.members (state_of (tree_of l.program) l.fn.self)
+    ≡ walk_of (calls_of k) l.event l.skipped (drop l.member-index l.members) (state_of (tree_of l.program) l.self))

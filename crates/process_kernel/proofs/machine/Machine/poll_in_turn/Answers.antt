@@ -1,0 +1,8 @@
+use Rattle.std.proofs.Common.{rules}
+use Rattle.mote_program.specs.Program.{tree_of}
+use Rattle.process_kernel.specs.Polls.{poll_turn_of}
+use Rattle.process_kernel.proofs.machine.Machine.poll_in_turn.Goals as goal
+
+pub returns-clause-exact : goal.returns-clause-exact
+unfolding poll_turn_of
+returns-clause-exact c = λ k enough. search (rules, c.set_mark.ensures.exact (tree_of c.args.program.now))

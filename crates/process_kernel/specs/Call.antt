@@ -1,0 +1,38 @@
+-- The call of a process, and the one recursion of the rules.
+use Rattle.std.specs.Prelude.{ℕ, zero, suc, Bool, true, false, ◌||◌, if◌then◌else◌}
+use Rattle.mote_program.specs.declared.event.Proc.{Proc}
+use Rattle.mote_program.specs.declared.event.Event.{Event}
+use Rattle.mote_program.specs.declared.event.SystemEvent.TheVariants.{Exit}
+use Rattle.protothread.specs.declared.state.PtState.{PtState}
+use Rattle.protothread.specs.declared.state.PtState.TheVariants.{Waiting, Yielded, Exited, Ended}
+use Rattle.process_kernel.specs.declared.process.ProcessState.TheVariants.{Running, Called}
+use Rattle.process_kernel.specs.State.{State, Went, Ends, Goes, ◌>>=◌}
+use Rattle.process_kernel.specs.Processes.{is_running, with_state}
+use Rattle.process_kernel.specs.Writes.{spend_of, halted_of}
+use Rattle.process_kernel.specs.Calls.{Calls, is_event}
+use Rattle.process_kernel.specs.Reaction.{react_of}
+use Rattle.process_kernel.specs.Exit.{exit_of}
+use Rattle.process_kernel.specs.Operation.{run_of}
+
+abbrev pub has_ended : PtState → Bool
+has_ended Waiting = false
+has_ended Yielded = false
+has_ended Exited = true
+has_ended Ended = true
+
+-- a process that has answered is exited on its own behalf, or is running again
+unfoldable pub answered : Calls → State → Proc → (ended : Bool) → Went
+answered calls s p ended = if ended then exit_of calls s p p else Goes tt (with_state s p Running)
+
+-- A running process is called, which costs a unit of work. For one that isn't running the event is lost.
+unfoldable pub call_of : Calls → State → Proc → Event → Went
+call_of calls s p e =
+    if is_running s p then (spend_of s >>= λ _ s1. react_of calls (with_state s1 p Called) p e >>= λ answer s2.
+    answered calls s2 p (has_ended answer || is_event Exit e))
+    else Goes tt s
+
+-- The calls that nest at most so many deep. Each call, and each run of a thread from one operation to the next, spends a unit
+-- of work, so that more depth than units changes nothing; without depth a mote halts as it does without work.
+unfoldable pub calls_of : ℕ → Calls
+calls_of zero = record { call = λ s p e. Ends (halted_of s); run = λ s code r p e. Ends (halted_of s) }
+calls_of (suc k) = record { call = call_of (calls_of k); run = run_of (calls_of k) }

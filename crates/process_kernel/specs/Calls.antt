@@ -1,0 +1,35 @@
+-- The two calls that recurse, and the walk over the process list.
+use Rattle.std.specs.Prelude.{ℕ, ◌==◌, Bool, not, ◌&&◌, List, [], ◌∷◌, if◌then◌else◌}
+use Rattle.mote_program.specs.declared.event.Proc.{Proc}
+use Rattle.mote_program.specs.declared.event.Event.{Event}
+use Rattle.mote_program.specs.declared.event.SystemEvent.{SystemEvent}
+use Rattle.mote_program.specs.Code.{Code}
+use Rattle.mote_program.specs.Events.{system_number}
+use Rattle.protothread.specs.declared.state.PtState.{PtState}
+use Rattle.protothread.specs.Remainder.{Remainder}
+use Rattle.process_kernel.specs.declared.process.Member.{Member}
+use Rattle.process_kernel.specs.Members.{is_same}
+use Rattle.process_kernel.specs.State.{State, Outcome, Went, Goes, ◌>>=◌}
+use Rattle.process_kernel.specs.Processes.{is_on_list}
+
+-- an event of the kernel's own, with a word
+abbrev pub told : SystemEvent → ℕ → Event
+told event word = record { number = system_number event; word = word; sender = 0 }
+
+abbrev pub is_event : SystemEvent → Event → Bool
+is_event event e = e.number == system_number event
+
+-- what a thread answered, and what it has still to do
+abbrev pub Answer : Type 0
+Answer = PtState × Remainder
+
+-- The calls that a rule may make: that of a process with an event, and the run of a thread of a process up to its answer.
+pub record Calls : Type 0 where
+  pub call : State → Proc → Event → Went
+  pub run : State → Code → Remainder → (process : ℕ) → Event → Outcome Answer
+
+-- each of these incarnations that is on the process list at its turn is called, but for one process
+abbrev pub walk_of : Calls → Event → (skipped : Proc) → List Member → State → Went
+walk_of calls e skipped [] s = Goes tt s
+walk_of calls e skipped (m ∷ ms) s =
+    (if not (is_same m.process skipped) && is_on_list s m then calls.call s m.process e else Goes tt s) >>= λ _ s1. walk_of calls e skipped ms s1

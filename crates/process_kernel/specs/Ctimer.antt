@@ -1,0 +1,31 @@
+-- The ctimer process.
+use Rattle.std.specs.Prelude.{ℕ, Bool, ◌&&◌, slice_get, Some, None, if◌then◌else◌}
+use Rattle.mote_program.specs.declared.event.Event.{Event}
+use Rattle.mote_program.specs.declared.event.SystemEvent.TheVariants.{Timer}
+use Rattle.protothread.specs.declared.part.Part.TheVariants.{Callback}
+use Rattle.protothread.specs.Remainder.{fresh_of}
+use Rattle.mote_timers.specs.Numbers.{is_member, without_member}
+use Rattle.process_kernel.specs.State.{State, Went, Goes, ◌>>=◌}
+use Rattle.process_kernel.specs.TimerOperations.{has_timer}
+use Rattle.process_kernel.specs.Calls.{Calls, is_event}
+
+-- the callback of this timer runs as the process that the timer is of
+unfoldable pub callback_of : Calls → State → Event → Went
+callback_of calls s e =
+    elim (slice_get s.program.timers e.word) [
+      | None ↦ Goes tt s
+      | Some t ↦ elim (slice_get s.program.codes t.process) [
+        | None ↦ Goes tt s
+        | Some code ↦ calls.run s code (fresh_of code (Callback e.word)) t.process e >>= λ _ s1. Goes tt s1
+      ]
+    ]
+
+-- the callback of this timer waits for it
+abbrev pub waits_for : State → (timer : ℕ) → Bool
+waits_for s timer = has_timer s timer && is_member timer s.callbacks
+
+-- a callback that waits for its timer is taken off the callback list and runs
+unfoldable pub ctimer_of : Calls → State → Event → Went
+ctimer_of calls s e =
+    if is_event Timer e && waits_for s e.word then callback_of calls (record s { callbacks = without_member e.word s.callbacks }) e
+    else Goes tt s

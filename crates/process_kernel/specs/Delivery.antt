@@ -1,0 +1,34 @@
+-- The delivery of an event.
+use Rattle.std.specs.Prelude.{Bool, List, [], ◌∷◌, if◌then◌else◌}
+use Rattle.mote_program.specs.declared.event.Proc.{Proc}
+use Rattle.mote_program.specs.declared.event.Target.{Target}
+use Rattle.mote_program.specs.declared.event.Target.TheVariants.{One, All}
+use Rattle.event_queue.specs.declared.queue.Posted.{Posted}
+use Rattle.process_kernel.specs.declared.line.What.TheVariants as what
+use Rattle.process_kernel.specs.declared.process.Member.{Member}
+use Rattle.process_kernel.specs.State.{State, Went, Goes, ◌>>=◌}
+use Rattle.process_kernel.specs.Processes.{is_on_list, is_listed}
+use Rattle.process_kernel.specs.Writes.{write_of}
+use Rattle.process_kernel.specs.Calls.{Calls}
+use Rattle.process_kernel.specs.Polls.{polls_due_of}
+
+-- an event reaches a process, or is dropped
+unfoldable pub give_of : Calls → State → Posted → Proc → (is_there : Bool) → Went
+give_of calls s x p is_there =
+    if is_there then (write_of s (what.Take x.serial p) >>= λ _ s1. calls.call s1 p x.event) else write_of s (what.Drop x.serial p)
+
+-- the turn of an incarnation in the walk of an event that goes to all: the polls come first, where the flag is set
+unfoldable pub turn_of : Calls → State → Posted → Member → Went
+turn_of calls s x m = polls_due_of calls s >>= λ _ s1. give_of calls s1 x m.process (is_on_list s1 m)
+
+-- the walk of an event that goes to all, which skips none
+abbrev pub walk_event : Calls → Posted → List Member → State → Went
+walk_event calls x [] s = Goes tt s
+walk_event calls x (m ∷ ms) s = turn_of calls s x m >>= λ _ s1. walk_event calls x ms s1
+
+abbrev pub deliver_to : Target → Calls → State → Posted → Went
+deliver_to (One p) calls s x = give_of calls s x p (is_listed s p)
+deliver_to All calls s x = walk_event calls x s.members s
+
+unfoldable pub deliver_of : Calls → State → Posted → Went
+deliver_of calls s x = deliver_to x.target calls s x

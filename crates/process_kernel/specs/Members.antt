@@ -1,0 +1,34 @@
+-- Processes by their places in the tables of a mote, and what holds of every process list.
+use Rattle.std.specs.Prelude.{ℕ, ◌+◌, ◌<◌, ◌==◌, Bool, true, not, ◌&&◌, IsTrue, List, [], ◌∷◌, All}
+use Rattle.std.specs.List.{list_any}
+use Rattle.mote_program.specs.declared.event.Proc.{Proc}
+use Rattle.mote_program.specs.declared.event.Proc.TheVariants.{Own, Etimer, Ctimer, Radio}
+use Rattle.process_kernel.specs.declared.process.Member.{Member}
+
+-- the system processes come first, then those of the program in their order
+abbrev pub place_of : Proc → ℕ
+place_of Etimer = 0
+place_of Ctimer = 1
+place_of Radio = 2
+place_of (Own p) = p + 3
+
+abbrev pub is_same : Proc → Proc → Bool
+is_same p q = place_of p == place_of q
+
+-- some incarnation of the process is on the list
+abbrev pub stands_in : List Member → Proc → Bool
+stands_in ms p = list_any (λ x. is_same p x.process) ms
+
+-- the incarnation is on the list
+abbrev pub holds_member : List Member → Member → Bool
+holds_member ms m = list_any (λ x. is_same m.process x.process && (m.incarnation == x.incarnation)) ms
+
+-- no process is on the list twice
+abbrev pub are_once : List Member → Bool
+are_once [] = true
+are_once (m ∷ ms) = not (stands_in ms m.process) && are_once ms
+
+-- each process on the list is one of the mote's, and is there once
+pub record AreMembers (ms : List Member) (processes : ℕ) : Type 0 where
+  pub once : IsTrue (are_once ms)
+  pub within : All (λ m. place_of m.process < processes) ms

@@ -1,0 +1,69 @@
+-- A mote between its runs.
+use Rattle.std.specs.Prelude.{ℕ, ◌+◌, Bool, false, [], ◌∷◌, ◌++◌, ◌||◌, nat_lt, length, map, replicate}
+use Rattle.mote_program.specs.declared.event.Proc.{Proc}
+use Rattle.mote_program.specs.Code.{Tree}
+use Rattle.protothread.specs.declared.part.Part.TheVariants.{Body}
+use Rattle.protothread.specs.Remainder.{fresh_of}
+use Rattle.event_queue.specs.Queue.{empty_queue}
+use Rattle.mote_timers.specs.TimerLists.{new_timers}
+use Rattle.process_kernel.specs.declared.process.ProcessState.TheVariants.{Off}
+use Rattle.process_kernel.specs.declared.line.Arrival.{Arrival}
+use Rattle.process_kernel.specs.State.{State}
+use Rattle.process_kernel.specs.Posts.{poll_of}
+
+-- its state, with no work left and nothing written; whether it was booted, and whether it has halted
+pub record Mote : Type 0 where
+  pub state : State
+  pub booted : Bool
+  pub halted : Bool
+
+abbrev pub at_rest : State → State
+at_rest s = record s { units = 0; lines = []; sends = [] }
+
+-- a mote that was never booted: no process is on the list, and nothing was set, posted or sent
+unfoldable pub unbooted : Tree → (mote queue : ℕ) → Mote
+unbooted t mote queue = record {
+  state = record {
+    program = t;
+    mote = mote;
+    states = replicate (length t.processes + 3) Off;
+    exiting = replicate (length t.processes + 3) false;
+    marks = replicate (length t.processes + 3) false;
+    remainders = map (λ c. fresh_of c Body) t.codes;
+    variables = map (λ c. c.starts) t.codes;
+    members = [];
+    started = 0;
+    flag = false;
+    queue = empty_queue queue;
+    semaphores = t.counts;
+    timers = new_timers (length t.timers);
+    callbacks = [];
+    ring = [];
+    sent = 0;
+    moment = 0;
+    units = 0;
+    lines = [];
+    sends = [];
+  };
+  booted = false;
+  halted = false;
+}
+
+-- a packet goes into the ring
+unfoldable pub with_packet : Mote → Arrival → Mote
+with_packet m a = record m { state = record m.state { ring = m.state.ring ++ a ∷ [] } }
+
+unfoldable pub with_poll : Mote → Proc → Mote
+with_poll m p = record m { state = poll_of m.state p }
+
+-- there is something to do: an event is queued, or the poll flag is set
+abbrev pub is_pending : Mote → Bool
+is_pending m = nat_lt 0 (length m.state.queue.events) || m.state.flag
+
+-- how many packets wait in the ring
+abbrev pub holds_packets : Mote → ℕ
+holds_packets m = length m.state.ring
+
+-- the ring holds 8
+abbrev pub has_room : Mote → Bool
+has_room m = nat_lt (holds_packets m) 8

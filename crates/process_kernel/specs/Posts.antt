@@ -1,0 +1,30 @@
+-- Posting events, asking for polls, and sending packets.
+use Rattle.std.specs.Prelude.{ℕ, ◌+◌, ◌^◌, nat_le, Bool, true, false, [], ◌∷◌, ◌++◌, length, if◌then◌else◌}
+use Rattle.mote_program.specs.declared.event.Proc.{Proc}
+use Rattle.mote_program.specs.declared.event.Target.{Target}
+use Rattle.mote_program.specs.declared.event.Event.{Event}
+use Rattle.event_queue.specs.Queue.{with_posted}
+use Rattle.process_kernel.specs.declared.line.What.TheVariants as what
+use Rattle.process_kernel.specs.State.{State, Outcome, Went, Ends, Goes, ◌>>=◌}
+use Rattle.process_kernel.specs.Processes.{process_state, is_alive, with_mark}
+use Rattle.process_kernel.specs.Writes.{write_of, halted_of}
+
+-- An event is posted; the answer is whether the queue was full. A mote that has accepted 2 to the 62 events halts.
+unfoldable pub post_of : State → Target → Event → Outcome Bool
+post_of s t e =
+    if nat_le (2 ^ 62) s.queue.accepted then Ends (halted_of s)
+    else (if nat_le s.queue.capacity (length s.queue.events) then (write_of s (what.Full t e.number e.word) >>= λ _ s1. Goes true s1)
+    else (write_of (record s { queue = with_posted s.queue t e }) (what.Post s.queue.accepted t e.number e.word) >>= λ _ s1. Goes false s1))
+
+-- a process that is running or called is to be polled
+unfoldable pub poll_of : State → Proc → State
+poll_of s p = if is_alive (process_state s p) then record (with_mark s p true) { flag = true } else s
+
+-- a packet is sent; a mote that has sent 2 to the 62 halts
+unfoldable pub send_of : State → ℕ → Went
+send_of s value =
+    if nat_le (2 ^ 62) s.sent then Ends (halted_of s)
+    else write_of (record s {
+      sends = s.sends ++ record { at = s.moment; sender = s.mote; number = s.sent; value = value } ∷ [];
+      sent = s.sent + 1;
+    }) (what.Send s.sent value)

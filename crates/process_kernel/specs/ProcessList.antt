@@ -1,0 +1,58 @@
+-- How the process list grows and shrinks.
+use Rattle.std.specs.Prelude.{ℕ, zero, suc, ◌+◌, not, true, false, List, [], ◌∷◌, filter, slice_set}
+use Rattle.mote_program.specs.Code.{Code}
+use Rattle.mote_program.specs.declared.event.Proc.{Proc}
+use Rattle.mote_program.specs.declared.event.Proc.TheVariants.{Own, Etimer, Ctimer, Radio}
+use Rattle.protothread.specs.declared.part.Part.TheVariants.{Body}
+use Rattle.protothread.specs.Remainder.{Remainder, fresh_of}
+use Rattle.process_kernel.specs.declared.line.What.TheVariants as what
+use Rattle.process_kernel.specs.declared.process.ProcessState.TheVariants.{Off, Running}
+use Rattle.process_kernel.specs.declared.process.Member.{Member}
+use Rattle.process_kernel.specs.Members.{is_same}
+use Rattle.process_kernel.specs.State.{State, Went}
+use Rattle.process_kernel.specs.Processes.{with_state, with_exiting}
+use Rattle.process_kernel.specs.Writes.{write_of}
+
+-- what the body of a process has still to do
+unfoldable pub put_remainder : State → (process : ℕ) → Remainder → State
+put_remainder s p r = record s { remainders = slice_set s.remainders p r }
+
+-- of the process with this number the whole body is still to be done
+abbrev pub fresh_at : List Code → List Remainder → (process : ℕ) → List Remainder
+fresh_at [] rs p = rs
+fresh_at (c ∷ cs) [] p = []
+fresh_at (c ∷ cs) (r ∷ rs) zero = fresh_of c Body ∷ rs
+fresh_at (c ∷ cs) (r ∷ rs) (suc p) = r ∷ fresh_at cs rs p
+
+abbrev pub with_fresh_body : State → (process : ℕ) → State
+with_fresh_body s p = record s { remainders = fresh_at s.program.codes s.remainders p }
+
+abbrev pub with_fresh_process : State → Proc → State
+with_fresh_process s (Own p) = with_fresh_body s p
+with_fresh_process s Etimer = s
+with_fresh_process s Ctimer = s
+with_fresh_process s Radio = s
+
+-- a new incarnation goes to the front of the list, running and with a fresh body
+unfoldable pub enlist_of : State → Proc → Went
+enlist_of s p =
+    write_of (with_fresh_process (with_state (record s {
+      members = record { process = p; incarnation = s.started } ∷ s.members;
+      started = s.started + 1;
+    }) p Running) p) (what.Start p)
+
+-- the process is being exited
+unfoldable pub exiting_of : State → Proc → State
+exiting_of s p = with_exiting (with_state s p Off) p true
+
+unfoldable pub unlisted_of : State → Proc → State
+unlisted_of s p = record s { members = filter (λ m. not (is_same m.process p)) s.members }
+
+-- the process leaves the list, and is no longer being exited
+unfoldable pub leave_of : State → Proc → Went
+leave_of s p = write_of (unlisted_of (with_exiting s p false) p) (what.Leave p)
+
+-- the same list, its incarnations numbered from k on
+abbrev pub numbered_from : (k : ℕ) → List Member → List Member
+numbered_from k [] = []
+numbered_from k (m ∷ ms) = record { process = m.process; incarnation = k } ∷ numbered_from (k + 1) ms

@@ -1,0 +1,65 @@
+-- What is said of a process, and of its incarnations.
+use Rattle.std.specs.Prelude.{nat_lt, Bool, true, false, ◌||◌, List, length, unwrap_or, slice_get, slice_set}
+use Rattle.mote_program.specs.declared.event.Proc.{Proc}
+use Rattle.process_kernel.specs.declared.process.ProcessState.{ProcessState}
+use Rattle.process_kernel.specs.declared.process.ProcessState.TheVariants.{Off, Running, Called}
+use Rattle.process_kernel.specs.declared.process.Member.{Member}
+use Rattle.process_kernel.specs.Members.{place_of, holds_member, stands_in}
+use Rattle.process_kernel.specs.State.{State}
+
+-- a process that the mote doesn't have has the state of one that was never started
+abbrev pub state_at : List ProcessState → Proc → ProcessState
+state_at states p = unwrap_or (slice_get states (place_of p)) Off
+
+abbrev pub flag_at : List Bool → Proc → Bool
+flag_at flags p = unwrap_or (slice_get flags (place_of p)) false
+
+abbrev pub is_running_state : ProcessState → Bool
+is_running_state Off = false
+is_running_state Running = true
+is_running_state Called = false
+
+abbrev pub is_called_state : ProcessState → Bool
+is_called_state Off = false
+is_called_state Running = false
+is_called_state Called = true
+
+-- running or called
+abbrev pub is_alive : ProcessState → Bool
+is_alive Off = false
+is_alive Running = true
+is_alive Called = true
+
+abbrev pub process_state : State → Proc → ProcessState
+process_state s p = state_at s.states p
+
+abbrev pub is_running : State → Proc → Bool
+is_running s p = is_running_state (state_at s.states p)
+
+-- its body or a handler of it is being executed, or it is being exited
+abbrev pub is_busy : State → Proc → Bool
+is_busy s p = is_called_state (state_at s.states p) || flag_at s.exiting p
+
+abbrev pub is_marked : State → Proc → Bool
+is_marked s p = flag_at s.marks p
+
+-- the mote has such a process
+abbrev pub has_process : State → Proc → Bool
+has_process s p = nat_lt (place_of p) (length s.states)
+
+-- the incarnation is on the process list
+abbrev pub is_on_list : State → Member → Bool
+is_on_list s m = holds_member s.members m
+
+-- some incarnation of the process is on the process list
+abbrev pub is_listed : State → Proc → Bool
+is_listed s p = stands_in s.members p
+
+unfoldable pub with_state : State → Proc → ProcessState → State
+with_state s p x = record s { states = slice_set s.states (place_of p) x }
+
+unfoldable pub with_exiting : State → Proc → Bool → State
+with_exiting s p x = record s { exiting = slice_set s.exiting (place_of p) x }
+
+unfoldable pub with_mark : State → Proc → Bool → State
+with_mark s p x = record s { marks = slice_set s.marks (place_of p) x }

@@ -1,0 +1,46 @@
+-- What a process does with an event.
+use Rattle.std.specs.Prelude.{ℕ, slice_get, unwrap_or, Some, None, if◌then◌else◌}
+use Rattle.mote_program.specs.declared.event.Proc.{Proc}
+use Rattle.mote_program.specs.declared.event.Proc.TheVariants.{Own, Etimer, Ctimer, Radio}
+use Rattle.mote_program.specs.declared.event.Event.{Event}
+use Rattle.mote_program.specs.declared.event.SystemEvent.TheVariants.{Poll, Exit}
+use Rattle.mote_program.specs.Code.{Code}
+use Rattle.protothread.specs.declared.state.PtState.{PtState}
+use Rattle.protothread.specs.declared.state.PtState.TheVariants.{Yielded, Ended}
+use Rattle.protothread.specs.declared.part.Part.TheVariants.{Body, OnPoll, OnExit}
+use Rattle.protothread.specs.Remainder.{Remainder, fresh_of}
+use Rattle.process_kernel.specs.State.{State, Outcome, Went, Goes, ◌>>=◌}
+use Rattle.process_kernel.specs.ProcessList.{put_remainder, with_fresh_body}
+use Rattle.process_kernel.specs.Calls.{Calls, is_event}
+use Rattle.process_kernel.specs.Etimer.{etimer_of}
+use Rattle.process_kernel.specs.Ctimer.{ctimer_of}
+use Rattle.process_kernel.specs.Radio.{radio_of}
+
+-- the handler of the event, where it has one, runs from its beginning
+unfoldable pub handler_of : Calls → State → Code → (process : ℕ) → Event → Went
+handler_of calls s code p e =
+    if is_event Poll e then (calls.run s code (fresh_of code OnPoll) p e >>= λ _ s1. Goes tt s1)
+    else (if is_event Exit e then (calls.run s code (fresh_of code OnExit) p e >>= λ _ s1. Goes tt s1) else Goes tt s)
+
+-- what the body has still to do
+abbrev pub remainder_at : State → Code → (process : ℕ) → Remainder
+remainder_at s code p = unwrap_or (slice_get s.remainders p) (fresh_of code Body)
+
+-- The body is resumed. While it runs a fresh one stands in its place, where nobody looks.
+unfoldable pub resume_of : Calls → State → Code → (process : ℕ) → Event → Outcome PtState
+resume_of calls s code p e =
+    calls.run (with_fresh_body s p) code (remainder_at s code p) p e >>= λ a s1. Goes a.0 (put_remainder s1 p a.1)
+
+-- a process of the program: the event's handler first, and then its body
+unfoldable pub own_of : Calls → State → (process : ℕ) → Event → Outcome PtState
+own_of calls s p e =
+    elim (slice_get s.program.codes p) [
+      | None ↦ Goes Ended s
+      | Some code ↦ handler_of calls s code p e >>= λ _ s1. resume_of calls s1 code p e
+    ]
+
+unfoldable pub react_of : Calls → State → Proc → Event → Outcome PtState
+react_of calls s (Own p) e = own_of calls s p e
+react_of calls s Etimer e = etimer_of s e >>= λ _ s1. Goes Yielded s1
+react_of calls s Ctimer e = ctimer_of calls s e >>= λ _ s1. Goes Yielded s1
+react_of calls s Radio e = radio_of s e >>= λ _ s1. Goes Yielded s1

@@ -1,0 +1,33 @@
+-- A kernel run.
+use Rattle.std.specs.Prelude.{ℕ, ◌+◌, List, [], ◌∷◌, length, if◌then◌else◌}
+use Rattle.event_queue.specs.declared.queue.Posted.{Posted}
+use Rattle.event_queue.specs.Queue.{without_front}
+use Rattle.process_kernel.specs.declared.runs.TheConstants.{UNITS}
+use Rattle.process_kernel.specs.State.{State, Outcome, Went, Goes, ◌>>=◌}
+use Rattle.process_kernel.specs.ProcessList.{numbered_from}
+use Rattle.process_kernel.specs.Calls.{Calls}
+use Rattle.process_kernel.specs.Polls.{polls_due_of}
+use Rattle.process_kernel.specs.Delivery.{deliver_of}
+
+-- the state in which a boot or a run begins: its work, the moment, and the incarnations numbered anew
+unfoldable pub begun_of : State → (moment : ℕ) → State
+begun_of s moment = record s {
+  moment = moment;
+  units = UNITS;
+  members = numbered_from 0 s.members;
+  started = length s.members;
+}
+
+-- the queued events, and one more where the poll flag is set
+abbrev pub left_of : State → ℕ
+left_of s = length s.queue.events + (if s.flag then 1 else 0)
+
+-- the front event is taken from the queue, which has a place free then, and delivered
+abbrev pub deliver_front : Calls → List Posted → State → Went
+deliver_front calls [] s = Goes tt s
+deliver_front calls (x ∷ xs) s = deliver_of calls (record s { queue = without_front s.queue }) x
+
+-- a kernel run: the polls, where the flag is set, and then one event, if there is one; the answer is what is left
+unfoldable pub kernel_of : Calls → State → Outcome ℕ
+kernel_of calls s =
+    polls_due_of calls s >>= λ _ s1. deliver_front calls s1.queue.events s1 >>= λ _ s2. Goes (left_of s2) s2

@@ -1,0 +1,53 @@
+-- The state of a mote's kernel, and how a step of it ends.
+use Rattle.std.specs.Prelude.{ℕ, Bool, List}
+use Rattle.mote_program.specs.Code.{Tree}
+use Rattle.protothread.specs.Remainder.{Remainder}
+use Rattle.event_queue.specs.Queue.{Queue}
+use Rattle.mote_timers.specs.TimerLists.{TimerLists}
+use Rattle.process_kernel.specs.declared.process.ProcessState.{ProcessState}
+use Rattle.process_kernel.specs.declared.process.Member.{Member}
+use Rattle.process_kernel.specs.declared.line.Arrival.{Arrival}
+use Rattle.process_kernel.specs.declared.line.Line.{Line}
+use Rattle.process_kernel.specs.declared.line.Sent.{Sent}
+
+-- The program and the number of the mote. For each process, the system processes first: its state, whether it is being
+-- exited, and whether its needs-poll mark is set. For each process of the program: what its body has still to do, and its
+-- variables. The process list, the newest first, and how many incarnations have a number. The poll flag; the event queue;
+-- the counts of the semaphores; the timers with the timer list; the callback list; the packets in the receive ring; how many
+-- packets were sent; the moment. And of the run under way: the units of work that are left, and the lines and packets so far.
+pub record State : Type 0 where
+  pub program : Tree
+  pub mote : ℕ
+  pub states : List ProcessState
+  pub exiting : List Bool
+  pub marks : List Bool
+  pub remainders : List Remainder
+  pub variables : List (List ℕ)
+  pub members : List Member
+  pub started : ℕ
+  pub flag : Bool
+  pub queue : Queue
+  pub semaphores : List ℕ
+  pub timers : TimerLists
+  pub callbacks : List ℕ
+  pub ring : List Arrival
+  pub sent : ℕ
+  pub moment : ℕ
+  pub units : ℕ
+  pub lines : List Line
+  pub sends : List Sent
+
+-- how a step ends: the mote halts, or it goes on with an answer
+pub data Outcome (A : Type 0) : Type 0 where
+  Ends : State → Outcome A
+  Goes : A → State → Outcome A
+
+-- the next step, unless the mote has halted
+infixl 10 ◌>>=◌
+abbrev pub ◌>>=◌ : {A B : Type 0} → Outcome A → (A → State → Outcome B) → Outcome B
+Ends s >>= f = Ends s
+Goes a s >>= f = f a s
+
+-- a step that has no answer
+abbrev pub Went : Type 0
+Went = Outcome (Unit {0})

@@ -1,0 +1,33 @@
+-- A step of a protothread, over the state of the kernel.
+use Rattle.std.specs.Prelude.{ℕ, List, Option, Some, None, slice_get, slice_set}
+use Rattle.mote_program.specs.declared.event.Event.{Event}
+use Rattle.mote_program.specs.Code.{Code}
+use Rattle.protothread.specs.declared.state.PtState.TheVariants.{Ended}
+use Rattle.protothread.specs.declared.step.Step.{Step}
+use Rattle.protothread.specs.declared.step.Step.TheVariants as step
+use Rattle.protothread.specs.Remainder.{Remainder}
+use Rattle.protothread.specs.Step.{Advanced, advanced_of}
+use Rattle.process_kernel.specs.State.{State}
+use Rattle.process_kernel.specs.Looks.{looks_of}
+
+-- a step of a thread, with what is left to do and the state after it
+pub record Stepped : Type 0 where
+  pub step : Step
+  pub remainder : Remainder
+  pub state : State
+
+abbrev pub stepped : State → (process : ℕ) → Advanced → Stepped
+stepped s p a = record {
+  step = a.step;
+  remainder = a.remainder;
+  state = record s { variables = slice_set s.variables p a.variables; units = a.units };
+}
+
+-- with the variables of its process; one that the mote doesn't have has none, and nothing to do
+abbrev pub stepped_with : Option (List ℕ) → State → Code → Remainder → (process : ℕ) → Event → Stepped
+stepped_with (Some variables) s code r p e = stepped s p (advanced_of code e (looks_of s) r variables s.units)
+stepped_with None s code r p e = record { step = step.Done Ended; remainder = r; state = s }
+
+-- a thread of a process goes on to its next operation or to its answer
+unfoldable pub stepped_of : State → Code → Remainder → (process : ℕ) → Event → Stepped
+stepped_of s code r p e = stepped_with (slice_get s.variables p) s code r p e

@@ -1,0 +1,45 @@
+-- What a program does with its timers.
+use Rattle.std.specs.Prelude.{ℕ, nat_lt, Bool, false, if◌then◌else◌, length, slice_get, Some, None}
+use Rattle.mote_program.specs.declared.event.Proc.{Proc}
+use Rattle.mote_program.specs.declared.event.Proc.TheVariants.{Own, Etimer, Ctimer}
+use Rattle.mote_timers.specs.Numbers.{with_member, without_member}
+use Rattle.mote_program.specs.Code.{Tree}
+use Rattle.mote_timers.specs.TimerLists.{set_timer, reset_timer, restart_timer, stop_timer}
+use Rattle.process_kernel.specs.State.{State}
+use Rattle.process_kernel.specs.Posts.{poll_of}
+
+-- whether it is a callback timer of the program
+abbrev pub is_callback : Tree → (timer : ℕ) → Bool
+is_callback program timer = elim (slice_get program.timers timer) [ Some t ↦ t.is_callback | None ↦ false ]
+
+-- the mote has such a timer
+abbrev pub has_timer : State → (timer : ℕ) → Bool
+has_timer s timer = nat_lt timer (length s.timers.timers)
+
+-- who is told when the timer is due: the process that sets it, and for a callback timer the ctimer process
+abbrev pub owner_of : Tree → (timer : ℕ) → (current : ℕ) → Proc
+owner_of program timer current = if is_callback program timer then Ctimer else Own current
+
+-- a timer was set: the callback of a callback timer waits for it, and the etimer process is to be polled
+unfoldable pub timer_is_set : State → (timer : ℕ) → State
+timer_is_set s timer =
+    poll_of (record s { callbacks = if is_callback s.program timer then with_member timer s.callbacks else s.callbacks }) Etimer
+
+unfoldable pub set_of : State → (timer interval current : ℕ) → State
+set_of s timer interval current =
+    if has_timer s timer then timer_is_set (record s { timers = set_timer s.timers timer (owner_of s.program timer current) interval s.moment }) timer
+    else s
+
+unfoldable pub reset_of : State → (timer current : ℕ) → State
+reset_of s timer current =
+    if has_timer s timer then timer_is_set (record s { timers = reset_timer s.timers timer (owner_of s.program timer current) }) timer
+    else s
+
+unfoldable pub restart_of : State → (timer current : ℕ) → State
+restart_of s timer current =
+    if has_timer s timer then timer_is_set (record s { timers = restart_timer s.timers timer (owner_of s.program timer current) s.moment }) timer
+    else s
+
+unfoldable pub stop_of : State → (timer : ℕ) → State
+stop_of s timer =
+    if has_timer s timer then record s { timers = stop_timer s.timers timer; callbacks = without_member timer s.callbacks } else s

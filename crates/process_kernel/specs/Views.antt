@@ -1,0 +1,101 @@
+-- What the types of `src/machine.rt` and `src/look.rt` stand for, where the program of the mote is this.
+use Rattle.std.specs.Prelude.{ℕ, ◌≡◌, ◌+◌, ◌<◌, ◌≤◌, ◌++◌, ◌^◌, Bool, IsTrue, List, [], ◌∷◌, Result, Ok, Err}
+use Rattle.mote_program.specs.Code.{Code, Tree}
+use Rattle.protothread.specs.declared.state.PtState.{PtState}
+use Rattle.protothread.specs.declared.thread.Thread.{Thread}
+use Rattle.protothread.specs.Remainder.{Remainder}
+use Rattle.protothread.specs.Frames.{remainder_of}
+use Rattle.protothread.specs.Looks.{Looks}
+use Rattle.process_kernel.specs.declared.line.Line.{Line}
+use Rattle.process_kernel.specs.declared.line.Sent.{Sent}
+use Rattle.process_kernel.specs.declared.line.Out.{Out}
+use Rattle.process_kernel.specs.declared.machine.Machine.{Machine}
+use Rattle.process_kernel.specs.declared.machine.Stop.{Stop}
+use Rattle.process_kernel.specs.declared.machine.Stop.TheVariants.{Halted, Memory}
+use Rattle.process_kernel.specs.declared.look.Shown.{Shown}
+use Rattle.mote_program.specs.declared.event.Proc.{Proc}
+use Rattle.process_kernel.specs.Looks.{looks_at}
+use Rattle.process_kernel.specs.Processes.{is_running_state, state_at}
+use Rattle.process_kernel.specs.State.{State, Outcome, Ends, Goes}
+use Rattle.process_kernel.specs.Mote.{Mote, at_rest}
+use Rattle.process_kernel.specs.Calls.{Answer}
+
+-- what each thread has still to do, by the code of its process
+abbrev pub remainders_of : List Code → List Thread → List Remainder
+remainders_of [] ts = []
+remainders_of (c ∷ cs) [] = []
+remainders_of (c ∷ cs) (t ∷ ts) = remainder_of c t ∷ remainders_of cs ts
+
+abbrev pub state_of : Tree → Machine → State
+state_of program m = record {
+  program = program;
+  mote = m.mote;
+  states = m.states.items;
+  exiting = m.exiting.items;
+  marks = m.marks.items;
+  remainders = remainders_of program.codes m.threads.items;
+  variables = m.variables.items;
+  members = m.members.items;
+  started = m.started;
+  flag = m.flag;
+  queue = m.queue;
+  semaphores = m.semaphores.items;
+  timers = m.timers;
+  callbacks = m.callbacks.members;
+  ring = m.ring.items;
+  sent = m.sent;
+  moment = m.moment;
+  units = m.fuel;
+  lines = m.out.lines.items;
+  sends = m.out.sends.items;
+}
+
+abbrev pub looks_of_shown : Shown → Looks
+looks_of_shown x = looks_at x.moment x.mote x.timers.now.timers x.states.now x.semaphores.now
+
+-- what a step told, and the state that it left, are this outcome, want of memory aside
+abbrev pub Tells : {A : Type 0} → Result A Stop → State → Outcome A → Type 0
+Tells (Ok a) s o = o ≡ Goes a s
+Tells (Err Halted) s o = o ≡ Ends s
+Tells (Err Memory) s o = Unit {0}
+
+-- the same of a thread, with what it has still to do
+abbrev pub told_answer : Code → Result (PtState × Thread) Stop → Result Answer Stop
+told_answer code (Ok a) = Ok (a.0, remainder_of code a.1)
+told_answer code (Err e) = Err e
+
+abbrev pub told_thread : Code → Result Thread Stop → Result Remainder Stop
+told_thread code (Ok t) = Ok (remainder_of code t)
+told_thread code (Err e) = Err e
+
+-- what was written begins with these lines and packets
+unfoldable pub Begins : List Line → List Sent → Out → Type 0
+Begins lines sends out =
+    ((more : List Line) × (out.lines.items ≡ lines ++ more)) × ((more : List Sent) × (out.sends.items ≡ sends ++ more))
+
+-- what was written stays, whatever became of the step
+abbrev pub Grows : Out → Out → Type 0
+Grows old new = (lines : List Line) (sends : List Sent) → Begins lines sends old → Begins lines sends new
+
+-- each start is paid for by a unit of work that is spent, but for so many
+abbrev pub Spends : ℕ → Machine → Machine → Type 0
+Spends n old new = (new.fuel ≤ old.fuel) × (new.started + new.fuel ≤ old.started + old.fuel + n)
+
+-- the call of a running process costs a unit of work
+abbrev pub Pays : Proc → Machine → Machine → Type 0
+Pays p old new = IsTrue (is_running_state (state_at old.states.items p)) → new.started + new.fuel + 1 ≤ old.started + old.fuel
+
+-- there is a number for each process that can still be started, and for so many more
+abbrev pub HasRoom : ℕ → Machine → Type 0
+HasRoom n m = m.started + m.fuel + n < 2 ^ 32
+
+-- neither work is spent nor a process started
+abbrev pub KeepsCounts : Machine → Machine → Type 0
+KeepsCounts old new = (new.fuel ≡ old.fuel) × (new.started ≡ old.started)
+
+-- neither the ring nor the timers change
+abbrev pub KeepsLists : Machine → Machine → Type 0
+KeepsLists old new = (new.ring ≡ old.ring) × (new.timers ≡ old.timers)
+
+abbrev pub mote_of : Tree → Machine → (booted halted : Bool) → Mote
+mote_of program m booted halted = record { state = at_rest (state_of program m); booted = booted; halted = halted }

@@ -1,0 +1,19 @@
+-- Lines of the trace, work, and the halt of a mote.
+use Rattle.std.specs.Prelude.{◌==◌, ◌-◌, [], ◌∷◌, ◌++◌, if◌then◌else◌}
+use Rattle.process_kernel.specs.declared.line.What.{What}
+use Rattle.process_kernel.specs.declared.line.What.TheVariants.{Halt}
+use Rattle.process_kernel.specs.State.{State, Went, Ends, Goes}
+
+abbrev pub with_line : State → What → State
+with_line s what = record s { lines = s.lines ++ record { at = s.moment; what = what } ∷ [] }
+
+unfoldable pub write_of : State → What → Went
+write_of s what = Goes tt (with_line s what)
+
+-- the mote writes that it halts, and nothing more
+unfoldable pub halted_of : State → State
+halted_of s = with_line s Halt
+
+-- one unit of work is spent, and without one the mote halts
+unfoldable pub spend_of : State → Went
+spend_of s = if s.units == 0 then Ends (halted_of s) else Goes tt (record s { units = s.units - 1 })

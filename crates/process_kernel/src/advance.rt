@@ -1,0 +1,66 @@
+//! Protothreads: their steps, and the answers that they are told.
+
+ghost use Rattle.std.specs.Prelude.{◌≡◌};
+ghost use Rattle.mote_program.specs.Code.{Code, Tree};
+ghost use Rattle.mote_program.specs.Program.{code_of};
+ghost use Rattle.protothread.specs.Frames.{remainder_of};
+ghost use Rattle.protothread.specs.Step.{PaysFor};
+ghost use Rattle.process_kernel.specs.Thread.{stepped_of};
+ghost use Rattle.process_kernel.specs.Operation.{answer_of};
+ghost use Rattle.process_kernel.specs.State.{Goes};
+ghost use Rattle.process_kernel.specs.Views.{state_of, Grows, KeepsCounts};
+
+use crate::look::Shown;
+use crate::machine::Machine;
+use mote_program::{Event, ProcessText};
+use protothread::{PtState, Step, Thread};
+
+impl Machine {
+    /// Takes a thread of a process to its next operation or to its answer.
+    #[tactic(auto, unfolding(crate::specs::Thread::stepped_of))]
+    pub fn advance(
+        &mut self,
+        text: &ProcessText,
+        thread: &mut Thread,
+        process: u8,
+        event: &Event,
+    ) -> Step
+        ensures exact { (t : Tree) → stepped_of (state_of t self.old) (code_of text.now) (remainder_of (code_of text.now) thread.old) process event.now ≡ record { step = result; remainder = remainder_of (code_of text.now) thread.new; state = state_of t self.new } }
+        ensures pays { PaysFor result self.old.fuel self.new.fuel }
+        ensures started { self.new.started ≡ self.old.started }
+        ensures grows { Grows self.old.out self.new.out }
+    {
+        let place = usize::from(process);
+        if place >= self.variables.len() {
+            return Step::Done(PtState::Ended);
+        }
+        let look = Shown {
+            moment: self.moment,
+            mote: self.mote,
+            timer_count: self.timer_count,
+            timers: &self.timers,
+            states: self.states.as_slice(),
+            semaphores: self.semaphores.as_slice(),
+        };
+        thread.advance(
+            text,
+            event,
+            &mut self.variables[place],
+            &look,
+            &mut self.fuel,
+        )
+    }
+
+    /// Tells a thread whether the queue was full for what it posted.
+    #[tactic(auto, unfolding(crate::specs::Operation::answer_of))]
+    pub fn answer(&mut self, thread: &mut Thread, process: u8, is_full: bool)
+        ensures exact { (t : Tree) (code : Code) → answer_of (state_of t self.old) (remainder_of code thread.old) process is_full ≡ Goes (remainder_of code thread.new) (state_of t self.new) }
+        ensures kept { KeepsCounts self.old self.new }
+        ensures grows { Grows self.old.out self.new.out }
+    {
+        let place = usize::from(process);
+        if place < self.variables.len() {
+            thread.answer(&mut self.variables[place], u16::from(is_full));
+        }
+    }
+}

@@ -1,0 +1,215 @@
+//! The call of a process, and what the process does with the event.
+
+ghost use Rattle.std.specs.Prelude.{◌≡◌, ◌<◌, ℕ, Some, OnOk, slice_get};
+ghost use Rattle.mote_program.specs.Program.{tree_of, code_of};
+ghost use Rattle.protothread.specs.Frames.{remainder_of};
+ghost use Rattle.process_kernel.specs.Call.{calls_of, has_ended as is_an_end};
+ghost use Rattle.process_kernel.specs.Ctimer.{callback_of, ctimer_of};
+ghost use Rattle.process_kernel.specs.Reaction.{handler_of, resume_of, own_of, react_of};
+ghost use Rattle.process_kernel.specs.Views.{state_of, Tells, Grows, HasRoom, Spends, Pays, told_answer};
+
+use crate::event::is_event;
+use crate::machine::{Machine, Stop};
+use crate::process::ProcessState;
+use mote_program::{Event, Proc, ProcessText, Program, SystemEvent};
+use protothread::{Part, PtState, Step, Thread};
+
+/// Whether it is the answer of a thread that exited by itself or has ended.
+fn has_ended(answer: PtState) -> bool
+    ensures { result ≡ is_an_end answer }
+{
+    match answer {
+        PtState::Waiting => false,
+        PtState::Yielded => false,
+        PtState::Exited => true,
+        PtState::Ended => true,
+    }
+}
+
+impl Machine {
+    /// Calls a process with an event, which is lost where the process isn't running (`call_process` of `process.c`).
+    #[cycle(kernel)]
+    #[tactic(auto, unfolding(crate::specs::Call::call_of, crate::specs::Call::answered))]
+    pub fn call(&mut self, program: &Program, process: Proc, event: &Event) -> Result<(), Stop>
+        requires { HasRoom 0 self.old }
+        ensures exact { (k : ℕ) → self.old.fuel < k → Tells result (state_of (tree_of program.now) self.new) ((calls_of k).call (state_of (tree_of program.now) self.old) process event.now) }
+        ensures spends { OnOk result (Spends 0 self.old self.new) }
+        ensures pays { OnOk result (Pays process self.old self.new) }
+        ensures grows { Grows self.old.out self.new.out }
+    {
+        if !self.is_running(process) {
+            return Ok(());
+        }
+        self.spend()?;
+        self.set_state(process, ProcessState::Called);
+        let answer = self.react(program, process, event)?;
+        if has_ended(answer) || is_event(SystemEvent::Exit, event) {
+            self.exit(program, process, process)
+        } else {
+            self.set_state(process, ProcessState::Running);
+            Ok(())
+        }
+    }
+
+    /// What a process does with an event.
+    #[cycle(kernel)]
+    #[tactic(auto, unfolding(crate::specs::Reaction::react_of))]
+    pub fn react(
+        &mut self,
+        program: &Program,
+        process: Proc,
+        event: &Event,
+    ) -> Result<PtState, Stop>
+        requires { HasRoom 0 self.old }
+        ensures exact { (k : ℕ) → self.old.fuel < k → Tells result (state_of (tree_of program.now) self.new) (react_of (calls_of k) (state_of (tree_of program.now) self.old) process event.now) }
+        ensures spends { OnOk result (Spends 0 self.old self.new) }
+        ensures grows { Grows self.old.out self.new.out }
+    {
+        match process {
+            Proc::Own(number) => self.react_as_own(program, number, event),
+            Proc::Etimer => {
+                self.react_as_etimer(event)?;
+                Ok(PtState::Yielded)
+            }
+            Proc::Ctimer => {
+                self.react_as_ctimer(program, event)?;
+                Ok(PtState::Yielded)
+            }
+            Proc::Radio => {
+                self.react_as_radio(program, event)?;
+                Ok(PtState::Yielded)
+            }
+        }
+    }
+
+    /// A process of the program: the event's handler first, and then its body.
+    #[cycle(kernel)]
+    #[tactic(auto, unfolding(crate::specs::Reaction::own_of))]
+    fn react_as_own(
+        &mut self,
+        program: &Program,
+        number: u8,
+        event: &Event,
+    ) -> Result<PtState, Stop>
+        requires { HasRoom 0 self.old }
+        ensures exact { (k : ℕ) → self.old.fuel < k → Tells result (state_of (tree_of program.now) self.new) (own_of (calls_of k) (state_of (tree_of program.now) self.old) number event.now) }
+        ensures spends { OnOk result (Spends 0 self.old self.new) }
+        ensures grows { Grows self.old.out self.new.out }
+    {
+        if number >= program.processes() {
+            return Ok(PtState::Ended);
+        }
+        let text = program.process(number);
+        self.handle(program, text, number, event)?;
+        self.resume(program, text, number, event)
+    }
+
+    /// Runs the event's handler, where it has one.
+    #[cycle(kernel)]
+    #[tactic(auto, unfolding(crate::specs::Reaction::handler_of))]
+    fn handle(
+        &mut self,
+        program: &Program,
+        text: &ProcessText,
+        number: u8,
+        event: &Event,
+    ) -> Result<(), Stop>
+        requires { HasRoom 0 self.old }
+        ensures exact { (k : ℕ) → self.old.fuel < k → Tells result (state_of (tree_of program.now) self.new) (handler_of (calls_of k) (state_of (tree_of program.now) self.old) (code_of text.now) number event.now) }
+        ensures spends { OnOk result (Spends 0 self.old self.new) }
+        ensures grows { Grows self.old.out self.new.out }
+    {
+        if is_event(SystemEvent::Poll, event) {
+            self.run(program, text, Thread::fresh(Part::OnPoll), number, event)?;
+        } else if is_event(SystemEvent::Exit, event) {
+            self.run(program, text, Thread::fresh(Part::OnExit), number, event)?;
+        }
+        Ok(())
+    }
+
+    /// Resumes the body of a process.
+    #[cycle(kernel)]
+    #[tactic(auto, unfolding(crate::specs::Reaction::resume_of))]
+    fn resume(
+        &mut self,
+        program: &Program,
+        text: &ProcessText,
+        number: u8,
+        event: &Event,
+    ) -> Result<PtState, Stop>
+        requires room { HasRoom 0 self.old }
+        requires text { slice_get (tree_of program.now).codes number ≡ Some (code_of text.now) }
+        ensures exact { (k : ℕ) → self.old.fuel < k → Tells result (state_of (tree_of program.now) self.new) (resume_of (calls_of k) (state_of (tree_of program.now) self.old) (code_of text.now) number event.now) }
+        ensures spends { OnOk result (Spends 0 self.old self.new) }
+        ensures grows { Grows self.old.out self.new.out }
+    {
+        let body = self.take_thread(number);
+        let (answer, body) = self.run(program, text, body, number, event)?;
+        self.put_thread(number, body);
+        Ok(answer)
+    }
+
+    /// The ctimer process: a callback that waits for this timer is taken off the callback list and runs.
+    #[cycle(kernel)]
+    #[tactic(auto, unfolding(crate::specs::Ctimer::ctimer_of))]
+    fn react_as_ctimer(&mut self, program: &Program, event: &Event) -> Result<(), Stop>
+        requires { HasRoom 0 self.old }
+        ensures exact { (k : ℕ) → self.old.fuel < k → Tells result (state_of (tree_of program.now) self.new) (ctimer_of (calls_of k) (state_of (tree_of program.now) self.old) event.now) }
+        ensures spends { OnOk result (Spends 0 self.old self.new) }
+        ensures grows { Grows self.old.out self.new.out }
+    {
+        if !is_event(SystemEvent::Timer, event) {
+            return Ok(());
+        }
+        if !self.takes_callback(event.word) {
+            return Ok(());
+        }
+        self.call_back(program, event)
+    }
+
+    /// Runs the callback of a timer, as the process that the timer is of.
+    #[cycle(kernel)]
+    #[tactic(auto, unfolding(crate::specs::Ctimer::callback_of))]
+    fn call_back(&mut self, program: &Program, event: &Event) -> Result<(), Stop>
+        requires { HasRoom 0 self.old }
+        ensures exact { (k : ℕ) → self.old.fuel < k → Tells result (state_of (tree_of program.now) self.new) (callback_of (calls_of k) (state_of (tree_of program.now) self.old) event.now) }
+        ensures spends { OnOk result (Spends 0 self.old self.new) }
+        ensures grows { Grows self.old.out self.new.out }
+    {
+        let timer = event.word;
+        if timer >= program.timers() {
+            return Ok(());
+        }
+        let number = program.timer_process(timer);
+        let text = program.process(number);
+        let callback = Thread::fresh(Part::Callback(timer as u8));
+        self.run(program, text, callback, number, event)?;
+        Ok(())
+    }
+
+    /// Runs a thread of a process up to its answer.
+    #[cycle(kernel)]
+    #[tactic(auto, unfolding(crate::specs::Operation::run_of))]
+    fn run(
+        &mut self,
+        program: &Program,
+        text: &ProcessText,
+        thread: Thread,
+        process: u8,
+        event: &Event,
+    ) -> Result<(PtState, Thread), Stop>
+        requires { HasRoom 0 self.old }
+        ensures exact { (k : ℕ) → self.old.fuel < k → Tells (told_answer (code_of text.now) result) (state_of (tree_of program.now) self.new) ((calls_of k).run (state_of (tree_of program.now) self.old) (code_of text.now) (remainder_of (code_of text.now) thread) process event.now) }
+        ensures spends { OnOk result (Spends 0 self.old self.new) }
+        ensures grows { Grows self.old.out self.new.out }
+    {
+        let mut thread = thread;
+        loop {
+            match self.advance(text, &mut thread, process, event) {
+                Step::Op(op) => thread = self.perform(program, text, thread, process, op)?,
+                Step::Done(answer) => return Ok((answer, thread)),
+                Step::Runaway => return Err(self.halt()),
+            }
+        }
+    }
+}

@@ -1,0 +1,24 @@
+//! The kernel's own events.
+
+ghost use Rattle.std.specs.Prelude.{◌≡◌};
+ghost use Rattle.process_kernel.specs.Calls.{told, is_event as has_number_of};
+
+use mote_program::{Event, SystemEvent};
+
+/// An event of the kernel's own, with a word.
+pub fn told(event: SystemEvent, word: u16) -> Event
+    ensures { result ≡ told event word }
+{
+    Event {
+        number: event.number(),
+        word,
+        sender: 0,
+    }
+}
+
+/// Whether it is this event of the kernel's own.
+pub fn is_event(which: SystemEvent, event: &Event) -> bool
+    ensures { result ≡ has_number_of which event.now }
+{
+    event.number == which.number()
+}

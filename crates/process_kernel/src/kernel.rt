@@ -1,0 +1,189 @@
+//! The kernel of a mote.
+
+ghost use Rattle.std.specs.Prelude.{◌≡◌, ◌≤◌, ◌^◌, IfOk, IfErr, IfSome, Some, if◌then◌else◌, option_map};
+ghost use Rattle.mote_program.specs.Code.{Tree};
+ghost use Rattle.mote_program.specs.Program.{tree_of};
+ghost use Rattle.mote_timers.specs.TimerLists.{next_expiration_of};
+ghost use Rattle.process_kernel.specs.Mote.{unbooted, with_poll, with_packet, has_room, is_pending};
+
+use crate::line::{Arrival, Out};
+use crate::machine::{Machine, Stop};
+use mote_program::{Proc, Program};
+use std::alloc::Global;
+use std::error::Error;
+use std::{fmt, mem};
+
+/// How a boot or a kernel run ends: with so many events and polls left, or with the mote halted for good.
+#[derive(Clone, Copy, Debug, PartialEq, Eq)]
+pub enum Ran {
+    /// The queued events, and one more where the poll flag is set.
+    Left(u16),
+    Halted,
+}
+
+/// Why a kernel gives no answer.
+#[derive(Clone, Copy, Debug, PartialEq, Eq)]
+pub enum KernelError {
+    /// No memory was found.
+    Memory = 1,
+    /// An earlier call found no memory.
+    Failed = 2,
+}
+
+impl fmt::Display for KernelError {
+    ghost use Rattle.process_kernel.specs.KernelErrors.{text_of_error};
+
+    ghost output = { λ e. Some (text_of_error e) };
+
+    fn fmt<W: fmt::Write>(&self, f: &mut fmt::Formatter<W>) -> fmt::Result {
+        match self {
+            KernelError::Memory => f.write_str("no memory for the kernel"),
+            KernelError::Failed => f.write_str("the kernel has failed before"),
+        }
+    }
+}
+
+impl Error for KernelError {}
+
+/// The process kernel of a mote (`process.c`, `etimer.c` and `ctimer.c` of Contiki). It is booted once and then run, always with
+/// the same program. All its memory is taken by `new`, but for the lines and packets of its runs.
+#[derive(Drop)]
+pub struct Kernel {
+    machine: Machine,
+    booted: bool,
+    halted: bool,
+    failed: bool,
+}
+
+impl Kernel {
+    ghost use Rattle.process_kernel.specs.Public.{mote_in, boot_given, run_given, Tells, Closes};
+
+    /// The kernel of the mote with this number, not booted yet, with room for this many events in its queue, 1 to 128.
+    #[tactic(auto, unfolding(crate::specs::Public::mote_in, crate::specs::Mote::unbooted))]
+    pub fn new(
+        alloc: Global,
+        program: &Program,
+        mote: u16,
+        queue: u16,
+    ) -> Result<Kernel, KernelError>
+        requires some_room { 1 ≤ queue }
+        requires limit { queue ≤ 128 }
+        ensures ok { IfOk result (λ k. mote_in (tree_of program.now) k ≡ Some (unbooted (tree_of program.now) mote queue)) }
+        ensures err { IfErr result (λ e. e ≡ KernelError.Memory) }
+    {
+        match Machine::new(alloc, program, mote, queue) {
+            Ok(machine) => Ok(Kernel {
+                machine,
+                booted: false,
+                halted: false,
+                failed: false,
+            }),
+            Err(_) => Err(KernelError::Memory),
+        }
+    }
+
+    /// Boots the mote at this moment: the system processes are started, and then those that the program names. Lines and
+    /// packets are added to `out`. A kernel that found no memory fails from then on.
+    pub fn boot(&mut self, program: &Program, now: u64, out: &mut Out) -> Result<Ran, KernelError>
+        requires { now ≤ 2 ^ 40 }
+        ensures { Tells (boot_given now) (mote_in (tree_of program.now) self.old) out.old result (mote_in (tree_of program.now) self.new) out.new }
+    {
+        if self.failed {
+            return Err(KernelError::Failed);
+        }
+        if self.halted {
+            return Ok(Ran::Halted);
+        }
+        mem::swap(&mut self.machine.out, out);
+        self.machine.begin(now);
+        let ran = self.machine.boot(program);
+        mem::swap(&mut self.machine.out, out);
+        self.close(ran)
+    }
+
+    /// One kernel run at this moment: the polls, where they are due, and the event at the front of the queue. Lines and
+    /// packets are added to `out`. A kernel that found no memory fails from then on.
+    pub fn run(&mut self, program: &Program, now: u64, out: &mut Out) -> Result<Ran, KernelError>
+        requires { now ≤ 2 ^ 40 }
+        ensures { Tells (run_given now) (mote_in (tree_of program.now) self.old) out.old result (mote_in (tree_of program.now) self.new) out.new }
+    {
+        if self.failed {
+            return Err(KernelError::Failed);
+        }
+        if self.halted {
+            return Ok(Ran::Halted);
+        }
+        mem::swap(&mut self.machine.out, out);
+        self.machine.begin(now);
+        let ran = self.machine.run_kernel(program);
+        mem::swap(&mut self.machine.out, out);
+        self.close(ran)
+    }
+
+    /// Asks for a poll of a process, where it is running or called.
+    #[tactic(auto, unfolding(crate::specs::Public::mote_in, crate::specs::Mote::with_poll, crate::specs::Posts::poll_of, crate::specs::Processes::with_mark))]
+    pub fn poll(&mut self, process: Proc)
+        ensures { (t : Tree) → mote_in t self.new ≡ option_map (λ m. with_poll m process) (mote_in t self.old) }
+    {
+        self.machine.poll(process);
+    }
+
+    /// Whether an event is queued or the poll flag is set.
+    #[tactic(auto, unfolding(crate::specs::Public::mote_in))]
+    pub fn pending(&self) -> bool
+        ensures { (t : Tree) → IfSome (mote_in t self.now) (λ m. result ≡ is_pending m) }
+    {
+        self.machine.queue.len() > 0 || self.machine.flag
+    }
+
+    /// The earliest moment at which a timer on the timer list is due, if one is there.
+    #[tactic(auto, unfolding(crate::specs::Public::mote_in))]
+    pub fn next_expiration(&self) -> Option<u64>
+        ensures { (t : Tree) → IfSome (mote_in t self.now) (λ m. result ≡ next_expiration_of m.state.timers) }
+    {
+        self.machine.timers.next_expiration()
+    }
+
+    /// Puts a packet into the receive ring, where it has room; a full ring stays as it was.
+    #[tactic(auto, unfolding(crate::specs::Public::mote_in, crate::specs::Mote::with_packet))]
+    pub fn accept_packet(&mut self, packet: Arrival) -> bool
+        ensures room { (t : Tree) → IfSome (mote_in t self.old) (λ m. result ≡ has_room m) }
+        ensures after { (t : Tree) → mote_in t self.new ≡ option_map (λ m. if has_room m then with_packet m packet else m) (mote_in t self.old) }
+    {
+        self.machine.accept_packet(packet)
+    }
+
+    /// Whether the mote was booted.
+    #[tactic(auto, unfolding(crate::specs::Public::mote_in))]
+    pub fn is_booted(&self) -> bool
+        ensures { (t : Tree) → IfSome (mote_in t self.now) (λ m. result ≡ m.booted) }
+    {
+        self.booted
+    }
+
+    /// Whether the mote has halted.
+    #[tactic(auto, unfolding(crate::specs::Public::mote_in))]
+    pub fn is_halted(&self) -> bool
+        ensures { (t : Tree) → IfSome (mote_in t self.now) (λ m. result ≡ m.halted) }
+    {
+        self.halted
+    }
+
+    /// Notes how a boot or a run ended.
+    fn close(&mut self, ran: Result<u16, Stop>) -> Result<Ran, KernelError>
+        ensures { Closes self.old ran result self.new }
+    {
+        self.booted = true;
+        match ran {
+            Ok(left) => Ok(Ran::Left(left)),
+            Err(Stop::Halted) => {
+                self.halted = true;
+                Ok(Ran::Halted)
+            }
+            Err(Stop::Memory) => {
+                self.failed = true;
+                Err(KernelError::Memory)
+            }
+        }
+    }
+}

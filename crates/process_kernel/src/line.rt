@@ -1,0 +1,67 @@
+//! What a kernel is handed and what it gives: packets that arrive, the lines of its trace, and packets that are sent.
+
+use mote_program::{Proc, Target};
+
+/// A packet that arrives: the mote that sent it, its number there, and its value.
+#[derive(Clone, Copy, Debug, Default, PartialEq, Eq)]
+pub struct Arrival {
+    pub sender: u16,
+    pub number: u64,
+    pub value: u16,
+}
+
+/// What a line of a trace tells.
+#[derive(Clone, Copy, Debug, PartialEq, Eq)]
+pub enum What {
+    /// A process goes on the process list.
+    Start(Proc),
+    /// A process leaves the process list.
+    Leave(Proc),
+    /// An event was accepted, with this serial: whom it goes to, its number and its word.
+    Post(u64, Target, u8, u16),
+    /// The queue was full, and the event is lost.
+    Full(Target, u8, u16),
+    /// The event with this serial reaches a process.
+    Take(u64, Proc),
+    /// The event with this serial was to reach a process that isn't there.
+    Drop(u64, Proc),
+    /// A process prints a value.
+    Print(Proc, u16),
+    /// A process was to be started or killed while it was busy.
+    Busy(Proc),
+    /// The mote halts for good.
+    Halt,
+    /// A packet with this number and value is sent.
+    Send(u64, u16),
+    /// A packet went into the receive ring: the mote that sent it, its number there and its value.
+    Recv(u16, u64, u16),
+    /// A packet found the receive ring full.
+    Lost(u16, u64),
+    /// A packet arrived in a mote whose program has no receiver.
+    Deaf(u16, u64),
+    /// A packet was lost by a collision.
+    Collide(u16, u64),
+}
+
+/// A line of a trace: its moment, and what it tells.
+#[derive(Clone, Copy, Debug, PartialEq, Eq)]
+pub struct Line {
+    pub at: u64,
+    pub what: What,
+}
+
+/// A packet that was sent: the moment, the mote, the packet's number there, and its value.
+#[derive(Clone, Copy, Debug, PartialEq, Eq)]
+pub struct Sent {
+    pub at: u64,
+    pub sender: u16,
+    pub number: u64,
+    pub value: u16,
+}
+
+/// What the runs of a kernel give, in order.
+#[derive(Debug, Drop)]
+pub struct Out {
+    pub lines: Vec<Line>,
+    pub sends: Vec<Sent>,
+}

@@ -1,0 +1,157 @@
+//! How the process list grows and shrinks.
+
+ghost use Rattle.std.specs.Prelude.{◌≡◌, ◌<◌, ◌≤◌, ◌+◌, ◌^◌, ◌∷◌, false, not, OnOk, Some, filter, length, slice_get};
+ghost use Rattle.mote_program.specs.Code.{Tree, Code};
+ghost use Rattle.protothread.specs.Frames.{remainder_of};
+ghost use Rattle.process_kernel.specs.Members.{is_same as are_same, place_of, stands_in};
+ghost use Rattle.process_kernel.specs.ProcessList.{put_remainder, enlist_of, exiting_of, unlisted_of, leave_of, numbered_from, with_fresh_body, with_fresh_process};
+ghost use Rattle.process_kernel.specs.Reaction.{remainder_at};
+ghost use Rattle.process_kernel.specs.Views.{state_of, Tells, Grows, KeepsCounts};
+
+use crate::line::What;
+use crate::machine::{MOST_PROCESSES, Machine, Stop};
+use crate::process::{Member, ProcessState};
+use crate::table::is_same;
+use arrayvec::ArrayVec;
+use mote_program::Proc;
+use protothread::{Part, Thread};
+use std::mem;
+
+/// The members that are not of this process.
+fn without(members: &[Member], process: Proc) -> ArrayVec<Member, MOST_PROCESSES>
+    requires { length members.now ≤ 67 }
+    ensures { result.items ≡ filter (λ m. not (are_same m.process process)) members.now }
+{
+    let mut others = ArrayVec::new();
+    for member in members {
+        if !is_same(member.process, process) {
+            others.push(*member);
+        }
+    }
+    others
+}
+
+impl Machine {
+    /// The process list as it stands now.
+    pub fn snapshot(&self) -> ArrayVec<Member, MOST_PROCESSES>
+        ensures { result.items ≡ self.now.members.items }
+    {
+        let mut members = ArrayVec::new();
+        members
+            .try_extend_from_slice(self.members.as_slice())
+            .unwrap();
+        members
+    }
+
+    /// Puts a thread back as the body of a process.
+    #[tactic(auto, using(crate::proofs::Remainders::remainders_set, crate::proofs::Remainders::remainders_set_past), unfolding(crate::specs::ProcessList::put_remainder))]
+    pub fn put_thread(&mut self, process: u8, thread: Thread)
+        ensures exact { (t : Tree) (code : Code) → slice_get t.codes process ≡ Some code → state_of t self.new ≡ put_remainder (state_of t self.old) process (remainder_of code thread) }
+        ensures kept { KeepsCounts self.old self.new }
+        ensures grows { Grows self.old.out self.new.out }
+    {
+        let place = usize::from(process);
+        if place < self.threads.len() {
+            self.threads[place] = thread;
+        }
+    }
+
+    /// Takes the body of a process, and leaves a fresh one in its place.
+    #[tactic(auto, using(crate::proofs::Remainders::remainders_get, crate::proofs::Remainders::remainders_past, crate::proofs::Remainders::remainders_fresh, crate::proofs::Remainders::fresh_past))]
+    pub fn take_thread(&mut self, process: u8) -> Thread
+        ensures exact { (t : Tree) (code : Code) → slice_get t.codes process ≡ Some code → remainder_of code result ≡ remainder_at (state_of t self.old) code process }
+        ensures after { (t : Tree) → state_of t self.new ≡ with_fresh_body (state_of t self.old) process }
+        ensures kept { KeepsCounts self.old self.new }
+        ensures grows { Grows self.old.out self.new.out }
+    {
+        let place = usize::from(process);
+        if place < self.threads.len() {
+            mem::replace(&mut self.threads[place], Thread::fresh(Part::Body))
+        } else {
+            Thread::fresh(Part::Body)
+        }
+    }
+
+    /// Gives a process of the program a fresh body.
+    fn refresh(&mut self, process: Proc)
+        ensures exact { (t : Tree) → state_of t self.new ≡ with_fresh_process (state_of t self.old) process }
+        ensures kept { KeepsCounts self.old self.new }
+        ensures grows { Grows self.old.out self.new.out }
+    {
+        match process {
+            Proc::Own(number) => {
+                self.take_thread(number);
+            }
+            Proc::Etimer | Proc::Ctimer | Proc::Radio => {}
+        }
+    }
+
+    /// Puts a new incarnation at the front of the list.
+    fn list_first(&mut self, process: Proc)
+        requires there { place_of process < length self.old.states.items }
+        requires away { stands_in self.old.members.items process ≡ false }
+        requires room { self.old.started + 1 < 2 ^ 32 }
+        ensures exact { (t : Tree) → state_of t self.new ≡ record (state_of t self.old) { members = record { process = process; incarnation = self.old.started } ∷ self.old.members.items; started = self.old.started + 1 } }
+        ensures counts { (self.new.fuel ≡ self.old.fuel) × (self.new.started ≡ self.old.started + 1) }
+        ensures grows { Grows self.old.out self.new.out }
+    {
+        let incarnation = self.started;
+        self.members.insert(
+            0,
+            Member {
+                process,
+                incarnation,
+            },
+        );
+        self.started = incarnation + 1;
+    }
+
+    /// Puts a new incarnation at the front of the list, running and with a fresh body.
+    #[tactic(auto, unfolding(crate::specs::ProcessList::enlist_of))]
+    pub fn enlist(&mut self, process: Proc) -> Result<(), Stop>
+        requires there { place_of process < length self.old.states.items }
+        requires away { stands_in self.old.members.items process ≡ false }
+        requires room { self.old.started + 1 < 2 ^ 32 }
+        ensures exact { (t : Tree) → Tells result (state_of t self.new) (enlist_of (state_of t self.old) process) }
+        ensures counts { OnOk result ((self.new.fuel ≡ self.old.fuel) × (self.new.started ≡ self.old.started + 1)) }
+        ensures grows { Grows self.old.out self.new.out }
+    {
+        self.list_first(process);
+        self.set_state(process, ProcessState::Running);
+        self.refresh(process);
+        self.write(What::Start(process))
+    }
+
+    /// Begins the exit of a process.
+    #[tactic(auto, unfolding(crate::specs::ProcessList::exiting_of))]
+    pub fn begin_exit(&mut self, process: Proc)
+        ensures exact { (t : Tree) → state_of t self.new ≡ exiting_of (state_of t self.old) process }
+        ensures kept { KeepsCounts self.old self.new }
+        ensures grows { Grows self.old.out self.new.out }
+    {
+        self.set_state(process, ProcessState::Off);
+        self.set_exiting(process, true);
+    }
+
+    /// Takes a process off the list.
+    #[tactic(auto, unfolding(crate::specs::ProcessList::unlisted_of))]
+    fn unlist(&mut self, process: Proc)
+        ensures exact { (t : Tree) → state_of t self.new ≡ unlisted_of (state_of t self.old) process }
+        ensures kept { KeepsCounts self.old self.new }
+        ensures grows { Grows self.old.out self.new.out }
+    {
+        self.members = without(self.members.as_slice(), process);
+    }
+
+    /// Ends the exit of a process, which leaves the list.
+    #[tactic(auto, unfolding(crate::specs::ProcessList::leave_of))]
+    pub fn leave(&mut self, process: Proc) -> Result<(), Stop>
+        ensures exact { (t : Tree) → Tells result (state_of t self.new) (leave_of (state_of t self.old) process) }
+        ensures kept { KeepsCounts self.old self.new }
+        ensures grows { Grows self.old.out self.new.out }
+    {
+        self.set_exiting(process, false);
+        self.unlist(process);
+        self.write(What::Leave(process))
+    }
+}

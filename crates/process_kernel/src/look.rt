@@ -1,0 +1,53 @@
+//! What a protothread is shown of the kernel.
+
+ghost use Rattle.std.specs.Prelude.{◌≡◌, ◌≤◌, ◌↔◌, ◌%◌, ◌^◌, IsTrue, length};
+
+use crate::process::ProcessState;
+use crate::table::{is_alive, state_at};
+use mote_timers::Timers;
+use protothread::{Look, Semaphore};
+
+/// What a protothread is shown: the moment, the mote's number, the timers, the states of the processes and the semaphores.
+#[derive(Drop)]
+pub struct Shown<'a> {
+    pub(crate) moment: u64,
+    pub(crate) mote: u16,
+    pub(crate) timer_count: u16,
+    pub(crate) timers: &'a Timers,
+    pub(crate) states: &'a [ProcessState],
+    pub(crate) semaphores: &'a [Semaphore],
+    ghost each_timer: { length timers.now.timers ≡ timer_count },
+}
+
+impl Look for Shown<'_> {
+    ghost use Rattle.process_kernel.specs.Views.{looks_of_shown};
+
+    ghost looks = { looks_of_shown };
+
+    fn now(&self) -> u16 {
+        (self.moment % 65_536) as u16
+    }
+
+    fn mote(&self) -> u16 {
+        self.mote
+    }
+
+    fn expired(&self, timer: u16) -> bool {
+        if timer < self.timer_count {
+            self.timers.expired(timer)
+        } else {
+            false
+        }
+    }
+
+    fn running(&self, process: u8) -> bool {
+        is_alive(state_at(self.states, usize::from(process) + 3))
+    }
+
+    fn count(&self, semaphore: u8) -> u16 {
+        match self.semaphores.get(usize::from(semaphore)) {
+            Some(semaphore) => semaphore.count(),
+            None => 0,
+        }
+    }
+}

@@ -1,0 +1,79 @@
+//! What a mote's kernel keeps, and why a run of it goes no further.
+
+ghost use Rattle.std.specs.Prelude.{◌≡◌, ◌≤◌, ◌^◌, length};
+ghost use Rattle.process_kernel.specs.Members.{AreMembers};
+
+use crate::line::{Arrival, Out};
+use crate::process::{Member, ProcessState};
+use arrayvec::ArrayVec;
+use circular_buffer::HeapCircularBuffer;
+use event_queue::EventQueue;
+use mote_timers::{Callbacks, Timers};
+use protothread::{Fuel, Semaphore, Thread, Vars};
+use std::alloc::{AllocError, AllocFailed};
+
+/// How many processes a mote has at most: 64 of its program, and the three system processes.
+pub const MOST_PROCESSES: usize = 67;
+
+/// Why a run goes no further.
+#[derive(Clone, Copy, Debug, PartialEq, Eq)]
+pub enum Stop {
+    /// The mote has halted.
+    Halted,
+    /// No memory was found for a line or a packet.
+    Memory,
+}
+
+impl From<AllocError> for Stop {
+    ghost use Rattle.process_kernel.specs.declared.machine.Stop.TheVariants.{Memory};
+
+    ghost from_gives = { λ _ e. e ≡ Memory };
+
+    fn from(_error: AllocError) -> Self {
+        Stop::Memory
+    }
+}
+
+impl<T: Drop> From<AllocFailed<T>> for Stop {
+    ghost use Rattle.process_kernel.specs.declared.machine.Stop.TheVariants.{Memory};
+
+    ghost from_gives = { λ _ e. e ≡ Memory };
+
+    fn from(_error: AllocFailed<T>) -> Self {
+        Stop::Memory
+    }
+}
+
+/// The kernel of a mote. The tables have the system processes first, then those of the program in their order; threads and
+/// variables are those of the program's processes alone.
+#[derive(Drop)]
+pub struct Machine {
+    pub(crate) mote: u16,
+    pub(crate) states: Vec<ProcessState>,
+    pub(crate) exiting: Vec<bool>,
+    pub(crate) marks: Vec<bool>,
+    pub(crate) threads: Vec<Thread>,
+    pub(crate) variables: Vec<Vars>,
+    pub(crate) members: ArrayVec<Member, MOST_PROCESSES>,
+    pub(crate) started: u32,
+    pub(crate) flag: bool,
+    pub(crate) queue: EventQueue,
+    pub(crate) accepted: u64,
+    pub(crate) semaphores: Vec<Semaphore>,
+    pub(crate) timer_count: u16,
+    pub(crate) timers: Timers,
+    pub(crate) callbacks: Callbacks,
+    pub(crate) ring: HeapCircularBuffer<Arrival>,
+    pub(crate) sent: u64,
+    pub(crate) moment: u64,
+    pub(crate) fuel: Fuel,
+    pub(crate) out: Out,
+    ghost few_processes: { length states.items ≤ 67 },
+    ghost are_members: { AreMembers members.items (length states.items) },
+    ghost counted: { accepted ≡ queue.accepted },
+    ghost short_queue: { queue.capacity ≤ 128 },
+    ghost each_timer: { length timers.timers ≡ timer_count },
+    ghost room_for_callbacks: { callbacks.limit ≡ timer_count },
+    ghost ring_room: { ring.capacity ≡ 8 },
+    ghost early: { moment ≤ 2 ^ 40 },
+}

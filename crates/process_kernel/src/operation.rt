@@ -1,0 +1,199 @@
+//! The operations of the current process: starts, kills and exits, and the walk over the process list.
+
+ghost use Rattle.std.specs.Prelude.{◌≡◌, ◌<◌, ℕ, OnOk};
+ghost use Rattle.mote_program.specs.Program.{tree_of, code_of};
+ghost use Rattle.protothread.specs.Frames.{remainder_of};
+ghost use Rattle.process_kernel.specs.Call.{calls_of};
+ghost use Rattle.process_kernel.specs.Calls.{walk_of};
+ghost use Rattle.process_kernel.specs.Exit.{number_of as number_told, last_run_of, exit_of};
+ghost use Rattle.process_kernel.specs.Start.{start_of};
+ghost use Rattle.process_kernel.specs.Kill.{kill_of};
+ghost use Rattle.process_kernel.specs.Operation.{posted, act_of, perform_of};
+ghost use Rattle.process_kernel.specs.Views.{state_of, Tells, Grows, HasRoom, Spends, told_thread};
+
+use crate::event::told;
+use crate::line::What;
+use crate::machine::{Machine, Stop};
+use crate::process::Member;
+use crate::table::is_same;
+use mote_program::{Event, Proc, ProcessText, Program, SystemEvent};
+use protothread::{Op, Thread};
+
+/// An event that a program posts. It has no sender.
+fn posted(number: u8, word: u16) -> Event
+    ensures { result ≡ posted number word }
+{
+    Event {
+        number,
+        word,
+        sender: 0,
+    }
+}
+
+/// The number by which EXITED names a process.
+fn number_of(process: Proc) -> u16
+    ensures { result ≡ number_told process }
+{
+    match process {
+        Proc::Own(number) => u16::from(number),
+        Proc::Etimer => 256,
+        Proc::Ctimer => 257,
+        Proc::Radio => 258,
+    }
+}
+
+impl Machine {
+    /// Performs an operation for the current process, and tells its thread the answer.
+    #[cycle(kernel)]
+    #[tactic(auto, unfolding(crate::specs::Operation::perform_of))]
+    pub fn perform(
+        &mut self,
+        program: &Program,
+        text: &ProcessText,
+        thread: Thread,
+        current: u8,
+        op: Op,
+    ) -> Result<Thread, Stop>
+        requires { HasRoom 1 self.old }
+        ensures exact { (k : ℕ) → self.old.fuel < k → Tells (told_thread (code_of text.now) result) (state_of (tree_of program.now) self.new) (perform_of (calls_of k) (state_of (tree_of program.now) self.old) (remainder_of (code_of text.now) thread) current op) }
+        ensures spends { OnOk result (Spends 1 self.old self.new) }
+        ensures grows { Grows self.old.out self.new.out }
+    {
+        let mut thread = thread;
+        match op {
+            Op::Post(target, number, word) => {
+                let is_full = self.post(target, posted(number, word))?;
+                self.answer(&mut thread, current, is_full);
+                Ok(thread)
+            }
+            op => {
+                self.act(program, current, op)?;
+                Ok(thread)
+            }
+        }
+    }
+
+    /// Performs an operation that has no answer.
+    #[cycle(kernel)]
+    #[tactic(auto, unfolding(crate::specs::Operation::act_of))]
+    fn act(&mut self, program: &Program, current: u8, op: Op) -> Result<(), Stop>
+        requires { HasRoom 1 self.old }
+        ensures exact { (k : ℕ) → self.old.fuel < k → Tells result (state_of (tree_of program.now) self.new) (act_of (calls_of k) (state_of (tree_of program.now) self.old) current op) }
+        ensures spends { OnOk result (Spends 1 self.old self.new) }
+        ensures grows { Grows self.old.out self.new.out }
+    {
+        match op {
+            Op::Post(..) => {}
+            Op::Synch(process, number, word) => {
+                return self.call(program, process, &posted(number, word));
+            }
+            Op::Poll(process) => self.poll(process),
+            Op::Start(process) => return self.start(program, process),
+            Op::Kill(process) => return self.kill(program, process, current),
+            Op::Set(timer, interval) => self.set_timer(program, timer, interval, current),
+            Op::Reset(timer) => self.reset_timer(program, timer, current),
+            Op::RestartTimer(timer) => self.restart_timer(program, timer, current),
+            Op::Stop(timer) => self.stop_timer(timer),
+            Op::Send(value) => return self.send(value),
+            Op::Print(value) => return self.write(What::Print(Proc::Own(current), value)),
+            Op::Take(semaphore) => self.take_semaphore(semaphore),
+            Op::Signal(semaphore) => self.signal_semaphore(semaphore),
+        }
+        Ok(())
+    }
+
+    /// Starts a process: one that isn't on the process list goes to its front, and is called with INIT (`process_start`).
+    #[cycle(kernel)]
+    #[tactic(auto, unfolding(crate::specs::Start::start_of))]
+    pub fn start(&mut self, program: &Program, process: Proc) -> Result<(), Stop>
+        requires { HasRoom 1 self.old }
+        ensures exact { (k : ℕ) → self.old.fuel < k → Tells result (state_of (tree_of program.now) self.new) (start_of (calls_of k) (state_of (tree_of program.now) self.old) process) }
+        ensures spends { OnOk result (Spends 1 self.old self.new) }
+        ensures paid { OnOk result (Spends 0 self.old self.new) }
+        ensures grows { Grows self.old.out self.new.out }
+    {
+        if self.is_busy(process) {
+            return self.write(What::Busy(process));
+        }
+        if self.has_process(process) && !self.is_listed(process) {
+            self.enlist(process)?;
+            self.call(program, process, &told(SystemEvent::Init, 0))
+        } else {
+            Ok(())
+        }
+    }
+
+    /// Kills a process that isn't busy: it is exited on behalf of the current one.
+    #[cycle(kernel)]
+    #[tactic(auto, unfolding(crate::specs::Kill::kill_of))]
+    fn kill(&mut self, program: &Program, process: Proc, current: u8) -> Result<(), Stop>
+        requires { HasRoom 0 self.old }
+        ensures exact { (k : ℕ) → self.old.fuel < k → Tells result (state_of (tree_of program.now) self.new) (kill_of (calls_of k) (state_of (tree_of program.now) self.old) process current) }
+        ensures spends { OnOk result (Spends 0 self.old self.new) }
+        ensures grows { Grows self.old.out self.new.out }
+    {
+        if self.is_busy(process) {
+            self.write(What::Busy(process))
+        } else {
+            self.exit(program, process, Proc::Own(current))
+        }
+    }
+
+    /// Exits a process on behalf of another, or of itself: the others are told first (`exit_process` of `process.c`).
+    #[cycle(kernel)]
+    #[tactic(auto, unfolding(crate::specs::Exit::exit_of))]
+    pub fn exit(&mut self, program: &Program, process: Proc, behalf: Proc) -> Result<(), Stop>
+        requires { HasRoom 0 self.old }
+        ensures exact { (k : ℕ) → self.old.fuel < k → Tells result (state_of (tree_of program.now) self.new) (exit_of (calls_of k) (state_of (tree_of program.now) self.old) process behalf) }
+        ensures spends { OnOk result (Spends 0 self.old self.new) }
+        ensures grows { Grows self.old.out self.new.out }
+    {
+        if !self.is_listed(process) {
+            return Ok(());
+        }
+        let members = self.snapshot();
+        self.begin_exit(process);
+        let exited = told(SystemEvent::Exited, number_of(process));
+        self.walk(program, &exited, process, members.as_slice())?;
+        if !is_same(process, behalf) {
+            self.run_last(program, process)?;
+        }
+        self.leave(process)
+    }
+
+    /// Runs a process with EXIT that another one exits.
+    #[cycle(kernel)]
+    #[tactic(auto, unfolding(crate::specs::Exit::last_run_of))]
+    fn run_last(&mut self, program: &Program, process: Proc) -> Result<(), Stop>
+        requires { HasRoom 0 self.old }
+        ensures exact { (k : ℕ) → self.old.fuel < k → Tells result (state_of (tree_of program.now) self.new) (last_run_of (calls_of k) (state_of (tree_of program.now) self.old) process) }
+        ensures spends { OnOk result (Spends 0 self.old self.new) }
+        ensures grows { Grows self.old.out self.new.out }
+    {
+        self.spend()?;
+        self.react(program, process, &told(SystemEvent::Exit, 0))?;
+        Ok(())
+    }
+
+    /// Calls each of these incarnations that is on the process list at its turn, but for one process.
+    #[cycle(kernel)]
+    fn walk(
+        &mut self,
+        program: &Program,
+        event: &Event,
+        skipped: Proc,
+        members: &[Member],
+    ) -> Result<(), Stop>
+        requires { HasRoom 0 self.old }
+        ensures exact { (k : ℕ) → self.old.fuel < k → Tells result (state_of (tree_of program.now) self.new) (walk_of (calls_of k) event.now skipped members.now (state_of (tree_of program.now) self.old)) }
+        ensures spends { OnOk result (Spends 0 self.old self.new) }
+        ensures grows { Grows self.old.out self.new.out }
+    {
+        for member in members {
+            if !is_same(member.process, skipped) && self.is_on_list(*member) {
+                self.call(program, member.process, event)?;
+            }
+        }
+        Ok(())
+    }
+}

@@ -1,0 +1,152 @@
+//! Lines, work, posts, polls and packets.
+
+ghost use Rattle.std.specs.Prelude.{◌≡◌, ◌+◌, ◌^◌, ◌++◌, ◌∷◌, [], OnOk};
+ghost use Rattle.mote_program.specs.Code.{Tree};
+ghost use Rattle.process_kernel.specs.State.{Goes};
+ghost use Rattle.process_kernel.specs.Writes.{write_of, spend_of, halted_of};
+ghost use Rattle.process_kernel.specs.Posts.{post_of, poll_of, send_of};
+ghost use Rattle.process_kernel.specs.Semaphores.{take_of, signal_of};
+ghost use Rattle.process_kernel.specs.Views.{state_of, Tells, Grows, KeepsCounts, KeepsLists};
+
+use crate::line::{Line, Sent, What};
+use crate::machine::{Machine, Stop};
+use crate::table::is_alive;
+use mote_program::{Event, Proc, Target};
+
+/// How many events a mote accepts, and how many packets it sends, before it halts.
+const LIMIT: u64 = 1 << 62;
+
+impl Machine {
+    #[tactic(auto, unfolding(crate::specs::Writes::write_of, crate::specs::Views::Begins))]
+    pub fn write(&mut self, what: What) -> Result<(), Stop>
+        ensures exact { (t : Tree) → Tells result (state_of t self.new) (write_of (state_of t self.old) what) }
+        ensures kept { KeepsCounts self.old self.new }
+        ensures lists { KeepsLists self.old self.new }
+        ensures grows { Grows self.old.out self.new.out }
+    {
+        let at = self.moment;
+        self.out.lines.push(Line { at, what })?;
+        Ok(())
+    }
+
+    /// Writes that the mote halts.
+    #[tactic(auto, unfolding(crate::specs::Writes::write_of, crate::specs::Writes::halted_of))]
+    pub fn halt(&mut self) -> Stop
+        ensures exact { (t : Tree) → result ≡ Stop.Halted → state_of t self.new ≡ halted_of (state_of t self.old) }
+        ensures grows { Grows self.old.out self.new.out }
+    {
+        match self.write(What::Halt) {
+            Ok(()) => Stop::Halted,
+            Err(stop) => stop,
+        }
+    }
+
+    /// Spends a unit of work; without one the mote halts.
+    #[tactic(auto, unfolding(crate::specs::Writes::spend_of))]
+    pub fn spend(&mut self) -> Result<(), Stop>
+        ensures exact { (t : Tree) → Tells result (state_of t self.new) (spend_of (state_of t self.old)) }
+        ensures units { OnOk result ((self.new.fuel + 1 ≡ self.old.fuel) × (self.new.started ≡ self.old.started)) }
+        ensures grows { Grows self.old.out self.new.out }
+    {
+        if !self.fuel.spend() {
+            return Err(self.halt());
+        }
+        Ok(())
+    }
+
+    /// Posts an event; the answer is whether the queue was full.
+    #[tactic(auto, unfolding(crate::specs::Posts::post_of))]
+    pub fn post(&mut self, target: Target, event: Event) -> Result<bool, Stop>
+        ensures exact { (t : Tree) → Tells result (state_of t self.new) (post_of (state_of t self.old) target event) }
+        ensures kept { OnOk result (KeepsCounts self.old self.new) }
+        ensures lists { OnOk result (KeepsLists self.old self.new) }
+        ensures grows { Grows self.old.out self.new.out }
+    {
+        if self.accepted >= LIMIT {
+            return Err(self.halt());
+        }
+        match self.queue.post(target, event) {
+            Ok(serial) => {
+                self.accepted = serial + 1;
+                self.write(What::Post(serial, target, event.number, event.word))?;
+                Ok(false)
+            }
+            Err(_) => {
+                self.write(What::Full(target, event.number, event.word))?;
+                Ok(true)
+            }
+        }
+    }
+
+    /// Asks for a poll of a process, where it is running or called.
+    #[tactic(auto, unfolding(crate::specs::Processes::with_mark, crate::specs::Posts::poll_of))]
+    pub fn poll(&mut self, process: Proc)
+        ensures exact { (t : Tree) → state_of t self.new ≡ poll_of (state_of t self.old) process }
+        ensures kept { KeepsCounts self.old self.new }
+        ensures lists { KeepsLists self.old self.new }
+        ensures grows { Grows self.old.out self.new.out }
+    {
+        if is_alive(self.process_state(process)) {
+            self.set_mark(process, true);
+            self.flag = true;
+        }
+    }
+
+    /// Notes a packet that is sent.
+    #[tactic(auto, unfolding(crate::specs::Views::Begins))]
+    fn put_sent(&mut self, packet: Sent) -> Result<(), Stop>
+        ensures exact { (t : Tree) → Tells result (state_of t self.new) (Goes tt (record (state_of t self.old) { sends = self.old.out.sends.items ++ packet ∷ [] })) }
+        ensures kept { KeepsCounts self.old self.new }
+        ensures grows { Grows self.old.out self.new.out }
+    {
+        self.out.sends.push(packet)?;
+        Ok(())
+    }
+
+    /// Sends a packet.
+    #[tactic(auto, unfolding(crate::specs::Posts::send_of))]
+    pub fn send(&mut self, value: u16) -> Result<(), Stop>
+        ensures exact { (t : Tree) → Tells result (state_of t self.new) (send_of (state_of t self.old) value) }
+        ensures kept { OnOk result (KeepsCounts self.old self.new) }
+        ensures grows { Grows self.old.out self.new.out }
+    {
+        if self.sent >= LIMIT {
+            return Err(self.halt());
+        }
+        let number = self.sent;
+        self.put_sent(Sent {
+            at: self.moment,
+            sender: self.mote,
+            number,
+            value,
+        })?;
+        self.sent = number + 1;
+        self.write(What::Send(number, value))
+    }
+
+    /// Subtracts one from a semaphore.
+    #[tactic(auto, unfolding(crate::specs::Semaphores::take_of))]
+    pub fn take_semaphore(&mut self, semaphore: u8)
+        ensures exact { (t : Tree) → state_of t self.new ≡ take_of (state_of t self.old) semaphore }
+        ensures kept { KeepsCounts self.old self.new }
+        ensures grows { Grows self.old.out self.new.out }
+    {
+        let place = usize::from(semaphore);
+        if place < self.semaphores.len() {
+            self.semaphores[place].take();
+        }
+    }
+
+    /// Adds one to a semaphore.
+    #[tactic(auto, unfolding(crate::specs::Semaphores::signal_of))]
+    pub fn signal_semaphore(&mut self, semaphore: u8)
+        ensures exact { (t : Tree) → state_of t self.new ≡ signal_of (state_of t self.old) semaphore }
+        ensures kept { KeepsCounts self.old self.new }
+        ensures grows { Grows self.old.out self.new.out }
+    {
+        let place = usize::from(semaphore);
+        if place < self.semaphores.len() {
+            self.semaphores[place].signal();
+        }
+    }
+}

@@ -1,0 +1,30 @@
+//! The processes of a mote: their states, and their incarnations on the process list.
+
+use mote_program::Proc;
+
+/// The state of a process (`PROCESS_STATE_NONE` and its kin of `process.c`).
+#[derive(Clone, Copy, Debug, PartialEq, Eq)]
+pub enum ProcessState {
+    /// It isn't running.
+    Off,
+    /// It waits for an event.
+    Running,
+    /// It was called, and hasn't answered yet.
+    Called,
+}
+
+/// A process on the process list. A process that left and was started again has a new incarnation.
+#[derive(Clone, Copy, Debug, PartialEq, Eq)]
+pub struct Member {
+    pub process: Proc,
+    pub incarnation: u32,
+}
+
+impl Default for Member {
+    fn default() -> Self {
+        Member {
+            process: Proc::Etimer,
+            incarnation: 0,
+        }
+    }
+}

@@ -1,0 +1,78 @@
+//! The radio process.
+
+ghost use Rattle.std.specs.Prelude.{◌≡◌, ◌++◌, [], ◌∷◌, if◌then◌else◌, nat_lt, length, OnOk};
+ghost use Rattle.mote_program.specs.Code.{Tree};
+ghost use Rattle.mote_program.specs.Program.{tree_of};
+ghost use Rattle.process_kernel.specs.Radio.{packet_of, hand_to, empty_ring, radio_of};
+ghost use Rattle.process_kernel.specs.Views.{state_of, Tells, Grows, KeepsCounts};
+
+use crate::event::is_event;
+use crate::line::{Arrival, What};
+use crate::machine::{Machine, Stop};
+use mote_program::{Event, Proc, Program, SystemEvent, Target};
+
+/// A packet as an event: its value, and the mote that sent it.
+fn packet_event(packet: &Arrival) -> Event
+    ensures { result ≡ packet_of packet.now }
+{
+    Event {
+        number: SystemEvent::Packet.number(),
+        word: packet.value,
+        sender: packet.sender,
+    }
+}
+
+impl Machine {
+    /// Puts a packet into the receive ring, where it has room; a full ring stays as it was.
+    pub fn accept_packet(&mut self, packet: Arrival) -> bool
+        ensures room { result ≡ nat_lt (length self.old.ring.items) 8 }
+        ensures after { (t : Tree) → state_of t self.new ≡ (if result then record (state_of t self.old) { ring = self.old.ring.items ++ packet ∷ [] } else state_of t self.old) }
+    {
+        match self.ring.try_push_back(packet) {
+            Ok(()) => true,
+            Err(_) => false,
+        }
+    }
+
+    /// Posts a packet to the receiver; without one nobody hears it.
+    #[tactic(auto, unfolding(crate::specs::Radio::hand_to))]
+    fn hand_to(&mut self, receiver: Option<u8>, packet: &Arrival) -> Result<(), Stop>
+        ensures exact { (t : Tree) → Tells result (state_of t self.new) (hand_to receiver (state_of t self.old) packet.now) }
+        ensures kept { OnOk result (KeepsCounts self.old self.new) }
+        ensures ring { OnOk result (self.new.ring ≡ self.old.ring) }
+        ensures grows { Grows self.old.out self.new.out }
+    {
+        match receiver {
+            Some(process) => {
+                self.post(Target::One(Proc::Own(process)), packet_event(packet))?;
+                Ok(())
+            }
+            None => self.write(What::Deaf(packet.sender, packet.number)),
+        }
+    }
+
+    /// Takes the packets out of the ring, the oldest first.
+    fn empty_ring(&mut self, receiver: Option<u8>) -> Result<(), Stop>
+        ensures exact { (t : Tree) → Tells result (state_of t self.new) (empty_ring receiver self.old.ring.items (state_of t self.old)) }
+        ensures kept { OnOk result (KeepsCounts self.old self.new) }
+        ensures grows { Grows self.old.out self.new.out }
+    {
+        while let Some(packet) = self.ring.pop_front() {
+            self.hand_to(receiver, &packet)?;
+        }
+        Ok(())
+    }
+
+    /// What the radio process does with an event.
+    #[tactic(auto, unfolding(crate::specs::Radio::radio_of))]
+    pub fn react_as_radio(&mut self, program: &Program, event: &Event) -> Result<(), Stop>
+        ensures exact { Tells result (state_of (tree_of program.now) self.new) (radio_of (state_of (tree_of program.now) self.old) event.now) }
+        ensures kept { OnOk result (KeepsCounts self.old self.new) }
+        ensures grows { Grows self.old.out self.new.out }
+    {
+        if is_event(SystemEvent::Poll, event) {
+            return self.empty_ring(program.receiver());
+        }
+        Ok(())
+    }
+}

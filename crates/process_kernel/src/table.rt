@@ -1,0 +1,152 @@
+//! The tables of processes.
+
+ghost use Rattle.std.specs.Prelude.{◌≡◌, ◌||◌, nat_lt, length, slice_get, unwrap_or};
+ghost use Rattle.mote_program.specs.Code.{Tree};
+ghost use Rattle.process_kernel.specs.Members.{place_of, is_same as are_same, holds_member, stands_in};
+ghost use Rattle.process_kernel.specs.Processes.{state_at as state_of_process, flag_at, is_running_state, is_called_state, with_state, with_exiting, with_mark, is_alive as lives};
+ghost use Rattle.process_kernel.specs.Views.{state_of, Grows, KeepsCounts, KeepsLists};
+
+use crate::machine::Machine;
+use crate::process::{Member, ProcessState};
+use mote_program::Proc;
+
+/// The place of a process in the tables.
+pub fn place_of(process: Proc) -> usize
+    ensures { result ≡ place_of process }
+{
+    match process {
+        Proc::Etimer => 0,
+        Proc::Ctimer => 1,
+        Proc::Radio => 2,
+        Proc::Own(number) => usize::from(number) + 3,
+    }
+}
+
+pub fn is_same(left: Proc, right: Proc) -> bool
+    ensures { result ≡ are_same left right }
+{
+    place_of(left) == place_of(right)
+}
+
+/// The state at a place of the table; past its end nothing is running.
+pub fn state_at(states: &[ProcessState], place: usize) -> ProcessState
+    ensures { result ≡ unwrap_or (slice_get states.now place) ProcessState.Off }
+{
+    states.get(place).copied().unwrap_or(ProcessState::Off)
+}
+
+/// Whether a process in this state is running or called.
+pub fn is_alive(state: ProcessState) -> bool
+    ensures { result ≡ lives state }
+{
+    match state {
+        ProcessState::Off => false,
+        ProcessState::Running => true,
+        ProcessState::Called => true,
+    }
+}
+
+impl Machine {
+    pub fn process_state(&self, process: Proc) -> ProcessState
+        ensures { result ≡ state_of_process self.now.states.items process }
+    {
+        state_at(&self.states, place_of(process))
+    }
+
+    pub fn is_running(&self, process: Proc) -> bool
+        ensures { result ≡ is_running_state (state_of_process self.now.states.items process) }
+    {
+        match self.process_state(process) {
+            ProcessState::Off => false,
+            ProcessState::Running => true,
+            ProcessState::Called => false,
+        }
+    }
+
+    pub fn is_exiting(&self, process: Proc) -> bool
+        ensures { result ≡ flag_at self.now.exiting.items process }
+    {
+        self.exiting
+            .get(place_of(process))
+            .copied()
+            .unwrap_or(false)
+    }
+
+    /// Whether its body or a handler of it is being executed, or it is being exited.
+    pub fn is_busy(&self, process: Proc) -> bool
+        ensures { result ≡ (is_called_state (state_of_process self.now.states.items process) || flag_at self.now.exiting.items process) }
+    {
+        match self.process_state(process) {
+            ProcessState::Off => self.is_exiting(process),
+            ProcessState::Running => self.is_exiting(process),
+            ProcessState::Called => true,
+        }
+    }
+
+    pub fn is_marked(&self, process: Proc) -> bool
+        ensures { result ≡ flag_at self.now.marks.items process }
+    {
+        self.marks.get(place_of(process)).copied().unwrap_or(false)
+    }
+
+    /// Whether the mote has such a process.
+    pub fn has_process(&self, process: Proc) -> bool
+        ensures { result ≡ nat_lt (place_of process) (length self.now.states.items) }
+    {
+        place_of(process) < self.states.len()
+    }
+
+    /// Whether this incarnation is on the process list.
+    pub fn is_on_list(&self, member: Member) -> bool
+        ensures { result ≡ holds_member self.now.members.items member }
+    {
+        self.members.iter().any(|x| place_of(member.process) == place_of(x.process)
+            && member.incarnation == x.incarnation)
+    }
+
+    /// Whether some incarnation of the process is on the process list.
+    pub fn is_listed(&self, process: Proc) -> bool
+        ensures { result ≡ stands_in self.now.members.items process }
+    {
+        self.members
+            .iter()
+            .any(|x| place_of(process) == place_of(x.process))
+    }
+
+    #[tactic(auto, unfolding(crate::specs::Processes::with_state))]
+    pub fn set_state(&mut self, process: Proc, state: ProcessState)
+        ensures exact { (t : Tree) → state_of t self.new ≡ with_state (state_of t self.old) process state }
+        ensures kept { KeepsCounts self.old self.new }
+        ensures grows { Grows self.old.out self.new.out }
+    {
+        let place = place_of(process);
+        if place < self.states.len() {
+            self.states[place] = state;
+        }
+    }
+
+    #[tactic(auto, unfolding(crate::specs::Processes::with_exiting))]
+    pub fn set_exiting(&mut self, process: Proc, exiting: bool)
+        ensures exact { (t : Tree) → state_of t self.new ≡ with_exiting (state_of t self.old) process exiting }
+        ensures kept { KeepsCounts self.old self.new }
+        ensures grows { Grows self.old.out self.new.out }
+    {
+        let place = place_of(process);
+        if place < self.exiting.len() {
+            self.exiting[place] = exiting;
+        }
+    }
+
+    #[tactic(auto, unfolding(crate::specs::Processes::with_mark))]
+    pub fn set_mark(&mut self, process: Proc, mark: bool)
+        ensures exact { (t : Tree) → state_of t self.new ≡ with_mark (state_of t self.old) process mark }
+        ensures kept { KeepsCounts self.old self.new }
+        ensures lists { KeepsLists self.old self.new }
+        ensures grows { Grows self.old.out self.new.out }
+    {
+        let place = place_of(process);
+        if place < self.marks.len() {
+            self.marks[place] = mark;
+        }
+    }
+}

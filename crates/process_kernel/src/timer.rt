@@ -1,0 +1,171 @@
+//! Timers: what a program does with them, and the etimer process.
+
+ghost use Rattle.std.specs.Prelude.{◌≡◌, ◌<◌, OnOk, if◌then◌else◌};
+ghost use Rattle.mote_program.specs.Code.{Tree};
+ghost use Rattle.mote_program.specs.Program.{tree_of};
+ghost use Rattle.mote_timers.specs.Numbers.{with_member, without_member};
+ghost use Rattle.process_kernel.specs.Ctimer.{waits_for};
+ghost use Rattle.process_kernel.specs.TimerOperations.{is_callback as is_of_callback, owner_of, timer_is_set, set_of, reset_of, restart_of, stop_of};
+ghost use Rattle.process_kernel.specs.Etimer.{fired_of, pass_of, purge_of, etimer_of};
+ghost use Rattle.process_kernel.specs.Views.{state_of, Tells, Grows, KeepsCounts};
+
+use crate::event::{is_event, told};
+use crate::machine::{Machine, Stop};
+use mote_program::{Event, Proc, Program, SystemEvent, Target};
+
+/// Whether it is a callback timer of the program.
+fn is_callback(program: &Program, timer: u16) -> bool
+    ensures { result ≡ is_of_callback (tree_of program.now) timer }
+{
+    timer < program.timers() && program.is_callback(timer)
+}
+
+/// Who is told when the timer is due: the process that sets it, and for a callback timer the ctimer process.
+fn owner(program: &Program, timer: u16, current: u8) -> Proc
+    ensures { result ≡ owner_of (tree_of program.now) timer current }
+{
+    if is_callback(program, timer) {
+        Proc::Ctimer
+    } else {
+        Proc::Own(current)
+    }
+}
+
+impl Machine {
+    /// Puts the callback of a timer, if it has one, on the callback list.
+    fn put_callback(&mut self, program: &Program, timer: u16)
+        requires { timer < self.old.timer_count }
+        ensures exact { state_of (tree_of program.now) self.new ≡ record (state_of (tree_of program.now) self.old) { callbacks = if is_of_callback (tree_of program.now) timer then with_member timer self.old.callbacks.members else self.old.callbacks.members } }
+        ensures kept { KeepsCounts self.old self.new }
+        ensures grows { Grows self.old.out self.new.out }
+    {
+        if is_callback(program, timer) {
+            self.callbacks.put(timer);
+        }
+    }
+
+    /// A timer was set: its callback, if it has one, waits for it, and the etimer process is to be polled.
+    #[tactic(auto, unfolding(crate::specs::TimerOperations::timer_is_set))]
+    fn timer_is_set(&mut self, program: &Program, timer: u16)
+        requires { timer < self.old.timer_count }
+        ensures exact { state_of (tree_of program.now) self.new ≡ timer_is_set (state_of (tree_of program.now) self.old) timer }
+        ensures kept { KeepsCounts self.old self.new }
+        ensures grows { Grows self.old.out self.new.out }
+    {
+        self.put_callback(program, timer);
+        self.poll(Proc::Etimer);
+    }
+
+    #[tactic(auto, unfolding(crate::specs::TimerOperations::set_of))]
+    pub fn set_timer(&mut self, program: &Program, timer: u16, interval: u16, current: u8)
+        ensures exact { state_of (tree_of program.now) self.new ≡ set_of (state_of (tree_of program.now) self.old) timer interval current }
+        ensures kept { KeepsCounts self.old self.new }
+        ensures grows { Grows self.old.out self.new.out }
+    {
+        if timer < self.timer_count {
+            let owner = owner(program, timer, current);
+            self.timers.set(timer, owner, interval, self.moment);
+            self.timer_is_set(program, timer);
+        }
+    }
+
+    #[tactic(auto, unfolding(crate::specs::TimerOperations::reset_of))]
+    pub fn reset_timer(&mut self, program: &Program, timer: u16, current: u8)
+        ensures exact { state_of (tree_of program.now) self.new ≡ reset_of (state_of (tree_of program.now) self.old) timer current }
+        ensures kept { KeepsCounts self.old self.new }
+        ensures grows { Grows self.old.out self.new.out }
+    {
+        if timer < self.timer_count {
+            self.timers.reset(timer, owner(program, timer, current));
+            self.timer_is_set(program, timer);
+        }
+    }
+
+    #[tactic(auto, unfolding(crate::specs::TimerOperations::restart_of))]
+    pub fn restart_timer(&mut self, program: &Program, timer: u16, current: u8)
+        ensures exact { state_of (tree_of program.now) self.new ≡ restart_of (state_of (tree_of program.now) self.old) timer current }
+        ensures kept { KeepsCounts self.old self.new }
+        ensures grows { Grows self.old.out self.new.out }
+    {
+        if timer < self.timer_count {
+            let owner = owner(program, timer, current);
+            self.timers.restart(timer, owner, self.moment);
+            self.timer_is_set(program, timer);
+        }
+    }
+
+    #[tactic(auto, unfolding(crate::specs::TimerOperations::stop_of))]
+    pub fn stop_timer(&mut self, timer: u16)
+        ensures exact { (t : Tree) → state_of t self.new ≡ stop_of (state_of t self.old) timer }
+        ensures kept { KeepsCounts self.old self.new }
+        ensures grows { Grows self.old.out self.new.out }
+    {
+        if timer < self.timer_count {
+            self.timers.stop(timer);
+            self.callbacks.remove(timer);
+        }
+    }
+
+    /// Takes the callback of a timer off the callback list, and answers whether it was there.
+    pub fn takes_callback(&mut self, timer: u16) -> bool
+        ensures waited { (t : Tree) → result ≡ waits_for (state_of t self.old) timer }
+        ensures after { (t : Tree) → state_of t self.new ≡ (if result then record (state_of t self.old) { callbacks = without_member timer self.old.callbacks.members } else state_of t self.old) }
+        ensures kept { KeepsCounts self.old self.new }
+        ensures grows { Grows self.old.out self.new.out }
+    {
+        if timer < self.timer_count && self.callbacks.holds(timer) {
+            self.callbacks.remove(timer)
+        } else {
+            false
+        }
+    }
+
+    /// Posts the event of each timer that is due, and begins again at the front of the list after each that is accepted.
+    #[tactic(auto, unfolding(crate::specs::Etimer::pass_of))]
+    fn post_due_timers(&mut self) -> Result<(), Stop>
+        ensures exact { (t : Tree) → Tells result (state_of t self.new) (pass_of (state_of t self.old)) }
+        ensures kept { OnOk result (KeepsCounts self.old self.new) }
+        ensures grows { Grows self.old.out self.new.out }
+    {
+        let mut after = None;
+        while let Some((timer, owner)) = self.timers.next_due(self.moment, after) {
+            let is_full = self.post(Target::One(owner), told(SystemEvent::Timer, timer))?;
+            if is_full {
+                self.poll(Proc::Etimer);
+                after = Some(timer);
+            } else {
+                self.timers.fire(timer);
+                after = None;
+            }
+        }
+        Ok(())
+    }
+
+    /// Takes the timers of a process that left off the list.
+    #[tactic(auto, unfolding(crate::specs::Etimer::purge_of))]
+    fn purge(&mut self, process: u16)
+        ensures exact { (t : Tree) → state_of t self.new ≡ purge_of (state_of t self.old) process }
+        ensures kept { KeepsCounts self.old self.new }
+        ensures grows { Grows self.old.out self.new.out }
+    {
+        if process < 256 {
+            self.timers.purge(Proc::Own(process as u8));
+        }
+    }
+
+    /// What the etimer process does with an event.
+    #[tactic(auto, unfolding(crate::specs::Etimer::etimer_of))]
+    pub fn react_as_etimer(&mut self, event: &Event) -> Result<(), Stop>
+        ensures exact { (t : Tree) → Tells result (state_of t self.new) (etimer_of (state_of t self.old) event.now) }
+        ensures kept { OnOk result (KeepsCounts self.old self.new) }
+        ensures grows { Grows self.old.out self.new.out }
+    {
+        if is_event(SystemEvent::Poll, event) {
+            return self.post_due_timers();
+        }
+        if is_event(SystemEvent::Exited, event) {
+            self.purge(event.word);
+        }
+        Ok(())
+    }
+}

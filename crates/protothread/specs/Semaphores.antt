@@ -1,0 +1,27 @@
+-- The count of a semaphore over its uses.
+use Rattle.std.specs.Prelude.{ℕ, ◌≡◌, ◌+◌, ◌-◌, ◌%◌, ◌^◌, ◌<◌, List, [], ◌∷◌}
+
+pub data Use : Type 0 where
+  takes : Use
+  signals : Use
+
+-- a semaphore goes from one count to another by these uses, each of which is one that happens: nothing is taken at 0
+abbrev pub Counts : (start : ℕ) → List Use → (count : ℕ) → Type 0
+Counts start [] count = start ≡ count
+Counts start (takes ∷ us) count = (0 < start) × Counts (start - 1) us count
+Counts start (signals ∷ us) count = Counts ((start + 1) % 2 ^ 16) us count
+
+abbrev pub taken : List Use → ℕ
+taken [] = 0
+taken (takes ∷ us) = 1 + taken us
+taken (signals ∷ us) = taken us
+
+abbrev pub signalled : List Use → ℕ
+signalled [] = 0
+signalled (takes ∷ us) = signalled us
+signalled (signals ∷ us) = 1 + signalled us
+
+-- the count is the first one and the signals, less what was taken, modulo 65,536
+abbrev pub CountsAreSignalsLessTakes : Type 0
+CountsAreSignalsLessTakes =
+    (start : ℕ) (uses : List Use) (count : ℕ) → Counts start uses count → (count + taken uses) % 2 ^ 16 ≡ (start + signalled uses) % 2 ^ 16

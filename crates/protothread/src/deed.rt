@@ -1,0 +1,117 @@
+//! What a statement without blocks does.
+ghost use Rattle.std.specs.Prelude.{◌≡◌};
+ghost use Rattle.mote_program.specs.Tree.{action_of};
+ghost use Rattle.protothread.specs.Step.{deed_of, passes_where as by_test};
+
+use crate::look::Look;
+use crate::step::Op;
+use crate::value::evaluate;
+use crate::vars::Vars;
+use mote_program::{Action, Event, Proc, SystemEvent, Target};
+
+/// What a statement does to the thread that stands at it.
+#[derive(Clone, Copy, Debug, PartialEq, Eq)]
+pub(crate) enum Deed {
+    /// Nothing; the thread goes on behind it.
+    Passes,
+    /// A variable gets a value.
+    Assigns(u8, u16),
+    /// An operation, and the variable that is told its answer.
+    Operates(Op, Option<u8>),
+    /// The post of a `pause`.
+    Pauses(Op),
+    /// The thread waits at the statement.
+    Waits,
+    /// The thread yields at the statement.
+    Yields,
+    /// A thread of the process is made fresh and called.
+    Spawns(u8),
+    /// The thread is fresh again and waits.
+    Restarts,
+    /// The thread is fresh again and has exited.
+    Exits,
+}
+
+/// Goes on where the test holds, and else does the other.
+fn passes_where(test: bool, other: Deed) -> Deed
+    ensures { result ≡ by_test test other }
+{
+    if test { Deed::Passes } else { other }
+}
+
+/// What a statement does in a process of this number.
+pub(crate) fn done_by<L: Look>(
+    action: &Action,
+    process: u8,
+    is_yielded: bool,
+    vars: &Vars,
+    event: &Event,
+    look: &L,
+) -> Deed
+    ensures { result ≡ deed_of process is_yielded vars.now event.now (L.looks look.now) (action_of action.now) }
+{
+    match action {
+        Action::Assign(variable, value) => {
+            Deed::Assigns(*variable, evaluate(value, vars, event, look))
+        }
+        Action::Print(value) => {
+            Deed::Operates(Op::Print(evaluate(value, vars, event, look)), None)
+        }
+        Action::Send(value) => {
+            Deed::Operates(Op::Send(evaluate(value, vars, event, look)), None)
+        }
+        Action::WaitUntil(condition) => {
+            passes_where(evaluate(condition, vars, event, look) != 0, Deed::Waits)
+        }
+        Action::WaitWhile(condition) => {
+            passes_where(evaluate(condition, vars, event, look) == 0, Deed::Waits)
+        }
+        Action::Yield => passes_where(is_yielded, Deed::Yields),
+        Action::YieldUntil(condition) => {
+            let met = is_yielded && evaluate(condition, vars, event, look) != 0;
+            passes_where(met, Deed::Yields)
+        }
+        Action::Spawn(thread) => Deed::Spawns(*thread),
+        Action::Restart => Deed::Restarts,
+        Action::Exit => Deed::Exits,
+        Action::Pause => {
+            let goes_on = SystemEvent::Continue.number();
+            if is_yielded {
+                passes_where(event.number == goes_on, Deed::Yields)
+            } else {
+                Deed::Pauses(Op::Post(Target::One(Proc::Own(process)), goes_on, 0))
+            }
+        }
+        Action::Acquire(semaphore) => {
+            if look.count(*semaphore) == 0 {
+                Deed::Waits
+            } else {
+                Deed::Operates(Op::Take(*semaphore), None)
+            }
+        }
+        Action::Signal(semaphore) => Deed::Operates(Op::Signal(*semaphore), None),
+        Action::Post(process, named, word, into) => {
+            let word = evaluate(word, vars, event, look);
+            let target = Target::One(Proc::Own(*process));
+            Deed::Operates(Op::Post(target, named.number(), word), *into)
+        }
+        Action::Broadcast(named, word, into) => {
+            let word = evaluate(word, vars, event, look);
+            Deed::Operates(Op::Post(Target::All, named.number(), word), *into)
+        }
+        Action::Synch(process, named, word) => {
+            let word = evaluate(word, vars, event, look);
+            Deed::Operates(Op::Synch(Proc::Own(*process), named.number(), word), None)
+        }
+        Action::Poll(process) => Deed::Operates(Op::Poll(Proc::Own(*process)), None),
+        Action::Start(process) => Deed::Operates(Op::Start(Proc::Own(*process)), None),
+        Action::Kill(process) => Deed::Operates(Op::Kill(Proc::Own(*process)), None),
+        Action::Set(timer, interval) => {
+            let interval = evaluate(interval, vars, event, look);
+            Deed::Operates(Op::Set(u16::from(*timer), interval), None)
+        }
+        Action::Reset(timer) => Deed::Operates(Op::Reset(u16::from(*timer)), None),
+        Action::RestartTimer(timer) => { Deed::Operates(Op::RestartTimer(u16::from(*timer)), None) }
+        Action::Stop(timer) => Deed::Operates(Op::Stop(u16::from(*timer)), None),
+    }
+}
