@@ -58,12 +58,12 @@ due_run again on h i s timer None = i s
 due_run again on h i s timer (Some owner) =
     reaches_bind _ _ s _ _ (posts_event s _ (told Timer timer) (fits_other owner _ refl)) (λ full t. reaches_if _ t full _ _ (reaches_from _ (quiet t _ (poll_quiet t Etimer)) (i _)) (reaches_from _ (quiet t _ (fired_quiet t timer)) (h _)))
 
-walk_run : (again : State → Went) → ((s : State) → Reach (Unit {0}) s (again s)) → (ts : List ℕ) (s : State) → Reach (Unit {0}) s (walk_timers again ts s)
+pub walk_run : (again : State → Went) → ((s : State) → Reach (Unit {0}) s (again s)) → (ts : List ℕ) (s : State) → Reach (Unit {0}) s (walk_timers again ts s)
 walk_run again h [] s = goes_still _ s tt
 walk_run again h (t ∷ ts) s =
     reaches_if _ s (is_due s.moment (timer_at s.timers.timers t)) _ _ (due_run again (walk_timers again ts) h (walk_run again h ts) s t _) (walk_run again h ts s)
 
-walks_run : (k : ℕ) (s : State) → Reach (Unit {0}) s (walks_of k s)
+pub walks_run : (k : ℕ) (s : State) → Reach (Unit {0}) s (walks_of k s)
 walks_run zero s = goes_still _ s tt
 walks_run (suc k) s = walk_run (walks_of k) (walks_run k) s.timers.listed s
 

@@ -3,7 +3,9 @@ pub mod Delivers
 pub mod Fits
 pub mod InStep
 pub mod Motes
+pub mod Packets
 pub mod Resting
 pub mod Steps
 pub mod Tables
+pub mod Timers
 pub mod Traces

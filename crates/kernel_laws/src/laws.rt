@@ -1,5 +1,6 @@
 //! Laws of the traces of a kernel. Each is the contract of a function that does nothing.
 
+ghost use Rattle.kernel_laws.specs.Polled.{PacketsAreHanded, TimersAreTold};
 ghost use Rattle.kernel_laws.specs.Laws.{KernelsHandOn, GoingIsInOrder, NoLinesGoFirst, BootAddsItsLines, RunAddsItsLines, PollKeeps, PacketKeeps, NoteKeeps, OnlyTheRunningAreCalled, CallsKeepStep, ListedAreRunning};
 
 /// Whatever its program is, and whatever calls follow its boot: the lines of a kernel, joined, hand its events on, nothing
@@ -26,4 +27,12 @@ pub fn the_listed_are_running()
     ensures lost { OnlyTheRunningAreCalled }
     ensures within { CallsKeepStep }
     ensures between { ListedAreRunning }
+{}
+
+/// What becomes of what waits, when the system processes are polled: each packet that was accepted into the receive ring is posted to the
+/// receiver once, in order, or nobody hears it; and a timer that is due by now gives its owner TIMER. Where the queue was full, a line
+/// says so.
+pub fn what_waits_is_told()
+    ensures packets { PacketsAreHanded }
+    ensures timers { TimersAreTold }
 {}

@@ -1,0 +1,65 @@
+-- What the radio does with its packets, and etimer with the timers that are due, when they are polled.
+use Rattle.std.specs.Prelude.{ℕ, ◌≡◌, true, List, [], ◌∷◌, ◌++◌, map, Option, Some, None}
+use Rattle.mote_program.specs.declared.event.Proc.{Proc}
+use Rattle.mote_program.specs.declared.event.Proc.TheVariants.{Own}
+use Rattle.mote_program.specs.declared.event.Target.{Target}
+use Rattle.mote_program.specs.declared.event.Target.TheVariants.{One}
+use Rattle.mote_program.specs.declared.event.Event.{Event}
+use Rattle.mote_program.specs.declared.event.SystemEvent.TheVariants.{Poll, Packet, Timer}
+use Rattle.mote_program.specs.Events.{system_number}
+use Rattle.mote_timers.specs.Numbers.{is_member}
+use Rattle.mote_timers.specs.Timer.{is_due}
+use Rattle.mote_timers.specs.TimerLists.{timer_at}
+use Rattle.process_kernel.specs.declared.line.Arrival.{Arrival}
+use Rattle.process_kernel.specs.declared.line.Line.{Line}
+use Rattle.process_kernel.specs.declared.line.What.{What}
+use Rattle.process_kernel.specs.declared.line.What.TheVariants as what
+use Rattle.process_kernel.specs.State.{State, Goes}
+use Rattle.process_kernel.specs.Calls.{is_event}
+use Rattle.process_kernel.specs.Etimer.{etimer_of}
+use Rattle.process_kernel.specs.Radio.{radio_of}
+
+-- the line of a post: the event was accepted, or the queue was full
+pub data TellsPost (t : Target) (number word : ℕ) : What → Type 0 where
+  Accepted : {serial : ℕ} → TellsPost t number word (what.Post serial t number word)
+  Refused : TellsPost t number word (what.Full t number word)
+
+-- the line of a packet that leaves the ring: it is posted to the receiver, or nobody hears it
+abbrev pub TellsPacket : (receiver : Option ℕ) → Arrival → What → Type 0
+TellsPacket (Some p) a w = TellsPost (One (Own p)) (system_number Packet) a.value w
+TellsPacket None a w = w ≡ what.Deaf a.sender a.number
+
+-- a line for each packet, in order
+pub data TellEach (receiver : Option ℕ) : List Arrival → List What → Type 0 where
+  NoneLeft : TellEach receiver [] []
+  TellsNext : {a : Arrival} {later : List Arrival} {w : What} {ws : List What}
+      → TellsPacket receiver a w → TellEach receiver later ws → TellEach receiver (a ∷ later) (w ∷ ws)
+
+abbrev pub lines_at : (moment : ℕ) → List What → List Line
+lines_at moment ws = map (λ w. record { at = moment; what = w }) ws
+
+-- the ring is empty, and there is a line for each packet that was in it, in order, and no other line
+pub record EmptiesRing (s t : State) : Type 0 where
+  pub empty : t.ring ≡ []
+  pub tellings : List What
+  pub each : TellEach s.program.receiver s.ring tellings
+  pub wrote : t.lines ≡ s.lines ++ lines_at s.moment tellings
+
+-- each packet that was accepted into the ring is posted to the receiver once, in order, or nobody hears it
+abbrev pub PacketsAreHanded : Type 0
+PacketsAreHanded = (s t : State) (e : Event) → is_event Poll e ≡ true → radio_of s e ≡ Goes tt t → EmptiesRing s t
+
+-- one of the lines between the two states tells of this post
+pub record TellsOfPost (s t : State) (target : Target) (number word : ℕ) : Type 0 where
+  pub telling : What
+  pub tells : TellsPost target number word telling
+  pub before : List Line
+  pub after : List Line
+  pub wrote : t.lines ≡ s.lines ++ (before ++ record { at = s.moment; what = telling } ∷ after)
+
+-- a timer that is due is posted to its owner, whose queue may be full
+abbrev pub TimersAreTold : Type 0
+TimersAreTold =
+    (s t : State) (e : Event) (timer : ℕ) (owner : Proc) → is_event Poll e ≡ true → etimer_of s e ≡ Goes tt t
+    → is_member timer s.timers.listed ≡ true → is_due s.moment (timer_at s.timers.timers timer) ≡ true → (timer_at s.timers.timers timer).owner ≡ Some owner
+    → TellsOfPost s t (One owner) (system_number Timer) timer
