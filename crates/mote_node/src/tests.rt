@@ -1,6 +1,8 @@
+//! Turns of motes, with their lines worked by hand.
+
 use super::*;
-use mote_program::{Event, Proc, Program, Target, read};
-use process_kernel::{Arrival, Line, Sent, What};
+use mote_program::read;
+use process_kernel::{Arrival, Sent};
 use std::alloc::{AllocError, Global};
 use std::test::Fail;
 
@@ -15,29 +17,14 @@ const RECEIVER: &str =
 /// A process that sends one packet.
 const SENDER: &str = "process a; autostart a; code a { body { send (self + 5); } }";
 
-const A: Proc = Proc::Own(0);
-
-/// The lines of a boot whose one process starts, and what it writes then.
-fn boot_lines(alloc: Global, at: u64, more: &[What]) -> Result<Vec<Line>, AllocError> {
-    let mut lines = Vec::new(alloc);
-    for process in [Proc::Etimer, Proc::Ctimer, Proc::Radio, A] {
-        lines.push(Line {
-            at,
-            what: What::Start(process),
-        })?;
+/// The lines of a turn, each as its moment and what happened.
+fn told(alloc: Global, out: &TurnOut) -> Result<String, AllocError> {
+    let mut text = String::new(alloc);
+    for line in &out.lines {
+        let line = format!(in alloc; "{} {:?}|", line.at, line.what)?;
+        text.push_str(&line)?;
     }
-    for what in more {
-        lines.push(Line { at, what: *what })?;
-    }
-    Ok(lines)
-}
-
-fn lines_at(alloc: Global, at: u64, whats: &[What]) -> Result<Vec<Line>, AllocError> {
-    let mut lines = Vec::new(alloc);
-    for what in whats {
-        lines.push(Line { at, what: *what })?;
-    }
-    Ok(lines)
+    Ok(text)
 }
 
 /// A packet whose number is its value.
@@ -55,9 +42,21 @@ fn new_parts(rt: HostRuntime) -> Result<(), Fail> {
     let mut mote = Mote::new(rt.alloc(), 0, &program, 32)?;
     assert_eq!(rt; mote.wake(), Some(0));
     let out = mote.turn(&program, 0, &[])?;
-    let want = boot_lines(rt.alloc(), 0, &[What::Print(A, 1)])?;
-    assert_eq!(rt; out.lines.as_slice(), want.as_slice());
+    let lines = told(rt.alloc(), &out)?;
+    assert_eq!(rt;
+        lines.as_str(),
+        "0 Start(Etimer)|0 Start(Ctimer)|0 Start(Radio)|0 Start(Own(0))|0 Print(Own(0), 1)|"
+    );
     assert_eq!(rt; out.wake, None);
+    Ok(())
+}
+
+/// A turn at a moment that isn't above the last turn's, and one that is.
+#[test]
+fn moments_rise(rt: HostRuntime) -> Result<(), Fail> {
+    let program = read(rt.alloc(), PRINT_THEN_YIELD)?;
+    let mut mote = Mote::new(rt.alloc(), 0, &program, 32)?;
+    mote.turn(&program, 0, &[])?;
     assert_eq!(rt; mote.turn(&program, 0, &[]).err(), Some(MoteError::Past));
     let out = mote.turn(&program, 1, &[])?;
     assert!(rt; out.lines.is_empty());
@@ -75,9 +74,8 @@ fn mote_by_hand(rt: HostRuntime) -> Result<(), Fail> {
         value: 9,
     };
     let out = mote.turn(&program, 2, &[packet])?;
-    let want = lines_at(rt.alloc(), 2, &[What::Recv(4, 0, 9), What::Deaf(4, 0)])?;
-    assert_eq!(rt; out.lines.as_slice(), want.as_slice());
-    assert_eq!(rt; out.wake, None);
+    let lines = told(rt.alloc(), &out)?;
+    assert_eq!(rt; lines.as_str(), "2 Recv(4, 0, 9)|2 Deaf(4, 0)|");
     assert_eq!(rt; mote.wake(), None);
     Ok(())
 }
@@ -93,43 +91,51 @@ fn one_packet_is_sent(rt: HostRuntime) -> Result<(), Fail> {
         number: 0,
         value: 5,
     };
-    assert_eq!(rt; out.sends.as_slice(), [sent].as_slice());
+    assert_eq!(rt; out.sends.first().copied(), Some(sent));
     Ok(())
 }
 
-/// Nine packets, of which eight find room: what they write, that each is heard, and that each is printed.
+/// What a receiver writes of these packets at moment 3.
+fn heard(alloc: Global, collides: bool, packets: &[Arrival]) -> Result<String, Fail> {
+    let program = read(alloc, RECEIVER)?;
+    let mut mote = Mote::new(alloc, 1, &program, 32)?;
+    mote.set_collide(collides);
+    mote.turn(&program, 0, &[])?;
+    let out = mote.turn(&program, 3, packets)?;
+    Ok(told(alloc, &out)?)
+}
+
+/// Nine packets, of which eight find room.
 #[test]
 fn ring_overflows(rt: HostRuntime) -> Result<(), Fail> {
-    let program = read(rt.alloc(), RECEIVER)?;
-    let mut mote = Mote::new(rt.alloc(), 1, &program, 32)?;
-    mote.turn(&program, 0, &[])?;
-    let mut packets = Vec::new(rt.alloc());
-    let mut want = Vec::new(rt.alloc());
-    for k in 0..9u16 {
-        packets.push(numbered(0, k))?;
-        if k < 8 {
-            want.push(What::Recv(0, u64::from(k), k))?;
-        }
-    }
-    want.push(What::Lost(0, 8))?;
-    for k in 0..8u16 {
-        want.push(What::Post(u64::from(k), Target::One(A), 0x8a, k))?;
-    }
-    for k in 0..8u16 {
-        want.push(What::Take(u64::from(k), A))?;
-        want.push(What::Print(A, 0))?;
-        want.push(What::Print(A, k))?;
-    }
-    let out = mote.turn(&program, 3, &packets)?;
-    let want = lines_at(rt.alloc(), 3, &want)?;
-    assert_eq!(rt; out.lines.as_slice(), want.as_slice());
+    let packets = [
+        numbered(0, 0),
+        numbered(0, 1),
+        numbered(0, 2),
+        numbered(0, 3),
+        numbered(0, 4),
+        numbered(0, 5),
+        numbered(0, 6),
+        numbered(0, 7),
+        numbered(0, 8),
+    ];
+    let lines = heard(rt.alloc(), false, &packets)?;
+    assert!(rt;
+        lines.as_str().starts_with(
+            "3 Recv(0, 0, 0)|3 Recv(0, 1, 1)|3 Recv(0, 2, 2)|3 Recv(0, 3, 3)|3 Recv(0, 4, 4)|3 Recv(0, 5, 5)|3 Recv(0, 6, 6)|3 Recv(0, 7, 7)|3 Lost(0, 8)|3 Post(0, One(Own(0)), 138, 0)|"
+        )
+    );
+    assert!(rt;
+        lines
+            .as_str()
+            .ends_with("3 Take(7, Own(0))|3 Print(Own(0), 0)|3 Print(Own(0), 7)|")
+    );
     Ok(())
 }
 
-/// What two packets write, with collisions and without.
+/// What two packets write, with collisions and without, and one packet with them.
 #[test]
 fn collisions(rt: HostRuntime) -> Result<(), Fail> {
-    let program = read(rt.alloc(), RECEIVER)?;
     let two = [
         Arrival {
             sender: 0,
@@ -142,49 +148,18 @@ fn collisions(rt: HostRuntime) -> Result<(), Fail> {
             value: 7,
         },
     ];
-    let mut mote = Mote::new(rt.alloc(), 1, &program, 32)?;
-    mote.set_collide(true);
-    mote.turn(&program, 0, &[])?;
-    let out = mote.turn(&program, 2, &two)?;
-    let want = lines_at(rt.alloc(), 2, &[What::Collide(0, 0), What::Collide(2, 0)])?;
-    assert_eq!(rt; out.lines.as_slice(), want.as_slice());
-    let alone = Arrival {
-        sender: 0,
-        number: 0,
-        value: 9,
-    };
-    let out = mote.turn(&program, 5, &[alone])?;
-    let want = lines_at(
-        rt.alloc(),
-        5,
-        &[
-            What::Recv(0, 0, 9),
-            What::Post(0, Target::One(A), 0x8a, 9),
-            What::Take(0, A),
-            What::Print(A, 0),
-            What::Print(A, 9),
-        ],
-    )?;
-    assert_eq!(rt; out.lines.as_slice(), want.as_slice());
-    mote.set_collide(false);
-    let out = mote.turn(&program, 6, &two)?;
-    let want = lines_at(
-        rt.alloc(),
-        6,
-        &[
-            What::Recv(0, 0, 5),
-            What::Recv(2, 0, 7),
-            What::Post(1, Target::One(A), 0x8a, 5),
-            What::Post(2, Target::One(A), 0x8a, 7),
-            What::Take(1, A),
-            What::Print(A, 0),
-            What::Print(A, 5),
-            What::Take(2, A),
-            What::Print(A, 2),
-            What::Print(A, 7),
-        ],
-    )?;
-    assert_eq!(rt; out.lines.as_slice(), want.as_slice());
+    let collided = heard(rt.alloc(), true, &two)?;
+    assert_eq!(rt; collided.as_str(), "3 Collide(0, 0)|3 Collide(2, 0)|");
+    let alone = heard(rt.alloc(), true, &[numbered(0, 9)])?;
+    assert_eq!(rt;
+        alone.as_str(),
+        "3 Recv(0, 9, 9)|3 Post(0, One(Own(0)), 138, 9)|3 Take(0, Own(0))|3 Print(Own(0), 0)|3 Print(Own(0), 9)|"
+    );
+    let both = heard(rt.alloc(), false, &two)?;
+    assert_eq!(rt;
+        both.as_str(),
+        "3 Recv(0, 0, 5)|3 Recv(2, 0, 7)|3 Post(0, One(Own(0)), 138, 5)|3 Post(1, One(Own(0)), 138, 7)|3 Take(0, Own(0))|3 Print(Own(0), 0)|3 Print(Own(0), 5)|3 Take(1, Own(0))|3 Print(Own(0), 2)|3 Print(Own(0), 7)|"
+    );
     Ok(())
 }
 
@@ -192,19 +167,12 @@ fn collisions(rt: HostRuntime) -> Result<(), Fail> {
 /// memory the turn succeeds.
 #[test]
 fn a_refused_turn_fails_for_good(rt: HostRuntime) -> Result<(), Fail> {
-    let Ok(program) = read(rt.alloc(), SENDER) else {
-        return Ok(());
-    };
-    let Ok(mut mote) = Mote::new(rt.alloc(), 0, &program, 32) else {
-        return Ok(());
-    };
-    match mote.turn(&program, 0, &[numbered(1, 0)]) {
-        Ok(_) => assert_eq!(rt; mote.wake(), None),
-        Err(error) => {
-            assert_eq!(rt; error, MoteError::Memory);
-            assert_eq!(rt; mote.turn(&program, 1, &[]).err(), Some(MoteError::Failed));
-            assert_eq!(rt; mote.wake(), None);
-        }
+    let program = read(rt.alloc(), SENDER)?;
+    let mut mote = Mote::new(rt.alloc(), 0, &program, 32)?;
+    if let Err(error) = mote.turn(&program, 0, &[numbered(1, 0)]) {
+        assert_eq!(rt; error, MoteError::Memory);
+        assert_eq!(rt; mote.turn(&program, 1, &[]).err(), Some(MoteError::Failed));
     }
+    assert_eq!(rt; mote.wake(), None);
     Ok(())
 }
