@@ -1,5 +1,5 @@
 -- The radio medium: who hears whom, how much later, and which copies are lost, by places and losses alone.
-use Rattle.std.specs.Prelude.{◌≡◌, ℕ, ◌+◌, ◌*◌, ◌/◌, ◌%◌, ◌≤◌, ◌==◌, nat_le, nat_lt, min, pos, ◌-ℤ◌, unsigned_abs, Bool, true, false, not, ◌&&◌, ◌||◌, if◌then◌else◌, List, [], ◌∷◌, length, map, filter, find, slice_index_or, All, Option, Some, None, unwrap_or, option_map, is_some, Result, Ok, Err}
+use Rattle.std.specs.Prelude.{◌≡◌, ℕ, ◌+◌, ◌*◌, ◌/◌, ◌%◌, ◌≤◌, ◌==◌, nat_le, nat_lt, min, pos, ◌-ℤ◌, unsigned_abs, Bool, true, false, not, ◌&&◌, ◌||◌, if◌then◌else◌, List, [], ◌∷◌, length, map, filter, find, slice_index_or, All, Option, Some, None, unwrap_or, option_map, Result, Ok, Err}
 use Rattle.std.specs.List.{filter_map, flat_map, list_any, range_with_len, reduce}
 use Rattle.std.specs.Option.{option_map_or}
 use Rattle.process_kernel.specs.declared.line.Sent.{Sent}
@@ -67,9 +67,17 @@ lookahead radio end = unwrap_or (reduce min (delays radio)) (end + 1)
 abbrev pub is_for_pair : (s r : ℕ) → Loss → Bool
 is_for_pair s r loss = (loss.sender == s) && (loss.to == r)
 
--- the medium loses the copy of packet number n from mote s to mote r: it loses one of so many, the last of them
+-- of how many packets from mote s to mote r one is lost, where there is a loss for them
+abbrev pub every_of : List Loss → (s r : ℕ) → Option ℕ
+every_of losses s r = option_map (λ (loss : Loss). loss.every) (find (is_for_pair s r) losses)
+
+-- of each `every` packets the last one is lost, and packets are numbered from 0
+abbrev pub is_lost : (n : ℕ) → Option ℕ → Bool
+is_lost n every = option_map_or (λ k. (n + 1) % k == 0) every false
+
+-- the medium loses the copy of packet number n from mote s to mote r
 unfoldable pub loses : Radio → (s r n : ℕ) → Bool
-loses radio s r n = option_map_or (λ (loss : Loss). (n + 1) % loss.every == 0) (find (is_for_pair s r) radio.losses) false
+loses radio s r n = is_lost n (every_of radio.losses s r)
 
 -- what becomes of the copy for mote r
 unfoldable pub fate : Radio → Sent → (r : ℕ) → Fate
@@ -96,12 +104,12 @@ abbrev pub has_pair_twice : List Loss → Bool
 has_pair_twice [] = false
 has_pair_twice (loss ∷ losses) = list_any (is_for_pair loss.sender loss.to) losses || has_pair_twice losses
 
-unfoldable pub has_bad_loss : Radio → Bool
-has_bad_loss radio = list_any (λ loss. not (is_good (length radio.places) loss)) radio.losses || has_pair_twice radio.losses
+unfoldable pub has_bad_loss : (motes : ℕ) → List Loss → Bool
+has_bad_loss motes losses = list_any (λ loss. not (is_good motes loss)) losses || has_pair_twice losses
 
 -- the first fault of a medium's numbers and losses
 unfoldable pub medium_fault : Radio → Option MediumError
-medium_fault radio = if radio.base == 0 then Some ZeroBase else if radio.per == 0 then Some ZeroPer else if has_bad_loss radio then Some BadLoss else None
+medium_fault radio = if radio.base == 0 then Some ZeroBase else if radio.per == 0 then Some ZeroPer else if has_bad_loss (length radio.places) radio.losses then Some BadLoss else None
 
 -- the medium of these, or their first fault, or want of memory
 abbrev pub MakesMedium : Radio → Result Radio MediumError → Type 0

@@ -6,9 +6,10 @@ pub mod error;
 pub mod fate;
 pub mod laws;
 mod link;
-
+mod losses;
 pub mod medium;
 pub mod place;
+mod reach;
 
 pub use copy::RadioCopy;
 pub use error::MediumError;
@@ -16,5 +17,5 @@ pub use fate::Fate;
 pub use medium::Medium;
 pub use place::{Loss, Place};
 
-
-
+#[cfg(test)]
+mod tests;
