@@ -1,13 +1,5 @@
 pub mod Alones
 pub mod Pieces
 pub mod Printed
-pub mod ScenarioEach
-pub mod ScenarioKeeps
-pub mod ScenarioLaws
-pub mod ScenarioMembers
-pub mod ScenarioNet
-pub mod ScenarioPrograms
-pub mod ScenarioReading
-pub mod ScenarioTables
 pub mod Traces
 pub mod Written
