@@ -1,5 +1,6 @@
 //! Runs of whole scenarios, with values worked by hand.
 
+mod command_faults;
 mod fault_lines;
 mod motes;
 mod scenarios;
