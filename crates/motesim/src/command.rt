@@ -8,10 +8,9 @@ use crate::simulate::{SimError, simulate_serial};
 use clap::error::ErrorKind;
 use net_scenario::ScenarioError;
 use radio_medium::MediumError;
-use std::fmt;
-use std::fs;
 use std::io::{Read, Write};
 use std::rt::Files;
+use std::{fmt, fs};
 use trace_printer::PrintError;
 use window_workers::RunError;
 

@@ -7,7 +7,9 @@ use std::alloc::{AllocError, Global};
 fn command<'a>(alloc: Global) -> Result<Command<'a>, AllocError> {
     let file = Arg::new(alloc, "FILE").help("The scenario; without it, standard input is read");
     Command::new(alloc, "motesim")
-        .about("Simulates a network of Contiki motes, and writes the traces of the motes and the log of the radio medium")
+        .about(
+            "Simulates a network of Contiki motes, and writes the traces of the motes and the log of the radio medium",
+        )
         .arg(file)
 }
 

@@ -12,10 +12,9 @@ mod tests;
 use crate::command::{run_command, status_of};
 use crate::simulate::SimError;
 use std::alloc::{AllocError, Global};
-use std::env;
-use std::io;
 use std::io::Write;
 use std::process::ExitCode;
+use std::{env, io};
 
 fn lent(alloc: Global, words: &[String]) -> Result<Vec<&str>, AllocError> {
     words.iter().map(|word| word.as_str()).collect(alloc)
@@ -36,7 +35,10 @@ fn main(rt: HostRuntime) -> ExitCode {
     let status = match run(&rt) {
         Ok(status) => status,
         Err(error) if error.kind() == io::ErrorKind::InvalidData => {
-            let _ = writeln!(errors, "error: invalid UTF-8 was detected in one or more arguments");
+            let _ = writeln!(
+                errors,
+                "error: invalid UTF-8 was detected in one or more arguments"
+            );
             2
         }
         Err(_) => status_of(Err(SimError::Memory), &mut errors),

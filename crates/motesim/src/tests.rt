@@ -3,6 +3,7 @@
 mod command_faults;
 mod fault_lines;
 mod motes;
+mod nets;
 mod scenarios;
 mod streams;
 

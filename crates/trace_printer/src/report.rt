@@ -40,11 +40,7 @@ fn print_head<W: Write>(
 ) -> Result<(), PrintError>
     ensures { Prints (W.contents writer.old) (W.contents writer.new) page.old page.new result (line_of (codes "mote") (decimal mote ∷ name.now ∷ [])) }
 {
-    put_line(
-        page,
-        Text("mote"),
-        &[Number(u64::from(mote)), Text(name)],
-    )?;
+    put_line(page, Text("mote"), &[Number(u64::from(mote)), Text(name)])?;
     Ok(write_if_full(writer, page)?)
 }
 

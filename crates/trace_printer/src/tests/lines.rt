@@ -39,12 +39,7 @@ fn of_processes(rt: HostRuntime) -> Result<(), Fail> {
     )?;
     expect(&rt, p, line(5, What::Leave(a)), "5 leave a\n")?;
     expect(&rt, p, line(2, What::Print(a, 192)), "2 print a 192\n")?;
-    expect(
-        &rt,
-        p,
-        line(0, What::Busy(Proc::Own(1))),
-        "0 busy b\n",
-    )?;
+    expect(&rt, p, line(0, What::Busy(Proc::Own(1))), "0 busy b\n")?;
     expect(&rt, p, line(0, What::Halt), "0 halt\n")
 }
 
