@@ -1,6 +1,6 @@
 -- What a medium keeps to find the copies of a packet: for each mote, who hears it.
-use Rattle.std.specs.Prelude.{◌≡◌, ℕ, ◌+◌, ◌<◌, ◌^◌, min, ◌==◌, ◌&&◌, true, false, if◌then◌else◌, List, [], map, Option, Some, None, cond, ◌⊎◌, IsSome, Result, Ok, Err}
-use Rattle.std.specs.List.{reduce, flat_map, fold}
+use Rattle.std.specs.Prelude.{◌≡◌, ℕ, ◌+◌, ◌<◌, ◌^◌, min, ◌==◌, ◌&&◌, true, false, if◌then◌else◌, List, map, Option, Some, None, cond, ◌⊎◌, IsSome, Result, Ok, Err}
+use Rattle.std.specs.List.{reduce}
 use Rattle.std.specs.Option.{ForSome}
 use Rattle.std.specs.HashMap.{get, HashMap}
 use Rattle.std.specs.declared.hash.FoldHasher.{FoldHasher}

@@ -145,6 +145,7 @@ fn links_from(
 }
 
 /// The way from one mote to another, if that one hears it.
+#[tactic(auto, using(crate::proofs::Hearing::hears_between), unfolding(crate::specs::Medium::delay))]
 fn link_between(
     places: &[Place],
     reach: Reach,
@@ -158,8 +159,11 @@ fn link_between(
     requires receiver { to < length places.now }
     ensures { result ≡ if hears (radio_from places.now reach []) to sender then Some (link_of (radio_from places.now reach []) (every_at every.now) sender to) else None }
 {
+    if to == sender {
+        return None;
+    }
     let square_distance = places[usize::from(sender)].square_distance(places[usize::from(to)]);
-    if to == sender || !reach.covers(square_distance) {
+    if !reach.covers(square_distance) {
         return None;
     }
     Some(Link {

@@ -1,7 +1,8 @@
 //! The medium of a net.
 
-ghost use Rattle.std.specs.Prelude.{◌≡◌, ℕ, ◌+◌, ◌^◌, ◌<◌, ◌≤◌, None, length, IfOk};
-ghost use Rattle.radio_medium.specs.Medium.{IsWithinLimits, MakesMedium, square_distance, place_of, hears, delay, lookahead, fates, copies, medium_fault};
+ghost use Rattle.std.specs.Prelude.{◌≡◌, ℕ, ◌+◌, ◌^◌, ◌<◌, ◌≤◌, None, length, All, IfOk};
+ghost use Rattle.radio_medium.specs.Medium.{IsWithinLimits, MakesMedium, square_distance, place_of, every_of, hears, delay, lookahead, fates, copies, medium_fault};
+ghost use Rattle.radio_medium.specs.Links.{links_of, IsFit};
 
 use crate::copy::RadioCopy;
 use crate::error::MediumError;
@@ -75,6 +76,7 @@ impl Medium {
     }
 
     /// Whether mote r hears mote s. No mote hears itself.
+    #[tactic(auto, using(crate::proofs::Hearing::hears_between))]
     pub fn hears(&self, r: u16, s: u16) -> bool
         requires receiver { r < length self.now.places }
         requires sender { s < length self.now.places }
@@ -84,6 +86,7 @@ impl Medium {
     }
 
     /// How many moments a packet takes from mote s to mote r, which hears it.
+    #[tactic(auto, using(crate::proofs::Faults::per_above), unfolding(crate::specs::Medium::delay))]
     pub fn delay(&self, s: u16, r: u16) -> u64
         requires sender { s < length self.now.places }
         requires receiver { r < length self.now.places }
@@ -109,7 +112,7 @@ impl Medium {
         requires number { sent.now.number < 2 ^ 62 }
         ensures { IfOk result (λ all. all.items ≡ fates self.now sent.now) }
     {
-        fates_along(self.alloc, &self.links[usize::from(sent.sender)], sent)
+        fates_along(self.alloc, self.links_of(sent.sender), sent)
     }
 
     /// The copies of a packet that aren't lost, by rising number of the mote to which they go.
@@ -119,7 +122,16 @@ impl Medium {
         requires number { sent.now.number < 2 ^ 62 }
         ensures { IfOk result (λ all. all.items ≡ copies self.now sent.now) }
     {
-        copies_along(self.alloc, &self.links[usize::from(sent.sender)], sent)
+        copies_along(self.alloc, self.links_of(sent.sender), sent)
+    }
+
+    /// The ways from a mote to those that hear it.
+    fn links_of(&self, s: u16) -> &[Link]
+        requires { s < length self.now.places }
+        ensures ways { result.now ≡ links_of self.now (every_of self.now.losses) s }
+        ensures fit { All IsFit result.now }
+    {
+        &self.links[usize::from(s)]
     }
 
     fn square_distance(&self, s: u16, r: u16) -> u64
