@@ -16,7 +16,7 @@ use Rattle.motesim.specs.declared.simulate.SimError.TheVariants as fault
 use Rattle.motesim.specs.Simulation.{IsScenario, Reported, RefusesText, Simulated, SimulatedSome}
 
 -- the text tells this net
-pub scenario_of : (bytes : List ℕ) (n : NetTold) → IsText bytes → TellsNet bytes n → IsScenario bytes
+abbrev pub scenario_of : (bytes : List ℕ) (n : NetTold) → IsText bytes → TellsNet bytes n → IsScenario bytes
 scenario_of bytes n short told = record { is_text = short; net = n; told = told }
 
 -- whatever is written of the report's text is written of the bytes' report

@@ -31,6 +31,7 @@ const BESIDE: &str =
     "[[mote]]\nx = 0\ny = 0\nprogram = \"s\"\n[[mote]]\nx = 0\ny = 1\nprogram = \"r\"\n";
 
 /// How a net differs from the others.
+#[derive(Clone, Copy, Debug)]
 struct Net {
     version: &'static str,
     end: u32,
