@@ -54,7 +54,7 @@ pub tables_after_item : (vs : List Value) (i : ℕ) (d : Value) → i < length v
     → tables_in (items_view (drop i vs)) ≡ option_to_list (as_table (view (get_or vs i d))) ++ tables_in (items_view (drop (i + 1) vs))
 tables_after_item vs i d h = rw (items_view-drop vs i d h) (front_of_item (as_table (view (get_or vs i d))) (tables_in (items_view (drop (i + 1) vs))))
 
-or_none : {Y : Type 0} (o p : Option Y) → option_or o p ≡ None → (o ≡ None) × (p ≡ None)
+pub or_none : {Y : Type 0} (o p : Option Y) → option_or o p ≡ None → (o ≡ None) × (p ≡ None)
 or_none None p h = (refl, h)
 or_none (Some x) p h = cc
 

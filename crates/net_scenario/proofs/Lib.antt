@@ -6,3 +6,4 @@ pub mod OneAnswer
 pub mod ReadSoFar
 pub mod Reading
 pub mod Tables
+pub mod WithinLimits

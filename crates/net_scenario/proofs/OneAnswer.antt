@@ -1,11 +1,11 @@
 -- A text tells at most one net, at most one fault, and never both.
-use Rattle.std.proofs.Common.{◌≡◌, ℕ, List, [], ◌∷◌, ◌++◌, refl, sym, ap, ◌∙◌, subst, Err, string_bytes}
+use Rattle.std.proofs.Common.{◌≡◌, ℕ, List, [], ◌∷◌, ◌++◌, refl, sym, ap, ◌∙◌, subst, Err}
 use Rattle.toml.specs.Data.{Members}
 use Rattle.mote_program.specs.Code.{Tree}
 use Rattle.mote_program.specs.Reading.{IsTreeOf, IsToldOf}
 use Rattle.mote_program.specs.declared.error.ReadError.{ReadError}
 use Rattle.mote_program.specs.declared.error.ReadErrorKind.{ReadErrorKind}
-use Rattle.net_scenario.specs.declared.error.MediumError.{MediumError}
+use Rattle.radio_medium.specs.declared.error.MediumError.{MediumError}
 use Rattle.net_scenario.specs.declared.error.ScenarioError.{ScenarioError}
 use Rattle.net_scenario.specs.declared.error.ScenarioError.TheVariants.{Toml, MissingKey, UnknownKey, WrongKind, OutOfRange, UnknownProgram, Program, Medium, Memory}
 use Rattle.net_scenario.specs.Programs.{ProgramText, NamedTree, AllRead, FirstRefused}
@@ -88,7 +88,7 @@ one_net laws text m n a b =
 
 pub never_both : ProgramLaws → NeverBoth
 never_both laws text n (Program name e) a b =
-    let P : Members → Type 0 = λ t. IsRefusedProgramOf t (string_bytes name) e in
+    let P : Members → Type 0 = λ t. IsRefusedProgramOf t name e in
     read_or_refused laws _ _ _ e a.1.programs.read (subst P (one_document text b.0 a.0) b.1)
 never_both laws text n (Medium e) a b =
     let P : Members → Type 0 = λ t. IsMediumFaultOf t e in
@@ -118,7 +118,7 @@ of_tables text e UnknownProgram a b = cc
 
 of_medium : ProgramLaws → (text : List ℕ) (m : MediumError) (f : ScenarioError) → TellsFault text (Medium m) → TellsFault text f → Medium m ≡ f
 of_medium laws text m (Program name x) a b =
-    let P : Members → Type 0 = λ t. IsRefusedProgramOf t (string_bytes name) x in
+    let P : Members → Type 0 = λ t. IsRefusedProgramOf t name x in
     absurd (read_or_refused laws _ _ _ x a.1.programs.read (subst P (one_document text b.0 a.0) b.1))
 of_medium laws text m (Medium x) a b =
     let P : Members → Type 0 = λ t. IsMediumFaultOf t x in
@@ -144,8 +144,11 @@ one_fault laws text UnknownProgram f a b = of_tables text UnknownProgram f a b
 one_fault laws text Memory f a b = absurd a
 one_fault laws text (Medium m) f a b = of_medium laws text m f a b
 one_fault laws text (Program m d) (Program n e) a b =
-    let P : Members → Type 0 = λ t. IsRefusedProgramOf t (string_bytes n) e in
-    one_refused laws _ _ _ d e a.1 (subst P (one_document text b.0 a.0) b.1)
+    let P : Members → Type 0 = λ t. IsRefusedProgramOf t n e in
+    let same = one_refused laws _ m n d e a.1 (subst P (one_document text b.0 a.0) b.1) in
+    let names = same.0 in
+    let errors = same.1 in
+    cc
 one_fault laws text (Program m d) (Medium e) a b = sym (of_medium laws text e (Program m d) b a)
 one_fault laws text (Program m d) Memory a b = absurd b
 one_fault laws text (Program m d) Toml a b = let is = a.0.is in cc

@@ -1,7 +1,12 @@
 -- A document: its tables in the order in which they are told about, and what they hold.
-use Rattle.std.specs.Prelude.{◌≡◌, ℕ, ℤ, pos, negsuc, ◌≤ℤ◌, List, [], ◌∷◌, ◌++◌, map, codes, Option, Some, None, Bool, false, is_none, option_and_then, unwrap_or, if◌then◌else◌}
+use Rattle.std.specs.Prelude.{◌≡◌, ℕ, ℤ, pos, negsuc, ◌≤ℤ◌, List, [], ◌∷◌, ◌++◌, map, codes, Option, Some, None, String, option_map, Bool, false, is_none, option_and_then, unwrap_or, if◌then◌else◌}
+use Rattle.std.specs.BTreeMap.{BTreeMap}
+use Rattle.std.specs.Borrow.{Bor}
 use Rattle.std.specs.Ordering.{int_eq}
 use Rattle.std.specs.Option.{option_or, option_map_or}
+use Rattle.std.specs.declared.alloc.Global.{Global}
+use Rattle.toml.specs.View.{table_view}
+use Rattle.toml.specs.declared.value.Value.{Value}
 use Rattle.toml.specs.Data.{integer, table, Items, no_items, item, Members, no_members, get_member, as_integer, as_bool, as_str, as_table, as_array}
 use Rattle.net_scenario.specs.declared.error.TableFault.{TableFault}
 use Rattle.net_scenario.specs.declared.error.TableFault.TheVariants.{UnknownProgram}
@@ -24,6 +29,10 @@ text_at name ms = unwrap_or (option_and_then as_str (get_member name ms)) []
 -- the table at a key, empty where there is none
 abbrev pub table_at : List ℕ → Members → Members
 table_at name ms = unwrap_or (option_and_then as_table (get_member name ms)) no_members
+
+-- the members of a table that need not be there
+abbrev pub members_of : Option (Bor (BTreeMap (String Global) Value)) → Members
+members_of held = unwrap_or (option_map (λ t. table_view t.now) held) no_members
 
 -- the items of the array at a key, none where there is no array
 abbrev pub items_at : List ℕ → Members → Items

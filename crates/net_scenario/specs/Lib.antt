@@ -3,6 +3,7 @@ pub mod Document
 pub mod Errors
 pub mod Laws
 pub mod Limits
+pub mod Motes
 pub mod Names
 pub mod Net
 pub mod Programs

@@ -1,5 +1,5 @@
 -- A net: what its motes and its medium are.
-use Rattle.std.specs.Prelude.{ℕ, Bool, ◌&&◌, nat_lt, nat_le, List, [], map, codes, slice_get, Option, Some, None, option_map, unwrap_or, find, is_none, if◌then◌else◌}
+use Rattle.std.specs.Prelude.{ℕ, Bool, List, [], map, codes, slice_get, Option, Some, None, option_map, unwrap_or, find, is_none, if◌then◌else◌}
 use Rattle.std.specs.Option.{option_map_or}
 use Rattle.std.specs.Str.{bytes_eq}
 use Rattle.toml.specs.Data.{Members}
@@ -12,7 +12,7 @@ use Rattle.net_scenario.specs.declared.error.TableFault.TheVariants.{UnknownProg
 use Rattle.net_scenario.specs.declared.net.Mote.{Mote}
 use Rattle.net_scenario.specs.declared.net.Net.{Net}
 use Rattle.net_scenario.specs.declared.programs.NamedProgram.{NamedProgram}
-use Rattle.net_scenario.specs.Limits.{shortest_queue, longest_queue, usual_queue}
+use Rattle.net_scenario.specs.Limits.{usual_queue}
 use Rattle.net_scenario.specs.Document.{natural, number_at, natural_at, integer_at, flag_at, text_at, table_at, tables_at}
 use Rattle.net_scenario.specs.Programs.{NamedTree, named_tree}
 
@@ -82,10 +82,6 @@ program_at programs i = unwrap_or (option_map named_tree (slice_get programs i))
 
 abbrev pub mote_told : List NamedProgram → Mote → MoteTold
 mote_told programs m = record { program = (program_at programs m.program).name; tree = (program_at programs m.program).tree; queue = m.queue }
-
--- what holds of each mote of a net: its program is one of so many, and its queue has a length within the limits
-abbrev pub is_mote_of : (programs : ℕ) → Mote → Bool
-is_mote_of programs m = nat_lt m.program programs && nat_le shortest_queue m.queue && nat_le m.queue longest_queue
 
 -- what a `Net` means
 abbrev pub net_of : Net → NetTold

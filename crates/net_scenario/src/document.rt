@@ -1,12 +1,8 @@
 //! The check of a whole document, table by table.
-ghost use Rattle.std.specs.Prelude.{◌≡◌, pos, false, None, Some, option_map, option_and_then, codes, map, is_none, string_bytes};
-ghost use Rattle.std.specs.List.{list_any};
-ghost use Rattle.std.specs.Map.{keys_of};
-ghost use Rattle.std.specs.Option.{option_or, option_map_or};
-ghost use Rattle.toml.specs.Data.{get_member};
+ghost use Rattle.std.specs.Prelude.{◌≡◌, map};
 ghost use Rattle.toml.specs.View.{items_view, table_view};
 ghost use Rattle.net_scenario.specs.Rules.{keys_fault, known_in, rule_of, Checks};
-ghost use Rattle.net_scenario.specs.Document.{version_of, tables_in, first_some, queue_fault, program_fault, document_fault};
+ghost use Rattle.net_scenario.specs.Document.{version_of, tables_in, first_some, program_fault, document_fault};
 
 use crate::error::TableFault;
 use crate::names::check_names;

@@ -32,6 +32,7 @@ pub const LARGEST_IN_LOSS: i64 = 1_000_000;
 
 /// The fewest and the most events that the queue of a mote may hold.
 pub const SHORTEST_QUEUE: i64 = 1;
+
 pub const LONGEST_QUEUE: i64 = 128;
 
 /// How many events the queue of a mote holds where the scenario doesn't say.

@@ -1,14 +1,13 @@
 //! The motes of a document without fault.
-ghost use Rattle.std.specs.Prelude.{◌≡◌, ◌<◌, ◌≤◌, length, map, None, IfOk, IsTrue, option_map, unwrap_or};
+ghost use Rattle.std.specs.Prelude.{◌≡◌, length, map, None, IfOk, IsTrue};
 ghost use Rattle.std.specs.List.{list_all, position_from};
 ghost use Rattle.std.specs.Str.{bytes_eq};
-ghost use Rattle.toml.specs.Data.{no_members};
 ghost use Rattle.toml.specs.View.{items_view, table_view};
-ghost use Rattle.net_scenario.specs.Limits.{shortest_queue, longest_queue};
-ghost use Rattle.net_scenario.specs.Document.{first_some, tables_in};
+ghost use Rattle.net_scenario.specs.Document.{first_some, members_of, tables_in};
 ghost use Rattle.net_scenario.specs.Names.{lengths_fault};
 ghost use Rattle.net_scenario.specs.Programs.{named_tree};
-ghost use Rattle.net_scenario.specs.Net.{is_mote_of, mote_of, mote_told, unread_fault};
+ghost use Rattle.net_scenario.specs.Motes.{is_mote_of};
+ghost use Rattle.net_scenario.specs.Net.{mote_of, mote_told, unread_fault};
 
 use crate::net::Mote;
 use crate::programs::NamedProgram;
@@ -17,8 +16,8 @@ use crate::values::text_at;
 use std::alloc::{AllocError, Global};
 use toml::{Table, Value};
 
-/// The place of the program with a name.
-fn place_of(programs: &[NamedProgram], name: &str) -> Option<usize>
+/// The index of the program with a name.
+fn index_of(programs: &[NamedProgram], name: &str) -> Option<usize>
     ensures { result ≡ position_from (λ p. bytes_eq p.name name.now) 0 programs.now }
 {
     programs
@@ -28,14 +27,14 @@ fn place_of(programs: &[NamedProgram], name: &str) -> Option<usize>
 
 /// The mote of a table, whose program is among those read.
 fn mote_of(programs: &[NamedProgram], queue: Option<&Table>, table: &Table) -> Mote
-    requires queue { lengths_fault (unwrap_or (option_map (λ t. table_view t.now) queue) no_members) ≡ None }
+    requires queue { lengths_fault (members_of queue) ≡ None }
     requires read { unread_fault (map named_tree programs.now) (table_view table.now) ≡ None }
-    ensures value { mote_told programs.now result ≡ mote_of (unwrap_or (option_map (λ t. table_view t.now) queue) no_members) (map named_tree programs.now) (table_view table.now) }
+    ensures value { mote_told programs.now result ≡ mote_of (members_of queue.entry) (map named_tree programs.now) (table_view table.now) }
     ensures fits { IsTrue (is_mote_of (length programs.now) result) }
 {
     let name = text_at(table, "program");
     Mote {
-        program: place_of(programs, name).unwrap(),
+        program: index_of(programs, name).unwrap(),
         queue: queue_of(queue, name),
     }
 }
@@ -48,9 +47,9 @@ pub fn motes_of(
     queue: Option<&Table>,
     items: &[Value],
 ) -> Result<Vec<Mote>, AllocError>
-    requires queue { lengths_fault (unwrap_or (option_map (λ t. table_view t.now) queue) no_members) ≡ None }
+    requires queue { lengths_fault (members_of queue) ≡ None }
     requires read { first_some (unread_fault (map named_tree programs.now)) (tables_in (items_view items.now)) ≡ None }
-    ensures value { IfOk result (λ v. map (mote_told programs.now) v.items ≡ map (mote_of (unwrap_or (option_map (λ t. table_view t.now) queue) no_members) (map named_tree programs.now)) (tables_in (items_view items.now))) }
+    ensures value { IfOk result (λ v. map (mote_told programs.now) v.items ≡ map (mote_of (members_of queue.entry) (map named_tree programs.now)) (tables_in (items_view items.now))) }
     ensures fits { IfOk result (λ v. IsTrue (list_all (is_mote_of (length programs.now)) v.items)) }
 {
     let mut motes = Vec::new(alloc);

@@ -2,6 +2,7 @@
 ghost use Rattle.std.specs.Prelude.{◌≡◌, ◌<◌, ◌≤◌, length, map, IsTrue, Some, option_map, slice_get};
 ghost use Rattle.std.specs.List.{list_all};
 ghost use Rattle.net_scenario.specs.Limits.{latest_end, fewest_motes, most_motes, shortest_queue, longest_queue};
+ghost use Rattle.net_scenario.specs.Motes.{is_mote_of};
 
 use crate::programs::NamedProgram;
 use mote_program::Program;

@@ -1,10 +1,10 @@
 //! The lengths of the motes' event queues, by the names of their programs.
-ghost use Rattle.std.specs.Prelude.{◌≡◌, ◌≤◌, not, None, is_none, option_map, unwrap_or, string_bytes};
+ghost use Rattle.std.specs.Prelude.{◌≡◌, ◌≤◌, not, None, is_none, string_bytes};
 ghost use Rattle.std.specs.List.{list_any};
 ghost use Rattle.std.specs.Map.{keys_of, values_of};
-ghost use Rattle.toml.specs.Data.{no_members, get_member};
+ghost use Rattle.toml.specs.Data.{get_member};
 ghost use Rattle.toml.specs.View.{view, table_view};
-ghost use Rattle.net_scenario.specs.Document.{queue_fault};
+ghost use Rattle.net_scenario.specs.Document.{members_of, queue_fault};
 ghost use Rattle.net_scenario.specs.Limits.{shortest_queue, longest_queue};
 ghost use Rattle.net_scenario.specs.Names.{queue_length, lengths_fault};
 ghost use Rattle.net_scenario.specs.Net.{queue_of};
@@ -13,7 +13,8 @@ ghost use Rattle.net_scenario.specs.Rules.{Checks, has_kind, is_in_range};
 use crate::error::TableFault;
 use crate::limits::{LONGEST_QUEUE, SHORTEST_QUEUE, USUAL_QUEUE};
 use crate::rules::{Kind, fits_kind, fits_range, value_at};
-use toml::{Table, Value};
+use crate::values::natural_at;
+use toml::Table;
 
 /// What a queue's length may be.
 fn queue_length() -> Kind
@@ -25,7 +26,9 @@ fn queue_length() -> Kind
 fn any_other_kind(table: &Table) -> bool
     ensures { result ≡ list_any (λ v. not (has_kind queue_length (view v))) (values_of table.now.entries) }
 {
-    table.values().any(|value| !fits_kind(value, queue_length()))
+    table
+        .values()
+        .any(|value| !fits_kind(value, queue_length()))
 }
 
 fn any_out_of_range(table: &Table) -> bool
@@ -39,7 +42,7 @@ fn any_out_of_range(table: &Table) -> bool
 /// The first fault of the table of lengths, which need not be there.
 #[tactic(auto, using(crate::proofs::Tables::lengths_fault_of, crate::proofs::Tables::lengths_fault_of_none))]
 pub fn check_lengths(queue: Option<&Table>) -> Result<(), TableFault>
-    ensures { Checks result (lengths_fault (unwrap_or (option_map (λ t. table_view t.now) queue) no_members)) }
+    ensures { Checks result (lengths_fault (members_of queue.entry)) }
 {
     if let Some(table) = queue {
         if any_other_kind(table) {
@@ -63,7 +66,7 @@ fn any_without_program(programs: &Table, table: &Table) -> bool
 /// Each length is for one of the programs.
 #[tactic(auto, using(crate::proofs::Tables::queue_fault_of))]
 pub fn check_queue_names(programs: &Table, queue: Option<&Table>) -> Result<(), TableFault>
-    ensures { Checks result (queue_fault (table_view programs.now) (unwrap_or (option_map (λ t. table_view t.now) queue) no_members)) }
+    ensures { Checks result (queue_fault (table_view programs.now) (members_of queue.entry)) }
 {
     if let Some(table) = queue
         && any_without_program(programs, table)
@@ -81,15 +84,15 @@ fn length_at(table: &Table, program: &str) -> u16
     ensures longest { result ≤ longest_queue }
 {
     match value_at(table, program) {
-        Some(Value::Integer(length)) => *length as u16,
-        _ => USUAL_QUEUE,
+        Some(_) => natural_at(table, program) as u16,
+        None => USUAL_QUEUE,
     }
 }
 
 /// How many events the queue holds in motes of a program.
 pub fn queue_of(queue: Option<&Table>, program: &str) -> u16
-    requires { lengths_fault (unwrap_or (option_map (λ t. table_view t.now) queue) no_members) ≡ None }
-    ensures value { result ≡ queue_of (unwrap_or (option_map (λ t. table_view t.now) queue) no_members) program.now }
+    requires { lengths_fault (members_of queue) ≡ None }
+    ensures value { result ≡ queue_of (members_of queue.entry) program.now }
     ensures shortest { shortest_queue ≤ result }
     ensures longest { result ≤ longest_queue }
 {

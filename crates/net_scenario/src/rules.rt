@@ -187,19 +187,23 @@ fn is_out_of_range(table: &Table, key: Key) -> bool
 fn has_unknown(version: Version, table: &Table, keys: &[Key]) -> bool
     ensures { result ≡ list_any (λ n. not (list_any (λ k. has_come k.since version && bytes_eq k.name.now (string_bytes n)) keys.now)) (keys_of table.now.entries) }
 {
-    table.keys().any(|name| !is_key(version, keys, name.as_str()))
+    table
+        .keys()
+        .any(|name| !is_key(version, keys, name.as_str()))
 }
 
 fn any_missing(version: Version, table: &Table, keys: &[Key]) -> bool
     ensures { result ≡ list_any (λ k. has_come k.since version && misses (table_view table.now) (rule_of k)) keys.now }
 {
-    keys.iter().any(|key| version.has(key.since) && is_missing(table, *key))
+    keys.iter()
+        .any(|key| version.has(key.since) && is_missing(table, *key))
 }
 
 fn any_other_kind(version: Version, table: &Table, keys: &[Key]) -> bool
     ensures { result ≡ list_any (λ k. has_come k.since version && holds_other_kind (table_view table.now) (rule_of k)) keys.now }
 {
-    keys.iter().any(|key| version.has(key.since) && is_other_kind(table, *key))
+    keys.iter()
+        .any(|key| version.has(key.since) && is_other_kind(table, *key))
 }
 
 fn any_out_of_range(version: Version, table: &Table, keys: &[Key]) -> bool

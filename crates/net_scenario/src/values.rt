@@ -1,8 +1,8 @@
 //! The values of tables that keep their rules.
-ghost use Rattle.std.specs.Prelude.{◌≡◌, [], Some, option_map, option_and_then, false, pos, negsuc, unwrap_or};
-ghost use Rattle.toml.specs.Data.{get_member, as_str, as_table};
+ghost use Rattle.std.specs.Prelude.{◌≡◌, [], Some, pos, negsuc, unwrap_or};
+ghost use Rattle.toml.specs.Data.{as_str};
 ghost use Rattle.toml.specs.View.{view, items_view, table_view};
-ghost use Rattle.net_scenario.specs.Document.{integer_at, flag_at, text_at, table_at, items_at, HoldsNumber, HoldsTable};
+ghost use Rattle.net_scenario.specs.Document.{integer_at, flag_at, text_at, table_at, members_of, items_at, HoldsNumber, HoldsTable};
 
 use crate::rules::value_at;
 use toml::{Table, Value};
@@ -75,7 +75,7 @@ pub fn table_at<'a>(table: &'a Table, name: &str) -> &'a Table
 
 /// The table at a key, where there is one.
 pub fn table_if_any<'a>(table: &'a Table, name: &str) -> Option<&'a Table>
-    ensures { option_map (λ t. table_view t.now) result ≡ option_and_then as_table (get_member name.now (table_view table.now)) }
+    ensures { members_of result ≡ table_at name.now (table_view table.now) }
 {
     match value_at(table, name) {
         Some(value) => value.as_table(),
