@@ -1,25 +1,27 @@
--- What is written of the report of a text's net, and why a text was refused.
-use Rattle.std.proofs.Common.{◌≡◌, ℕ, List, map, ◌++◌, Option, Result, Ok, Err, ap, sym, ◌∙◌, subst}
-use Rattle.motesim.specs.declared.scenario.error.ScenarioError.{ScenarioError}
-use Rattle.motesim.specs.declared.scenario.error.ScenarioError.TheVariants as scenario
+-- What is written of the report of a scenario's net, and why a text was refused.
+use Rattle.std.proofs.Common.{◌≡◌, ℕ, List, ◌++◌, Option, Result, Ok, Err, ap, sym, ◌∙◌, subst}
+use Rattle.net_scenario.specs.Laws.{OneNet}
+use Rattle.net_scenario.specs.Net.{NetTold}
+use Rattle.net_scenario.specs.Reading.{TellsNet, Answers}
+use Rattle.net_scenario.specs.declared.error.ScenarioError.{ScenarioError}
+use Rattle.net_scenario.specs.declared.error.ScenarioError.TheVariants as scenario
+use Rattle.trace_printer.specs.ReportText.{report_text}
+use Rattle.window_workers.specs.Laws.{OneReportOf}
+use Rattle.window_workers.specs.NetRun.{IsReportOf}
+use Rattle.window_workers.specs.Report.{ReportTold}
 use Rattle.motesim.specs.Input.{IsText}
 use Rattle.motesim.specs.Laws.{OneReport}
-use Rattle.motesim.specs.Names.{Naming}
-use Rattle.motesim.specs.Report.{ReportTold}
-use Rattle.motesim.specs.ReportText.{report_text}
-use Rattle.motesim.specs.Run.{naming_told, output_of, run_of}
-use Rattle.motesim.specs.Scenario.Laws.{OneNet}
-use Rattle.motesim.specs.Scenario.Net.{NetTold}
-use Rattle.motesim.specs.Scenario.Reading.{TellsNet, Answers}
 use Rattle.motesim.specs.declared.simulate.SimError.{SimError}
 use Rattle.motesim.specs.declared.simulate.SimError.TheVariants as fault
-use Rattle.motesim.specs.Simulation.{Reported, RefusesText, Simulated, SimulatedSome}
+use Rattle.motesim.specs.Simulation.{IsScenario, Reported, RefusesText, Simulated, SimulatedSome}
 
--- whatever is written of the report's text is written of the output of the bytes
-pub reported : (written : List ℕ → Type 0) (bytes : List ℕ) (n : NetTold) (ns : List Naming) (r : ReportTold) → IsText bytes → TellsNet bytes n
-    → ns ≡ map naming_told n.motes → r ≡ run_of n → written (report_text ns r) → Reported bytes written
-reported written bytes n ns r short told names ran h =
-    (short, (n, told, subst written (ap (λ ks. report_text ks r) names ∙ ap (report_text (map naming_told n.motes)) ran) h))
+-- the text tells this net
+abbrev pub scenario_of : (bytes : List ℕ) (n : NetTold) → IsText bytes → TellsNet bytes n → IsScenario bytes
+scenario_of bytes n short told = record { is_text = short; net = n; told = told }
+
+-- whatever is written of the report's text is written of the bytes' report
+pub reported : (written : List ℕ → Type 0) (bytes : List ℕ) (n : NetTold) (r : ReportTold) → IsText bytes → TellsNet bytes n → IsReportOf n r → written (report_text n r) → Reported bytes written
+reported written bytes n r short told ran h = record { from = scenario_of bytes n short told; report = r; run = ran; got = h }
 
 -- a fault that is answered to a text is its first, or want of memory
 pub refused : (bytes : List ℕ) (e : ScenarioError) → Answers bytes (Err e) → RefusesText bytes e
@@ -37,9 +39,16 @@ refused bytes (scenario.Medium e) h = h
 pub some_bytes : (bytes : List ℕ) (old new : Option (List ℕ)) (r : Result (Unit {0}) SimError) → Simulated bytes old new r → SimulatedSome old new r
 some_bytes bytes old new (Ok u) h = (bytes, h)
 some_bytes bytes old new (Err (fault.Scenario e)) h = (bytes, h)
+some_bytes bytes old new (Err (fault.Run e)) h = (bytes, h)
 some_bytes bytes old new (Err (fault.Print e)) h = (bytes, h)
 some_bytes bytes old new (Err e) h = tt
 
+-- of one net two reports have one text
+same_text : OneReportOf → (m n : NetTold) (r s : ReportTold) → m ≡ n → IsReportOf m r → IsReportOf n s → report_text m r ≡ report_text n s
+same_text one m n r s same ran run =
+    ap (λ net. report_text net r) same ∙ ap (report_text n) (one n r s (subst (λ net. IsReportOf net r) same ran) run)
+
 -- two runs on the same bytes that write a whole report write the same
-pub one_report : OneNet → OneReport
-one_report one bytes old a b (short, (m, tells_m, writes_a)) (_, (n, tells_n, writes_b)) = writes_a ∙ ap (λ net. old ++ output_of net) (one bytes m n tells_m tells_n) ∙ sym writes_b
+pub one_report : OneNet → OneReportOf → OneReport
+one_report one_net one_run bytes old a b x y =
+    x.got ∙ ap (λ text. old ++ text) (same_text one_run x.from.net y.from.net x.report y.report (one_net bytes x.from.net y.from.net x.from.told y.from.told) x.run y.run) ∙ sym y.got

@@ -4,7 +4,7 @@ use Rattle.std.specs.Str.{IsUtf8}
 use Rattle.std.specs.declared.alloc.Global.{Global}
 use Rattle.motesim.specs.declared.input.InputError.{InputError}
 use Rattle.motesim.specs.declared.input.InputError.TheVariants as fault
-use Rattle.motesim.specs.Scenario.Limits.{longest_text}
+use Rattle.net_scenario.specs.Limits.{longest_text}
 
 -- the bytes are a text that isn't too long
 pub record IsText (bytes : List ℕ) : Type 0 where

@@ -1,14 +1,4 @@
-pub mod Alone
 pub mod FaultLines
 pub mod Input
 pub mod Laws
-pub mod Names
-pub mod Output
-pub mod Page
-pub mod PrintErrors
-pub mod Report
-pub mod ReportText
-pub mod Run
 pub mod Simulation
-pub mod Word
-pub mod Words

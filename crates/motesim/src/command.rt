@@ -1,13 +1,18 @@
-//! The program: a scenario on standard input, its report on standard output, a fault's line on standard error.
+//! The program: a scenario in a file or on standard input, its report on standard output, a fault's line on standard error.
 
 ghost use Rattle.std.specs.Prelude.{Some};
 ghost use Rattle.motesim.specs.FaultLines.{fault_line};
 
-use crate::printer::PrintError;
-use crate::scenario::{MediumError, ScenarioError};
+use crate::command_line::file_of;
 use crate::simulate::{SimError, simulate_serial};
-use std::fmt;
+use clap::error::ErrorKind;
+use net_scenario::ScenarioError;
+use radio_medium::MediumError;
 use std::io::{Read, Write};
+use std::rt::Files;
+use std::{fmt, fs};
+use trace_printer::PrintError;
+use window_workers::RunError;
 
 impl fmt::Display for SimError {
     ghost output = { λ fault. Some (fault_line fault) };
@@ -18,6 +23,7 @@ impl fmt::Display for SimError {
             SimError::TooLong => write!(f, "scenario too long"),
             SimError::NotText => write!(f, "scenario is not UTF-8"),
             SimError::Scenario(ScenarioError::Program(name, error)) => {
+                let name = name.as_str();
                 let kind = error.kind.number();
                 let line = error.line;
                 write!(f, "program {name} fault {kind} line {line}")
@@ -35,6 +41,7 @@ impl fmt::Display for SimError {
                 let kind = error.number();
                 write!(f, "scenario fault {kind}")
             }
+            SimError::Run(RunError::Memory) => write!(f, "out of memory"),
             SimError::Print(PrintError::Write) => write!(f, "write fault"),
             SimError::Print(PrintError::Memory) => write!(f, "out of memory"),
             SimError::Memory => write!(f, "out of memory"),
@@ -42,21 +49,63 @@ impl fmt::Display for SimError {
     }
 }
 
-/// Does what the program does: simulates the scenario that `input` gives, writes its report to `output`, or the line
-/// of its fault to `errors`, and answers the exit status: 0, or 1 where there was a fault. `words` are those of the
-/// command line, the program's name first; none of them is looked at yet. A line that can't be written changes nothing.
-pub fn run_command<T: AllocGlobal, R: Read, W: Write, E: Write>(
-    rt: &T,
-    _words: &[&str],
-    input: &mut R,
-    output: &mut W,
-    errors: &mut E,
-) -> u8 {
-    match simulate_serial(rt.alloc(), input, output) {
+/// The exit status of a simulation, whose fault, if it has one, is written as a line.
+pub fn status_of<E: Write>(answer: Result<(), SimError>, errors: &mut E) -> u8 {
+    match answer {
         Ok(()) => 0,
         Err(fault) => {
             let _ = writeln!(errors, "motesim: {fault}");
             1
         }
+    }
+}
+
+/// The exit status where the words of the command line ask for help, which is written to `output`, or have a fault, which
+/// is written to `errors`.
+fn status_of_words<W: Write, E: Write>(error: &clap::Error, output: &mut W, errors: &mut E) -> u8 {
+    if error.kind() == ErrorKind::OutOfMemory {
+        return status_of(Err(SimError::Memory), errors);
+    }
+    if error.use_stderr() {
+        let _ = write!(errors, "{error}");
+        2
+    } else {
+        let _ = write!(output, "{error}");
+        0
+    }
+}
+
+/// Simulates the scenario in a file.
+///
+/// # Errors
+/// `Read` also where the file can't be opened.
+fn simulate_file<T: AllocGlobal + Files, W: Write>(
+    rt: &T,
+    file: &str,
+    output: &mut W,
+) -> Result<(), SimError> {
+    match fs::open(rt, file) {
+        Ok(mut input) => simulate_serial(rt.alloc(), &mut input, output),
+        Err(_) => Err(SimError::Read),
+    }
+}
+
+/// Does what the program does with these words of the command line, the program's name first: simulates the scenario in
+/// the file that they name, or else the one that `input` gives, and writes its report to `output`, or the line of its fault
+/// to `errors`. Help that is asked for goes to `output`, and what is wrong with the words to `errors`.
+///
+/// It answers the exit status: 0 where the report or the help was due, 1 where there was a fault, and 2 where the fault was in
+/// the words. A help text or a fault's line that can't be written changes nothing.
+pub fn run_command<T: AllocGlobal + Files, R: Read, W: Write, E: Write>(
+    rt: &T,
+    words: &[&str],
+    input: &mut R,
+    output: &mut W,
+    errors: &mut E,
+) -> u8 {
+    match file_of(rt.alloc(), words) {
+        Ok(Some(file)) => status_of(simulate_file(rt, file, output), errors),
+        Ok(None) => status_of(simulate_serial(rt.alloc(), input, output), errors),
+        Err(error) => status_of_words(&error, output, errors),
     }
 }

@@ -1,10 +1,10 @@
 //! Reading the whole of an input as a text.
 ghost use Rattle.std.specs.Prelude.{◌≡◌, ◌≤◌, IfOk, IfSome, string_len, vec_len};
 ghost use Rattle.motesim.specs.Input.{ReadsBytes, ReadsText};
-ghost use Rattle.motesim.specs.Scenario.Limits.{longest_text};
+ghost use Rattle.net_scenario.specs.Limits.{longest_text};
 ghost use Rattle.motesim.specs.declared.input.InputError.TheVariants.{Memory};
 
-use crate::scenario::LONGEST_TEXT;
+use net_scenario::LONGEST_TEXT;
 use std::alloc::{AllocError, Global};
 use std::io::Read;
 

@@ -5,11 +5,11 @@ ghost use Rattle.motesim.specs.Input.{IsText};
 ghost use Rattle.motesim.specs.declared.simulate.SimError.TheVariants as fault;
 
 use crate::input::{InputError, read_text};
-use crate::printer::{PrintError, write_report};
-use crate::run::{programs_of, run};
-use crate::scenario::{ScenarioError, read_scenario};
-use std::alloc::{AllocError, Global};
+use net_scenario::{ScenarioError, read_scenario};
+use std::alloc::Global;
 use std::io::{Read, Write};
+use trace_printer::{PrintError, write_report};
+use window_workers::{RunError, run_serial};
 
 /// Why a simulation wrote no whole report.
 #[derive(Debug, PartialEq, Eq, Drop)]
@@ -22,6 +22,8 @@ pub enum SimError {
     NotText,
     /// The scenario's first fault.
     Scenario(ScenarioError),
+    /// The net couldn't be run to its end.
+    Run(RunError),
     /// A front of the report has been written.
     Print(PrintError),
     /// Memory ran out outside the parts above.
@@ -49,19 +51,19 @@ impl From<ScenarioError> for SimError {
     }
 }
 
+impl From<RunError> for SimError {
+    ghost from_gives = { λ x e. e ≡ fault.Run x };
+
+    fn from(error: RunError) -> Self {
+        SimError::Run(error)
+    }
+}
+
 impl From<PrintError> for SimError {
     ghost from_gives = { λ x e. e ≡ fault.Print x };
 
     fn from(error: PrintError) -> Self {
         SimError::Print(error)
-    }
-}
-
-impl From<AllocError> for SimError {
-    ghost from_gives = { λ _ e. e ≡ fault.Memory };
-
-    fn from(_error: AllocError) -> Self {
-        SimError::Memory
     }
 }
 
@@ -72,9 +74,8 @@ fn simulate_text<W: Write>(alloc: Global, text: &str, writer: &mut W) -> Result<
     ensures unwritten { IfErr result (Unwritten (W.contents writer.old) (W.contents writer.new)) }
 {
     let net = read_scenario(alloc, text)?;
-    let report = run(alloc, &net)?;
-    let programs = programs_of(alloc, &net)?;
-    write_report(alloc, writer, &programs, &report)?;
+    let report = run_serial(alloc, &net)?;
+    write_report(alloc, &net, &report, writer)?;
     Ok(())
 }
 
@@ -83,7 +84,7 @@ fn simulate_text<W: Write>(alloc: Global, text: &str, writer: &mut W) -> Result<
 /// # Errors
 /// In this order: `Read` where a call of the reader failed before the limit was passed, an interrupted one included;
 /// `TooLong` where more than 1,048,576 bytes came, also from a reader that never ends; `NotText` where they aren't
-/// UTF-8; `Scenario` with the scenario's first fault; `Print` where the writer failed or took no byte, and then a front
+/// UTF-8; `Scenario` with the scenario's first fault; `Run` where the run met want of memory; `Print` where the writer failed or took no byte, and then a front
 /// of the report is written. `Memory`, and `Memory` of a part, stand only where a growth was refused. A fault other than
 /// `Print` has written nothing.
 #[tactic(auto, using(crate::proofs::Printed::some_bytes))]

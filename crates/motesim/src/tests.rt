@@ -1,7 +1,9 @@
 //! Runs of whole scenarios, with values worked by hand.
 
+mod command_faults;
 mod fault_lines;
 mod motes;
+mod nets;
 mod scenarios;
 mod streams;
 

@@ -6,10 +6,11 @@ use crate::tests::{PRINT_THEN_YIELD, PRINT_THEN_YIELD_REPORT, changed, scenario_
 use std::io;
 use std::io::Read;
 use std::process::Abort;
+use std::rt::Files;
 use std::test::Fail;
 
 /// Runs the program on the input, and compares its status and what it writes.
-fn expect<T: AllocGlobal + Abort, R: Read + Drop>(
+fn expect<T: AllocGlobal + Files + Abort, R: Read + Drop>(
     rt: &T,
     mut input: R,
     status: u8,
@@ -72,6 +73,11 @@ fn faults_of_the_scenario(rt: HostRuntime) -> Result<(), Fail> {
         ),
         ("base = 1\n", "base = 0\n", "motesim: medium fault 2\n"),
         ("per = 100\n", "per = 0\n", "motesim: medium fault 3\n"),
+        (
+            "[[mote]]\n",
+            "[[loss]]\nfrom = 0\nto = 0\nevery = 2\n[[mote]]\n",
+            "motesim: medium fault 4\n",
+        ),
     ];
     for (old, new, line) in cases {
         let scenario = changed(rt.alloc(), old, new)?;

@@ -1,9 +1,10 @@
 //! What scenarios are answered.
 
-use crate::scenario::{MediumError, ScenarioError};
 use crate::simulate::{SimError, simulate_serial};
 use crate::tests::{PRINT_THEN_YIELD, PRINT_THEN_YIELD_REPORT, changed, report_of, scenario_of};
 use mote_program::{ReadError, ReadErrorKind};
+use net_scenario::{ProgramName, ScenarioError};
+use radio_medium::MediumError;
 use std::test::Fail;
 
 const STARTS: &str = "mote 0 p\n0 start etimer\n0 start ctimer\n0 start radio\n";
@@ -71,7 +72,8 @@ fn scenario_faults(rt: HostRuntime) -> Result<(), Fail> {
         ("end = 5\n", "end = \"5\"\n", ScenarioError::WrongKind),
         ("end = 5\n", "end = 5.0\n", ScenarioError::WrongKind),
         ("x = 0\n", "x = 30001\n", ScenarioError::OutOfRange),
-        ("version = 1\n", "version = 2\n", ScenarioError::OutOfRange),
+        ("version = 1\n", "version = 2\n", ScenarioError::MissingKey),
+        ("version = 1\n", "version = 3\n", ScenarioError::OutOfRange),
         ("end = 5\n", "end = 1000001\n", ScenarioError::OutOfRange),
         (
             "program = \"p\"",
@@ -90,21 +92,10 @@ fn scenario_faults(rt: HostRuntime) -> Result<(), Fail> {
         ),
         ("end = 5\n", "end =\n", ScenarioError::Toml),
         ("end = 5\n", "end = 5\nend = 5\n", ScenarioError::Toml),
-        // For now there is one mote, one program and no loss.
-        (
-            "[[mote]]\n",
-            "[[mote]]\nx = 1\ny = 0\nprogram = \"p\"\n[[mote]]\n",
-            ScenarioError::OutOfRange,
-        ),
-        (
-            "[programs]\n",
-            "[programs]\nq = \"process b; code b { body { } }\"\n",
-            ScenarioError::OutOfRange,
-        ),
         (
             "[[mote]]\n",
             "[[loss]]\nfrom = 0\nto = 1\nevery = 2\n[[mote]]\n",
-            ScenarioError::OutOfRange,
+            ScenarioError::Medium(MediumError::BadLoss),
         ),
     ];
     for (old, new, fault) in cases {
@@ -141,7 +132,7 @@ fn program_faults(rt: HostRuntime) -> Result<(), Fail> {
     ];
     for (program, kind, line) in cases {
         let scenario = scenario_of(rt.alloc(), program)?;
-        let name = String::from_str(rt.alloc(), "p")?;
+        let name = ProgramName::from_str(rt.alloc(), "p")?;
         assert_eq!(rt;
             report_of(rt.alloc(), scenario.as_str()),
             Err(SimError::Scenario(ScenarioError::Program(name, ReadError { kind, line }))),

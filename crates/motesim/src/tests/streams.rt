@@ -1,11 +1,11 @@
 //! Failing readers and writers, and the ends of what is read.
 
-use crate::printer::PrintError;
 use crate::simulate::{SimError, simulate_serial};
 use crate::tests::{PRINT_THEN_YIELD, PRINT_THEN_YIELD_REPORT, report_of};
 use std::io;
 use std::io::{Read, Write};
 use std::test::Fail;
+use trace_printer::PrintError;
 
 /// A reader that gives at most 16 bytes a call, and fails after some calls.
 #[derive(Drop)]

@@ -1,8 +1,0 @@
--- The faults of printing by their numbers.
-use Rattle.std.specs.Prelude.{ℕ}
-use Rattle.motesim.specs.declared.printer.error.PrintError.{PrintError}
-use Rattle.motesim.specs.declared.printer.error.PrintError.TheVariants.{Write, Memory}
-
-abbrev pub print_fault_number : PrintError → ℕ
-print_fault_number Write = 1
-print_fault_number Memory = 2

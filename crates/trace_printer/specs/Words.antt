@@ -1,0 +1,68 @@
+-- The words of a report's lines.
+use Rattle.std.specs.Prelude.{ℕ, ◌==◌, List, [], ◌∷◌, ◌++◌, if◌then◌else◌, Option, Some, None, codes, decimal, slice_get, unwrap_or}
+use Rattle.std.specs.List.{flat_map}
+use Rattle.mote_program.specs.Code.{Tree, declared_name}
+use Rattle.mote_program.specs.declared.event.Proc.{Proc}
+use Rattle.mote_program.specs.declared.event.Proc.TheVariants.{Own, Etimer, Ctimer, Radio}
+use Rattle.mote_program.specs.declared.event.Target.{Target}
+use Rattle.mote_program.specs.declared.event.Target.TheVariants.{One, All}
+use Rattle.process_kernel.specs.declared.line.What.{What}
+use Rattle.process_kernel.specs.declared.line.What.TheVariants.{Start, Leave, Post, Full, Take, Drop, Print, Busy, Halt, Send, Recv, Lost, Deaf, Collide}
+use Rattle.radio_medium.specs.declared.fate.Fate.{Fate}
+
+-- a line: its first word, each other word behind a space, and a line feed
+abbrev pub line_of : (first : List ℕ) → (others : List (List ℕ)) → List ℕ
+line_of first others = first ++ flat_map (λ w. 32 ∷ w) others ++ 10 ∷ []
+
+-- The name of a process. A process that the program doesn't have, which no trace shows, has the empty word.
+abbrev pub process_word : Tree → Proc → List ℕ
+process_word t (Own p) = unwrap_or (slice_get t.processes p) []
+process_word t Etimer = codes "etimer"
+process_word t Ctimer = codes "ctimer"
+process_word t Radio = codes "radio"
+
+-- whom an event is for
+abbrev pub target_word : Tree → Target → List ℕ
+target_word t (One p) = process_word t p
+target_word t All = codes "all"
+
+-- The word of an event by its number, or the name under which the program declares it. An event that is none of these, which
+-- no trace shows, has the empty word.
+abbrev pub event_word : Tree → ℕ → List ℕ
+event_word t e =
+    if e == 0x81 then codes "init"
+    else if e == 0x82 then codes "poll"
+    else if e == 0x83 then codes "exit"
+    else if e == 0x85 then codes "continue"
+    else if e == 0x86 then codes "msg"
+    else if e == 0x87 then codes "exited"
+    else if e == 0x88 then codes "timer"
+    else if e == 0x89 then codes "com"
+    else if e == 0x8a then codes "packet"
+    else unwrap_or (declared_name t e) []
+
+-- the words of a trace's line behind its moment
+abbrev pub words_of : Tree → What → List (List ℕ)
+words_of t (Start p) = codes "start" ∷ process_word t p ∷ []
+words_of t (Leave p) = codes "leave" ∷ process_word t p ∷ []
+words_of t (Post serial to e w) = codes "post" ∷ decimal serial ∷ target_word t to ∷ event_word t e ∷ decimal w ∷ []
+words_of t (Full to e w) = codes "full" ∷ target_word t to ∷ event_word t e ∷ decimal w ∷ []
+words_of t (Take serial p) = codes "take" ∷ decimal serial ∷ process_word t p ∷ []
+words_of t (Drop serial p) = codes "drop" ∷ decimal serial ∷ process_word t p ∷ []
+words_of t (Print p v) = codes "print" ∷ process_word t p ∷ decimal v ∷ []
+words_of t (Busy p) = codes "busy" ∷ process_word t p ∷ []
+words_of t Halt = codes "halt" ∷ []
+words_of t (Send number v) = codes "send" ∷ decimal number ∷ decimal v ∷ []
+words_of t (Recv from number v) = codes "recv" ∷ decimal from ∷ decimal number ∷ decimal v ∷ []
+words_of t (Lost from number) = codes "lost" ∷ decimal from ∷ decimal number ∷ []
+words_of t (Deaf from number) = codes "deaf" ∷ decimal from ∷ decimal number ∷ []
+words_of t (Collide from number) = codes "collide" ∷ decimal from ∷ decimal number ∷ []
+
+-- when a copy arrives, if it does
+abbrev pub arrival_word : Option ℕ → List ℕ
+arrival_word (Some at) = decimal at
+arrival_word None = codes "lost"
+
+-- the receiver of a copy and when it arrives, joined by `@`
+abbrev pub fate_word : Fate → List ℕ
+fate_word f = decimal f.to ++ 64 ∷ arrival_word f.at

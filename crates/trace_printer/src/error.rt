@@ -1,0 +1,42 @@
+//! Why a report wasn't written whole.
+ghost use Rattle.std.specs.Prelude.{◌≡◌};
+ghost use Rattle.trace_printer.specs.declared.error.PrintError.TheVariants as fault;
+
+use crate::output::WriteFault;
+use std::alloc::AllocError;
+
+/// Why a report wasn't written whole, with the numbers that are printed.
+#[derive(Clone, Copy, Debug, PartialEq, Eq)]
+pub enum PrintError {
+    /// The writer failed, or took no byte.
+    Write = 1,
+    /// A growth was refused.
+    Memory = 2,
+}
+
+impl PrintError {
+    ghost use Rattle.trace_printer.specs.PrintErrors.{print_fault_number};
+
+    /// The number that is printed.
+    pub fn number(self) -> u8
+        ensures { result ≡ print_fault_number self }
+    {
+        self as u8
+    }
+}
+
+impl From<AllocError> for PrintError {
+    ghost from_gives = { λ _ e. e ≡ fault.Memory };
+
+    fn from(_error: AllocError) -> Self {
+        PrintError::Memory
+    }
+}
+
+impl From<WriteFault> for PrintError {
+    ghost from_gives = { λ _ e. e ≡ fault.Write };
+
+    fn from(_error: WriteFault) -> Self {
+        PrintError::Write
+    }
+}

@@ -1,0 +1,16 @@
+//! The report of a net's run as text.
+#![tactic(auto)]
+
+mod error;
+mod lines;
+mod names;
+mod output;
+mod page;
+mod report;
+mod words;
+
+pub use error::PrintError;
+pub use report::write_report;
+
+#[cfg(test)]
+mod tests;

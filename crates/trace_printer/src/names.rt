@@ -1,0 +1,55 @@
+//! The words for processes, targets and events: those of the system, and the names in a mote's program. Each is found by its
+//! number.
+ghost use Rattle.std.specs.Prelude.{◌≡◌, [], slice_get, unwrap_or};
+ghost use Rattle.mote_program.specs.Program.{tree_of};
+ghost use Rattle.trace_printer.specs.Words.{process_word, target_word, event_word};
+
+use mote_program::{Proc, Program, Target};
+
+/// The name of a process of the program, or nothing where the program has no such process.
+fn own_word(program: &Program, number: u8) -> &str
+    ensures { result.now ≡ unwrap_or (slice_get (tree_of program.now).processes number) [] }
+{
+    if number < program.processes() {
+        program.name(number)
+    } else {
+        ""
+    }
+}
+
+pub fn process_word(program: &Program, process: Proc) -> &str
+    ensures { result.now ≡ process_word (tree_of program.now) process }
+{
+    match process {
+        Proc::Own(number) => own_word(program, number),
+        Proc::Etimer => "etimer",
+        Proc::Ctimer => "ctimer",
+        Proc::Radio => "radio",
+    }
+}
+
+pub fn target_word(program: &Program, target: Target) -> &str
+    ensures { result.now ≡ target_word (tree_of program.now) target }
+{
+    match target {
+        Target::One(process) => process_word(program, process),
+        Target::All => "all",
+    }
+}
+
+pub fn event_word(program: &Program, event: u8) -> &str
+    ensures { result.now ≡ event_word (tree_of program.now) event }
+{
+    match event {
+        0x81 => "init",
+        0x82 => "poll",
+        0x83 => "exit",
+        0x85 => "continue",
+        0x86 => "msg",
+        0x87 => "exited",
+        0x88 => "timer",
+        0x89 => "com",
+        0x8a => "packet",
+        _ => program.event_name(event).unwrap_or(""),
+    }
+}

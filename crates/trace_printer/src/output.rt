@@ -1,0 +1,23 @@
+//! Writing the whole of a text.
+ghost use Rattle.trace_printer.specs.Output.{Writes};
+
+use std::io::Write;
+
+/// The writer failed, or took no byte of a text that wasn't at its end.
+#[derive(Clone, Copy, Debug, PartialEq, Eq)]
+pub struct WriteFault;
+
+/// Writes all of the bytes. After a fault a front of them has been written, which lacks at least a byte.
+pub fn write_bytes<W: Write>(writer: &mut W, bytes: &[u8]) -> Result<(), WriteFault>
+    ensures { Writes (W.contents writer.old) (W.contents writer.new) result bytes.now }
+{
+    let mut rest = bytes;
+    while !rest.is_empty() {
+        match writer.write(rest) {
+            Ok(0) => return Err(WriteFault),
+            Ok(n) => rest = &rest[n..],
+            Err(_) => return Err(WriteFault),
+        }
+    }
+    Ok(())
+}

@@ -1,0 +1,68 @@
+//! The text that waits to be written.
+ghost use Rattle.std.specs.Prelude.{◌≡◌, [], ◌++◌, decimal, IfOk, OnOk};
+ghost use Rattle.trace_printer.specs.Output.{Writes};
+
+use crate::output::{WriteFault, write_bytes};
+use itoa::Buffer;
+use std::alloc::{AllocError, Global};
+use std::io::Write;
+use std::marker::Model;
+
+/// How many bytes a page has room for without growing.
+const ROOM: usize = 65_536;
+
+/// From how many bytes on a page is written. The longest line fits between this and `ROOM`.
+const FULL: usize = 32_768;
+
+/// Lines that wait to be written, so that the writer is called once for many of them.
+#[derive(Drop)]
+pub struct Page {
+    bytes: Vec<u8>,
+}
+
+impl Model for Page {
+    ghost use Rattle.std.specs.Prelude.{List, ℕ};
+
+    ghost Value = { List ℕ };
+
+    ghost view = { λ p. p.bytes.items };
+}
+
+impl Page {
+    pub fn new(alloc: Global) -> Result<Page, AllocError>
+        ensures { IfOk result (λ page. page ≡ []) }
+    {
+        let bytes = Vec::with_capacity(alloc, ROOM)?;
+        Ok(Page { bytes })
+    }
+
+    /// Whether it is time to write the page.
+    pub fn is_full(&self) -> bool {
+        self.bytes.len() >= FULL
+    }
+
+    /// Writes the page, and empties it. After a fault a front of it has been written, which lacks at least a byte.
+    pub fn write_to<W: Write>(&mut self, writer: &mut W) -> Result<(), WriteFault>
+        ensures written { Writes (W.contents writer.old) (W.contents writer.new) result self.old }
+        ensures emptied { OnOk result (self.new ≡ []) }
+    {
+        write_bytes(writer, &self.bytes)?;
+        self.bytes.clear();
+        Ok(())
+    }
+
+    #[inline(always)]
+    pub fn put_text(&mut self, text: &str) -> Result<(), AllocError>
+        ensures { OnOk result (self.new ≡ self.old ++ text.now) }
+    {
+        self.bytes.extend_from_slice(text.as_bytes())
+    }
+
+    #[inline(always)]
+    pub fn put_number(&mut self, number: u64) -> Result<(), AllocError>
+        ensures { OnOk result (self.new ≡ self.old ++ decimal number) }
+    {
+        let mut digits = Buffer::new();
+        self.put_text(digits.format(number))
+    }
+}

@@ -1,0 +1,152 @@
+//! A report, by way of a page.
+ghost use Rattle.std.specs.Prelude.{◌≡◌, ◌++◌, ◌∷◌, [], length, map, vec_len, codes, decimal};
+ghost use Rattle.std.specs.List.{flat_map};
+ghost use Rattle.mote_program.specs.Program.{tree_of};
+ghost use Rattle.net_scenario.specs.Net.{net_of};
+ghost use Rattle.window_workers.specs.Report.{lines_in, told_line, report_of};
+ghost use Rattle.trace_printer.specs.Output.{Writes};
+ghost use Rattle.trace_printer.specs.Page.{Prints};
+ghost use Rattle.trace_printer.specs.ReportText.{line_text, motes_text, packet_text, medium_text, left_text, report_text};
+ghost use Rattle.trace_printer.specs.Words.{line_of};
+
+use crate::error::PrintError;
+use crate::lines::{put_packet, put_trace_line};
+use crate::output::WriteFault;
+use crate::page::Page;
+use crate::words::Word::{Number, Text};
+use crate::words::put_line;
+use mote_program::Program;
+use net_scenario::Net;
+use process_kernel::Line;
+use std::alloc::Global;
+use std::io::Write;
+use window_workers::{LogLine, Report};
+
+/// Writes the page where it is full.
+fn write_if_full<W: Write>(writer: &mut W, page: &mut Page) -> Result<(), WriteFault>
+    ensures { Prints (W.contents writer.old) (W.contents writer.new) page.old page.new result [] }
+{
+    if page.is_full() {
+        return page.write_to(writer);
+    }
+    Ok(())
+}
+
+fn print_head<W: Write>(
+    writer: &mut W,
+    page: &mut Page,
+    mote: u16,
+    name: &str,
+) -> Result<(), PrintError>
+    ensures { Prints (W.contents writer.old) (W.contents writer.new) page.old page.new result (line_of (codes "mote") (decimal mote ∷ name.now ∷ [])) }
+{
+    put_line(page, Text("mote"), &[Number(u64::from(mote)), Text(name)])?;
+    Ok(write_if_full(writer, page)?)
+}
+
+fn print_lines<W: Write>(
+    writer: &mut W,
+    page: &mut Page,
+    program: &Program,
+    trace: &[Line],
+) -> Result<(), PrintError>
+    ensures { Prints (W.contents writer.old) (W.contents writer.new) page.old page.new result (flat_map (line_text (tree_of program.now)) trace.now) }
+{
+    for line in trace {
+        put_trace_line(page, program, *line)?;
+        write_if_full(writer, page)?;
+    }
+    Ok(())
+}
+
+fn print_mote<W: Write>(
+    writer: &mut W,
+    page: &mut Page,
+    mote: u16,
+    name: &str,
+    program: &Program,
+    trace: &[Line],
+) -> Result<(), PrintError>
+    ensures { Prints (W.contents writer.old) (W.contents writer.new) page.old page.new result (line_of (codes "mote") (decimal mote ∷ name.now ∷ []) ++ flat_map (line_text (tree_of program.now)) trace.now) }
+{
+    print_head(writer, page, mote, name)?;
+    print_lines(writer, page, program, trace)
+}
+
+fn print_motes<W: Write>(
+    writer: &mut W,
+    page: &mut Page,
+    net: &Net,
+    traces: &[Vec<Line>],
+) -> Result<(), PrintError>
+    requires { length traces.now ≡ length (net_of net.now).motes }
+    ensures { Prints (W.contents writer.old) (W.contents writer.new) page.old page.new result (motes_text 0 (net_of net.now).motes (map lines_in traces.now)) }
+{
+    for mote in 0..net.motes() {
+        let trace = &traces[usize::from(mote)];
+        print_mote(
+            writer,
+            page,
+            mote,
+            net.program_name(mote),
+            net.program(mote),
+            trace,
+        )?;
+    }
+    Ok(())
+}
+
+fn print_packets<W: Write>(
+    writer: &mut W,
+    page: &mut Page,
+    log: &[LogLine],
+) -> Result<(), PrintError>
+    ensures { Prints (W.contents writer.old) (W.contents writer.new) page.old page.new result (flat_map packet_text (map told_line log.now)) }
+{
+    for line in log {
+        put_packet(page, line)?;
+        write_if_full(writer, page)?;
+    }
+    Ok(())
+}
+
+fn print_medium<W: Write>(
+    writer: &mut W,
+    page: &mut Page,
+    log: &[LogLine],
+) -> Result<(), PrintError>
+    ensures { Prints (W.contents writer.old) (W.contents writer.new) page.old page.new result (medium_text (map told_line log.now)) }
+{
+    put_line(page, Text("medium"), &[])?;
+    print_packets(writer, page, log)
+}
+
+/// Puts the last line, and writes all that waits.
+fn write_end<W: Write>(writer: &mut W, page: &mut Page, left: u64) -> Result<(), PrintError>
+    ensures { Writes (W.contents writer.old) (W.contents writer.new) result (page.old ++ left_text left) }
+{
+    put_line(page, Text("left"), &[Number(left)])?;
+    Ok(page.write_to(writer)?)
+}
+
+/// Writes the report of a net as text: the trace of each mote, the log of the medium, and the count of copies still on
+/// their way. The text is gathered on a page of 64 KiB, which is made first.
+///
+/// # Errors
+/// `Write` where the writer failed or took no byte, `Memory` where there was no room for the page, or for a line longer
+/// than half of it. A front of the text is then written, which lacks at least its last byte.
+pub fn write_report<W: Write>(
+    alloc: Global,
+    net: &Net,
+    report: &Report,
+    writer: &mut W,
+) -> Result<(), PrintError>
+    // There is one trace for each mote.
+    requires { vec_len report.now.traces ≡ length (net_of net.now).motes }
+    ensures { Writes (W.contents writer.old) (W.contents writer.new) result (report_text (net_of net.now) (report_of report.now)) }
+{
+    let mut page = Page::new(alloc)?;
+    print_motes(writer, &mut page, net, &report.traces)?;
+    print_medium(writer, &mut page, &report.medium)?;
+    write_end(writer, &mut page, report.left)
+}

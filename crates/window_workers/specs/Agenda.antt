@@ -1,0 +1,52 @@
+-- The agenda of a net: one list of what is to come, the motes' wakes and the copies of packets on their way.
+use Rattle.std.specs.Prelude.{ℕ, zero, suc, ◌≡◌, Bool, true, false, not, ◌&&◌, ◌||◌, ◌==◌, nat_lt, List, [], ◌∷◌, ◌++◌, Option, Some, None}
+use Rattle.std.specs.List.{list_any, AllByRecursion}
+use Rattle.radio_medium.specs.declared.copy.RadioCopy.{RadioCopy}
+
+-- a mote's own wake, or a copy that comes to it
+pub data Item : Type 0 where
+  Wake : (moment mote : ℕ) → Item
+  Packet : RadioCopy → Item
+
+abbrev pub moment_of : Item → ℕ
+moment_of (Wake moment mote) = moment
+moment_of (Packet copy) = copy.at
+
+abbrev pub mote_of : Item → ℕ
+mote_of (Wake moment mote) = mote
+mote_of (Packet copy) = copy.to
+
+abbrev pub is_due : (moment mote : ℕ) → Item → Bool
+is_due moment mote item = (moment_of item == moment) && (mote_of item == mote)
+
+abbrev pub is_wake_of : (mote : ℕ) → Item → Bool
+is_wake_of mote (Wake moment other) = other == mote
+is_wake_of mote (Packet copy) = false
+
+-- the copies among some items
+abbrev pub packets : List Item → List RadioCopy
+packets [] = []
+packets (Wake moment mote ∷ items) = packets items
+packets (Packet copy ∷ items) = copy ∷ packets items
+
+abbrev pub wake_items : (mote : ℕ) → Option ℕ → List Item
+wake_items mote None = []
+wake_items mote (Some moment) = Wake moment mote ∷ []
+
+-- what stays where this mote turns at this moment: all that isn't due, but for the mote's wake
+abbrev pub is_left : (moment mote : ℕ) → Item → Bool
+is_left moment mote item = not (is_due moment mote item || is_wake_of mote item)
+
+-- not before this moment, and at this moment not before this mote
+abbrev pub is_from : (moment mote : ℕ) → Item → Bool
+is_from moment mote item = nat_lt moment (moment_of item) || ((moment_of item == moment) && not (nat_lt (mote_of item) mote))
+
+-- the least moment and mote of an agenda
+pub record IsLeast (moment mote : ℕ) (agenda : List Item) : Type 0 where
+  pub is_there : list_any (is_due moment mote) agenda ≡ true
+  pub is_first : AllByRecursion (λ item. is_from moment mote item ≡ true) agenda
+
+-- the numbers below n, from 0
+abbrev pub up_to : ℕ → List ℕ
+up_to zero = []
+up_to (suc n) = up_to n ++ n ∷ []

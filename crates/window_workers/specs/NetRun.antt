@@ -1,0 +1,70 @@
+-- The run of a net, and its report.
+use Rattle.std.specs.Prelude.{ℕ, ◌≡◌, false, List, [], length, map, slice_get, unwrap_or, Option, None}
+use Rattle.mote_program.specs.Code.{Tree}
+use Rattle.process_kernel.specs.declared.line.Arrival.{Arrival}
+use Rattle.process_kernel.specs.declared.line.Line.{Line}
+use Rattle.process_kernel.specs.declared.line.Sent.{Sent}
+use Rattle.mote_node.specs.Node.{Node, new_node}
+use Rattle.mote_node.specs.Public.{with_collide}
+use Rattle.mote_node.specs.Turn.{turn_of}
+use Rattle.mote_node.specs.Turn as node
+use Rattle.radio_medium.specs.declared.copy.RadioCopy.{RadioCopy}
+use Rattle.radio_medium.specs.Medium.{Radio, copies, fates, lookahead}
+use Rattle.net_scenario.specs.Net.{MoteTold, NetTold}
+use Rattle.window_workers.specs.System.{System, Turned}
+use Rattle.window_workers.specs.Agenda.{packets, up_to}
+use Rattle.window_workers.specs.NetStep.{NetState, Run, boot}
+use Rattle.window_workers.specs.Report.{Packet, ReportTold}
+
+-- stands for a mote past the last one, which never turns
+abbrev pub no_mote : MoteTold
+no_mote = record {
+  program = [];
+  tree = record { events = []; semaphores = []; counts = []; processes = []; autostart = []; receiver = None; codes = []; timers = [] };
+  queue = 1;
+}
+
+abbrev pub mote_at : List MoteTold → (mote : ℕ) → MoteTold
+mote_at motes mote = unwrap_or (slice_get motes mote) no_mote
+
+-- a mote before its first turn
+abbrev pub first_node : NetTold → (mote : ℕ) → Node
+first_node n mote = let m = mote_at n.motes mote in with_collide n.collide (new_node m.tree mote m.queue)
+
+-- what a mote is given of a copy
+abbrev pub arrival_of : RadioCopy → Arrival
+arrival_of copy = record { sender = copy.sender; number = copy.number; value = copy.value }
+
+abbrev pub turned_of : node.Turned → Turned Node Line
+turned_of t = record { state = t.node; lines = t.lines; sends = t.sends; wake = t.wake }
+
+abbrev pub node_turn : (mote : ℕ) → Node → (moment : ℕ) → List RadioCopy → Turned Node Line
+node_turn mote n moment given = turned_of (turn_of moment (map arrival_of given) n)
+
+-- the motes of a net, and its medium
+unfoldable pub system_of : NetTold → System Node Line
+system_of n = record {
+  motes = length n.motes;
+  first = first_node n;
+  turn = node_turn;
+  copies = copies n.radio;
+  lookahead = lookahead n.radio n.end;
+}
+
+abbrev pub packet_of : Radio → Sent → Packet
+packet_of radio sent = record { sent = sent; fates = fates radio sent }
+
+-- what is told of a net whose run has ended: each mote's trace, each packet with the fates of its copies, and how many copies
+-- are still on their way
+abbrev pub told_at : NetTold → NetState Node Line → ReportTold
+told_at n last = record {
+  traces = map last.traces (up_to (length n.motes));
+  log = map (packet_of n.radio) last.log;
+  left = length (packets last.agenda);
+}
+
+-- the run of the net, from before the motes' first turns, ends where this is told
+pub record IsReportOf (n : NetTold) (r : ReportTold) : Type 0 where
+  pub last : NetState Node Line
+  pub run : Run (system_of n) n.end (boot (system_of n)) last
+  pub told : r ≡ told_at n last

@@ -1,0 +1,36 @@
+-- Motes and the medium between them, whatever a mote is.
+use Rattle.std.specs.Prelude.{ℕ, ◌≡◌, ◌+◌, ◌<◌, ◌≤◌, List, Option, Some, None}
+use Rattle.std.specs.List.{AllByRecursion}
+use Rattle.process_kernel.specs.declared.line.Sent.{Sent}
+use Rattle.radio_medium.specs.declared.copy.RadioCopy.{RadioCopy}
+
+-- what a turn leaves
+pub record Turned (S L : Type 0) : Type 0 where
+  pub state : S
+  pub lines : List L
+  pub sends : List Sent
+  pub wake : Option ℕ
+
+-- how many motes there are, the first state of each, its turn on copies in order, the copies of a packet, and the lookahead
+pub record System (S L : Type 0) : Type 0 where
+  pub motes : ℕ
+  pub first : (mote : ℕ) → S
+  pub turn : (mote : ℕ) → S → (moment : ℕ) → List RadioCopy → Turned S L
+  pub copies : Sent → List RadioCopy
+  pub lookahead : ℕ
+
+abbrev pub IsLater : (moment : ℕ) → (wake : Option ℕ) → Type 0
+IsLater moment None = Unit {0}
+IsLater moment (Some wake) = moment < wake
+
+-- a copy of this packet for another mote of the net, which arrives no sooner than the lookahead
+pub record IsCopyOf {S L : Type 0} (system : System S L) (sent : Sent) (copy : RadioCopy) : Type 0 where
+  pub sender : copy.sender ≡ sent.sender
+  pub to : copy.to < system.motes
+  pub later : sent.at + system.lookahead ≤ copy.at
+
+-- what makes a net run forward: wakes and copies come later than the turn that makes them
+pub record IsSystem {S L : Type 0} (system : System S L) : Type 0 where
+  pub some_lookahead : 0 < system.lookahead
+  pub wakes_later : (mote : ℕ) (state : S) (moment : ℕ) (given : List RadioCopy) → IsLater moment (system.turn mote state moment given).wake
+  pub copies_later : (sent : Sent) → sent.sender < system.motes → AllByRecursion (IsCopyOf system sent) (system.copies sent)

@@ -1,0 +1,6 @@
+//! Runs of a net: the motes' turns one after another, and what they leave to report.
+#![tactic(auto)]
+
+mod report;
+
+pub use report::{LogLine, Report};

@@ -1,0 +1,20 @@
+//! What a run of a net has to tell.
+
+use process_kernel::{Line, Sent};
+use radio_medium::Fate;
+
+/// A packet with the fates of its copies, by rising receiver.
+#[derive(Debug, Drop)]
+pub struct LogLine {
+    pub sent: Sent,
+    pub fates: Vec<Fate>,
+}
+
+/// The trace of each mote, by its number; the log of the medium, in the order of sending; and how many copies of packets
+/// were still on their way at the end.
+#[derive(Debug, Drop)]
+pub struct Report {
+    pub traces: Vec<Vec<Line>>,
+    pub medium: Vec<LogLine>,
+    pub left: u64,
+}
