@@ -11,9 +11,6 @@ use crate::tree::Operator;
 use crate::words::{self, Entry};
 use std::alloc::{AllocError, Global};
 
-#[cfg(test)]
-mod tests;
-
 /// The tokens of a text but for its end, with their lines from 1 on; the last line is that of the end.
 #[derive(Debug, Drop)]
 pub(crate) struct Lexed<'a> {

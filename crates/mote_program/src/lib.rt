@@ -35,6 +35,3 @@ pub use program::{ProcessText, Program};
 pub use reading::read;
 pub use timer::Timer;
 pub use tree::{Action, Block, Expr, Operator, Stmt};
-
-#[cfg(test)]
-mod tests;

@@ -1,6 +1,8 @@
 //! Whole protothreads, by `advance` alone.
 ghost use Rattle.std.specs.Prelude.{[], ◌∷◌};
 
+mod reader;
+
 use crate::{Fuel, Look, Op, Part, PtState, Semaphore, Step, Thread, Vars};
 use mote_program::{Event, Proc, ProcessText, Target, read};
 use std::process::Abort;

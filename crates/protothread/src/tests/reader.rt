@@ -1,6 +1,7 @@
-//! Texts whose faults and trees were told by hand.
+//! Texts of programs whose faults and trees were told by hand. They stand one crate above the reader, since a crate with tests is
+//! proved twice, and the reader is the largest.
 
-use crate::{Program, ReadError, ReadErrorKind, read};
+use mote_program::read;
 use std::alloc::Global;
 use std::test::Fail;
 
@@ -134,6 +135,19 @@ fn tokens_and_numbers(rt: HostRuntime) {
         ("semaphore s = 65536;", (5, 1)),
         ("process a;\ncode a { body { \u{e9} = 1; } }", (1, 2)),
         ("process a; // \u{e9}\ncode a { body { } }", (0, 0)),
+        ("process a;\ncode a { body { print 00; } }", (1, 2)),
+        ("process a;\ncode a { body { print 1a; } }", (1, 2)),
+        ("process abcdefghijklmnop;", (2, 1)),
+        ("process abcdefghijklmnopq;", (1, 1)),
+        ("process _a;", (1, 1)),
+        ("process radio;", (2, 1)),
+        ("process a;\ncode a { body { print (1 !== 1); } }", (2, 2)),
+        ("process a;\ncode a { body { print (1 &&& 1); } }", (1, 2)),
+        (
+            "process a; // b\r c\ncode a { body { print 1; } } d",
+            (2, 2),
+        ),
+        ("process a;\r\ncode a {\rbody { @", (1, 2)),
     ] {
         assert_eq!(rt; told(alloc, text), want, "{text}");
     }
