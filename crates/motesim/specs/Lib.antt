@@ -9,7 +9,6 @@ pub mod PrintErrors
 pub mod Report
 pub mod ReportText
 pub mod Run
-pub mod Scenario
 pub mod Simulation
 pub mod Word
 pub mod Words

@@ -1,6 +1,21 @@
-//! The radio medium: packets on their way from mote to mote.
+//! The radio medium: who hears whom, how much later, and what becomes of the copies of a packet.
 #![tactic(auto)]
 
 pub mod copy;
+pub mod error;
+pub mod fate;
+pub mod laws;
+mod link;
+mod losses;
+pub mod medium;
+pub mod place;
+mod reach;
 
 pub use copy::RadioCopy;
+pub use error::MediumError;
+pub use fate::Fate;
+pub use medium::Medium;
+pub use place::{Loss, Place};
+
+#[cfg(test)]
+mod tests;

@@ -1,9 +1,0 @@
-use Rattle.std.proofs.Common.{◌≡◌, drop, map}
-use Rattle.toml.specs.View.{items_view}
-use Rattle.motesim.specs.Scenario.Document.{first_some, tables_in}
-use Rattle.motesim.specs.Scenario.Rules.{keys_fault, rule_of}
-use Rattle.motesim.proofs.scenario.document.check_each.Given as goal
-
--- the first fault is that of the items to come
-abbrev pub invariant-loop-item : goal.invariant-loop-item
-invariant-loop-item l = first_some (keys_fault (map rule_of l.keys)) (tables_in (items_view l.items)) ≡ first_some (keys_fault (map rule_of l.keys)) (tables_in (items_view (drop l.item-index l.items)))

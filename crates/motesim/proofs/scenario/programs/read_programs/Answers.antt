@@ -1,8 +1,0 @@
-use Rattle.motesim.proofs.ScenarioPrograms.{read_one}
-use Rattle.motesim.proofs.scenario.programs.read_programs.Goals as goal
-
-pub loop-name-preserved : goal.loop-name-preserved
-loop-name-preserved c =
-    let so_far = rw c.in-Some.ensures.steps at c.loop-name.invariant in
-    let read = rw c.text_of.ensures at c.in_ok-read_program.ensures in
-    rw c.in_ok-push.ensures.items (read_one _ _ _ _ _ so_far read)

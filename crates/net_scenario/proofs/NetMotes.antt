@@ -1,0 +1,147 @@
+-- The motes of a net by their numbers.
+use Rattle.std.proofs.Common.{◌≡◌, ◌<◌, ◌≤◌, ◌&&◌, le-leb, lt-ltb, ℕ, zero, suc, List, [], ◌∷◌, map, length, get_or, refl, ap, arith, Some, None, slice_get, cond, sym, ◌∙◌, Bool, true, false, codes, IsTrue, IsSome, is_none, ◌+◌, find, rules}
+use Rattle.std.proofs.lemmas.List.{length-map}
+use Rattle.std.proofs.lemmas.Bool.{and_parts}
+use Rattle.std.specs.List.{list_all, position_from}
+use Rattle.std.specs.Str.{bytes_eq}
+use Rattle.std.proofs.lemmas.Slice.Eq.{bytes_eq-Decides}
+use borrow.Author.Tests.{ltb-true, leb-true}
+use Rattle.toml.specs.Data.{Members}
+use Rattle.net_scenario.specs.Document.{text_at}
+use Rattle.mote_program.specs.Program.{tree_of}
+use Rattle.net_scenario.specs.declared.net.Mote.{Mote}
+use Rattle.net_scenario.specs.declared.programs.NamedProgram.{NamedProgram}
+use Rattle.net_scenario.specs.Programs.{NamedTree, named_tree}
+use Rattle.net_scenario.specs.Motes.{is_mote_of}
+use Rattle.net_scenario.specs.Limits.{shortest_queue, longest_queue}
+use Rattle.net_scenario.specs.Net.{queue_of, mote_of, unread_fault, mote_told, program_at, program_named}
+
+pub slice_get-map : {X Y : Type 0} (f : X → Y) (xs : List X) (i : ℕ) (d : X) → i < length xs → slice_get (map f xs) i ≡ Some (f (get_or xs i d))
+slice_get-map f [] i d h = absurd (omega arith)
+slice_get-map f (x ∷ xs) zero d h = refl
+slice_get-map f (x ∷ xs) (suc i) d h = slice_get-map f xs i d (omega arith)
+
+-- the program at an index that is there
+pub program_at-index : (ps : List NamedProgram) (i : ℕ) (d : NamedProgram) → i < length ps → program_at ps i ≡ named_tree (get_or ps i d)
+program_at-index [] i d h = absurd (omega arith)
+program_at-index (p ∷ ps) zero d h = refl
+program_at-index (p ∷ ps) (suc i) d h = program_at-index ps i d (omega arith)
+
+all_at : {X : Type 0} (test : X → Bool) (xs : List X) (i : ℕ) (d : X) → list_all test xs ≡ true → i < length xs → test (get_or xs i d) ≡ true
+all_at test [] i d h lt = absurd (omega arith)
+all_at test (x ∷ xs) zero d h lt = (and_parts _ _ h).0
+all_at test (x ∷ xs) (suc i) d h lt = all_at test xs i d (and_parts _ _ h).1 (omega arith)
+
+-- the mote at an index
+pub mote_at : (ps : List NamedProgram) (ms : List Mote) (i : ℕ) (m : Mote) → i < length (map (mote_told ps) ms) → m ≡ get_or ms i m
+    → slice_get (map (mote_told ps) ms) i ≡ Some (mote_told ps m)
+mote_at ps ms i m there m-is =
+    let lt : i < length ms = rw (length-map ms (mote_told ps)) at there in
+    slice_get-map (mote_told ps) ms i m lt ∙ ap (λ (k : Mote). Some (mote_told ps k)) (sym m-is)
+
+-- what holds of each mote holds of the one at an index
+pub mote_fits : (ps : List NamedProgram) (ms : List Mote) (i : ℕ) (m : Mote) → IsTrue (list_all (is_mote_of (length ps)) ms)
+    → i < length (map (mote_told ps) ms) → m ≡ get_or ms i m → is_mote_of (length ps) m ≡ true
+mote_fits ps ms i m all there m-is =
+    let lt : i < length ms = rw (length-map ms (mote_told ps)) at there in
+    ap (λ (k : Mote). is_mote_of (length ps) k) m-is ∙ all_at (λ (n : Mote). is_mote_of (length ps) n) ms i m all lt
+
+pub program_within : (n : ℕ) (m : Mote) → is_mote_of n m ≡ true → m.program < n
+program_within n m h = ltb-true _ _ (and_parts _ _ h).0
+
+pub queue_at_least : (n : ℕ) (m : Mote) → is_mote_of n m ≡ true → shortest_queue ≤ m.queue
+queue_at_least n m h = leb-true _ _ (and_parts _ _ (and_parts _ _ h).1).0
+
+pub queue_at_most : (n : ℕ) (m : Mote) → is_mote_of n m ≡ true → m.queue ≤ longest_queue
+queue_at_most n m h = leb-true _ _ (and_parts _ _ (and_parts _ _ h).1).1
+
+-- the mote at an index and its program
+pub program_of_mote : (ps : List NamedProgram) (ms : List Mote) (i : ℕ) (m : Mote) (p : NamedProgram)
+    → IsTrue (list_all (is_mote_of (length ps)) ms) → i < length (map (mote_told ps) ms) → m ≡ get_or ms i m → p ≡ get_or ps m.program p
+    → slice_get (map (mote_told ps) ms) i ≡ Some (record { program = p.name; tree = tree_of p.program; queue = m.queue })
+program_of_mote ps ms i m p all there m-is p-is =
+    let place : m.program < length ps = program_within _ m (mote_fits ps ms i m all there m-is) in
+    mote_at ps ms i m there m-is
+    ∙ ap (λ (q : NamedTree). Some (record { program = q.name; tree = q.tree; queue = m.queue })) (program_at-index ps m.program p place ∙ ap named_tree (sym p-is))
+
+none_cond : {Y : Type 0} (b : Bool) (e : Y) → cond b (Some e) None ≡ None → b ≡ false
+none_cond true e h = cc
+none_cond false e h = refl
+
+-- where a program is found, counted from k
+pub record Found (ps : List NamedProgram) (name : List ℕ) (k i : ℕ) : Type 0 where
+  pub place : ℕ
+  pub is : i ≡ k + place
+  pub within : place < length ps
+  pub program : program_at ps place ≡ program_named (map named_tree ps) name
+  pub named : (program_at ps place).name ≡ name
+
+same_bytes : (xs ys : List ℕ) → bytes_eq xs ys ≡ true → xs ≡ ys
+same_bytes xs ys h = (bytes_eq-Decides xs ys).0 h
+
+found_first : (p : NamedProgram) (ps : List NamedProgram) (name : List ℕ) (k i : ℕ) (b : Bool) → bytes_eq p.name name ≡ b
+    → cond b (Some k) (position_from (λ q. bytes_eq q.name name) (k + 1) ps) ≡ Some i
+    → (position_from (λ q. bytes_eq q.name name) (k + 1) ps ≡ Some i → Found ps name (k + 1) i) → Found (p ∷ ps) name k i
+found_first p ps name k i true e h more =
+    let same : k ≡ i = cc in
+    record {
+      place = 0;
+      is = omega (arith, same);
+      within = omega arith;
+      program = rw e;
+      named = same_bytes _ _ e;
+    }
+found_first p ps name k i false e h more =
+    let f = more h in
+    record {
+      place = suc f.place;
+      is = omega (arith, f.is);
+      within = omega (arith, f.within);
+      program = rw e f.program;
+      named = f.named;
+    }
+
+pub found : (ps : List NamedProgram) (name : List ℕ) (k i : ℕ) → position_from (λ q. bytes_eq q.name name) k ps ≡ Some i → Found ps name k i
+found [] name k i h = cc
+found (p ∷ ps) name k i h = found_first p ps name k i (bytes_eq p.name name) refl h (found ps name (k + 1) i)
+
+some_first : (p : NamedProgram) (ps : List NamedProgram) (name : List ℕ) (k : ℕ) (b : Bool)
+    → is_none (cond b (Some (named_tree p)) (find (λ t. bytes_eq t.name name) (map named_tree ps))) ≡ false
+    → (is_none (find (λ t. bytes_eq t.name name) (map named_tree ps)) ≡ false → IsSome (position_from (λ q. bytes_eq q.name name) (k + 1) ps))
+    → IsSome (cond b (Some k) (position_from (λ q. bytes_eq q.name name) (k + 1) ps))
+some_first p ps name k true h more = search rules
+some_first p ps name k false h more = more h
+
+pub some_place : (ps : List NamedProgram) (name : List ℕ) (k : ℕ) → is_none (find (λ t. bytes_eq t.name name) (map named_tree ps)) ≡ false
+    → IsSome (position_from (λ q. bytes_eq q.name name) k ps)
+some_place [] name k h = cc
+some_place (p ∷ ps) name k h = some_first p ps name k (bytes_eq p.name name) h (some_place ps name (k + 1))
+
+-- the mote of a table, by the index of its program and the length of its queue
+pub mote_is : (ps : List NamedProgram) (queue ms : Members) (name : List ℕ) (i q : ℕ) → name ≡ text_at (codes "program") ms
+    → position_from (λ q. bytes_eq q.name name) 0 ps ≡ Some i → q ≡ queue_of queue name
+    → mote_told ps (record { program = i; queue = q }) ≡ mote_of queue (map named_tree ps) ms
+mote_is ps queue ms name i q name-is h queue-is =
+    let f = found ps name 0 i h in
+    let place : i ≡ f.place = omega (arith, f.is) in
+    let name-at : (program_at ps i).name ≡ text_at (codes "program") ms = ap (λ (k : ℕ). (program_at ps k).name) place ∙ f.named ∙ name-is in
+    let tree-at : (program_at ps i).tree ≡ (program_named (map named_tree ps) (text_at (codes "program") ms)).tree =
+    ap (λ (k : ℕ). (program_at ps k).tree) place ∙ ap (λ (t : NamedTree). t.tree) f.program ∙ ap (λ (n : List ℕ). (program_named (map named_tree ps) n).tree) name-is in
+    let queue-at : q ≡ queue_of queue (text_at (codes "program") ms) = queue-is ∙ ap (λ (n : List ℕ). queue_of queue n) name-is in
+    rw (name-at, tree-at, queue-at) refl
+
+pub place_within : (ps : List NamedProgram) (name : List ℕ) (i : ℕ) → position_from (λ q. bytes_eq q.name name) 0 ps ≡ Some i → i < length ps
+place_within ps name i h = let f = found ps name 0 i h in omega (arith, f.is, f.within)
+
+-- a program that isn't a fault is found
+pub read_is_found : (ps : List NamedProgram) (ms : Members) (name : List ℕ) → unread_fault (map named_tree ps) ms ≡ None → name ≡ text_at (codes "program") ms
+    → IsSome (position_from (λ q. bytes_eq q.name name) 0 ps)
+read_is_found ps ms name h name-is =
+    some_place ps name 0 (rw name-is (none_cond _ _ h))
+
+both_true : (a b : Bool) → a ≡ true → b ≡ true → (a && b) ≡ true
+both_true a b x y = rw (x, y) refl
+
+-- a program that is there and a length within the limits
+pub is_mote : (n i q : ℕ) → i < n → shortest_queue ≤ q → q ≤ longest_queue → IsTrue (is_mote_of n (record { program = i; queue = q }))
+is_mote n i q a b c = both_true _ _ (lt-ltb i n a) (both_true _ _ (le-leb shortest_queue q b) (le-leb q longest_queue c))

@@ -1,0 +1,108 @@
+-- What a text tells, from what its document makes.
+use Rattle.std.proofs.Common.{◌≡◌, ◌≤◌, ℕ, List, length, map, codes, ℤ, pos, Bool, unwrap_or, nat_lt, false, lit<, refl, sym, ap, ◌∙◌, arith, Result, Ok, Err, Option, Some, None}
+use Rattle.std.proofs.lemmas.Bool.Decides.{nat_tests}
+use Rattle.std.proofs.lemmas.List.{length-map}
+use Rattle.toml.specs.Data.{Members}
+use Rattle.toml.specs.Parse.{parse_document}
+use Rattle.radio_medium.specs.Medium.{Radio, medium_fault, MakesMedium}
+use Rattle.net_scenario.specs.declared.net.Mote.{Mote}
+use Rattle.net_scenario.specs.Limits.{longest_text, fewest_motes, most_motes}
+use Rattle.net_scenario.specs.Rules.{top_rules}
+use Rattle.net_scenario.proofs.Each.{Faultless}
+use Rattle.net_scenario.proofs.Keeps.{keeps_all}
+use Rattle.net_scenario.proofs.Members.{tables_kept, tables_asked}
+use Rattle.radio_medium.specs.declared.error.MediumError.{MediumError}
+use Rattle.radio_medium.specs.declared.error.MediumError.TheVariants as medium
+use Rattle.net_scenario.specs.declared.error.ScenarioError.{ScenarioError}
+use Rattle.net_scenario.specs.declared.error.ScenarioError.TheVariants.{Toml, MissingKey, UnknownKey, WrongKind, OutOfRange, UnknownProgram, Program, Medium, Memory}
+use Rattle.net_scenario.specs.declared.net.Net.{Net}
+use Rattle.net_scenario.specs.declared.programs.NamedProgram.{NamedProgram}
+use Rattle.net_scenario.specs.Errors.{of_medium}
+use Rattle.net_scenario.specs.Document.{version_of, natural, integer_at, natural_at, flag_at, table_at, tables_at, document_fault}
+use Rattle.net_scenario.specs.Programs.{named_tree, texts_of, AllRead, ReadsPrograms}
+use Rattle.net_scenario.specs.Net.{MoteTold, mote_of, mote_told, place_of, radio_told}
+use Rattle.net_scenario.specs.Reading.{document_of, HasTrees, IsNetOf, MakesRadio, MakesNet, Answers}
+
+-- a document makes what its text tells
+pub answered : (text : List ℕ) (top : Members) (r : Result Net ScenarioError) → document_of text ≡ Ok top → MakesNet top r → Answers text r
+answered text top (Ok net) is m = (record { top = top; is = is }, m)
+answered text top (Err (Program name e)) is m = (record { top = top; is = is }, m)
+answered text top (Err (Medium e)) is m = (record { top = top; is = is }, m)
+answered text top (Err Memory) is m = tt
+answered text top (Err Toml) is m = absurd m
+answered text top (Err MissingKey) is m = absurd m
+answered text top (Err UnknownKey) is m = absurd m
+answered text top (Err WrongKind) is m = absurd m
+answered text top (Err OutOfRange) is m = absurd m
+answered text top (Err UnknownProgram) is m = absurd m
+
+-- a program that isn't read
+pub refused : (top : Members) (e : ScenarioError) → ReadsPrograms (texts_of (table_at (codes "programs") top)) (Err e) → MakesNet top (Err e)
+refused top (Program name e) m = m
+refused top Memory m = tt
+refused top (Medium e) m = absurd m
+refused top Toml m = absurd m
+refused top MissingKey m = absurd m
+refused top UnknownKey m = absurd m
+refused top WrongKind m = absurd m
+refused top OutOfRange m = absurd m
+refused top UnknownProgram m = absurd m
+
+-- a medium that isn't made
+pub no_medium : (top : Members) (e : ScenarioError) (programs : HasTrees top) → MakesRadio (radio_told top) (Err e) → MakesNet top (Err e)
+no_medium top (Program name e) programs m = absurd m
+no_medium top Memory programs m = tt
+no_medium top (Medium e) programs m = record { programs = programs; medium = m }
+no_medium top Toml programs m = absurd m
+no_medium top MissingKey programs m = absurd m
+no_medium top UnknownKey programs m = absurd m
+no_medium top WrongKind programs m = absurd m
+no_medium top OutOfRange programs m = absurd m
+no_medium top UnknownProgram programs m = absurd m
+
+-- the fault of a medium as one of the scenario
+pub as_told : (radio : Radio) (e : MediumError) → MakesMedium radio (Err e) → MakesRadio radio (Err (of_medium e))
+as_told radio medium.Memory m = tt
+as_told radio medium.ZeroBase m = m
+as_told radio medium.ZeroPer m = m
+as_told radio medium.BadLoss m = m
+
+-- a text short enough, that is TOML with a table without fault, has that document
+pub document_is : (text : List ℕ) (top : Members) → length text ≤ longest_text → parse_document text ≡ Some top → document_fault top ≡ None → document_of text ≡ Ok top
+document_is text top short parsed faultless =
+    let fits : nat_lt longest_text (length text) ≡ false = grind (arith, nat_tests) in
+    rw (fits, parsed, faultless) refl
+
+-- the net of a document, part by part
+pub made : (top : Members) (e : ℕ) (flag : Bool) (radio : Radio) (ps : List NamedProgram) (ms : List Mote)
+    → AllRead (texts_of (table_at (codes "programs") top)) (map named_tree ps)
+    → integer_at (codes "end") top ≡ Some (pos e)
+    → flag ≡ flag_at (codes "collide") (table_at (codes "medium") top)
+    → MakesRadio (radio_told top) (Ok radio)
+    → map (mote_told ps) ms ≡ map (mote_of (table_at (codes "queue") top) (map named_tree ps)) (tables_at (codes "mote") top)
+    → IsNetOf top (record { end = e; collide = flag; radio = radio; motes = map (mote_told ps) ms })
+made top e flag radio ps ms read end-is flag-is radio-is motes-are =
+    let same-end : e ≡ natural_at (codes "end") top = sym (ap (λ (o : Option ℤ). natural (unwrap_or o (pos 0))) end-is) in
+    let same-radio : radio ≡ radio_told top = radio-is.0 in
+    record {
+      programs = record { trees = map named_tree ps; read = read };
+      medium = radio-is.1;
+      told = rw (same-end, flag-is, same-radio, motes-are) refl;
+    }
+
+-- as many motes as there are tables of them
+pub mote_count : (top : Members) (ps : List NamedProgram) (ms : List Mote) (queue : Members)
+    → map (mote_told ps) ms ≡ map (mote_of queue (map named_tree ps)) (tables_at (codes "mote") top) → length ms ≡ length (tables_at (codes "mote") top)
+mote_count top ps ms queue motes-are =
+    sym (length-map ms (mote_told ps)) ∙ ap (λ (l : List MoteTold). length l) motes-are ∙ length-map (tables_at (codes "mote") top) (mote_of queue (map named_tree ps))
+
+-- there are as few and as many motes as the rules allow
+pub few_motes : (top : Members) → Faultless top → length (tables_at (codes "mote") top) ≤ most_motes
+few_motes top f = tables_kept fewest_motes most_motes (codes "mote") top (keeps_all (version_of top) top_rules top f.top 4 (lit< tt) refl)
+
+pub some_motes : (top : Members) → Faultless top → fewest_motes ≤ length (tables_at (codes "mote") top)
+some_motes top f = tables_asked fewest_motes most_motes (codes "mote") top (keeps_all (version_of top) top_rules top f.top 4 (lit< tt) refl)
+
+-- as many places as motes
+pub place_count : (top : Members) (radio : Radio) → MakesRadio (radio_told top) (Ok radio) → length radio.places ≡ length (tables_at (codes "mote") top)
+place_count top radio made = ap (λ (r : Radio). length r.places) made.0 ∙ length-map (tables_at (codes "mote") top) place_of

@@ -1,0 +1,9 @@
+use Rattle.std.proofs.Common.{map}
+use Rattle.toml.specs.View.{members_view}
+use Rattle.net_scenario.specs.Programs.{texts_of, named_tree}
+use Rattle.net_scenario.proofs.ReadSoFar.{ReadSoFar}
+use Rattle.net_scenario.proofs.programs.read_programs.Given as goal
+
+-- the programs so far are read, and the rest of the table is to come
+abbrev pub invariant-loop-name : goal.invariant-loop-name
+invariant-loop-name l = ReadSoFar (texts_of (members_view l.table.entries)) (map named_tree l.programs.items) (texts_of (members_view l.name-iterator))

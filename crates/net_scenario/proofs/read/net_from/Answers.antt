@@ -1,0 +1,54 @@
+use Rattle.std.proofs.Common.{lit<, lit≤, refl, sym, ◌∙◌}
+use Rattle.toml.specs.View.{table_view}
+use Rattle.net_scenario.specs.Rules.{top_rules}
+use Rattle.net_scenario.proofs.Each.{faultless}
+use Rattle.net_scenario.proofs.Keeps.{keeps_all, table_kept, natural_kept}
+use Rattle.net_scenario.proofs.Members.{all_read}
+use Rattle.net_scenario.proofs.Reading.{made, mote_count, few_motes, some_motes, place_count}
+use Rattle.net_scenario.proofs.WithinLimits.{early_end}
+use Rattle.net_scenario.proofs.read.net_from.Goals as goal
+
+pub table_at-requires : goal.table_at-requires
+table_at-requires c = table_kept _ _ (keeps_all _ top_rules _ (faultless _ c.requires).top 3 (lit< tt) refl)
+
+pub motes_of-requires-clause-queue : goal.motes_of-requires-clause-queue
+motes_of-requires-clause-queue c = rw c.table_if_any-queue.ensures (faultless _ c.requires).lengths
+
+pub motes_of-requires-clause-read : goal.motes_of-requires-clause-read
+motes_of-requires-clause-read c =
+    rw (c.deref.ensures.value, c.items_at.ensures) (all_read _ _ _ (rw c.table_at.ensures at c.in_ok-programs.ensures) (faultless _ c.requires).programs)
+
+pub natural_at-end-requires : goal.natural_at-end-requires
+natural_at-end-requires c = natural_kept 1000000 _ _ (lit≤ tt) (keeps_all _ top_rules _ (faultless _ c.requires).top 1 (lit< tt) refl)
+
+pub table_at-requires-2 : goal.table_at-requires-2
+table_at-requires-2 c = table_kept _ _ (keeps_all _ top_rules _ (faultless _ c.requires).top 2 (lit< tt) refl)
+
+pub new-requires-clause-early : goal.new-requires-clause-early
+new-requires-clause-early c = early_end (table_view c.args.top.now) (faultless _ c.requires) _ c.natural_at-end.ensures
+
+pub new-requires-clause-some : goal.new-requires-clause-some
+new-requires-clause-some c =
+    let motes = rw (c.deref.ensures.value, c.table_if_any-queue.ensures, c.items_at.ensures) at c.in_ok-motes.ensures.value in
+    rw (mote_count (table_view c.args.top.now) c.in_ok-programs.programs.items _ _ motes) (some_motes _ (faultless _ c.requires))
+
+pub new-requires-clause-few : goal.new-requires-clause-few
+new-requires-clause-few c =
+    let motes = rw (c.deref.ensures.value, c.table_if_any-queue.ensures, c.items_at.ensures) at c.in_ok-motes.ensures.value in
+    rw (mote_count (table_view c.args.top.now) c.in_ok-programs.programs.items _ _ motes) (few_motes _ (faultless _ c.requires))
+
+pub new-requires-clause-placed : goal.new-requires-clause-placed
+new-requires-clause-placed c =
+    let motes = rw (c.deref.ensures.value, c.table_if_any-queue.ensures, c.items_at.ensures) at c.in_ok-motes.ensures.value in
+    place_count (table_view c.args.top.now) _ c.in_ok-medium.ensures ∙ sym (mote_count (table_view c.args.top.now) c.in_ok-programs.programs.items _ _ motes)
+
+pub returns : goal.returns
+returns c =
+    let motes = rw (c.deref.ensures.value, c.table_if_any-queue.ensures, c.items_at.ensures) at c.in_ok-motes.ensures.value in
+    rw c.new.ensures
+    (made (table_view c.args.top.now) _ _ _ c.in_ok-programs.programs.items _
+    (rw c.table_at.ensures at c.in_ok-programs.ensures)
+    c.natural_at-end.ensures
+    (rw c.table_at-2.ensures at c.flag_at-collide.ensures)
+    c.in_ok-medium.ensures
+    motes)

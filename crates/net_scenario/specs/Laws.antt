@@ -1,0 +1,23 @@
+-- What a text may tell: at most one net, at most one fault, and never both.
+use Rattle.std.specs.Prelude.{◌≡◌, ℕ, List}
+use Rattle.mote_program.specs.Code.{Tree}
+use Rattle.mote_program.specs.Reading.{IsTreeOf, IsToldOf}
+use Rattle.mote_program.specs.declared.error.ReadErrorKind.{ReadErrorKind}
+use Rattle.net_scenario.specs.declared.error.ScenarioError.{ScenarioError}
+use Rattle.net_scenario.specs.Net.{NetTold}
+use Rattle.net_scenario.specs.Reading.{TellsNet, TellsFault}
+
+-- the same of the texts of programs
+pub record ProgramLaws : Type 0 where
+  pub one_tree : (text : List ℕ) (t u : Tree) → IsTreeOf text t → IsTreeOf text u → t ≡ u
+  pub one_fault : (text : List ℕ) (k l : ReadErrorKind) (m n : ℕ) → IsToldOf text k m → IsToldOf text l n → (k ≡ l) × (m ≡ n)
+  pub never_both : (text : List ℕ) (t : Tree) (k : ReadErrorKind) (m : ℕ) → IsTreeOf text t → IsToldOf text k m → ⊥
+
+abbrev pub OneNet : Type 0
+OneNet = (text : List ℕ) (m n : NetTold) → TellsNet text m → TellsNet text n → m ≡ n
+
+abbrev pub NeverBoth : Type 0
+NeverBoth = (text : List ℕ) (n : NetTold) (e : ScenarioError) → TellsNet text n → TellsFault text e → ⊥
+
+abbrev pub OneFault : Type 0
+OneFault = (text : List ℕ) (e f : ScenarioError) → TellsFault text e → TellsFault text f → e ≡ f

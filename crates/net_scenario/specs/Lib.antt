@@ -1,0 +1,11 @@
+-- Scenarios: what a text tells.
+pub mod Document
+pub mod Errors
+pub mod Laws
+pub mod Limits
+pub mod Motes
+pub mod Names
+pub mod Net
+pub mod Programs
+pub mod Reading
+pub mod Rules

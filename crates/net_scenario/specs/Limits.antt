@@ -1,0 +1,52 @@
+-- The limits of a scenario.
+use Rattle.std.specs.Prelude.{ℕ}
+
+-- bytes of a text
+abbrev pub longest_text : ℕ
+longest_text = 1048576
+
+abbrev pub fewest_motes : ℕ
+fewest_motes = 1
+
+abbrev pub most_motes : ℕ
+most_motes = 1000
+
+abbrev pub most_programs : ℕ
+most_programs = 100
+
+abbrev pub most_losses : ℕ
+most_losses = 10000
+
+-- bytes of a program's name
+abbrev pub longest_name : ℕ
+longest_name = 32
+
+-- the last moment at which turns are taken
+abbrev pub latest_end : ℕ
+latest_end = 1000000
+
+-- of a coordinate, to either side of 0
+abbrev pub farthest : ℕ
+farthest = 30000
+
+abbrev pub widest_range : ℕ
+widest_range = 100000
+
+-- of `base` and `per`
+abbrev pub largest_base_or_per : ℕ
+largest_base_or_per = 1000000
+
+-- of each number of a loss
+abbrev pub largest_in_loss : ℕ
+largest_in_loss = 1000000
+
+-- events in the queue of a mote
+abbrev pub shortest_queue : ℕ
+shortest_queue = 1
+
+abbrev pub longest_queue : ℕ
+longest_queue = 128
+
+-- where the scenario doesn't say
+abbrev pub usual_queue : ℕ
+usual_queue = 32

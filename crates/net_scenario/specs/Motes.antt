@@ -1,0 +1,8 @@
+-- What holds of the motes of every net.
+use Rattle.std.specs.Prelude.{ℕ, Bool, ◌&&◌, nat_lt, nat_le}
+use Rattle.net_scenario.specs.declared.net.Mote.{Mote}
+use Rattle.net_scenario.specs.Limits.{shortest_queue, longest_queue}
+
+-- a mote's program is one of so many, and the length of its queue is within the limits
+abbrev pub is_mote_of : (programs : ℕ) → Mote → Bool
+is_mote_of programs m = nat_lt m.program programs && (nat_le shortest_queue m.queue && nat_le m.queue longest_queue)

@@ -1,0 +1,97 @@
+-- A net: what its motes and its medium are.
+use Rattle.std.specs.Prelude.{ℕ, Bool, List, [], map, codes, slice_get, Option, Some, None, option_map, unwrap_or, find, is_none, if◌then◌else◌}
+use Rattle.std.specs.Option.{option_map_or}
+use Rattle.std.specs.Str.{bytes_eq}
+use Rattle.toml.specs.Data.{Members}
+use Rattle.mote_program.specs.Code.{Tree}
+use Rattle.radio_medium.specs.Medium.{Radio}
+use Rattle.radio_medium.specs.declared.place.Place.{Place}
+use Rattle.radio_medium.specs.declared.place.Loss.{Loss}
+use Rattle.net_scenario.specs.declared.error.TableFault.{TableFault}
+use Rattle.net_scenario.specs.declared.error.TableFault.TheVariants.{UnknownProgram}
+use Rattle.net_scenario.specs.declared.net.Mote.{Mote}
+use Rattle.net_scenario.specs.declared.net.Net.{Net}
+use Rattle.net_scenario.specs.declared.programs.NamedProgram.{NamedProgram}
+use Rattle.net_scenario.specs.Limits.{usual_queue}
+use Rattle.net_scenario.specs.Document.{natural, number_at, natural_at, integer_at, flag_at, text_at, table_at, tables_at}
+use Rattle.net_scenario.specs.Programs.{NamedTree, named_tree}
+
+-- a mote: its program's name and tree, and how many events its queue holds
+pub record MoteTold : Type 0 where
+  pub program : List ℕ
+  pub tree : Tree
+  pub queue : ℕ
+
+-- a net: its last moment, whether packets collide, its medium with the places of the motes, and its motes in order
+pub record NetTold : Type 0 where
+  pub end : ℕ
+  pub collide : Bool
+  pub radio : Radio
+  pub motes : List MoteTold
+
+-- stands for a program that isn't there, which no net has
+abbrev pub no_program : NamedTree
+no_program = record {
+  name = [];
+  tree = record { events = []; semaphores = []; counts = []; processes = []; autostart = []; receiver = None; codes = []; timers = [] };
+}
+
+-- the program of a name
+abbrev pub program_named : List NamedTree → List ℕ → NamedTree
+program_named trees name = unwrap_or (find (λ t. bytes_eq t.name name) trees) no_program
+
+-- the length of the queue in motes of a program
+abbrev pub queue_of : (queue : Members) → (program : List ℕ) → ℕ
+queue_of queue program = option_map_or natural (integer_at program queue) usual_queue
+
+abbrev pub mote_of : (queue : Members) → List NamedTree → Members → MoteTold
+mote_of queue trees ms = record {
+  program = text_at (codes "program") ms;
+  tree = (program_named trees (text_at (codes "program") ms)).tree;
+  queue = queue_of queue (text_at (codes "program") ms);
+}
+
+abbrev pub place_of : Members → Place
+place_of ms = record { x = number_at (codes "x") ms; y = number_at (codes "y") ms }
+
+abbrev pub loss_of : Members → Loss
+loss_of ms = record { sender = natural_at (codes "from") ms; to = natural_at (codes "to") ms; every = natural_at (codes "every") ms }
+
+-- the medium of a document: its numbers, the places of its motes, and its losses
+abbrev pub radio_told : Members → Radio
+radio_told top = record {
+  places = map place_of (tables_at (codes "mote") top);
+  range = natural_at (codes "range") (table_at (codes "medium") top);
+  base = natural_at (codes "base") (table_at (codes "medium") top);
+  per = natural_at (codes "per") (table_at (codes "medium") top);
+  losses = map loss_of (tables_at (codes "loss") top);
+}
+
+-- the net of a document and the trees of its programs
+abbrev pub net_told : Members → List NamedTree → NetTold
+net_told top trees = record {
+  end = natural_at (codes "end") top;
+  collide = flag_at (codes "collide") (table_at (codes "medium") top);
+  radio = radio_told top;
+  motes = map (mote_of (table_at (codes "queue") top) trees) (tables_at (codes "mote") top);
+}
+
+-- the program at an index
+abbrev pub program_at : List NamedProgram → ℕ → NamedTree
+program_at programs i = unwrap_or (option_map named_tree (slice_get programs i)) no_program
+
+abbrev pub mote_told : List NamedProgram → Mote → MoteTold
+mote_told programs m = record { program = (program_at programs m.program).name; tree = (program_at programs m.program).tree; queue = m.queue }
+
+-- what a `Net` means
+abbrev pub net_of : Net → NetTold
+net_of n = record {
+  end = n.end;
+  collide = n.collide;
+  radio = n.medium;
+  motes = map (mote_told n.programs.items) n.motes.items;
+}
+
+-- a mote's program has to be among those read
+abbrev pub unread_fault : List NamedTree → Members → Option TableFault
+unread_fault trees mote = if is_none (find (λ t. bytes_eq t.name (text_at (codes "program") mote)) trees) then Some UnknownProgram else None

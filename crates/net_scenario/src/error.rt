@@ -1,0 +1,109 @@
+//! Why a scenario was refused.
+ghost use Rattle.std.specs.Prelude.{◌≡◌};
+
+use crate::program_name::ProgramName;
+use mote_program::ReadError;
+use radio_medium::MediumError;
+use std::alloc::{AllocError, AllocFailed};
+
+/// A fault of a document's tables. It is told as the scenario's fault of the same name.
+#[derive(Clone, Copy, Debug, PartialEq, Eq)]
+pub enum TableFault {
+    MissingKey,
+    UnknownKey,
+    WrongKind,
+    OutOfRange,
+    UnknownProgram,
+}
+
+/// Why a text tells no net: its first fault, or want of memory in any part of the reading.
+#[derive(Debug, PartialEq, Eq, Drop)]
+pub enum ScenarioError {
+    /// The text is no TOML.
+    Toml,
+    /// A table lacks a key that it needs.
+    MissingKey,
+    /// A table has a key that it doesn't know, or a program has a name of another form.
+    UnknownKey,
+    /// A value is of another kind than its key takes.
+    WrongKind,
+    /// A number or a count is outside its limits, or the text is too long.
+    OutOfRange,
+    /// The program of a mote, or of a queue's length, isn't among the programs.
+    UnknownProgram,
+    /// The program with this name can't be read.
+    Program(ProgramName, ReadError),
+    /// The numbers and losses of the medium make none.
+    Medium(MediumError),
+    Memory,
+}
+
+impl ScenarioError {
+    ghost use Rattle.net_scenario.specs.Errors.{scenario_fault_number};
+
+    /// The number that is printed.
+    pub fn number(&self) -> u8
+        ensures { result ≡ scenario_fault_number self.now }
+    {
+        match self {
+            ScenarioError::Toml => 1,
+            ScenarioError::MissingKey => 2,
+            ScenarioError::UnknownKey => 3,
+            ScenarioError::WrongKind => 4,
+            ScenarioError::OutOfRange => 5,
+            ScenarioError::UnknownProgram => 6,
+            ScenarioError::Program(_, _) => 7,
+            ScenarioError::Medium(_) => 8,
+            ScenarioError::Memory => 9,
+        }
+    }
+}
+
+impl From<TableFault> for ScenarioError {
+    ghost use Rattle.net_scenario.specs.Errors.{of_table};
+
+    ghost from_gives = { λ f e. e ≡ of_table f };
+
+    fn from(fault: TableFault) -> ScenarioError {
+        match fault {
+            TableFault::MissingKey => ScenarioError::MissingKey,
+            TableFault::UnknownKey => ScenarioError::UnknownKey,
+            TableFault::WrongKind => ScenarioError::WrongKind,
+            TableFault::OutOfRange => ScenarioError::OutOfRange,
+            TableFault::UnknownProgram => ScenarioError::UnknownProgram,
+        }
+    }
+}
+
+impl From<MediumError> for ScenarioError {
+    ghost use Rattle.net_scenario.specs.Errors.{of_medium};
+
+    ghost from_gives = { λ m e. e ≡ of_medium m };
+
+    fn from(error: MediumError) -> ScenarioError {
+        match error {
+            MediumError::Memory => ScenarioError::Memory,
+            _ => ScenarioError::Medium(error),
+        }
+    }
+}
+
+impl From<AllocError> for ScenarioError {
+    ghost use Rattle.net_scenario.specs.declared.error.ScenarioError.TheVariants.{Memory};
+
+    ghost from_gives = { λ _ e. e ≡ Memory };
+
+    fn from(_error: AllocError) -> ScenarioError {
+        ScenarioError::Memory
+    }
+}
+
+impl<T: Drop> From<AllocFailed<T>> for ScenarioError {
+    ghost use Rattle.net_scenario.specs.declared.error.ScenarioError.TheVariants.{Memory};
+
+    ghost from_gives = { λ _ e. e ≡ Memory };
+
+    fn from(_error: AllocFailed<T>) -> ScenarioError {
+        ScenarioError::Memory
+    }
+}

@@ -1,0 +1,33 @@
+//! Laws of what a text tells, each as the contract of a function that only cites the laws of programs' texts.
+ghost use Rattle.net_scenario.specs.Laws.{OneNet, OneFault, NeverBoth};
+
+use mote_program::laws::{
+    at_most_one_fault as at_most_one_program_fault, at_most_one_tree, tree_or_fault,
+};
+
+/// A text tells at most one net.
+pub fn at_most_one_net()
+    ensures { OneNet }
+{
+    at_most_one_tree();
+    at_most_one_program_fault();
+    tree_or_fault();
+}
+
+/// A text has at most one first fault.
+pub fn at_most_one_fault()
+    ensures { OneFault }
+{
+    at_most_one_tree();
+    at_most_one_program_fault();
+    tree_or_fault();
+}
+
+/// No text tells a net and has a fault.
+pub fn never_a_net_and_a_fault()
+    ensures { NeverBoth }
+{
+    at_most_one_tree();
+    at_most_one_program_fault();
+    tree_or_fault();
+}

@@ -1,0 +1,39 @@
+//! The limits of a scenario.
+
+/// The longest text, in bytes.
+pub const LONGEST_TEXT: usize = 1_048_576;
+
+/// The most motes; there is at least one.
+pub const MOST_MOTES: usize = 1_000;
+
+/// The most programs.
+pub const MOST_PROGRAMS: usize = 100;
+
+/// The most losses.
+pub const MOST_LOSSES: usize = 10_000;
+
+/// The longest name of a program, in bytes.
+pub const LONGEST_NAME: usize = 32;
+
+/// The latest `end`, in moments.
+pub const LATEST_END: i64 = 1_000_000;
+
+/// The farthest coordinate of a place from 0.
+pub const FARTHEST: i64 = 30_000;
+
+/// The widest `range` of the medium.
+pub const WIDEST_RANGE: i64 = 100_000;
+
+/// The largest `base` and `per` of the medium.
+pub const LARGEST_BASE_OR_PER: i64 = 1_000_000;
+
+/// The largest number in a loss.
+pub const LARGEST_IN_LOSS: i64 = 1_000_000;
+
+/// The fewest and the most events that the queue of a mote may hold.
+pub const SHORTEST_QUEUE: i64 = 1;
+
+pub const LONGEST_QUEUE: i64 = 128;
+
+/// How many events the queue of a mote holds where the scenario doesn't say.
+pub const USUAL_QUEUE: u16 = 32;

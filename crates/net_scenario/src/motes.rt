@@ -1,0 +1,62 @@
+//! The motes of a document without fault.
+ghost use Rattle.std.specs.Prelude.{◌≡◌, length, map, None, IfOk, IsTrue};
+ghost use Rattle.std.specs.List.{list_all, position_from};
+ghost use Rattle.std.specs.Str.{bytes_eq};
+ghost use Rattle.toml.specs.View.{items_view, table_view};
+ghost use Rattle.net_scenario.specs.Document.{first_some, members_of, tables_in};
+ghost use Rattle.net_scenario.specs.Names.{lengths_fault};
+ghost use Rattle.net_scenario.specs.Programs.{named_tree};
+ghost use Rattle.net_scenario.specs.Motes.{is_mote_of};
+ghost use Rattle.net_scenario.specs.Net.{mote_of, mote_told, unread_fault};
+
+use crate::net::Mote;
+use crate::programs::NamedProgram;
+use crate::queues::queue_of;
+use crate::values::text_at;
+use std::alloc::{AllocError, Global};
+use toml::{Table, Value};
+
+/// The index of the program with a name.
+fn index_of(programs: &[NamedProgram], name: &str) -> Option<usize>
+    ensures { result ≡ position_from (λ p. bytes_eq p.name name.now) 0 programs.now }
+{
+    programs
+        .iter()
+        .position(|program| program.name.as_str() == name)
+}
+
+/// The mote of a table, whose program is among those read.
+fn mote_of(programs: &[NamedProgram], queue: Option<&Table>, table: &Table) -> Mote
+    requires queue { lengths_fault (members_of queue) ≡ None }
+    requires read { unread_fault (map named_tree programs.now) (table_view table.now) ≡ None }
+    ensures value { mote_told programs.now result ≡ mote_of (members_of queue.entry) (map named_tree programs.now) (table_view table.now) }
+    ensures fits { IsTrue (is_mote_of (length programs.now) result) }
+{
+    let name = text_at(table, "program");
+    Mote {
+        program: index_of(programs, name).unwrap(),
+        queue: queue_of(queue, name),
+    }
+}
+
+/// The motes of the tables among the items, in order.
+#[tactic(auto, using(crate::proofs::Each::after_item, crate::proofs::Each::tables_after_item))]
+pub fn motes_of(
+    alloc: Global,
+    programs: &[NamedProgram],
+    queue: Option<&Table>,
+    items: &[Value],
+) -> Result<Vec<Mote>, AllocError>
+    requires queue { lengths_fault (members_of queue) ≡ None }
+    requires read { first_some (unread_fault (map named_tree programs.now)) (tables_in (items_view items.now)) ≡ None }
+    ensures value { IfOk result (λ v. map (mote_told programs.now) v.items ≡ map (mote_of (members_of queue.entry) (map named_tree programs.now)) (tables_in (items_view items.now))) }
+    ensures fits { IfOk result (λ v. IsTrue (list_all (is_mote_of (length programs.now)) v.items)) }
+{
+    let mut motes = Vec::new(alloc);
+    for item in items {
+        if let Some(table) = item.as_table() {
+            motes.push(mote_of(programs, queue, table))?;
+        }
+    }
+    Ok(motes)
+}

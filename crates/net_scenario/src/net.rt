@@ -1,0 +1,121 @@
+//! Nets: motes, each with a program and a queue, and the medium between them.
+ghost use Rattle.std.specs.Prelude.{◌≡◌, ◌<◌, ◌≤◌, length, map, IsTrue, Some, option_map, slice_get};
+ghost use Rattle.std.specs.List.{list_all};
+ghost use Rattle.net_scenario.specs.Limits.{latest_end, fewest_motes, most_motes, shortest_queue, longest_queue};
+ghost use Rattle.net_scenario.specs.Motes.{is_mote_of};
+
+use crate::programs::NamedProgram;
+use mote_program::Program;
+use radio_medium::Medium;
+
+/// A mote: the place of its program among the programs of the net, and how many events its queue holds.
+#[derive(Clone, Copy, Debug)]
+pub struct Mote {
+    pub program: usize,
+    pub queue: u16,
+}
+
+/// A net: the last moment at which turns are taken, whether packets collide, the medium with the places of the motes, and
+/// the motes, which are numbered from 0 in the order of the text.
+#[derive(Drop)]
+pub struct Net {
+    end: u32,
+    collide: bool,
+    medium: Medium,
+    programs: Vec<NamedProgram>,
+    motes: Vec<Mote>,
+    ghost early: { end ≤ latest_end },
+    ghost some: { fewest_motes ≤ length motes.items },
+    ghost few: { length motes.items ≤ most_motes },
+    ghost placed: { length medium.places ≡ length motes.items },
+    ghost fit: { IsTrue (list_all (is_mote_of (length programs.items)) motes.items) },
+}
+
+impl Net {
+    ghost use Rattle.mote_program.specs.Program.{tree_of};
+    ghost use Rattle.net_scenario.specs.Net.{net_of, mote_told};
+
+    /// The net of these parts, of which each mote's program is one.
+    pub(crate) fn new(
+        end: u32,
+        collide: bool,
+        medium: Medium,
+        programs: Vec<NamedProgram>,
+        motes: Vec<Mote>,
+    ) -> Net
+        requires early { end ≤ latest_end }
+        requires some { fewest_motes ≤ length motes.items }
+        requires few { length motes.items ≤ most_motes }
+        requires placed { length medium.places ≡ length motes.items }
+        requires fit { IsTrue (list_all (is_mote_of (length programs.items)) motes.items) }
+        ensures { net_of result ≡ record { end = end; collide = collide; radio = medium; motes = map (mote_told programs.items) motes.items } }
+    {
+        Net {
+            end,
+            collide,
+            medium,
+            programs,
+            motes,
+        }
+    }
+
+    /// The last moment at which turns are taken.
+    pub fn end(&self) -> u64
+        ensures value { result ≡ (net_of self.now).end }
+        ensures early { result ≤ latest_end }
+    {
+        u64::from(self.end)
+    }
+
+    /// Whether copies that reach a mote at one moment are all lost.
+    pub fn collide(&self) -> bool
+        ensures { result ≡ (net_of self.now).collide }
+    {
+        self.collide
+    }
+
+    /// The medium, in which each mote has its place.
+    pub fn medium(&self) -> &Medium
+        ensures value { result.now ≡ (net_of self.now).radio }
+        ensures placed { length result.now.places ≡ length (net_of self.now).motes }
+    {
+        &self.medium
+    }
+
+    /// How many motes there are.
+    pub fn motes(&self) -> u16
+        ensures value { result ≡ length (net_of self.now).motes }
+        ensures some { fewest_motes ≤ result }
+        ensures few { result ≤ most_motes }
+    {
+        self.motes.len() as u16
+    }
+
+    /// The program of a mote that is there.
+    pub fn program(&self, mote: u16) -> &Program
+        requires { mote < length (net_of self.now).motes }
+        ensures { option_map (λ m. m.tree) (slice_get (net_of self.now).motes mote) ≡ Some (tree_of result.now) }
+    {
+        let place = self.motes[usize::from(mote)].program;
+        &self.programs[place].program
+    }
+
+    /// The name of the program of a mote that is there.
+    pub fn program_name(&self, mote: u16) -> &str
+        requires { mote < length (net_of self.now).motes }
+        ensures { option_map (λ m. m.program) (slice_get (net_of self.now).motes mote) ≡ Some result.now }
+    {
+        let place = self.motes[usize::from(mote)].program;
+        self.programs[place].name.as_str()
+    }
+
+    /// How many events the queue of a mote that is there holds.
+    pub fn queue(&self, mote: u16) -> u16
+        requires { mote < length (net_of self.now).motes }
+        ensures value { option_map (λ m. m.queue) (slice_get (net_of self.now).motes mote) ≡ Some result }
+        ensures shortest { shortest_queue ≤ result }
+        ensures longest { result ≤ longest_queue }
+    {
+        self.motes[usize::from(mote)].queue
+    }
+}

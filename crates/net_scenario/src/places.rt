@@ -1,0 +1,64 @@
+//! The places of the motes, and the losses between them.
+ghost use Rattle.std.specs.Prelude.{◌≡◌, map, None, IfOk};
+ghost use Rattle.toml.specs.View.{items_view, table_view};
+ghost use Rattle.net_scenario.specs.Rules.{keys_fault, loss_rules, mote_rules};
+ghost use Rattle.net_scenario.specs.Document.{first_some, tables_in};
+ghost use Rattle.net_scenario.specs.Net.{place_of, loss_of};
+
+use crate::values::{integer_at, natural_at};
+use radio_medium::{Loss, Place};
+use std::alloc::{AllocError, Global};
+use toml::{Table, Value};
+
+/// The place of a mote.
+fn place_of(table: &Table) -> Place
+    requires { keys_fault mote_rules (table_view table.now) ≡ None }
+    ensures { result ≡ place_of (table_view table.now) }
+{
+    Place {
+        x: integer_at(table, "x"),
+        y: integer_at(table, "y"),
+    }
+}
+
+/// The places of the motes among the items, in order.
+#[tactic(auto, using(crate::proofs::Each::after_item, crate::proofs::Each::tables_after_item))]
+pub fn places_of(alloc: Global, items: &[Value]) -> Result<Vec<Place>, AllocError>
+    requires { first_some (keys_fault mote_rules) (tables_in (items_view items.now)) ≡ None }
+    ensures { IfOk result (λ v. v.items ≡ map place_of (tables_in (items_view items.now))) }
+{
+    let mut places = Vec::new(alloc);
+    for item in items {
+        if let Some(table) = item.as_table() {
+            places.push(place_of(table))?;
+        }
+    }
+    Ok(places)
+}
+
+/// One loss.
+fn loss_of(table: &Table) -> Loss
+    requires { keys_fault loss_rules (table_view table.now) ≡ None }
+    ensures { result ≡ loss_of (table_view table.now) }
+{
+    Loss {
+        sender: natural_at(table, "from"),
+        to: natural_at(table, "to"),
+        every: natural_at(table, "every"),
+    }
+}
+
+/// The losses among the items, in order.
+#[tactic(auto, using(crate::proofs::Each::after_item, crate::proofs::Each::tables_after_item))]
+pub fn losses_of(alloc: Global, items: &[Value]) -> Result<Vec<Loss>, AllocError>
+    requires { first_some (keys_fault loss_rules) (tables_in (items_view items.now)) ≡ None }
+    ensures { IfOk result (λ v. v.items ≡ map loss_of (tables_in (items_view items.now))) }
+{
+    let mut losses = Vec::new(alloc);
+    for item in items {
+        if let Some(table) = item.as_table() {
+            losses.push(loss_of(table))?;
+        }
+    }
+    Ok(losses)
+}

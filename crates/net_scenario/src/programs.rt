@@ -1,0 +1,43 @@
+//! The programs of a scenario, in byte order of their names.
+ghost use Rattle.std.specs.Prelude.{◌≡◌};
+ghost use Rattle.toml.specs.View.{table_view};
+ghost use Rattle.net_scenario.specs.Programs.{texts_of, ReadsProgram, ReadsPrograms};
+
+use crate::error::ScenarioError;
+use crate::program_name::ProgramName;
+use crate::values::text_of;
+use mote_program::{Program, ReadErrorKind, read};
+use std::alloc::Global;
+use toml::Table;
+
+/// A program with the name that motes call it by.
+#[derive(Drop)]
+pub struct NamedProgram {
+    pub name: ProgramName,
+    pub program: Program,
+}
+
+/// The program of a text, or the fault told of it.
+fn read_program(alloc: Global, name: &str, text: &str) -> Result<NamedProgram, ScenarioError>
+    ensures { ReadsProgram (record { name = name.now; text = text.now }) result }
+{
+    let name = ProgramName::from_str(alloc, name)?;
+    match read(alloc, text) {
+        Ok(program) => Ok(NamedProgram { name, program }),
+        Err(error) => match error.kind {
+            ReadErrorKind::Memory => Err(ScenarioError::Memory),
+            _ => Err(ScenarioError::Program(name, error)),
+        },
+    }
+}
+
+/// The programs of a table, those too that no mote runs, or the first that can't be read.
+pub fn read_programs(alloc: Global, table: &Table) -> Result<Vec<NamedProgram>, ScenarioError>
+    ensures { ReadsPrograms (texts_of (table_view table.now)) result }
+{
+    let mut programs = Vec::new(alloc);
+    for (name, value) in table.iter() {
+        programs.push(read_program(alloc, name.as_str(), text_of(value))?)?;
+    }
+    Ok(programs)
+}

@@ -1,0 +1,72 @@
+//! The net of a scenario's text.
+ghost use Rattle.std.specs.Prelude.{◌≡◌, None};
+ghost use Rattle.toml.specs.View.{table_view};
+ghost use Rattle.net_scenario.specs.Document.{document_fault};
+ghost use Rattle.net_scenario.specs.Net.{radio_told};
+ghost use Rattle.net_scenario.specs.Reading.{Parses, MakesRadio, MakesNet, Answers};
+
+use crate::document::check_document;
+use crate::error::ScenarioError;
+use crate::limits::LONGEST_TEXT;
+use crate::motes::motes_of;
+use crate::net::Net;
+use crate::places::{losses_of, places_of};
+use crate::programs::read_programs;
+use crate::values::{flag_at, items_at, natural_at, table_at, table_if_any};
+use radio_medium::Medium;
+use std::alloc::Global;
+use toml::Table;
+
+/// The table of a text.
+fn table_of(alloc: Global, text: &str) -> Result<Table, ScenarioError>
+    ensures { Parses text.now result }
+{
+    match toml::table_from_str(alloc, text) {
+        Ok(table) => Ok(table),
+        Err(e) if e.is_memory() => Err(ScenarioError::Memory),
+        Err(_) => Err(ScenarioError::Toml),
+    }
+}
+
+/// The medium of a document: the numbers of its table, the places of the motes and the losses.
+fn medium_of(alloc: Global, top: &Table) -> Result<Medium, ScenarioError>
+    requires { document_fault (table_view top.now) ≡ None }
+    ensures { MakesRadio (radio_told (table_view top.now)) result }
+{
+    let places = places_of(alloc, items_at(top, "mote"))?;
+    let losses = losses_of(alloc, items_at(top, "loss"))?;
+    let table = table_at(top, "medium");
+    let range = natural_at(table, "range");
+    let base = natural_at(table, "base");
+    let per = natural_at(table, "per");
+    let medium = Medium::new(alloc, &places, range, base, per, &losses)?;
+    Ok(medium)
+}
+
+/// The net of a document without fault, where its programs are read and its medium is one.
+fn net_from(alloc: Global, top: &Table) -> Result<Net, ScenarioError>
+    requires { document_fault (table_view top.now) ≡ None }
+    ensures { MakesNet (table_view top.now) result }
+{
+    let programs = read_programs(alloc, table_at(top, "programs"))?;
+    let medium = medium_of(alloc, top)?;
+    let queue = table_if_any(top, "queue");
+    let motes = motes_of(alloc, &programs, queue, items_at(top, "mote"))?;
+    let end = natural_at(top, "end");
+    let collide = flag_at(table_at(top, "medium"), "collide");
+    Ok(Net::new(end, collide, medium, programs, motes))
+}
+
+/// The net that a scenario's text tells, or the first fault of the text: its length, its TOML, its tables in order, the
+/// motes' programs, the programs' texts in byte order of their names, and the numbers of the medium. Want of memory may be
+/// answered in place of any of these.
+pub fn read_scenario(alloc: Global, text: &str) -> Result<Net, ScenarioError>
+    ensures { Answers text.now result }
+{
+    if text.len() > LONGEST_TEXT {
+        return Err(ScenarioError::OutOfRange);
+    }
+    let top = table_of(alloc, text)?;
+    check_document(&top)?;
+    net_from(alloc, &top)
+}

@@ -1,0 +1,22 @@
+//! Versions of the format of scenarios.
+ghost use Rattle.std.specs.Prelude.{◌≡◌};
+ghost use Rattle.net_scenario.specs.Rules.{has_come};
+
+/// A version of the format. The second has all of the first, and more.
+#[derive(Clone, Copy, Debug, PartialEq, Eq)]
+pub enum Version {
+    First,
+    Second,
+}
+
+impl Version {
+    /// Whether this version has what came in the other.
+    pub fn has(self, since: Version) -> bool
+        ensures { result ≡ has_come since self }
+    {
+        match (since, self) {
+            (Version::Second, Version::First) => false,
+            _ => true,
+        }
+    }
+}

@@ -1,0 +1,7 @@
+pub mod Copies
+pub mod Delays
+pub mod Elements
+pub mod Faults
+pub mod Hearing
+pub mod LinkLemmas
+pub mod LossLemmas

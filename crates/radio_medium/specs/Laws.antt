@@ -1,0 +1,28 @@
+-- What holds of every medium without a fault.
+use Rattle.std.specs.Prelude.{◌≡◌, ℕ, ◌+◌, ◌<◌, ◌≤◌, true, length, map, None}
+use Rattle.std.specs.List.{AllByRecursion}
+use Rattle.std.specs.List.Sorted.{IsStrictlyIncreasing}
+use Rattle.process_kernel.specs.declared.line.Sent.{Sent}
+use Rattle.radio_medium.specs.declared.copy.RadioCopy.{RadioCopy}
+use Rattle.radio_medium.specs.Medium.{Radio, hears, lookahead, copies, medium_fault}
+
+-- a copy of this packet, to a mote that is there and hears the sender, which arrives no sooner than the lookahead
+pub record IsCopyOf (radio : Radio) (sent : Sent) (copy : RadioCopy) : Type 0 where
+  pub sender : copy.sender ≡ sent.sender
+  pub number : copy.number ≡ sent.number
+  pub value : copy.value ≡ sent.value
+  pub there : copy.to < length radio.places
+  pub heard : hears radio copy.to sent.sender ≡ true
+  pub later : (end : ℕ) → sent.at + lookahead radio end ≤ copy.at
+
+-- the lookahead is above 0, whatever the end
+abbrev pub LooksAhead : Type 0
+LooksAhead = (radio : Radio) → medium_fault radio ≡ None → (end : ℕ) → 0 < lookahead radio end
+
+-- each copy of a packet reaches a mote that hears the sender, no sooner than the lookahead
+abbrev pub CopiesComeLater : Type 0
+CopiesComeLater = (radio : Radio) (sent : Sent) → AllByRecursion (IsCopyOf radio sent) (copies radio sent)
+
+-- the copies of a packet rise by receiver
+abbrev pub CopiesRise : Type 0
+CopiesRise = (radio : Radio) (sent : Sent) → IsStrictlyIncreasing (map (λ copy. copy.to) (copies radio sent))

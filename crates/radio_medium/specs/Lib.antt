@@ -1,0 +1,4 @@
+pub mod Errors
+pub mod Laws
+pub mod Links
+pub mod Medium

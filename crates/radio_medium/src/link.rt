@@ -1,0 +1,196 @@
+//! The way of a packet from one mote to another that hears it.
+
+ghost use Rattle.std.specs.Prelude.{◌≡◌, ◌^◌, ◌<◌, ◌≤◌, ℕ, length, min, [], All, map, IfOk, if◌then◌else◌, Some, None};
+ghost use Rattle.std.specs.List.{filter_map, flat_map, fold, reduce};
+ghost use Rattle.radio_medium.specs.Medium.{is_lost, hears, motes, IsWithinLimits, copy_of};
+ghost use Rattle.radio_medium.specs.Links.{EveryByPair, every_at, radio_from, link_of, links_of, fate_by, IsFit, with_least};
+
+use crate::copy::RadioCopy;
+use crate::fate::Fate;
+use crate::losses::EveryByPair;
+use crate::place::Place;
+use crate::reach::Reach;
+use process_kernel::Sent;
+use std::alloc::{AllocError, Global};
+
+/// The way from a mote to one that hears it, as the medium keeps it for the sender.
+#[derive(Clone, Copy)]
+pub(crate) struct Link {
+    /// The mote that hears.
+    pub(crate) to: u16,
+    /// How many moments a packet takes.
+    pub(crate) delay: u64,
+    /// The medium loses the last of each so many packets on this way, if it loses any.
+    pub(crate) every: Option<u32>,
+}
+
+impl Link {
+    /// Whether the medium loses the copy of the packet with this number.
+    fn loses(self, number: u64) -> bool
+        requires fit { IsFit self }
+        requires number { number < 2 ^ 62 }
+        ensures { result ≡ is_lost number self.every }
+    {
+        match self.every {
+            None => false,
+            Some(every) => (number + 1) % u64::from(every) == 0,
+        }
+    }
+
+    /// What becomes of the copy of a packet.
+    fn fate(self, sent: &Sent) -> Fate
+        requires fit { IsFit self }
+        requires moment { sent.now.at ≤ 2 ^ 40 }
+        requires number { sent.now.number < 2 ^ 62 }
+        ensures { result ≡ fate_by sent.now self }
+    {
+        let at = if self.loses(sent.number) {
+            None
+        } else {
+            Some(sent.at + self.delay)
+        };
+        Fate { to: self.to, at }
+    }
+}
+
+/// What becomes of a packet along each way.
+pub(crate) fn fates_along(
+    alloc: Global,
+    links: &[Link],
+    sent: &Sent,
+) -> Result<Vec<Fate>, AllocError>
+    requires fit { All IsFit links.now }
+    requires moment { sent.now.at ≤ 2 ^ 40 }
+    requires number { sent.now.number < 2 ^ 62 }
+    ensures { IfOk result (λ fates. fates.items ≡ map (fate_by sent.now) links.now) }
+{
+    let mut fates = Vec::with_capacity(alloc, links.len())?;
+    for link in links {
+        fates.push(link.fate(sent))?;
+    }
+    Ok(fates)
+}
+
+/// The copies of a packet along the ways on which they aren't lost.
+pub(crate) fn copies_along(
+    alloc: Global,
+    links: &[Link],
+    sent: &Sent,
+) -> Result<Vec<RadioCopy>, AllocError>
+    requires fit { All IsFit links.now }
+    requires moment { sent.now.at ≤ 2 ^ 40 }
+    requires number { sent.now.number < 2 ^ 62 }
+    ensures { IfOk result (λ copies. copies.items ≡ filter_map (copy_of sent.now) (map (fate_by sent.now) links.now)) }
+{
+    let mut copies = Vec::new(alloc);
+    for link in links {
+        if let Some(copy) = copy_with(link.fate(sent), sent) {
+            copies.push(copy)?;
+        }
+    }
+    Ok(copies)
+}
+
+/// The copy that has this fate, where it isn't lost.
+fn copy_with(fate: Fate, sent: &Sent) -> Option<RadioCopy>
+    ensures { result ≡ copy_of sent.now fate }
+{
+    fate.at.map(|at| RadioCopy {
+        at,
+        to: fate.to,
+        sender: sent.sender,
+        number: sent.number,
+        value: sent.value,
+    })
+}
+
+/// For each mote the ways to those that hear it, by rising number.
+pub(crate) fn all_links(
+    alloc: Global,
+    places: &[Place],
+    reach: Reach,
+    every: &EveryByPair,
+) -> Result<Vec<Vec<Link>>, AllocError>
+    requires limits { IsWithinLimits (radio_from places.now reach []) }
+    requires per { 0 < reach.per }
+    ensures { IfOk result (λ all. map (λ links. links.items) all.items ≡ map (links_of (radio_from places.now reach []) (every_at every.now)) (motes (radio_from places.now reach []))) }
+{
+    let mut all = Vec::with_capacity(alloc, places.len())?;
+    for sender in 0..places.len() as u16 {
+        all.push(links_from(alloc, places, reach, every, sender)?)?;
+    }
+    Ok(all)
+}
+
+/// The ways from a mote to those that hear it, by rising number.
+fn links_from(
+    alloc: Global,
+    places: &[Place],
+    reach: Reach,
+    every: &EveryByPair,
+    sender: u16,
+) -> Result<Vec<Link>, AllocError>
+    requires limits { IsWithinLimits (radio_from places.now reach []) }
+    requires per { 0 < reach.per }
+    requires there { sender < length places.now }
+    ensures { IfOk result (λ links. links.items ≡ links_of (radio_from places.now reach []) (every_at every.now) sender) }
+{
+    let mut links = Vec::new(alloc);
+    for to in 0..places.len() as u16 {
+        if let Some(link) = link_between(places, reach, every, sender, to) {
+            links.push(link)?;
+        }
+    }
+    Ok(links)
+}
+
+/// The way from one mote to another, if that one hears it.
+#[tactic(auto, using(crate::proofs::Hearing::hears_between), unfolding(crate::specs::Medium::delay))]
+fn link_between(
+    places: &[Place],
+    reach: Reach,
+    every: &EveryByPair,
+    sender: u16,
+    to: u16,
+) -> Option<Link>
+    requires limits { IsWithinLimits (radio_from places.now reach []) }
+    requires per { 0 < reach.per }
+    requires sender { sender < length places.now }
+    requires receiver { to < length places.now }
+    ensures { result ≡ if hears (radio_from places.now reach []) to sender then Some (link_of (radio_from places.now reach []) (every_at every.now) sender to) else None }
+{
+    if to == sender {
+        return None;
+    }
+    let square_distance = places[usize::from(sender)].square_distance(places[usize::from(to)]);
+    if !reach.covers(square_distance) {
+        return None;
+    }
+    Some(Link {
+        to,
+        delay: reach.delay(square_distance),
+        every: every.get(&(u32::from(sender), u32::from(to))).copied(),
+    })
+}
+
+/// The least delay of all ways, if there is one.
+pub(crate) fn least_delay(all: &[Vec<Link>]) -> Option<u64>
+    ensures { result ≡ reduce min (flat_map (λ links. map (λ link. link.delay) links) (map (λ links. links.items) all.now)) }
+{
+    let mut least = None;
+    for links in all {
+        least = lesser(least, links);
+    }
+    least
+}
+
+/// The least of these delays and of the least so far.
+fn lesser(least: Option<u64>, links: &[Link]) -> Option<u64>
+    ensures { result ≡ fold with_least least (map (λ link. link.delay) links.now) }
+{
+    let mut least = least;
+    for link in links {
+        least = Some(least.map_or(link.delay, |best| best.min(link.delay)));
+    }
+    least
+}

@@ -1,0 +1,145 @@
+//! The medium of a net.
+
+ghost use Rattle.std.specs.Prelude.{◌≡◌, ℕ, ◌+◌, ◌^◌, ◌<◌, ◌≤◌, None, length, All, IfOk};
+ghost use Rattle.radio_medium.specs.Medium.{IsWithinLimits, MakesMedium, square_distance, place_of, every_of, hears, delay, lookahead, fates, copies, medium_fault};
+ghost use Rattle.radio_medium.specs.Links.{links_of, IsFit};
+
+use crate::copy::RadioCopy;
+use crate::error::MediumError;
+use crate::fate::Fate;
+use crate::link::{Link, all_links, copies_along, fates_along, least_delay};
+use crate::losses::gathered;
+use crate::place::{Loss, Place};
+use crate::reach::Reach;
+use process_kernel::Sent;
+use std::alloc::{AllocError, Global};
+use std::marker::Model;
+
+/// The radio medium between motes that stand still. Who hears a mote, after which delay and with which loss, is found
+/// once, so a packet costs its receivers alone.
+#[derive(Drop)]
+pub struct Medium {
+    alloc: Global,
+    places: Vec<Place>,
+    reach: Reach,
+    losses: Vec<Loss>,
+    /// For each mote the ways to those that hear it, by rising number.
+    links: Vec<Vec<Link>>,
+    /// The least delay of all ways.
+    least_delay: Option<u64>,
+}
+
+impl Model for Medium {
+    ghost use Rattle.std.specs.Prelude.{map};
+    ghost use Rattle.radio_medium.specs.Medium.{Radio};
+    ghost use Rattle.radio_medium.specs.Links.{IsMedium, radio_from};
+
+    ghost Value = { Radio };
+
+    ghost view = { λ m. radio_from m.places.items m.reach m.losses.items };
+
+    ghost invariant = { λ m. IsMedium (radio_from m.places.items m.reach m.losses.items) (map (λ links. links.items) m.links.items) m.least_delay };
+}
+
+impl Medium {
+    /// The medium of motes that stand at these places, numbered from 0. A mote hears others within the range; a packet
+    /// takes `base` moments and one more for each whole `per` in the square of the distance.
+    pub fn new(
+        alloc: Global,
+        places: &[Place],
+        range: u32,
+        base: u32,
+        per: u32,
+        losses: &[Loss],
+    ) -> Result<Medium, MediumError>
+        requires { IsWithinLimits (record { places = places.now; range = range; base = base; per = per; losses = losses.now }) }
+        ensures { MakesMedium (record { places = places.now; range = range; base = base; per = per; losses = losses.now }) result }
+    {
+        if base == 0 {
+            return Err(MediumError::ZeroBase);
+        }
+        if per == 0 {
+            return Err(MediumError::ZeroPer);
+        }
+        let every = gathered(alloc, places.len(), losses)?;
+        let reach = Reach { range, base, per };
+        let links = all_links(alloc, places, reach, &every)?;
+        let least_delay = least_delay(&links);
+        Ok(Medium {
+            alloc,
+            places: places.to_vec(alloc)?,
+            reach,
+            losses: losses.to_vec(alloc)?,
+            links,
+            least_delay,
+        })
+    }
+
+    /// Whether mote r hears mote s. No mote hears itself.
+    #[tactic(auto, using(crate::proofs::Hearing::hears_between))]
+    pub fn hears(&self, r: u16, s: u16) -> bool
+        requires receiver { r < length self.now.places }
+        requires sender { s < length self.now.places }
+        ensures { result ≡ hears self.now r s }
+    {
+        r != s && self.reach.covers(self.square_distance(s, r))
+    }
+
+    /// How many moments a packet takes from mote s to mote r, which hears it.
+    #[tactic(auto, using(crate::proofs::Faults::per_above), unfolding(crate::specs::Medium::delay))]
+    pub fn delay(&self, s: u16, r: u16) -> u64
+        requires sender { s < length self.now.places }
+        requires receiver { r < length self.now.places }
+        ensures { result ≡ delay self.now s r }
+    {
+        self.reach.delay(self.square_distance(s, r))
+    }
+
+    /// The least delay over all pairs of motes that hear; where none do, the first moment after the end.
+    pub fn lookahead(&self, end: u64) -> u64
+        requires { end ≤ 2 ^ 40 }
+        ensures value { result ≡ lookahead self.now end }
+        ensures above_zero { 0 < result }
+        ensures no_fault { medium_fault self.now ≡ None }
+    {
+        self.least_delay.unwrap_or(end + 1)
+    }
+
+    /// What becomes of the copies of a packet, one for each mote that hears the sender, by rising number.
+    pub fn fates(&self, sent: &Sent) -> Result<Vec<Fate>, AllocError>
+        requires sender { sent.now.sender < length self.now.places }
+        requires moment { sent.now.at ≤ 2 ^ 40 }
+        requires number { sent.now.number < 2 ^ 62 }
+        ensures { IfOk result (λ all. all.items ≡ fates self.now sent.now) }
+    {
+        fates_along(self.alloc, self.links_of(sent.sender), sent)
+    }
+
+    /// The copies of a packet that aren't lost, by rising number of the mote to which they go.
+    pub fn copies(&self, sent: &Sent) -> Result<Vec<RadioCopy>, AllocError>
+        requires sender { sent.now.sender < length self.now.places }
+        requires moment { sent.now.at ≤ 2 ^ 40 }
+        requires number { sent.now.number < 2 ^ 62 }
+        ensures { IfOk result (λ all. all.items ≡ copies self.now sent.now) }
+    {
+        copies_along(self.alloc, self.links_of(sent.sender), sent)
+    }
+
+    /// The ways from a mote to those that hear it.
+    fn links_of(&self, s: u16) -> &[Link]
+        requires { s < length self.now.places }
+        ensures ways { result.now ≡ links_of self.now (every_of self.now.losses) s }
+        ensures fit { All IsFit result.now }
+    {
+        &self.links[usize::from(s)]
+    }
+
+    fn square_distance(&self, s: u16, r: u16) -> u64
+        requires sender { s < length self.now.places }
+        requires receiver { r < length self.now.places }
+        ensures value { result ≡ square_distance (place_of self.now s) (place_of self.now r) }
+        ensures bound { result < 2 ^ 33 }
+    {
+        self.places[usize::from(s)].square_distance(self.places[usize::from(r)])
+    }
+}
