@@ -11,9 +11,10 @@ use Rattle.mote_program.specs.InScope.{Names, outside}
 use Rattle.mote_program.specs.Machine.{Pending, Verdict, tell, codes, codes_form}
 use Rattle.mote_program.specs.Program.{code_of}
 use Rattle.mote_program.specs.Numbers.{named_of, values_of, inside, code_in, codes_in, timer_of, timers_from}
+use Rattle.mote_program.specs.ShapeOf.{code_shape}
 use Rattle.mote_program.specs.Shapes.{Name, CodeShape}
 use Rattle.mote_program.specs.Tokens.{Token}
-use Rattle.mote_program.specs.declared.program.ProcessText.{ProcessText}
+use Rattle.mote_program.specs.declared.process_text.ProcessText.{ProcessText}
 use Rattle.mote_program.specs.declared.timer.Timer.{Timer}
 
 behind-append : (n : Names) (cs : List CodeShape) (c : CodeShape) → behind n (cs ++ (c ∷ [])) ≡ outside (inside (behind n cs) c)
@@ -34,8 +35,13 @@ codes_marks-append : (ps : List (Name × CodeShape)) (p : Name × CodeShape) (ms
 codes_marks-append [] p ms = refl
 codes_marks-append (q ∷ ps) p ms = ap (code_marks q) (codes_marks-append ps p ms)
 
+-- what a code needs of the names around it is what the whole program has
+behind_shape : (n : Names) (cs : List CodeShape) (code : Code) → code_shape (behind n cs) code ≡ code_shape n code
+behind_shape n [] code = refl
+behind_shape n (c ∷ cs) code = behind_shape (outside (inside n c)) cs code
+
 pub none_read : (s : Scope) (left : List Name) (old : List Token) → left ≡ s.names.processes → HasCodes [] left s s old old
-none_read s left old e = record { shapes = []; named = sym e; numbered = refl; names = refl; spelled = λ ms q. sym q; goes_on = λ f. ap (λ xs. tell s (codes_form xs f) old) (sym e) }
+none_read s left old e = record { shapes = []; named = sym e; numbered = refl; put_back = refl; names = refl; spelled = λ ms q. sym q; goes_on = λ f. ap (λ xs. tell s (codes_form xs f) old) (sym e) }
 
 pub one_read : (s m s' : Scope) (x : Name) (xs : List Name) (k : ℕ) (trees : List Code) (code : Code) (old mid rest : List Token) → HasCodes trees (x ∷ xs) s m old mid → ReadsCode x k code m s' mid rest → k ≡ length trees → HasCodes (trees ++ (code ∷ [])) xs s s' old rest
 one_read s m s' x xs k trees code old mid rest h r e =
@@ -49,6 +55,9 @@ one_read s m s' x xs k trees code old mid rest h r e =
           ap (λ zs. zs ++ (code ∷ [])) h.numbered
           ∙ ap (λ c. codes_in 0 s.names cs ++ (c ∷ [])) (r.tree ∙ ap (λ i. code_in i (inside m.names r.shape) r.shape) place ∙ ap (λ n. code_in (0 + length cs) (inside n r.shape) r.shape) h.names)
           ∙ sym (codes_in-append 0 s.names cs r.shape) ∙ ap (codes_in 0 s.names) (sym push);
+      put_back =
+          push ∙ ap (λ zs. zs ++ (r.shape ∷ [])) h.put_back ∙ ap (λ z. map (code_shape s.names) trees ++ (z ∷ [])) (r.put_back ∙ ap (λ n. code_shape n code) h.names ∙ behind_shape s.names cs code)
+          ∙ sym (map-append (code_shape s.names) trees (code ∷ []));
       names = r.left ∙ ap (λ n. outside (inside n r.shape)) h.names ∙ sym (behind-append s.names cs r.shape) ∙ ap (behind s.names) (sym push);
       spelled = λ ms q. h.spelled (code_marks (x, r.shape) ms) (sym (r.spelled ms q)) ∙ ap tokens (sym (codes_marks-append h.shapes (x, r.shape) ms));
       goes_on = λ f. h.goes_on f ∙ r.goes_on xs f;

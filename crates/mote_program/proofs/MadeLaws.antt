@@ -1,6 +1,7 @@
 -- The text of a process from what was read of its code.
 use Rattle.std.proofs.Common.{◌≡◌, ℕ, ◌+◌, List, [], ◌∷◌, ◌++◌, length, map, Option, Some, None, option_map, refl, ap, sym, subst, ◌∙◌}
 use Rattle.std.proofs.lemmas.List.{length-append, length-map}
+use Rattle.std.specs.List.{zip}
 use Rattle.mote_program.specs.Code.{Code}
 use Rattle.mote_program.specs.CodeParts.{written, all_written, AllNumbered, MaybeNumbered, with_own, ReadsOpening, ReadsContent, ReadsCode}
 use Rattle.mote_program.specs.Faults.{Scope}
@@ -9,7 +10,8 @@ use Rattle.mote_program.specs.Head.{with_names}
 use Rattle.mote_program.specs.InScope.{Names, outside}
 use Rattle.mote_program.specs.Machine.{Pending, tell, codes_form, last_brace}
 use Rattle.mote_program.specs.Numbers.{named_of, values_of, block_in, inside, code_in}
-use Rattle.mote_program.specs.Shapes.{Name, CodeShape}
+use Rattle.mote_program.specs.ShapeOf.{code_shape}
+use Rattle.mote_program.specs.Shapes.{Name, Valued, Named, CodeShape}
 use Rattle.mote_program.specs.Tokens as token
 use Rattle.mote_program.specs.Tokens.{Token}
 use Rattle.mote_program.specs.Tree.{Body}
@@ -66,6 +68,48 @@ same_made k f f' v v' starts e e' c c' callbacks t t' thread_bodies on_poll on_e
     ∙ ap (λ z. made k f' v' starts z c callbacks t thread_bodies on_poll on_exit body) he ∙ ap (λ z. made k f' v' starts e' z callbacks t thread_bodies on_poll on_exit body) hc
     ∙ ap (λ z. made k f' v' starts e' c' callbacks z thread_bodies on_poll on_exit body) ht
 
+-- names beside what they have, put together again
+pub zipped : {T : Type 0} (ps : List (Name × T)) → zip (named_of ps) (values_of ps) ≡ ps
+zipped [] = refl
+zipped (p ∷ ps) = ap (λ z. p ∷ z) (zipped ps)
+
+zipped_written : (n : Names) (ps : List (Name × (Body ℕ))) → zip (named_of ps) (map (written n) (values_of ps)) ≡ all_written n ps
+zipped_written n [] = refl
+zipped_written n (p ∷ ps) = ap (λ z. (p.0, written n p.1) ∷ z) (zipped_written n ps)
+
+abbrev shape_from : Names → List Valued → List Name → List (Name × (Body ℕ)) → List (Name × (Body ℕ)) → (on_poll on_exit : Option (Body ℕ)) → Body ℕ → CodeShape
+shape_from n vs es cs ts on_poll on_exit body = record {
+  variables = vs;
+  etimers = es;
+  ctimers = all_written n cs;
+  threads = all_written n ts;
+  on_poll = option_map (written n) on_poll;
+  on_exit = option_map (written n) on_exit;
+  body = written n body;
+}
+
+abbrev shape_parts : Names → List Valued → List Name → (ctimers threads : List Named) → (on_poll on_exit : Option (Body ℕ)) → Body ℕ → CodeShape
+shape_parts n vs es cs ts on_poll on_exit body = record {
+  variables = vs;
+  etimers = es;
+  ctimers = cs;
+  threads = ts;
+  on_poll = option_map (written n) on_poll;
+  on_exit = option_map (written n) on_exit;
+  body = written n body;
+}
+
+-- a shape is that of its code, with the names put back
+names_put_back : (n m : Names) (k : ℕ) (vs : List Valued) (es : List Name) (cs ts : List (Name × (Body ℕ))) (on_poll on_exit : Option (Body ℕ)) (body : Body ℕ) → m ≡ with_own n (named_of vs) (es ++ named_of cs) (named_of ts)
+    → shape_from m vs es cs ts on_poll on_exit body ≡ code_shape n (made k m.first_timer (named_of vs) (values_of vs) es (named_of cs) (values_of cs) (named_of ts) (values_of ts) on_poll on_exit body)
+names_put_back n m k vs es cs ts on_poll on_exit body e =
+    let w : Names = with_own n (named_of vs) (es ++ named_of cs) (named_of ts) in
+    ap (λ z. shape_from z vs es cs ts on_poll on_exit body) e
+    ∙ ap (λ z. shape_parts w z es (all_written w cs) (all_written w ts) on_poll on_exit body) (sym (zipped vs))
+    ∙ ap (λ z. shape_parts w (zip (named_of vs) (values_of vs)) es z (all_written w ts) on_poll on_exit body) (sym (zipped_written w cs))
+    ∙ ap (λ z. shape_parts w (zip (named_of vs) (values_of vs)) es (zip (named_of cs) (map (written w) (values_of cs))) z on_poll on_exit body) (sym (zipped_written w ts))
+    ∙ ap (λ f. code_shape n (made k f (named_of vs) (values_of vs) es (named_of cs) (values_of cs) (named_of ts) (values_of ts) on_poll on_exit body)) (sym (ap (λ (z : Names). z.first_timer) e))
+
 pub code_read : (x : Name) (k : ℕ) (code : Code) (es cs : List Name) (starts : List ℕ) (callbacks thread_bodies : List (Body ℕ)) (on_poll on_exit : Option (Body ℕ)) (body : Body ℕ) (s s' s'' : Scope) (t0 t1 t2 new : List Token)
     → ReadsOpening x s t0 t1 → ReadsContent es cs starts callbacks thread_bodies on_poll on_exit body s s' t1 t2 → t2 ≡ token.CloseBrace ∷ new → ((f : Pending) → tell s' (last_brace ∷ f) t2 ≡ tell (with_names s' (outside s'.names)) f new)
     → s'' ≡ with_names s' (outside s'.names) → code ≡ made k s'.names.first_timer s'.names.variables starts es cs callbacks s'.names.threads thread_bodies on_poll on_exit body
@@ -88,6 +132,15 @@ code_read x k code es cs starts callbacks thread_bodies on_poll on_exit body s s
     record {
       shape = shape;
       tree = is ∙ same ∙ ap (λ z. code_in k z shape) full;
+      put_back =
+          names_put_back s.names s'.names k r.variables r.etimers r.ctimers r.threads on_poll on_exit body r.names
+          ∙ ap (code_shape s.names) (sym (is
+          ∙ ap (λ z. made k s'.names.first_timer z.variables starts es cs callbacks z.threads thread_bodies on_poll on_exit body) r.names
+          ∙ ap (λ z. made k s'.names.first_timer (named_of r.variables) z es cs callbacks (named_of r.threads) thread_bodies on_poll on_exit body) r.started
+          ∙ ap (λ z. made k s'.names.first_timer (named_of r.variables) (values_of r.variables) z cs callbacks (named_of r.threads) thread_bodies on_poll on_exit body) r.first_timers
+          ∙ ap (λ z. made k s'.names.first_timer (named_of r.variables) (values_of r.variables) r.etimers z callbacks (named_of r.threads) thread_bodies on_poll on_exit body) r.last_timers
+          ∙ ap (λ z. made k s'.names.first_timer (named_of r.variables) (values_of r.variables) r.etimers (named_of r.ctimers) z (named_of r.threads) thread_bodies on_poll on_exit body) r.called
+          ∙ ap (λ z. made k s'.names.first_timer (named_of r.variables) (values_of r.variables) r.etimers (named_of r.ctimers) (values_of r.ctimers) (named_of r.threads) z on_poll on_exit body) r.threaded));
       left = ap (λ z. z.names) left ∙ ap outside full;
       starting = ap (λ z. z.starting) left ∙ r.starting;
       spelled = λ ms e. o.spelled ∙ ap (λ ts. token.Keyword word.Code ∷ token.Name x ∷ token.OpenBrace ∷ ts) (r.spelled s'.names (extends_itself s'.names) (leaving ∷ ms) (sym (split ∙ ap (λ ts. token.CloseBrace ∷ ts) (sym e))));

@@ -54,7 +54,7 @@ among_at : {X : Type 0} (q : X → Bool) (y : X) (rest : Option X) (x : X) (b : 
 among_at q y rest x true e h k = let same : y ≡ x = cc in subst (λ z. q z ≡ true) same e
 among_at q y rest x false e h k = k h
 
-found_among : {X : Type 0} (p q : X → Bool) (xs : List X) (x : X) → list_all q xs ≡ true → find p xs ≡ Some x → q x ≡ true
+pub found_among : {X : Type 0} (p q : X → Bool) (xs : List X) (x : X) → list_all q xs ≡ true → find p xs ≡ Some x → q x ≡ true
 found_among p q [] x all h = absurd cc
 found_among p q (y ∷ ys) x all h =
     let parts = and_parts (q y) (list_all q ys) all in

@@ -2,17 +2,19 @@
 use Rattle.std.proofs.Common.{◌≡◌, ℕ, ◌+◌, ◌<◌, ◌≤◌, List, [], ◌∷◌, ◌++◌, length, map, refl, sym, ap, subst, ◌∙◌, arith, append_assoc, true, false, Option, option_map, IfSome}
 use Rattle.std.proofs.lemmas.List.{length-map, append-nil}
 use Rattle.std.proofs.lemmas.List.Elements.{All-nil, All-cons, All-append}
-use Rattle.std.specs.List.{All}
+use Rattle.std.specs.List.{All, zip}
+use Rattle.std.specs.Prelude.{drop, slice_index_or}
 use Rattle.mote_program.specs.Code.{Code, Tree}
 use Rattle.mote_program.specs.Codes.{HasCodes, ReadsHead, all_timers}
 use Rattle.mote_program.specs.Faults.{Scope, nothing_yet, IsProgram}
 use Rattle.mote_program.specs.Grammar as role
 use Rattle.mote_program.specs.Grammar.{Mark, tokens, key, named, event_marks, semaphore_marks, process_marks, autostart_marks, receiver_marks, codes_marks, program_marks}
 use Rattle.mote_program.specs.Head.{with_all, line_marks, itself}
-use Rattle.mote_program.specs.InScope.{Names, no_names, with_new, number_in}
+use Rattle.mote_program.specs.InScope.{Names, no_names, with_new, number_in, name_in}
 use Rattle.mote_program.specs.Machine.{whole, tell, from_events, codes_form}
-use Rattle.mote_program.specs.Numbers.{named_of, values_of, codes_in, timers_from, timer_of, program_names}
-use Rattle.mote_program.specs.Reading.{IsTreeOfTokens}
+use Rattle.mote_program.specs.Numbers.{named_of, values_of, codes_in, timers_from, timer_of, program_names, tree_of_shape}
+use Rattle.mote_program.specs.Reading.{AreLexed, IsTreeOfTokens, WasRead}
+use Rattle.mote_program.specs.ShapeOf.{code_shape, no_code, shape_of}
 use Rattle.mote_program.specs.Shapes.{Name, CodeShape, ProgramShape}
 use Rattle.mote_program.specs.Tokens as token
 use Rattle.mote_program.specs.Tokens.{Token}
@@ -20,6 +22,7 @@ use Rattle.mote_program.specs.Tree.{an_event, a_semaphore, a_process}
 use Rattle.mote_program.specs.declared.keyword.Keyword.TheVariants as word
 use Rattle.mote_program.specs.declared.timer.Timer.{Timer}
 use Rattle.mote_program.proofs.CodesLaws.{behind_processes, behind_events, behind_semaphores, behind_first_timer, timers_of_all, length-codes_in}
+use Rattle.mote_program.proofs.MadeLaws.{zipped}
 use Rattle.mote_program.proofs.Told.{Judged, judged}
 
 -- The names that the head declares.
@@ -86,6 +89,30 @@ tree_same e e' s s' ps ps' c c' a a' r r' k k' t t' h1 h2 h3 h4 h5 h6 h7 h8 =
     ap (λ z. tree_with z s' c' ps' a' r' k' t') h1 ∙ ap (λ z. tree_with e z c' ps' a' r' k' t') h2 ∙ ap (λ z. tree_with e s z ps' a' r' k' t') h3 ∙ ap (λ z. tree_with e s c z a' r' k' t') h4
     ∙ ap (λ z. tree_with e s c ps z r' k' t') h5 ∙ ap (λ z. tree_with e s c ps a z k' t') h6 ∙ ap (λ z. tree_with e s c ps a r z t') h7 ∙ ap (λ z. tree_with e s c ps a r k z) h8
 
+-- the shape of a tree whose names are those of this shape
+shape_put_back : (es : List Name) (ss : List (Name × ℕ)) (p : Name × CodeShape) (ps : List (Name × CodeShape)) (st : List Name) (r : Option Name) (e s qs : List Name) (c a : List ℕ) (rc : Option ℕ) (k : List Code) (t : List Timer) → e ≡ es → s ≡ named_of ss → c ≡ values_of ss → qs ≡ p.0 ∷ named_of ps
+    → st ≡ map (name_in (head_names es (named_of ss) (p.0 ∷ named_of ps)) a_process) a → r ≡ option_map (name_in (head_names es (named_of ss) (p.0 ∷ named_of ps)) a_process) rc → p.1 ∷ values_of ps ≡ map (code_shape (head_names es (named_of ss) (p.0 ∷ named_of ps))) k
+    → shape_with es ss p ps st r ≡ shape_of (tree_with e s c qs a rc k t)
+shape_put_back es ss p ps st r e s qs c a rc k t h1 h2 h3 h4 h5 h6 h7 =
+    let g : List CodeShape → ProgramShape = λ zs. record {
+      events = es;
+      semaphores = zip (named_of ss) (values_of ss);
+      first = slice_index_or (zip (p.0 ∷ named_of ps) zs) 0 no_code;
+      others = drop 1 (zip (p.0 ∷ named_of ps) zs);
+      autostart = map (name_in (head_names es (named_of ss) (p.0 ∷ named_of ps)) a_process) a;
+      receiver = option_map (name_in (head_names es (named_of ss) (p.0 ∷ named_of ps)) a_process) rc;
+    } in
+    let front : shape_with es ss p ps st r ≡ g (p.1 ∷ values_of ps) =
+    ap (λ z. shape_with es z p ps st r) (sym (zipped ss)) ∙ ap (λ z. shape_with es (zip (named_of ss) (values_of ss)) p z st r) (sym (zipped ps))
+    ∙ ap (λ z. shape_with es (zip (named_of ss) (values_of ss)) p (zip (named_of ps) (values_of ps)) z r) h5
+    ∙ ap (λ z. shape_with es (zip (named_of ss) (values_of ss)) p (zip (named_of ps) (values_of ps)) (map (name_in (head_names es (named_of ss) (p.0 ∷ named_of ps)) a_process) a) z) h6 in
+    front ∙ ap g h7
+    ∙ sym (ap (λ z. shape_of (tree_with z s c qs a rc k t)) h1 ∙ ap (λ z. shape_of (tree_with es z c qs a rc k t)) h2 ∙ ap (λ z. shape_of (tree_with es (named_of ss) z qs a rc k t)) h3 ∙ ap (λ z. shape_of (tree_with es (named_of ss) (values_of ss) z a rc k t)) h4)
+
+-- what was read of a text's tokens
+pub was_read : (tokens : List Token) (tree : Tree) → AreLexed tokens → (q : IsTreeOfTokens tokens tree) → q.shape ≡ shape_of tree → WasRead tree
+was_read tokens tree lexed q e = ∣ record { tokens = tokens; lexed = lexed; program = subst (λ s. IsProgram s tokens) e q.program; numbered = q.numbered ∙ ap tree_of_shape e } ∣₁
+
 same_first : {A : Type 0} (x y : A) (xs ys : List A) → x ∷ xs ≡ y ∷ ys → x ≡ y
 same_first x y xs ys e = cc e
 
@@ -121,7 +148,8 @@ module _ (text m5 : List Token) (s4 s5 : Scope) (counts autostart : List ℕ) (r
       sym h.text_is ∙ h.read.events.1.spelled (semaphore_marks h.read.semaphores.0 marks) (sym (h.read.semaphores.2.spelled marks (sym spelled_line)))
 
   pub tree_read : (p : Name × CodeShape) (ps : List (Name × CodeShape)) → r.shapes ≡ p ∷ ps → (timers : List Timer) → timers ≡ all_timers trees →
-      IsTreeOfTokens text (record { events = s5.names.events; semaphores = s5.names.semaphores; counts = counts; processes = s5.names.processes; autostart = autostart; receiver = receiver; codes = trees; timers = timers })
+      let tree = tree_with s5.names.events s5.names.semaphores counts s5.names.processes autostart receiver trees timers in
+      (q : IsTreeOfTokens text tree) × (q.shape ≡ shape_of tree)
   tree_read p ps is timers e =
       let shape = shape_with h.read.events.0 h.read.semaphores.0 p ps h.read.starting.names h.read.receiving.name in
       let line : h.read.processes.first ∷ h.read.processes.others ≡ p.0 ∷ named_of ps = line_is ∙ ap named_of is in
@@ -130,27 +158,36 @@ module _ (text m5 : List Token) (s4 s5 : Scope) (counts autostart : List ℕ) (r
       let names : s4.names ≡ program_names shape = names_read text m5 s4 counts autostart receiver h ∙ ap (λ xs. head_names h.read.events.0 (named_of h.read.semaphores.0) xs) line in
       let before : h.read.s3.names ≡ program_names shape = ap (λ (s : Scope). s.names) (sym h.read.starting.added) ∙ names in
       let after = r.names in
-      record {
-        shape = shape;
-        program = record {
-          spelled =
-              sym (spelled_text
-              ∙ ap (λ x. tokens (event_marks h.read.events.0 (semaphore_marks h.read.semaphores.0 (key word.Process ∷ named x (role.new a_process x) ∷ line_marks h.read.processes.others behind_line)))) first
-              ∙ ap (λ xs. tokens (event_marks h.read.events.0 (semaphore_marks h.read.semaphores.0 (key word.Process ∷ named p.0 (role.new a_process p.0) ∷ line_marks xs behind_line)))) others
-              ∙ ap (λ ms. tokens (event_marks h.read.events.0 (semaphore_marks h.read.semaphores.0 (key word.Process ∷ named p.0 (role.new a_process p.0) ∷ ms)))) (line_processes ps behind_line)
-              ∙ ap (λ zs. tokens (event_marks h.read.events.0 (semaphore_marks h.read.semaphores.0 (key word.Process ∷ named p.0 (role.new a_process p.0) ∷ process_marks ps (autostart_marks h.read.starting.names (receiver_marks h.read.receiving.name (codes_marks zs []))))))) is);
-          sound = sound.1.sound;
-        };
-        numbered = tree_same _ _ _ _ _ _ _ _ _ _ _ _ _ _ _ _
-            (ap (λ n. n.events) after ∙ behind_events s4.names (values_of r.shapes) ∙ ap (λ n. n.events) names)
-            (ap (λ n. n.semaphores) after ∙ behind_semaphores s4.names (values_of r.shapes) ∙ ap (λ n. n.semaphores) names)
-            h.read.semaphores.1
-            (ap (λ n. n.processes) after ∙ behind_processes s4.names (values_of r.shapes) ∙ ap (λ n. n.processes) names)
-            (h.read.starting.numbered ∙ ap (λ n. map (number_in n a_process) h.read.starting.names) before)
-            (h.read.receiving.numbered ∙ ap (λ n. option_map (number_in n a_process) h.read.receiving.name) names)
-            (r.numbered ∙ ap (λ n. codes_in 0 n (values_of r.shapes)) names ∙ ap (λ zs. codes_in 0 (program_names shape) (values_of zs)) is)
-            (e ∙ ap all_timers r.numbered ∙ timers_of_all 0 s4.names (values_of r.shapes) ∙ ap (λ zs. timers_from 0 (values_of zs)) is);
-      }
+      let events : s5.names.events ≡ h.read.events.0 = ap (λ n. n.events) after ∙ behind_events s4.names (values_of r.shapes) ∙ ap (λ n. n.events) names in
+      let semaphores : s5.names.semaphores ≡ named_of h.read.semaphores.0 = ap (λ n. n.semaphores) after ∙ behind_semaphores s4.names (values_of r.shapes) ∙ ap (λ n. n.semaphores) names in
+      let processes : s5.names.processes ≡ p.0 ∷ named_of ps = ap (λ n. n.processes) after ∙ behind_processes s4.names (values_of r.shapes) ∙ ap (λ n. n.processes) names in (
+        record {
+          shape = shape;
+          program = record {
+            spelled =
+                sym (spelled_text
+                ∙ ap (λ x. tokens (event_marks h.read.events.0 (semaphore_marks h.read.semaphores.0 (key word.Process ∷ named x (role.new a_process x) ∷ line_marks h.read.processes.others behind_line)))) first
+                ∙ ap (λ xs. tokens (event_marks h.read.events.0 (semaphore_marks h.read.semaphores.0 (key word.Process ∷ named p.0 (role.new a_process p.0) ∷ line_marks xs behind_line)))) others
+                ∙ ap (λ ms. tokens (event_marks h.read.events.0 (semaphore_marks h.read.semaphores.0 (key word.Process ∷ named p.0 (role.new a_process p.0) ∷ ms)))) (line_processes ps behind_line)
+                ∙ ap (λ zs. tokens (event_marks h.read.events.0 (semaphore_marks h.read.semaphores.0 (key word.Process ∷ named p.0 (role.new a_process p.0) ∷ process_marks ps (autostart_marks h.read.starting.names (receiver_marks h.read.receiving.name (codes_marks zs []))))))) is);
+            sound = sound.1.sound;
+          };
+          numbered = tree_same _ _ _ _ _ _ _ _ _ _ _ _ _ _ _ _
+              events
+              semaphores
+              h.read.semaphores.1
+              processes
+              (h.read.starting.numbered ∙ ap (λ n. map (number_in n a_process) h.read.starting.names) before)
+              (h.read.receiving.numbered ∙ ap (λ n. option_map (number_in n a_process) h.read.receiving.name) names)
+              (r.numbered ∙ ap (λ n. codes_in 0 n (values_of r.shapes)) names ∙ ap (λ zs. codes_in 0 (program_names shape) (values_of zs)) is)
+              (e ∙ ap all_timers r.numbered ∙ timers_of_all 0 s4.names (values_of r.shapes) ∙ ap (λ zs. timers_from 0 (values_of zs)) is);
+        },
+        shape_put_back h.read.events.0 h.read.semaphores.0 p ps h.read.starting.names h.read.receiving.name s5.names.events s5.names.semaphores s5.names.processes counts autostart receiver trees timers
+            events semaphores h.read.semaphores.1 processes
+            (h.read.starting.named ∙ ap (λ n. map (name_in n a_process) autostart) before)
+            (h.read.receiving.named ∙ ap (λ n. option_map (name_in n a_process) receiver) names)
+            (ap values_of (sym is) ∙ r.put_back ∙ ap (λ n. map (code_shape n) trees) names),
+      )
 
   pub some_process : (p : Name × CodeShape) × (ps : List (Name × CodeShape)) × (r.shapes ≡ p ∷ ps)
   some_process = go r.shapes refl

@@ -20,7 +20,7 @@ use Rattle.mote_program.specs.Tree.{Class, a_process}
 use Rattle.mote_program.specs.declared.error.ReadErrorKind.TheVariants.{UnknownName, NameTwice, BadTarget}
 use Rattle.mote_program.specs.declared.keyword.Keyword.TheVariants as word
 use Rattle.mote_program.proofs.ListLaws.{keyword_then}
-use Rattle.mote_program.proofs.NameLaws.{place_below}
+use Rattle.mote_program.proofs.NameLaws.{name_at, place_below}
 use Rattle.mote_program.proofs.NameSteps.{front_of, taken, broken}
 use Rattle.mote_program.proofs.Stages.{no_autostart, no_receiver}
 
@@ -68,6 +68,7 @@ has_first s s' n0 n1 old m0 rest none is from r =
       others = [];
       added = r.added;
       numbered = pushed ∙ ap (λ i. i ∷ []) (sym (number_is s.names r.name r.number r.known));
+      named = sym (ap (map (name_in s.names a_process)) pushed ∙ ap (λ x. x ∷ []) (name_at s.names.processes r.name r.number r.known));
       within = subst (λ z. All (λ i. i < length s.names.processes) z) (sym pushed) (all_one _ r.number (place_below s.names.processes r.name r.number r.known));
       spelled = λ more ms e. split ∙ ap (λ ts. token.Keyword word.Autostart ∷ ts) (r.spelled ∙ ap (λ ts. token.Name r.name ∷ ts) (sym e));
       goes_on = λ x xs f. ap (tell s (from_autostart x xs ∷ f)) split ∙ r.goes_on (more_starting ∷ from_receiver x xs ∷ f);
@@ -84,6 +85,9 @@ has_more s m s' n1 n2 old rest m0 new h is from r =
       numbered =
           r.pushed ∙ ap (λ z. z ++ r.number ∷ []) h.numbered ∙ ap (λ i. map (number_in s.names a_process) (h.first ∷ h.others) ++ i ∷ []) (sym (number_is s.names r.name r.number known))
           ∙ sym (map-append (number_in s.names a_process) (h.first ∷ h.others) (r.name ∷ []));
+      named =
+          sym (ap (map (name_in s.names a_process)) r.pushed ∙ map-append (name_in s.names a_process) n1 (r.number ∷ []) ∙ ap (λ zs. zs ++ (name_in s.names a_process r.number ∷ [])) (sym h.named)
+          ∙ ap (λ x. (h.first ∷ h.others) ++ x ∷ []) (name_at s.names.processes r.name r.number known));
       within =
           subst (λ z. All (λ i. i < length s.names.processes) z) (sym r.pushed)
           (All-append (λ i. i < length s.names.processes) n1 (r.number ∷ []) h.within (all_one _ r.number (place_below s.names.processes r.name r.number known)));
@@ -105,6 +109,7 @@ has_all s m n old rest r new h other same k =
       names = h.first ∷ h.others;
       added = h.added;
       numbered = h.numbered;
+      named = h.named;
       within = h.within;
       spelled = λ ms e.
           h.spelled [] ms (sym (split ∙ ap (λ ts. token.Semicolon ∷ ts) (sym e)))
@@ -117,6 +122,7 @@ none_starts s s' n old new scope none other same = record {
   names = [];
   added = scope ∙ ap (with_starting s) (sym (append-nil s.starting));
   numbered = none;
+  named = sym (ap (map (name_in s.names a_process)) none);
   within = subst (λ z. All (λ i. i < length s.names.processes) z) (sym none) (All-nil (λ i. i < length s.names.processes));
   spelled = λ ms e. sym same ∙ sym e;
   goes_on = λ x xs f. no_autostart s x xs f old other ∙ ap (tell s (from_receiver x xs ∷ f)) (sym same) ∙ ap (λ z. tell z (from_receiver x xs ∷ f) new) (sym scope);
@@ -138,7 +144,7 @@ end_fails s m n old rest r v x xs more h other same e =
 -- the receiver
 
 pub no_receiver_read : (s : Scope) (old new : List Token) → (first old ≡ Some (token.Keyword word.Receiver) → ⊥) → new ≡ old → ReadsReceiver s None old new
-no_receiver_read s old new other same = record { name = None; numbered = refl; within = tt; spelled = λ ms e. sym same ∙ sym e; goes_on = λ x xs f. no_receiver s x xs f old other ∙ ap (tell s (codes x xs ∷ f)) (sym same) }
+no_receiver_read s old new other same = record { name = None; numbered = refl; named = refl; within = tt; spelled = λ ms e. sym same ∙ sym e; goes_on = λ x xs f. no_receiver s x xs f old other ∙ ap (tell s (codes x xs ∷ f)) (sym same) }
 
 extends_itself : (n : Names) → Extends n n
 extends_itself n = record { front = λ c. ([], sym (append-nil (names_of n c))); first_timer = refl }
@@ -164,6 +170,7 @@ receiver_read s i old m0 m1 new is from r numbered within k =
     record {
       name = Some (name_in s.names a_process i);
       numbered = ap Some (sym (numbered s.names (extends_itself s.names)));
+      named = refl;
       within = within;
       spelled = λ ms e. split ∙ ap (λ ts. token.Keyword word.Receiver ∷ ts) (r.spelled s.names (extends_itself s.names) (sign token.Semicolon ∷ ms) (sym (k.spelled ∙ ap (λ ts. token.Semicolon ∷ ts) (sym e))));
       goes_on = λ x xs f. ap (tell s (from_receiver x xs ∷ f)) split ∙ r.goes_on (semicolon ∷ codes x xs ∷ f) ∙ k.goes_on s (codes x xs ∷ f);

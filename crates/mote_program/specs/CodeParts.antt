@@ -8,6 +8,7 @@ use Rattle.mote_program.specs.InScope.{Names, with_new, outside, name_in, number
 use Rattle.mote_program.specs.Machine as machine
 use Rattle.mote_program.specs.Machine.{Symbol, Pending, tell, codes_form}
 use Rattle.mote_program.specs.Numbers.{named_of, values_of, inside, code_in}
+use Rattle.mote_program.specs.ShapeOf.{code_shape}
 use Rattle.mote_program.specs.Shapes.{Name, Valued, Named, CodeShape}
 use Rattle.mote_program.specs.Steps.{Extends, Numbered}
 use Rattle.mote_program.specs.Tokens as token
@@ -88,6 +89,7 @@ pub record ReadsOpening (x : Name) (s : Scope) (old new : List Token) : Type 0 w
 pub record ReadsCode (x : Name) (process : ℕ) (code : Code) (s s' : Scope) (old new : List Token) : Type 0 where
   pub shape : CodeShape
   pub tree : code ≡ code_in process (inside s.names shape) shape
+  pub put_back : shape ≡ code_shape s.names code
   pub left : s'.names ≡ outside (inside s.names shape)
   pub starting : s'.starting ≡ s.starting
   pub spelled : (ms : List Mark) → tokens ms ≡ new → old ≡ tokens (code_marks (x, shape) ms)

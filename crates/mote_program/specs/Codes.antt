@@ -1,5 +1,5 @@
 -- What reading the codes of a program gives.
-use Rattle.std.specs.Prelude.{◌≡◌, ℕ, List, [], ◌∷◌, ◌++◌, length, replicate, false, true, Option}
+use Rattle.std.specs.Prelude.{◌≡◌, ℕ, List, [], ◌∷◌, ◌++◌, length, map, replicate, false, true, Option}
 use Rattle.mote_program.specs.Code.{Code}
 use Rattle.mote_program.specs.Faults.{Scope}
 use Rattle.mote_program.specs.Grammar.{Mark, tokens, codes_marks, event_marks, semaphore_marks}
@@ -7,6 +7,7 @@ use Rattle.mote_program.specs.Head.{ReadsNames, ReadsValues, ReadsProcesses, Rea
 use Rattle.mote_program.specs.InScope.{Names, outside}
 use Rattle.mote_program.specs.Machine.{Pending, tell, codes_form, from_events, from_semaphores}
 use Rattle.mote_program.specs.Numbers.{named_of, values_of, inside, codes_in, timer_of}
+use Rattle.mote_program.specs.ShapeOf.{code_shape}
 use Rattle.mote_program.specs.Shapes.{Name, CodeShape}
 use Rattle.mote_program.specs.Tokens.{Token}
 use Rattle.mote_program.specs.Tree.{an_event, a_semaphore}
@@ -22,6 +23,7 @@ pub record HasCodes (trees : List Code) (left : List Name) (s s' : Scope) (old r
   pub shapes : List (Name × CodeShape)
   pub named : s.names.processes ≡ named_of shapes ++ left
   pub numbered : trees ≡ codes_in 0 s.names (values_of shapes)
+  pub put_back : values_of shapes ≡ map (code_shape s.names) trees
   pub names : s'.names ≡ behind s.names (values_of shapes)
   pub spelled : (ms : List Mark) → tokens ms ≡ rest → old ≡ tokens (codes_marks shapes ms)
   pub goes_on : (f : Pending) → tell s (codes_form s.names.processes f) old ≡ tell s' (codes_form left f) rest

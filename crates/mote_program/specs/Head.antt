@@ -4,7 +4,7 @@ use Rattle.std.specs.List.{All}
 use Rattle.mote_program.specs.Faults.{Scope}
 use Rattle.mote_program.specs.Grammar as role
 use Rattle.mote_program.specs.Grammar.{Mark, tokens, sign, named, starting_marks, autostart_marks, receiver_marks}
-use Rattle.mote_program.specs.InScope.{Names, with_new, number_in}
+use Rattle.mote_program.specs.InScope.{Names, with_new, number_in, name_in}
 use Rattle.mote_program.specs.Machine as machine
 use Rattle.mote_program.specs.Machine.{Symbol, Pending, tell, fault, first_broken, new_name}
 use Rattle.mote_program.specs.Names.{place_of}
@@ -145,6 +145,7 @@ pub record HasStarting (s s' : Scope) (numbers : List ℕ) (old rest : List Toke
   pub others : List Name
   pub added : s' ≡ with_starting s (s.starting ++ first ∷ others)
   pub numbered : numbers ≡ map (number_in s.names a_process) (first ∷ others)
+  pub named : first ∷ others ≡ map (name_in s.names a_process) numbers
   pub within : All (λ i. i < length s.names.processes) numbers
   pub spelled : (more : List Name) (ms : List Mark) → tokens (starting_marks more ms) ≡ rest →
       old ≡ token.Keyword word.Autostart ∷ token.Name first ∷ tokens (starting_marks (others ++ more) ms)
@@ -156,6 +157,7 @@ pub record ReadsAutostart (s s' : Scope) (numbers : List ℕ) (old new : List To
   pub names : List Name
   pub added : s' ≡ with_starting s (s.starting ++ names)
   pub numbered : numbers ≡ map (number_in s.names a_process) names
+  pub named : names ≡ map (name_in s.names a_process) numbers
   pub within : All (λ i. i < length s.names.processes) numbers
   pub spelled : (ms : List Mark) → tokens ms ≡ new → old ≡ tokens (autostart_marks names ms)
   pub goes_on : (x : Name) (xs : List Name) (f : Pending) →
@@ -165,6 +167,7 @@ pub record ReadsAutostart (s s' : Scope) (numbers : List ℕ) (old new : List To
 pub record ReadsReceiver (s : Scope) (receiver : Option ℕ) (old new : List Token) : Type 0 where
   pub name : Option Name
   pub numbered : receiver ≡ option_map (number_in s.names a_process) name
+  pub named : name ≡ option_map (name_in s.names a_process) receiver
   pub within : IfSome receiver (λ i. i < length s.names.processes)
   pub spelled : (ms : List Mark) → tokens ms ≡ new → old ≡ tokens (receiver_marks name ms)
   pub goes_on : (x : Name) (xs : List Name) (f : Pending) →

@@ -1,3 +1,4 @@
+pub mod Canonical
 pub mod Code
 pub mod CodeParts
 pub mod Codes
@@ -13,10 +14,13 @@ pub mod Kinds
 pub mod Machine
 pub mod Names
 pub mod Numbers
+pub mod ProcessText
 pub mod Program
 pub mod Reading
 pub mod Scope
+pub mod ShapeOf
 pub mod Shapes
+pub mod Spelled
 pub mod Steps
 pub mod Text
 pub mod Tokens

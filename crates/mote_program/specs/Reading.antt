@@ -3,6 +3,7 @@ use Rattle.std.specs.Prelude.{◌≡◌, ℕ, List, ◌++◌, length, slice_get,
 use Rattle.mote_program.specs.Code.{Tree}
 use Rattle.mote_program.specs.Faults.{IsProgram, IsTold}
 use Rattle.mote_program.specs.Numbers.{tree_of_shape}
+use Rattle.mote_program.specs.ShapeOf.{shape_of}
 use Rattle.mote_program.specs.Shapes.{ProgramShape}
 use Rattle.mote_program.specs.Text.{IsLexed}
 use Rattle.mote_program.specs.Tokens.{Token}
@@ -20,6 +21,23 @@ pub record IsTreeOf (text : List ℕ) (tree : Tree) : Type 0 where
   pub lines : List ℕ
   pub lexed : IsLexed text tokens lines
   pub spelled : IsTreeOfTokens tokens tree
+
+-- the tokens of some text
+pub record AreLexed (tokens : List Token) : Type 0 where
+  pub text : List ℕ
+  pub lines : List ℕ
+  pub lexed : IsLexed text tokens lines
+
+-- the tree of some text, whose shape is that of the tree with its names put back
+pub record IsOfText (tree : Tree) : Type 0 where
+  pub tokens : List Token
+  pub lexed : AreLexed tokens
+  pub program : IsProgram (shape_of tree) tokens
+  pub numbered : tree ≡ tree_of_shape (shape_of tree)
+
+-- a program is made of some text
+abbrev pub WasRead : Tree → Type 0
+WasRead tree = ∥ IsOfText tree ∥₁
 
 -- the text's told fault is of this kind, and its token, or the end, stands on this line
 pub record IsToldOf (text : List ℕ) (kind : ReadErrorKind) (line : ℕ) : Type 0 where

@@ -38,6 +38,7 @@ pub data Expression (Name : Type 0) : Type 0 where
   count : Name → Expression Name
   negation : Expression Name → Expression Name
   binary : Operator → Expression Name → Expression Name → Expression Name
+  deriving IsSet as Expression-set
 
 -- a statement that has no block
 pub data Action (Name : Type 0) : Type 0 where
@@ -71,16 +72,19 @@ mutual
     does : Action Name → Statement Name
     branch : Expression Name → Body Name → Otherwise Name → Statement Name
     while : Expression Name → Body Name → Statement Name
+    deriving IsSet as Statement-set
 
   -- the statements of a block
   pub data Body (Name : Type 0) : Type 0 where
     end : Body Name
     next : Statement Name → Body Name → Body Name
+    deriving IsSet as Body-set
 
   -- what follows the block of an `if`
   pub data Otherwise (Name : Type 0) : Type 0 where
     nothing : Otherwise Name
     otherwise : Body Name → Otherwise Name
+    deriving IsSet as Otherwise-set
 
 -- the statements of a block as a list, and back
 abbrev pub listed : {N : Type 0} → Body N → List (Statement N)

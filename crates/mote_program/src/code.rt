@@ -20,7 +20,7 @@ use crate::cursor::{Cursor, Sign};
 use crate::fault::Refusal;
 use crate::keyword::Keyword;
 use crate::names::Names;
-use crate::program::ProcessText;
+use crate::process_text::ProcessText;
 use crate::reader::Reader;
 use crate::scope::Scope;
 use crate::token::Token;

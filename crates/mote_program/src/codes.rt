@@ -5,14 +5,15 @@ ghost use Rattle.mote_program.specs.Head.{FailsIn};
 ghost use Rattle.mote_program.specs.Machine as machine;
 ghost use Rattle.mote_program.specs.Faults.{nothing_yet, Scope};
 ghost use Rattle.mote_program.specs.Program.{code_of, tree_of};
-ghost use Rattle.mote_program.specs.Reading.{IsTreeOfTokens};
+ghost use Rattle.mote_program.specs.Reading.{AreLexed, IsTreeOfTokens};
 ghost use Rattle.mote_program.specs.Tokens.{token_of};
 ghost use Rattle.mote_program.specs.Steps.{scope_of};
 ghost use Rattle.mote_program.specs.declared.fault.Fault.{Fault};
 
 use crate::cursor::Cursor;
 use crate::fault::Refusal;
-use crate::program::{ProcessText, Program};
+use crate::process_text::ProcessText;
+use crate::program::Program;
 use crate::reader::Reader;
 use crate::scope::Scope as ScopeRead;
 use crate::timer::Timer;
@@ -113,6 +114,7 @@ impl Reader<'_> {
 
 /// The program that the tokens are, or their first fault.
 pub(crate) fn program<'a>(alloc: Global, tokens: &'a [Token<'a>]) -> Result<Program, Refusal>
+    requires { AreLexed (map token_of tokens.now) }
     ensures ok { IfOk result (λ p. IsTreeOfTokens (map token_of tokens.now) (tree_of p)) }
     ensures err { (f : Fault) → result ≡ Err (Refusal.Fault f) →
         machine.tell nothing_yet (machine.from_events ∷ []) (map token_of tokens.now) ≡ machine.fault f.kind f.left }

@@ -97,7 +97,7 @@ pub enum Stmt {
 #[derive(Debug, Drop)]
 #[cycle(statement)]
 pub struct Block {
-    statements: Vec<Stmt>,
+    pub(crate) statements: Vec<Stmt>,
 }
 
 impl Block {

@@ -10,9 +10,9 @@ use Rattle.mote_program.specs.Tokens.{token_of}
 use Rattle.mote_program.specs.declared.codes.Head.{Head}
 use Rattle.mote_program.specs.declared.fault.Refusal.{Refusal}
 use Rattle.mote_program.specs.declared.fault.Refusal.TheVariants as refusal
-use Rattle.mote_program.specs.declared.program.ProcessText.{ProcessText}
+use Rattle.mote_program.specs.declared.process_text.ProcessText.{ProcessText}
 use Rattle.mote_program.proofs.CodesLaws.{first_empty, second_empty}
-use Rattle.mote_program.proofs.ProgramLaws.{head_goes, no_own_names, some_process, tree_read, each_count, started, received, each_code, few_timers, owned}
+use Rattle.mote_program.proofs.ProgramLaws.{was_read, head_goes, no_own_names, some_process, tree_read, each_count, started, received, each_code, few_timers, owned}
 use Rattle.mote_program.proofs.codes.program.Goals as goal
 
 pub returns-in_err-head-clause-err : goal.returns-in_err-head-clause-err
@@ -68,9 +68,16 @@ new-requires-3-clause-few_timers c =
 pub new-requires-3-clause-owned : goal.new-requires-3-clause-owned
 new-requires-3-clause-owned c = owned (map token_of c.args.tokens.now) c.head.new.self.cursor (scope_of c.head.new.self.scope) (scope_of c.codes.new.self.scope) c.in_ok-head.head.counts.items c.in_ok-head.head.autostart.items c.in_ok-head.head.receiver (map code_of c.in_ok-codes.codes.items) (record { s0 = scope_of c.new-2.result; t0 = c.new.result; begins = c.new-2.ensures; text_is = c.new.ensures; read = c.in_ok-head.ensures.ok }) _ c.in_ok-codes.ensures.ok c.in_ok-timers.timers.items (c.in_ok-timers.ensures ∙ ap (λ xs. all_timers (map code_of xs)) c.deref.ensures.value)
 
+pub new-requires-3-clause-was_read : goal.new-requires-3-clause-was_read
+new-requires-3-clause-was_read c =
+    let read = subst (λ m. HasCodes (map code_of c.in_ok-codes.codes.items) [] (scope_of c.head.new.self.scope) (scope_of c.codes.new.self.scope) c.head.new.self.cursor m) c.in_ok-end.ensures.ok c.in_ok-codes.ensures.ok in
+    let some = some_process (map token_of c.args.tokens.now) c.head.new.self.cursor (scope_of c.head.new.self.scope) (scope_of c.codes.new.self.scope) c.in_ok-head.head.counts.items c.in_ok-head.head.autostart.items c.in_ok-head.head.receiver (map code_of c.in_ok-codes.codes.items) (record { s0 = scope_of c.new-2.result; t0 = c.new.result; begins = c.new-2.ensures; text_is = c.new.ensures; read = c.in_ok-head.ensures.ok }) read in
+    let both = (tree_read (map token_of c.args.tokens.now) c.head.new.self.cursor (scope_of c.head.new.self.scope) (scope_of c.codes.new.self.scope) c.in_ok-head.head.counts.items c.in_ok-head.head.autostart.items c.in_ok-head.head.receiver (map code_of c.in_ok-codes.codes.items) (record { s0 = scope_of c.new-2.result; t0 = c.new.result; begins = c.new-2.ensures; text_is = c.new.ensures; read = c.in_ok-head.ensures.ok }) read some.0 some.1 some.2 c.in_ok-timers.timers.items (c.in_ok-timers.ensures ∙ ap (λ xs. all_timers (map code_of xs)) c.deref.ensures.value)) in
+    was_read _ _ c.requires both.0 both.1
+
 pub returns-clause-ok : goal.returns-clause-ok
 returns-clause-ok c =
     let read = subst (λ m. HasCodes (map code_of c.in_ok-codes.codes.items) [] (scope_of c.head.new.self.scope) (scope_of c.codes.new.self.scope) c.head.new.self.cursor m) c.in_ok-end.ensures.ok c.in_ok-codes.ensures.ok in
     let some = some_process (map token_of c.args.tokens.now) c.head.new.self.cursor (scope_of c.head.new.self.scope) (scope_of c.codes.new.self.scope) c.in_ok-head.head.counts.items c.in_ok-head.head.autostart.items c.in_ok-head.head.receiver (map code_of c.in_ok-codes.codes.items) (record { s0 = scope_of c.new-2.result; t0 = c.new.result; begins = c.new-2.ensures; text_is = c.new.ensures; read = c.in_ok-head.ensures.ok }) read in
     subst (λ t. IsTreeOfTokens (map token_of c.args.tokens.now) t) (sym c.new-3.ensures)
-    (tree_read (map token_of c.args.tokens.now) c.head.new.self.cursor (scope_of c.head.new.self.scope) (scope_of c.codes.new.self.scope) c.in_ok-head.head.counts.items c.in_ok-head.head.autostart.items c.in_ok-head.head.receiver (map code_of c.in_ok-codes.codes.items) (record { s0 = scope_of c.new-2.result; t0 = c.new.result; begins = c.new-2.ensures; text_is = c.new.ensures; read = c.in_ok-head.ensures.ok }) read some.0 some.1 some.2 c.in_ok-timers.timers.items (c.in_ok-timers.ensures ∙ ap (λ xs. all_timers (map code_of xs)) c.deref.ensures.value))
+    (tree_read (map token_of c.args.tokens.now) c.head.new.self.cursor (scope_of c.head.new.self.scope) (scope_of c.codes.new.self.scope) c.in_ok-head.head.counts.items c.in_ok-head.head.autostart.items c.in_ok-head.head.receiver (map code_of c.in_ok-codes.codes.items) (record { s0 = scope_of c.new-2.result; t0 = c.new.result; begins = c.new-2.ensures; text_is = c.new.ensures; read = c.in_ok-head.ensures.ok }) read some.0 some.1 some.2 c.in_ok-timers.timers.items (c.in_ok-timers.ensures ∙ ap (λ xs. all_timers (map code_of xs)) c.deref.ensures.value)).0

@@ -1,4 +1,4 @@
-use Rattle.std.proofs.Common.{◌≡◌, ◌∙◌, Result, Err, Some, [], ◌∷◌, arith, ap, subst, map, length, ◌≤◌, ◌<◌, ◌-◌, refl, get_or}
+use Rattle.std.proofs.Common.{◌≡◌, ◌∙◌, Result, Err, Some, [], ◌∷◌, arith, ap, subst, sym, map, length, ◌≤◌, ◌<◌, ◌-◌, refl, get_or}
 use Rattle.std.specs.Prelude.{slice_get}
 use Rattle.std.proofs.lemmas.Option.{slice_get_read}
 use Rattle.mote_program.specs.Faults.{nothing_yet}
@@ -6,6 +6,7 @@ use Rattle.mote_program.specs.Machine.{tell, from_events, fault}
 use Rattle.mote_program.specs.Program.{tree_of}
 use Rattle.mote_program.specs.Reading.{IsToldOf}
 use Rattle.mote_program.specs.Reading.{IsTreeOfTokens}
+use Rattle.mote_program.specs.Text.{IsLexed}
 use Rattle.mote_program.specs.Tokens.{token_of}
 use Rattle.mote_program.specs.declared.error.ReadError.{ReadError}
 use Rattle.mote_program.specs.declared.fault.Refusal.{Refusal}
@@ -13,6 +14,13 @@ use Rattle.mote_program.specs.declared.fault.Refusal.TheVariants as refusal
 use Rattle.mote_program.specs.declared.program.Program.{Program}
 use Rattle.mote_program.proofs.Texts.{one_tree, tree_read, told_within, line_within, told_read, told_no_memory, never_both}
 use Rattle.mote_program.proofs.reading.read.Goals as goal
+
+pub program-requires : goal.program-requires
+program-requires c = record {
+  text = c.args.text.now;
+  lines = c.in_ok-lexed.lexed.lines.items;
+  lexed = subst (λ z. IsLexed c.args.text.now (map token_of z) c.in_ok-lexed.lexed.lines.items) (sym c.deref.ensures.value) c.in_ok-lexed.ensures;
+}
 
 pub returns-in-Ok-clause-only : goal.returns-in-Ok-clause-only
 returns-in-Ok-clause-only c = λ t h.

@@ -5,7 +5,7 @@ use Rattle.mote_program.specs.Numbers.{values_of}
 use Rattle.mote_program.specs.Steps.{scope_of}
 use Rattle.mote_program.specs.declared.fault.Refusal.{Refusal}
 use Rattle.mote_program.specs.declared.fault.Refusal.TheVariants as refusal
-use Rattle.mote_program.specs.declared.program.ProcessText.{ProcessText}
+use Rattle.mote_program.specs.declared.process_text.ProcessText.{ProcessText}
 use Rattle.mote_program.proofs.CodesLaws.{behind_variables, behind_threads, still_no_timers, first_empty, second_empty, same_processes, loop_goes, loop_fails, loop_ends}
 use Rattle.mote_program.proofs.reader.Reader.codes.Goals as goal
 

@@ -1,0 +1,148 @@
+//! Canonical texts, written by hand.
+
+use crate::{print_program, read};
+use std::alloc::Global;
+use std::test::Fail;
+
+/// Whether this is the canonical text of the program of a text, and of itself.
+fn prints(alloc: Global, text: &str, want: &str) -> Result<bool, Fail> {
+    for source in [text, want] {
+        let Ok(program) = read(alloc, source) else {
+            return Ok(false);
+        };
+        let printed = print_program(alloc, &program)?;
+        if printed.as_str() != want {
+            return Ok(false);
+        }
+    }
+    Ok(true)
+}
+
+#[test]
+fn print_then_yield(rt: HostRuntime) -> Result<(), Fail> {
+    let text = "process a; autostart a; code a { body { print 1; yield; print 2; } }";
+    let want = "process a;
+autostart a;
+code a {
+  body {
+    print 1;
+    yield;
+    print 2;
+  }
+}
+";
+    assert!(rt; prints(rt.alloc(), text, want)?);
+    Ok(())
+}
+
+#[test]
+fn declarations_and_empty_parts(rt: HostRuntime) -> Result<(), Fail> {
+    let text = "event e;event f;semaphore s=3;process a,b;autostart b,a;receiver b;
+        code a{var x=1;var y=65535;etimer t;ctimer c{}thread h{}onpoll{}onexit{print 0;}body{}}
+        code b{body{}}";
+    let want = "event e;
+event f;
+semaphore s = 3;
+process a, b;
+autostart b, a;
+receiver b;
+code a {
+  var x = 1;
+  var y = 65535;
+  etimer t;
+  ctimer c {
+  }
+  thread h {
+  }
+  onpoll {
+  }
+  onexit {
+    print 0;
+  }
+  body {
+  }
+}
+code b {
+  body {
+  }
+}
+";
+    assert!(rt; prints(rt.alloc(), text, want)?);
+    Ok(())
+}
+
+#[test]
+fn statements(rt: HostRuntime) -> Result<(), Fail> {
+    let text = "event e;semaphore s=0;process a;code a{var x=0;etimer t;thread h{restart;}body{
+        x=1;send x;wait_until 1;wait_while 0;yield;yield_until x;spawn h;exit;pause;acquire s;signal s;
+        post a e x into x;post a exit 0;broadcast msg x into x;broadcast com 1;synch a packet 2;poll a;
+        start a;kill a;set t 5;reset t;restart_timer t;stop t;}}";
+    let want = "event e;
+semaphore s = 0;
+process a;
+code a {
+  var x = 0;
+  etimer t;
+  thread h {
+    restart;
+  }
+  body {
+    x = 1;
+    send x;
+    wait_until 1;
+    wait_while 0;
+    yield;
+    yield_until x;
+    spawn h;
+    exit;
+    pause;
+    acquire s;
+    signal s;
+    post a e x into x;
+    post a exit 0;
+    broadcast msg x into x;
+    broadcast com 1;
+    synch a packet 2;
+    poll a;
+    start a;
+    kill a;
+    set t 5;
+    reset t;
+    restart_timer t;
+    stop t;
+  }
+}
+";
+    assert!(rt; prints(rt.alloc(), text, want)?);
+    Ok(())
+}
+
+#[test]
+fn branches_and_expressions(rt: HostRuntime) -> Result<(), Fail> {
+    let text = "semaphore s=0;process a;code a{var x=0;etimer t;body{
+        if x{}else{if(x==1){print !x;}}while((x+1)<(2*!!from)){}
+        print(is(continue)||(is(init)&&is(exit)));print((fired(t)!=expired(t))>=gone(a));
+        print((running(a)<=count(s))>(now-(self/(data%7))));}}";
+    let want = "semaphore s = 0;
+process a;
+code a {
+  var x = 0;
+  etimer t;
+  body {
+    if x {
+    } else {
+      if (x == 1) {
+        print !x;
+      }
+    }
+    while ((x + 1) < (2 * !!from)) {
+    }
+    print (is(continue) || (is(init) && is(exit)));
+    print ((fired(t) != expired(t)) >= gone(a));
+    print ((running(a) <= count(s)) > (now - (self / (data % 7))));
+  }
+}
+";
+    assert!(rt; prints(rt.alloc(), text, want)?);
+    Ok(())
+}
