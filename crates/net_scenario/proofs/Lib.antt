@@ -1,3 +1,4 @@
+pub mod ByName
 pub mod Each
 pub mod Keeps
 pub mod Members

@@ -4,7 +4,7 @@ use Rattle.std.proofs.lemmas.Bool.Decides.{nat_tests}
 use Rattle.std.proofs.lemmas.List.{length-map}
 use Rattle.toml.specs.Data.{Members}
 use Rattle.toml.specs.Parse.{parse_document}
-use Rattle.radio_medium.specs.Medium.{Radio, medium_fault, MakesMedium}
+use Rattle.radio_medium.specs.Medium.{Radio, MakesMedium}
 use Rattle.net_scenario.specs.declared.net.Mote.{Mote}
 use Rattle.net_scenario.specs.Limits.{longest_text, fewest_motes, most_motes}
 use Rattle.net_scenario.specs.Rules.{top_rules}

@@ -1,10 +1,10 @@
 -- A document without fault keeps the limits of the medium.
-use Rattle.std.proofs.Common.{◌≡◌, ◌≤◌, ℕ, List, [], ◌∷◌, map, codes, length, refl, sym, ap, ◌∙◌, ℤ, pos, neg_ℤ, unsigned_abs, unwrap_or, Option, Some, None, lit<, lit≤, All, zero, suc, ◌<◌, arith}
+use Rattle.std.proofs.Common.{◌≡◌, ◌≤◌, ℕ, List, [], ◌∷◌, map, codes, refl, sym, ap, ℤ, pos, neg_ℤ, unsigned_abs, unwrap_or, Option, Some, None, lit<, All, zero, suc, arith}
 use Rattle.std.proofs.lemmas.List.{length-map}
 use Rattle.toml.specs.Data.{Members}
-use Rattle.radio_medium.specs.Medium.{Radio, IsWithinLimits}
+use Rattle.radio_medium.specs.Medium.{IsWithinLimits}
 use Rattle.radio_medium.specs.declared.place.Place.{Place}
-use Rattle.net_scenario.specs.Document.{version_of, natural, integer_at, natural_at, table_at, tables_at, first_some}
+use Rattle.net_scenario.specs.Document.{version_of, natural, integer_at, table_at, tables_at, first_some}
 use Rattle.net_scenario.specs.Limits.{latest_end}
 use Rattle.net_scenario.specs.Net.{place_of, loss_of, radio_told}
 use Rattle.net_scenario.specs.Rules.{keys_fault, top_rules, medium_rules, mote_rules}

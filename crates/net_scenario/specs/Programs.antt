@@ -1,5 +1,8 @@
 -- The programs of a scenario, in byte order of their names, and how they are read.
 use Rattle.std.specs.Prelude.{◌≡◌, ℕ, List, [], ◌∷◌, ◌++◌, map, unwrap_or, Result, Ok, Err, Vec}
+use Rattle.std.specs.Cmp.Lexicographic.{slice_cmp}
+use Rattle.std.specs.List.Sorted.{IsStrictlySortedBy}
+use Rattle.std.specs.Ordering.{nat_cmp}
 use Rattle.std.specs.declared.alloc.Global.{Global}
 use Rattle.toml.specs.Data.{Members, no_members, member, as_str}
 use Rattle.mote_program.specs.Code.{Tree}
@@ -27,6 +30,10 @@ named_tree p = record { name = p.name; tree = tree_of p.program }
 abbrev pub texts_of : Members → List ProgramText
 texts_of no_members = []
 texts_of (member k d ms) = record { name = k; text = unwrap_or (as_str d) [] } ∷ texts_of ms
+
+-- programs that stand in byte order of their names, each name once
+abbrev pub AreInOrder : List NamedProgram → Type 0
+AreInOrder ps = IsStrictlySortedBy (slice_cmp nat_cmp) (map (λ p. p.name) ps)
 
 -- each program's text is that of the tree beside it
 abbrev pub AllRead : List ProgramText → List NamedTree → Type 0

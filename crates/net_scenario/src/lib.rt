@@ -27,6 +27,8 @@ mod programs;
 mod queues;
 mod read;
 mod rules;
+#[cfg(test)]
+mod tests;
 mod values;
 mod version;
 

@@ -5,7 +5,7 @@ ghost use Rattle.std.specs.Str.{bytes_eq};
 ghost use Rattle.toml.specs.View.{items_view, table_view};
 ghost use Rattle.net_scenario.specs.Document.{first_some, members_of, tables_in};
 ghost use Rattle.net_scenario.specs.Names.{lengths_fault};
-ghost use Rattle.net_scenario.specs.Programs.{named_tree};
+ghost use Rattle.net_scenario.specs.Programs.{AreInOrder, named_tree};
 ghost use Rattle.net_scenario.specs.Motes.{is_mote_of};
 ghost use Rattle.net_scenario.specs.Net.{mote_of, mote_told, unread_fault};
 
@@ -16,17 +16,20 @@ use crate::values::text_at;
 use std::alloc::{AllocError, Global};
 use toml::{Table, Value};
 
-/// The index of the program with a name.
+/// The index of the program with a name, among programs in byte order of their names.
 fn index_of(programs: &[NamedProgram], name: &str) -> Option<usize>
+    requires { AreInOrder programs.now }
     ensures { result ≡ position_from (λ p. bytes_eq p.name name.now) 0 programs.now }
 {
-    programs
-        .iter()
-        .position(|program| program.name.as_str() == name)
+    match programs.binary_search_by(|program| program.name.as_str().cmp(name)) {
+        Ok(index) => Some(index),
+        Err(_) => None,
+    }
 }
 
 /// The mote of a table, whose program is among those read.
 fn mote_of(programs: &[NamedProgram], queue: Option<&Table>, table: &Table) -> Mote
+    requires in_order { AreInOrder programs.now }
     requires queue { lengths_fault (members_of queue) ≡ None }
     requires read { unread_fault (map named_tree programs.now) (table_view table.now) ≡ None }
     ensures value { mote_told programs.now result ≡ mote_of (members_of queue.entry) (map named_tree programs.now) (table_view table.now) }
@@ -47,6 +50,7 @@ pub fn motes_of(
     queue: Option<&Table>,
     items: &[Value],
 ) -> Result<Vec<Mote>, AllocError>
+    requires in_order { AreInOrder programs.now }
     requires queue { lengths_fault (members_of queue) ≡ None }
     requires read { first_some (unread_fault (map named_tree programs.now)) (tables_in (items_view items.now)) ≡ None }
     ensures value { IfOk result (λ v. map (mote_told programs.now) v.items ≡ map (mote_of (members_of queue.entry) (map named_tree programs.now)) (tables_in (items_view items.now))) }

@@ -1,7 +1,7 @@
 //! The programs of a scenario, in byte order of their names.
-ghost use Rattle.std.specs.Prelude.{◌≡◌};
+ghost use Rattle.std.specs.Prelude.{◌≡◌, IfOk};
 ghost use Rattle.toml.specs.View.{table_view};
-ghost use Rattle.net_scenario.specs.Programs.{texts_of, ReadsProgram, ReadsPrograms};
+ghost use Rattle.net_scenario.specs.Programs.{texts_of, AreInOrder, ReadsProgram, ReadsPrograms};
 
 use crate::error::ScenarioError;
 use crate::program_name::ProgramName;
@@ -33,7 +33,8 @@ fn read_program(alloc: Global, name: &str, text: &str) -> Result<NamedProgram, S
 
 /// The programs of a table, those too that no mote runs, or the first that can't be read.
 pub fn read_programs(alloc: Global, table: &Table) -> Result<Vec<NamedProgram>, ScenarioError>
-    ensures { ReadsPrograms (texts_of (table_view table.now)) result }
+    ensures read { ReadsPrograms (texts_of (table_view table.now)) result }
+    ensures in_order { IfOk result (λ programs. AreInOrder programs.items) }
 {
     let mut programs = Vec::new(alloc);
     for (name, value) in table.iter() {

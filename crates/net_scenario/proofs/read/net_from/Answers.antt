@@ -11,12 +11,15 @@ use Rattle.net_scenario.proofs.read.net_from.Goals as goal
 pub table_at-requires : goal.table_at-requires
 table_at-requires c = table_kept _ _ (keeps_all _ top_rules _ (faultless _ c.requires).top 3 (lit< tt) refl)
 
+pub motes_of-requires-clause-in_order : goal.motes_of-requires-clause-in_order
+motes_of-requires-clause-in_order c = rw c.deref.ensures.value c.in_ok-programs.ensures.in_order
+
 pub motes_of-requires-clause-queue : goal.motes_of-requires-clause-queue
 motes_of-requires-clause-queue c = rw c.table_if_any-queue.ensures (faultless _ c.requires).lengths
 
 pub motes_of-requires-clause-read : goal.motes_of-requires-clause-read
 motes_of-requires-clause-read c =
-    rw (c.deref.ensures.value, c.items_at.ensures) (all_read _ _ _ (rw c.table_at.ensures at c.in_ok-programs.ensures) (faultless _ c.requires).programs)
+    rw (c.deref.ensures.value, c.items_at.ensures) (all_read _ _ _ (rw c.table_at.ensures at c.in_ok-programs.ensures.read) (faultless _ c.requires).programs)
 
 pub natural_at-end-requires : goal.natural_at-end-requires
 natural_at-end-requires c = natural_kept 1000000 _ _ (lit≤ tt) (keeps_all _ top_rules _ (faultless _ c.requires).top 1 (lit< tt) refl)
@@ -47,7 +50,7 @@ returns c =
     let motes = rw (c.deref.ensures.value, c.table_if_any-queue.ensures, c.items_at.ensures) at c.in_ok-motes.ensures.value in
     rw c.new.ensures
     (made (table_view c.args.top.now) _ _ _ c.in_ok-programs.programs.items _
-    (rw c.table_at.ensures at c.in_ok-programs.ensures)
+    (rw c.table_at.ensures at c.in_ok-programs.ensures.read)
     c.natural_at-end.ensures
     (rw c.table_at-2.ensures at c.flag_at-collide.ensures)
     c.in_ok-medium.ensures

@@ -1,4 +1,4 @@
-use Rattle.std.proofs.Common.{◌≡◌, get_or, rules, refl}
+use Rattle.std.proofs.Common.{◌≡◌, get_or, rules}
 use Rattle.net_scenario.proofs.NetMotes.{program_of_mote}
 use Rattle.net_scenario.proofs.net.Net.program_name.Goals as goal
 
