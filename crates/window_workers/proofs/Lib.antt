@@ -1,1 +1,12 @@
-
+pub mod Boots
+pub mod Gathered
+pub mod Kept
+pub mod Keys
+pub mod Lists
+pub mod NewWakes
+pub mod Orders
+pub mod Ranks
+pub mod Reached
+pub mod Reports
+pub mod SentOut
+pub mod Steps

@@ -1,6 +1,9 @@
 pub mod Agenda
+pub mod Buckets
+pub mod Ended
 pub mod NetRun
 pub mod NetStep
 pub mod Order
 pub mod Report
+pub mod Stands
 pub mod System

@@ -13,6 +13,7 @@ use Rattle.radio_medium.specs.Medium.{Radio, copies, fates, lookahead}
 use Rattle.net_scenario.specs.Net.{MoteTold, NetTold}
 use Rattle.window_workers.specs.System.{System, Turned}
 use Rattle.window_workers.specs.Agenda.{packets, up_to}
+use Rattle.window_workers.specs.Buckets.{arrival_of}
 use Rattle.window_workers.specs.NetStep.{NetState, Run, boot}
 use Rattle.window_workers.specs.Report.{Packet, ReportTold}
 
@@ -30,10 +31,6 @@ mote_at motes mote = unwrap_or (slice_get motes mote) no_mote
 -- a mote before its first turn
 abbrev pub first_node : NetTold → (mote : ℕ) → Node
 first_node n mote = let m = mote_at n.motes mote in with_collide n.collide (new_node m.tree mote m.queue)
-
--- what a mote is given of a copy
-abbrev pub arrival_of : RadioCopy → Arrival
-arrival_of copy = record { sender = copy.sender; number = copy.number; value = copy.value }
 
 abbrev pub turned_of : node.Turned → Turned Node Line
 turned_of t = record { state = t.node; lines = t.lines; sends = t.sends; wake = t.wake }

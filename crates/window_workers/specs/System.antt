@@ -33,4 +33,4 @@ pub record IsCopyOf {S L : Type 0} (system : System S L) (sent : Sent) (copy : R
 pub record IsSystem {S L : Type 0} (system : System S L) : Type 0 where
   pub some_lookahead : 0 < system.lookahead
   pub wakes_later : (mote : ℕ) (state : S) (moment : ℕ) (given : List RadioCopy) → IsLater moment (system.turn mote state moment given).wake
-  pub copies_later : (sent : Sent) → sent.sender < system.motes → AllByRecursion (IsCopyOf system sent) (system.copies sent)
+  pub copies_later : (sent : Sent) → AllByRecursion (IsCopyOf system sent) (system.copies sent)

@@ -1,6 +1,14 @@
 //! Runs of a net: the motes' turns one after another, and what they leave to report.
 #![tactic(auto)]
 
+mod agenda;
+mod bucket;
+mod engine;
+mod error;
 mod report;
+mod sends;
+mod serial;
 
+pub use error::RunError;
 pub use report::{LogLine, Report};
+pub use serial::run_serial;

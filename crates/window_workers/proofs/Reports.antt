@@ -1,0 +1,54 @@
+-- What the engine tells at the end is the report.
+use Rattle.std.proofs.Common.{◌≡◌, ℕ, zero, suc, ◌+◌, ◌-◌, ◌<◌, ◌≤◌, List, [], ◌∷◌, ◌++◌, length, map, get_or, take, sym, ap, ◌∙◌, subst, refl, arith, add-one}
+use Rattle.std.specs.Prelude.{Vec}
+use Rattle.std.specs.declared.alloc.Global.{Global}
+use Rattle.std.proofs.Math.Seq.{take-suc, take-length}
+use Rattle.std.proofs.lemmas.List.{map-append}
+use Rattle.process_kernel.specs.declared.line.Line.{Line}
+use Rattle.mote_node.specs.Node.{Node}
+use Rattle.net_scenario.specs.Net.{NetTold}
+use Rattle.window_workers.specs.declared.engine.Engine.{Engine}
+use Rattle.window_workers.specs.declared.report.Report.{Report}
+use Rattle.window_workers.specs.Agenda.{packets, up_to}
+use Rattle.window_workers.specs.NetRun.{packet_of, told_at, IsReportOf}
+use Rattle.window_workers.specs.Report.{Packet, ReportTold, lines_in, told_line, report_of}
+use Rattle.window_workers.specs.Stands.{Stands, IsWhole}
+use Rattle.window_workers.specs.Ended.{HasEnded}
+
+-- a list that is a family, place by place
+family : {X Y : Type 0} (g : X → Y) (f : ℕ → Y) (xs : List X) → ((k : ℕ) → k < length xs → (d : X) → g (get_or xs k d) ≡ f k) → map g xs ≡ map f (up_to (length xs))
+family {X} {Y} g f xs h = ap (map g) (sym (take-length xs)) ∙ upto xs h (length xs) (low (length xs))
+  where
+    low : (n : ℕ) → n ≤ n
+    low n = omega arith
+
+    upto : (xs : List X) → ((k : ℕ) → k < length xs → (d : X) → g (get_or xs k d) ≡ f k) → (n : ℕ) → n ≤ length xs → map g (take n xs) ≡ map f (up_to n)
+    upto xs h zero le = refl
+    upto [] h (suc n) le = absurd (omega arith)
+    upto (x ∷ xs) h (suc n) le =
+        let a : n < length (x ∷ xs) = omega arith in
+        let b : n ≤ length (x ∷ xs) = omega arith in
+        ap (map g) (take-suc (x ∷ xs) n x a)
+        ∙ (map-append g (take n (x ∷ xs)) (get_or (x ∷ xs) n x ∷ [])
+        ∙ (ap (λ l. l ++ g (get_or (x ∷ xs) n x) ∷ []) (upto (x ∷ xs) h n b)
+        ∙ (ap (λ y. map f (up_to n) ++ y ∷ []) (h n a x) ∙ sym (map-append f (up_to n) (n ∷ [])))))
+
+abbrev told_of : List (List Line) → List Packet → ℕ → ReportTold
+told_of traces log left = record { traces = traces; log = log; left = left }
+
+pub report_is : (n : NetTold) (engine : Engine) (report : Report) → IsWhole n engine → (at : HasEnded n engine)
+    → report.traces ≡ engine.traces → report.medium ≡ engine.log → report.left ≡ length (packets at.last.agenda) → IsReportOf n (report_of report)
+report_is n engine report whole at traces log left = record {
+  last = at.last;
+  run = at.run;
+  told =
+      ap (λ (v : Vec (Vec Line Global) Global). told_of (map lines_in v.items) (map told_line report.medium.items) report.left) traces
+      ∙ (ap (λ l. told_of l (map told_line report.medium.items) report.left) all
+      ∙ (ap (λ l. told_of (map at.last.traces (up_to (length n.motes))) l report.left) (ap (λ v. map told_line v.items) log ∙ at.stands.log)
+      ∙ ap (told_of (map at.last.traces (up_to (length n.motes))) (map (packet_of n.radio) at.last.log)) left));
+}
+  where
+    all : map lines_in engine.traces.items ≡ map at.last.traces (up_to (length n.motes))
+    all =
+        family lines_in at.last.traces engine.traces.items (λ k h d. at.stands.traces k (let e = whole.traces in omega arith) d)
+        ∙ ap (λ j. map at.last.traces (up_to j)) whole.traces

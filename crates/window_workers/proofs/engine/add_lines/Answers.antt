@@ -1,0 +1,14 @@
+use Rattle.std.proofs.Common.{◌≡◌, ◌∙◌, ◌<◌, ◌++◌, ap, sym, length, get_or, slice_set, arith}
+use Rattle.std.proofs.lemmas.List.{get_or_default}
+use Rattle.window_workers.proofs.engine.add_lines.Goals as goal
+
+pub returns : goal.returns
+returns c =
+    let xs = c.args.traces.now.items in
+    let old = c.index_mut.result.now in record {
+      after = c.append.new.self;
+      put = ap (λ k. slice_set xs k c.append.new.self) c.from.ensures;
+      added = λ d.
+          c.in_ok-append.ensures.items
+          ∙ ap (λ v. v.items ++ c.args.lines.items) (c.index_mut.ensures.value ∙ (ap (λ k. get_or xs k old) c.from.ensures ∙ sym (get_or_default xs c.args.number d old c.requires)));
+    }

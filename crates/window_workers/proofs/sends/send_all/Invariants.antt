@@ -1,0 +1,15 @@
+use Rattle.std.proofs.Common.{◌≡◌, ◌++◌, List, map, take}
+use Rattle.std.specs.List.{flat_map}
+use Rattle.radio_medium.specs.Medium.{copies}
+use Rattle.window_workers.specs.Agenda.{Item, Packet}
+use Rattle.window_workers.specs.Buckets.{Holds}
+use Rattle.window_workers.specs.NetRun.{packet_of}
+use Rattle.window_workers.specs.NetStep.{stamped}
+use Rattle.window_workers.specs.Report.{told_line}
+use Rattle.window_workers.proofs.sends.send_all.Given as goal
+
+abbrev pub invariant-loop-sent : goal.invariant-loop-sent
+invariant-loop-sent l = record {
+  agenda : (items : List Item) → Holds l.fn.agenda.buckets items → Holds l.agenda.buckets (items ++ map Packet (flat_map (copies l.medium) (map (stamped l.moment l.mote) (take l.sent-index l.sends))));
+  log : map told_line l.log.items ≡ map told_line l.fn.log.items ++ map (packet_of l.medium) (map (stamped l.moment l.mote) (take l.sent-index l.sends));
+}

@@ -1,0 +1,13 @@
+use Rattle.std.proofs.Common.{suc, ◌+◌, ◌-◌, ◌*◌, length}
+use Rattle.net_scenario.specs.Net.{net_of}
+use Rattle.window_workers.specs.Buckets.{first_key}
+use Rattle.window_workers.specs.Ended.{HasReached}
+use Rattle.window_workers.specs.Stands.{IsWhole}
+use Rattle.window_workers.proofs.Ranks.{turns_left}
+use Rattle.window_workers.proofs.serial.run_to_end.Given as goal
+
+abbrev pub invariant-turns : goal.invariant-turns
+invariant-turns l = record { whole : IsWhole (net_of l.net) l.engine; reached : HasReached (net_of l.net) l.engine }
+
+abbrev pub decreases-turns : goal.decreases-turns
+decreases-turns l = turns_left (length (net_of l.net).motes) l.end (first_key l.engine.agenda.buckets)

@@ -1,0 +1,24 @@
+-- How far a run has come.
+use Rattle.std.specs.Prelude.{◌≡◌, ℕ, ◌<◌}
+use Rattle.std.specs.List.{AllByRecursion}
+use Rattle.process_kernel.specs.declared.line.Line.{Line}
+use Rattle.mote_node.specs.Node.{Node}
+use Rattle.net_scenario.specs.Net.{NetTold}
+use Rattle.window_workers.specs.declared.engine.Engine.{Engine}
+use Rattle.window_workers.specs.Agenda.{moment_of}
+use Rattle.window_workers.specs.NetRun.{system_of}
+use Rattle.window_workers.specs.NetStep.{NetState, Run, boot}
+use Rattle.window_workers.specs.Stands.{Stands, IsKept}
+
+-- The engine is where a beginning of the run leads: how the run goes on from there, it goes from boot.
+pub record HasReached (n : NetTold) (engine : Engine) : Type 0 where
+  pub state : NetState Node Line
+  pub stands : Stands n engine state
+  pub kept : IsKept n state
+  pub led : (last : NetState Node Line) → Run (system_of n) n.end state last → Run (system_of n) n.end (boot (system_of n)) last
+
+-- the engine is where the run ends
+pub record HasEnded (n : NetTold) (engine : Engine) : Type 0 where
+  pub last : NetState Node Line
+  pub stands : Stands n engine last
+  pub run : Run (system_of n) n.end (boot (system_of n)) last

@@ -1,0 +1,144 @@
+//! A net as it runs: its motes, their traces, the medium's log, and what is to come.
+
+ghost use Rattle.std.specs.Prelude.{◌≡◌, ◌<◌, ◌≤◌, ◌^◌, length, slice_index_or, Some, OnOk, IfOk};
+ghost use Rattle.mote_program.specs.Program.{tree_of};
+ghost use Rattle.mote_node.specs.Node.{Node};
+ghost use Rattle.mote_node.specs.Public.{node_in, wake_in};
+ghost use Rattle.mote_node.specs.declared.mote.Mote.{Mote as MoteOfCode};
+ghost use Rattle.mote_program.specs.Code.{Tree};
+ghost use Rattle.process_kernel.specs.declared.line.Line.{Line};
+ghost use Rattle.net_scenario.specs.Net.{net_of};
+ghost use Rattle.window_workers.specs.Buckets.{wake_but_at};
+ghost use Rattle.window_workers.specs.NetRun.{system_of, first_node};
+ghost use Rattle.window_workers.specs.NetStep.{NetState, turn_at, boot};
+ghost use Rattle.window_workers.specs.Stands.{tree_at, Stands, IsWhole, IsKept, TakesTurn, AddsLines};
+
+use crate::agenda::Agenda;
+use crate::report::LogLine;
+use crate::sends::send_all;
+use mote_node::{Mote, TurnOut};
+use mote_program::Program;
+use net_scenario::Net;
+use process_kernel::{Arrival, Line};
+use std::alloc::{AllocError, Global};
+
+/// The motes, each with its trace; the packets that were sent; and what is to come.
+#[derive(Drop)]
+pub struct Engine {
+    pub motes: Vec<Mote>,
+    pub traces: Vec<Vec<Line>>,
+    pub log: Vec<LogLine>,
+    pub agenda: Agenda,
+}
+
+/// A wake at another moment than this.
+fn wake_but_at(moment: u64, wake: Option<u64>) -> Option<u64>
+    ensures { result ≡ wake_but_at moment wake }
+{
+    match wake {
+        Some(wake) => {
+            if wake == moment {
+                return None;
+            }
+            Some(wake)
+        }
+        None => None,
+    }
+}
+
+/// The mote with this number, before its first turn.
+fn new_mote(alloc: Global, net: &Net, number: u16) -> Result<Mote, AllocError>
+    requires { number < length (net_of net.now).motes }
+    ensures { let n = net_of net.now in IfOk result (λ mote. node_in (tree_at n number) mote ≡ Some (first_node n number)) }
+{
+    let made = Mote::new(alloc, number, net.program(number), net.queue(number));
+    let Ok(mut mote) = made else {
+        return Err(AllocError);
+    };
+    mote.set_collide(net.collide());
+    Ok(mote)
+}
+
+/// The turn of one of the motes.
+fn turn_mote(
+    motes: &mut Vec<Mote>,
+    program: &Program,
+    number: u16,
+    moment: u64,
+    packets: &[Arrival],
+) -> Result<TurnOut, AllocError>
+    requires there { number < length motes.old.items }
+    requires early { moment ≤ 2 ^ 40 }
+    ensures { IfOk result (λ out. TakesTurn (tree_of program.now) moment packets.now number motes.old.items motes.new.items out) }
+{
+    let Ok(out) = motes[usize::from(number)].turn(program, moment, packets) else {
+        return Err(AllocError);
+    };
+    Ok(out)
+}
+
+/// When one of the motes wakes next.
+fn wake_at(motes: &[Mote], number: u16) -> Option<u64>
+    requires { number < length motes.now }
+    ensures { (t : Tree) (d : MoteOfCode) → result ≡ wake_in (node_in t (slice_index_or motes.now number d)) }
+{
+    motes[usize::from(number)].wake()
+}
+
+/// Lines more at the end of a mote's trace.
+fn add_lines(traces: &mut Vec<Vec<Line>>, number: u16, lines: Vec<Line>) -> Result<(), AllocError>
+    requires { number < length traces.old.items }
+    ensures { OnOk result (AddsLines number lines.items traces.old.items traces.new.items) }
+{
+    let mut lines = lines;
+    traces[usize::from(number)].append(&mut lines)?;
+    Ok(())
+}
+
+impl Engine {
+    /// The net before its first turn: each mote wakes at 0.
+    pub fn boot(alloc: Global, net: &Net) -> Result<Engine, AllocError>
+        ensures stands { let n = net_of net.now in IfOk result (λ engine. Stands n engine (boot (system_of n))) }
+        ensures whole { let n = net_of net.now in IfOk result (λ engine. IsWhole n engine) }
+    {
+        let mut engine = Engine {
+            motes: Vec::new(alloc),
+            traces: Vec::new(alloc),
+            log: Vec::new(alloc),
+            agenda: Agenda::new(alloc),
+        };
+        for number in 0..net.motes() {
+            let mote = new_mote(alloc, net, number)?;
+            engine.motes.push(mote)?;
+            engine.traces.push(Vec::new(alloc))?;
+            engine.agenda.put_wake(0, number)?;
+        }
+        Ok(engine)
+    }
+
+    /// The turn of a mote on all that is due for it.
+    pub fn turn(&mut self, net: &Net, moment: u64, number: u16) -> Result<(), AllocError>
+        requires there { number < length (net_of net.now).motes }
+        requires early { moment ≤ 2 ^ 40 }
+        requires whole { IsWhole (net_of net.now) self.old }
+        ensures stands { let n = net_of net.now in OnOk result ((state : NetState Node Line) → Stands n self.old state → IsKept n state → Stands n self.new (turn_at (system_of n) moment number state)) }
+        ensures whole { OnOk result (IsWhole (net_of net.now) self.new) }
+    {
+        let packets = self.agenda.take_due(moment, number);
+        let wake = wake_but_at(moment, wake_at(&self.motes, number));
+        self.agenda.drop_wake(wake, number)?;
+        let out = turn_mote(&mut self.motes, net.program(number), number, moment, &packets)?;
+        let TurnOut { lines, sends, wake } = out;
+        self.agenda.put_next_wake(wake, number)?;
+        send_all(
+            net.medium(),
+            moment,
+            number,
+            &sends,
+            &mut self.agenda,
+            &mut self.log,
+        )?;
+        add_lines(&mut self.traces, number, lines)?;
+        Ok(())
+    }
+}
