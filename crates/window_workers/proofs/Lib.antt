@@ -4,6 +4,7 @@ pub mod Kept
 pub mod Keys
 pub mod Lists
 pub mod NewWakes
+pub mod OneRun
 pub mod Orders
 pub mod Ranks
 pub mod Reached

@@ -1,6 +1,7 @@
 pub mod Agenda
 pub mod Buckets
 pub mod Ended
+pub mod Laws
 pub mod NetRun
 pub mod NetStep
 pub mod Order

@@ -5,6 +5,7 @@ mod agenda;
 mod bucket;
 mod engine;
 mod error;
+pub mod laws;
 mod report;
 mod sends;
 mod serial;
