@@ -1,7 +1,7 @@
 -- What an agenda has for each mote at each moment, as items come and go.
 use Rattle.std.proofs.Common.{◌≡◌, ℕ, Bool, true, false, cond, not, ◌&&◌, ◌||◌, eqb, if◌then◌else◌, List, [], ◌∷◌, ◌++◌, map, refl, sym, ap, ◌∙◌, inl, inr, append-nil, arith, ltb, zero, suc, ◌<◌, subst, append_assoc, add-one, take, get_or, length, ◌+◌, Option, Some, None, IsSome, unwrap_or, option_map}
 use Rattle.std.specs.List.{filter, list_any, AllByRecursion}
-use Rattle.std.proofs.lemmas.Bool.{cases_Bool, eq-eqb, ne_eqb, eqb-true, and_parts, false≢true, or_right, or_parts, false_from_ne_true}
+use Rattle.std.proofs.lemmas.Bool.{cases_Bool, eq-eqb, eqb-true, and_parts, false≢true, or_right}
 use Rattle.std.proofs.lemmas.Bool.Decides.{nat_tests}
 use Rattle.std.proofs.lemmas.List.Elements.{filter-append}
 use Rattle.std.proofs.lemmas.List.{map-append}
@@ -9,14 +9,14 @@ use Rattle.std.proofs.Math.Seq.{take-suc}
 use Rattle.process_kernel.specs.declared.line.Arrival.{Arrival}
 use Rattle.radio_medium.specs.declared.copy.RadioCopy.{RadioCopy}
 use Rattle.window_workers.specs.Order.{is_before, insert_by, sorted_by, in_order}
-use Rattle.window_workers.specs.Agenda.{Item, Wake, Packet, IsLeast, is_due, is_wake_of, moment_of, mote_of, packets, wake_items}
-use Rattle.window_workers.specs.Buckets.{arrival_of, put_in_order, Due, nothing_due, is_wake, due_all, gathered, due_of, is_here, with_copy, with_wake, without_wake, is_none_left, Buckets, Holds, due_in, told_bucket, key_cmp}
+use Rattle.window_workers.specs.Agenda.{Item, Wake, Packet, IsLeast, is_due, is_wake_of, moment_of, mote_of, packets}
+use Rattle.window_workers.specs.Buckets.{arrival_of, Due, nothing_due, is_wake, due_all, gathered, due_of, is_here, with_copy, with_wake, without_wake, is_none_left, Buckets, Holds, due_in, told_bucket, key_cmp}
 use Rattle.window_workers.specs.declared.bucket.Bucket.{Bucket}
 use Rattle.window_workers.proofs.Keys.{key_is, key_from, updated}
 use Rattle.std.specs.Ordering.{is_eq, is_gt}
 use Rattle.std.specs.BTreeMap.{get, is_at}
 use Rattle.std.specs.Map.{lookup}
-use Rattle.window_workers.proofs.Lists.{is_filled, filter_filter, filter_stronger, filter_none, filter_not, filter_every, every_weaker, every_passes, filled_any}
+use Rattle.window_workers.proofs.Lists.{is_filled, filter_filter, filter_stronger, filter_none, filter_not, every_weaker, every_passes, filled_any}
 use Rattle.window_workers.proofs.Orders.{in_order_more, in_order_none, none_left}
 
 pub packets_append : (xs ys : List Item) → packets (xs ++ ys) ≡ packets xs ++ packets ys

@@ -1,13 +1,13 @@
 -- Each mote's trace goes with the mote, turn by turn.
-use Rattle.std.proofs.Common.{◌≡◌, ℕ, ◌<◌, eqb, ◌++◌, List, [], length, refl, sym, ap, subst, inl, inr}
+use Rattle.std.proofs.Common.{ℕ, inl, inr}
 use Rattle.std.proofs.lemmas.Bool.{cases_eq, eq-eqb, ne_eqb}
 use Rattle.process_kernel.specs.declared.line.Line.{Line}
-use Rattle.kernel_laws.specs.Going.{GoesWith, IsInOrder}
+use Rattle.kernel_laws.specs.Going.{GoesWith}
 use Rattle.kernel_laws.proofs.Motes.{in_order}
 use Rattle.mote_laws.proofs.Turns.{turn_keeps, new_goes}
-use Rattle.mote_node.specs.Node.{Node, new_node}
+use Rattle.mote_node.specs.Node.{Node}
 use Rattle.net_scenario.specs.Net.{NetTold}
-use Rattle.window_workers.specs.NetRun.{system_of, mote_at, IsReportOf}
+use Rattle.window_workers.specs.NetRun.{system_of, mote_at}
 use Rattle.window_workers.specs.NetStep.{NetState, Run, Done, Turn, boot, turn_at}
 use Rattle.window_workers.specs.Laws.{TracesHandOn}
 

@@ -1,7 +1,7 @@
 -- What a turn keeps of a net: each mote's own wake is in the agenda, and nothing is there for a mote that isn't.
-use Rattle.std.proofs.Common.{◌≡◌, ℕ, suc, ◌+◌, ◌<◌, ◌≤◌, Bool, true, false, cond, not, ◌&&◌, ◌||◌, ltb, eqb, List, [], ◌∷◌, ◌++◌, length, map, refl, sym, ap, ◌∙◌, subst, inl, inr, arith, append-nil, Option, Some, None}
+use Rattle.std.proofs.Common.{◌≡◌, ℕ, ◌<◌, true, false, not, ◌&&◌, ◌||◌, eqb, List, [], ◌∷◌, ◌++◌, length, map, refl, sym, ap, ◌∙◌, subst, inl, inr, arith, append-nil, Option, Some, None}
 use Rattle.std.specs.List.{filter, flat_map, AllByRecursion}
-use Rattle.std.proofs.lemmas.Bool.{cases_eq, cases_Bool, eq-eqb, ne_eqb, eqb-true, eqb-false, false≢true}
+use Rattle.std.proofs.lemmas.Bool.{cases_eq, cases_Bool, eq-eqb, ne_eqb}
 use Rattle.std.proofs.lemmas.Bool.Decides.{nat_tests}
 use Rattle.std.proofs.lemmas.List.Elements.{filter-append}
 use Rattle.process_kernel.specs.declared.line.Line.{Line}
@@ -11,14 +11,13 @@ use Rattle.mote_node.specs.Node.{Node}
 use Rattle.mote_node.specs.Turn.{turn_of}
 use Rattle.mote_node.specs.Wake.{wake_of}
 use Rattle.net_scenario.specs.Net.{NetTold}
-use Rattle.window_workers.specs.System.{System, Turned, IsSystem, IsLater, IsCopyOf}
-use Rattle.window_workers.specs.Order.{in_order}
-use Rattle.window_workers.specs.Agenda.{Item, Wake, Packet, moment_of, mote_of, is_due, is_wake_of, is_left, is_from, packets, wake_items, IsLeast, up_to}
-use Rattle.window_workers.specs.Buckets.{arrival_of, wake_but_at}
-use Rattle.window_workers.specs.NetStep.{NetState, boot, put, stamped, sends_of, turned_at, turn_at}
-use Rattle.window_workers.specs.NetRun.{system_of, node_turn, first_node}
+use Rattle.window_workers.specs.System.{Turned, IsSystem}
+use Rattle.window_workers.specs.Agenda.{Item, Packet, mote_of, is_due, is_wake_of, is_left, wake_items}
+use Rattle.window_workers.specs.Buckets.{wake_but_at}
+use Rattle.window_workers.specs.NetStep.{NetState, stamped, sends_of, turned_at, turn_at}
+use Rattle.window_workers.specs.NetRun.{system_of}
 use Rattle.window_workers.specs.Stands.{IsKept}
-use Rattle.window_workers.proofs.Lists.{filter_filter, filter_none, filter_every, every_append, every_filter, every_map, every_flat_map, every_weaker, every_both, any_every}
+use Rattle.window_workers.proofs.Lists.{filter_filter, every_append, every_filter, every_map, every_weaker}
 
 no_wake : (k : ℕ) (cs : List RadioCopy) → filter (is_wake_of k) (map Packet cs) ≡ []
 no_wake k [] = refl

@@ -1,19 +1,19 @@
 -- A run comes to its end: the place of what is to come first rises.
-use Rattle.std.proofs.Common.{◌≡◌, ℕ, suc, ◌+◌, ◌-◌, ◌*◌, ◌<◌, ◌≤◌, min, true, false, Bool, cond, not, ◌&&◌, ◌||◌, ltb, eqb, List, [], ◌∷◌, map, length, sym, ap, ◌∙◌, refl, subst, arith, Option, Some, None, option_map, slice_get, inl, inr, suc-mul, ◌⊎◌}
+use Rattle.std.proofs.Common.{◌≡◌, ℕ, suc, ◌+◌, ◌-◌, ◌*◌, ◌<◌, ◌≤◌, true, false, Bool, not, ◌&&◌, ◌||◌, ltb, eqb, List, [], ◌∷◌, map, sym, ap, ◌∙◌, refl, subst, arith, Option, Some, None, option_map, slice_get, inl, inr, suc-mul, ◌⊎◌}
 use Rattle.std.specs.List.{filter, flat_map, list_any, AllByRecursion}
 use Rattle.std.specs.Map.{lookup}
-use Rattle.std.specs.BTreeMap.{get, is_at}
+use Rattle.std.specs.BTreeMap.{is_at}
 use Rattle.std.proofs.Math.Nat.{mul-le-mul_right}
-use Rattle.std.proofs.lemmas.Bool.{and_parts, eqb-true, eq-eqb, false≢true, cases_Bool}
+use Rattle.std.proofs.lemmas.Bool.{and_parts, eqb-true, eq-eqb, false≢true}
 use Rattle.std.proofs.lemmas.Bool.Decides.{nat_tests}
 use Rattle.process_kernel.specs.declared.line.Sent.{Sent}
 use Rattle.radio_medium.specs.declared.copy.RadioCopy.{RadioCopy}
 use Rattle.window_workers.specs.declared.bucket.Bucket.{Bucket}
 use Rattle.window_workers.specs.System.{System, Turned, IsSystem, IsLater}
-use Rattle.window_workers.specs.Agenda.{Item, Packet, moment_of, mote_of, is_due, is_wake_of, is_left, is_from, wake_items, IsLeast}
-use Rattle.window_workers.specs.Buckets.{Buckets, Holds, told_bucket, key_cmp, is_here, first_key}
-use Rattle.window_workers.specs.NetStep.{NetState, stamped, sends_of, turned_at, turn_at}
-use Rattle.window_workers.proofs.Lists.{every_append, every_filter, every_map, every_weaker, every_both, any_every}
+use Rattle.window_workers.specs.Agenda.{Item, Packet, moment_of, mote_of, is_due, is_wake_of, is_left, is_from, wake_items}
+use Rattle.window_workers.specs.Buckets.{Buckets, Holds, told_bucket, key_cmp, first_key}
+use Rattle.window_workers.specs.NetStep.{NetState, stamped, turned_at, turn_at}
+use Rattle.window_workers.proofs.Lists.{every_append, every_filter, every_map, every_weaker, any_every}
 use Rattle.window_workers.proofs.Gathered.{any_from_some}
 use Rattle.window_workers.proofs.Keys.{key_is}
 

@@ -1,24 +1,23 @@
 -- How far the engine has come.
-use Rattle.std.proofs.Common.{◌≡◌, ℕ, zero, suc, ◌+◌, ◌<◌, ◌≤◌, ◌⊎◌, true, false, cond, not, ◌&&◌, ◌||◌, ltb, eqb, List, [], ◌∷◌, ◌++◌, length, map, get_or, sym, ap, ◌∙◌, subst, refl, inl, inr, arith, zero-le, Option, Some, None}
-use Rattle.std.specs.List.{filter, list_any, AllByRecursion}
+use Rattle.std.proofs.Common.{◌≡◌, ℕ, zero, suc, ◌<◌, ◌≤◌, ◌⊎◌, true, false, cond, not, ◌&&◌, ◌||◌, ltb, eqb, [], ◌∷◌, ◌++◌, length, map, sym, ap, ◌∙◌, subst, refl, inl, inr, arith, zero-le, Some, None}
+use Rattle.std.specs.List.{filter, AllByRecursion}
 use Rattle.std.proofs.lemmas.Bool.{cases_order, lt-ltb, le-ltb, eq-eqb, ne_eqb, eqb-true, and_parts}
 use Rattle.std.proofs.lemmas.Bool.Decides.{nat_tests}
 use Rattle.std.proofs.lemmas.List.{map-append}
 use Rattle.std.proofs.lemmas.List.Elements.{filter-append}
 use Rattle.process_kernel.specs.declared.line.Line.{Line}
-use Rattle.mote_node.specs.Node.{Node, new_node}
-use Rattle.mote_node.specs.Wake.{wake_of}
+use Rattle.mote_node.specs.Node.{Node}
 use Rattle.mote_node.proofs.WakeLaws.{wakes_later}
-use Rattle.radio_medium.specs.Medium.{medium_fault, copies, lookahead}
+use Rattle.radio_medium.specs.Medium.{medium_fault}
 use Rattle.radio_medium.proofs.Copies.{copies_later}
 use Rattle.radio_medium.proofs.Delays.{lookahead-above}
 use Rattle.net_scenario.specs.Net.{NetTold}
 use Rattle.window_workers.specs.declared.engine.Engine.{Engine}
-use Rattle.window_workers.specs.System.{System, IsSystem}
-use Rattle.window_workers.specs.Agenda.{Item, Wake, moment_of, mote_of, is_due, is_from, is_wake_of, wake_items, IsLeast, up_to}
+use Rattle.window_workers.specs.System.{IsSystem}
+use Rattle.window_workers.specs.Agenda.{Wake, moment_of, mote_of, is_due, is_wake_of, wake_items, IsLeast, up_to}
 use Rattle.window_workers.specs.Buckets.{arrival_of}
-use Rattle.window_workers.specs.NetRun.{system_of, first_node}
-use Rattle.window_workers.specs.NetStep.{NetState, Run, Done, Turn, boot, turn_at}
+use Rattle.window_workers.specs.NetRun.{system_of}
+use Rattle.window_workers.specs.NetStep.{NetState, Done, Turn, boot, turn_at}
 use Rattle.window_workers.specs.Stands.{Stands, IsKept}
 use Rattle.window_workers.specs.Ended.{HasReached, HasEnded}
 use Rattle.window_workers.proofs.Lists.{any_every, every_weaker, every_map, every_append}

@@ -1,19 +1,18 @@
 -- What the engine tells at the end is the report.
-use Rattle.std.proofs.Common.{◌≡◌, ℕ, zero, suc, ◌+◌, ◌-◌, ◌<◌, ◌≤◌, List, [], ◌∷◌, ◌++◌, length, map, get_or, take, sym, ap, ◌∙◌, subst, refl, arith, add-one}
+use Rattle.std.proofs.Common.{◌≡◌, ℕ, zero, suc, ◌<◌, ◌≤◌, List, [], ◌∷◌, ◌++◌, length, map, get_or, take, sym, ap, ◌∙◌, subst, refl, arith}
 use Rattle.std.specs.Prelude.{All, Vec}
 use Rattle.kernel_laws.specs.Going.{IsInOrder}
 use Rattle.std.specs.declared.alloc.Global.{Global}
 use Rattle.std.proofs.Math.Seq.{take-suc, take-length}
 use Rattle.std.proofs.lemmas.List.{map-append}
 use Rattle.process_kernel.specs.declared.line.Line.{Line}
-use Rattle.mote_node.specs.Node.{Node}
 use Rattle.net_scenario.specs.Net.{NetTold}
 use Rattle.window_workers.specs.declared.engine.Engine.{Engine}
 use Rattle.window_workers.specs.declared.report.Report.{Report}
 use Rattle.window_workers.specs.Agenda.{packets, up_to}
 use Rattle.window_workers.specs.NetRun.{packet_of, told_at, IsReportOf}
 use Rattle.window_workers.specs.Report.{Packet, ReportTold, lines_in, told_line, report_of}
-use Rattle.window_workers.specs.Stands.{Stands, IsWhole}
+use Rattle.window_workers.specs.Stands.{IsWhole}
 use Rattle.window_workers.specs.Ended.{HasEnded}
 use Rattle.window_workers.proofs.Handed.{traces_hand_on}
 

@@ -1,5 +1,5 @@
 -- The engine's turn is the net's.
-use Rattle.std.proofs.Common.{◌≡◌, ℕ, ◌+◌, ◌<◌, Bool, true, false, cond, not, ◌&&◌, ◌||◌, eqb, List, [], ◌∷◌, ◌++◌, length, map, get_or, set, refl, sym, ap, ◌∙◌, subst, inl, inr, arith, append_assoc, Option, Some, None, unwrap_or, option_map, slice_get, get_or-set_same, get_or-set_other}
+use Rattle.std.proofs.Common.{◌≡◌, ℕ, ◌<◌, Bool, true, false, not, ◌&&◌, ◌||◌, List, ◌++◌, length, map, get_or, set, refl, sym, ap, ◌∙◌, subst, inl, inr, arith, append_assoc, Option, Some, None, unwrap_or, option_map, slice_get, get_or-set_same, get_or-set_other}
 use Rattle.std.specs.Prelude.{Vec}
 use Rattle.std.specs.declared.alloc.Global.{Global}
 use Rattle.std.specs.List.{filter, flat_map}
@@ -19,9 +19,8 @@ use Rattle.mote_node.specs.Wake.{wake_of}
 use Rattle.radio_medium.specs.Medium.{copies}
 use Rattle.net_scenario.specs.Net.{MoteTold, NetTold}
 use Rattle.window_workers.specs.declared.engine.Engine.{Engine}
-use Rattle.window_workers.specs.declared.report.LogLine.{LogLine}
 use Rattle.window_workers.specs.Agenda.{Item, Packet, is_due, is_wake_of, is_left, wake_items}
-use Rattle.window_workers.specs.Buckets.{Buckets, Holds, arrivals_at, wake_but_at}
+use Rattle.window_workers.specs.Buckets.{Holds, arrivals_at, wake_but_at}
 use Rattle.window_workers.specs.NetRun.{no_mote, system_of, packet_of}
 use Rattle.window_workers.specs.NetStep.{NetState, stamped, turn_at}
 use Rattle.window_workers.specs.Report.{told_line}

@@ -1,15 +1,11 @@
 -- A net has at most one run, and so one report.
-use Rattle.std.proofs.Common.{◌≡◌, ℕ, ◌<◌, ◌≤◌, Bool, true, not, ◌&&◌, ◌||◌, ltb, eqb, List, [], ◌∷◌, refl, sym, ap, ◌∙◌, subst, inl, inr, arith}
-use Rattle.std.specs.List.{list_any, AllByRecursion}
+use Rattle.std.proofs.Common.{◌≡◌, ℕ, ◌<◌, ◌≤◌, true, not, ◌&&◌, ◌||◌, ltb, eqb, List, refl, sym, ap, ◌∙◌, subst, arith}
+use Rattle.std.specs.List.{AllByRecursion}
 use Rattle.std.proofs.lemmas.Bool.Decides.{nat_tests}
-use Rattle.process_kernel.specs.declared.line.Line.{Line}
-use Rattle.mote_node.specs.Node.{Node}
-use Rattle.net_scenario.specs.Net.{NetTold}
 use Rattle.window_workers.specs.System.{System}
 use Rattle.window_workers.specs.Agenda.{Item, IsLeast, is_due, moment_of, mote_of}
 use Rattle.window_workers.specs.NetStep.{NetState, Run, Done, Turn, turn_at}
-use Rattle.window_workers.specs.NetRun.{told_at, IsReportOf}
-use Rattle.window_workers.specs.Report.{ReportTold}
+use Rattle.window_workers.specs.NetRun.{told_at}
 use Rattle.window_workers.specs.Laws.{ReportIsOne}
 use Rattle.window_workers.proofs.Lists.{any_every}
 

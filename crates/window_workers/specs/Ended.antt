@@ -1,11 +1,8 @@
 -- How far a run has come.
-use Rattle.std.specs.Prelude.{◌≡◌, ℕ, ◌<◌}
-use Rattle.std.specs.List.{AllByRecursion}
 use Rattle.process_kernel.specs.declared.line.Line.{Line}
 use Rattle.mote_node.specs.Node.{Node}
 use Rattle.net_scenario.specs.Net.{NetTold}
 use Rattle.window_workers.specs.declared.engine.Engine.{Engine}
-use Rattle.window_workers.specs.Agenda.{moment_of}
 use Rattle.window_workers.specs.NetRun.{system_of}
 use Rattle.window_workers.specs.NetStep.{NetState, Run, boot}
 use Rattle.window_workers.specs.Stands.{Stands, IsKept}

@@ -1,12 +1,11 @@
 -- Laws of the run of a net.
-use Rattle.std.specs.Prelude.{◌≡◌, ℕ, ◌<◌, List, Option, Some, None, length, option_map}
+use Rattle.std.specs.Prelude.{◌≡◌, ℕ, ◌<◌, List, length}
 use Rattle.std.specs.List.{filter}
 use Rattle.kernel_laws.specs.Going.{IsInOrder}
 use Rattle.net_scenario.specs.Net.{NetTold}
 use Rattle.window_workers.specs.Agenda.{Item, is_due}
 use Rattle.window_workers.specs.Buckets.{Buckets, Holds, due_in, gathered}
-use Rattle.window_workers.specs.NetRun.{IsReportOf, system_of}
-use Rattle.window_workers.specs.NetStep.{Run, boot}
+use Rattle.window_workers.specs.NetRun.{IsReportOf}
 use Rattle.window_workers.specs.Report.{ReportTold}
 
 -- a net has at most one report

@@ -1,7 +1,5 @@
 -- The run of a net, and its report.
-use Rattle.std.specs.Prelude.{ℕ, ◌≡◌, false, List, [], length, map, slice_get, unwrap_or, Option, None}
-use Rattle.mote_program.specs.Code.{Tree}
-use Rattle.process_kernel.specs.declared.line.Arrival.{Arrival}
+use Rattle.std.specs.Prelude.{ℕ, ◌≡◌, List, [], length, map, slice_get, unwrap_or, None}
 use Rattle.process_kernel.specs.declared.line.Line.{Line}
 use Rattle.process_kernel.specs.declared.line.Sent.{Sent}
 use Rattle.mote_node.specs.Node.{Node, new_node}

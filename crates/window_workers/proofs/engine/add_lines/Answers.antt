@@ -1,4 +1,4 @@
-use Rattle.std.proofs.Common.{◌≡◌, ◌∙◌, ◌<◌, ◌++◌, ap, sym, length, get_or, slice_set, arith}
+use Rattle.std.proofs.Common.{◌∙◌, ◌++◌, ap, sym, get_or, slice_set}
 use Rattle.std.proofs.lemmas.List.{get_or_default}
 use Rattle.window_workers.proofs.engine.add_lines.Goals as goal
 

@@ -1,4 +1,4 @@
-use Rattle.std.proofs.Common.{subst, ap, ◌∙◌, ◌∷◌, [], ◌++◌, map}
+use Rattle.std.proofs.Common.{subst, map}
 use Rattle.radio_medium.specs.Medium.{copies}
 use Rattle.window_workers.specs.Agenda.{Packet}
 use Rattle.window_workers.specs.Buckets.{Holds}

@@ -1,9 +1,8 @@
-use Rattle.std.proofs.Common.{◌≡◌, ◌∙◌, ◌<◌, ap, refl, sym, subst, length, None}
+use Rattle.std.proofs.Common.{◌≡◌, ◌∙◌, ap, refl, sym, length, None}
 use Rattle.net_scenario.specs.Net.{net_of}
 use Rattle.radio_medium.specs.Medium.{Radio, medium_fault}
 use Rattle.window_workers.specs.Buckets.{first_key}
 use Rattle.window_workers.specs.NetRun.{system_of}
-use Rattle.window_workers.specs.System.{IsSystem}
 use Rattle.window_workers.proofs.Ranks.{left_falls}
 use Rattle.window_workers.proofs.Reached.{system_is, reached_first, reached_next, inside_least, ended_past, ended_empty}
 use Rattle.window_workers.proofs.serial.run_to_end.Goals as goal

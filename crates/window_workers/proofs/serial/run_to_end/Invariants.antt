@@ -1,4 +1,4 @@
-use Rattle.std.proofs.Common.{suc, ◌+◌, ◌-◌, ◌*◌, length}
+use Rattle.std.proofs.Common.{length}
 use Rattle.net_scenario.specs.Net.{net_of}
 use Rattle.window_workers.specs.Buckets.{first_key}
 use Rattle.window_workers.specs.Ended.{HasReached}

@@ -3,7 +3,7 @@ use Rattle.window_workers.specs.Buckets.{due_in, told_bucket}
 use Rattle.window_workers.proofs.Lists.{filter_not}
 use Rattle.window_workers.proofs.Gathered.{Is, unwoken_left, unwoken_gone}
 use Rattle.window_workers.specs.Agenda.{is_wake_of, wake_items}
-use Rattle.std.proofs.Common.{subst, sym, not, ◌≡◌}
+use Rattle.std.proofs.Common.{subst, sym, not}
 use Rattle.window_workers.proofs.agenda.Agenda.drop_wake.Goals as goal
 
 pub returns-in_ok-put-in-Some : goal.returns-in_ok-put-in-Some

@@ -1,4 +1,3 @@
-use Rattle.std.proofs.Common.{◌≡◌, [], arith, length}
 use Rattle.std.proofs.lemmas.List.{nil_from_length}
 use Rattle.window_workers.proofs.Gathered.{least_of, none_of, zero_from}
 use Rattle.window_workers.proofs.agenda.Agenda.first.Goals as goal

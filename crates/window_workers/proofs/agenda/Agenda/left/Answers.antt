@@ -1,4 +1,4 @@
-use Rattle.std.proofs.Common.{rules, ◌≡◌, subst, sym, ap, ◌∙◌, length, length-append, arith, IsSome}
+use Rattle.std.proofs.Common.{rules, ◌≡◌, subst, sym, ap, ◌∙◌, length, length-append, IsSome}
 use Rattle.std.proofs.lemmas.List.{nil_from_length}
 use Rattle.window_workers.proofs.Gathered.{IsPart, part_first, part_next, part_last, zero_from}
 use Rattle.window_workers.specs.Agenda.{packets}

@@ -1,4 +1,4 @@
-use Rattle.std.proofs.Common.{subst, arith}
+use Rattle.std.proofs.Common.{subst}
 use Rattle.window_workers.specs.Buckets.{Holds}
 use Rattle.window_workers.proofs.Gathered.{more_copies}
 use Rattle.window_workers.proofs.agenda.Agenda.put_copies.Goals as goal

@@ -1,4 +1,4 @@
-use Rattle.std.proofs.Common.{◌++◌, ◌∷◌, [], ◌∙◌, ap, ◌≡◌}
+use Rattle.std.proofs.Common.{◌++◌, ◌∷◌, [], ◌≡◌}
 use Rattle.window_workers.specs.Agenda.{Packet}
 use Rattle.window_workers.specs.Buckets.{arrival_of, due_in, told_bucket, with_copy}
 use Rattle.window_workers.proofs.Gathered.{replaced, due_copy, two, put_other}

@@ -1,4 +1,4 @@
-use Rattle.std.proofs.Common.{◌≡◌, ◌∙◌, ◌<◌, ◌≤◌, ap, arith, subst, length, length-append, map, [], Some, sym, Vec, Global}
+use Rattle.std.proofs.Common.{◌≡◌, ◌∙◌, ap, arith, subst, length, length-append, map, [], Some, Vec, Global}
 use Rattle.mote_node.specs.declared.mote.Mote.{Mote}
 use Rattle.mote_node.specs.Public.{node_in}
 use Rattle.process_kernel.specs.declared.line.Line.{Line}

@@ -1,4 +1,4 @@
-use Rattle.std.proofs.Common.{◌≡◌, ◌∙◌, ◌<◌, ap, not, sym, subst, length, map, get_or, List, ◌++◌}
+use Rattle.std.proofs.Common.{◌≡◌, ◌∙◌, ap, not, map, get_or, List, ◌++◌}
 use Rattle.std.specs.List.{filter, flat_map}
 use Rattle.mote_program.specs.Code.{Tree}
 use Rattle.mote_program.specs.Program.{tree_of}
