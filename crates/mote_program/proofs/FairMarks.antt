@@ -1,14 +1,14 @@
 -- In a program's marks numbers play the part of numbers, and no `=` follows `!`.
-use Rattle.std.proofs.Common.{◌≡◌, ℕ, List, [], ◌∷◌, Option, Some, None, refl}
+use Rattle.std.proofs.Common.{List, [], ◌∷◌, Option, Some, None, refl}
 use Rattle.mote_program.specs.Forms as form
 use Rattle.mote_program.specs.Forms.{Operand, Form, ends, tells, takes, values, Beginning, action, beginning}
 use Rattle.mote_program.specs.EventNames as event
 use Rattle.mote_program.specs.EventNames.{CastEvent, SentEvent, AnyEvent}
-use Rattle.mote_program.specs.Grammar.{Context, inner, at_body, at_simple, at_thread, Mark, tokens, sign, key, named, new, leaving, cast_mark, sent_mark, any_mark, operand_mark, into_marks, expression_marks, form_marks, beginning_marks, keyword_marks, action_marks, statement_marks, items_marks, else_marks, block_marks, event_marks, semaphore_marks, variable_marks, etimer_marks, ctimer_marks, thread_marks, handler_marks, body_marks, content_marks, code_marks, codes_marks, starting_marks, autostart_marks, receiver_marks, process_marks, program_marks}
-use Rattle.mote_program.specs.Shapes.{Name, OperandShape, FormShape, ActionShape, Valued, Named, CodeShape, ProgramShape}
+use Rattle.mote_program.specs.Grammar.{Context, inner, at_body, at_simple, at_thread, Mark, tokens, sign, key, named, new, leaving, cast_mark, sent_mark, any_mark, operand_mark, into_marks, expression_marks, form_marks, action_marks, statement_marks, items_marks, else_marks, block_marks, event_marks, semaphore_marks, variable_marks, etimer_marks, ctimer_marks, thread_marks, handler_marks, body_marks, content_marks, code_marks, codes_marks, starting_marks, autostart_marks, receiver_marks, process_marks, program_marks}
+use Rattle.mote_program.specs.Shapes.{Name, OperandShape, FormShape, Valued, Named, CodeShape, ProgramShape}
 use Rattle.mote_program.specs.Tokens as token
 use Rattle.mote_program.specs.Tokens.{Token}
-use Rattle.mote_program.specs.Tree.{Class, a_semaphore, a_process, a_timer, a_thread, Expression, number, variable, sender, moment, mote, is, fired, expired, gone, running, count, negation, binary, Action, assign, print, send, wait_until, wait_while, yield, yield_until, spawn, restart, exit, pause, acquire, signal, post, broadcast, synch, poll, start, kill, set, reset, restart_timer, stop, Statement, does, branch, while, Body, end, next, Otherwise, nothing, otherwise}
+use Rattle.mote_program.specs.Tree.{a_semaphore, a_process, a_timer, a_thread, Expression, number, is, fired, expired, gone, running, count, negation, binary, Action, assign, print, send, wait_until, wait_while, yield, yield_until, spawn, restart, exit, pause, acquire, signal, post, broadcast, synch, poll, start, kill, set, reset, restart_timer, stop, Statement, does, branch, while, Body, end, next, Otherwise, nothing, otherwise}
 use Rattle.mote_program.specs.declared.keyword.Keyword.{Keyword}
 use Rattle.mote_program.specs.declared.keyword.Keyword.TheVariants as word
 use Rattle.mote_program.proofs.LexedAgain.{NoEquals}

@@ -1,5 +1,5 @@
 -- The canonical text of tokens has these tokens.
-use Rattle.std.proofs.Common.{◌≡◌, ◌≢◌, ◌<◌, ◌≤◌, ◌+◌, ◌&&◌, ℕ, zero, suc, min, ◌^◌, List, [], ◌∷◌, ◌++◌, map, length, get_or, Bool, true, false, not, Some, None, refl, ap, sym, ◌∙◌, subst, arith, append_assoc, codes, nat_eq, if◌then◌else◌}
+use Rattle.std.proofs.Common.{◌≡◌, ◌≢◌, ◌<◌, ◌≤◌, ◌+◌, ℕ, zero, suc, min, ◌^◌, List, [], ◌∷◌, ◌++◌, map, get_or, Bool, true, false, Some, refl, ap, sym, ◌∙◌, subst, arith, codes, nat_eq, if◌then◌else◌}
 use Rattle.std.proofs.lemmas.Bool.{and_parts, and_from}
 use Rattle.std.proofs.lemmas.Bool.Decides.{nat_tests}
 use Rattle.std.proofs.lemmas.Fmt.{decimal_digit, decimal_is_IsNumeral, decimal-digits_of}

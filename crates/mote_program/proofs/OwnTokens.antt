@@ -1,14 +1,14 @@
 -- The tokens of a text are a program's own, where no rule is broken at any of them.
-use Rattle.std.proofs.Common.{◌≡◌, ◌≢◌, ◌≤◌, ◌<◌, nat_lt, ℕ, min, List, [], ◌∷◌, ◌++◌, map, Bool, true, false, ◌||◌, Option, Some, None, refl, ap, sym, ◌∙◌, subst, arith, append_assoc, eqb, IsTrue, if◌then◌else◌}
+use Rattle.std.proofs.Common.{◌≡◌, ◌≢◌, ◌≤◌, nat_lt, ℕ, min, List, [], ◌∷◌, ◌++◌, Bool, true, false, ◌||◌, Option, Some, None, refl, ap, sym, ◌∙◌, subst, arith, append_assoc, eqb, IsTrue, if◌then◌else◌}
 use Rattle.std.proofs.lemmas.Bool.{and_parts, ltb-false}
 use Rattle.std.proofs.lemmas.List.{map-append}
-use Rattle.std.specs.List.{list_all, find, starts_with}
+use Rattle.std.specs.List.{list_all, starts_with}
 use Rattle.std.specs.Str.{bytes_eq}
 use Rattle.std.specs.Str.Parse.{digits_value}
 use Rattle.mote_program.specs.Faults.{IsProgram, scope_of, role_breaks, begun_breaks}
 use Rattle.mote_program.specs.Grammar.{Role, value, Mark, tokens, program_marks}
 use Rattle.mote_program.specs.Shapes.{ProgramShape}
-use Rattle.mote_program.specs.Text.{signs, sign_at, Piece, Blank, Comment, Word, Sign, Other, AllFit, tokens_of, IsLexed, FitsBefore}
+use Rattle.mote_program.specs.Text.{signs, sign_at, Piece, Blank, Comment, Word, Sign, Other, AllFit, tokens_of, IsLexed}
 use Rattle.mote_program.specs.Tokens as token
 use Rattle.mote_program.specs.Tokens.{Token}
 use Rattle.mote_program.specs.Words.{is_word_byte, is_number, is_name, lookup, keywords, word_token}

@@ -1,5 +1,5 @@
 -- The text of tokens, piece by piece.
-use Rattle.std.proofs.Common.{◌≡◌, ℕ, suc, zero, ◌-◌, ◌<◌, List, [], ◌∷◌, ◌++◌, refl, ap, sym, ◌∙◌, arith, append_assoc, codes}
+use Rattle.std.proofs.Common.{◌≡◌, ℕ, suc, zero, ◌-◌, ◌<◌, List, ◌∷◌, ◌++◌, ap, sym, ◌∙◌, arith, append_assoc, codes}
 use Rattle.mote_program.specs.Canonical.{braces_behind, gap, spelling, text_from, indentation}
 use Rattle.mote_program.specs.Tokens.{Token}
 

@@ -1,5 +1,5 @@
 -- Reading the canonical text of a program gives the same program.
-use Rattle.std.proofs.Common.{◌≡◌, ℕ, List, [], refl, sym, subst, ◌∙◌, ◌⊎◌, inl, inr}
+use Rattle.std.proofs.Common.{ℕ, List, sym, subst, ◌⊎◌, inl, inr}
 use Rattle.std.proofs.Math.Logic.{∥∥₁_elim, ∥∥₁_map}
 use Rattle.std.proofs.Props.{props}
 use Rattle.mote_program.specs.Code.{Tree}
@@ -7,7 +7,6 @@ use Rattle.mote_program.specs.EventNames.{CastEvent, SentEvent, AnyEvent}
 use Rattle.mote_program.specs.Faults.{IsProgram}
 use Rattle.mote_program.specs.Reading.{IsTreeOf, IsToldOf, IsOfText, WasRead}
 use Rattle.mote_program.specs.ShapeOf.{shape_of, tokens_of_tree, text_of_tree}
-use Rattle.mote_program.specs.Tokens.{Token}
 use Rattle.mote_program.specs.Tree.{Expression, Action, Body, Expression-set, Body-set}
 use Rattle.mote_program.specs.declared.error.ReadErrorKind.{ReadErrorKind}
 use Rattle.mote_program.specs.declared.tree.Operator.{Operator}

@@ -1,20 +1,20 @@
 -- The tokens of a program's parts are those of its marks.
-use Rattle.std.proofs.Common.{◌≡◌, ℕ, zero, suc, ◌+◌, ◌<◌, List, [], ◌∷◌, ◌++◌, map, length, drop, get_or, Option, Some, None, refl, ap, sym, ◌∙◌, append_assoc, arith}
+use Rattle.std.proofs.Common.{◌≡◌, ◌<◌, List, [], ◌∷◌, ◌++◌, map, length, drop, get_or, Option, Some, None, refl, ap, sym, ◌∙◌, append_assoc, arith}
 use Rattle.std.specs.List.{flat_map, zip}
 use Rattle.std.proofs.Math.Logic.{∥∥₁_elim}
 use Rattle.std.proofs.lemmas.List.{append-nil, length-map}
 use Rattle.std.specs.Coded.{Coded-set, coded_list, coded_ℕ}
 use Rattle.mote_program.specs.Canonical.{canonical_text}
-use Rattle.mote_program.specs.Code.{Code, Tree}
-use Rattle.mote_program.specs.Grammar.{Context, inner, at_body, at_simple, at_thread, Mark, tokens, sign, key, named, new, leaving, into_marks, expression_marks, action_marks, statement_marks, items_marks, else_marks, block_marks, event_marks, semaphore_marks, variable_marks, etimer_marks, ctimer_marks, thread_marks, handler_marks, body_marks, content_marks, code_marks, codes_marks, starting_marks, autostart_marks, receiver_marks, process_marks, program_marks}
-use Rattle.mote_program.specs.Numbers.{named_of, values_of, codes_in, codes_of, program_names, tree_of_shape}
+use Rattle.mote_program.specs.Code.{Tree}
+use Rattle.mote_program.specs.Grammar.{Context, inner, at_body, at_simple, at_thread, Mark, tokens, sign, key, named, new, leaving, into_marks, expression_marks, action_marks, statement_marks, items_marks, else_marks, block_marks, event_marks, semaphore_marks, variable_marks, etimer_marks, ctimer_marks, thread_marks, handler_marks, body_marks, code_marks, codes_marks, starting_marks, autostart_marks, receiver_marks, process_marks, program_marks}
+use Rattle.mote_program.specs.Numbers.{named_of, codes_of, program_names}
 use Rattle.mote_program.specs.Reading.{IsOfText, WasRead}
 use Rattle.mote_program.specs.ShapeOf.{names_of_tree, code_shape, codes_of_tree, no_code, shape_of, tokens_of_tree, text_of_tree}
 use Rattle.mote_program.specs.Shapes.{Name, Valued, Named, CodeShape, ProgramShape}
-use Rattle.mote_program.specs.Spelled.{cast_token, sent_token, expression_tokens, into_tokens, action_tokens, statement_tokens, items_tokens, else_tokens, listed_tokens, valued_tokens, named_tokens, handler_tokens, declared_tokens, runs_tokens, code_tokens, comma_tokens, process_tokens, autostart_tokens, receiver_tokens, head_tokens, spelled_tokens}
+use Rattle.mote_program.specs.Spelled.{cast_token, sent_token, expression_tokens, into_tokens, action_tokens, statement_tokens, items_tokens, else_tokens, listed_tokens, valued_tokens, named_tokens, handler_tokens, declared_tokens, runs_tokens, code_tokens, comma_tokens, autostart_tokens, receiver_tokens, head_tokens, spelled_tokens}
 use Rattle.mote_program.specs.Tokens as token
 use Rattle.mote_program.specs.Tokens.{Token}
-use Rattle.mote_program.specs.Tree.{a_process, Expression, number, variable, sender, moment, mote, is, fired, expired, gone, running, count, negation, binary, Action, assign, print, send, wait_until, wait_while, yield, yield_until, spawn, restart, exit, pause, acquire, signal, post, broadcast, synch, poll, start, kill, set, reset, restart_timer, stop, Statement, does, branch, while, Body, end, next, Otherwise, nothing, otherwise}
+use Rattle.mote_program.specs.Tree.{a_process, Expression, negation, binary, Action, assign, print, send, wait_until, wait_while, yield_until, post, broadcast, synch, set, Statement, does, branch, while, Body, end, next, Otherwise, nothing, otherwise}
 use Rattle.mote_program.specs.declared.keyword.Keyword.{Keyword}
 use Rattle.mote_program.specs.declared.keyword.Keyword.TheVariants as word
 use Rattle.mote_program.proofs.CodesLaws.{length-codes_in}

@@ -1,5 +1,5 @@
 -- The shape of a tree: each number replaced by the name that it stands for.
-use Rattle.std.specs.Prelude.{ℕ, List, [], ◌++◌, map, drop, Option, None, option_map, slice_index_or}
+use Rattle.std.specs.Prelude.{ℕ, List, [], ◌++◌, map, drop, None, option_map, slice_index_or}
 use Rattle.std.specs.List.{zip}
 use Rattle.mote_program.specs.Canonical.{canonical_text}
 use Rattle.mote_program.specs.Code.{Code, Tree}

@@ -1,5 +1,5 @@
 -- The tokens of a program's parts, over names as they are written.
-use Rattle.std.specs.Prelude.{ℕ, List, [], ◌∷◌, ◌++◌, map, drop, slice_index_or, Option, None, Some, option_map}
+use Rattle.std.specs.Prelude.{List, [], ◌∷◌, ◌++◌, map, drop, slice_index_or, Option, None, Some, option_map}
 use Rattle.std.specs.List.{flat_map, zip}
 use Rattle.mote_program.specs.Code.{Tree}
 use Rattle.mote_program.specs.EventNames.{CastEvent, SentEvent, AnyEvent}
@@ -7,7 +7,7 @@ use Rattle.mote_program.specs.Grammar.{cast_mark, sent_mark, any_mark}
 use Rattle.mote_program.specs.InScope.{Names, name_in}
 use Rattle.mote_program.specs.Program.{code_of, tree_of}
 use Rattle.mote_program.specs.ShapeOf.{names_of_tree, names_of_code, codes_of_tree}
-use Rattle.mote_program.specs.Shapes.{Name, Valued, Named, CodeShape, ProgramShape}
+use Rattle.mote_program.specs.Shapes.{Name, Valued, Named, CodeShape}
 use Rattle.mote_program.specs.Tokens.{Token, Keyword, Semicolon, Comma, Equals, Bang, Open, Close, OpenBrace, CloseBrace, Op, Name as AName, Number}
 use Rattle.mote_program.specs.Tree.{a_process, Expression, number, variable, sender, moment, mote, is, fired, expired, gone, running, count, negation, binary, Action, assign, print, send, wait_until, wait_while, yield, yield_until, spawn, restart, exit, pause, acquire, signal, post, broadcast, synch, poll, start, kill, set, reset, restart_timer, stop, Statement, does, branch, while, Body, end, next, Otherwise, nothing, otherwise}
 use Rattle.mote_program.specs.Tree as tree

@@ -2,7 +2,6 @@ use Rattle.std.proofs.Common.{◌≡◌, ◌∙◌, map, ap, sym, subst}
 use Rattle.mote_program.specs.Canonical.{canonical_text}
 use Rattle.mote_program.specs.Program.{tree_of}
 use Rattle.mote_program.specs.Reading.{IsTreeOf}
-use Rattle.mote_program.specs.ShapeOf.{text_of_tree}
 use Rattle.mote_program.specs.Spelled.{spelled_tokens}
 use Rattle.mote_program.specs.Tokens.{token_of}
 use Rattle.mote_program.proofs.Adding.{if_ok}

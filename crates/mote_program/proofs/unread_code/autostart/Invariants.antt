@@ -1,9 +1,7 @@
-use Rattle.std.proofs.Common.{◌≡◌, ◌++◌, ◌∷◌, [], map, drop, get_or}
+use Rattle.std.proofs.Common.{◌≡◌, ◌++◌, [], map, drop, get_or}
 use Rattle.std.specs.List.{flat_map}
 use Rattle.mote_program.specs.Spelled.{comma_tokens}
-use Rattle.mote_program.specs.Tokens as token
 use Rattle.mote_program.specs.Tokens.{token_of}
-use Rattle.mote_program.specs.declared.keyword.Keyword.TheVariants as word
 use Rattle.mote_program.proofs.unread_code.autostart.Given as goal
 
 abbrev pub invariant-loop-number : goal.invariant-loop-number

@@ -1,9 +1,8 @@
-use Rattle.std.proofs.Common.{◌≡◌, ◌++◌, ◌∷◌, [], map, drop, get_or}
-use Rattle.std.specs.List.{flat_map, zip}
+use Rattle.std.proofs.Common.{◌≡◌, ◌++◌, map, drop}
+use Rattle.std.specs.List.{flat_map}
 use Rattle.mote_program.specs.Spelled.{code_tokens}
 use Rattle.mote_program.specs.Program.{tree_of}
 use Rattle.mote_program.specs.ShapeOf.{codes_of_tree}
-use Rattle.mote_program.specs.Tokens as token
 use Rattle.mote_program.specs.Tokens.{token_of}
 use Rattle.mote_program.proofs.unread_code.codes.Given as goal
 

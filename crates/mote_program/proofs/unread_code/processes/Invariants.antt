@@ -1,5 +1,5 @@
 use Rattle.std.proofs.Common.{◌≡◌, ◌++◌, ◌∷◌, [], map, drop, get_or}
-use Rattle.std.specs.List.{flat_map, zip}
+use Rattle.std.specs.List.{flat_map}
 use Rattle.mote_program.specs.Spelled.{comma_tokens}
 use Rattle.mote_program.specs.declared.keyword.Keyword.TheVariants as word
 use Rattle.mote_program.specs.Tokens as token

@@ -1,4 +1,4 @@
-use Rattle.std.proofs.Common.{◌≡◌, ◌<◌, ◌++◌, ◌∷◌, [], length, map, get_or, arith}
+use Rattle.std.proofs.Common.{◌≡◌, ◌<◌, ◌++◌, [], length, map, get_or, arith}
 use Rattle.std.specs.List.{zip}
 use Rattle.mote_program.specs.Spelled.{valued_tokens}
 use Rattle.mote_program.specs.Tokens.{token_of}

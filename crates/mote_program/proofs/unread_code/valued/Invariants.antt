@@ -1,7 +1,6 @@
-use Rattle.std.proofs.Common.{◌≡◌, ◌++◌, ◌∷◌, [], map, drop, get_or}
+use Rattle.std.proofs.Common.{◌≡◌, ◌++◌, map, drop}
 use Rattle.std.specs.List.{flat_map, zip}
 use Rattle.mote_program.specs.Spelled.{valued_tokens}
-use Rattle.mote_program.specs.Tokens as token
 use Rattle.mote_program.specs.Tokens.{token_of}
 use Rattle.mote_program.proofs.unread_code.valued.Given as goal
 

@@ -1,9 +1,8 @@
-use Rattle.std.proofs.Common.{◌≡◌, ◌++◌, ◌∷◌, [], map, drop, get_or}
+use Rattle.std.proofs.Common.{◌≡◌, ◌++◌, map, drop}
 use Rattle.std.specs.List.{flat_map, zip}
 use Rattle.mote_program.specs.Spelled.{names_in, named_tokens}
 use Rattle.mote_program.specs.ShapeOf.{block_with}
 use Rattle.mote_program.specs.Tree.{block_of}
-use Rattle.mote_program.specs.Tokens as token
 use Rattle.mote_program.specs.Tokens.{token_of}
 use Rattle.mote_program.proofs.unread.Scoped.blocks.Given as goal
 
