@@ -3,5 +3,6 @@ pub mod Delays
 pub mod Elements
 pub mod Faults
 pub mod Hearing
+pub mod LastOf
 pub mod LinkLemmas
 pub mod LossLemmas

@@ -28,12 +28,11 @@ impl Link {
     /// Whether the medium loses the copy of the packet with this number.
     fn loses(self, number: u64) -> bool
         requires fit { IsFit self }
-        requires number { number < 2 ^ 62 }
         ensures { result ≡ is_lost number self.every }
     {
         match self.every {
             None => false,
-            Some(every) => (number + 1) % u64::from(every) == 0,
+            Some(every) => number % u64::from(every) + 1 == u64::from(every),
         }
     }
 
@@ -41,7 +40,6 @@ impl Link {
     fn fate(self, sent: &Sent) -> Fate
         requires fit { IsFit self }
         requires moment { sent.now.at ≤ 2 ^ 40 }
-        requires number { sent.now.number < 2 ^ 62 }
         ensures { result ≡ fate_by sent.now self }
     {
         let at = if self.loses(sent.number) {
@@ -61,7 +59,6 @@ pub(crate) fn fates_along(
 ) -> Result<Vec<Fate>, AllocError>
     requires fit { All IsFit links.now }
     requires moment { sent.now.at ≤ 2 ^ 40 }
-    requires number { sent.now.number < 2 ^ 62 }
     ensures { IfOk result (λ fates. fates.items ≡ map (fate_by sent.now) links.now) }
 {
     let mut fates = Vec::with_capacity(alloc, links.len())?;
@@ -79,7 +76,6 @@ pub(crate) fn copies_along(
 ) -> Result<Vec<RadioCopy>, AllocError>
     requires fit { All IsFit links.now }
     requires moment { sent.now.at ≤ 2 ^ 40 }
-    requires number { sent.now.number < 2 ^ 62 }
     ensures { IfOk result (λ copies. copies.items ≡ filter_map (copy_of sent.now) (map (fate_by sent.now) links.now)) }
 {
     let mut copies = Vec::new(alloc);

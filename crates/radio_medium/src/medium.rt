@@ -109,7 +109,6 @@ impl Medium {
     pub fn fates(&self, sent: &Sent) -> Result<Vec<Fate>, AllocError>
         requires sender { sent.now.sender < length self.now.places }
         requires moment { sent.now.at ≤ 2 ^ 40 }
-        requires number { sent.now.number < 2 ^ 62 }
         ensures { IfOk result (λ all. all.items ≡ fates self.now sent.now) }
     {
         fates_along(self.alloc, self.links_of(sent.sender), sent)
@@ -119,7 +118,6 @@ impl Medium {
     pub fn copies(&self, sent: &Sent) -> Result<Vec<RadioCopy>, AllocError>
         requires sender { sent.now.sender < length self.now.places }
         requires moment { sent.now.at ≤ 2 ^ 40 }
-        requires number { sent.now.number < 2 ^ 62 }
         ensures { IfOk result (λ all. all.items ≡ copies self.now sent.now) }
     {
         copies_along(self.alloc, self.links_of(sent.sender), sent)

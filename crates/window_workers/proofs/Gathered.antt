@@ -332,7 +332,7 @@ part_next old new t m b counted items part e updates = record {
       let k = in_order_length (packets (filter (is_due t m) part.rest)) in
       let s = part.sum in
       added _ _ _ _ _ _ n k split _ s
-    );
+      );
 }
   where
     of_some : (xs : List Item) (d : Due) → gathered xs ≡ Some d → d.copies ≡ map arrival_of (in_order (packets xs))

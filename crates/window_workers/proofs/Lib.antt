@@ -1,5 +1,6 @@
 pub mod Boots
 pub mod Gathered
+pub mod Handed
 pub mod Kept
 pub mod Keys
 pub mod Lists
@@ -11,3 +12,4 @@ pub mod Reached
 pub mod Reports
 pub mod SentOut
 pub mod Steps
+pub mod Unique

@@ -91,9 +91,9 @@ module _ {S L : Type 0} (system : System S L) (fine : IsSystem system) where
       of (Some key) f =
           let later : t * system.motes + m < key.0 * system.motes + key.1 =
           any_every _ (is_due key.0 key.1) _ (λ item d h. let parts = and_parts (eqb (moment_of item) key.0) (eqb (mote_of item) key.1) d in
-              let u = eqb-true (moment_of item) key.0 parts.0 in
-              let k = eqb-true (mote_of item) key.1 parts.1 in
-              subst (λ x. t * system.motes + m < x * system.motes + key.1) u (subst (λ y. t * system.motes + m < moment_of item * system.motes + y) k
-              (later_place system.motes t m (moment_of item) (mote_of item) h inside)))
+          let u = eqb-true (moment_of item) key.0 parts.0 in
+          let k = eqb-true (mote_of item) key.1 parts.1 in
+          subst (λ x. t * system.motes + m < x * system.motes + key.1) u (subst (λ y. t * system.motes + m < moment_of item * system.motes + y) k
+          (later_place system.motes t m (moment_of item) (mote_of item) h inside)))
           (turn_at system t m net).agenda (first_due buckets (turn_at system t m net).agenda key.0 key.1 holds (sym f)) (turn_ahead t m net ahead) in
           let g = top in omega arith

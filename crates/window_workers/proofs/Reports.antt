@@ -1,6 +1,7 @@
 -- What the engine tells at the end is the report.
 use Rattle.std.proofs.Common.{◌≡◌, ℕ, zero, suc, ◌+◌, ◌-◌, ◌<◌, ◌≤◌, List, [], ◌∷◌, ◌++◌, length, map, get_or, take, sym, ap, ◌∙◌, subst, refl, arith, add-one}
-use Rattle.std.specs.Prelude.{Vec}
+use Rattle.std.specs.Prelude.{All, Vec}
+use Rattle.kernel_laws.specs.Going.{IsInOrder}
 use Rattle.std.specs.declared.alloc.Global.{Global}
 use Rattle.std.proofs.Math.Seq.{take-suc, take-length}
 use Rattle.std.proofs.lemmas.List.{map-append}
@@ -14,6 +15,7 @@ use Rattle.window_workers.specs.NetRun.{packet_of, told_at, IsReportOf}
 use Rattle.window_workers.specs.Report.{Packet, ReportTold, lines_in, told_line, report_of}
 use Rattle.window_workers.specs.Stands.{Stands, IsWhole}
 use Rattle.window_workers.specs.Ended.{HasEnded}
+use Rattle.window_workers.proofs.Handed.{traces_hand_on}
 
 -- a list that is a family, place by place
 family : {X Y : Type 0} (g : X → Y) (f : ℕ → Y) (xs : List X) → ((k : ℕ) → k < length xs → (d : X) → g (get_or xs k d) ≡ f k) → map g xs ≡ map f (up_to (length xs))
@@ -52,3 +54,8 @@ report_is n engine report whole at traces log left = record {
     all =
         family lines_in at.last.traces engine.traces.items (λ k h d. at.stands.traces k (let e = whole.traces in omega arith) d)
         ∙ ap (λ j. map at.last.traces (up_to j)) whole.traces
+
+pub all_in_order : (n : NetTold) (engine : Engine) → IsWhole n engine → HasEnded n engine → All (λ (v : Vec Line Global). IsInOrder v.items) engine.traces.items
+all_in_order n engine whole at k d h =
+    let there : k < length n.motes = (let e = whole.traces in omega arith) in
+    subst IsInOrder (sym (at.stands.traces k there d)) (traces_hand_on n (told_at n at.last) (record { last = at.last; run = at.run; told = refl }) k there)

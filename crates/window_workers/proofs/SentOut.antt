@@ -15,9 +15,9 @@ module _ {S C I P : Type 0} (copies : S → List C) (as_item : C → I) (packet 
   sends_more items xs i d h =
       append_assoc items (map as_item (flat_map copies (map stamp (take i xs)))) (map as_item (copies (stamp (get_or xs i d))))
       ∙ ap (λ l. items ++ l) (sym (
-          ap (λ l. map as_item (flat_map copies l)) (one_more xs i d h)
-          ∙ (ap (map as_item) (flat_map-append copies (map stamp (take i xs)) (stamp (get_or xs i d) ∷ []) ∙ ap (λ l. flat_map copies (map stamp (take i xs)) ++ l) (append-nil (copies (stamp (get_or xs i d)))))
-          ∙ map-append as_item (flat_map copies (map stamp (take i xs))) (copies (stamp (get_or xs i d))))))
+      ap (λ l. map as_item (flat_map copies l)) (one_more xs i d h)
+      ∙ (ap (map as_item) (flat_map-append copies (map stamp (take i xs)) (stamp (get_or xs i d) ∷ []) ∙ ap (λ l. flat_map copies (map stamp (take i xs)) ++ l) (append-nil (copies (stamp (get_or xs i d)))))
+      ∙ map-append as_item (flat_map copies (map stamp (take i xs))) (copies (stamp (get_or xs i d))))))
 
   pub log_more : (before : List P) (xs : List S) (i : ℕ) (d : S) → i < length xs
       → (before ++ map packet (map stamp (take i xs))) ++ packet (stamp (get_or xs i d)) ∷ [] ≡ before ++ map packet (map stamp (take (i + 1) xs))

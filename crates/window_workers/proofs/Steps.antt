@@ -122,7 +122,7 @@ module _ (n : NetTold) (t m : ℕ) (state : NetState Node Line) where
       same =
           append_assoc _ (wake_items m out.wake) _
           ∙ (ap (λ l. l ++ (wake_items m out.wake ++ map Packet (flat_map (copies n.radio) (map (stamped t m) out.sends.items))))
-            (filter_both (λ item. not (is_wake_of m item)) (λ item. not (is_due t m item)) (is_left t m) (λ item. neither (is_due t m item) (is_wake_of m item)) state.agenda)
+          (filter_both (λ item. not (is_wake_of m item)) (λ item. not (is_due t m item)) (is_left t m) (λ item. neither (is_due t m item) (is_wake_of m item)) state.agenda)
           ∙ (ap (λ w. filter (is_left t m) state.agenda ++ (wake_items m w ++ map Packet (flat_map (copies n.radio) (map (stamped t m) out.sends.items)))) is.wake
           ∙ ap (λ l. filter (is_left t m) state.agenda ++ (wake_items m turned.wake ++ map Packet (flat_map (copies n.radio) (map (stamped t m) l)))) is.sends))
 

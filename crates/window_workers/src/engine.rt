@@ -127,7 +127,13 @@ impl Engine {
         let packets = self.agenda.take_due(moment, number);
         let wake = wake_but_at(moment, wake_at(&self.motes, number));
         self.agenda.drop_wake(wake, number)?;
-        let out = turn_mote(&mut self.motes, net.program(number), number, moment, &packets)?;
+        let out = turn_mote(
+            &mut self.motes,
+            net.program(number),
+            number,
+            moment,
+            &packets,
+        )?;
         let TurnOut { lines, sends, wake } = out;
         self.agenda.put_next_wake(wake, number)?;
         send_all(

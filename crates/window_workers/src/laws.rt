@@ -1,8 +1,19 @@
-//! Laws of the definitions. Nothing runs here: each function's contract is a law.
-ghost use Rattle.window_workers.specs.Laws.{OneReport};
+//! Laws of the run of a net. Each is the contract of a function that does nothing.
 
-/// A net has at most one report, since of what is to come one item is always the least.
-pub fn at_most_one_report()
-    ensures { OneReport }
-{
-}
+ghost use Rattle.window_workers.specs.Laws.{BucketsHoldItems, ReportIsOne, TracesHandOn};
+
+/// A net has at most one report.
+pub fn report_is_one()
+    ensures { ReportIsOne }
+{}
+
+/// The lines of each mote of a net hand its events on, nothing follows a halt, and only a process that is not listed starts.
+pub fn traces_hand_on()
+    ensures { TracesHandOn }
+{}
+
+/// The items of an agenda kept in buckets are those of the net's one list: each bucket has all that is due for its mote at its
+/// moment, the packets in the order of sender and number, and there is no empty bucket.
+pub fn buckets_hold_items()
+    ensures { BucketsHoldItems }
+{}

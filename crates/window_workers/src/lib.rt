@@ -13,3 +13,6 @@ mod serial;
 pub use error::RunError;
 pub use report::{LogLine, Report};
 pub use serial::run_serial;
+
+#[cfg(test)]
+mod tests;
