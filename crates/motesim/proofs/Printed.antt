@@ -6,7 +6,7 @@ use Rattle.net_scenario.specs.Reading.{TellsNet, Answers}
 use Rattle.net_scenario.specs.declared.error.ScenarioError.{ScenarioError}
 use Rattle.net_scenario.specs.declared.error.ScenarioError.TheVariants as scenario
 use Rattle.trace_printer.specs.ReportText.{report_text}
-use Rattle.window_workers.specs.Laws as net_run
+use Rattle.window_workers.specs.Laws.{ReportIsOne}
 use Rattle.window_workers.specs.NetRun.{IsReportOf}
 use Rattle.window_workers.specs.Report.{ReportTold}
 use Rattle.motesim.specs.Input.{IsText}
@@ -44,11 +44,11 @@ some_bytes bytes old new (Err (fault.Print e)) h = (bytes, h)
 some_bytes bytes old new (Err e) h = tt
 
 -- of one net two reports have one text
-same_text : net_run.OneReport → (m n : NetTold) (r s : ReportTold) → m ≡ n → IsReportOf m r → IsReportOf n s → report_text m r ≡ report_text n s
+same_text : ReportIsOne → (m n : NetTold) (r s : ReportTold) → m ≡ n → IsReportOf m r → IsReportOf n s → report_text m r ≡ report_text n s
 same_text one m n r s same ran run =
-    ap (λ net. report_text net r) same ∙ ap (report_text n) (one n r s (subst (λ net. IsReportOf net r) same ran) run)
+    ap (λ net. report_text net r) same ∙ ap (report_text n) (one n s r run (subst (λ net. IsReportOf net r) same ran))
 
 -- two runs on the same bytes that write a whole report write the same
-pub one_report : OneNet → net_run.OneReport → OneReport
+pub one_report : OneNet → ReportIsOne → OneReport
 one_report one_net one_run bytes old a b x y =
     x.got ∙ ap (λ text. old ++ text) (same_text one_run x.from.net y.from.net x.report y.report (one_net bytes x.from.net y.from.net x.from.told y.from.told) x.run y.run) ∙ sym y.got

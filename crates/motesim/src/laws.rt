@@ -2,12 +2,12 @@
 ghost use Rattle.motesim.specs.Laws.{OneReport};
 
 use net_scenario::laws::at_most_one_net;
-use window_workers::laws::at_most_one_report as at_most_one_report_of_a_net;
+use window_workers::laws::report_is_one;
 
 /// The same scenario, the same bytes: a text has at most one report.
 pub fn at_most_one_report()
     ensures { OneReport }
 {
     at_most_one_net();
-    at_most_one_report_of_a_net();
+    report_is_one();
 }

@@ -5,7 +5,6 @@ pub mod Kept
 pub mod Keys
 pub mod Lists
 pub mod NewWakes
-pub mod OneRun
 pub mod Orders
 pub mod Ranks
 pub mod Reached
