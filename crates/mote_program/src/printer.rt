@@ -13,9 +13,6 @@ use crate::token::Token;
 use crate::unread_code::unread;
 use std::alloc::{AllocError, Global};
 
-#[cfg(test)]
-mod tests;
-
 /// How many braces are open behind a token, of those before it.
 fn braces_behind(braces: usize, token: &Token) -> usize
     requires { braces + 1 < 2 ^ 64 }

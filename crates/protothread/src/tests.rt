@@ -1,6 +1,7 @@
 //! Whole protothreads, by `advance` alone.
 ghost use Rattle.std.specs.Prelude.{[], ◌∷◌};
 
+mod canonical;
 mod reader;
 
 use crate::{Fuel, Look, Op, Part, PtState, Semaphore, Step, Thread, Vars};

@@ -1,6 +1,6 @@
 //! Canonical texts, written by hand.
 
-use crate::{print_program, read};
+use mote_program::{print_program, read};
 use std::alloc::Global;
 use std::test::Fail;
 
