@@ -1,5 +1,7 @@
 pub mod Boots
+pub mod Counted
 pub mod Gathered
+pub mod Given
 pub mod Handed
 pub mod Kept
 pub mod Keys

@@ -1,5 +1,6 @@
 //! Laws of the run of a net. Each is the contract of a function that does nothing.
 
+ghost use Rattle.window_workers.specs.Counted.{CopiesAreGiven, LateCopiesStay, LeftIsCounted};
 ghost use Rattle.window_workers.specs.Laws.{BucketsHoldItems, ReportIsOne, TracesHandOn};
 
 /// A net has at most one report.
@@ -16,4 +17,20 @@ pub fn traces_hand_on()
 /// moment, the packets in the order of sender and number, and there is no empty bucket.
 pub fn buckets_hold_items()
     ensures { BucketsHoldItems }
+{}
+
+/// At the end the agenda has those copies, of all packets of the log, that arrive after the end: none else, and in the order of
+/// the log. So a copy that the medium didn't lose arrives at or before the end, or is on its way when the run ends.
+pub fn late_copies_stay()
+    ensures { LateCopiesStay }
+{}
+
+/// A report tells how many copies, of all packets of its log, arrive after the end.
+pub fn left_is_counted()
+    ensures { LeftIsCounted }
+{}
+
+/// The turns of a run are given, each once, the copies that arrive at or before the end, of all packets of the log.
+pub fn copies_are_given()
+    ensures { CopiesAreGiven }
 {}
