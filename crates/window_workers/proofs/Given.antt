@@ -2,10 +2,10 @@
 use Rattle.std.proofs.Common.{◌≡◌, ℕ, ◌<◌, ◌≤◌, Bool, true, false, not, ◌&&◌, ◌||◌, ltb, eqb, List, [], ◌∷◌, ◌++◌, append-nil, append_assoc, refl, sym, ap, ◌∙◌, subst, inl, inr, arith}
 use Rattle.std.specs.Prelude.{IsPermutation}
 use Rattle.std.specs.List.{filter, flat_map, AllByRecursion}
-use Rattle.std.proofs.lemmas.Bool.{cases_Bool}
+use Rattle.std.proofs.lemmas.Bool.{cases_Bool, and_parts, eqb-true}
 use Rattle.std.proofs.lemmas.Bool.Decides.{nat_tests}
-use Rattle.std.proofs.lemmas.List.Elements.{filter-append}
-use Rattle.std.proofs.lemmas.List.Sorted.{IsPermutation-refl, IsPermutation-sym, IsPermutation-trans, IsPermutation-cons, IsPermutation-middle, IsPermutation-append_left, IsPermutation-append_right}
+use Rattle.std.proofs.lemmas.List.Elements.{filter-append, All-from_recursion, recursion_from_All}
+use Rattle.std.proofs.lemmas.List.Sorted.{IsPermutation-refl, IsPermutation-sym, IsPermutation-trans, IsPermutation-cons, IsPermutation-middle, IsPermutation-append_left, IsPermutation-append_right, All-permutation}
 use Rattle.radio_medium.specs.declared.copy.RadioCopy.{RadioCopy}
 use Rattle.net_scenario.specs.Net.{NetTold}
 use Rattle.window_workers.specs.System.{System}
@@ -13,7 +13,7 @@ use Rattle.window_workers.specs.Agenda.{Item, Wake, Packet, moment_of, is_due, i
 use Rattle.window_workers.specs.Order.{is_before, insert_by, sorted_by, in_order}
 use Rattle.window_workers.specs.NetRun.{system_of}
 use Rattle.window_workers.specs.NetStep.{NetState, Run, Done, Turn, boot, turn_at}
-use Rattle.window_workers.specs.Counted.{is_after, turns, TurnTaken, CopiesAreGiven}
+use Rattle.window_workers.specs.Counted.{is_by, turns, TurnTaken, IsGivenInTime, CopiesAreGiven, CopiesComeInTime}
 use Rattle.window_workers.proofs.Counted.{more, packets-turn, log-turn, packets-wakes}
 
 module _ {X : Type 0} (first second : X → ℕ) where
@@ -35,10 +35,6 @@ due_is_by end t m at to h e = grind (arith, nat_tests)
 
 late_is_not_by : (end at : ℕ) → end < at → not (ltb end at) ≡ false
 late_is_not_by end at h = grind (arith, nat_tests)
-
--- at or before the end
-abbrev is_by : (end : ℕ) → RadioCopy → Bool
-is_by end copy = not (is_after end copy)
 
 -- what is due, and what is left
 split : (end t m : ℕ) (items : List Item) → t ≤ end
@@ -83,13 +79,13 @@ module _ {S L : Type 0} (system : System S L) (end : ℕ) where
       (IsPermutation-append_left (by new) _ _ (IsPermutation-trans _ _ _ has (IsPermutation-append_right given _ _ taken))))
     where
       new : List RadioCopy
-      new = more system end t m net
+      new = more system t m net
 
       left : List RadioCopy
       left = by (packets (filter (is_left t m) net.agenda))
 
       logged : by (flat_map system.copies (turn_at system t m net).log) ≡ by (flat_map system.copies net.log) ++ by new
-      logged = ap by (log-turn system end t m net) ∙ filter-append (is_by end) (flat_map system.copies net.log) new
+      logged = ap by (log-turn system t m net) ∙ filter-append (is_by end) (flat_map system.copies net.log) new
 
       taken : IsPermutation (by (packets net.agenda)) (due_at t m net ++ left)
       taken = IsPermutation-trans _ _ _ (split end t m net.agenda le)
@@ -99,7 +95,7 @@ module _ {S L : Type 0} (system : System S L) (end : ℕ) where
       rest =
           ap (λ l. l ++ by new) (sym (append_assoc given (due_at t m net) left))
           ∙ (append_assoc (given ++ due_at t m net) left (by new)
-          ∙ ap (λ l. (given ++ due_at t m net) ++ l) (sym (ap by (packets-turn system end t m net) ∙ filter-append (is_by end) (packets (filter (is_left t m) net.agenda)) new)))
+          ∙ ap (λ l. (given ++ due_at t m net) ++ l) (sym (ap by (packets-turn system t m net) ∙ filter-append (is_by end) (packets (filter (is_left t m) net.agenda)) new)))
 
   given_run : {net last : NetState S L} (run : Run system end net last) (given : List RadioCopy) → HasGiven given net
       → IsPermutation (by (flat_map system.copies last.log)) (given ++ flat_map (λ turn. turn.given) (turns run))
@@ -114,3 +110,28 @@ boots n = subst (λ l. IsPermutation [] (by (system_of n) n.end l)) (sym (packet
 pub copies_are_given : CopiesAreGiven
 unfolding system_of
 copies_are_given n r report = given_run (system_of n) n.end report.run [] (boots n)
+
+due_in_time : (t m at to : ℕ) → (eqb at t && eqb to m) ≡ true → (at ≡ t) × (to ≡ m)
+due_in_time t m at to e = let parts = and_parts (eqb at t) (eqb to m) e in (eqb-true at t parts.0, eqb-true to m parts.1)
+
+abbrev IsInTime : (t m : ℕ) → RadioCopy → Type 0
+IsInTime t m copy = (copy.at ≡ t) × (copy.to ≡ m)
+
+in_time : (t m : ℕ) (items : List Item) → AllByRecursion (IsInTime t m) (packets (filter (is_due t m) items))
+in_time t m [] = tt
+in_time t m (Wake u k ∷ items) =
+    let ih = in_time t m items in
+    elim (cases_Bool (is_due t m (Wake u k))) [ inl e ↦ rw e ih | inr e ↦ rw e ih ]
+in_time t m (Packet c ∷ items) =
+    let ih = in_time t m items in
+    elim (cases_Bool (is_due t m (Packet c))) [ inl e ↦ rw e (due_in_time t m c.at c.to e, ih) | inr e ↦ rw e ih ]
+
+run_in_time : {S L : Type 0} {system : System S L} {end : ℕ} {net last : NetState S L} (run : Run system end net last) → AllByRecursion IsGivenInTime (turns run)
+run_in_time (Done h) = tt
+run_in_time {net = net} (Turn t m least le run) =
+    let cs = packets (filter (is_due t m) net.agenda) in
+    let given = All-permutation (IsInTime t m) cs (in_order cs) (sorted (λ copy. copy.sender) (λ copy. copy.number) cs) (All-from_recursion (IsInTime t m) cs (in_time t m net.agenda)) in
+    (recursion_from_All (IsInTime t m) (in_order cs) given, run_in_time run)
+
+pub copies_come_in_time : CopiesComeInTime
+copies_come_in_time n r report = run_in_time report.run

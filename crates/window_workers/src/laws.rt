@@ -1,6 +1,6 @@
 //! Laws of the run of a net. Each is the contract of a function that does nothing.
 
-ghost use Rattle.window_workers.specs.Counted.{CopiesAreGiven, LateCopiesStay, LeftIsCounted};
+ghost use Rattle.window_workers.specs.Counted.{CopiesAreGiven, CopiesComeInTime, FatesTellLeft, LateCopiesStay, LeftIsCounted};
 ghost use Rattle.window_workers.specs.Laws.{BucketsHoldItems, ReportIsOne, TracesHandOn};
 
 /// A net has at most one report.
@@ -30,7 +30,17 @@ pub fn left_is_counted()
     ensures { LeftIsCounted }
 {}
 
-/// The turns of a run are given, each once, the copies that arrive at or before the end, of all packets of the log.
+/// A report tells of as many copies left as fates of its log tell of an arrival after the end.
+pub fn fates_tell_left()
+    ensures { FatesTellLeft }
+{}
+
+/// The turns of a run are given the copies, of all packets of the log, that arrive at or before the end, each once.
 pub fn copies_are_given()
     ensures { CopiesAreGiven }
+{}
+
+/// What a turn is given are copies for its mote that arrive at its moment.
+pub fn copies_come_in_time()
+    ensures { CopiesComeInTime }
 {}
