@@ -2,6 +2,7 @@ pub mod Boots
 pub mod Counted
 pub mod Gathered
 pub mod Given
+pub mod GivenAll
 pub mod Handed
 pub mod Kept
 pub mod Keys

@@ -1,10 +1,10 @@
 -- What becomes of the copies that the medium doesn't lose: each is given in a turn at its moment, or left after the end.
-use Rattle.std.specs.Prelude.{◌≡◌, ℕ, nat_lt, Bool, false, not, List, [], ◌∷◌, count_by, IsPermutation}
+use Rattle.std.specs.Prelude.{◌≡◌, ℕ, nat_lt, ◌==◌, Bool, false, not, ◌&&◌, List, [], ◌∷◌, length, count_by, None, IsPermutation}
 use Rattle.std.specs.List.{filter, flat_map, AllByRecursion}
 use Rattle.std.specs.Option.{option_map_or}
 use Rattle.radio_medium.specs.declared.copy.RadioCopy.{RadioCopy}
 use Rattle.radio_medium.specs.declared.fate.Fate.{Fate}
-use Rattle.radio_medium.specs.Medium.{copies}
+use Rattle.radio_medium.specs.Medium.{copies, medium_fault}
 use Rattle.net_scenario.specs.Net.{NetTold}
 use Rattle.window_workers.specs.System.{System}
 use Rattle.window_workers.specs.Order.{in_order}
@@ -57,3 +57,15 @@ IsGivenInTime turn = AllByRecursion (λ (copy : RadioCopy). (copy.at ≡ turn.mo
 -- each in a turn of its receiver, at its moment
 abbrev pub CopiesComeInTime : Type 0
 CopiesComeInTime = (n : NetTold) (r : ReportTold) (report : IsReportOf n r) → AllByRecursion IsGivenInTime (turns report.run)
+
+-- a copy for this mote that arrives at this moment
+abbrev pub is_for : (moment mote : ℕ) → RadioCopy → Bool
+is_for moment mote copy = (copy.at == moment) && (copy.to == mote)
+
+abbrev pub IsGivenAll : List RadioCopy → TurnTaken → Type 0
+IsGivenAll sent turn = turn.given ≡ in_order (filter (is_for turn.moment turn.mote) sent)
+
+-- where the medium is without fault and has a place for each mote, a turn is given all copies of the log for its mote at its moment
+abbrev pub TurnsAreGivenAll : Type 0
+TurnsAreGivenAll = (n : NetTold) (r : ReportTold) (report : IsReportOf n r) → medium_fault n.radio ≡ None → length n.radio.places ≡ length n.motes
+    → AllByRecursion (IsGivenAll (flat_map (copies n.radio) report.last.log)) (turns report.run)

@@ -1,6 +1,6 @@
 //! Laws of the run of a net. Each is the contract of a function that does nothing.
 
-ghost use Rattle.window_workers.specs.Counted.{CopiesAreGiven, CopiesComeInTime, FatesTellLeft, LateCopiesStay, LeftIsCounted};
+ghost use Rattle.window_workers.specs.Counted.{CopiesAreGiven, CopiesComeInTime, FatesTellLeft, LateCopiesStay, LeftIsCounted, TurnsAreGivenAll};
 ghost use Rattle.window_workers.specs.Laws.{BucketsHoldItems, ReportIsOne, TracesHandOn};
 
 /// A net has at most one report.
@@ -43,4 +43,10 @@ pub fn copies_are_given()
 /// What a turn is given are copies for its mote that arrive at its moment.
 pub fn copies_come_in_time()
     ensures { CopiesComeInTime }
+{}
+
+/// Where the medium is without fault and has a place for each mote, as in each net that is read, a turn is given all copies of the
+/// log for its mote at its moment, in the order of sender, then number.
+pub fn turns_are_given_all()
+    ensures { TurnsAreGivenAll }
 {}
