@@ -1,5 +1,5 @@
 -- The copies of the log that arrive at or before the end are given in the turns of the run, each once, at its moment.
-use Rattle.std.proofs.Common.{◌≡◌, ℕ, ◌<◌, ◌≤◌, Bool, true, false, not, ◌&&◌, ◌||◌, ltb, eqb, List, [], ◌∷◌, ◌++◌, append-nil, append_assoc, refl, sym, ap, ◌∙◌, subst, inl, inr, arith}
+use Rattle.std.proofs.Common.{◌≡◌, ℕ, ◌<◌, ◌≤◌, true, false, not, ◌&&◌, ltb, eqb, List, [], ◌∷◌, ◌++◌, append_assoc, refl, sym, ap, ◌∙◌, subst, inl, inr, arith}
 use Rattle.std.specs.Prelude.{IsPermutation}
 use Rattle.std.specs.List.{filter, flat_map, AllByRecursion}
 use Rattle.std.proofs.lemmas.Bool.{cases_Bool, and_parts, eqb-true}
@@ -13,7 +13,7 @@ use Rattle.window_workers.specs.Agenda.{Item, Wake, Packet, moment_of, is_due, i
 use Rattle.window_workers.specs.Order.{is_before, insert_by, sorted_by, in_order}
 use Rattle.window_workers.specs.NetRun.{system_of}
 use Rattle.window_workers.specs.NetStep.{NetState, Run, Done, Turn, boot, turn_at}
-use Rattle.window_workers.specs.Counted.{is_by, turns, TurnTaken, IsGivenInTime, CopiesAreGiven, CopiesComeInTime}
+use Rattle.window_workers.specs.Counted.{is_by, turns, IsGivenInTime, CopiesAreGiven, CopiesComeInTime}
 use Rattle.window_workers.proofs.Counted.{more, packets-turn, log-turn, packets-wakes}
 
 module _ {X : Type 0} (first second : X → ℕ) where

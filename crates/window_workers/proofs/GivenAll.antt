@@ -9,7 +9,7 @@ use Rattle.window_workers.specs.System.{System, IsSystem}
 use Rattle.window_workers.specs.Agenda.{Item, Wake, Packet, moment_of, mote_of, is_due, is_left, is_from, packets, IsLeast, up_to}
 use Rattle.window_workers.specs.Order.{in_order}
 use Rattle.window_workers.specs.NetRun.{system_of}
-use Rattle.window_workers.specs.NetStep.{NetState, Run, Done, Turn, boot, turn_at}
+use Rattle.window_workers.specs.NetStep.{NetState, Run, Done, Turn, turn_at}
 use Rattle.window_workers.specs.Counted.{turns, is_for, IsGivenAll, TurnsAreGivenAll}
 use Rattle.window_workers.proofs.Lists.{any_every, every_weaker}
 use Rattle.window_workers.proofs.Ranks.{turn_ahead}

@@ -45,7 +45,7 @@ pub fn copies_come_in_time()
     ensures { CopiesComeInTime }
 {}
 
-/// Where the medium is without fault and has a place for each mote, as in each net that is read, a turn is given all copies of the
+/// Where the medium is without fault and has a place for each mote, as in every `Net`, a turn is given all copies of the
 /// log for its mote at its moment, in the order of sender, then number.
 pub fn turns_are_given_all()
     ensures { TurnsAreGivenAll }
