@@ -1,5 +1,8 @@
 pub mod Boots
+pub mod Counted
 pub mod Gathered
+pub mod Given
+pub mod GivenAll
 pub mod Handed
 pub mod Kept
 pub mod Keys

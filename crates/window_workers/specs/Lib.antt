@@ -1,5 +1,6 @@
 pub mod Agenda
 pub mod Buckets
+pub mod Counted
 pub mod Ended
 pub mod Laws
 pub mod NetRun

@@ -1,5 +1,6 @@
 //! Laws of the run of a net. Each is the contract of a function that does nothing.
 
+ghost use Rattle.window_workers.specs.Counted.{CopiesAreGiven, CopiesComeInTime, FatesTellLeft, LateCopiesStay, LeftIsCounted, TurnsAreGivenAll};
 ghost use Rattle.window_workers.specs.Laws.{BucketsHoldItems, ReportIsOne, TracesHandOn};
 
 /// A net has at most one report.
@@ -16,4 +17,36 @@ pub fn traces_hand_on()
 /// moment, the packets in the order of sender and number, and there is no empty bucket.
 pub fn buckets_hold_items()
     ensures { BucketsHoldItems }
+{}
+
+/// At the end the agenda has those copies, of all packets of the log, that arrive after the end: none else, and in the order of
+/// the log. So a copy that the medium didn't lose arrives at or before the end, or is on its way when the run ends.
+pub fn late_copies_stay()
+    ensures { LateCopiesStay }
+{}
+
+/// A report tells how many copies, of all packets of its log, arrive after the end.
+pub fn left_is_counted()
+    ensures { LeftIsCounted }
+{}
+
+/// A report tells of as many copies left as fates of its log tell of an arrival after the end.
+pub fn fates_tell_left()
+    ensures { FatesTellLeft }
+{}
+
+/// The turns of a run are given the copies, of all packets of the log, that arrive at or before the end, each once.
+pub fn copies_are_given()
+    ensures { CopiesAreGiven }
+{}
+
+/// What a turn is given are copies for its mote that arrive at its moment.
+pub fn copies_come_in_time()
+    ensures { CopiesComeInTime }
+{}
+
+/// Where the medium is without fault and has a place for each mote, as in every `Net`, a turn is given all copies of the
+/// log for its mote at its moment, in the order of sender, then number.
+pub fn turns_are_given_all()
+    ensures { TurnsAreGivenAll }
 {}
