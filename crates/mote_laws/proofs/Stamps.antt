@@ -178,7 +178,7 @@ packets_named mote (g ∷ later) n e =
 new_sent : (n : Node) (given : List Given) → n.mote.state.sent ≡ 0 → AreNumberedFrom 0 (packets_of n given)
 new_sent n given e = subst (λ k. AreNumberedFrom k (packets_of n given)) e (packets_numbered given n)
 
-new_is : (program : Tree) (number queue : ℕ) → ((new_node program number queue).mote.state.mote ≡ number) × ((new_node program number queue).mote.state.sent ≡ 0)
+pub new_is : (program : Tree) (number queue : ℕ) → ((new_node program number queue).mote.state.mote ≡ number) × ((new_node program number queue).mote.state.sent ≡ 0)
 unfolding new_node unbooted
 new_is program number queue = (refl, refl)
 
