@@ -5,6 +5,8 @@ pub mod InStep
 pub mod Motes
 pub mod Packets
 pub mod Resting
+pub mod StampedCalls
+pub mod Stamps
 pub mod Steps
 pub mod Tables
 pub mod Timers

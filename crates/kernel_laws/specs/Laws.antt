@@ -13,6 +13,7 @@ use Rattle.process_kernel.specs.Mote.{Mote, unbooted, with_packet, with_poll}
 use Rattle.process_kernel.specs.Public.{boot_given, run_given}
 use Rattle.kernel_laws.specs.Going.{GoesWith, Adds, IsNote, IsInOrder}
 use Rattle.kernel_laws.specs.InStep.{IsInStep, IsAsBusy}
+use Rattle.kernel_laws.specs.Stamps.{Stamped, state_after, GivesStamped}
 use Rattle.kernel_laws.specs.Traces.{KernelCall, after_calls, booted_at, trace_of}
 
 -- whatever the program is, and whatever calls follow the boot
@@ -59,3 +60,16 @@ abbrev pub ListedAreRunning : Type 0
 ListedAreRunning =
     (program : Tree) (mote queue moment : ℕ) (calls : List KernelCall) → let m = (after_calls (booted_at program mote queue moment) calls).mote in
     m.halted ≡ false → (p : Proc) → is_running m.state p ≡ is_listed m.state p
+
+-- Whatever is written bears the moment of the boot or the run, also where the mote halts.
+
+-- whatever a call does in its turn, the moment stays, and each line and packet bears it
+abbrev pub CallsStamp : Type 0
+CallsStamp =
+    (depth : ℕ) (s : State) (p : Proc) (e : Event) → let t = state_after ((calls_of depth).call s p e) in Stamped s.moment s t × (t.moment ≡ s.moment)
+
+abbrev pub BootStamps : Type 0
+BootStamps = (moment : ℕ) (m : Mote) (lines : List Line) (sends : List Sent) → GivesStamped moment m lines sends (boot_given moment m lines sends)
+
+abbrev pub RunStamps : Type 0
+RunStamps = (moment : ℕ) (m : Mote) (lines : List Line) (sends : List Sent) → GivesStamped moment m lines sends (run_given moment m lines sends)

@@ -4,4 +4,5 @@ pub mod Laws
 pub mod Own
 pub mod Polled
 pub mod Seen
+pub mod Stamps
 pub mod Traces

@@ -1,7 +1,7 @@
 //! Laws of the traces of a kernel. Each is the contract of a function that does nothing.
 
 ghost use Rattle.kernel_laws.specs.Polled.{PacketsAreHanded, TimersAreTold};
-ghost use Rattle.kernel_laws.specs.Laws.{KernelsHandOn, GoingIsInOrder, NoLinesGoFirst, BootAddsItsLines, RunAddsItsLines, PollKeeps, PacketKeeps, NoteKeeps, OnlyTheRunningAreCalled, CallsKeepStep, ListedAreRunning};
+ghost use Rattle.kernel_laws.specs.Laws.{KernelsHandOn, GoingIsInOrder, NoLinesGoFirst, BootAddsItsLines, RunAddsItsLines, PollKeeps, PacketKeeps, NoteKeeps, OnlyTheRunningAreCalled, CallsKeepStep, ListedAreRunning, CallsStamp, BootStamps, RunStamps};
 
 /// Whatever its program is, and whatever calls follow its boot: the lines of a kernel, joined, hand its events on, nothing
 /// follows a halt, and only a process that is not listed starts.
@@ -35,4 +35,12 @@ pub fn the_listed_are_running()
 pub fn what_waits_is_told()
     ensures packets { PacketsAreHanded }
     ensures timers { TimersAreTold }
+{}
+
+/// Each line that is written in a boot or a kernel run bears its moment, whatever calls nest, and also where the mote halts; each
+/// packet that is sent bears the moment and the mote, and packets are numbered on from how many were sent before.
+pub fn what_is_written_bears_its_moment()
+    ensures within { CallsStamp }
+    ensures boot { BootStamps }
+    ensures run { RunStamps }
 {}

@@ -13,5 +13,6 @@ pub mod Ranks
 pub mod Reached
 pub mod Reports
 pub mod SentOut
+pub mod Stamps
 pub mod Steps
 pub mod Unique

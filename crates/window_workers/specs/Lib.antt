@@ -7,5 +7,6 @@ pub mod NetRun
 pub mod NetStep
 pub mod Order
 pub mod Report
+pub mod Stamps
 pub mod Stands
 pub mod System

@@ -2,6 +2,7 @@
 
 ghost use Rattle.window_workers.specs.Counted.{CopiesAreGiven, CopiesComeInTime, FatesTellLeft, LateCopiesStay, LeftIsCounted, TurnsAreGivenAll};
 ghost use Rattle.window_workers.specs.Laws.{BucketsHoldItems, ReportIsOne, TracesHandOn};
+ghost use Rattle.window_workers.specs.Stamps.{LogCountsUp, TracesNeverGoBack};
 
 /// A net has at most one report.
 pub fn report_is_one()
@@ -49,4 +50,11 @@ pub fn copies_come_in_time()
 /// log for its mote at its moment, in the order of sender, then number.
 pub fn turns_are_given_all()
     ensures { TurnsAreGivenAll }
+{}
+
+/// The lines of each mote of a net never go back in moment, and in the medium's log the packets of each mote are numbered from 0
+/// on, in order.
+pub fn moments_and_numbers_rise()
+    ensures traces { TracesNeverGoBack }
+    ensures log { LogCountsUp }
 {}

@@ -1,0 +1,47 @@
+-- What is written bears its moment, and packets are numbered on.
+use Rattle.std.specs.Prelude.{ℕ, ◌≡◌, ◌+◌, List, ◌++◌, length, map, All}
+use Rattle.std.specs.List.{range_with_len}
+use Rattle.process_kernel.specs.declared.line.Line.{Line}
+use Rattle.process_kernel.specs.declared.line.Sent.{Sent}
+use Rattle.process_kernel.specs.State.{State, Outcome, Ends, Goes}
+use Rattle.process_kernel.specs.Mote.{Mote}
+use Rattle.process_kernel.specs.Public.{Given}
+
+-- each of these lines bears the moment
+abbrev pub LinesBear : (moment : ℕ) → List Line → Type 0
+LinesBear moment lines = All (λ l. l.at ≡ moment) lines
+
+-- each of these packets bears the moment and the mote that sent it
+abbrev pub PacketsBear : (moment mote : ℕ) → List Sent → Type 0
+PacketsBear moment mote sends = All (λ x. (x.at ≡ moment) × (x.sender ≡ mote)) sends
+
+-- the numbers of these packets are this one, the next, and so on, in order
+abbrev pub AreNumberedFrom : (first : ℕ) → List Sent → Type 0
+AreNumberedFrom first sends = map (λ x. x.number) sends ≡ range_with_len first (length sends)
+
+-- From one state to a later one, each line and each packet that was written bears the moment, the packets the mote too; these
+-- are numbered on from how many were sent before, and are counted; the mote's number and its program stay.
+pub record Stamped (moment : ℕ) (s t : State) : Type 0 where
+  pub lines : List Line
+  pub wrote : t.lines ≡ s.lines ++ lines
+  pub lines_bear : LinesBear moment lines
+  pub sends : List Sent
+  pub sent_on : t.sends ≡ s.sends ++ sends
+  pub packets_bear : PacketsBear moment s.mote sends
+  pub numbered : AreNumberedFrom s.sent sends
+  pub counted : t.sent ≡ s.sent + length sends
+  pub mote : t.mote ≡ s.mote
+  pub program : t.program ≡ s.program
+
+-- the state in which a step ends, or goes on
+abbrev pub state_after : {A : Type 0} → Outcome A → State
+state_after (Ends t) = t
+state_after (Goes a t) = t
+
+-- a mote with so many lines and packets written
+abbrev pub written : Mote → List Line → List Sent → State
+written m lines sends = record m.state { lines = lines; sends = sends }
+
+-- what a boot or a run at this moment gives, where so much was written before
+abbrev pub GivesStamped : (moment : ℕ) → Mote → List Line → List Sent → Given → Type 0
+GivesStamped moment m lines sends g = Stamped moment (written m lines sends) (written g.mote g.lines g.sends)

@@ -1,0 +1,21 @@
+-- The traces of a net never go back in moment, and the packets of each mote are numbered in order.
+use Rattle.std.specs.Prelude.{ℕ, ◌==◌, List, map, All}
+use Rattle.std.specs.List.{filter}
+use Rattle.process_kernel.specs.declared.line.Sent.{Sent}
+use Rattle.kernel_laws.specs.Stamps.{AreNumberedFrom}
+use Rattle.mote_laws.specs.Stamps.{NeverGoBack}
+use Rattle.net_scenario.specs.Net.{NetTold}
+use Rattle.window_workers.specs.NetRun.{IsReportOf}
+use Rattle.window_workers.specs.Report.{ReportTold}
+
+-- no line of a trace is of an earlier moment than one before it
+abbrev pub TracesNeverGoBack : Type 0
+TracesNeverGoBack = (n : NetTold) (r : ReportTold) → IsReportOf n r → All NeverGoBack r.traces
+
+-- the packets that this mote sent
+abbrev pub sent_by : (mote : ℕ) → List Sent → List Sent
+sent_by mote sends = filter (λ x. x.sender == mote) sends
+
+-- in the medium's log the packets of each mote are numbered 0, 1, 2 and so on, in order
+abbrev pub LogCountsUp : Type 0
+LogCountsUp = (n : NetTold) (r : ReportTold) → IsReportOf n r → (mote : ℕ) → AreNumberedFrom 0 (sent_by mote (map (λ p. p.sent) r.log))
