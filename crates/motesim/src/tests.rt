@@ -4,6 +4,7 @@ mod command_faults;
 mod fault_lines;
 mod motes;
 mod nets;
+mod queues;
 mod scenarios;
 mod streams;
 

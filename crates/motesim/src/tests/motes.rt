@@ -87,7 +87,7 @@ fn programs_by_hand(rt: HostRuntime) -> Result<(), Fail> {
 }
 
 /// The lines of these numbers, each a moment 0, a word, the number and the process.
-fn counted(alloc: Global, from: u16, to: u16, word: &str) -> Result<String, AllocError> {
+pub(crate) fn counted(alloc: Global, from: u16, to: u16, word: &str) -> Result<String, AllocError> {
     let mut lines = String::new(alloc);
     for number in from..to {
         lines = format!(in alloc; "{lines}0 {word} {number} a\n")?;
