@@ -8,7 +8,7 @@ use process_kernel::{Line, What};
 use std::process::Abort;
 use std::test::Fail;
 
-const PROGRAM: &str = "event e, f; process a, b; code a { body { } } code b { body { } }";
+const PROGRAM: &str = "event e; event f; process a, b; code a { body { } } code b { body { } }";
 
 /// Compares the text of a line, with its line feed.
 fn expect<T: AllocGlobal + Abort>(
