@@ -75,9 +75,9 @@ rests_behind A m s u m' (Goes a t) added w r h = record {
 -- what calls do first, in the midst of a walk, where their outcome is known
 rests_first : (A B : Type 0) (s : State) (walked : ℕ) (coming : List Member) (o : Outcome A) (g : A → State → Outcome B) → Reach A s o →
     ((a : A) (t : State) → o ≡ Goes a t → (IsSound s → IsSound t) → RestsAt (machine_of t walked coming) t (g a t)) → RestsAt (machine_of s walked coming) s (o >>= g)
-rests_first A B s walked coming (Ends t) g r f = let e = r.reached in record { added = e.added; wrote = e.wrote; halts = e.halts walked (map seen_member coming) }
+rests_first A B s walked coming (Ends t) g r f = let e = r.leads in record { added = e.added; wrote = e.wrote; halts = e.halts walked (map seen_member coming) }
 rests_first A B s walked coming (Goes a t) g r f =
-    let e = r.reached in rests_behind B (machine_of s walked coming) s t (machine_of t walked coming) (g a t) e.added e.wrote (e.moves walked (map seen_member coming)) (f a t refl e.sound)
+    let e = r.leads in rests_behind B (machine_of s walked coming) s t (machine_of t walked coming) (g a t) e.added e.wrote (e.moves walked (map seen_member coming)) (f a t refl e.sound)
 
 -- what calls do first, from a sound state
 rests_after : (A B : Type 0) (s : State) (walked : ℕ) (coming : List Member) (o : Outcome A) (g : A → State → Outcome B) → Reach A s o → IsSound s →
@@ -118,7 +118,7 @@ small_numbers : (k n : ℕ) (ms : List Member) → k + length ms ≡ n → All (
 small_numbers k n [] e = All-nil _
 small_numbers k n (m ∷ ms) e = All-cons (λ i. i.number < n) _ _ (omega arith) (small_numbers (k + 1) n ms (omega arith))
 
-listed_anew : (k : ℕ) (ms : List Member) (p : Proc) → stands_in (numbered_from k ms) p ≡ stands_in ms p
+pub listed_anew : (k : ℕ) (ms : List Member) (p : Proc) → stands_in (numbered_from k ms) p ≡ stands_in ms p
 listed_anew k [] p = refl
 listed_anew k (m ∷ ms) p = rw (listed_anew (k + 1) ms p) refl
 
@@ -141,7 +141,7 @@ module _ (calls : Calls) (are : AreRuns calls) where
   polls_run (m ∷ ms) s =
       reaches_bind _ _ s _ _ (reaches_if _ s _ _ _ (reaches_from _ (quiet s _ (mark_quiet s m.process false)) (are.call _ m.process (told Poll 0) (fits_other m.process _ refl))) (goes_still _ s tt)) (λ a t. polls_run ms t)
 
-  polls_due_run : (s : State) → Reach (Unit {0}) s (polls_due_of calls s)
+  pub polls_due_run : (s : State) → Reach (Unit {0}) s (polls_due_of calls s)
   unfolding polls_due_of polls_of
   polls_due_run s = reaches_if _ s s.flag _ _ (reaches_from _ (quiet s (record s { flag = false }) (record { lines = refl; members = refl; started = refl; queue = refl })) (polls_run s.members _)) (goes_still _ s tt)
 
@@ -200,7 +200,7 @@ module _ (calls : Calls) (are : AreRuns calls) where
   starts_run (p ∷ ps) s walked h = rests_after (Unit {0}) (Unit {0}) s walked [] _ _ (start_runs calls are s p) h (λ a t i. starts_run ps t walked i)
 
   -- the etimer process starts on an empty list
-  first_start : (s : State) → is_busy s Etimer ≡ false → has_process s Etimer ≡ true → is_listed s Etimer ≡ false → start_of calls s Etimer ≡ (enlist_of s Etimer >>= λ _ s1. calls.call s1 Etimer (told Init 0))
+  pub first_start : (s : State) → is_busy s Etimer ≡ false → has_process s Etimer ≡ true → is_listed s Etimer ≡ false → start_of calls s Etimer ≡ (enlist_of s Etimer >>= λ _ s1. calls.call s1 Etimer (told Init 0))
   unfolding start_of
   first_start s b t n = rw (b, t, n) refl
 

@@ -43,7 +43,7 @@ told_more lines s before sends g (Goes a t) r = record {
   };
 }
 
-run_rests : (m : Mote) (moment : ℕ) (before : List Line) (sends : List Sent) (walked : ℕ) → IsSound m.state → RestsAt (machine_of m.state walked []) (record (m.state) { lines = before; sends = sends }) (kernel_of (calls_of (UNITS + 1)) (begun m moment before sends))
+pub run_rests : (m : Mote) (moment : ℕ) (before : List Line) (sends : List Sent) (walked : ℕ) → IsSound m.state → RestsAt (machine_of m.state walked []) (record (m.state) { lines = before; sends = sends }) (kernel_of (calls_of (UNITS + 1)) (begun m moment before sends))
 run_rests m moment before sends walked h =
     let s = record (m.state) { lines = before; sends = sends } in
     let k : IsSound s = record { stays = h.stays; fits = h.fits } in
@@ -70,7 +70,7 @@ run_adds lines m moment before sends b g = run_halted m moment lines before send
 
 -- boot
 
-boot_rests : (m : Mote) (moment : ℕ) (before : List Line) (sends : List Sent) (walked : ℕ) → IsBlank m.state → RestsAt (machine_of m.state walked []) (record (m.state) { lines = before; sends = sends }) (boot_of (calls_of (UNITS + 1)) (begun m moment before sends))
+pub boot_rests : (m : Mote) (moment : ℕ) (before : List Line) (sends : List Sent) (walked : ℕ) → IsBlank m.state → RestsAt (machine_of m.state walked []) (record (m.state) { lines = before; sends = sends }) (boot_of (calls_of (UNITS + 1)) (begun m moment before sends))
 unfolding begun_of
 boot_rests m moment before sends walked k =
     let s = record (m.state) { lines = before; sends = sends } in

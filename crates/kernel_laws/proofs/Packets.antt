@@ -45,14 +45,14 @@ post_offers s target e =
     (record { telling = what.Full target e.number e.word; wrote = refl; moment = refl; program = refl; ring = refl; timers = refl }, Refused)
     (record { telling = what.Post s.queue.accepted target e.number e.word; wrote = refl; moment = refl; program = refl; ring = refl; timers = refl }, Accepted))
 
-abbrev Handed : (receiver : Option ℕ) → State → Arrival → State → Type 0
+abbrev pub Handed : (receiver : Option ℕ) → State → Arrival → State → Type 0
 Handed receiver s a t = (w : WritesOne s t) × TellsPacket receiver a w.telling
 
 pub goes_bind : (A B : Type 0) (P Q : State → Type 0) (o : Outcome A) (f : A → State → Outcome B) → IfGoes P o → ((a : A) (t : State) → P t → IfGoes Q (f a t)) → IfGoes Q (o >>= f)
 goes_bind A B P Q (Ends t) f h go = tt
 goes_bind A B P Q (Goes a t) f h go = go a t h
 
-hand_tells : (receiver : Option ℕ) (s : State) (a : Arrival) → IfGoes (Handed receiver s a) (hand_to receiver s a)
+pub hand_tells : (receiver : Option ℕ) (s : State) (a : Arrival) → IfGoes (Handed receiver s a) (hand_to receiver s a)
 unfolding hand_to write_of
 hand_tells (Some p) s a =
     goes_bind Bool (Unit {0}) (Offered (One (Own p)) (system_number Packet) a.value s) (Handed (Some p) s a) (post_of s (One (Own p)) (packet_of a)) _ (post_offers s (One (Own p)) (packet_of a)) (λ full t h. h)
@@ -73,7 +73,7 @@ empties_next receiver a later s u t h e = record {
   wrote = e.wrote ∙ (rw (h.0.wrote, h.0.moment) (append_assoc s.lines (record { at = s.moment; what = h.0.telling } ∷ []) (lines_at s.moment e.tellings)));
 }
 
-ring_empties : (receiver : Option ℕ) (packets : List Arrival) (s : State) → s.ring ≡ packets → IfGoes (Empties receiver packets s) (empty_ring receiver packets s)
+pub ring_empties : (receiver : Option ℕ) (packets : List Arrival) (s : State) → s.ring ≡ packets → IfGoes (Empties receiver packets s) (empty_ring receiver packets s)
 ring_empties receiver [] s r = record { empty = r; tellings = []; each = NoneLeft; wrote = sym (append-nil s.lines) }
 ring_empties receiver (a ∷ later) s r =
     goes_bind (Unit {0}) (Unit {0}) (Handed receiver (record s { ring = later }) a) (Empties receiver (a ∷ later) s) (hand_to receiver (record s { ring = later }) a) _ (hand_tells receiver (record s { ring = later }) a)

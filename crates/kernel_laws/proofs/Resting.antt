@@ -34,17 +34,17 @@ use Rattle.kernel_laws.specs.Laws.{OnlyTheRunningAreCalled, CallsKeepStep, Liste
 use Rattle.kernel_laws.proofs.InStep.{Keeps, Leaves, Kept, IsStill, still, keeps_still, kept_goes, kept_bind, kept_from, kept_if, AreKept, mark_still, poll_still, write_kept, start_kept, calls_kept}
 
 module _ (calls : Calls) (are : AreKept calls) where
-  polls_kept : (ms : List Member) (s : State) → Kept s (walk_polls calls ms s)
+  pub polls_kept : (ms : List Member) (s : State) → Kept s (walk_polls calls ms s)
   unfolding poll_turn_of
   polls_kept [] s = kept_goes s tt s (still s)
   polls_kept (m ∷ ms) s =
       kept_bind s _ _ (kept_if s _ _ _ (kept_from s _ _ (mark_still s m.process false) (are.call _ m.process (told Poll 0))) (kept_goes s tt s (still s))) (λ a t. polls_kept ms t)
 
-  polls_due_kept : (s : State) → Kept s (polls_due_of calls s)
+  pub polls_due_kept : (s : State) → Kept s (polls_due_of calls s)
   unfolding polls_due_of polls_of
   polls_due_kept s = kept_if s s.flag _ _ (kept_from s (record s { flag = false }) _ (record { states = refl; exiting = refl; members = refl }) (polls_kept s.members _)) (kept_goes s tt s (still s))
 
-  give_kept : (s : State) (x : Posted) (p : Proc) (there : Bool) → Kept s (give_of calls s x p there)
+  pub give_kept : (s : State) (x : Posted) (p : Proc) (there : Bool) → Kept s (give_of calls s x p there)
   unfolding give_of
   give_kept s x p there = kept_if s there _ _ (kept_bind s _ _ (write_kept s (what.Take x.serial p)) (λ a t. are.call t p x.event)) (write_kept s (what.Drop x.serial p))
 
@@ -66,7 +66,7 @@ module _ (calls : Calls) (are : AreKept calls) where
   unfolding kernel_of
   kernel_kept s = kept_bind s _ _ (polls_due_kept s) (λ a t. kept_bind t _ _ (front_kept t.queue.events t) (λ b u. kept_goes u _ u (still u)))
 
-  starts_kept : (ps : List Proc) (s : State) → Kept s (starts_of calls ps s)
+  pub starts_kept : (ps : List Proc) (s : State) → Kept s (starts_of calls ps s)
   starts_kept [] s = kept_goes s tt s (still s)
   starts_kept (p ∷ ps) s = kept_bind s _ _ (start_kept calls are s p) (λ a t. starts_kept ps t)
 
@@ -76,9 +76,9 @@ module _ (calls : Calls) (are : AreKept calls) where
 
 -- at rest
 
-record Rests (s : State) : Type 0 where
-  step : IsInStep s
-  idle : IsIdle s
+pub record Rests (s : State) : Type 0 where
+  pub step : IsInStep s
+  pub idle : IsIdle s
 
 rests_keeps : (s t : State) → Rests s → Keeps s t → Rests t
 rests_keeps s t r k = record {
@@ -89,11 +89,11 @@ rests_keeps s t r k = record {
 rests_still : (s t : State) → IsStill s t → Rests s → Rests t
 rests_still s t q r = rests_keeps s t r (keeps_still s t q r.step)
 
-numbered_listed : (k : ℕ) (ms : List Member) (j : ℕ) → listed_in (numbered_from k ms) j ≡ listed_in ms j
+pub numbered_listed : (k : ℕ) (ms : List Member) (j : ℕ) → listed_in (numbered_from k ms) j ≡ listed_in ms j
 numbered_listed k [] j = refl
 numbered_listed k (m ∷ ms) j = ap (λ b. (j == place_of m.process) || b) (numbered_listed (k + 1) ms j)
 
-rests_begun : (s : State) (moment : ℕ) → Rests s → Rests (begun_of s moment)
+pub rests_begun : (s : State) (moment : ℕ) → Rests s → Rests (begun_of s moment)
 unfolding begun_of
 rests_begun s moment r = record {
   step = record { tables = r.step.tables; each = λ j. rw (numbered_listed 0 s.members j) (r.step.each j) };
@@ -145,7 +145,7 @@ all_alike n k x = elim (dichotomy k n) [ inl l ↦ unwrap_or-slice_get (replicat
     past : n ≤ k → length (replicate n x) ≤ k
     past g = let e = length-replicate n x in rw e g
 
-first_rests : (program : Tree) (mote queue : ℕ) → Rests (unbooted program mote queue).state
+pub first_rests : (program : Tree) (mote queue : ℕ) → Rests (unbooted program mote queue).state
 unfolding unbooted
 first_rests program mote queue =
     let n = length program.processes + 3 in record {

@@ -1,32 +1,28 @@
 -- Each small step of the kernel writes lines and packets that bear its moment.
-use Rattle.std.proofs.Common.{ℕ, zero, suc, ◌≡◌, ◌+◌, ◌^◌, Bool, true, false, ◌==◌, nat_lt, nat_le, if◌then◌else◌, List, [], ◌∷◌, Option, Some, None, length, refl, sym, ap, ◌∙◌, subst, arith, ◌++◌, append_assoc, append-nil}
+use Rattle.std.proofs.Common.{ℕ, zero, suc, ◌≡◌, ◌+◌, ◌^◌, Bool, true, false, nat_le, if◌then◌else◌, List, [], ◌∷◌, length, refl, sym, ap, ◌∙◌, subst, arith, ◌++◌, append_assoc, append-nil}
 use Rattle.std.proofs.lemmas.List.{map-append, length-append}
 use Rattle.mote_program.specs.declared.event.Proc.{Proc}
 use Rattle.mote_program.specs.declared.event.Proc.TheVariants.{Own, Etimer, Ctimer, Radio}
 use Rattle.mote_program.specs.declared.event.Target.{Target}
 use Rattle.mote_program.specs.declared.event.Event.{Event}
-use Rattle.mote_program.specs.Code.{Code}
 use Rattle.mote_timers.specs.TimerLists.{TimerLists}
-use Rattle.protothread.specs.Remainder.{Remainder}
 use Rattle.process_kernel.specs.declared.line.What.{What}
 use Rattle.process_kernel.specs.declared.line.What.TheVariants as what
 use Rattle.process_kernel.specs.declared.process.ProcessState.{ProcessState}
+use Rattle.process_kernel.specs.declared.process.ProcessState.TheVariants.{Running, Called}
 use Rattle.process_kernel.specs.State.{State, Outcome, Ends, Goes, ◌>>=◌}
 use Rattle.process_kernel.specs.Processes.{is_alive, process_state, with_state, with_exiting, with_mark}
-use Rattle.process_kernel.specs.ProcessList.{put_remainder, with_fresh_body, with_fresh_process, enlist_of, exiting_of, unlisted_of, leave_of}
-use Rattle.process_kernel.specs.Etimer.{fired_of, purge_of}
-use Rattle.process_kernel.specs.Operation.{answered_with, answer_of}
+use Rattle.process_kernel.specs.ProcessList.{with_fresh_body, with_fresh_process, enlist_of, exiting_of, unlisted_of, leave_of}
 use Rattle.process_kernel.specs.Posts.{post_of, poll_of, send_of}
-use Rattle.process_kernel.specs.Semaphores.{take_of, signal_of}
-use Rattle.process_kernel.specs.TimerOperations.{has_timer, timer_is_set, set_of, reset_of, restart_of, stop_of}
-use Rattle.process_kernel.specs.Writes.{with_line, write_of, spend_of, halted_of}
-use Rattle.process_kernel.specs.Thread.{stepped_with, stepped_of}
+use Rattle.process_kernel.specs.TimerOperations.{timer_is_set}
+use Rattle.process_kernel.specs.Writes.{with_line, write_of, halted_of}
 use Rattle.std.specs.List.{range_with_len}
 use Rattle.std.proofs.lemmas.List.Elements.{All-nil, All-cons, All-append}
 use Rattle.process_kernel.specs.declared.line.Sent.{Sent}
 use Rattle.process_kernel.specs.declared.line.What.TheVariants.{Halt}
-use Rattle.kernel_laws.specs.Stamps.{PacketsBear, AreNumberedFrom, Stamped, state_after}
+use Rattle.kernel_laws.specs.Stamps.{PacketsBear, AreNumberedFrom, Stamped}
 use Rattle.kernel_laws.proofs.Steps.{lines_joined}
+use Rattle.kernel_laws.proofs.EachStep.{Whoever, Lead, AreJoined, AreSteps, AreRunSteps, lead_goes, lead_bind, lead_from, lead_if, empty_led}
 
 -- Nothing that is written goes astray, and the moment stays.
 pub record Keeps (s t : State) : Type 0 where
@@ -34,11 +30,8 @@ pub record Keeps (s t : State) : Type 0 where
   pub moment : t.moment ≡ s.moment
 
 -- whether it goes on or ends
-pub record Leaves (A : Type 0) (s : State) (o : Outcome A) : Type 0 where
-  pub left : Keeps s (state_after o)
-
 abbrev pub Kept : {A : Type 0} → State → Outcome A → Type 0
-Kept {A} s o = Leaves A s o
+Kept {A} s o = Lead Keeps Keeps A s o
 
 numbers_joined : (first m n : ℕ) → range_with_len first (m + n) ≡ range_with_len first m ++ range_with_len (first + m) n
 numbers_joined first zero n =
@@ -126,26 +119,20 @@ keeps_still s t q = record { stamped = stamped_still s.moment s t q.lines q.send
 
 -- chains of steps
 
-pub kept_goes : {A : Type 0} (s : State) (a : A) (t : State) → IsStill s t → Kept s (Goes a t)
-kept_goes s a t q = record { left = keeps_still s t q }
+pub chain : AreJoined Keeps Keeps
+chain = record { same = λ s. keeps_still s s (still s); joined = keeps_twice; ended = keeps_twice }
 
-bind_kept : (A B : Type 0) (s : State) (o : Outcome A) (f : A → State → Outcome B) → Keeps s (state_after o) → ((a : A) (t : State) → Kept t (f a t)) → Keeps s (state_after (o >>= f))
-bind_kept A B s (Ends t) f h g = h
-bind_kept A B s (Goes a t) f h g = keeps_twice s t _ h (g a t).left
+kept_goes : {A : Type 0} (s : State) (a : A) (t : State) → IsStill s t → Kept s (Goes a t)
+kept_goes s a t q = lead_goes Keeps Keeps chain _ s a t (keeps_still s t q)
 
-pub kept_bind : {A B : Type 0} (s : State) (o : Outcome A) (f : A → State → Outcome B) → Kept s o → ((a : A) (t : State) → Kept t (f a t)) → Kept s (o >>= f)
-kept_bind {A} {B} s o f h g = record { left = bind_kept A B s o f h.left g }
+kept_bind : {A B : Type 0} (s : State) (o : Outcome A) (f : A → State → Outcome B) → Kept s o → ((a : A) (t : State) → Kept t (f a t)) → Kept s (o >>= f)
+kept_bind s o f h g = lead_bind Keeps Keeps chain _ _ s o f h g
 
-pub kept_from : {A : Type 0} (s t : State) (o : Outcome A) → IsStill s t → Kept t o → Kept s o
-kept_from s t o q h = record { left = keeps_twice s t _ (keeps_still s t q) h.left }
+kept_from : {A : Type 0} (s t : State) (o : Outcome A) → IsStill s t → Kept t o → Kept s o
+kept_from s t o q h = lead_from Keeps Keeps chain _ s t o (keeps_still s t q) h
 
-pub kept_if : {A : Type 0} (s : State) (b : Bool) (o p : Outcome A) → Kept s o → Kept s p → Kept s (if b then o else p)
-kept_if {A} s true o p h j = h
-kept_if {A} s false o p h j = j
-
-pub kept_option : (A X : Type 0) (s : State) (x : Option X) (o : Outcome A) (f : X → Outcome A) → Kept s o → ((y : X) → Kept s (f y)) → Kept s (elim x [ None ↦ o | Some y ↦ f y ])
-kept_option A X s None o f h j = h
-kept_option A X s (Some y) o f h j = j y
+kept_if : {A : Type 0} (s : State) (b : Bool) (o p : Outcome A) → Kept s o → Kept s p → Kept s (if b then o else p)
+kept_if s b o p h i = lead_if Keeps Keeps chain _ s b o p h i
 
 -- lines
 
@@ -166,25 +153,21 @@ keeps_line s w = record {
   moment = refl;
 }
 
-pub kept_halts : {A : Type 0} (s : State) → Kept {A = A} s (Ends (halted_of s))
+kept_halts : {A : Type 0} (s : State) → Kept {A = A} s (Ends (halted_of s))
 unfolding halted_of
-kept_halts s = record { left = keeps_line s Halt }
+kept_halts s = record { leads = keeps_line s Halt }
 
-pub write_kept : (s : State) (w : What) → Kept s (write_of s w)
+write_kept : (s : State) (w : What) → Kept s (write_of s w)
 unfolding write_of
-write_kept s w = record { left = keeps_line s w }
-
-pub spend_kept : (s : State) → Kept s (spend_of s)
-unfolding spend_of
-spend_kept s = kept_if s (s.units == 0) _ _ (kept_halts s) (kept_goes s tt _ (record { lines = refl; sends = refl; sent = refl; moment = refl; mote = refl; program = refl }))
+write_kept s w = record { leads = keeps_line s w }
 
 -- what writes nothing
 
-pub state_still : (s : State) (p : Proc) (x : ProcessState) → IsStill s (with_state s p x)
+state_still : (s : State) (p : Proc) (x : ProcessState) → IsStill s (with_state s p x)
 unfolding with_state
 state_still s p x = record { lines = refl; sends = refl; sent = refl; moment = refl; mote = refl; program = refl }
 
-pub exiting_still : (s : State) (p : Proc) → IsStill s (exiting_of s p)
+exiting_still : (s : State) (p : Proc) → IsStill s (exiting_of s p)
 unfolding exiting_of with_exiting with_state
 exiting_still s p = record { lines = refl; sends = refl; sent = refl; moment = refl; mote = refl; program = refl }
 
@@ -196,11 +179,7 @@ pub poll_still : (s : State) (p : Proc) → IsStill s (poll_of s p)
 unfolding poll_of with_mark
 poll_still s p = still_if s (is_alive (process_state s p)) _ s (record { lines = refl; sends = refl; sent = refl; moment = refl; mote = refl; program = refl }) (still s)
 
-pub remainder_still : (s : State) (p : ℕ) (r : Remainder) → IsStill s (put_remainder s p r)
-unfolding put_remainder
-remainder_still s p r = record { lines = refl; sends = refl; sent = refl; moment = refl; mote = refl; program = refl }
-
-pub body_still : (s : State) (p : ℕ) → IsStill s (with_fresh_body s p)
+body_still : (s : State) (p : ℕ) → IsStill s (with_fresh_body s p)
 body_still s p = record { lines = refl; sends = refl; sent = refl; moment = refl; mote = refl; program = refl }
 
 fresh_still : (s : State) (p : Proc) → IsStill s (with_fresh_process s p)
@@ -212,54 +191,6 @@ fresh_still s Radio = still s
 set_still : (s : State) (timers : TimerLists) (timer : ℕ) → IsStill s (timer_is_set (record s { timers = timers }) timer)
 unfolding timer_is_set
 set_still s timers timer = still_twice s _ _ (record { lines = refl; sends = refl; sent = refl; moment = refl; mote = refl; program = refl }) (poll_still _ Etimer)
-
-pub sets_still : (s : State) (t n p : ℕ) → IsStill s (set_of s t n p)
-unfolding set_of
-sets_still s t n p = still_if s (has_timer s t) _ s (set_still s _ t) (still s)
-
-pub resets_still : (s : State) (t p : ℕ) → IsStill s (reset_of s t p)
-unfolding reset_of
-resets_still s t p = still_if s (has_timer s t) _ s (set_still s _ t) (still s)
-
-pub restarts_still : (s : State) (t p : ℕ) → IsStill s (restart_of s t p)
-unfolding restart_of
-restarts_still s t p = still_if s (has_timer s t) _ s (set_still s _ t) (still s)
-
-pub stops_still : (s : State) (t : ℕ) → IsStill s (stop_of s t)
-unfolding stop_of
-stops_still s t = still_if s (has_timer s t) _ s (record { lines = refl; sends = refl; sent = refl; moment = refl; mote = refl; program = refl }) (still s)
-
-pub fired_still : (s : State) (t : ℕ) → IsStill s (fired_of s t)
-unfolding fired_of
-fired_still s t = record { lines = refl; sends = refl; sent = refl; moment = refl; mote = refl; program = refl }
-
-pub purged_still : (s : State) (p : ℕ) → IsStill s (purge_of s p)
-unfolding purge_of
-purged_still s p = still_if s (nat_lt p 256) _ s (record { lines = refl; sends = refl; sent = refl; moment = refl; mote = refl; program = refl }) (still s)
-
-pub taken_still : (s : State) (k : ℕ) → IsStill s (take_of s k)
-unfolding take_of
-taken_still s k = record { lines = refl; sends = refl; sent = refl; moment = refl; mote = refl; program = refl }
-
-pub signalled_still : (s : State) (k : ℕ) → IsStill s (signal_of s k)
-unfolding signal_of
-signalled_still s k = record { lines = refl; sends = refl; sent = refl; moment = refl; mote = refl; program = refl }
-
-stepped_as : (variables : Option (List ℕ)) (s : State) (code : Code) (r : Remainder) (p : ℕ) (e : Event) → IsStill s (stepped_with variables s code r p e).state
-stepped_as (Some variables) s code r p e = record { lines = refl; sends = refl; sent = refl; moment = refl; mote = refl; program = refl }
-stepped_as None s code r p e = still s
-
-pub stepped_still : (s : State) (code : Code) (r : Remainder) (p : ℕ) (e : Event) → IsStill s (stepped_of s code r p e).state
-unfolding stepped_of
-stepped_still s code r p e = stepped_as _ s code r p e
-
-answered_as : (variables : Option (List ℕ)) (s : State) (r : Remainder) (p answer : ℕ) → Kept s (answered_with variables s r p answer)
-answered_as (Some variables) s r p answer = kept_goes s _ _ (record { lines = refl; sends = refl; sent = refl; moment = refl; mote = refl; program = refl })
-answered_as None s r p answer = kept_goes s r s (still s)
-
-pub answer_kept : (s : State) (r : Remainder) (p : ℕ) (full : Bool) → Kept s (answer_of s r p full)
-unfolding answer_of
-answer_kept s r p full = answered_as _ s r p _
 
 -- packets
 
@@ -280,21 +211,58 @@ keeps_packet s v = record {
   moment = refl;
 }
 
-pub send_kept : (s : State) (v : ℕ) → Kept s (send_of s v)
+send_kept : (s : State) (v : ℕ) → Kept s (send_of s v)
 unfolding send_of
-send_kept s v = kept_if s (nat_le (2 ^ 62) s.sent) _ _ (kept_halts s) (record { left = keeps_twice s _ _ (keeps_packet s v) (write_kept _ (what.Send s.sent v)).left })
+send_kept s v = kept_if s (nat_le (2 ^ 62) s.sent) _ _ (kept_halts s) (lead_from Keeps Keeps chain _ s _ _ (keeps_packet s v) (write_kept _ (what.Send s.sent v)))
 
 -- events and the process list
 
-pub post_kept : (s : State) (t : Target) (e : Event) → Kept s (post_of s t e)
+post_kept : (s : State) (t : Target) (e : Event) → Kept s (post_of s t e)
 unfolding post_of
 post_kept s t e =
     kept_if s (nat_le (2 ^ 62) s.queue.accepted) _ _ (kept_halts s) (kept_if s (nat_le s.queue.capacity (length s.queue.events)) _ _ (kept_bind s _ _ (write_kept s _) (λ a u. kept_goes u true u (still u))) (kept_bind s _ _ (kept_from s _ _ (record { lines = refl; sends = refl; sent = refl; moment = refl; mote = refl; program = refl }) (write_kept _ _)) (λ a u. kept_goes u false u (still u))))
 
-pub enlist_kept : (s : State) (p : Proc) → Kept s (enlist_of s p)
+enlist_kept : (s : State) (p : Proc) → Kept s (enlist_of s p)
 unfolding enlist_of with_state
 enlist_kept s p = kept_from s _ _ (still_twice s _ _ (record { lines = refl; sends = refl; sent = refl; moment = refl; mote = refl; program = refl }) (fresh_still _ p)) (write_kept _ _)
 
-pub leave_kept : (s : State) (p : Proc) → Kept s (leave_of s p)
+leave_kept : (s : State) (p : Proc) → Kept s (leave_of s p)
 unfolding leave_of unlisted_of with_exiting
 leave_kept s p = kept_from s _ _ (record { lines = refl; sends = refl; sent = refl; moment = refl; mote = refl; program = refl }) (write_kept _ _)
+
+-- all of them
+
+pub steps : AreSteps Keeps Keeps chain Whoever
+steps = record {
+  own = λ p own. tt;
+  halts = λ s. (kept_halts {A = Unit {0}} s).leads;
+  units = λ s n. keeps_still s _ (record { lines = refl; sends = refl; sent = refl; moment = refl; mote = refl; program = refl });
+  busy = λ s p. keeps_line s (what.Busy p);
+  prints = λ s p v. keeps_line s (what.Print p v);
+  called = λ s p. keeps_still s _ (state_still s p Called);
+  runs = λ s p. keeps_still s _ (state_still s p Running);
+  exiting = λ s p l. keeps_still s _ (exiting_still s p);
+  polled = λ s p. keeps_still s _ (poll_still s p);
+  remainders = λ s rs. keeps_still s _ (record { lines = refl; sends = refl; sent = refl; moment = refl; mote = refl; program = refl });
+  variables = λ s vs. keeps_still s _ (record { lines = refl; sends = refl; sent = refl; moment = refl; mote = refl; program = refl });
+  sets = λ s t start interval owner there. keeps_still s _ (set_still s _ t);
+  stops = λ s t. keeps_still s _ (record { lines = refl; sends = refl; sent = refl; moment = refl; mote = refl; program = refl });
+  purges = λ s p. keeps_still s _ (record { lines = refl; sends = refl; sent = refl; moment = refl; mote = refl; program = refl });
+  callbacks = λ s ts. keeps_still s _ (record { lines = refl; sends = refl; sent = refl; moment = refl; mote = refl; program = refl });
+  semaphores = λ s ns. keeps_still s _ (record { lines = refl; sends = refl; sent = refl; moment = refl; mote = refl; program = refl });
+  posts = λ s t e f. post_kept s t e;
+  sends = send_kept;
+  enlists = λ s p l. enlist_kept s p;
+  leaves = λ s p l. leave_kept s p;
+  empties = λ s. empty_led Keeps Keeps chain (λ t r. keeps_still t _ (record { lines = refl; sends = refl; sent = refl; moment = refl; mote = refl; program = refl })) (λ t to e f. post_kept t to e) (λ t f n. keeps_line t (what.Deaf f n)) s.program.receiver s.ring s;
+}
+
+pub run_steps : AreRunSteps Keeps Keeps chain Whoever
+run_steps = record {
+  any = λ p. tt;
+  flag = λ s. keeps_still s _ (record { lines = refl; sends = refl; sent = refl; moment = refl; mote = refl; program = refl });
+  mark = λ s p. keeps_still s _ (mark_still s p false);
+  front = λ s. keeps_still s _ (record { lines = refl; sends = refl; sent = refl; moment = refl; mote = refl; program = refl });
+  takes = λ s n p. keeps_line s (what.Take n p);
+  drops = λ s n p. keeps_line s (what.Drop n p);
+}

@@ -1,5 +1,5 @@
 -- Each small step of the kernel is a run of the delivery machine, in the midst of any walk.
-use Rattle.std.proofs.Common.{ℕ, ◌≡◌, ◌+◌, ◌^◌, ◌||◌, ◌==◌, not, nat_lt, nat_le, length, Bool, true, false, cond, if◌then◌else◌, List, [], ◌∷◌, ◌++◌, Option, Some, None, refl, sym, ap, subst, ◌∙◌, append_assoc, append-nil, arith, map}
+use Rattle.std.proofs.Common.{ℕ, ◌≡◌, ◌+◌, ◌^◌, ◌||◌, ◌==◌, not, nat_le, length, Bool, true, false, cond, if◌then◌else◌, List, [], ◌∷◌, ◌++◌, refl, sym, ap, subst, ◌∙◌, append_assoc, append-nil, arith, map}
 use Rattle.std.proofs.lemmas.List.{map-append}
 use Rattle.std.specs.List.{filter}
 use Rattle.std.proofs.lemmas.List.Elements.{All-nil, All-push}
@@ -12,8 +12,6 @@ use Rattle.mote_program.specs.declared.event.Proc.{Proc}
 use Rattle.mote_program.specs.declared.event.Proc.TheVariants.{Own, Etimer, Ctimer, Radio}
 use Rattle.mote_program.specs.declared.event.Target.{Target}
 use Rattle.mote_program.specs.declared.event.Event.{Event}
-use Rattle.mote_program.specs.Code.{Code}
-use Rattle.protothread.specs.Remainder.{Remainder}
 use Rattle.event_queue.specs.Queue.{with_posted}
 use Rattle.mote_timers.specs.TimerLists.{TimerLists}
 use Rattle.process_kernel.specs.declared.line.Line.{Line}
@@ -25,17 +23,14 @@ use Rattle.process_kernel.specs.declared.process.Member.{Member}
 use Rattle.process_kernel.specs.Members.{place_of, is_same, stands_in}
 use Rattle.process_kernel.specs.State.{State, Outcome, Ends, Goes, ◌>>=◌}
 use Rattle.process_kernel.specs.Processes.{is_alive, process_state, is_listed, with_state, with_exiting, with_mark}
-use Rattle.process_kernel.specs.ProcessList.{put_remainder, with_fresh_body, with_fresh_process, enlist_of, exiting_of, unlisted_of, leave_of}
+use Rattle.process_kernel.specs.ProcessList.{with_fresh_body, with_fresh_process, enlist_of, exiting_of, unlisted_of, leave_of}
 use Rattle.process_kernel.specs.Posts.{post_of, poll_of, send_of}
-use Rattle.process_kernel.specs.Semaphores.{take_of, signal_of}
-use Rattle.process_kernel.specs.TimerOperations.{has_timer, timer_is_set, set_of, reset_of, restart_of, stop_of}
-use Rattle.process_kernel.specs.Etimer.{fired_of, purge_of}
-use Rattle.process_kernel.specs.Writes.{with_line, write_of, halted_of, spend_of}
-use Rattle.process_kernel.specs.Thread.{stepped_with, stepped_of}
-use Rattle.process_kernel.specs.Operation.{answered_with, answer_of}
+use Rattle.process_kernel.specs.TimerOperations.{timer_is_set}
+use Rattle.process_kernel.specs.Writes.{with_line, write_of, halted_of}
 use Rattle.kernel_laws.specs.Own.{IsOwn, FitsTarget}
 use Rattle.kernel_laws.specs.Seen.{seen_what, seen_lines, seen_target, seen_member, seen_posted, view_of}
 use Rattle.kernel_laws.specs.Going.{IsSound}
+use Rattle.kernel_laws.proofs.EachStep.{Leads, Lead, AreJoined, lead_from, lead_bind, lead_if}
 
 -- the later state is reached by lines that are a run of the machine, whatever walk is under way
 pub record GoesOn (s t : State) : Type 0 where
@@ -51,12 +46,11 @@ pub record Stops (s t : State) : Type 0 where
   pub halts : views.Stops (view_of s) (seen_lines added)
 
 abbrev pub Reaches : {A : Type 0} → State → Outcome A → Type 0
-Reaches s (Ends t) = Stops s t
-Reaches s (Goes a t) = GoesOn s t
+Reaches s o = Leads GoesOn Stops s o
 
 -- whether it goes on or ends
-pub record Reach (A : Type 0) (s : State) (o : Outcome A) : Type 0 where
-  pub reached : Reaches s o
+abbrev pub Reach : (A : Type 0) → State → Outcome A → Type 0
+Reach A s o = Lead GoesOn Stops A s o
 
 -- nothing of what the delivery sees is changed
 pub record IsQuiet (s t : State) : Type 0 where
@@ -104,41 +98,23 @@ ended a b c h i = record {
   halts = rw map-append (stops_joined (view_of a) (view_of b) _ _ h.moves i.halts);
 }
 
-from_reaches : (B : Type 0) (s t : State) (o : Outcome B) → GoesOn s t → Reaches t o → Reaches s o
-from_reaches B s t (Ends u) h i = ended s t u h i
-from_reaches B s t (Goes b u) h i = joined s t u h i
+pub chain : AreJoined GoesOn Stops
+chain = record { same = λ s. quiet s s (quiet_same s); joined = joined; ended = ended }
 
 pub reaches_from : {B : Type 0} {s : State} (t : State) {o : Outcome B} → GoesOn s t → Reach B t o → Reach B s o
-reaches_from {B} {s} t {o} h i = record { reached = from_reaches B s t o h i.reached }
-
-bind_reaches : (A B : Type 0) (s : State) (o : Outcome A) (f : A → State → Outcome B) → Reaches s o → ((a : A) (t : State) → Reach B t (f a t)) → Reaches s (o >>= f)
-bind_reaches A B s (Ends t) f h go = h
-bind_reaches A B s (Goes a t) f h go = from_reaches B s t (f a t) h (go a t).reached
+reaches_from {B} {s} t {o} h i = lead_from GoesOn Stops chain B s t o h i
 
 pub reaches_bind : (A B : Type 0) (s : State) (o : Outcome A) (f : A → State → Outcome B) → Reach A s o → ((a : A) (t : State) → Reach B t (f a t)) → Reach B s (o >>= f)
-reaches_bind A B s o f h go = record { reached = bind_reaches A B s o f h.reached go }
-
-pub bind_twice : (A B C : Type 0) (s : State) (o : Outcome A) (h : A → State → Outcome B) (g : B → State → Outcome C) → Reach C s (o >>= λ a t. (h a t >>= g)) → Reach C s ((o >>= h) >>= g)
-bind_twice A B C s (Ends t) h g r = r
-bind_twice A B C s (Goes a t) h g r = r
+reaches_bind A B s o f h go = lead_bind GoesOn Stops chain A B s o f h go
 
 pub reaches_if : (A : Type 0) (s : State) (b : Bool) (o p : Outcome A) → Reach A s o → Reach A s p → Reach A s (if b then o else p)
-reaches_if A s true o p h i = h
-reaches_if A s false o p h i = i
-
-pub reaches_cases : (A : Type 0) (s : State) (b : Bool) (o p : Outcome A) → (b ≡ true → Reach A s o) → (b ≡ false → Reach A s p) → Reach A s (if b then o else p)
-reaches_cases A s true o p h i = h refl
-reaches_cases A s false o p h i = i refl
-
-pub reaches_option : (A X : Type 0) (s : State) (x : Option X) (o : Outcome A) (f : X → Outcome A) → Reach A s o → ((y : X) → Reach A s (f y)) → Reach A s (elim x [ None ↦ o | Some y ↦ f y ])
-reaches_option A X s None o f h i = h
-reaches_option A X s (Some y) o f h i = i y
+reaches_if A s b o p h i = lead_if GoesOn Stops chain A s b o p h i
 
 pub ends : (A : Type 0) (s t : State) → Stops s t → Reach A s (Ends t)
-ends A s t h = record { reached = h }
+ends A s t h = record { leads = h }
 
 pub goes : (A : Type 0) (s : State) (a : A) (t : State) → GoesOn s t → Reach A s (Goes a t)
-goes A s a t h = record { reached = h }
+goes A s a t h = record { leads = h }
 
 pub goes_quiet : (A : Type 0) (s : State) (a : A) (t : State) → IsQuiet s t → Reach A s (Goes a t)
 goes_quiet A s a t q = goes A s a t (quiet s t q)
@@ -158,17 +134,16 @@ one_line s u w e m f = record {
 }
 
 -- a line that tells of no process and no event
-pub aside : (s : State) (w : What) → seen_what w ≡ handed.Other → Reach (Unit {0}) s (write_of s w)
+pub line_aside : (s : State) (w : What) → seen_what w ≡ handed.Other → GoesOn s (with_line s w)
+line_aside s w e = one_line s s w refl (rw e (other_moves (view_of s))) (λ h. h)
+
+aside : (s : State) (w : What) → seen_what w ≡ handed.Other → Reach (Unit {0}) s (write_of s w)
 unfolding write_of
-aside s w e = goes (Unit {0}) s tt _ (one_line s s w refl (rw e (other_moves (view_of s))) (λ h. h))
+aside s w e = goes (Unit {0}) s tt _ (line_aside s w e)
 
 pub halts : (s : State) → Stops s (halted_of s)
 unfolding halted_of
 halts s = record { added = record { at = s.moment; what = what.Halt } ∷ []; wrote = refl; halts = halt_stops (view_of s) }
-
-pub spends : (s : State) → Reach (Unit {0}) s (spend_of s)
-unfolding spend_of
-spends s = reaches_if (Unit {0}) s (s.units == 0) _ _ (ends _ s _ (halts s)) (goes_quiet _ s tt _ (record { lines = refl; members = refl; started = refl; queue = refl }))
 
 -- what changes nothing that the delivery sees
 
@@ -184,10 +159,6 @@ pub mark_quiet : (s : State) (p : Proc) (x : Bool) → IsQuiet s (with_mark s p 
 unfolding with_mark
 mark_quiet s p x = record { lines = refl; members = refl; started = refl; queue = refl }
 
-pub remainder_quiet : (s : State) (p : ℕ) (r : Remainder) → IsQuiet s (put_remainder s p r)
-unfolding put_remainder
-remainder_quiet s p r = record { lines = refl; members = refl; started = refl; queue = refl }
-
 pub body_quiet : (s : State) (p : ℕ) → IsQuiet s (with_fresh_body s p)
 body_quiet s p = record { lines = refl; members = refl; started = refl; queue = refl }
 
@@ -201,57 +172,9 @@ pub poll_quiet : (s : State) (p : Proc) → IsQuiet s (poll_of s p)
 unfolding poll_of with_mark
 poll_quiet s p = quiet_if s (is_alive (process_state s p)) _ s (record { lines = refl; members = refl; started = refl; queue = refl }) (quiet_same s)
 
-set_quiet : (s : State) (timers : TimerLists) (timer : ℕ) → IsQuiet s (timer_is_set (record s { timers = timers }) timer)
+pub set_quiet : (s : State) (timers : TimerLists) (timer : ℕ) → IsQuiet s (timer_is_set (record s { timers = timers }) timer)
 unfolding timer_is_set
 set_quiet s timers timer = quiet_twice s _ _ (record { lines = refl; members = refl; started = refl; queue = refl }) (poll_quiet _ Etimer)
-
-pub sets_quiet : (s : State) (t n p : ℕ) → IsQuiet s (set_of s t n p)
-unfolding set_of
-sets_quiet s t n p = quiet_if s (has_timer s t) _ s (set_quiet s _ t) (quiet_same s)
-
-pub resets_quiet : (s : State) (t p : ℕ) → IsQuiet s (reset_of s t p)
-unfolding reset_of
-resets_quiet s t p = quiet_if s (has_timer s t) _ s (set_quiet s _ t) (quiet_same s)
-
-pub restarts_quiet : (s : State) (t p : ℕ) → IsQuiet s (restart_of s t p)
-unfolding restart_of
-restarts_quiet s t p = quiet_if s (has_timer s t) _ s (set_quiet s _ t) (quiet_same s)
-
-pub stops_quiet : (s : State) (t : ℕ) → IsQuiet s (stop_of s t)
-unfolding stop_of
-stops_quiet s t = quiet_if s (has_timer s t) _ s (record { lines = refl; members = refl; started = refl; queue = refl }) (quiet_same s)
-
-pub fired_quiet : (s : State) (t : ℕ) → IsQuiet s (fired_of s t)
-unfolding fired_of
-fired_quiet s t = record { lines = refl; members = refl; started = refl; queue = refl }
-
-pub purged_quiet : (s : State) (p : ℕ) → IsQuiet s (purge_of s p)
-unfolding purge_of
-purged_quiet s p = quiet_if s (nat_lt p 256) _ s (record { lines = refl; members = refl; started = refl; queue = refl }) (quiet_same s)
-
-pub taken_quiet : (s : State) (k : ℕ) → IsQuiet s (take_of s k)
-unfolding take_of
-taken_quiet s k = record { lines = refl; members = refl; started = refl; queue = refl }
-
-pub signalled_quiet : (s : State) (k : ℕ) → IsQuiet s (signal_of s k)
-unfolding signal_of
-signalled_quiet s k = record { lines = refl; members = refl; started = refl; queue = refl }
-
-stepped_as : (variables : Option (List ℕ)) (s : State) (code : Code) (r : Remainder) (p : ℕ) (e : Event) → IsQuiet s (stepped_with variables s code r p e).state
-stepped_as (Some variables) s code r p e = record { lines = refl; members = refl; started = refl; queue = refl }
-stepped_as None s code r p e = quiet_same s
-
-pub stepped_quiet : (s : State) (code : Code) (r : Remainder) (p : ℕ) (e : Event) → IsQuiet s (stepped_of s code r p e).state
-unfolding stepped_of
-stepped_quiet s code r p e = stepped_as _ s code r p e
-
-answers_with : (variables : Option (List ℕ)) (s : State) (r : Remainder) (p answer : ℕ) → Reach Remainder s (answered_with variables s r p answer)
-answers_with (Some variables) s r p answer = goes_quiet Remainder s _ _ (record { lines = refl; members = refl; started = refl; queue = refl })
-answers_with None s r p answer = goes_still Remainder s r
-
-pub answers : (s : State) (r : Remainder) (p : ℕ) (full : Bool) → Reach Remainder s (answer_of s r p full)
-unfolding answer_of
-answers s r p full = answers_with _ s r p _
 
 pub sends : (s : State) (v : ℕ) → Reach (Unit {0}) s (send_of s v)
 unfolding send_of
@@ -263,7 +186,7 @@ pub listed_alike : (ms : List Member) (p : Proc) → stands_in ms p ≡ handed.i
 listed_alike [] p = refl
 listed_alike (m ∷ ms) p = grind (arith, nat_tests, listed_alike ms p)
 
-any_or : (b c : Bool) → c ≡ true → (b || c) ≡ true
+pub any_or : (b c : Bool) → c ≡ true → (b || c) ≡ true
 any_or true c e = refl
 any_or false c e = e
 
@@ -303,11 +226,11 @@ left_members (m ∷ ms) p = left_first (not (is_same m.process p)) m ms p (left_
     left_first true m ms p e = ap (λ x. seen_member m ∷ x) e
     left_first false m ms p e = e
 
-others_stay : (ms : List Member) (p q : Proc) → (place_of q == place_of p) ≡ false → stands_in (filter (λ m. not (is_same m.process p)) ms) q ≡ stands_in ms q
+pub others_stay : (ms : List Member) (p q : Proc) → (place_of q == place_of p) ≡ false → stands_in (filter (λ m. not (is_same m.process p)) ms) q ≡ stands_in ms q
 others_stay [] p q e = refl
 others_stay (m ∷ ms) p q e = grind (arith, nat_tests, others_stay ms p q e)
 
-etimer_is_not_own : (p : Proc) → IsOwn p → (place_of Etimer == place_of p) ≡ false
+pub etimer_is_not_own : (p : Proc) → IsOwn p → (place_of Etimer == place_of p) ≡ false
 etimer_is_not_own (Own p) own = grind (arith, nat_tests)
 etimer_is_not_own Etimer own = absurd own
 etimer_is_not_own Ctimer own = absurd own
@@ -327,4 +250,4 @@ posts_at s t e f =
 pub posts_event : (s : State) (t : Target) (e : Event) → FitsTarget t e.number → Reach Bool s (post_of s t e)
 unfolding post_of write_of
 posts_event s t e f =
-    reaches_if Bool s (nat_le (2 ^ 62) s.queue.accepted) _ _ (ends _ s _ (halts s)) (reaches_if Bool s (nat_le s.queue.capacity (length s.queue.events)) _ _ (goes _ s true _ (aside s (what.Full t e.number e.word) refl).reached) (goes _ s false _ (posts_at s t e f)))
+    reaches_if Bool s (nat_le (2 ^ 62) s.queue.accepted) _ _ (ends _ s _ (halts s)) (reaches_if Bool s (nat_le s.queue.capacity (length s.queue.events)) _ _ (goes _ s true _ (aside s (what.Full t e.number e.word) refl).leads) (goes _ s false _ (posts_at s t e f)))

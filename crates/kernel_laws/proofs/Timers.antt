@@ -40,22 +40,22 @@ less_without : (x : ℕ) (ks : List ℕ) → is_member x ks ≡ true → length 
 less_without x [] h = absurd (cc)
 less_without x (k ∷ ks) h = less_by x k ks (k == x) refl h (less_without x ks)
 
-further : (x k : ℕ) (ks : List ℕ) → is_member x (k ∷ ks) ≡ true → (x == k) ≡ false → is_member x ks ≡ true
+pub further : (x k : ℕ) (ks : List ℕ) → is_member x (k ∷ ks) ≡ true → (x == k) ≡ false → is_member x ks ≡ true
 further x k ks h e = grind (arith, nat_tests)
 
-other_timer : (l : TimerLists) (x id : ℕ) → (id == x) ≡ false → timer_at (stop_timer l x).timers id ≡ timer_at l.timers id
+pub other_timer : (l : TimerLists) (x id : ℕ) → (id == x) ≡ false → timer_at (stop_timer l x).timers id ≡ timer_at l.timers id
 unfolding stop_timer
 other_timer l x id e = get_or-set_other l.timers x id _ unset (eqb-false id x e)
 
-other_member : (l : TimerLists) (x id : ℕ) → (id == x) ≡ false → is_member id l.listed ≡ true → is_member id (stop_timer l x).listed ≡ true
+pub other_member : (l : TimerLists) (x id : ℕ) → (id == x) ≡ false → is_member id l.listed ≡ true → is_member id (stop_timer l x).listed ≡ true
 unfolding stop_timer
 other_member l x id e h = is_member-filter (λ j. not (j == x)) id l.listed (grind (arith, nat_tests)) h
 
-fewer : (l : TimerLists) (x k : ℕ) → is_member x l.listed ≡ true → length l.listed ≤ suc k → length (stop_timer l x).listed ≤ k
+pub fewer : (l : TimerLists) (x k : ℕ) → is_member x l.listed ≡ true → length l.listed ≤ suc k → length (stop_timer l x).listed ≤ k
 unfolding stop_timer
 fewer l x k h few = let less = less_without x l.listed h in omega arith
 
-poll_lines : (s : State) → (poll_of s Etimer).lines ≡ s.lines
+pub poll_lines : (s : State) → (poll_of s Etimer).lines ≡ s.lines
 unfolding poll_of with_mark
 poll_lines s = if_same (is_alive (process_state s Etimer))
   where
@@ -63,7 +63,7 @@ poll_lines s = if_same (is_alive (process_state s Etimer))
     if_same true = refl
     if_same false = refl
 
-poll_timers : (s : State) → (poll_of s Etimer).timers ≡ s.timers
+pub poll_timers : (s : State) → (poll_of s Etimer).timers ≡ s.timers
 unfolding poll_of with_mark
 poll_timers s = if_same (is_alive (process_state s Etimer))
   where
@@ -71,7 +71,7 @@ poll_timers s = if_same (is_alive (process_state s Etimer))
     if_same true = refl
     if_same false = refl
 
-poll_moment : (s : State) → (poll_of s Etimer).moment ≡ s.moment
+pub poll_moment : (s : State) → (poll_of s Etimer).moment ≡ s.moment
 unfolding poll_of with_mark
 poll_moment s = if_same (is_alive (process_state s Etimer))
   where
@@ -79,7 +79,7 @@ poll_moment s = if_same (is_alive (process_state s Etimer))
     if_same true = refl
     if_same false = refl
 
-goes_cases : (P : State → Type 0) (b : Bool) (o p : Went) → (b ≡ true → IfGoes P o) → (b ≡ false → IfGoes P p) → IfGoes P (if b then o else p)
+pub goes_cases : (P : State → Type 0) (b : Bool) (o p : Went) → (b ≡ true → IfGoes P o) → (b ≡ false → IfGoes P p) → IfGoes P (if b then o else p)
 goes_cases P true o p h i = h refl
 goes_cases P false o p h i = i refl
 
@@ -153,12 +153,12 @@ module _ (id : ℕ) (owner : Proc) where
   offered few again on goes_again again_tells goes_on s u x q true h w there own on_tells = by (id == x) refl
     where
       by : (b : Bool) → (id == x) ≡ b → IfGoes (Tells s) (on (poll_of u Etimer))
-      by true e = told_first s u (poll_of u Etimer) _ h.0 (subst (λ j. TellsPost (One owner) (system_number Timer) j h.0.telling) (sym (eqb-true id x e)) (subst (λ p. TellsPost (One p) (system_number Timer) x h.0.telling) (own e) h.1)) (poll_lines u) (goes_on (poll_of u Etimer)).reached
+      by true e = told_first s u (poll_of u Etimer) _ h.0 (subst (λ j. TellsPost (One owner) (system_number Timer) j h.0.telling) (sym (eqb-true id x e)) (subst (λ p. TellsPost (One p) (system_number Timer) x h.0.telling) (own e) h.1)) (poll_lines u) (goes_on (poll_of u Etimer)).leads
       by false e = goes_behind s (poll_of u Etimer) _ _ (poll_lines u ∙ h.0.wrote) (poll_moment u ∙ h.0.moment) (on_tells e)
   offered few again on goes_again again_tells goes_on s u x q false h w there own on_tells = by (id == x) refl
     where
       by : (b : Bool) → (id == x) ≡ b → IfGoes (Tells s) (again (fired_of u x))
-      by true e = told_first s u (fired_of u x) _ h.0 (subst (λ j. TellsPost (One owner) (system_number Timer) j h.0.telling) (sym (eqb-true id x e)) (subst (λ p. TellsPost (One p) (system_number Timer) x h.0.telling) (own e) h.1)) (fired_lines u x) (goes_again (fired_of u x)).reached
+      by true e = told_first s u (fired_of u x) _ h.0 (subst (λ j. TellsPost (One owner) (system_number Timer) j h.0.telling) (sym (eqb-true id x e)) (subst (λ p. TellsPost (One p) (system_number Timer) x h.0.telling) (own e) h.1)) (fired_lines u x) (goes_again (fired_of u x)).leads
       by false e =
           goes_behind s (fired_of u x) _ _ (fired_lines u x ∙ h.0.wrote) (fired_moment u x ∙ h.0.moment) (again_tells (fired_of u x) (fired_waits few x u e (rw (h.0.timers) there) (waits_same (suc few) s u h.0.timers h.0.moment w)))
 

@@ -1,8 +1,11 @@
+pub mod Due
 pub mod Going
 pub mod InStep
 pub mod Laws
 pub mod Own
+pub mod Poll
 pub mod Polled
+pub mod Ring
 pub mod Seen
 pub mod Stamps
 pub mod Traces

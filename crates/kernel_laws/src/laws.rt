@@ -1,6 +1,8 @@
 //! Laws of the traces of a kernel. Each is the contract of a function that does nothing.
 
 ghost use Rattle.kernel_laws.specs.Polled.{PacketsAreHanded, TimersAreTold};
+ghost use Rattle.kernel_laws.specs.Due.{CallsForgetNone, BootForgetsNone, RunForgetsNone, RunTellsDue, BootKeepsOwners, RunKeepsOwners};
+ghost use Rattle.kernel_laws.specs.Ring.{CallsTellPackets, BootTellsPackets, RunTellsPackets, RunEmptiesRing};
 ghost use Rattle.kernel_laws.specs.Laws.{KernelsHandOn, GoingIsInOrder, NoLinesGoFirst, BootAddsItsLines, RunAddsItsLines, PollKeeps, PacketKeeps, NoteKeeps, OnlyTheRunningAreCalled, CallsKeepStep, ListedAreRunning, CallsStamp, BootStamps, RunStamps};
 
 /// Whatever its program is, and whatever calls follow its boot: the lines of a kernel, joined, hand its events on, nothing
@@ -43,4 +45,26 @@ pub fn what_is_written_bears_its_moment()
     ensures within { CallsStamp }
     ensures boot { BootStamps }
     ensures run { RunStamps }
+{}
+
+/// No packet leaves the receive ring without its line, and packets leave in the order in which they came: within calls, however they nest, and
+/// over boots and kernel runs, none of which writes a line of a packet that arrives. A kernel run in which a poll of the radio process waits
+/// leaves the ring empty. Where the mote halts, the packets that are left have no line.
+pub fn the_ring_is_told_of()
+    ensures within { CallsTellPackets }
+    ensures boot { BootTellsPackets }
+    ensures run { RunTellsPackets }
+    ensures emptied { RunEmptiesRing }
+{}
+
+/// No timer is forgotten: whatever calls a boot or a kernel run makes, in the end no timer is due, or a poll of etimer waits, as before. And a
+/// kernel run in which one waits polls etimer, behind the processes before it on the process list: of each timer that is due then a
+/// line tells that TIMER was posted to its owner, or that the queue was full, unless the mote halts.
+pub fn no_timer_is_forgotten()
+    ensures within { CallsForgetNone }
+    ensures boot { BootForgetsNone }
+    ensures run { RunForgetsNone }
+    ensures told { RunTellsDue }
+    ensures boot_owners { BootKeepsOwners }
+    ensures run_owners { RunKeepsOwners }
 {}

@@ -26,14 +26,14 @@ use Rattle.kernel_laws.proofs.StampedCalls.{boot_stamps, run_stamps}
 use Rattle.mote_laws.specs.Stamps.{TurnsStamp, packets_of, PacketsCountUp, TurnsNeverGoBack}
 use Rattle.mote_laws.proofs.Rising.{rises_empty, rises_level, rises_joined}
 
-abbrev so_far : Underway → State
+abbrev pub so_far : Underway → State
 so_far u = written u.mote u.lines u.sends
 
 -- what is written from one point of a turn to a later one bears its moment
-abbrev Goes : (moment : ℕ) → Underway → Underway → Type 0
+abbrev pub Goes : (moment : ℕ) → Underway → Underway → Type 0
 Goes moment u v = Stamped moment (so_far u) (so_far v)
 
-goes_still : (moment : ℕ) (u : Underway) → Goes moment u u
+pub goes_still : (moment : ℕ) (u : Underway) → Goes moment u u
 goes_still moment u = stamped_still moment (so_far u) (so_far u) refl refl refl refl refl
 
 goes_twice : (moment : ℕ) (u v w : Underway) → Goes moment u v → Goes moment v w → Goes moment u w
@@ -106,12 +106,12 @@ poll_due_goes moment u = due_if moment u (is_due moment (next_expiration_of u.mo
 
 -- kernel runs
 
-follow_goes : (moment : ℕ) (u : Underway) (r : Ran) (others : Underway → Underway) (v : Underway) → Goes moment u v → Goes moment u (others v) → Goes moment u (follow r others v)
+pub follow_goes : (moment : ℕ) (u : Underway) (r : Ran) (others : Underway → Underway) (v : Underway) → Goes moment u v → Goes moment u (others v) → Goes moment u (follow r others v)
 follow_goes moment u ran.Halted others v h i = h
 follow_goes moment u (ran.Left zero) others v h i = h
 follow_goes moment u (ran.Left (suc n)) others v h i = i
 
-runs_go : (most moment : ℕ) (u : Underway) → Goes moment u (runs_of most moment u)
+pub runs_go : (most moment : ℕ) (u : Underway) → Goes moment u (runs_of most moment u)
 unfolding runs_of
 runs_go zero moment u = goes_still moment u
 runs_go (suc most) moment u =
@@ -194,7 +194,7 @@ above : (moment : ℕ) (last : Option ℕ) (m : ℕ) → last ≡ Some m → is_
 above moment None m is past = cc
 above moment (Some l) m is past = let same : l ≡ m = cc in grind (arith, nat_tests)
 
-now_last : (moment : ℕ) (arrivals : List Arrival) (n : Node) → (turn_of moment arrivals n).node.last ≡ Some moment
+pub now_last : (moment : ℕ) (arrivals : List Arrival) (n : Node) → (turn_of moment arrivals n).node.last ≡ Some moment
 unfolding turn_of
 now_last moment arrivals n = refl
 

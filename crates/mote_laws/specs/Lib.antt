@@ -1,2 +1,4 @@
+pub mod Due
 pub mod Laws
+pub mod Ring
 pub mod Stamps

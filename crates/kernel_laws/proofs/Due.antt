@@ -1,0 +1,302 @@
+-- A kernel run in which a poll of etimer waits polls it, and each timer that is due then is told of.
+use Rattle.std.proofs.Common.{ℕ, ◌<◌, suc, ◌≡◌, ◌+◌, inl, inr, nat_lt, Bool, true, false, if◌then◌else◌, List, [], ◌∷◌, ◌++◌, length, refl, sym, ap, ◌∙◌, subst, append_assoc, arith}
+use Rattle.std.proofs.Math.ListN.{replicate}
+use Rattle.std.proofs.lemmas.List.{append_cancel_left, length-replicate}
+use Rattle.std.proofs.lemmas.Bool.Decides.{nat_tests}
+use Rattle.mote_program.specs.declared.event.Proc.{Proc}
+use Rattle.mote_program.specs.declared.event.Proc.TheVariants.{Etimer, Radio}
+use Rattle.mote_program.specs.declared.event.Target.{Target}
+use Rattle.mote_program.specs.declared.event.Target.TheVariants.{One}
+use Rattle.mote_program.specs.declared.event.SystemEvent.TheVariants.{Poll, Timer}
+use Rattle.mote_program.specs.Events.{system_number}
+use Rattle.mote_timers.specs.TimerLists.{new_timers}
+use Rattle.process_kernel.specs.declared.line.Line.{Line}
+use Rattle.process_kernel.specs.declared.line.Sent.{Sent}
+use Rattle.process_kernel.specs.declared.kernel.Ran.TheVariants as ran
+use Rattle.process_kernel.specs.declared.runs.TheConstants.{UNITS}
+use Rattle.process_kernel.specs.State.{State, Outcome, Ends, Goes, ◌>>=◌}
+use Rattle.process_kernel.specs.Processes.{is_marked, is_listed, has_process, with_mark}
+use Rattle.process_kernel.specs.Calls.{Calls, told}
+use Rattle.process_kernel.specs.Call.{calls_of}
+use Rattle.process_kernel.specs.Polls.{walk_polls}
+use Rattle.process_kernel.specs.Run.{begun_of, kernel_of}
+use Rattle.process_kernel.specs.Boot.{boot_of}
+use Rattle.process_kernel.specs.Mote.{Mote, unbooted}
+use Rattle.process_kernel.specs.Public.{Given, given, begun, unless_halted, boot_given, run_given}
+use Rattle.kernel_laws.specs.Own.{IsOwn}
+use Rattle.kernel_laws.specs.Going.{IsSound}
+use Rattle.kernel_laws.specs.InStep.{IsInStep, IsIdle}
+use Rattle.kernel_laws.specs.Polled.{TellsOfPost}
+use Rattle.kernel_laws.specs.Poll.{PollWaits, CanBePolled, before}
+use Rattle.kernel_laws.specs.Due.{IsDueFor, ForgetsNone, IsAtRest, HasTelling, TellsDue, PollsEtimer, BootForgetsNone, RunForgetsNone, RunTellsDue}
+use Rattle.kernel_laws.proofs.Packets.{IfGoes}
+use Rattle.kernel_laws.proofs.CallSteps.{calls_run}
+use Rattle.kernel_laws.proofs.Delivers.{RestsAt, machine_of, listed_anew, begun_sound}
+use Rattle.kernel_laws.proofs.Motes.{run_rests, boot_rests}
+use Rattle.kernel_laws.proofs.Traces.{no_lines_first}
+use Rattle.kernel_laws.proofs.InStep as tables
+use Rattle.kernel_laws.proofs.Resting as resting
+use Rattle.kernel_laws.proofs.Stamps as stamps
+use Rattle.kernel_laws.proofs.StampedCalls as stamped
+use Rattle.kernel_laws.proofs.EachStep.{Whoever, Lead, lead_from, calls_led, polls_led, front_led}
+use Rattle.kernel_laws.proofs.Watch.{Watches, Whatever, chain, steps}
+use Rattle.kernel_laws.proofs.Passes.{Serves, call_serves}
+use Rattle.process_kernel.specs.declared.process.ProcessState.TheVariants.{Off}
+use Rattle.kernel_laws.proofs.Alive.{alive_has}
+use Rattle.kernel_laws.proofs.PollTurns.{splits, walk_splits, turn_calls, before_led, polls_are}
+use Rattle.kernel_laws.proofs.WatchedBoot.{boot_good}
+use Rattle.kernel_laws.proofs.WatchedRuns.{Stands, unflagged, Good, AreWatched, Comes, comes, unmarked_stands, unmarked_moment, etimer_runs, kernel_good}
+
+are_watched : (k : ℕ) → AreWatched (calls_of (suc k))
+unfolding calls_of
+are_watched k = record {
+  led = calls_led (Watches Etimer) Whatever (chain Etimer) IsOwn (steps Etimer) (suc k);
+  kept = tables.calls_kept (suc k);
+  reach = calls_run (suc k);
+  serves = call_serves (calls_of k);
+}
+
+-- the calls of a boot or a run
+all_watched : AreWatched (calls_of (UNITS + 1))
+all_watched = subst (λ n. AreWatched (calls_of n)) (omega arith) (are_watched UNITS)
+
+-- where a boot or a run begins
+
+module _ (m : Mote) (moment : ℕ) (lines : List Line) (sends : List Sent) where
+  first_rests : IsInStep m.state → IsIdle m.state → resting.Rests (record m.state { lines = lines; sends = sends })
+  first_rests step idle = record {
+    step = (tables.keeps_still m.state _ (record { states = refl; exiting = refl; members = refl }) step).step;
+    idle = record { called = idle.called; exiting = idle.exiting };
+  }
+
+  begun_rests : IsInStep m.state → IsIdle m.state → resting.Rests (begun m moment lines sends)
+  begun_rests step idle = resting.rests_begun (record m.state { lines = lines; sends = sends }) moment (first_rests step idle)
+
+  begun_can : (p : Proc) → CanBePolled p m.state → CanBePolled p (begun m moment lines sends)
+  unfolding begun_of
+  begun_can p c = record { alive = c.alive; has_mark = c.has_mark }
+
+  begun_listed : (p : Proc) → is_listed m.state p ≡ true → is_listed (begun m moment lines sends) p ≡ true
+  unfolding begun_of
+  begun_listed p h = listed_anew 0 m.state.members p ∙ h
+
+  begun_room : has_process m.state Radio ≡ true → nat_lt 2 (length m.state.marks) ≡ true → (has_process (begun m moment lines sends) Radio ≡ true) × (nat_lt 2 (length (begun m moment lines sends).marks) ≡ true)
+  unfolding begun_of
+  begun_room h k = (h, k)
+
+  begun_moment : (begun m moment lines sends).moment ≡ moment
+  unfolding begun_of
+  begun_moment = refl
+
+  begun_forgets : ForgetsNone moment m.state → ForgetsNone moment (begun m moment lines sends)
+  unfolding begun_of
+  begun_forgets (inl n) = inl n
+  begun_forgets (inr w) = inr (record { marked = w.marked; flag = w.flag })
+
+  begun_lines : (begun m moment lines sends).lines ≡ lines
+  unfolding begun_of
+  begun_lines = refl
+
+  pub begun_stands : IsAtRest m.state → Stands true (begun m moment lines sends)
+  begun_stands h =
+      let r = begun_rests h.step h.idle in
+      let q = begun_room (alive_has Radio m.state h.radio.alive) h.radio.has_mark in
+      record { can = begun_can Etimer h.can; step = r.step; idle = r.idle; listed = begun_listed Etimer h.sound.stays; radio_state = q.0; radio_mark = q.1; radio = λ e. record { can = begun_can Radio h.radio; listed = begun_listed Radio h.radio_stays } }
+
+  begun_good : IsAtRest m.state → ForgetsNone moment m.state → Good true moment (begun m moment lines sends)
+  begun_good h f = record { now_is = begun_moment; stands = begun_stands h; forgets = begun_forgets f }
+
+  sound_now : IsSound m.state → IsSound (begun m moment lines sends)
+  sound_now h = begun_sound (record m.state { lines = lines; sends = sends }) moment (record { stays = h.stays; fits = h.fits })
+
+-- what a boot or a run leaves
+
+leaves_good : (moment walked : ℕ) (s b : State) (o : Outcome ℕ) → IfGoes (Good true moment) o → RestsAt (machine_of s walked []) b o → (given o).mote.halted ≡ false → IsAtRest (given o).mote.state × ForgetsNone moment (given o).mote.state
+leaves_good moment walked s b (Ends t) g r h = absurd (cc)
+leaves_good moment walked s b (Goes a t) g r h = (
+  record {
+    sound = record { stays = r.sound.stays; fits = r.sound.fits };
+    step = (tables.keeps_still t _ (record { states = refl; exiting = refl; members = refl }) g.stands.step).step;
+    idle = record { called = g.stands.idle.called; exiting = g.stands.idle.exiting };
+    can = record { alive = g.stands.can.alive; has_mark = g.stands.can.has_mark };
+    radio = let q = g.stands.radio refl in record { alive = q.can.alive; has_mark = q.can.has_mark };
+    radio_stays = (g.stands.radio refl).listed;
+  },
+  again g.forgets,
+)
+  where
+    again : ForgetsNone moment t → ForgetsNone moment (given (Goes a t)).mote.state
+    again (inl n) = inl n
+    again (inr w) = inr (record { marked = w.marked; flag = w.flag })
+
+abbrev LeavesGood : (moment : ℕ) → Given → Type 0
+LeavesGood moment g = g.mote.halted ≡ false → IsAtRest g.mote.state × ForgetsNone moment g.mote.state
+
+unless_good : (moment : ℕ) (m : Mote) (lines : List Line) (sends : List Sent) (g : Given) → LeavesGood moment g → LeavesGood moment (unless_halted m lines sends g)
+unless_good moment m lines sends g h = by m.halted refl
+  where
+    by : (b : Bool) → m.halted ≡ b → LeavesGood moment (if b then record { ran = ran.Halted; mote = m; lines = lines; sends = sends } else g)
+    by true e f = absurd (cc)
+    by false e f = h f
+
+pub run_forgets_none : RunForgetsNone
+unfolding run_given
+run_forgets_none moment m lines sends rest none =
+    unless_good moment m lines sends _ (leaves_good moment 0 m.state (record (m.state) { lines = lines; sends = sends }) _
+    (kernel_good (calls_of (UNITS + 1)) all_watched true moment (begun m moment lines sends) (sound_now m moment lines sends rest.sound) (begun_good m moment lines sends rest none))
+    (run_rests m moment lines sends 0 rest.sound))
+
+is_there : (k n : ℕ) → k < 3 → nat_lt k (length (replicate (n + 3) false)) ≡ true
+is_there k n l = let e = length-replicate (n + 3) false in rw e (grind (arith, nat_tests))
+
+has_radio : (n : ℕ) → nat_lt 2 (length (replicate (n + 3) Off)) ≡ true
+has_radio n = let e = length-replicate (n + 3) Off in rw e (grind (arith, nat_tests))
+
+pub boot_forgets_none : BootForgetsNone
+unfolding boot_given unbooted begun_of new_timers
+boot_forgets_none program mote queue moment lines sends =
+    let m = unbooted program mote queue in
+    let r = resting.first_rests program mote queue in
+    let first = no_lines_first program mote queue in
+    let b = begun_rests m moment lines sends r.step r.idle in
+    let o = boot_of (calls_of (UNITS + 1)) (begun m moment lines sends) in
+    let n = length program.processes in
+    unless_good moment m lines sends (given o) (leaves_good moment 0 m.state (record (m.state) { lines = lines; sends = sends }) o
+    (boot_good (calls_of (UNITS + 1)) all_watched moment (begun m moment lines sends) (record {
+      now_is = refl;
+      step = b.step;
+      idle = b.idle;
+      members = refl;
+      busy = first.blank.idle;
+      there = first.blank.there;
+      mark = is_there 0 n (omega arith);
+      radio_state = has_radio n;
+      radio_mark = is_there 2 n (omega arith);
+      none = λ id owner d. let h = d.listed in cc;
+    }))
+    (boot_rests m moment lines sends 0 first.blank))
+
+-- the lines of a run
+
+-- a chain of steps that went on, went on at each
+pub record Through (A B : Type 0) (o : Outcome A) (f : A → State → Outcome B) (b : B) (t : State) : Type 0 where
+  pub answer : A
+  pub midst : State
+  pub first : o ≡ Goes answer midst
+  pub second : f answer midst ≡ Goes b t
+
+pub through : (A B : Type 0) (o : Outcome A) (f : A → State → Outcome B) (b : B) (t : State) → (o >>= f) ≡ Goes b t → Through A B o f b t
+through A B (Ends u) f b t e = absurd (cc)
+through A B (Goes a u) f b t e = record { answer = a; midst = u; first = refl; second = e }
+
+record Adds (s t : State) : Type 0 where
+  more : List Line
+  wrote : t.lines ≡ s.lines ++ more
+
+adds_by : (A : Type 0) (s t : State) (a : A) (o : Outcome A) → o ≡ Goes a t → stamps.Kept s o → Adds s t
+adds_by A s t a o e k = let h : stamps.Kept s (Goes a t) = subst (λ (x : Outcome A). stamps.Kept s x) e k in record { more = h.leads.stamped.lines; wrote = h.leads.stamped.wrote }
+
+-- the lines around those of etimer's pass
+tells_within : (moment : ℕ) (s u v t : State) (h : Adds s u) (i : Adds u v) (j : Adds v t) → ((timer : ℕ) (owner : Proc) → IsDueFor moment u.timers timer owner → HasTelling moment i.more (One owner) (system_number Timer) timer) → TellsDue moment u s.lines t.lines
+tells_within moment s u v t h i j tells = record {
+  added = h.more ++ (i.more ++ j.more);
+  wrote = j.wrote ∙ ap (λ l. l ++ j.more) (i.wrote ∙ ap (λ l. l ++ i.more) h.wrote) ∙ joined s.lines h.more i.more j.more;
+  each = λ timer owner d. around (tells timer owner d);
+}
+  where
+    joined : (a b c d : List Line) → ((a ++ b) ++ c) ++ d ≡ a ++ (b ++ (c ++ d))
+    joined a b c d = append_assoc (a ++ b) c d ∙ append_assoc a b (c ++ d)
+
+    around : {owner : Proc} {timer : ℕ} → HasTelling moment i.more (One owner) (system_number Timer) timer → HasTelling moment (h.more ++ (i.more ++ j.more)) (One owner) (system_number Timer) timer
+    around k = record {
+      telling = k.telling;
+      tells = k.tells;
+      before = h.more ++ k.before;
+      after = k.after ++ j.more;
+      split = rw (k.split) (ap (λ l. h.more ++ l) (append_assoc k.before _ j.more) ∙ sym (append_assoc h.more k.before _));
+    }
+
+telling_of : (moment : ℕ) (u v : State) (lines more : List Line) (target : Target) (number word : ℕ) → u.lines ≡ lines → u.moment ≡ moment → v.lines ≡ lines ++ more → TellsOfPost u v target number word → HasTelling moment more target number word
+telling_of moment u v lines more target number word same now wrote k = record {
+  telling = k.telling;
+  tells = k.tells;
+  before = k.before;
+  after = k.after;
+  split = append_cancel_left lines more _ (sym wrote ∙ k.wrote ∙ ap (λ l. l ++ (k.before ++ record { at = u.moment; what = k.telling } ∷ k.after)) same ∙ ap (λ n. lines ++ (k.before ++ record { at = n; what = k.telling } ∷ k.after)) now);
+}
+
+-- what the polls of a run come to
+record Polled (calls : Calls) (moment : ℕ) (s t : State) : Type 0 where
+  at_turn : State
+  comes : walk_polls calls (before Etimer s.members) s ≡ Goes tt at_turn
+  tells : TellsDue moment at_turn s.lines t.lines
+
+module _ (calls : Calls) (are : AreWatched calls) (written : stamped.AreKept calls) where
+  still_marked : (s u : State) → walk_polls calls (before Etimer s.members) s ≡ Goes tt u → is_marked s Etimer ≡ true → is_marked u Etimer ≡ true
+  still_marked s u e m = let h : Lead (Watches Etimer) Whatever (Unit {0}) s (Goes tt u) = subst (λ o. Lead (Watches Etimer) Whatever (Unit {0}) s o) e (before_led Etimer calls are.led s.members s) in h.leads.marked m
+
+  unmarked_lines : (u : State) → ((with_mark u Etimer false).lines ≡ u.lines) × ((with_mark u Etimer false).timers ≡ u.timers)
+  unfolding with_mark
+  unmarked_lines u = (refl, refl)
+
+  served : (moment : ℕ) (u v : State) → u.moment ≡ moment → Stands true u → calls.call (with_mark u Etimer false) Etimer (told Poll 0) ≡ Goes tt v → (i : Adds u v)
+      → (timer : ℕ) (owner : Proc) → IsDueFor moment u.timers timer owner → HasTelling moment i.more (One owner) (system_number Timer) timer
+  served moment u v e h goes i timer owner d =
+      let u' = with_mark u Etimer false in
+      let h' = unmarked_stands true u Etimer h in
+      let same = unmarked_lines u in
+      let now : u'.moment ≡ moment = unmarked_moment u Etimer ∙ e in
+      let k : Serves u' v = subst (IfGoes (Serves u')) goes (are.serves u' (etimer_runs true u' h') h'.can) in
+      let due : IsDueFor u'.moment u'.timers timer owner = subst (λ l. IsDueFor u'.moment l timer owner) (sym same.1) (subst (λ n. IsDueFor n u.timers timer owner) (sym now) d) in
+      telling_of moment u' v u.lines i.more (One owner) (system_number Timer) timer same.0 now i.wrote (k.tells timer owner due)
+
+  polled : (moment : ℕ) (s t : State) → s.moment ≡ moment → Stands true s → is_marked s Etimer ≡ true → walk_polls calls s.members s ≡ Goes tt t → Polled calls moment s t
+  polled moment s t e h marked goes =
+      let k = splits Etimer s.members h.listed in
+      let a = through _ _ _ _ _ _ (sym (walk_splits Etimer calls s.members k.member k.after s k.split) ∙ goes) in
+      let b = through _ _ _ _ _ _ a.second in
+      let c : Comes true moment k.member a.midst = subst (IfGoes (Comes true moment k.member)) a.first (comes calls are true moment k.member s e h k.is_it k.holds (inr marked)) in
+      let m = still_marked s a.midst a.first marked in
+      let call = sym (turn_calls Etimer calls a.midst k.member k.is_it c.there m) ∙ b.first in
+      let i = adds_by _ a.midst b.midst tt _ call (lead_from stamps.Keeps stamps.Keeps stamps.chain _ a.midst _ _ (stamps.run_steps.mark a.midst Etimer) (written.call _ Etimer (told Poll 0) (λ q. tt))) in
+      record {
+        at_turn = a.midst;
+        comes = a.first;
+        tells = tells_within moment s a.midst b.midst t (adds_by _ s a.midst tt _ a.first (polls_led stamps.Keeps stamps.Keeps stamps.chain Whoever stamps.steps stamps.run_steps calls written (before Etimer s.members) s)) i
+            (adds_by _ b.midst t tt _ b.second (polls_led stamps.Keeps stamps.Keeps stamps.chain Whoever stamps.steps stamps.run_steps calls written k.after b.midst)) (served moment a.midst b.midst c.now_is c.stands call i);
+      }
+
+  tells_on : (moment : ℕ) (u s t v : State) → TellsDue moment u s.lines t.lines → Adds t v → TellsDue moment u s.lines v.lines
+  tells_on moment u s t v h i = record {
+    added = h.added ++ i.more;
+    wrote = i.wrote ∙ ap (λ l. l ++ i.more) h.wrote ∙ append_assoc s.lines h.added i.more;
+    each = λ timer owner d.
+        let k = h.each timer owner d in
+        record { telling = k.telling; tells = k.tells; before = k.before; after = k.after ++ i.more; split = rw (k.split) (append_assoc k.before _ i.more) };
+  }
+
+  run_polled : (moment : ℕ) (s t : State) (n : ℕ) → s.moment ≡ moment → Stands true s → PollWaits Etimer s → kernel_of calls s ≡ Goes n t → Polled calls moment (record s { flag = false }) t
+  unfolding kernel_of
+  run_polled moment s t n e h w goes =
+      let a = through _ _ _ _ _ _ goes in
+      let b = through _ _ _ _ _ _ a.second in
+      let p = polled moment (record s { flag = false }) a.midst e (unflagged true s h) w.marked (sym (polls_are calls s w.flag) ∙ a.first) in
+      let i = adds_by _ a.midst b.midst tt _ b.first (front_led stamps.Keeps stamps.Keeps stamps.chain Whoever stamps.steps stamps.run_steps calls written a.midst.queue.events a.midst) in
+      let last : b.midst.lines ≡ t.lines = cc in
+      record { at_turn = p.at_turn; comes = p.comes; tells = subst (λ l. TellsDue moment p.at_turn s.lines l) last (tells_on moment p.at_turn (record s { flag = false }) a.midst b.midst p.tells i) }
+
+-- a run
+
+given_polled : (moment : ℕ) (m : Mote) (lines : List Line) (sends : List Sent) (o : Outcome ℕ) → IsAtRest m.state → PollWaits Etimer m.state → kernel_of (calls_of (UNITS + 1)) (begun m moment lines sends) ≡ o → (given o).mote.halted ≡ false → PollsEtimer moment (begun m moment lines sends) lines (given o).lines
+unfolding begun_of
+given_polled moment m lines sends (Ends t) rest w e h = absurd (cc)
+given_polled moment m lines sends (Goes n t) rest w e h =
+    let p = run_polled (calls_of (UNITS + 1)) all_watched (stamped.calls_kept (UNITS + 1)) moment (begun m moment lines sends) t n (begun_moment m moment lines sends) (begun_stands m moment lines sends rest) (begun_waits w) e in
+    record { at_turn = p.at_turn; comes = p.comes; tells = subst (λ l. TellsDue moment p.at_turn l t.lines) (begun_lines m moment lines sends) p.tells }
+  where
+    begun_waits : PollWaits Etimer m.state → PollWaits Etimer (begun m moment lines sends)
+    begun_waits w = record { marked = w.marked; flag = w.flag }
+
+pub run_tells_due : RunTellsDue
+unfolding run_given
+run_tells_due moment m lines sends running rest w = rw running (λ h. given_polled moment m lines sends _ rest w refl h)

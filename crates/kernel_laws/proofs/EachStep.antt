@@ -1,0 +1,462 @@
+-- What each small step of the kernel keeps, each call keeps, however deep calls nest, and each boot and kernel run.
+use Rattle.std.proofs.Common.{ℕ, zero, suc, ◌≡◌, Bool, true, false, not, ◌&&◌, ◌||◌, ◌==◌, nat_lt, if◌then◌else◌, List, [], ◌∷◌, Option, Some, None, slice_get, refl, arith, map}
+use Rattle.std.proofs.lemmas.Bool.Decides.{nat_tests}
+use Rattle.mote_program.specs.declared.event.Proc.{Proc}
+use Rattle.mote_program.specs.declared.event.Proc.TheVariants.{Own, Etimer, Ctimer, Radio}
+use Rattle.mote_program.specs.declared.event.Target.{Target}
+use Rattle.mote_program.specs.declared.event.Target.TheVariants.{One, All as ToEach}
+use Rattle.mote_program.specs.declared.event.Event.{Event}
+use Rattle.mote_program.specs.declared.event.SystemEvent.TheVariants.{Poll, Exit, Exited, Timer}
+use Rattle.mote_program.specs.Events.{system_number}
+use Rattle.mote_program.specs.declared.timer.Timer.{Timer as TimerOfProgram}
+use Rattle.mote_program.specs.Code.{Code}
+use Rattle.event_queue.specs.Queue.{without_front}
+use Rattle.event_queue.specs.declared.queue.Posted.{Posted}
+use Rattle.mote_timers.specs.Timer.{is_due}
+use Rattle.mote_timers.specs.TimerLists.{timer_at, with_timer, set_timer, reset_timer, restart_timer, stop_timer, purge_timers}
+use Rattle.protothread.specs.declared.part.Part.TheVariants.{OnPoll, OnExit, Callback}
+use Rattle.protothread.specs.declared.state.PtState.{PtState}
+use Rattle.protothread.specs.declared.state.PtState.TheVariants.{Yielded, Ended}
+use Rattle.protothread.specs.declared.step.Op.{Op}
+use Rattle.protothread.specs.declared.step.Op.TheVariants as op
+use Rattle.protothread.specs.declared.step.Step.{Step}
+use Rattle.protothread.specs.declared.step.Step.TheVariants as step
+use Rattle.protothread.specs.Remainder.{Remainder, fresh_of}
+use Rattle.process_kernel.specs.declared.line.Arrival.{Arrival}
+use Rattle.process_kernel.specs.declared.line.What.TheVariants as what
+use Rattle.process_kernel.specs.declared.process.ProcessState.TheVariants.{Running, Called}
+use Rattle.process_kernel.specs.declared.process.Member.{Member}
+use Rattle.process_kernel.specs.Members.{is_same}
+use Rattle.process_kernel.specs.State.{State, Outcome, Went, Ends, Goes, ◌>>=◌}
+use Rattle.process_kernel.specs.Processes.{has_process, is_busy, is_listed, is_running, is_on_list, with_state, with_mark}
+use Rattle.process_kernel.specs.ProcessList.{put_remainder, with_fresh_body, enlist_of, exiting_of, leave_of}
+use Rattle.process_kernel.specs.Posts.{post_of, poll_of, send_of}
+use Rattle.process_kernel.specs.Semaphores.{take_of, signal_of}
+use Rattle.process_kernel.specs.TimerOperations.{has_timer, timer_is_set, set_of, reset_of, restart_of, stop_of}
+use Rattle.process_kernel.specs.Writes.{with_line, write_of, halted_of, spend_of}
+use Rattle.process_kernel.specs.Calls.{Calls, Answer, told, is_event, walk_of}
+use Rattle.process_kernel.specs.Etimer.{fired_of, purge_of, post_due, walk_timers, walks_of, pass_of, etimer_of}
+use Rattle.process_kernel.specs.Ctimer.{callback_of, waits_for, ctimer_of}
+use Rattle.process_kernel.specs.Radio.{packet_of, hand_to, empty_ring, radio_of}
+use Rattle.process_kernel.specs.Reaction.{handler_of, resume_of, own_of, react_of}
+use Rattle.process_kernel.specs.Exit.{number_of, last_run_of, exit_of}
+use Rattle.process_kernel.specs.Start.{start_of}
+use Rattle.process_kernel.specs.Kill.{kill_of}
+use Rattle.process_kernel.specs.Operation.{answered_with, answer_of, act_of, perform_of, after_step, run_of}
+use Rattle.process_kernel.specs.Call.{has_ended, answered, call_of, calls_of}
+use Rattle.process_kernel.specs.Thread.{stepped_with, stepped_of}
+use Rattle.process_kernel.specs.Looks.{looks_of}
+use Rattle.process_kernel.specs.Polls.{walk_polls, polls_of, polls_due_of, poll_turn_of}
+use Rattle.process_kernel.specs.Delivery.{give_of, turn_of, walk_event, deliver_to, deliver_of}
+use Rattle.process_kernel.specs.Run.{left_of, deliver_front, kernel_of}
+use Rattle.process_kernel.specs.Boot.{starts_of, boot_of}
+use Rattle.kernel_laws.specs.Own.{IsOwn, FitsTarget}
+use Rattle.kernel_laws.proofs.Packets.{IfGoes}
+use Rattle.kernel_laws.proofs.Fits.{FitsOp, FitsStep, fits_advanced}
+
+-- where any process may be exited
+abbrev pub Whoever : Proc → Type 0
+Whoever p = Unit {0}
+
+-- Two relations from a state to a later one: to one from which the kernel goes on, and to one in which the mote has halted.
+module _ (Keeps Stops : State → State → Type 0) where
+  abbrev pub Leads : {A : Type 0} → State → Outcome A → Type 0
+  Leads s (Ends t) = Stops s t
+  Leads s (Goes a t) = Keeps s t
+
+  -- whether it goes on or ends
+  pub record Lead (A : Type 0) (s : State) (o : Outcome A) : Type 0 where
+    pub leads : Leads s o
+
+  -- two steps in a row
+  pub record AreJoined : Type 0 where
+    pub same : (s : State) → Keeps s s
+    pub joined : (a b c : State) → Keeps a b → Keeps b c → Keeps a c
+    pub ended : (a b c : State) → Keeps a b → Stops b c → Stops a c
+
+  module _ (chain : AreJoined) where
+    -- chains of steps
+
+    from_leads : (A : Type 0) (s t : State) (o : Outcome A) → Keeps s t → Leads t o → Leads s o
+    from_leads A s t (Ends u) h i = chain.ended s t u h i
+    from_leads A s t (Goes a u) h i = chain.joined s t u h i
+
+    pub lead_from : (A : Type 0) (s t : State) (o : Outcome A) → Keeps s t → Lead A t o → Lead A s o
+    lead_from A s t o h i = record { leads = from_leads A s t o h i.leads }
+
+    bind_leads : (A B : Type 0) (s : State) (o : Outcome A) (f : A → State → Outcome B) → Leads s o → ((a : A) (t : State) → Lead B t (f a t)) → Leads s (o >>= f)
+    bind_leads A B s (Ends t) f h go = h
+    bind_leads A B s (Goes a t) f h go = from_leads B s t (f a t) h (go a t).leads
+
+    pub lead_bind : (A B : Type 0) (s : State) (o : Outcome A) (f : A → State → Outcome B) → Lead A s o → ((a : A) (t : State) → Lead B t (f a t)) → Lead B s (o >>= f)
+    lead_bind A B s o f h go = record { leads = bind_leads A B s o f h.leads go }
+
+    -- where more is known of the state from which it goes on
+    pub lead_knowing : (A B : Type 0) (P : State → Type 0) (s : State) (o : Outcome A) (f : A → State → Outcome B) → Lead A s o → IfGoes P o → ((a : A) (t : State) → P t → Lead B t (f a t)) → Lead B s (o >>= f)
+    lead_knowing A B P s (Ends t) f h k go = record { leads = h.leads }
+    lead_knowing A B P s (Goes a t) f h k go = lead_from B s t (f a t) h.leads (go a t k)
+
+    pub bind_twice : (A B C : Type 0) (s : State) (o : Outcome A) (h : A → State → Outcome B) (g : B → State → Outcome C) → Lead C s (o >>= λ a t. (h a t >>= g)) → Lead C s ((o >>= h) >>= g)
+    bind_twice A B C s (Ends t) h g r = r
+    bind_twice A B C s (Goes a t) h g r = r
+
+    pub lead_if : (A : Type 0) (s : State) (b : Bool) (o p : Outcome A) → Lead A s o → Lead A s p → Lead A s (if b then o else p)
+    lead_if A s true o p h i = h
+    lead_if A s false o p h i = i
+
+    pub lead_cases : (A : Type 0) (s : State) (b : Bool) (o p : Outcome A) → (b ≡ true → Lead A s o) → (b ≡ false → Lead A s p) → Lead A s (if b then o else p)
+    lead_cases A s true o p h i = h refl
+    lead_cases A s false o p h i = i refl
+
+    pub lead_option : (A X : Type 0) (s : State) (x : Option X) (o : Outcome A) (f : X → Outcome A) → Lead A s o → ((y : X) → Lead A s (f y)) → Lead A s (elim x [ None ↦ o | Some y ↦ f y ])
+    lead_option A X s None o f h i = h
+    lead_option A X s (Some y) o f h i = i y
+
+    pub lead_goes : (A : Type 0) (s : State) (a : A) (t : State) → Keeps s t → Lead A s (Goes a t)
+    lead_goes A s a t h = record { leads = h }
+
+    pub lead_still : (A : Type 0) (s : State) (a : A) → Lead A s (Goes a s)
+    lead_still A s a = record { leads = chain.same s }
+
+    pub keeps_if : (s : State) (b : Bool) (t u : State) → Keeps s t → Keeps s u → Keeps s (if b then t else u)
+    keeps_if s true t u h i = h
+    keeps_if s false t u h i = i
+
+    pub keeps_cases : (s : State) (b : Bool) (t u : State) → (b ≡ true → Keeps s t) → (b ≡ false → Keeps s u) → Keeps s (if b then t else u)
+    keeps_cases s true t u h i = h refl
+    keeps_cases s false t u h i = i refl
+
+    -- the radio's poll, where it is a chain of small steps
+    module _ (ring : (s : State) (packets : List Arrival) → Keeps s (record s { ring = packets })) (posts : (s : State) (t : Target) (e : Event) → FitsTarget t e.number → Lead Bool s (post_of s t e)) (deaf : (s : State) (sender number : ℕ) → Keeps s (with_line s (what.Deaf sender number))) where
+      hand_led : (receiver : Option ℕ) (s : State) (a : Arrival) → Lead (Unit {0}) s (hand_to receiver s a)
+      unfolding hand_to write_of
+      hand_led (Some p) s a = lead_bind _ _ s _ _ (posts s _ (packet_of a) (λ q. absurd (grind (arith, nat_tests)))) (λ full t. lead_still _ t tt)
+      hand_led None s a = lead_goes _ s tt _ (deaf s a.sender a.number)
+
+      pub empty_led : (receiver : Option ℕ) (packets : List Arrival) (s : State) → Lead (Unit {0}) s (empty_ring receiver packets s)
+      empty_led receiver [] s = lead_still _ s tt
+      empty_led receiver (a ∷ later) s = lead_bind _ _ s _ _ (lead_from _ s _ _ (ring s later) (hand_led receiver _ a)) (λ u t. empty_led receiver later t)
+
+    -- and which processes may be exited
+    module _ (Leaves : Proc → Type 0) where
+      -- each small step
+      pub record AreSteps : Type 0 where
+        pub own : (p : Proc) → IsOwn p → Leaves p
+        pub halts : (s : State) → Stops s (halted_of s)
+        pub units : (s : State) (n : ℕ) → Keeps s (record s { units = n })
+        pub busy : (s : State) (p : Proc) → Keeps s (with_line s (what.Busy p))
+        pub prints : (s : State) (p : Proc) (v : ℕ) → Keeps s (with_line s (what.Print p v))
+        pub called : (s : State) (p : Proc) → Keeps s (with_state s p Called)
+        pub runs : (s : State) (p : Proc) → Keeps s (with_state s p Running)
+        pub exiting : (s : State) (p : Proc) → Leaves p → Keeps s (exiting_of s p)
+        pub polled : (s : State) (p : Proc) → Keeps s (poll_of s p)
+        pub remainders : (s : State) (rs : List Remainder) → Keeps s (record s { remainders = rs })
+        pub variables : (s : State) (vs : List (List ℕ)) → Keeps s (record s { variables = vs })
+        pub sets : (s : State) (timer start interval : ℕ) (owner : Proc) → has_timer s timer ≡ true
+            → Keeps s (timer_is_set (record s { timers = with_timer s.timers timer (record { start = start; interval = interval; owner = Some owner }) }) timer)
+        pub stops : (s : State) (timer : ℕ) → Keeps s (record s { timers = stop_timer s.timers timer })
+        pub purges : (s : State) (p : Proc) → Keeps s (record s { timers = purge_timers s.timers p })
+        pub callbacks : (s : State) (ts : List ℕ) → Keeps s (record s { callbacks = ts })
+        pub semaphores : (s : State) (ns : List ℕ) → Keeps s (record s { semaphores = ns })
+        pub posts : (s : State) (t : Target) (e : Event) → FitsTarget t e.number → Lead Bool s (post_of s t e)
+        pub sends : (s : State) (v : ℕ) → Lead (Unit {0}) s (send_of s v)
+        pub enlists : (s : State) (p : Proc) → is_listed s p ≡ false → Lead (Unit {0}) s (enlist_of s p)
+        pub leaves : (s : State) (p : Proc) → Leaves p → Lead (Unit {0}) s (leave_of s p)
+        pub empties : (s : State) → Lead (Unit {0}) s (empty_ring s.program.receiver s.ring s)
+
+      -- an event that may come to this process: an exit, only where the process may leave
+      abbrev pub Fits : Proc → (number : ℕ) → Type 0
+      Fits p number = number ≡ system_number Exit → Leaves p
+
+      pub fits_no_exit : (p : Proc) (number : ℕ) → (number == system_number Exit) ≡ false → Fits p number
+      fits_no_exit p number e = λ q. absurd (grind (arith, nat_tests))
+
+      -- the calls of a process, and the runs of a thread
+      pub record AreLed (calls : Calls) : Type 0 where
+        pub call : (s : State) (p : Proc) (e : Event) → Fits p e.number → Lead (Unit {0}) s (calls.call s p e)
+        pub run : (s : State) (code : Code) (r : Remainder) (p : ℕ) (e : Event) → Lead Answer s (calls.run s code r p e)
+
+      module _ (steps : AreSteps) where
+        lead_halts : (A : Type 0) (s : State) → Lead A s (Ends (halted_of s))
+        lead_halts A s = record { leads = steps.halts s }
+
+        -- small steps, as the rules have them
+
+        busy_led : (s : State) (p : Proc) → Lead (Unit {0}) s (write_of s (what.Busy p))
+        unfolding write_of
+        busy_led s p = record { leads = steps.busy s p }
+
+        prints_led : (s : State) (p : Proc) (v : ℕ) → Lead (Unit {0}) s (write_of s (what.Print p v))
+        unfolding write_of
+        prints_led s p v = record { leads = steps.prints s p v }
+
+        pub spend_led : (s : State) → Lead (Unit {0}) s (spend_of s)
+        unfolding spend_of
+        spend_led s = lead_if _ s (s.units == 0) _ _ (lead_halts _ s) (lead_goes _ s tt _ (steps.units s _))
+
+        remainder_kept : (s : State) (p : ℕ) (r : Remainder) → Keeps s (put_remainder s p r)
+        unfolding put_remainder
+        remainder_kept s p r = steps.remainders s _
+
+        sets_kept : (s : State) (t n p : ℕ) → Keeps s (set_of s t n p)
+        unfolding set_of set_timer
+        sets_kept s t n p = keeps_cases s (has_timer s t) _ s (λ there. steps.sets s t _ _ _ there) (λ none. chain.same s)
+
+        resets_kept : (s : State) (t p : ℕ) → Keeps s (reset_of s t p)
+        unfolding reset_of reset_timer
+        resets_kept s t p = keeps_cases s (has_timer s t) _ s (λ there. steps.sets s t _ _ _ there) (λ none. chain.same s)
+
+        restarts_kept : (s : State) (t p : ℕ) → Keeps s (restart_of s t p)
+        unfolding restart_of restart_timer
+        restarts_kept s t p = keeps_cases s (has_timer s t) _ s (λ there. steps.sets s t _ _ _ there) (λ none. chain.same s)
+
+        stops_kept : (s : State) (t : ℕ) → Keeps s (stop_of s t)
+        unfolding stop_of
+        stops_kept s t = keeps_if s (has_timer s t) _ s (chain.joined s _ _ (steps.stops s t) (steps.callbacks _ _)) (chain.same s)
+
+        fired_kept : (s : State) (t : ℕ) → Keeps s (fired_of s t)
+        unfolding fired_of
+        fired_kept s t = steps.stops s t
+
+        purged_kept : (s : State) (p : ℕ) → Keeps s (purge_of s p)
+        unfolding purge_of
+        purged_kept s p = keeps_if s (nat_lt p 256) _ s (steps.purges s (Own p)) (chain.same s)
+
+        taken_kept : (s : State) (k : ℕ) → Keeps s (take_of s k)
+        unfolding take_of
+        taken_kept s k = steps.semaphores s _
+
+        signalled_kept : (s : State) (k : ℕ) → Keeps s (signal_of s k)
+        unfolding signal_of
+        signalled_kept s k = steps.semaphores s _
+
+        stepped_as : (variables : Option (List ℕ)) (s : State) (code : Code) (r : Remainder) (p : ℕ) (e : Event) → Keeps s (stepped_with variables s code r p e).state
+        stepped_as (Some variables) s code r p e = chain.joined s _ _ (steps.variables s _) (steps.units _ _)
+        stepped_as None s code r p e = chain.same s
+
+        stepped_kept : (s : State) (code : Code) (r : Remainder) (p : ℕ) (e : Event) → Keeps s (stepped_of s code r p e).state
+        unfolding stepped_of
+        stepped_kept s code r p e = stepped_as _ s code r p e
+
+        answered_as : (variables : Option (List ℕ)) (s : State) (r : Remainder) (p answer : ℕ) → Lead Remainder s (answered_with variables s r p answer)
+        answered_as (Some variables) s r p answer = lead_goes _ s _ _ (steps.variables s _)
+        answered_as None s r p answer = lead_still _ s r
+
+        answers_led : (s : State) (r : Remainder) (p : ℕ) (full : Bool) → Lead Remainder s (answer_of s r p full)
+        unfolding answer_of
+        answers_led s r p full = answered_as _ s r p _
+
+        -- the etimer process
+
+        due_led : (again on : State → Went) → ((s : State) → Lead (Unit {0}) s (again s)) → ((s : State) → Lead (Unit {0}) s (on s)) → (s : State) (timer : ℕ) (owner : Option Proc) → Lead (Unit {0}) s (post_due again on s timer owner)
+        due_led again on h i s timer None = i s
+        due_led again on h i s timer (Some owner) =
+            lead_bind _ _ s _ _ (steps.posts s _ (told Timer timer) (λ q. absurd (grind (arith, nat_tests)))) (λ full t. lead_if _ t full _ _ (lead_from _ t _ _ (steps.polled t Etimer) (i _)) (lead_from _ t _ _ (fired_kept t timer) (h _)))
+
+        pub walk_timers_led : (again : State → Went) → ((s : State) → Lead (Unit {0}) s (again s)) → (ts : List ℕ) (s : State) → Lead (Unit {0}) s (walk_timers again ts s)
+        walk_timers_led again h [] s = lead_still _ s tt
+        walk_timers_led again h (t ∷ ts) s =
+            lead_if _ s (is_due s.moment (timer_at s.timers.timers t)) _ _ (due_led again (walk_timers again ts) h (walk_timers_led again h ts) s t _) (walk_timers_led again h ts s)
+
+        pub walks_led : (k : ℕ) (s : State) → Lead (Unit {0}) s (walks_of k s)
+        walks_led zero s = lead_still _ s tt
+        walks_led (suc k) s = walk_timers_led (walks_of k) (walks_led k) s.timers.listed s
+
+        etimer_led : (s : State) (e : Event) → Lead (Unit {0}) s (etimer_of s e)
+        unfolding etimer_of pass_of
+        etimer_led s e =
+            lead_if _ s (is_event Poll e) _ _ (walks_led _ s) (lead_if _ s (is_event Exited e) _ _ (lead_goes _ s tt _ (purged_kept s e.word)) (lead_still _ s tt))
+
+        -- the radio process
+        radio_led : (s : State) (e : Event) → Lead (Unit {0}) s (radio_of s e)
+        unfolding radio_of
+        radio_led s e = lead_if _ s (is_event Poll e) _ _ (steps.empties s) (lead_still _ s tt)
+
+        module _ (calls : Calls) (are : AreLed calls) where
+          walk_led : (e : Event) → (is_event Exit e) ≡ false → (p : Proc) (ms : List Member) (s : State) → Lead (Unit {0}) s (walk_of calls e p ms s)
+          walk_led e f p [] s = lead_still _ s tt
+          walk_led e f p (m ∷ ms) s =
+              lead_bind _ _ s _ _ (lead_if _ s _ _ _ (are.call s m.process e (fits_no_exit m.process e.number f)) (lead_still _ s tt)) (λ a t. walk_led e f p ms t)
+
+          handler_led : (s : State) (code : Code) (p : ℕ) (e : Event) → Lead (Unit {0}) s (handler_of calls s code p e)
+          unfolding handler_of
+          handler_led s code p e =
+              lead_if _ s (is_event Poll e) _ _ (lead_bind _ _ s _ _ (are.run s code (fresh_of code OnPoll) p e) (λ a t. lead_still _ t tt))
+              (lead_if _ s (is_event Exit e) _ _ (lead_bind _ _ s _ _ (are.run s code (fresh_of code OnExit) p e) (λ a t. lead_still _ t tt)) (lead_still _ s tt))
+
+          resume_led : (s : State) (code : Code) (p : ℕ) (e : Event) → Lead PtState s (resume_of calls s code p e)
+          unfolding resume_of
+          resume_led s code p e =
+              lead_bind _ _ s _ _ (lead_from _ s (with_fresh_body s p) _ (steps.remainders s _) (are.run _ code _ p e)) (λ a t. lead_goes _ t _ _ (remainder_kept t p _))
+
+          own_led : (s : State) (p : ℕ) (e : Event) → Lead PtState s (own_of calls s p e)
+          unfolding own_of
+          own_led s p e =
+              lead_option PtState Code s (slice_get s.program.codes p) (Goes Ended s) (λ code. handler_of calls s code p e >>= λ u t. resume_of calls t code p e) (lead_still _ s Ended) (λ code. lead_bind _ _ s _ _ (handler_led s code p e) (λ u t. resume_led t code p e))
+
+          code_led : (s : State) (e : Event) (p : ℕ) (code : Option Code) → Lead (Unit {0}) s (elim code [ None ↦ Goes tt s | Some c ↦ calls.run s c (fresh_of c (Callback e.word)) p e >>= λ _ s1. Goes tt s1 ])
+          code_led s e p None = lead_still _ s tt
+          code_led s e p (Some c) = lead_bind _ _ s _ _ (are.run s c _ p e) (λ a t. lead_still _ t tt)
+
+          callback_led : (s : State) (e : Event) → Lead (Unit {0}) s (callback_of calls s e)
+          unfolding callback_of
+          callback_led s e =
+              lead_option (Unit {0}) TimerOfProgram s (slice_get s.program.timers e.word) (Goes tt s) _ (lead_still _ s tt) (λ t. code_led s e t.process (slice_get s.program.codes t.process))
+
+          ctimer_led : (s : State) (e : Event) → Lead (Unit {0}) s (ctimer_of calls s e)
+          unfolding ctimer_of
+          ctimer_led s e =
+              lead_if _ s (is_event Timer e && waits_for s e.word) _ _ (lead_from _ s _ _ (steps.callbacks s _) (callback_led _ e)) (lead_still _ s tt)
+
+          react_led : (s : State) (p : Proc) (e : Event) → Lead PtState s (react_of calls s p e)
+          unfolding react_of
+          react_led s (Own p) e = own_led s p e
+          react_led s Etimer e = lead_bind _ _ s _ _ (etimer_led s e) (λ u t. lead_still _ t Yielded)
+          react_led s Ctimer e = lead_bind _ _ s _ _ (ctimer_led s e) (λ u t. lead_still _ t Yielded)
+          react_led s Radio e = lead_bind _ _ s _ _ (radio_led s e) (λ u t. lead_still _ t Yielded)
+
+          last_run_led : (s : State) (p : Proc) → Lead (Unit {0}) s (last_run_of calls s p)
+          unfolding last_run_of
+          last_run_led s p = lead_bind _ _ s _ _ (spend_led s) (λ u t. lead_bind _ _ t _ _ (react_led t p _) (λ a v. lead_still _ v tt))
+
+          exit_led : (s : State) (p f : Proc) → Leaves p → Lead (Unit {0}) s (exit_of calls s p f)
+          unfolding exit_of
+          exit_led s p f l =
+              lead_if _ s (is_listed s p) _ _ (lead_bind _ _ s _ _ (lead_from _ s _ _ (steps.exiting s p l) (walk_led (told Exited (number_of p)) refl p s.members _)) (λ a t.
+              lead_bind _ _ t _ _ (lead_if _ t (is_same p f) _ _ (lead_still _ t tt) (last_run_led t p)) (λ b u. steps.leaves u p l))) (lead_still _ s tt)
+
+          unlisted : (b c : Bool) → (b && not c) ≡ true → c ≡ false
+          unlisted true false e = refl
+          unlisted true true e = absurd (cc)
+          unlisted false c e = absurd (cc)
+
+          pub start_led : (s : State) (p : Proc) → Lead (Unit {0}) s (start_of calls s p)
+          unfolding start_of
+          start_led s p =
+              lead_if _ s (is_busy s p) _ _ (busy_led s p) (lead_cases _ s (has_process s p && not (is_listed s p)) _ _ (λ l. lead_bind _ _ s _ _ (steps.enlists s p (unlisted (has_process s p) _ l)) (λ a t. are.call t p _ (fits_no_exit p _ refl))) (λ l. lead_still _ s tt))
+
+          kill_led : (s : State) (p : Proc) (current : ℕ) → Leaves p → Lead (Unit {0}) s (kill_of calls s p current)
+          unfolding kill_of
+          kill_led s p current l = lead_if _ s (is_busy s p) _ _ (busy_led s p) (exit_led s p (Own current) l)
+
+          act_led : (s : State) (current : ℕ) (o : Op) → FitsOp o → Lead (Unit {0}) s (act_of calls s current o)
+          unfolding act_of
+          act_led s current (op.Post t e w) f = lead_still _ s tt
+          act_led s current (op.Synch p e w) f = are.call s p _ (λ q. steps.own p (f q))
+          act_led s current (op.Poll p) f = lead_goes _ s tt _ (steps.polled s p)
+          act_led s current (op.Start p) f = start_led s p
+          act_led s current (op.Kill p) f = kill_led s p current (steps.own p f)
+          act_led s current (op.Set t n) f = lead_goes _ s tt _ (sets_kept s t n current)
+          act_led s current (op.Reset t) f = lead_goes _ s tt _ (resets_kept s t current)
+          act_led s current (op.RestartTimer t) f = lead_goes _ s tt _ (restarts_kept s t current)
+          act_led s current (op.Stop t) f = lead_goes _ s tt _ (stops_kept s t)
+          act_led s current (op.Send v) f = steps.sends s v
+          act_led s current (op.Print v) f = prints_led s (Own current) v
+          act_led s current (op.Take k) f = lead_goes _ s tt _ (taken_kept s k)
+          act_led s current (op.Signal k) f = lead_goes _ s tt _ (signalled_kept s k)
+
+          perform_led : (s : State) (code : Code) (r : Remainder) (current : ℕ) (o : Op) → FitsOp o → Lead Remainder s (perform_of calls s r current o)
+          unfolding perform_of
+          perform_led s code r current (op.Post to e w) f = lead_bind _ _ s _ _ (steps.posts s to _ f) (λ full t. answers_led t r current full)
+          perform_led s code r current o f = lead_bind _ _ s _ _ (act_led s current o f) (λ a t. lead_still _ t r)
+
+          step_led : (code : Code) (p : ℕ) (e : Event) (x : Step) (r : Remainder) (s : State) → FitsStep x → Lead Answer s (after_step calls code p e x r s)
+          step_led code p e (step.Op o) r s f = lead_bind _ _ s _ _ (perform_led s code r p o f) (λ r1 t. are.run t code r1 p e)
+          step_led code p e (step.Done answer) r s f = lead_still _ s _
+          step_led code p e step.Runaway r s f = lead_halts _ s
+
+          stepped_fits : (variables : Option (List ℕ)) (s : State) (code : Code) (r : Remainder) (p : ℕ) (e : Event) → FitsStep (stepped_with variables s code r p e).step
+          stepped_fits (Some variables) s code r p e = fits_advanced code e (looks_of s) r variables s.units
+          stepped_fits None s code r p e = tt
+
+          all_fits : (s : State) (code : Code) (r : Remainder) (p : ℕ) (e : Event) → FitsStep (stepped_of s code r p e).step
+          unfolding stepped_of
+          all_fits s code r p e = stepped_fits _ s code r p e
+
+          one_run_led : (s : State) (code : Code) (r : Remainder) (p : ℕ) (e : Event) → Lead Answer s (run_of calls s code r p e)
+          unfolding run_of
+          one_run_led s code r p e = lead_from _ s _ _ (stepped_kept s code r p e) (step_led code p e _ _ _ (all_fits s code r p e))
+
+          answered_led : (s : State) (p : Proc) (b : Bool) → (b ≡ true → Leaves p) → Lead (Unit {0}) s (answered calls s p b)
+          unfolding answered
+          answered_led s p true l = exit_led s p p (l refl)
+          answered_led s p false l = lead_goes _ s tt _ (steps.runs s p)
+
+          -- a system process has answered that it yields
+          system_led : (s : State) (p : Proc) (e : Event) → Fits p e.number → (o : Went) → Lead (Unit {0}) s o →
+              Lead (Unit {0}) s ((o >>= λ _ s1. Goes Yielded s1) >>= λ answer s2. answered calls s2 p (has_ended answer || is_event Exit e))
+          system_led s p e f o h = bind_twice _ _ _ s o _ _ (lead_bind _ _ s o _ h (λ a t. answered_led t p (is_event Exit e) (λ q. f (grind (arith, nat_tests)))))
+
+          -- a process that is called reacts and is judged by its answer
+          reacted_led : (s : State) (p : Proc) (e : Event) → Fits p e.number → Lead (Unit {0}) s (react_of calls s p e >>= λ answer s2. answered calls s2 p (has_ended answer || is_event Exit e))
+          unfolding react_of
+          reacted_led s (Own p) e f = lead_bind _ _ s _ _ (own_led s p e) (λ b t. answered_led t (Own p) _ (λ q. steps.own (Own p) tt))
+          reacted_led s Etimer e f = system_led s Etimer e f _ (etimer_led s e)
+          reacted_led s Ctimer e f = system_led s Ctimer e f _ (ctimer_led s e)
+          reacted_led s Radio e f = system_led s Radio e f _ (radio_led s e)
+
+          call_led : (s : State) (p : Proc) (e : Event) → Fits p e.number → Lead (Unit {0}) s (call_of calls s p e)
+          unfolding call_of
+          call_led s p e f =
+              lead_if _ s (is_running s p) _ _ (lead_bind _ _ s _ _ (spend_led s) (λ a t. lead_from _ t _ _ (steps.called t p) (reacted_led _ p e f))) (lead_still _ s tt)
+
+        pub calls_led : (k : ℕ) → AreLed (calls_of k)
+        unfolding calls_of
+        calls_led zero = record { call = λ s p e f. lead_halts _ s; run = λ s code r p e. lead_halts _ s }
+        calls_led (suc k) = record { call = call_led (calls_of k) (calls_led k); run = one_run_led (calls_of k) (calls_led k) }
+
+      -- the steps of boots and kernel runs outside any call, where each process may be exited
+      pub record AreRunSteps : Type 0 where
+        pub any : (p : Proc) → Leaves p
+        pub flag : (s : State) → Keeps s (record s { flag = false })
+        pub mark : (s : State) (p : Proc) → Keeps s (with_mark s p false)
+        pub front : (s : State) → Keeps s (record s { queue = without_front s.queue })
+        pub takes : (s : State) (serial : ℕ) (p : Proc) → Keeps s (with_line s (what.Take serial p))
+        pub drops : (s : State) (serial : ℕ) (p : Proc) → Keeps s (with_line s (what.Drop serial p))
+
+      module _ (steps : AreSteps) (run_steps : AreRunSteps) (calls : Calls) (are : AreLed calls) where
+        call_any : (s : State) (p : Proc) (e : Event) → Lead (Unit {0}) s (calls.call s p e)
+        call_any s p e = are.call s p e (λ q. run_steps.any p)
+
+        pub polls_led : (ms : List Member) (s : State) → Lead (Unit {0}) s (walk_polls calls ms s)
+        unfolding poll_turn_of
+        polls_led [] s = lead_still _ s tt
+        polls_led (m ∷ ms) s =
+            lead_bind _ _ s _ _ (lead_if _ s _ _ _ (lead_from _ s _ _ (run_steps.mark s m.process) (call_any _ m.process (told Poll 0))) (lead_still _ s tt)) (λ a t. polls_led ms t)
+
+        polls_due_led : (s : State) → Lead (Unit {0}) s (polls_due_of calls s)
+        unfolding polls_due_of polls_of
+        polls_due_led s = lead_if _ s s.flag _ _ (lead_from _ s _ _ (run_steps.flag s) (polls_led s.members _)) (lead_still _ s tt)
+
+        give_led : (s : State) (x : Posted) (p : Proc) (there : Bool) → Lead (Unit {0}) s (give_of calls s x p there)
+        unfolding give_of write_of
+        give_led s x p there =
+            lead_if _ s there _ _ (lead_from _ s _ _ (run_steps.takes s x.serial p) (call_any _ p x.event)) (lead_goes _ s tt _ (run_steps.drops s x.serial p))
+
+        walk_event_led : (x : Posted) (ms : List Member) (s : State) → Lead (Unit {0}) s (walk_event calls x ms s)
+        unfolding turn_of
+        walk_event_led x [] s = lead_still _ s tt
+        walk_event_led x (m ∷ ms) s =
+            lead_bind _ _ s _ _ (lead_bind _ _ s _ _ (polls_due_led s) (λ a t. give_led t x m.process (is_on_list t m))) (λ a t. walk_event_led x ms t)
+
+        target_led : (target : Target) (s : State) (x : Posted) → Lead (Unit {0}) s (deliver_to target calls s x)
+        target_led (One p) s x = give_led s x p (is_listed s p)
+        target_led ToEach s x = walk_event_led x s.members s
+
+        pub front_led : (q : List Posted) (s : State) → Lead (Unit {0}) s (deliver_front calls q s)
+        unfolding deliver_of
+        front_led [] s = lead_still _ s tt
+        front_led (x ∷ q) s = lead_from _ s _ _ (run_steps.front s) (target_led x.target _ x)
+
+        pub kernel_led : (s : State) → Lead ℕ s (kernel_of calls s)
+        unfolding kernel_of
+        kernel_led s =
+            lead_bind _ _ s _ _ (polls_due_led s) (λ a t. lead_bind _ _ t _ _ (front_led t.queue.events t) (λ b u. lead_still _ u _))
+
+        starts_led : (ps : List Proc) (s : State) → Lead (Unit {0}) s (starts_of calls ps s)
+        starts_led [] s = lead_still _ s tt
+        starts_led (p ∷ ps) s = lead_bind _ _ s _ _ (start_led steps calls are s p) (λ a t. starts_led ps t)
+
+        pub boot_led : (s : State) → Lead ℕ s (boot_of calls s)
+        unfolding boot_of
+        boot_led s = lead_bind _ _ s _ _ (starts_led (Etimer ∷ Ctimer ∷ Radio ∷ map Own s.program.autostart) s) (λ a t. lead_goes _ t (left_of t) t (chain.same t))

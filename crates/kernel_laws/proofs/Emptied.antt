@@ -1,0 +1,153 @@
+-- A kernel run in which a poll of the radio process waits leaves no packet in the ring.
+use Rattle.std.proofs.Common.{ℕ, suc, ◌≡◌, ◌+◌, ◌-◌, ◌==◌, ◌||◌, inl, inr, Bool, true, false, if◌then◌else◌, List, [], Option, refl, sym, ◌∙◌, subst, arith}
+use Rattle.std.proofs.lemmas.List.Elements.{All-head, All-tail}
+use Rattle.mote_program.specs.declared.event.Proc.TheVariants.{Radio}
+use Rattle.mote_program.specs.declared.event.SystemEvent.TheVariants.{Poll, Exit}
+use Rattle.protothread.specs.declared.state.PtState.TheVariants.{Yielded}
+use Rattle.process_kernel.specs.declared.process.ProcessState.TheVariants.{Called}
+use Rattle.process_kernel.specs.declared.line.Arrival.{Arrival}
+use Rattle.process_kernel.specs.declared.line.Line.{Line}
+use Rattle.process_kernel.specs.declared.line.Sent.{Sent}
+use Rattle.process_kernel.specs.declared.kernel.Ran.TheVariants as ran
+use Rattle.process_kernel.specs.declared.runs.TheConstants.{UNITS}
+use Rattle.process_kernel.specs.State.{State, Outcome, Went, Ends, Goes, ◌>>=◌}
+use Rattle.process_kernel.specs.Processes.{is_running, is_marked, process_state, with_state, with_mark}
+use Rattle.process_kernel.specs.Calls.{Calls, told, is_event}
+use Rattle.process_kernel.specs.Radio.{radio_of}
+use Rattle.process_kernel.specs.Reaction.{react_of}
+use Rattle.process_kernel.specs.Call.{has_ended, answered, call_of, calls_of}
+use Rattle.process_kernel.specs.Polls.{walk_polls}
+use Rattle.process_kernel.specs.Run.{begun_of, kernel_of}
+use Rattle.process_kernel.specs.Writes.{spend_of}
+use Rattle.process_kernel.specs.Mote.{Mote}
+use Rattle.process_kernel.specs.Public.{given, begun, run_given}
+use Rattle.kernel_laws.specs.Own.{IsOwn}
+use Rattle.kernel_laws.specs.Going.{IsNote}
+use Rattle.kernel_laws.specs.Poll.{PollWaits, before}
+use Rattle.kernel_laws.specs.Due.{IsAtRest}
+use Rattle.kernel_laws.specs.Ring.{RingRuns, NoneMore, Receives, Loses, Hands, Passes, RingGoes, RingHalts, RunEmptiesRing}
+use Rattle.kernel_laws.proofs.InStep as tables
+use Rattle.kernel_laws.proofs.Resting as resting
+use Rattle.kernel_laws.proofs.Packets.{IfGoes, Empties, ring_empties}
+use Rattle.kernel_laws.proofs.EachStep.{Whoever, Lead, AreLed, calls_led, polls_led, front_led}
+use Rattle.kernel_laws.proofs.Ring as ring
+use Rattle.kernel_laws.proofs.Ring.{HearsNone, run_tells_packets}
+use Rattle.kernel_laws.proofs.Watch.{Watches, Whatever, chain, steps}
+use Rattle.kernel_laws.proofs.PollTurns.{splits, walk_splits, turn_calls, before_led, polls_are}
+use Rattle.kernel_laws.proofs.Passes.{spent}
+use Rattle.kernel_laws.proofs.WatchedRuns.{Stands, unflagged, runs_now}
+use Rattle.kernel_laws.proofs.Due.{through, begun_stands}
+
+-- where no packet arrives, an empty ring stays empty
+
+pub empty_stays : (receiver : Option ℕ) (packets left : List Arrival) (lines : List Line) → packets ≡ [] → RingRuns receiver packets lines left → HearsNone lines → left ≡ []
+empty_stays receiver packets left lines e NoneMore h = e
+empty_stays receiver packets left lines e (Receives {lines = more} a room r) h = absurd (All-head (λ l. IsNote l.what → ⊥) _ more h tt)
+empty_stays receiver packets left lines e (Loses {lines = more} none r) h = absurd (All-head (λ l. IsNote l.what → ⊥) _ more h tt)
+empty_stays receiver packets left lines e (Hands tells r) h = absurd (cc)
+empty_stays receiver packets left lines e (Passes {lines = more} apart r) h = empty_stays receiver packets left more e r (All-tail (λ l. IsNote l.what → ⊥) _ more h)
+
+empty_by : (A : Type 0) (s t : State) (a : A) (o : Outcome A) → o ≡ Goes a t → Lead RingGoes RingHalts A s o → s.ring ≡ [] → t.ring ≡ []
+empty_by A s t a o e k none =
+    let h : Lead RingGoes RingHalts A s (Goes a t) = subst (λ (x : Outcome A). Lead RingGoes RingHalts A s x) e k in empty_stays s.program.receiver s.ring t.ring h.leads.added none h.leads.runs h.leads.hears_none
+
+-- a call that polls the radio process
+
+emptied_by : (s : State) (o : Went) → IfGoes (Empties s.program.receiver s.ring s) o → IfGoes (λ t. t.ring ≡ []) o
+emptied_by s (Ends t) h = tt
+emptied_by s (Goes a t) h = h.empty
+
+radio_empties : (s : State) → IfGoes (λ t. t.ring ≡ []) (radio_of s (told Poll 0))
+unfolding radio_of
+radio_empties s = emptied_by s _ (ring_empties s.program.receiver s.ring s refl)
+
+answers_empty : (calls : Calls) (o : Went) → IfGoes (λ t. t.ring ≡ []) o → IfGoes (λ t. t.ring ≡ []) ((o >>= λ _ s1. Goes Yielded s1) >>= λ answer s2. answered calls s2 Radio (has_ended answer || is_event Exit (told Poll 0)))
+unfolding answered with_state
+answers_empty calls (Ends t) h = tt
+answers_empty calls (Goes a t) h = h
+
+call_empties : (calls : Calls) (s : State) → is_running s Radio ≡ true → IfGoes (λ t. t.ring ≡ []) (call_of calls s Radio (told Poll 0))
+unfolding call_of spend_of react_of
+call_empties calls s running = rw running (by (s.units == 0))
+  where
+    by : (b : Bool) → IfGoes (λ t. t.ring ≡ []) (spent s b >>= λ _ s1. react_of calls (with_state s1 Radio Called) Radio (told Poll 0) >>= λ answer s2. answered calls s2 Radio (has_ended answer || is_event Exit (told Poll 0)))
+    by true = tt
+    by false = let t = with_state (record s { units = s.units - 1 }) Radio Called in answers_empty calls (radio_of t (told Poll 0)) (radio_empties t)
+
+-- what holds of the calls that nest less deep
+record AreHeard (calls : Calls) : Type 0 where
+  led : AreLed (Watches Radio) Whatever (chain Radio) IsOwn calls
+  kept : tables.AreKept calls
+  rings : AreLed RingGoes RingHalts ring.chain Whoever calls
+  empties : (s : State) → is_running s Radio ≡ true → IfGoes (λ t. t.ring ≡ []) (calls.call s Radio (told Poll 0))
+
+are_heard : (k : ℕ) → AreHeard (calls_of (suc k))
+unfolding calls_of
+are_heard k = record {
+  led = calls_led (Watches Radio) Whatever (chain Radio) IsOwn (steps Radio) (suc k);
+  kept = tables.calls_kept (suc k);
+  rings = calls_led RingGoes RingHalts ring.chain Whoever ring.steps (suc k);
+  empties = call_empties (calls_of k);
+}
+
+all_heard : AreHeard (calls_of (UNITS + 1))
+all_heard = subst (λ n. AreHeard (calls_of n)) (omega arith) (are_heard UNITS)
+
+-- a kernel run
+
+module _ (calls : Calls) (are : AreHeard calls) where
+  comes : (s u : State) → walk_polls calls (before Radio s.members) s ≡ Goes tt u → Watches Radio s u
+  comes s u e = let h : Lead (Watches Radio) Whatever (Unit {0}) s (Goes tt u) = subst (λ (o : Went). Lead (Watches Radio) Whatever (Unit {0}) s o) e (before_led Radio calls are.led s.members s) in h.leads
+
+  kept : (s u : State) → walk_polls calls (before Radio s.members) s ≡ Goes tt u → Stands true s → tables.Keeps s u
+  kept s u e h = let k : tables.Leaves (Unit {0}) (tables.Keeps s) (Goes tt u) = subst (λ (o : Went). tables.Leaves (Unit {0}) (tables.Keeps s) o) e (resting.polls_kept calls are.kept (before Radio s.members) s h.step) in k.out
+
+  unmarked_runs : (u : State) → is_running u Radio ≡ true → is_running (with_mark u Radio false) Radio ≡ true
+  unfolding with_mark
+  unmarked_runs u h = h
+
+  polled : (s t : State) → Stands true s → is_marked s Radio ≡ true → walk_polls calls s.members s ≡ Goes tt t → t.ring ≡ []
+  polled s t h marked goes =
+      let q = h.radio refl in
+      let k = splits Radio s.members q.listed in
+      let a = through _ _ _ _ _ _ (sym (walk_splits Radio calls s.members k.member k.after s k.split) ∙ goes) in
+      let b = through _ _ _ _ _ _ a.second in
+      let u = a.midst in
+      let w = comes s u a.first in
+      let i = kept s u a.first h in
+      let call = sym (turn_calls Radio calls u k.member k.is_it (w.radio.there k.member k.is_it k.holds) (w.marked marked)) ∙ b.first in
+      let running = unmarked_runs u (runs_now (process_state u Radio) (w.radio.can q.can).alive (i.busy.called 2 ∙ h.idle.called 2)) in
+      let none : b.midst.ring ≡ [] = subst (IfGoes (λ v. v.ring ≡ [])) call (are.empties (with_mark u Radio false) running) in
+      empty_by _ b.midst t tt _ b.second (polls_led RingGoes RingHalts ring.chain Whoever ring.steps ring.run_steps calls are.rings k.after b.midst) none
+
+  run_emptied : (s t : State) (n : ℕ) → Stands true s → PollWaits Radio s → kernel_of calls s ≡ Goes n t → t.ring ≡ []
+  unfolding kernel_of
+  run_emptied s t n h w goes =
+      let a = through _ _ _ _ _ _ goes in
+      let b = through _ _ _ _ _ _ a.second in
+      let none = polled (record s { flag = false }) a.midst (unflagged true s h) w.marked (sym (polls_are calls s w.flag) ∙ a.first) in
+      let last : b.midst.ring ≡ t.ring = cc in
+      sym last ∙ empty_by _ a.midst b.midst tt _ b.first (front_led RingGoes RingHalts ring.chain Whoever ring.steps ring.run_steps calls are.rings a.midst.queue.events a.midst) none
+
+given_emptied : (moment : ℕ) (m : Mote) (lines : List Line) (sends : List Sent) (o : Outcome ℕ) → IsAtRest m.state → PollWaits Radio m.state → kernel_of (calls_of (UNITS + 1)) (begun m moment lines sends) ≡ o → (given o).mote.halted ≡ false → (given o).mote.state.ring ≡ []
+unfolding begun_of
+given_emptied moment m lines sends (Ends t) rest w e h = absurd (cc)
+given_emptied moment m lines sends (Goes n t) rest w e h =
+    run_emptied (calls_of (UNITS + 1)) all_heard (begun m moment lines sends) t n (begun_stands m moment lines sends rest) (record { marked = w.marked; flag = w.flag }) e
+
+polled_emptied : (moment : ℕ) (m : Mote) (lines : List Line) (sends : List Sent) → m.halted ≡ false → IsAtRest m.state → PollWaits Radio m.state → let g = run_given moment m lines sends in g.mote.halted ≡ false → g.mote.state.ring ≡ []
+unfolding run_given
+polled_emptied moment m lines sends running rest w = rw running (λ h. given_emptied moment m lines sends _ rest w refl h)
+
+still_running : (moment : ℕ) (m : Mote) (lines : List Line) (sends : List Sent) → (run_given moment m lines sends).mote.halted ≡ false → m.halted ≡ false
+unfolding run_given
+still_running moment m lines sends = by m.halted refl
+  where
+    by : (b : Bool) → m.halted ≡ b → (if b then record { ran = ran.Halted; mote = m; lines = lines; sends = sends } else given (kernel_of (calls_of (UNITS + 1)) (begun m moment lines sends))).mote.halted ≡ false → m.halted ≡ false
+    by true e h = h
+    by false e h = e
+
+pub run_empties_ring : RunEmptiesRing
+run_empties_ring moment m lines sends rest (inl none) h =
+    let k = run_tells_packets moment m lines sends in k.holds h ∙ empty_stays m.state.program.receiver m.state.ring k.left k.added none k.runs k.hears_none
+run_empties_ring moment m lines sends rest (inr w) h = polled_emptied moment m lines sends (still_running moment m lines sends h) rest w h

@@ -1,0 +1,180 @@
+-- Each small step of the kernel keeps that each timer on the list has an owner.
+use Rattle.std.proofs.Common.{ℕ, ◌≡◌, ◌+◌, ◌^◌, ◌==◌, Bool, true, false, not, nat_lt, nat_le, if◌then◌else◌, List, ◌∷◌, Some, length, refl, sym, subst, arith}
+use Rattle.std.specs.Prelude.{IsSome}
+use Rattle.std.proofs.lemmas.List.{get_or-set_same, get_or-set_other}
+use Rattle.std.proofs.lemmas.Bool.{eqb-true, eqb-false}
+use Rattle.std.proofs.lemmas.Bool.Decides.{nat_tests}
+use Rattle.mote_program.specs.declared.event.Proc.{Proc}
+use Rattle.mote_program.specs.declared.event.Proc.TheVariants.{Own, Etimer, Ctimer, Radio}
+use Rattle.mote_program.specs.declared.event.Target.{Target}
+use Rattle.mote_program.specs.declared.event.Event.{Event}
+use Rattle.mote_timers.specs.declared.timer.Timer.{Timer}
+use Rattle.mote_timers.specs.Numbers.{is_member}
+use Rattle.mote_timers.specs.Timer.{unset, is_owned_by}
+use Rattle.mote_timers.specs.TimerLists.{TimerLists, timer_at, with_timer, stop_timer, purge_timers}
+use Rattle.process_kernel.specs.declared.line.Line.{Line}
+use Rattle.process_kernel.specs.declared.line.Sent.{Sent}
+use Rattle.process_kernel.specs.declared.kernel.Ran.TheVariants as ran
+use Rattle.process_kernel.specs.declared.runs.TheConstants.{UNITS}
+use Rattle.process_kernel.specs.State.{State, Outcome, Ends, Goes}
+use Rattle.process_kernel.specs.Processes.{is_alive, process_state, with_state, with_exiting, with_mark}
+use Rattle.process_kernel.specs.ProcessList.{with_fresh_process, enlist_of, exiting_of, unlisted_of, leave_of}
+use Rattle.process_kernel.specs.Posts.{post_of, poll_of, send_of}
+use Rattle.process_kernel.specs.TimerOperations.{has_timer, timer_is_set}
+use Rattle.process_kernel.specs.Writes.{write_of, halted_of}
+use Rattle.process_kernel.specs.Call.{calls_of}
+use Rattle.process_kernel.specs.Run.{begun_of}
+use Rattle.process_kernel.specs.Mote.{Mote}
+use Rattle.process_kernel.specs.Public.{given, begun, unless_halted, boot_given, run_given}
+use Rattle.kernel_laws.specs.Due.{HaveOwners, BootKeepsOwners, RunKeepsOwners}
+use Rattle.kernel_laws.proofs.Timers.{further, other_timer}
+use Rattle.kernel_laws.proofs.Watch.{is_left}
+use Rattle.kernel_laws.proofs.EachStep.{Whoever, Lead, AreJoined, AreSteps, AreRunSteps, lead_if, empty_led, calls_led, kernel_led, boot_led}
+
+pub record Owns (s t : State) : Type 0 where
+  pub owns : HaveOwners s.timers → HaveOwners t.timers
+
+owns_still : (s t : State) → t.timers ≡ s.timers → Owns s t
+owns_still s t e = record { owns = λ h. subst HaveOwners (sym e) h }
+
+owns_joined : (a b c : State) → Owns a b → Owns b c → Owns a c
+owns_joined a b c h i = record { owns = λ x. i.owns (h.owns x) }
+
+chain : AreJoined Owns Owns
+chain = record { same = λ s. owns_still s s refl; joined = owns_joined; ended = owns_joined }
+
+-- timers
+
+owned_with : (l : TimerLists) (id : ℕ) (t : Timer) → nat_lt id (length l.timers) ≡ true → IsSome t.owner → HaveOwners l → HaveOwners (with_timer l id t)
+owned_with l id t there some h j listed = by (j == id) refl
+  where
+    listed_before : (b : Bool) → is_member id l.listed ≡ b → is_member j (if b then l.listed else id ∷ l.listed) ≡ true → (j == id) ≡ false → is_member j l.listed ≡ true
+    listed_before true e i n = i
+    listed_before false e i n = further j id l.listed i n
+
+    by : (b : Bool) → (j == id) ≡ b → IsSome (timer_at (with_timer l id t).timers j).owner
+    by true e =
+        let same : timer_at (with_timer l id t).timers id ≡ t = get_or-set_same l.timers id t unset (grind (arith, nat_tests)) in
+        subst (λ k. IsSome (timer_at (with_timer l id t).timers k).owner) (sym (eqb-true j id e)) (subst (λ x. IsSome x.owner) (sym same) some)
+    by false e =
+        let same : timer_at (with_timer l id t).timers j ≡ timer_at l.timers j = get_or-set_other l.timers id j t unset (eqb-false j id e) in
+        subst (λ x. IsSome x.owner) (sym same) (h j (listed_before (is_member id l.listed) refl listed e))
+
+owned_stopped : (l : TimerLists) (id : ℕ) → HaveOwners l → HaveOwners (stop_timer l id)
+unfolding stop_timer
+owned_stopped l id h j listed =
+    let i = is_left (λ k. not (k == id)) j l.listed listed in
+    let e : (j == id) ≡ false = grind (arith, nat_tests, i.1) in
+    subst (λ x. IsSome x.owner) (sym (other_timer l id j e)) (h j i.0)
+
+owned_purged : (l : TimerLists) (p : Proc) → HaveOwners l → HaveOwners (purge_timers l p)
+unfolding purge_timers
+owned_purged l p h j listed = h j (is_left (λ k. not (is_owned_by p (timer_at l.timers k))) j l.listed listed).0
+
+pub poll_timers : (s : State) (p : Proc) → (poll_of s p).timers ≡ s.timers
+unfolding poll_of with_mark
+poll_timers s p = by (is_alive (process_state s p))
+  where
+    by : (b : Bool) → (if b then record (with_mark s p true) { flag = true } else s).timers ≡ s.timers
+    by true = refl
+    by false = refl
+
+set_timers : (s : State) (timers : TimerLists) (timer : ℕ) → (timer_is_set (record s { timers = timers }) timer).timers ≡ timers
+unfolding timer_is_set
+set_timers s timers timer = poll_timers _ Etimer
+
+sets_own : (s : State) (timer start interval : ℕ) (owner : Proc) → has_timer s timer ≡ true → Owns s (timer_is_set (record s { timers = with_timer s.timers timer (record { start = start; interval = interval; owner = Some owner }) }) timer)
+sets_own s timer start interval owner there =
+    let t : Timer = record { start = start; interval = interval; owner = Some owner } in
+    record { owns = λ h. subst HaveOwners (sym (set_timers s (with_timer s.timers timer t) timer)) (owned_with s.timers timer t there refl h) }
+
+-- the other steps
+
+abbrev Leads : (A : Type 0) → State → Outcome A → Type 0
+Leads A s o = Lead Owns Owns A s o
+
+leads_if : (A : Type 0) (s : State) (b : Bool) (o p : Outcome A) → Leads A s o → Leads A s p → Leads A s (if b then o else p)
+leads_if A s b o p h i = lead_if Owns Owns chain A s b o p h i
+
+posts_own : (s : State) (t : Target) (e : Event) → Leads Bool s (post_of s t e)
+unfolding post_of write_of halted_of
+posts_own s t e =
+    leads_if Bool s (nat_le (2 ^ 62) s.queue.accepted) _ _ (record { leads = owns_still s _ refl })
+    (leads_if Bool s (nat_le s.queue.capacity (length s.queue.events)) _ _ (record { leads = owns_still s _ refl }) (record { leads = owns_still s _ refl }))
+
+sends_own : (s : State) (v : ℕ) → Leads (Unit {0}) s (send_of s v)
+unfolding send_of write_of halted_of
+sends_own s v = leads_if _ s (nat_le (2 ^ 62) s.sent) _ _ (record { leads = owns_still s _ refl }) (record { leads = owns_still s _ refl })
+
+fresh_timers : (s : State) (p : Proc) → (with_fresh_process s p).timers ≡ s.timers
+fresh_timers s (Own p) = refl
+fresh_timers s Etimer = refl
+fresh_timers s Ctimer = refl
+fresh_timers s Radio = refl
+
+enlists_own : (s : State) (p : Proc) → Leads (Unit {0}) s (enlist_of s p)
+unfolding enlist_of write_of with_state
+enlists_own s p = record { leads = owns_still s _ (fresh_timers _ p) }
+
+leaves_own : (s : State) (p : Proc) → Leads (Unit {0}) s (leave_of s p)
+unfolding leave_of write_of unlisted_of with_exiting
+leaves_own s p = record { leads = owns_still s _ refl }
+
+steps : AreSteps Owns Owns chain Whoever
+unfolding halted_of with_state exiting_of with_exiting
+steps = record {
+  own = λ p own. tt;
+  halts = λ s. owns_still s _ refl;
+  units = λ s n. owns_still s _ refl;
+  busy = λ s p. owns_still s _ refl;
+  prints = λ s p v. owns_still s _ refl;
+  called = λ s p. owns_still s _ refl;
+  runs = λ s p. owns_still s _ refl;
+  exiting = λ s p l. owns_still s _ refl;
+  polled = λ s p. owns_still s _ (poll_timers s p);
+  remainders = λ s rs. owns_still s _ refl;
+  variables = λ s vs. owns_still s _ refl;
+  sets = sets_own;
+  stops = λ s t. record { owns = owned_stopped s.timers t };
+  purges = λ s p. record { owns = owned_purged s.timers p };
+  callbacks = λ s ts. owns_still s _ refl;
+  semaphores = λ s ns. owns_still s _ refl;
+  posts = λ s t e f. posts_own s t e;
+  sends = sends_own;
+  enlists = λ s p l. enlists_own s p;
+  leaves = λ s p l. leaves_own s p;
+  empties = λ s. empty_led Owns Owns chain (λ t r. owns_still t _ refl) (λ t to e f. posts_own t to e) (λ t f n. owns_still t _ refl) s.program.receiver s.ring s;
+}
+
+run_steps : AreRunSteps Owns Owns chain Whoever
+unfolding with_mark
+run_steps = record {
+  any = λ p. tt;
+  flag = λ s. owns_still s _ refl;
+  mark = λ s p. owns_still s _ refl;
+  front = λ s. owns_still s _ refl;
+  takes = λ s n p. owns_still s _ refl;
+  drops = λ s n p. owns_still s _ refl;
+}
+
+given_owns : (moment : ℕ) (m : Mote) (lines : List Line) (sends : List Sent) (o : Outcome ℕ) → Leads ℕ (begun m moment lines sends) o → HaveOwners m.state.timers → HaveOwners (given o).mote.state.timers
+unfolding begun_of
+given_owns moment m lines sends (Ends t) k h = k.leads.owns h
+given_owns moment m lines sends (Goes a t) k h = k.leads.owns h
+
+unless_owns : (moment : ℕ) (m : Mote) (lines : List Line) (sends : List Sent) (o : Outcome ℕ) → Leads ℕ (begun m moment lines sends) o → HaveOwners m.state.timers → HaveOwners (unless_halted m lines sends (given o)).mote.state.timers
+unless_owns moment m lines sends o k h = by m.halted
+  where
+    by : (b : Bool) → HaveOwners (if b then record { ran = ran.Halted; mote = m; lines = lines; sends = sends } else given o).mote.state.timers
+    by true = h
+    by false = given_owns moment m lines sends o k h
+
+pub boot_keeps_owners : BootKeepsOwners
+unfolding boot_given
+boot_keeps_owners moment m lines sends h =
+    unless_owns moment m lines sends _ (boot_led Owns Owns chain Whoever steps run_steps (calls_of (UNITS + 1)) (calls_led Owns Owns chain Whoever steps (UNITS + 1)) (begun m moment lines sends)) h
+
+pub run_keeps_owners : RunKeepsOwners
+unfolding run_given
+run_keeps_owners moment m lines sends h =
+    unless_owns moment m lines sends _ (kernel_led Owns Owns chain Whoever steps run_steps (calls_of (UNITS + 1)) (calls_led Owns Owns chain Whoever steps (UNITS + 1)) (begun m moment lines sends)) h

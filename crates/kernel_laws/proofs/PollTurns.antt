@@ -1,0 +1,105 @@
+-- The turn of a process in the polls, and the turns before it.
+use Rattle.std.proofs.Common.{◌≡◌, ◌||◌, Bool, true, false, if◌then◌else◌, List, [], ◌∷◌, ◌++◌, refl, sym, ap, subst, arith}
+use Rattle.std.proofs.lemmas.Bool.Decides.{nat_tests}
+use Rattle.mote_program.specs.declared.event.Proc.{Proc}
+use Rattle.mote_program.specs.declared.event.Proc.TheVariants.{Own, Etimer, Ctimer, Radio}
+use Rattle.mote_program.specs.declared.event.SystemEvent.TheVariants.{Poll}
+use Rattle.process_kernel.specs.declared.process.Member.{Member}
+use Rattle.process_kernel.specs.Members.{place_of, is_same, stands_in, holds_member}
+use Rattle.process_kernel.specs.State.{State, Went, Ends, Goes, ◌>>=◌}
+use Rattle.process_kernel.specs.Processes.{is_marked, is_on_list, with_mark}
+use Rattle.process_kernel.specs.Calls.{Calls, told}
+use Rattle.process_kernel.specs.Polls.{walk_polls, polls_of, polls_due_of, poll_turn_of}
+use Rattle.kernel_laws.specs.Own.{IsOwn}
+use Rattle.kernel_laws.specs.Poll.{before}
+use Rattle.kernel_laws.proofs.EachStep.{Lead, AreLed, fits_no_exit, lead_bind, lead_from, lead_if, lead_still}
+use Rattle.kernel_laws.proofs.Watch.{Watches, Whatever, chain, watches_unmarked}
+
+place_is : (q p : Proc) → is_same q p ≡ true → q ≡ p
+place_is (Own a) (Own b) e = let same : a ≡ b = grind (arith, nat_tests) in ap Own same
+place_is (Own a) Etimer e = absurd (grind (arith, nat_tests))
+place_is (Own a) Ctimer e = absurd (grind (arith, nat_tests))
+place_is (Own a) Radio e = absurd (grind (arith, nat_tests))
+place_is Etimer (Own b) e = absurd (grind (arith, nat_tests))
+place_is Etimer Etimer e = refl
+place_is Etimer Ctimer e = absurd (cc)
+place_is Etimer Radio e = absurd (cc)
+place_is Ctimer (Own b) e = absurd (grind (arith, nat_tests))
+place_is Ctimer Etimer e = absurd (cc)
+place_is Ctimer Ctimer e = refl
+place_is Ctimer Radio e = absurd (cc)
+place_is Radio (Own b) e = absurd (grind (arith, nat_tests))
+place_is Radio Etimer e = absurd (cc)
+place_is Radio Ctimer e = absurd (cc)
+place_is Radio Radio e = refl
+
+same_back : (q p : Proc) → is_same q p ≡ false → is_same p q ≡ false
+same_back q p e = grind (arith, nat_tests)
+
+holds_first : (m : Member) (ms : List Member) → holds_member (m ∷ ms) m ≡ true
+holds_first m ms = grind (arith, nat_tests)
+
+or_true : (b c : Bool) → c ≡ true → (b || c) ≡ true
+or_true true c e = refl
+or_true false c e = e
+
+walk_joined : (calls : Calls) (xs ys : List Member) (s : State) → walk_polls calls (xs ++ ys) s ≡ (walk_polls calls xs s >>= λ _ t. walk_polls calls ys t)
+walk_joined calls [] ys s = refl
+walk_joined calls (x ∷ xs) ys s = by (poll_turn_of calls s x) (λ t. walk_joined calls xs ys t)
+  where
+    by : (o : Went) → ((t : State) → walk_polls calls (xs ++ ys) t ≡ (walk_polls calls xs t >>= λ _ u. walk_polls calls ys u)) → (o >>= λ _ t. walk_polls calls (xs ++ ys) t) ≡ ((o >>= λ _ t. walk_polls calls xs t) >>= λ _ u. walk_polls calls ys u)
+    by (Ends t) later = refl
+    by (Goes a t) later = later t
+
+-- the polls, where the flag is set
+pub polls_are : (calls : Calls) (s : State) → s.flag ≡ true → polls_due_of calls s ≡ walk_polls calls s.members (record s { flag = false })
+unfolding polls_due_of polls_of
+polls_are calls s e = rw e refl
+
+module _ (p : Proc) where
+  -- the first member of this process on the list, and those behind it
+  pub record Splits (ms : List Member) : Type 0 where
+    pub member : Member
+    pub after : List Member
+    pub split : ms ≡ before p ms ++ member ∷ after
+    pub is_it : member.process ≡ p
+    pub holds : holds_member ms member ≡ true
+
+  pub splits : (ms : List Member) → stands_in ms p ≡ true → Splits ms
+  splits [] h = absurd (cc)
+  splits (m ∷ ms) h = by (is_same m.process p) refl (splits ms)
+    where
+      by : (b : Bool) → is_same m.process p ≡ b → (stands_in ms p ≡ true → Splits ms) → Splits (m ∷ ms)
+      by true e later = record { member = m; after = ms; split = rw e refl; is_it = place_is m.process p e; holds = holds_first m ms }
+      by false e later =
+          let back = same_back m.process p e in
+          let k = later (subst (λ b. (b || stands_in ms p) ≡ true) back h) in
+          record { member = k.member; after = k.after; split = rw e (ap (λ l. m ∷ l) k.split); is_it = k.is_it; holds = or_true _ (holds_member ms k.member) k.holds }
+
+  -- the polls: those before it, its own, and those behind it
+  pub walk_splits : (calls : Calls) (ms : List Member) (x : Member) (after : List Member) (s : State) → ms ≡ before p ms ++ x ∷ after
+      → walk_polls calls ms s ≡ (walk_polls calls (before p ms) s >>= λ _ t. (poll_turn_of calls t x >>= λ _ u. walk_polls calls after u))
+  walk_splits calls ms x after s e = subst (λ l. walk_polls calls l s ≡ (walk_polls calls (before p ms) s >>= λ _ t. walk_polls calls (x ∷ after) t)) (sym e) (walk_joined calls (before p ms) (x ∷ after) s)
+
+  -- where its turn comes, it is called, if it is there and marked
+  pub turn_calls : (calls : Calls) (u : State) (x : Member) → x.process ≡ p → is_on_list u x ≡ true → is_marked u p ≡ true → poll_turn_of calls u x ≡ calls.call (with_mark u p false) p (told Poll 0)
+  unfolding poll_turn_of
+  turn_calls calls u x e there marked = rw (there, e, marked) refl
+
+  -- before its turn its mark stays
+  module _ (calls : Calls) (led : AreLed (Watches p) Whatever (chain p) IsOwn calls) where
+    pub other_led : (s : State) (q : Proc) → (place_of p ≡ place_of q → ⊥) → Lead (Watches p) Whatever (Unit {0}) s (calls.call (with_mark s q false) q (told Poll 0))
+    other_led s q n =
+        lead_from (Watches p) Whatever (chain p) _ s _ _ (watches_unmarked p s q n) (led.call _ q (told Poll 0) (fits_no_exit (Watches p) Whatever (chain p) IsOwn q (told Poll 0).number refl))
+
+    turn_led : (s : State) (x : Member) → is_same x.process p ≡ false → Lead (Watches p) Whatever (Unit {0}) s (poll_turn_of calls s x)
+    unfolding poll_turn_of
+    turn_led s x e = lead_if (Watches p) Whatever (chain p) _ s _ _ _ (other_led s x.process (λ q. grind (arith, nat_tests))) (lead_still (Watches p) Whatever (chain p) _ s tt)
+
+    pub before_led : (ms : List Member) (s : State) → Lead (Watches p) Whatever (Unit {0}) s (walk_polls calls (before p ms) s)
+    before_led [] s = lead_still (Watches p) Whatever (chain p) _ s tt
+    before_led (x ∷ ms) s = by (is_same x.process p) refl (before_led ms)
+      where
+        by : (b : Bool) → is_same x.process p ≡ b → ((t : State) → Lead (Watches p) Whatever (Unit {0}) t (walk_polls calls (before p ms) t)) → Lead (Watches p) Whatever (Unit {0}) s (walk_polls calls (if b then [] else x ∷ before p ms) s)
+        by true e later = lead_still (Watches p) Whatever (chain p) _ s tt
+        by false e later = lead_bind (Watches p) Whatever (chain p) _ _ s _ _ (turn_led s x e) (λ a t. later t)

@@ -1,0 +1,300 @@
+-- What each small step keeps: etimer and the radio process can be polled, a poll that was asked for stays so, and a timer that is set asks for
+-- one.
+use Rattle.std.proofs.Common.{ℕ, ◌≡◌, ◌+◌, ◌^◌, ◌<◌, inl, inr, ◌==◌, Bool, true, false, not, nat_lt, nat_le, if◌then◌else◌, List, [], ◌∷◌, length, Some, refl, sym, ◌∙◌, subst, arith}
+use Rattle.std.specs.List.{filter}
+use Rattle.std.proofs.lemmas.Bool.Decides.{nat_tests}
+use Rattle.mote_program.specs.declared.event.Proc.{Proc}
+use Rattle.mote_program.specs.declared.event.Proc.TheVariants.{Own, Etimer, Ctimer, Radio}
+use Rattle.mote_program.specs.declared.event.Target.{Target}
+use Rattle.mote_program.specs.declared.event.Event.{Event}
+use Rattle.mote_timers.specs.Numbers.{is_member}
+use Rattle.mote_timers.specs.Timer.{is_due, is_owned_by}
+use Rattle.mote_timers.specs.TimerLists.{TimerLists, timer_at, stop_timer, purge_timers}
+use Rattle.process_kernel.specs.declared.process.ProcessState.{ProcessState}
+use Rattle.process_kernel.specs.declared.process.ProcessState.TheVariants.{Running, Called}
+use Rattle.process_kernel.specs.declared.process.Member.{Member}
+use Rattle.process_kernel.specs.declared.line.What.{What}
+use Rattle.process_kernel.specs.declared.line.What.TheVariants as what
+use Rattle.process_kernel.specs.Members.{place_of}
+use Rattle.process_kernel.specs.State.{State, Outcome}
+use Rattle.process_kernel.specs.Processes.{is_alive, process_state, is_marked, with_state, with_exiting, with_mark}
+use Rattle.process_kernel.specs.ProcessList.{with_fresh_process, enlist_of, exiting_of, unlisted_of, leave_of}
+use Rattle.process_kernel.specs.Posts.{post_of, poll_of, send_of}
+use Rattle.process_kernel.specs.TimerOperations.{timer_is_set}
+use Rattle.process_kernel.specs.Writes.{with_line, write_of}
+use Rattle.kernel_laws.specs.Own.{IsOwn}
+use Rattle.kernel_laws.specs.Poll.{PollWaits, CanBePolled}
+use Rattle.kernel_laws.specs.Due.{IsDueFor, NoneIsDue, ForgetsNone}
+use Rattle.kernel_laws.proofs.Alive.{Alive, marked_more, alive_still, alive_joined, alive_state, alive_exiting, alive_mark, alive_longer, alive_shorter}
+use Rattle.kernel_laws.proofs.Steps.{any_or}
+use Rattle.kernel_laws.proofs.Tables.{set_same, set_other}
+use Rattle.kernel_laws.proofs.Timers.{other_timer}
+use Rattle.kernel_laws.proofs.EachStep.{Lead, AreJoined, AreSteps, lead_if, empty_led}
+
+-- the marks of one process are looked at
+pub record Watches (p : Proc) (s t : State) : Type 0 where
+  pub moment : t.moment ≡ s.moment
+  pub etimer : Alive Etimer s t
+  pub radio : Alive Radio s t
+  pub marked : is_marked s p ≡ true → is_marked t p ≡ true
+  pub flag : s.flag ≡ true → t.flag ≡ true
+  pub due : p ≡ Etimer → CanBePolled Etimer s → NoneIsDue s.moment s.timers → ForgetsNone t.moment t
+
+-- of a mote that has halted nothing is said
+abbrev pub Whatever : State → State → Type 0
+Whatever s t = Unit {0}
+
+pub still_waits : (p : Proc) (s t : State) → Watches p s t → PollWaits p s → PollWaits p t
+still_waits p s t h w = record { marked = h.marked w.marked; flag = h.flag w.flag }
+
+forgets_by : (p : Proc) (s t : State) → Watches p s t → p ≡ Etimer → CanBePolled Etimer s → ForgetsNone s.moment s → ForgetsNone t.moment t
+forgets_by p s t h e c (inl n) = h.due e c n
+forgets_by p s t h e c (inr w) = inr (subst (λ q. PollWaits q t) e (still_waits p s t h (subst (λ q. PollWaits q s) (sym e) w)))
+
+pub forgets_on : (s t : State) → Watches Etimer s t → CanBePolled Etimer s → ForgetsNone s.moment s → ForgetsNone t.moment t
+forgets_on s t h c f = forgets_by Etimer s t h refl c f
+
+-- nothing of this is changed
+pub record IsStill (s t : State) : Type 0 where
+  pub moment : t.moment ≡ s.moment
+  pub states : t.states ≡ s.states
+  pub marks : t.marks ≡ s.marks
+  pub flag : t.flag ≡ s.flag
+  pub members : t.members ≡ s.members
+  pub timers : t.timers ≡ s.timers
+
+pub etimer_system : place_of Etimer < 3
+etimer_system = omega arith
+
+pub radio_system : place_of Radio < 3
+radio_system = omega arith
+
+-- asks for a poll
+pub waits_now : (p : Proc) (s : State) → CanBePolled p s → PollWaits p (poll_of s p)
+unfolding poll_of with_mark
+waits_now p s c = rw (c.alive) (record { marked = set_same s.marks (place_of p) true false (below_of (place_of p) (length s.marks) c.has_mark); flag = refl })
+  where
+    below_of : (k n : ℕ) → nat_lt k n ≡ true → k < n
+    below_of k n h = grind (arith, nat_tests)
+
+-- timers that are left
+
+pub is_left : (f : ℕ → Bool) (k : ℕ) (ks : List ℕ) → is_member k (filter f ks) ≡ true → (is_member k ks ≡ true) × (f k ≡ true)
+is_left f k [] h = absurd (cc)
+is_left f k (j ∷ ks) h = by (f j) refl (k == j) refl (is_left f k ks)
+  where
+    by : (b : Bool) → f j ≡ b → (c : Bool) → (k == j) ≡ c → (is_member k (filter f ks) ≡ true → (is_member k ks ≡ true) × (f k ≡ true)) → (is_member k (j ∷ ks) ≡ true) × (f k ≡ true)
+    by true e true q later = let same : k ≡ j = grind (arith, nat_tests) in (rw q refl, rw same e)
+    by true e false q later =
+        let there : is_member k (j ∷ filter f ks) ≡ true = subst (λ b. is_member k (if b then j ∷ filter f ks else filter f ks) ≡ true) e h in
+        let i = later (grind (arith, nat_tests)) in (any_or (k == j) (is_member k ks) i.0, i.1)
+    by false e c q later =
+        let there : is_member k (filter f ks) ≡ true = subst (λ b. is_member k (if b then j ∷ filter f ks else filter f ks) ≡ true) e h in
+        let i = later there in (any_or (k == j) (is_member k ks) i.0, i.1)
+
+others_due : (moment : ℕ) (l : TimerLists) (x id : ℕ) (owner : Proc) → IsDueFor moment (stop_timer l x) id owner → IsDueFor moment l id owner
+unfolding stop_timer
+others_due moment l x id owner d =
+    let i = is_left (λ k. not (k == x)) id l.listed d.listed in
+    let e : (id == x) ≡ false = grind (arith, nat_tests, i.1) in
+    let same = other_timer l x id e in
+    record { listed = i.0; due = subst (λ t. is_due moment t ≡ true) same d.due; owned = subst (λ t. t.owner ≡ Some owner) same d.owned }
+
+unpurged_due : (moment : ℕ) (l : TimerLists) (p : Proc) (id : ℕ) (owner : Proc) → IsDueFor moment (purge_timers l p) id owner → IsDueFor moment l id owner
+unfolding purge_timers
+unpurged_due moment l p id owner d =
+    record { listed = (is_left (λ k. not (is_owned_by p (timer_at l.timers k))) id l.listed d.listed).0; due = d.due; owned = d.owned }
+
+fresh_still : (s : State) (p : Proc) → IsStill s (with_fresh_process s p)
+fresh_still s (Own p) = record { moment = refl; states = refl; marks = refl; flag = refl; members = refl; timers = refl }
+fresh_still s Etimer = record { moment = refl; states = refl; marks = refl; flag = refl; members = refl; timers = refl }
+fresh_still s Ctimer = record { moment = refl; states = refl; marks = refl; flag = refl; members = refl; timers = refl }
+fresh_still s Radio = record { moment = refl; states = refl; marks = refl; flag = refl; members = refl; timers = refl }
+
+module _ (p : Proc) where
+  pub watches_still : (s t : State) → IsStill s t → Watches p s t
+  watches_still s t q = record {
+    moment = q.moment;
+    etimer = alive_still Etimer etimer_system s t q.states q.marks q.members;
+    radio = alive_still Radio radio_system s t q.states q.marks q.members;
+    marked = λ e. rw (q.marks) e;
+    flag = λ e. q.flag ∙ e;
+    due = λ is c n. inl (rw (q.moment, q.timers) n);
+  }
+
+  watches_same : (s : State) → Watches p s s
+  watches_same s = watches_still s s (record { moment = refl; states = refl; marks = refl; flag = refl; members = refl; timers = refl })
+
+  pub watches_joined : (a b c : State) → Watches p a b → Watches p b c → Watches p a c
+  watches_joined a b c h i = record {
+    moment = i.moment ∙ h.moment;
+    etimer = alive_joined Etimer etimer_system a b c h.etimer i.etimer;
+    radio = alive_joined Radio radio_system a b c h.radio i.radio;
+    marked = λ x. i.marked (h.marked x);
+    flag = λ x. i.flag (h.flag x);
+    due = λ is x n. forgets_by p b c i is (h.etimer.can x) (h.due is x n);
+  }
+
+  pub chain : AreJoined (Watches p) Whatever
+  chain = record { same = watches_same; joined = watches_joined; ended = λ a b c h i. tt }
+
+  -- states and marks
+
+  watches_state : (s : State) (q : Proc) (x : ProcessState) → is_alive x ≡ true → Watches p s (with_state s q x)
+  unfolding with_state
+  watches_state s q x alive = record {
+    moment = refl;
+    etimer = alive_state Etimer etimer_system s q x alive;
+    radio = alive_state Radio radio_system s q x alive;
+    marked = λ e. e;
+    flag = λ e. e;
+    due = λ is c n. inl n;
+  }
+
+  watches_exiting : (s : State) (q : Proc) → IsOwn q → Watches p s (exiting_of s q)
+  unfolding exiting_of with_exiting with_state
+  watches_exiting s q own = record {
+    moment = refl;
+    etimer = alive_exiting Etimer etimer_system s q own;
+    radio = alive_exiting Radio radio_system s q own;
+    marked = λ e. e;
+    flag = λ e. e;
+    due = λ is c n. inl n;
+  }
+
+  pub watches_poll : (s : State) (q : Proc) → Watches p s (poll_of s q)
+  unfolding poll_of with_mark
+  watches_poll s q = by (is_alive (process_state s q))
+    where
+      by : (b : Bool) → Watches p s (if b then record (with_mark s q true) { flag = true } else s)
+      by true =
+          let e = alive_mark Etimer etimer_system s q true in
+          let r = alive_mark Radio radio_system s q true in record {
+            moment = refl;
+            etimer = record { can = λ c. let k = e.can c in record { alive = k.alive; has_mark = k.has_mark }; state = e.state; mark = e.mark; listed = e.listed; there = e.there };
+            radio = record { can = λ c. let k = r.can c in record { alive = k.alive; has_mark = k.has_mark }; state = r.state; mark = r.mark; listed = r.listed; there = r.there };
+            marked = λ m. marked_more (place_of p) (place_of q) s.marks m;
+            flag = λ f. refl;
+            due = λ is c n. inl n;
+          }
+      by false = watches_same s
+
+  -- the mark of another process is cleared
+  pub watches_unmarked : (s : State) (q : Proc) → (place_of p ≡ place_of q → ⊥) → Watches p s (with_mark s q false)
+  unfolding with_mark
+  watches_unmarked s q n = record {
+    moment = refl;
+    etimer = alive_mark Etimer etimer_system s q false;
+    radio = alive_mark Radio radio_system s q false;
+    marked = λ e. set_other s.marks (place_of q) (place_of p) false false n ∙ e;
+    flag = λ e. e;
+    due = λ is c d. inl d;
+  }
+
+  -- timers
+
+  watches_set : (s : State) (timers : TimerLists) (timer : ℕ) → Watches p s (timer_is_set (record s { timers = timers }) timer)
+  unfolding timer_is_set
+  watches_set s timers timer =
+      let h = watches_poll _ Etimer in record {
+        moment = h.moment;
+        etimer = alive_joined Etimer etimer_system s _ _ (alive_still Etimer etimer_system s _ refl refl refl) h.etimer;
+        radio = alive_joined Radio radio_system s _ _ (alive_still Radio radio_system s _ refl refl refl) h.radio;
+        marked = λ e. h.marked e;
+        flag = λ e. h.flag e;
+        due = λ is c n. inr (waits_now Etimer _ (record { alive = c.alive; has_mark = c.has_mark }));
+      }
+
+  -- fewer timers are due, and nothing else is changed
+  watches_fewer : (s : State) (timers : TimerLists) → ((id : ℕ) (owner : Proc) → IsDueFor s.moment timers id owner → IsDueFor s.moment s.timers id owner) → Watches p s (record s { timers = timers })
+  watches_fewer s timers f = record {
+    moment = refl;
+    etimer = alive_still Etimer etimer_system s _ refl refl refl;
+    radio = alive_still Radio radio_system s _ refl refl refl;
+    marked = λ e. e;
+    flag = λ e. e;
+    due = λ is c n. inl (λ id owner d. n id owner (f id owner d));
+  }
+
+  -- events and lines
+
+  abbrev Leads : (A : Type 0) → State → Outcome A → Type 0
+  Leads A s o = Lead (Watches p) Whatever A s o
+
+  leads_if : (A : Type 0) (s : State) (b : Bool) (o q : Outcome A) → Leads A s o → Leads A s q → Leads A s (if b then o else q)
+  leads_if A s b o q h i = lead_if (Watches p) Whatever chain A s b o q h i
+
+  pub watches_line : (s : State) (w : What) → Watches p s (with_line s w)
+  watches_line s w = watches_still s _ (record { moment = refl; states = refl; marks = refl; flag = refl; members = refl; timers = refl })
+
+  posts_watch : (s : State) (t : Target) (e : Event) → Leads Bool s (post_of s t e)
+  unfolding post_of write_of
+  posts_watch s t e =
+      leads_if Bool s (nat_le (2 ^ 62) s.queue.accepted) _ _ (record { leads = tt })
+      (leads_if Bool s (nat_le s.queue.capacity (length s.queue.events)) _ _ (record { leads = watches_line s _ })
+      (record { leads = watches_still s _ (record { moment = refl; states = refl; marks = refl; flag = refl; members = refl; timers = refl }) }))
+
+  sends_watch : (s : State) (v : ℕ) → Leads (Unit {0}) s (send_of s v)
+  unfolding send_of write_of
+  sends_watch s v =
+      leads_if _ s (nat_le (2 ^ 62) s.sent) _ _ (record { leads = tt }) (record { leads = watches_still s _ (record { moment = refl; states = refl; marks = refl; flag = refl; members = refl; timers = refl }) })
+
+  -- the process list
+
+  watches_longer : (s : State) (m : Member) (n : ℕ) → Watches p s (record s { members = m ∷ s.members; started = n })
+  watches_longer s m n = record {
+    moment = refl;
+    etimer = alive_longer Etimer etimer_system s m n;
+    radio = alive_longer Radio radio_system s m n;
+    marked = λ e. e;
+    flag = λ e. e;
+    due = λ is c d. inl d;
+  }
+
+  enlists_watch : (s : State) (q : Proc) → Leads (Unit {0}) s (enlist_of s q)
+  unfolding enlist_of write_of
+  enlists_watch s q =
+      let a = record s { members = record { process = q; incarnation = s.started } ∷ s.members; started = s.started + 1 } in
+      let b = with_state a q Running in
+      let c = with_fresh_process b q in
+      record { leads = watches_joined s a (with_line c (what.Start q)) (watches_longer s _ _) (watches_joined a b (with_line c (what.Start q)) (watches_state a q Running refl) (watches_joined b c (with_line c (what.Start q)) (watches_still b c (fresh_still b q)) (watches_line c (what.Start q)))) }
+
+  watches_shorter : (s : State) (q : Proc) → IsOwn q → Watches p s (unlisted_of (with_exiting s q false) q)
+  unfolding unlisted_of with_exiting
+  watches_shorter s q own = record {
+    moment = refl;
+    etimer = alive_shorter Etimer etimer_system s q own;
+    radio = alive_shorter Radio radio_system s q own;
+    marked = λ e. e;
+    flag = λ e. e;
+    due = λ is c n. inl n;
+  }
+
+  leaves_watch : (s : State) (q : Proc) → IsOwn q → Leads (Unit {0}) s (leave_of s q)
+  unfolding leave_of write_of
+  leaves_watch s q own = record { leads = watches_joined s _ _ (watches_shorter s q own) (watches_line _ (what.Leave q)) }
+
+  pub steps : AreSteps (Watches p) Whatever chain IsOwn
+  steps = record {
+    own = λ q own. own;
+    halts = λ s. tt;
+    units = λ s n. watches_still s _ (record { moment = refl; states = refl; marks = refl; flag = refl; members = refl; timers = refl });
+    busy = λ s q. watches_line s (what.Busy q);
+    prints = λ s q v. watches_line s (what.Print q v);
+    called = λ s q. watches_state s q Called refl;
+    runs = λ s q. watches_state s q Running refl;
+    exiting = watches_exiting;
+    polled = watches_poll;
+    remainders = λ s rs. watches_still s _ (record { moment = refl; states = refl; marks = refl; flag = refl; members = refl; timers = refl });
+    variables = λ s vs. watches_still s _ (record { moment = refl; states = refl; marks = refl; flag = refl; members = refl; timers = refl });
+    sets = λ s t start interval owner there. watches_set s _ t;
+    stops = λ s t. watches_fewer s (stop_timer s.timers t) (others_due s.moment s.timers t);
+    purges = λ s q. watches_fewer s (purge_timers s.timers q) (unpurged_due s.moment s.timers q);
+    callbacks = λ s ts. watches_still s _ (record { moment = refl; states = refl; marks = refl; flag = refl; members = refl; timers = refl });
+    semaphores = λ s ns. watches_still s _ (record { moment = refl; states = refl; marks = refl; flag = refl; members = refl; timers = refl });
+    posts = λ s t e f. posts_watch s t e;
+    sends = sends_watch;
+    enlists = λ s q l. enlists_watch s q;
+    leaves = leaves_watch;
+    empties = λ s. empty_led (Watches p) Whatever chain (λ t r. watches_still t _ (record { moment = refl; states = refl; marks = refl; flag = refl; members = refl; timers = refl })) (λ t to e f. posts_watch t to e) (λ t f n. watches_line t (what.Deaf f n)) s.program.receiver s.ring s;
+  }

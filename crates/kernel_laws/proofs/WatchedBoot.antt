@@ -1,0 +1,163 @@
+-- A boot forgets no timer, and starts etimer and the radio process.
+use Rattle.std.proofs.Common.{ℕ, ◌≡◌, ◌+◌, ◌<◌, not, Bool, true, false, nat_lt, length, if◌then◌else◌, List, [], ◌∷◌, refl, sym, ◌∙◌, subst, arith, map}
+use Rattle.std.proofs.lemmas.List.{length-set}
+use Rattle.std.proofs.lemmas.Bool.Decides.{nat_tests}
+use Rattle.mote_program.specs.declared.event.Proc.{Proc}
+use Rattle.mote_program.specs.declared.event.Proc.TheVariants.{Own, Etimer, Ctimer, Radio}
+use Rattle.mote_program.specs.declared.event.SystemEvent.TheVariants.{Init}
+use Rattle.process_kernel.specs.declared.process.ProcessState.{ProcessState}
+use Rattle.process_kernel.specs.declared.process.ProcessState.TheVariants.{Off, Running, Called}
+use Rattle.process_kernel.specs.declared.line.What.TheVariants as what
+use Rattle.process_kernel.specs.State.{State, Went, Ends, Goes}
+use Rattle.process_kernel.specs.Processes.{is_alive, is_listed, is_busy, has_process, with_state}
+use Rattle.process_kernel.specs.ProcessList.{with_fresh_process, enlist_of}
+use Rattle.process_kernel.specs.Writes.{with_line, write_of}
+use Rattle.process_kernel.specs.Calls.{Calls, told}
+use Rattle.process_kernel.specs.Start.{start_of}
+use Rattle.process_kernel.specs.Boot.{starts_of, boot_of}
+use Rattle.kernel_laws.specs.Own.{IsOwn}
+use Rattle.kernel_laws.specs.InStep.{state_at, exiting_at, listed_in, AreInStep, IsInStep, IsIdle}
+use Rattle.kernel_laws.specs.Due.{NoneIsDue, ForgetsNone}
+use Rattle.kernel_laws.specs.Poll.{CanBePolled}
+use Rattle.kernel_laws.proofs.Delivers.{first_start}
+use Rattle.kernel_laws.proofs.InStep as tables
+use Rattle.kernel_laws.proofs.Tables.{set_same}
+use Rattle.kernel_laws.proofs.Packets.{IfGoes, goes_bind}
+use Rattle.kernel_laws.proofs.EachStep.{Lead, fits_no_exit, start_led}
+use Rattle.kernel_laws.proofs.Watch.{Watches, Whatever, chain, steps}
+use Rattle.kernel_laws.proofs.WatchedRuns.{Good, good_leads, AreWatched}
+
+below : (k n : ℕ) → nat_lt k n ≡ true → k < n
+below k n h = grind (arith, nat_tests)
+
+-- the process has gone on the list
+enlisted : State → Proc → State
+enlisted s p = with_line (with_fresh_process (with_state (record s { members = record { process = p; incarnation = s.started } ∷ s.members; started = s.started + 1 }) p Running) p) (what.Start p)
+
+enlisted_can : (s : State) → has_process s Etimer ≡ true → nat_lt 0 (length s.marks) ≡ true → CanBePolled Etimer (enlisted s Etimer)
+unfolding enlisted with_state
+enlisted_can s there marks = record { alive = rw (set_same s.states 0 Running Off (below 0 (length s.states) there)) refl; has_mark = marks }
+
+enlisted_room : (s : State) → has_process s Radio ≡ true → nat_lt 2 (length s.marks) ≡ true → (has_process (enlisted s Etimer) Radio ≡ true) × (nat_lt 2 (length (enlisted s Etimer).marks) ≡ true)
+unfolding enlisted with_state
+enlisted_room s there marks = (rw (length-set s.states 0 Running) there, marks)
+
+enlisted_listed : (s : State) → is_listed (enlisted s Etimer) Etimer ≡ true
+unfolding enlisted with_state
+enlisted_listed s = refl
+
+enlisted_radio : (s : State) → is_listed (enlisted s Radio) Radio ≡ true
+unfolding enlisted with_state
+enlisted_radio s = refl
+
+enlisted_moment : (s : State) → ((enlisted s Etimer).moment ≡ s.moment) × ((enlisted s Etimer).timers ≡ s.timers)
+unfolding enlisted with_state
+enlisted_moment s = (refl, refl)
+
+alive_is : (x : ProcessState) (e l : Bool) → AreInStep x e l → e ≡ false → l ≡ true → is_alive x ≡ true
+alive_is Off e l h q r = let f : false ≡ true = sym q ∙ h ∙ r in absurd (cc)
+alive_is Running e l h q r = refl
+alive_is Called e l h q r = refl
+
+-- what a boot begins with
+pub record IsUnstarted (moment : ℕ) (s : State) : Type 0 where
+  pub now_is : s.moment ≡ moment
+  pub step : IsInStep s
+  pub idle : IsIdle s
+  pub members : s.members ≡ []
+  pub busy : is_busy s Etimer ≡ false
+  pub there : has_process s Etimer ≡ true
+  pub mark : nat_lt 0 (length s.marks) ≡ true
+  pub radio_state : has_process s Radio ≡ true
+  pub radio_mark : nat_lt 2 (length s.marks) ≡ true
+  pub none : NoneIsDue moment s.timers
+
+module _ (calls : Calls) (are : AreWatched calls) where
+  start_good : (r : Bool) (moment : ℕ) (s : State) (p : Proc) → Good r moment s → IfGoes (Good r moment) (start_of calls s p)
+  start_good r moment s p g = good_leads _ r moment s _ g (start_led (Watches Etimer) Whatever (chain Etimer) IsOwn (steps Etimer) calls are.led s p) (tables.start_kept calls are.kept s p g.stands.step)
+
+  starts_good : (r : Bool) (moment : ℕ) (ps : List Proc) (s : State) → Good r moment s → IfGoes (Good r moment) (starts_of calls ps s)
+  starts_good r moment [] s g = g
+  starts_good r moment (p ∷ ps) s g = goes_bind _ _ (Good r moment) (Good r moment) (start_of calls s p) _ (start_good r moment s p g) (λ a t h. starts_good r moment ps t h)
+
+  -- etimer first
+
+  first_goes : (s : State) → is_busy s Etimer ≡ false → has_process s Etimer ≡ true → is_listed s Etimer ≡ false → start_of calls s Etimer ≡ calls.call (enlisted s Etimer) Etimer (told Init 0)
+  unfolding enlisted enlist_of write_of
+  first_goes s b t n = first_start calls are.reach s b t n
+
+  first_by : (moment : ℕ) (s u : State) (o : Went) → IsUnstarted moment s → (u.moment ≡ s.moment) × (u.timers ≡ s.timers) → CanBePolled Etimer u → is_listed u Etimer ≡ true → has_process u Radio ≡ true → nat_lt 2 (length u.marks) ≡ true
+      → Lead (Watches Etimer) Whatever (Unit {0}) u o → tables.Leaves (Unit {0}) (tables.Keeps s) o → IfGoes (Good false moment) o
+  first_by moment s u (Ends t) h same can listed state mark w k = tt
+  first_by moment s u (Goes a t) h same can listed state mark w k =
+      let now : u.moment ≡ moment = same.0 ∙ h.now_is in
+      let later : t.moment ≡ moment = w.leads.moment ∙ now in
+      let before : NoneIsDue u.moment u.timers = rw (now, same.1) h.none in
+      record {
+        now_is = later;
+        stands = record {
+          can = w.leads.etimer.can can;
+          step = k.out.step;
+          idle = record { called = λ j. k.out.busy.called j ∙ h.idle.called j; exiting = λ j. k.out.busy.exiting j ∙ h.idle.exiting j };
+          listed = w.leads.etimer.listed listed;
+          radio_state = w.leads.radio.state state;
+          radio_mark = w.leads.radio.mark mark;
+          radio = λ e. absurd (cc);
+        };
+        forgets = subst (λ n. ForgetsNone n t) later (w.leads.due refl can before);
+      }
+
+  first_good : (moment : ℕ) (s : State) → IsUnstarted moment s → IfGoes (Good false moment) (start_of calls s Etimer)
+  first_good moment s h =
+      let q = first_goes s h.busy h.there (rw (h.members) refl) in
+      let room = enlisted_room s h.radio_state h.radio_mark in
+      let call = are.led.call (enlisted s Etimer) Etimer (told Init 0) (fits_no_exit (Watches Etimer) Whatever (chain Etimer) IsOwn Etimer (told Init 0).number refl) in
+      first_by moment s (enlisted s Etimer) _ h (enlisted_moment s) (enlisted_can s h.there h.mark) (enlisted_listed s) room.0 room.1
+      (subst (λ o. Lead (Watches Etimer) Whatever (Unit {0}) (enlisted s Etimer) o) (sym q) call) (tables.start_kept calls are.kept s Etimer h.step)
+
+  -- the radio process
+
+  still_listed : (u : State) (o : Went) → is_listed u Radio ≡ true → Lead (Watches Etimer) Whatever (Unit {0}) u o → IfGoes (λ t. is_listed t Radio ≡ true) o
+  still_listed u (Ends t) h w = tt
+  still_listed u (Goes a t) h w = w.leads.radio.listed h
+
+  radio_listed : (s : State) → is_busy s Radio ≡ false → has_process s Radio ≡ true → IfGoes (λ t. is_listed t Radio ≡ true) (start_of calls s Radio)
+  unfolding start_of enlist_of write_of enlisted
+  radio_listed s busy there = rw (busy, there) (by (is_listed s Radio) refl)
+    where
+      by : (b : Bool) → is_listed s Radio ≡ b → IfGoes (λ t. is_listed t Radio ≡ true) (if not b then calls.call (enlisted s Radio) Radio (told Init 0) else Goes tt s)
+      by true e = e
+      by false e = still_listed (enlisted s Radio) _ (enlisted_radio s) (are.led.call (enlisted s Radio) Radio (told Init 0) (fits_no_exit (Watches Etimer) Whatever (chain Etimer) IsOwn Radio (told Init 0).number refl))
+
+  now_radio : (moment : ℕ) (o : Went) → IfGoes (Good false moment) o → IfGoes (λ t. is_listed t Radio ≡ true) o → IfGoes (Good true moment) o
+  now_radio moment (Ends t) g l = tt
+  now_radio moment (Goes a t) g l =
+      let h = g.stands in
+      record {
+        now_is = g.now_is;
+        stands = record {
+          can = h.can;
+          step = h.step;
+          idle = h.idle;
+          listed = h.listed;
+          radio_state = h.radio_state;
+          radio_mark = h.radio_mark;
+          radio = λ e. record { can = record { alive = alive_is (state_at t 2) (exiting_at t 2) (listed_in t.members 2) (h.step.each 2) (h.idle.exiting 2) l; has_mark = h.radio_mark }; listed = l };
+        };
+        forgets = g.forgets;
+      }
+
+  radio_good : (moment : ℕ) (s : State) → Good false moment s → IfGoes (Good true moment) (start_of calls s Radio)
+  radio_good moment s g =
+      let h = g.stands in
+      now_radio moment _ (start_good false moment s Radio g) (radio_listed s (rw (h.idle.called 2, h.idle.exiting 2) refl) h.radio_state)
+
+  pub boot_good : (moment : ℕ) (s : State) → IsUnstarted moment s → IfGoes (Good true moment) (boot_of calls s)
+  unfolding boot_of
+  boot_good moment s h =
+      let own = map Own s.program.autostart in
+      goes_bind _ _ (Good true moment) (Good true moment) (starts_of calls (Etimer ∷ Ctimer ∷ Radio ∷ own) s) _
+      (goes_bind _ _ (Good false moment) (Good true moment) (start_of calls s Etimer) _ (first_good moment s h) (λ a t g.
+      goes_bind _ _ (Good false moment) (Good true moment) (start_of calls t Ctimer) _ (start_good false moment t Ctimer g) (λ b u i.
+      goes_bind _ _ (Good true moment) (Good true moment) (start_of calls u Radio) _ (radio_good moment u i) (λ c v j. starts_good true moment own v j))))
+      (λ a t g. g)

@@ -1,0 +1,260 @@
+-- Boots and kernel runs forget no timer.
+use Rattle.std.proofs.Common.{ℕ, ◌≡◌, ◌&&◌, ◌⊎◌, inl, inr, Bool, true, false, nat_lt, length, if◌then◌else◌, List, [], ◌∷◌, slice_set, refl, sym, ◌∙◌, subst, arith}
+use Rattle.std.specs.List.{All}
+use Rattle.std.proofs.lemmas.List.Elements.{All-head}
+use Rattle.mote_program.specs.declared.event.Proc.{Proc}
+use Rattle.mote_program.specs.declared.event.Proc.TheVariants.{Own, Etimer, Ctimer, Radio}
+use Rattle.mote_program.specs.declared.event.Target.{Target}
+use Rattle.mote_program.specs.declared.event.Target.TheVariants.{One, All as ToEach}
+use Rattle.mote_program.specs.declared.event.SystemEvent.TheVariants.{Poll, Exit}
+use Rattle.mote_program.specs.Events.{system_number}
+use Rattle.event_queue.specs.declared.queue.Posted.{Posted}
+use Rattle.event_queue.specs.Queue.{without_front}
+use Rattle.process_kernel.specs.declared.process.ProcessState.{ProcessState}
+use Rattle.process_kernel.specs.declared.process.ProcessState.TheVariants.{Off, Running, Called}
+use Rattle.process_kernel.specs.declared.process.Member.{Member}
+use Rattle.process_kernel.specs.declared.line.What.TheVariants as what
+use Rattle.process_kernel.specs.Members.{place_of}
+use Rattle.process_kernel.specs.State.{State, Outcome, Went, Ends, Goes}
+use Rattle.process_kernel.specs.Processes.{is_alive, is_running, is_running_state, is_called_state, process_state, is_marked, is_listed, is_on_list, has_process, with_mark}
+use Rattle.process_kernel.specs.Writes.{write_of}
+use Rattle.process_kernel.specs.Calls.{Calls, told}
+use Rattle.process_kernel.specs.Polls.{walk_polls, polls_of, polls_due_of, poll_turn_of}
+use Rattle.process_kernel.specs.Delivery.{give_of, turn_of, walk_event, deliver_to, deliver_of}
+use Rattle.process_kernel.specs.Run.{deliver_front, kernel_of}
+use Rattle.kernel_laws.specs.Own.{IsOwn, FitsTarget}
+use Rattle.kernel_laws.specs.Going.{IsSound}
+use Rattle.kernel_laws.specs.InStep.{IsInStep, IsIdle}
+use Rattle.kernel_laws.specs.Due.{NoneIsDue, ForgetsNone}
+use Rattle.kernel_laws.specs.Poll.{CanBePolled, before}
+use Rattle.kernel_laws.proofs.Steps.{Reach}
+use Rattle.kernel_laws.proofs.CallSteps.{AreRuns}
+use Rattle.kernel_laws.proofs.Delivers.{polls_due_run}
+use Rattle.kernel_laws.proofs.InStep as tables
+use Rattle.kernel_laws.proofs.Resting as resting
+use Rattle.kernel_laws.proofs.Packets.{IfGoes, goes_bind}
+use Rattle.kernel_laws.proofs.Timers.{goes_cases}
+use Rattle.kernel_laws.proofs.EachStep.{Lead, AreLed, fits_no_exit, lead_from, lead_if, lead_goes}
+use Rattle.kernel_laws.proofs.Alive.{still_has}
+use Rattle.kernel_laws.proofs.PollTurns.{splits, walk_splits, other_led, before_led}
+use Rattle.kernel_laws.proofs.Watch.{Watches, Whatever, chain, watches_still, watches_line, forgets_on}
+use Rattle.kernel_laws.proofs.Passes.{Serves}
+
+-- the radio process can be polled, too
+pub record RadioStands (s : State) : Type 0 where
+  pub can : CanBePolled Radio s
+  pub listed : is_listed s Radio ≡ true
+
+-- Etimer can be polled, as no process is in a call; and so can the radio process, where it has started.
+pub record Stands (started : Bool) (s : State) : Type 0 where
+  pub can : CanBePolled Etimer s
+  pub step : IsInStep s
+  pub idle : IsIdle s
+  pub listed : is_listed s Etimer ≡ true
+  pub radio_state : has_process s Radio ≡ true
+  pub radio_mark : nat_lt 2 (length s.marks) ≡ true
+  pub radio : started ≡ true → RadioStands s
+
+stands_on : (r : Bool) (s t : State) → Stands r s → Watches Etimer s t → tables.Keeps s t → Stands r t
+stands_on r s t h w k = record {
+  can = w.etimer.can h.can;
+  step = k.step;
+  idle = record { called = λ j. k.busy.called j ∙ h.idle.called j; exiting = λ j. k.busy.exiting j ∙ h.idle.exiting j };
+  listed = w.etimer.listed h.listed;
+  radio_state = w.radio.state h.radio_state;
+  radio_mark = w.radio.mark h.radio_mark;
+  radio = λ e. let q = h.radio e in record { can = w.radio.can q.can; listed = w.radio.listed q.listed };
+}
+
+pub runs_now : (x : ProcessState) → is_alive x ≡ true → is_called_state x ≡ false → is_running_state x ≡ true
+runs_now Off a c = absurd (cc)
+runs_now Running a c = refl
+runs_now Called a c = absurd (cc)
+
+pub etimer_runs : (r : Bool) (s : State) → Stands r s → is_running s Etimer ≡ true
+etimer_runs r s h = runs_now (process_state s Etimer) h.can.alive (h.idle.called 0)
+
+-- at this moment no timer is forgotten
+pub record Good (r : Bool) (moment : ℕ) (t : State) : Type 0 where
+  pub now_is : t.moment ≡ moment
+  pub stands : Stands r t
+  pub forgets : ForgetsNone moment t
+
+good_on : (r : Bool) (moment : ℕ) (s t : State) → Good r moment s → Watches Etimer s t → tables.Keeps s t → Good r moment t
+good_on r moment s t g w k =
+    let now : t.moment ≡ moment = w.moment ∙ g.now_is in
+    let before : ForgetsNone s.moment s = subst (λ n. ForgetsNone n s) (sym g.now_is) g.forgets in
+    record { now_is = now; stands = stands_on r s t g.stands w k; forgets = subst (λ n. ForgetsNone n t) now (forgets_on s t w g.stands.can before) }
+
+pub good_leads : (A : Type 0) (r : Bool) (moment : ℕ) (s : State) (o : Outcome A) → Good r moment s → Lead (Watches Etimer) Whatever A s o → tables.Leaves A (tables.Keeps s) o → IfGoes (Good r moment) o
+good_leads A r moment s (Ends t) g w k = tt
+good_leads A r moment s (Goes a t) g w k = good_on r moment s t g w.leads k.out
+
+-- the mark of a process is cleared
+
+pub unmarked_stands : (r : Bool) (s : State) (p : Proc) → Stands r s → Stands r (with_mark s p false)
+unfolding with_mark
+unmarked_stands r s p h = record {
+  can = record { alive = h.can.alive; has_mark = still_has 0 (place_of p) false s.marks h.can.has_mark };
+  step = (tables.keeps_still s (record s { marks = slice_set s.marks (place_of p) false }) (record { states = refl; exiting = refl; members = refl }) h.step).step;
+  idle = record { called = h.idle.called; exiting = h.idle.exiting };
+  listed = h.listed;
+  radio_state = h.radio_state;
+  radio_mark = still_has 2 (place_of p) false s.marks h.radio_mark;
+  radio = λ e. let q = h.radio e in record { can = record { alive = q.can.alive; has_mark = still_has 2 (place_of p) false s.marks q.can.has_mark }; listed = q.listed };
+}
+
+pub unmarked_moment : (s : State) (p : Proc) → (with_mark s p false).moment ≡ s.moment
+unfolding with_mark
+unmarked_moment s p = refl
+
+-- the poll flag is cleared
+pub unflagged : (r : Bool) (s : State) → Stands r s → Stands r (record s { flag = false })
+unflagged r s h = record {
+  can = record { alive = h.can.alive; has_mark = h.can.has_mark };
+  step = (tables.keeps_still s (record s { flag = false }) (record { states = refl; exiting = refl; members = refl }) h.step).step;
+  idle = record { called = h.idle.called; exiting = h.idle.exiting };
+  listed = h.listed;
+  radio_state = h.radio_state;
+  radio_mark = h.radio_mark;
+  radio = λ e. let q = h.radio e in record { can = record { alive = q.can.alive; has_mark = q.can.has_mark }; listed = q.listed };
+}
+
+-- where the turn of etimer comes: it is there, and no timer is due, or it is marked
+pub record Comes (r : Bool) (moment : ℕ) (x : Member) (t : State) : Type 0 where
+  pub now_is : t.moment ≡ moment
+  pub stands : Stands r t
+  pub there : is_on_list t x ≡ true
+  pub due : NoneIsDue moment t.timers ⊎ (is_marked t Etimer ≡ true)
+
+-- what holds of the calls that nest less deep
+pub record AreWatched (calls : Calls) : Type 0 where
+  pub led : AreLed (Watches Etimer) Whatever (chain Etimer) IsOwn calls
+  pub kept : tables.AreKept calls
+  pub reach : AreRuns calls
+  pub serves : (s : State) → is_running s Etimer ≡ true → CanBePolled Etimer s → IfGoes (Serves s) (calls.call s Etimer (told Poll 0))
+
+module _ (calls : Calls) (are : AreWatched calls) where
+  -- a call that polls etimer
+
+  served_good : (r : Bool) (moment : ℕ) (s : State) (o : Went) → s.moment ≡ moment → Stands r s → Lead (Watches Etimer) Whatever (Unit {0}) s o → tables.Leaves (Unit {0}) (tables.Keeps s) o → IfGoes (Serves s) o → IfGoes (Good r moment) o
+  served_good r moment s (Ends t) e h w k f = tt
+  served_good r moment s (Goes a t) e h w k f =
+      let now : t.moment ≡ moment = w.leads.moment ∙ e in record { now_is = now; stands = stands_on r s t h w.leads k.out; forgets = subst (λ n. ForgetsNone n t) now f.forgets }
+
+  -- a poll is no exit
+  pub fits_poll : (p : Proc) → FitsTarget (One p) (told Poll 0).number
+  fits_poll p = fits_no_exit (Watches Etimer) Whatever (chain Etimer) IsOwn p (told Poll 0).number refl
+
+  etimer_good : (r : Bool) (moment : ℕ) (s : State) → s.moment ≡ moment → Stands r s → IfGoes (Good r moment) (calls.call s Etimer (told Poll 0))
+  etimer_good r moment s e h =
+      served_good r moment s _ e h (are.led.call s Etimer (told Poll 0) (fits_poll Etimer)) (are.kept.call s Etimer (told Poll 0) h.step) (are.serves s (etimer_runs r s h) h.can)
+
+  other_good : (r : Bool) (moment : ℕ) (s : State) (p : Proc) → (0 ≡ place_of p → ⊥) → Good r moment s → IfGoes (Good r moment) (calls.call (with_mark s p false) p (told Poll 0))
+  other_good r moment s p n g = good_leads _ r moment s _ g (other_led Etimer calls are.led s p n) (tables.kept_from s _ _ (tables.mark_still s p false) (are.kept.call _ p (told Poll 0)) g.stands.step)
+
+  polled_good : (r : Bool) (moment : ℕ) (s : State) (p : Proc) → Good r moment s → IfGoes (Good r moment) (calls.call (with_mark s p false) p (told Poll 0))
+  polled_good r moment s (Own p) g = other_good r moment s (Own p) (λ e. omega arith) g
+  polled_good r moment s Etimer g = etimer_good r moment (with_mark s Etimer false) (unmarked_moment s Etimer ∙ g.now_is) (unmarked_stands r s Etimer g.stands)
+  polled_good r moment s Ctimer g = other_good r moment s Ctimer (λ e. omega arith) g
+  polled_good r moment s Radio g = other_good r moment s Radio (λ e. omega arith) g
+
+  turn_good : (r : Bool) (moment : ℕ) (s : State) (x : Member) → Good r moment s → IfGoes (Good r moment) (poll_turn_of calls s x)
+  unfolding poll_turn_of
+  turn_good r moment s x g = goes_cases (Good r moment) (is_on_list s x && is_marked s x.process) _ _ (λ e. polled_good r moment s x.process g) (λ e. g)
+
+  polls_good : (r : Bool) (moment : ℕ) (ms : List Member) (s : State) → Good r moment s → IfGoes (Good r moment) (walk_polls calls ms s)
+  polls_good r moment [] s g = g
+  polls_good r moment (x ∷ ms) s g = goes_bind _ _ (Good r moment) (Good r moment) (poll_turn_of calls s x) _ (turn_good r moment s x g) (λ a t h. polls_good r moment ms t h)
+
+  -- before etimer's turn its mark stays
+
+  comes_by : (r : Bool) (moment : ℕ) (x : Member) (s : State) (o : Went) → s.moment ≡ moment → Stands r s → x.process ≡ Etimer → is_on_list s x ≡ true → NoneIsDue moment s.timers ⊎ (is_marked s Etimer ≡ true)
+      → Lead (Watches Etimer) Whatever (Unit {0}) s o → tables.Leaves (Unit {0}) (tables.Keeps s) o → IfGoes (Comes r moment x) o
+  comes_by r moment x s (Ends t) e h p there due w k = tt
+  comes_by r moment x s (Goes a t) e h p there due w k =
+      let now : t.moment ≡ moment = w.leads.moment ∙ e in record { now_is = now; stands = stands_on r s t h w.leads k.out; there = w.leads.etimer.there x p there; due = still due }
+    where
+      on : ForgetsNone t.moment t → NoneIsDue moment t.timers ⊎ (is_marked t Etimer ≡ true)
+      on (inl n) = inl (subst (λ m. NoneIsDue m t.timers) (w.leads.moment ∙ e) n)
+      on (inr f) = inr f.marked
+
+      still : NoneIsDue moment s.timers ⊎ (is_marked s Etimer ≡ true) → NoneIsDue moment t.timers ⊎ (is_marked t Etimer ≡ true)
+      still (inl n) = on (w.leads.due refl h.can (subst (λ m. NoneIsDue m s.timers) (sym e) n))
+      still (inr m) = inr (w.leads.marked m)
+
+  pub comes : (r : Bool) (moment : ℕ) (x : Member) (s : State) → s.moment ≡ moment → Stands r s → x.process ≡ Etimer → is_on_list s x ≡ true → NoneIsDue moment s.timers ⊎ (is_marked s Etimer ≡ true) → IfGoes (Comes r moment x) (walk_polls calls (before Etimer s.members) s)
+  comes r moment x s e h p there due =
+      comes_by r moment x s _ e h p there due (before_led Etimer calls are.led s.members s) (resting.polls_kept calls are.kept (before Etimer s.members) s h.step)
+
+  at_turn : (r : Bool) (moment : ℕ) (x : Member) (u : State) → x.process ≡ Etimer → Comes r moment x u → IfGoes (Good r moment) (poll_turn_of calls u x)
+  unfolding poll_turn_of
+  at_turn r moment x u p c = rw (c.there, p) (by (is_marked u Etimer) refl)
+    where
+      none : is_marked u Etimer ≡ false → NoneIsDue moment u.timers ⊎ (is_marked u Etimer ≡ true) → ForgetsNone moment u
+      none e (inl n) = inl n
+      none e (inr m) = absurd (cc)
+
+      by : (b : Bool) → is_marked u Etimer ≡ b → IfGoes (Good r moment) (if b then calls.call (with_mark u Etimer false) Etimer (told Poll 0) else Goes tt u)
+      by true e = etimer_good r moment (with_mark u Etimer false) (unmarked_moment u Etimer ∙ c.now_is) (unmarked_stands r u Etimer c.stands)
+      by false e = record { now_is = c.now_is; stands = c.stands; forgets = none e c.due }
+
+  walk_good : (r : Bool) (moment : ℕ) (s : State) → s.moment ≡ moment → Stands r s → NoneIsDue moment s.timers ⊎ (is_marked s Etimer ≡ true) → IfGoes (Good r moment) (walk_polls calls s.members s)
+  walk_good r moment s e h due =
+      let k = splits Etimer s.members h.listed in
+      rw (walk_splits Etimer calls s.members k.member k.after s k.split)
+      (goes_bind _ _ (Comes r moment k.member) (Good r moment) (walk_polls calls (before Etimer s.members) s) _ (comes r moment k.member s e h k.is_it k.holds due)
+      (λ a u c. goes_bind _ _ (Good r moment) (Good r moment) (poll_turn_of calls u k.member) _ (at_turn r moment k.member u k.is_it c) (λ b v g. polls_good r moment k.after v g)))
+
+  polls_due_good : (r : Bool) (moment : ℕ) (s : State) → Good r moment s → IfGoes (Good r moment) (polls_due_of calls s)
+  unfolding polls_due_of polls_of
+  polls_due_good r moment s g =
+      goes_cases (Good r moment) s.flag _ _ (λ e. walk_good r moment (record s { flag = false }) g.now_is (unflagged r s g.stands) (weaker g.forgets)) (λ e. g)
+    where
+      weaker : ForgetsNone moment s → NoneIsDue moment s.timers ⊎ (is_marked s Etimer ≡ true)
+      weaker (inl n) = inl n
+      weaker (inr w) = inr w.marked
+
+  -- an event
+
+  give_led : (s : State) (x : Posted) (p : Proc) (there : Bool) → FitsTarget (One p) x.event.number → Lead (Watches Etimer) Whatever (Unit {0}) s (give_of calls s x p there)
+  unfolding give_of write_of
+  give_led s x p there f =
+      lead_if (Watches Etimer) Whatever (chain Etimer) _ s there _ _ (lead_from (Watches Etimer) Whatever (chain Etimer) _ s _ _ (watches_line Etimer s (what.Take x.serial p)) (are.led.call _ p x.event f)) (lead_goes (Watches Etimer) Whatever (chain Etimer) _ s tt _ (watches_line Etimer s (what.Drop x.serial p)))
+
+  give_good : (r : Bool) (moment : ℕ) (s : State) (x : Posted) (p : Proc) (there : Bool) → FitsTarget (One p) x.event.number → Good r moment s → IfGoes (Good r moment) (give_of calls s x p there)
+  give_good r moment s x p there f g = good_leads _ r moment s _ g (give_led s x p there f) (resting.give_kept calls are.kept s x p there g.stands.step)
+
+  walk_event_good : (r : Bool) (moment : ℕ) (x : Posted) (ms : List Member) (s : State) → (x.event.number ≡ system_number Exit → ⊥) → Good r moment s → IfGoes (Good r moment) (walk_event calls x ms s)
+  unfolding turn_of
+  walk_event_good r moment x [] s f g = g
+  walk_event_good r moment x (m ∷ ms) s f g =
+      goes_bind _ _ (Good r moment) (Good r moment) (turn_of calls s x m) _
+      (goes_bind _ _ (Good r moment) (Good r moment) (polls_due_of calls s) _ (polls_due_good r moment s g) (λ a t h. give_good r moment t x m.process (is_on_list t m) (λ q. absurd (f q)) h))
+      (λ a t h. walk_event_good r moment x ms t f h)
+
+  target_good : (r : Bool) (moment : ℕ) (target : Target) (s : State) (x : Posted) → FitsTarget target x.event.number → Good r moment s → IfGoes (Good r moment) (deliver_to target calls s x)
+  target_good r moment (One p) s x f g = give_good r moment s x p (is_listed s p) f g
+  target_good r moment ToEach s x f g = walk_event_good r moment x s.members s f g
+
+  untaken_good : (r : Bool) (moment : ℕ) (s : State) → Good r moment s → Good r moment (record s { queue = without_front s.queue })
+  untaken_good r moment s g = good_on r moment s _ g (watches_still Etimer s _ (record { moment = refl; states = refl; marks = refl; flag = refl; members = refl; timers = refl })) (tables.keeps_still s _ (record { states = refl; exiting = refl; members = refl }) g.stands.step)
+
+  front_good : (r : Bool) (moment : ℕ) (q : List Posted) (s : State) → s.queue.events ≡ q → IsSound s → Good r moment s → IfGoes (Good r moment) (deliver_front calls q s)
+  unfolding deliver_of
+  front_good r moment [] s e h g = g
+  front_good r moment (x ∷ q) s e h g =
+      let fits = subst (λ l. All (λ y. FitsTarget y.target y.event.number) l) e h.fits in
+      target_good r moment x.target _ x (All-head (λ y. FitsTarget y.target y.event.number) x q fits) (untaken_good r moment s g)
+
+  -- a kernel run
+
+  also_sound : (r : Bool) (moment : ℕ) (s : State) (o : Went) → IsSound s → Reach (Unit {0}) s o → IfGoes (Good r moment) o → IfGoes (λ t. Good r moment t × IsSound t) o
+  also_sound r moment s (Ends t) h k g = tt
+  also_sound r moment s (Goes a t) h k g = (g, k.leads.sound h)
+
+  pub kernel_good : (r : Bool) (moment : ℕ) (s : State) → IsSound s → Good r moment s → IfGoes (Good r moment) (kernel_of calls s)
+  unfolding kernel_of
+  kernel_good r moment s h g =
+      goes_bind _ _ (λ t. Good r moment t × IsSound t) (Good r moment) (polls_due_of calls s) _ (also_sound r moment s _ h (polls_due_run calls are.reach s) (polls_due_good r moment s g))
+      (λ a t k. goes_bind _ _ (Good r moment) (Good r moment) (deliver_front calls t.queue.events t) _ (front_good r moment t.queue.events t refl k.1 k.0) (λ b u i. i))

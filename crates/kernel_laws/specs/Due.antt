@@ -1,0 +1,104 @@
+-- Timers that are due, and the poll of etimer that serves them.
+use Rattle.std.specs.Prelude.{ℕ, ◌≡◌, ◌⊎◌, ◌+◌, true, false, List, ◌∷◌, ◌++◌, Some, IsSome}
+use Rattle.mote_program.specs.declared.event.Proc.{Proc}
+use Rattle.mote_program.specs.declared.event.Proc.TheVariants.{Etimer, Radio}
+use Rattle.mote_program.specs.declared.event.Target.{Target}
+use Rattle.mote_program.specs.declared.event.Target.TheVariants.{One}
+use Rattle.mote_program.specs.declared.event.Event.{Event}
+use Rattle.mote_program.specs.declared.event.SystemEvent.TheVariants.{Timer}
+use Rattle.mote_program.specs.Events.{system_number}
+use Rattle.mote_program.specs.Code.{Tree}
+use Rattle.mote_timers.specs.Numbers.{is_member}
+use Rattle.mote_timers.specs.Timer.{is_due}
+use Rattle.mote_timers.specs.TimerLists.{TimerLists, timer_at}
+use Rattle.process_kernel.specs.declared.line.Line.{Line}
+use Rattle.process_kernel.specs.declared.line.Sent.{Sent}
+use Rattle.process_kernel.specs.declared.line.What.{What}
+use Rattle.process_kernel.specs.declared.runs.TheConstants.{UNITS}
+use Rattle.process_kernel.specs.State.{State, Goes}
+use Rattle.process_kernel.specs.Processes.{is_listed}
+use Rattle.process_kernel.specs.Call.{calls_of}
+use Rattle.process_kernel.specs.Mote.{Mote, unbooted}
+use Rattle.process_kernel.specs.Public.{begun, boot_given, run_given}
+use Rattle.kernel_laws.specs.Going.{IsSound}
+use Rattle.kernel_laws.specs.InStep.{IsInStep, IsIdle}
+use Rattle.kernel_laws.specs.Own.{FitsTarget}
+use Rattle.kernel_laws.specs.Poll.{PollWaits, CanBePolled, polls_before}
+use Rattle.kernel_laws.specs.Polled.{TellsPost}
+
+-- the timer is on the timer list, its expiration has come by this moment, and this is its owner
+pub record IsDueFor (moment : ℕ) (l : TimerLists) (timer : ℕ) (owner : Proc) : Type 0 where
+  pub listed : is_member timer l.listed ≡ true
+  pub due : is_due moment (timer_at l.timers timer) ≡ true
+  pub owned : (timer_at l.timers timer).owner ≡ Some owner
+
+abbrev pub NoneIsDue : (moment : ℕ) → TimerLists → Type 0
+NoneIsDue moment l = (timer : ℕ) (owner : Proc) → IsDueFor moment l timer owner → ⊥
+
+-- each timer on the list has an owner
+abbrev pub HaveOwners : TimerLists → Type 0
+HaveOwners l = (timer : ℕ) → is_member timer l.listed ≡ true → IsSome (timer_at l.timers timer).owner
+
+-- no timer is forgotten: none is due, or a poll of etimer waits
+abbrev pub ForgetsNone : (moment : ℕ) → State → Type 0
+ForgetsNone moment s = NoneIsDue moment s.timers ⊎ PollWaits Etimer s
+
+-- what holds of a kernel between its runs: etimer and the radio process can be polled and never leave, and no process is in a call
+pub record IsAtRest (s : State) : Type 0 where
+  pub sound : IsSound s
+  pub step : IsInStep s
+  pub idle : IsIdle s
+  pub can : CanBePolled Etimer s
+  pub radio : CanBePolled Radio s
+  pub radio_stays : is_listed s Radio ≡ true
+
+-- one of these lines tells of this post, at this moment
+pub record HasTelling (moment : ℕ) (lines : List Line) (target : Target) (number word : ℕ) : Type 0 where
+  pub telling : What
+  pub tells : TellsPost target number word telling
+  pub before : List Line
+  pub after : List Line
+  pub split : lines ≡ before ++ record { at = moment; what = telling } ∷ after
+
+-- Whatever a call does in its turn: where no timer was forgotten before, none is forgotten after it.
+abbrev pub CallsForgetNone : Type 0
+CallsForgetNone =
+    (depth : ℕ) (s t : State) (p : Proc) (e : Event) → FitsTarget (One p) e.number → CanBePolled Etimer s → ForgetsNone s.moment s → (calls_of depth).call s p e ≡ Goes tt t
+    → ForgetsNone t.moment t
+
+-- a mote that was booted is at rest, with no timer forgotten
+abbrev pub BootForgetsNone : Type 0
+BootForgetsNone =
+    (program : Tree) (mote queue moment : ℕ) (lines : List Line) (sends : List Sent) → let m = (boot_given moment (unbooted program mote queue) lines sends).mote in
+    m.halted ≡ false → IsAtRest m.state × ForgetsNone moment m.state
+
+-- and so is one after a kernel run, where it was before
+abbrev pub RunForgetsNone : Type 0
+RunForgetsNone =
+    (moment : ℕ) (m : Mote) (lines : List Line) (sends : List Sent) → IsAtRest m.state → ForgetsNone moment m.state → let after = (run_given moment m lines sends).mote in
+    after.halted ≡ false → IsAtRest after.state × ForgetsNone moment after.state
+
+-- boots and kernel runs keep that each timer on the list has an owner, also where the mote halts
+abbrev pub BootKeepsOwners : Type 0
+BootKeepsOwners = (moment : ℕ) (m : Mote) (lines : List Line) (sends : List Sent) → HaveOwners m.state.timers → HaveOwners (boot_given moment m lines sends).mote.state.timers
+
+abbrev pub RunKeepsOwners : Type 0
+RunKeepsOwners = (moment : ℕ) (m : Mote) (lines : List Line) (sends : List Sent) → HaveOwners m.state.timers → HaveOwners (run_given moment m lines sends).mote.state.timers
+
+-- Lines that a run added behind those before: one of them tells of each timer that is due in this state.
+pub record TellsDue (moment : ℕ) (u : State) (lines after : List Line) : Type 0 where
+  pub added : List Line
+  pub wrote : after ≡ lines ++ added
+  pub each : (timer : ℕ) (owner : Proc) → IsDueFor moment u.timers timer owner → HasTelling moment added (One owner) (system_number Timer) timer
+
+-- the polls of a run that begins like this come to etimer, and each timer that is due then has its line, unless the mote halts
+pub record PollsEtimer (moment : ℕ) (s : State) (lines after : List Line) : Type 0 where
+  pub at_turn : State
+  pub comes : polls_before Etimer (calls_of (UNITS + 1)) s ≡ Goes tt at_turn
+  pub tells : TellsDue moment at_turn lines after
+
+-- a kernel run in which a poll of etimer waits polls it, and each timer that is due then is told of
+abbrev pub RunTellsDue : Type 0
+RunTellsDue =
+    (moment : ℕ) (m : Mote) (lines : List Line) (sends : List Sent) → m.halted ≡ false → IsAtRest m.state → PollWaits Etimer m.state → let g = run_given moment m lines sends in
+    g.mote.halted ≡ false → PollsEtimer moment (begun m moment lines sends) lines g.lines

@@ -1,0 +1,28 @@
+-- A process that is asked to be polled, and its turn in the polls.
+use Rattle.std.specs.Prelude.{◌≡◌, nat_lt, true, false, if◌then◌else◌, List, [], ◌∷◌, length}
+use Rattle.mote_program.specs.declared.event.Proc.{Proc}
+use Rattle.process_kernel.specs.declared.process.Member.{Member}
+use Rattle.process_kernel.specs.Members.{place_of, is_same}
+use Rattle.process_kernel.specs.State.{State, Went}
+use Rattle.process_kernel.specs.Processes.{is_alive, is_marked, process_state}
+use Rattle.process_kernel.specs.Calls.{Calls}
+use Rattle.process_kernel.specs.Polls.{walk_polls}
+
+-- a poll of the process waits: its needs-poll mark is set, and so is the poll flag
+pub record PollWaits (p : Proc) (s : State) : Type 0 where
+  pub marked : is_marked s p ≡ true
+  pub flag : s.flag ≡ true
+
+-- the process is running or called, and has its needs-poll mark
+pub record CanBePolled (p : Proc) (s : State) : Type 0 where
+  pub alive : is_alive (process_state s p) ≡ true
+  pub has_mark : nat_lt (place_of p) (length s.marks) ≡ true
+
+-- the members of the process list that stand before the process
+abbrev pub before : Proc → List Member → List Member
+before p [] = []
+before p (m ∷ ms) = if is_same m.process p then [] else m ∷ before p ms
+
+-- the polls of a kernel run, up to the turn of the process
+abbrev pub polls_before : Proc → Calls → State → Went
+polls_before p calls s = walk_polls calls (before p s.members) (record s { flag = false })

@@ -1,0 +1,93 @@
+-- The receive ring of a mote beside its lines: which packets wait, and which line each of them gets.
+use Rattle.std.specs.Prelude.{ℕ, ◌≡◌, ◌⊎◌, ◌<◌, ◌≤◌, false, List, [], ◌∷◌, ◌++◌, length, Option}
+use Rattle.std.specs.List.{All}
+use Rattle.mote_program.specs.declared.event.Proc.{Proc}
+use Rattle.mote_program.specs.declared.event.Proc.TheVariants.{Radio}
+use Rattle.mote_program.specs.declared.event.Event.{Event}
+use Rattle.process_kernel.specs.declared.line.Arrival.{Arrival}
+use Rattle.process_kernel.specs.declared.line.Line.{Line}
+use Rattle.process_kernel.specs.declared.line.Sent.{Sent}
+use Rattle.process_kernel.specs.declared.line.What.{What}
+use Rattle.process_kernel.specs.declared.line.What.TheVariants as what
+use Rattle.process_kernel.specs.State.{State, Outcome, Ends, Goes}
+use Rattle.process_kernel.specs.Call.{calls_of}
+use Rattle.process_kernel.specs.Mote.{Mote}
+use Rattle.process_kernel.specs.Public.{Given, boot_given, run_given}
+use Rattle.kernel_laws.specs.Due.{IsAtRest}
+use Rattle.kernel_laws.specs.Going.{IsNote}
+use Rattle.kernel_laws.specs.Poll.{PollWaits}
+use Rattle.kernel_laws.specs.Polled.{TellsPacket}
+
+-- a line that tells of no packet that was received, was lost at the ring, or found nobody to hear it
+abbrev pub IsApart : What → Type 0
+IsApart (what.Recv f n v) = ⊥
+IsApart (what.Lost f n) = ⊥
+IsApart (what.Deaf f n) = ⊥
+IsApart w = Unit {0}
+
+-- Lines in their order, beside a ring that first holds these packets, the oldest in front, and at last those that are left. A
+-- packet that is received goes to the back, where the ring of 8 has room; one is lost only where it has none. A packet leaves from
+-- the front, and its line is there: it was posted to the receiver, the receiver's queue was full, or nobody hears it. Each line that
+-- tells of a received, a lost or an unheard packet is one of these.
+pub data RingRuns (receiver : Option ℕ) : List Arrival → List Line → List Arrival → Type 0 where
+  NoneMore : {ring : List Arrival} → RingRuns receiver ring [] ring
+  Receives : {ring left : List Arrival} {lines : List Line} {moment : ℕ} (a : Arrival)
+      → length ring < 8 → RingRuns receiver (ring ++ a ∷ []) lines left
+      → RingRuns receiver ring (record { at = moment; what = what.Recv a.sender a.number a.value } ∷ lines) left
+  Loses : {ring left : List Arrival} {lines : List Line} {moment sender number : ℕ}
+      → 8 ≤ length ring → RingRuns receiver ring lines left
+      → RingRuns receiver ring (record { at = moment; what = what.Lost sender number } ∷ lines) left
+  Hands : {a : Arrival} {later left : List Arrival} {lines : List Line} {moment : ℕ} {w : What}
+      → TellsPacket receiver a w → RingRuns receiver later lines left
+      → RingRuns receiver (a ∷ later) (record { at = moment; what = w } ∷ lines) left
+  Passes : {ring left : List Arrival} {lines : List Line} {moment : ℕ} {w : What}
+      → IsApart w → RingRuns receiver ring lines left → RingRuns receiver ring (record { at = moment; what = w } ∷ lines) left
+
+-- from one state to a later one lines were added, beside which the ring goes from what it held to what it holds; none is of a packet that
+-- arrives
+pub record RingGoes (s t : State) : Type 0 where
+  pub added : List Line
+  pub wrote : t.lines ≡ s.lines ++ added
+  pub runs : RingRuns s.program.receiver s.ring added t.ring
+  pub hears_none : All (λ l. IsNote l.what → ⊥) added
+  pub program : t.program ≡ s.program
+
+-- where the mote halts, some packets may be left that no line tells of
+pub record RingHalts (s t : State) : Type 0 where
+  pub added : List Line
+  pub wrote : t.lines ≡ s.lines ++ added
+  pub left : List Arrival
+  pub runs : RingRuns s.program.receiver s.ring added left
+  pub hears_none : All (λ l. IsNote l.what → ⊥) added
+  pub program : t.program ≡ s.program
+
+abbrev pub RingLeads : {A : Type 0} → State → Outcome A → Type 0
+RingLeads s (Ends t) = RingHalts s t
+RingLeads s (Goes a t) = RingGoes s t
+
+-- whatever a call does in its turn, each packet that leaves the ring has its line, in order
+abbrev pub CallsTellPackets : Type 0
+CallsTellPackets = (depth : ℕ) (s : State) (p : Proc) (e : Event) → RingLeads s ((calls_of depth).call s p e)
+
+-- beside the lines that a boot or a run adds, the ring goes from what it held to what it holds, unless the mote has halted; none is of a
+-- packet that arrives
+pub record GivesPackets (m : Mote) (lines : List Line) (g : Given) : Type 0 where
+  pub added : List Line
+  pub wrote : g.lines ≡ lines ++ added
+  pub left : List Arrival
+  pub runs : RingRuns m.state.program.receiver m.state.ring added left
+  pub hears_none : All (λ l. IsNote l.what → ⊥) added
+  pub holds : g.mote.halted ≡ false → g.mote.state.ring ≡ left
+  pub program : g.mote.state.program ≡ m.state.program
+
+abbrev pub BootTellsPackets : Type 0
+BootTellsPackets = (moment : ℕ) (m : Mote) (lines : List Line) (sends : List Sent) → GivesPackets m lines (boot_given moment m lines sends)
+
+abbrev pub RunTellsPackets : Type 0
+RunTellsPackets = (moment : ℕ) (m : Mote) (lines : List Line) (sends : List Sent) → GivesPackets m lines (run_given moment m lines sends)
+
+-- A kernel run leaves no packet in the ring, where none was there before, or a poll of the radio process waited.
+abbrev pub RunEmptiesRing : Type 0
+RunEmptiesRing =
+    (moment : ℕ) (m : Mote) (lines : List Line) (sends : List Sent) → IsAtRest m.state → (m.state.ring ≡ []) ⊎ PollWaits Radio m.state → let g = run_given moment m lines sends in
+    g.mote.halted ≡ false → g.mote.state.ring ≡ []

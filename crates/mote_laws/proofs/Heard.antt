@@ -1,0 +1,155 @@
+-- Each packet that arrives at a turn has its line there.
+use Rattle.std.proofs.Common.{ℕ, zero, suc, ◌≡◌, ◌&&◌, Bool, true, false, if◌then◌else◌, List, [], ◌∷◌, ◌++◌, refl, sym, ap, ◌∙◌, subst, append_assoc, append-nil}
+use Rattle.std.specs.List.{All}
+use Rattle.std.proofs.lemmas.List.Elements.{All-head, All-tail}
+use Rattle.mote_program.specs.declared.event.Proc.TheVariants.{Radio}
+use Rattle.process_kernel.specs.declared.kernel.Ran.{Ran}
+use Rattle.process_kernel.specs.declared.kernel.Ran.TheVariants as ran
+use Rattle.process_kernel.specs.declared.line.Arrival.{Arrival}
+use Rattle.process_kernel.specs.declared.line.Line.{Line}
+use Rattle.process_kernel.specs.declared.line.What.{What}
+use Rattle.process_kernel.specs.declared.line.What.TheVariants as what
+use Rattle.process_kernel.specs.Mote.{has_room, with_packet, with_poll}
+use Rattle.process_kernel.specs.Public.{boot_given, run_given}
+use Rattle.kernel_laws.specs.Going.{IsNote}
+use Rattle.kernel_laws.proofs.Ring.{boot_tells_packets, run_tells_packets}
+use Rattle.mote_node.specs.Underway.{Underway, with_mote, with_lines, after}
+use Rattle.mote_node.specs.Arrivals.{received_line, lost_line, hear, hear_each, took_some, hear_all, is_collision, with_collisions}
+use Rattle.mote_node.specs.Turn.{most_runs, boot_due, poll_due, follow, runs_of, work_of, mote_turn, net_turn, turn_of}
+use Rattle.mote_laws.specs.Ring.{note_of, notes_in, AreHeard, NoneCame, IsReceived, IsLost, TurnsHear}
+
+notes_joined : (xs ys : List Line) → notes_in (xs ++ ys) ≡ notes_in xs ++ notes_in ys
+notes_joined [] ys = refl
+notes_joined (l ∷ xs) ys = ap (λ n. note_of l.what ++ n) (notes_joined xs ys) ∙ sym (append_assoc (note_of l.what) (notes_in xs) (notes_in ys))
+
+no_note : (w : What) → (IsNote w → ⊥) → note_of w ≡ []
+no_note (what.Recv f n v) h = absurd (h tt)
+no_note (what.Lost f n) h = absurd (h tt)
+no_note (what.Collide f n) h = absurd (h tt)
+no_note (what.Deaf f n) h = refl
+no_note (what.Start p) h = refl
+no_note (what.Leave p) h = refl
+no_note (what.Post n t e w) h = refl
+no_note (what.Full t e w) h = refl
+no_note (what.Take n p) h = refl
+no_note (what.Drop n p) h = refl
+no_note (what.Print p v) h = refl
+no_note (what.Busy p) h = refl
+no_note what.Halt h = refl
+no_note (what.Send n v) h = refl
+
+no_notes : (lines : List Line) → All (λ l. IsNote l.what → ⊥) lines → notes_in lines ≡ []
+no_notes [] h = refl
+no_notes (l ∷ lines) h = rw (no_note l.what (All-head (λ l. IsNote l.what → ⊥) l lines h)) (no_notes lines (All-tail (λ l. IsNote l.what → ⊥) l lines h))
+
+-- from one point of a turn to a later one these packets were heard
+record Hears (packets : List Arrival) (u v : Underway) : Type 0 where
+  added : List Line
+  wrote : v.lines ≡ u.lines ++ added
+  heard : AreHeard packets (notes_in added)
+
+-- none was
+record Quiet (u v : Underway) : Type 0 where
+  added : List Line
+  wrote : v.lines ≡ u.lines ++ added
+  none : notes_in added ≡ []
+
+lines_joined : (a b c x y : List Line) → b ≡ a ++ x → c ≡ b ++ y → c ≡ a ++ (x ++ y)
+lines_joined a b c x y e f = f ∙ ap (λ k. k ++ y) e ∙ append_assoc a x y
+
+quiet_same : (u : Underway) → Quiet u u
+quiet_same u = record { added = []; wrote = sym (append-nil u.lines); none = refl }
+
+quiet_joined : (u v w : Underway) → Quiet u v → Quiet v w → Quiet u w
+quiet_joined u v w h i = record {
+  added = h.added ++ i.added;
+  wrote = lines_joined u.lines v.lines w.lines h.added i.added h.wrote i.wrote;
+  none = notes_joined h.added i.added ∙ rw (h.none) (i.none);
+}
+
+quiet_if : (u : Underway) (b : Bool) (v w : Underway) → Quiet u v → Quiet u w → Quiet u (if b then v else w)
+quiet_if u true v w h i = h
+quiet_if u false v w h i = i
+
+hears_between : (packets : List Arrival) (t u v w : Underway) → Quiet t u → Hears packets u v → Quiet v w → Hears packets t w
+hears_between packets t u v w h k i = record {
+  added = h.added ++ (k.added ++ i.added);
+  wrote = lines_joined t.lines u.lines w.lines h.added (k.added ++ i.added) h.wrote (lines_joined u.lines v.lines w.lines k.added i.added k.wrote i.wrote);
+  heard = subst (AreHeard packets) (sym (notes_joined h.added (k.added ++ i.added) ∙ rw (h.none) (notes_joined k.added i.added ∙ rw (i.none) (append-nil (notes_in k.added))))) k.heard;
+}
+
+-- packets
+
+hear_hears : (moment : ℕ) (a : Arrival) (later : List Arrival) (u v : Underway) → Hears later (hear moment a u) v → Hears (a ∷ later) u v
+unfolding hear with_packet
+hear_hears moment a later u v h = by (has_room u.mote) h
+  where
+    by : (b : Bool) → Hears later (if b then with_lines (with_mote u (with_packet u.mote a)) (received_line moment a ∷ []) else with_lines u (lost_line moment a ∷ [])) v → Hears (a ∷ later) u v
+    by true k = record { added = received_line moment a ∷ k.added; wrote = k.wrote ∙ append_assoc u.lines (received_line moment a ∷ []) k.added; heard = IsReceived k.heard }
+    by false k = record { added = lost_line moment a ∷ k.added; wrote = k.wrote ∙ append_assoc u.lines (lost_line moment a ∷ []) k.added; heard = IsLost k.heard }
+
+hear_each_hears : (moment : ℕ) (packets : List Arrival) (u : Underway) → Hears packets u (hear_each moment packets u)
+hear_each_hears moment [] u = record { added = []; wrote = sym (append-nil u.lines); heard = NoneCame }
+hear_each_hears moment (a ∷ later) u = hear_hears moment a later u _ (hear_each_hears moment later (hear moment a u))
+
+hear_all_hears : (moment : ℕ) (packets : List Arrival) (u : Underway) → Hears packets u (hear_all moment packets u)
+unfolding hear_all
+hear_all_hears moment packets u =
+    let v = hear_each moment packets u in
+    let h = hear_each_hears moment packets u in
+    by (took_some u.mote v.mote) v h
+  where
+    by : (b : Bool) (v : Underway) → Hears packets u v → Hears packets u (if b then with_mote v (with_poll v.mote Radio) else v)
+    by true v h = record { added = h.added; wrote = h.wrote; heard = h.heard }
+    by false v h = h
+
+-- boots and runs
+
+run_quiet : (moment : ℕ) (u : Underway) → Quiet u (after (run_given moment u.mote u.lines u.sends))
+run_quiet moment u = let k = run_tells_packets moment u.mote u.lines u.sends in record { added = k.added; wrote = k.wrote; none = no_notes k.added k.hears_none }
+
+boot_quiet : (moment : ℕ) (u : Underway) → Quiet u (boot_due moment u)
+unfolding boot_due
+boot_quiet moment u =
+    let k = boot_tells_packets moment u.mote u.lines u.sends in
+    quiet_if u u.mote.booted u (after (boot_given moment u.mote u.lines u.sends)) (quiet_same u) (record { added = k.added; wrote = k.wrote; none = no_notes k.added k.hears_none })
+
+follow_quiet : (u : Underway) (r : Ran) (others : Underway → Underway) (v : Underway) → Quiet u v → Quiet u (others v) → Quiet u (follow r others v)
+follow_quiet u ran.Halted others v h i = h
+follow_quiet u (ran.Left zero) others v h i = h
+follow_quiet u (ran.Left (suc n)) others v h i = i
+
+runs_quiet : (most moment : ℕ) (u : Underway) → Quiet u (runs_of most moment u)
+unfolding runs_of
+runs_quiet zero moment u = quiet_same u
+runs_quiet (suc most) moment u =
+    let g = run_given moment u.mote u.lines u.sends in
+    let k = run_quiet moment u in
+    follow_quiet u g.ran (runs_of most moment) (after g) k (quiet_joined u (after g) (runs_of most moment (after g)) k (runs_quiet most moment (after g)))
+
+work_hears : (moment : ℕ) (packets : List Arrival) (t u : Underway) → Quiet t u → Hears packets t (work_of moment packets u)
+unfolding work_of
+work_hears moment packets t u q =
+    let heard = hear_all moment packets u in
+    let v = with_mote heard (poll_due moment heard.mote) in
+    let r = runs_quiet most_runs moment v in
+    hears_between packets t u heard (runs_of most_runs moment v) q (hear_all_hears moment packets u) (record { added = r.added; wrote = r.wrote; none = r.none })
+
+mote_turn_hears : (moment : ℕ) (packets : List Arrival) (u : Underway) → (mote_turn moment packets u).mote.halted ≡ false → Hears packets u (mote_turn moment packets u)
+unfolding mote_turn
+mote_turn_hears moment packets u = let b = boot_due moment u in by b b.mote.halted refl (boot_quiet moment u)
+  where
+    by : (v : Underway) (b : Bool) → v.mote.halted ≡ b → Quiet u v → (if b then v else work_of moment packets v).mote.halted ≡ false → Hears packets u (if b then v else work_of moment packets v)
+    by v true e q h = absurd (cc)
+    by v false e q h = work_hears moment packets u v q
+
+pub turns_hear : TurnsHear
+unfolding turn_of net_turn
+turns_hear moment arrivals n apart running =
+    let u : Underway = record { mote = n.mote; lines = []; sends = [] } in
+    by u (n.collides && is_collision n.mote arrivals) apart refl running
+  where
+    by : (u : Underway) (b : Bool) → b ≡ false → u.lines ≡ [] → (if b then mote_turn moment [] (with_collisions moment arrivals u) else mote_turn moment arrivals u).mote.halted ≡ false
+        → AreHeard arrivals (notes_in (if b then mote_turn moment [] (with_collisions moment arrivals u) else mote_turn moment arrivals u).lines)
+    by u true e none h = absurd (cc)
+    by u false e none h = let k = mote_turn_hears moment arrivals u h in subst (λ l. AreHeard arrivals (notes_in l)) (sym (k.wrote ∙ ap (λ l. l ++ k.added) none)) k.heard

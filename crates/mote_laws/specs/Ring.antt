@@ -1,0 +1,91 @@
+-- The packets that a mote receives, and the line that each of them gets, over its turns.
+use Rattle.std.specs.Prelude.{ℕ, ◌≡◌, ◌&&◌, Bool, false, List, [], ◌∷◌, ◌++◌, Option}
+use Rattle.mote_program.specs.Code.{Tree}
+use Rattle.process_kernel.specs.declared.line.Arrival.{Arrival}
+use Rattle.process_kernel.specs.declared.line.Line.{Line}
+use Rattle.process_kernel.specs.declared.line.What.{What}
+use Rattle.process_kernel.specs.declared.line.What.TheVariants as what
+use Rattle.process_kernel.specs.Mote.{Mote}
+use Rattle.kernel_laws.specs.Polled.{TellEach}
+use Rattle.kernel_laws.specs.Ring.{RingRuns}
+use Rattle.mote_node.specs.Node.{Node, new_node}
+use Rattle.mote_node.specs.Public.{with_collide}
+use Rattle.mote_node.specs.Arrivals.{is_collision}
+use Rattle.mote_node.specs.Turn.{turn_of}
+use Rattle.mote_node.specs.Laws.{Given, Turns}
+
+-- a node before its first turn, whether packets that arrive together collide or not
+abbrev pub first_node : Tree → (number queue : ℕ) → (collides : Bool) → Node
+first_node program number queue collides = with_collide collides (new_node program number queue)
+
+-- the lines of packets that arrive
+abbrev pub note_of : What → List What
+note_of (what.Recv sender number value) = what.Recv sender number value ∷ []
+note_of (what.Lost sender number) = what.Lost sender number ∷ []
+note_of (what.Collide sender number) = what.Collide sender number ∷ []
+note_of w = []
+
+abbrev pub notes_in : List Line → List What
+notes_in [] = []
+notes_in (l ∷ lines) = note_of l.what ++ notes_in lines
+
+-- each of these packets was received or is lost, in order
+pub data AreHeard : List Arrival → List What → Type 0 where
+  NoneCame : AreHeard [] []
+  IsReceived : {a : Arrival} {later : List Arrival} {ws : List What} → AreHeard later ws → AreHeard (a ∷ later) (what.Recv a.sender a.number a.value ∷ ws)
+  IsLost : {a : Arrival} {later : List Arrival} {ws : List What} → AreHeard later ws → AreHeard (a ∷ later) (what.Lost a.sender a.number ∷ ws)
+
+-- a turn hears each packet that arrives, and no other, unless they collide or the mote halts in it
+abbrev pub TurnsHear : Type 0
+TurnsHear =
+    (moment : ℕ) (arrivals : List Arrival) (n : Node) → let t = turn_of moment arrivals n in (n.collides && is_collision n.mote arrivals) ≡ false → t.node.mote.halted ≡ false
+    → AreHeard arrivals (notes_in t.lines)
+
+-- Beside these lines the ring goes from empty to the packets that are left: those that the mote holds, unless it has halted.
+pub record GoesWithRing (receiver : Option ℕ) (lines : List Line) (m : Mote) : Type 0 where
+  pub left : List Arrival
+  pub runs : RingRuns receiver [] lines left
+  pub holds : m.halted ≡ false → m.state.ring ≡ left
+
+-- whatever turns a mote takes, up to any of them
+abbrev pub RingGoesWithLines : Type 0
+RingGoesWithLines =
+    (program : Tree) (number queue : ℕ) (collides : Bool) (given : List Given) (lines : List Line) (last : Node) → Turns (first_node program number queue collides) given lines last
+    → GoesWithRing program.receiver lines last.mote
+
+-- the packets that were received, in order
+abbrev pub received_of : What → List Arrival
+received_of (what.Recv sender number value) = record { sender = sender; number = number; value = value } ∷ []
+received_of w = []
+
+abbrev pub received_in : List Line → List Arrival
+received_in [] = []
+received_in (l ∷ lines) = received_of l.what ++ received_in lines
+
+-- these are lines of the list, each at a place of its own, in the order of the list
+pub data AreAmong : List What → List Line → Type 0 where
+  AllPassed : AreAmong [] []
+  Another : {ws : List What} {lines : List Line} {l : Line} → AreAmong ws lines → AreAmong ws (l ∷ lines)
+  ThisOne : {ws : List What} {lines : List Line} {l : Line} → AreAmong ws lines → AreAmong (l.what ∷ ws) (l ∷ lines)
+
+-- after a turn of a mote that has not halted its ring is empty
+abbrev pub TurnsEmptyRing : Type 0
+TurnsEmptyRing =
+    (program : Tree) (number queue : ℕ) (collides : Bool) (given : List Given) (lines : List Line) (last : Node) → Turns (first_node program number queue collides) given lines last
+    → last.mote.halted ≡ false → last.mote.state.ring ≡ []
+
+-- The packets that were received are, in order, those that lines tell of, each with a line of its own in the same order. Only where
+-- the mote halts some are left behind those.
+pub record AccountsForPackets (receiver : Option ℕ) (lines : List Line) (m : Mote) : Type 0 where
+  pub handed : List Arrival
+  pub left : List Arrival
+  pub all : received_in lines ≡ handed ++ left
+  pub none_left : m.halted ≡ false → left ≡ []
+  pub tellings : List What
+  pub each : TellEach receiver handed tellings
+  pub among : AreAmong tellings lines
+
+abbrev pub PacketsAreAccountedFor : Type 0
+PacketsAreAccountedFor =
+    (program : Tree) (number queue : ℕ) (collides : Bool) (given : List Given) (lines : List Line) (last : Node) → Turns (first_node program number queue collides) given lines last
+    → AccountsForPackets program.receiver lines last.mote
