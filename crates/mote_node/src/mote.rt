@@ -11,7 +11,7 @@ ghost use Rattle.std.proofs.Props.{props};
 use crate::turn::turn_in_net;
 use mote_program::Program;
 use process_kernel::{Arrival, Kernel, KernelError, Line, Out, Sent};
-use std::alloc::Global;
+use std::alloc::{AllocError, Global};
 use std::error::Error;
 use std::fmt;
 
@@ -37,6 +37,16 @@ impl fmt::Display for MoteError {
 }
 
 impl Error for MoteError {}
+
+impl From<AllocError> for MoteError {
+    ghost use Rattle.mote_node.specs.declared.mote.MoteError.{MoteError};
+
+    ghost from_gives = { λ _ e. e ≡ MoteError.Memory };
+
+    fn from(_: AllocError) -> MoteError {
+        MoteError::Memory
+    }
+}
 
 /// What a turn gives: its lines and packets, and when the mote wakes next.
 #[derive(Debug, Drop)]
@@ -109,6 +119,14 @@ impl Mote {
             }),
             Err(_) => Err(MoteError::Memory),
         }
+    }
+
+    /// The number of the mote.
+    #[tactic(auto, unfolding(crate::specs::Public::node_in))]
+    pub fn number(&self) -> u16
+        ensures { (t : Tree) → IfSome (node_in t self.now) (λ n. result ≡ n.mote.state.mote) }
+    {
+        self.kernel.number()
     }
 
     /// Whether packets that arrive together are lost. They aren't, before this is called.

@@ -1,6 +1,7 @@
 -- Process lists.
-use Rattle.std.proofs.Common.{ℕ, suc, ◌≡◌, ◌+◌, ◌<◌, ◌≤◌, Bool, true, false, not, ◌&&◌, eqb, List, [], ◌∷◌, length, map, filter, refl, ap, ◌∙◌, arith}
-use Rattle.std.specs.List.{All, AllByRecursion, IsDistinct}
+use Rattle.std.specs.Prelude.{slice_set, slice_index_or}
+use Rattle.std.proofs.Common.{ℕ, zero, suc, ◌++◌, take, drop, ◌≡◌, ◌+◌, ◌<◌, ◌≤◌, Bool, true, false, not, ◌&&◌, eqb, List, [], ◌∷◌, length, map, filter, refl, ap, sym, ◌∙◌, arith}
+use Rattle.std.specs.List.{All, AllByRecursion, IsDistinct, refill}
 use Rattle.std.proofs.lemmas.Bool.{or_parts, and_parts, cond_both, not-true, eqb-true, not_from_false}
 use Rattle.std.proofs.lemmas.List.Elements.{All-cons, All-contains, recursion_from_All, All-from_recursion}
 use Rattle.std.proofs.lemmas.Map.Steps.{length-le_from_distinct_below}
@@ -97,6 +98,25 @@ AreMembers-numbered k ms n are = record {
   once = are_once-numbered k ms ∙ are.once;
   within = All-from_recursion _ _ (within-numbered n k ms (recursion_from_All _ ms are.within));
 }
+
+take_all : (ws rest : List Member) → take (length ws) (ws ++ rest) ≡ ws
+take_all [] rest = refl
+take_all (w ∷ ws) rest = ap (λ l. w ∷ l) (take_all ws rest)
+
+-- a list that is written over whole is what was written
+pub refill_same : (xs ws : List Member) → length ws ≡ length xs → refill (length xs) xs ws ≡ ws
+refill_same xs ws same = ap (λ n. take n (ws ++ drop (length ws) xs)) (sym same) ∙ take_all ws (drop (length ws) xs)
+
+-- one more has its new number
+pub number_more : (k p n : ℕ) (ms : List Member) (d : Member) → p < length ms → n ≡ k + p
+    → slice_set (numbered_from k (take p ms) ++ drop p ms) p (record { process = (slice_index_or (numbered_from k (take p ms) ++ drop p ms) p d).process; incarnation = n })
+    ≡ numbered_from k (take (p + 1) ms) ++ drop (p + 1) ms
+number_more k p n [] d inside is = absurd (omega arith)
+number_more k zero n (m ∷ ms) d inside is = ap (λ (i : ℕ). record { process = m.process; incarnation = i } ∷ ms) (let same : n ≡ k = omega arith in same)
+number_more k (suc p) n (m ∷ ms) d inside is =
+    let more : suc p + 1 ≡ suc (p + 1) = omega arith in
+    ap (λ xs. record { process = m.process; incarnation = k } ∷ xs) (number_more (k + 1) p n ms d (omega arith) (omega arith))
+    ∙ ap (λ j. numbered_from k (take j (m ∷ ms)) ++ drop j (m ∷ ms)) (sym more)
 
 pub length-numbered : (k : ℕ) (ms : List Member) → length (numbered_from k ms) ≡ length ms
 length-numbered k [] = refl

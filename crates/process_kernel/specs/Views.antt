@@ -1,9 +1,11 @@
 -- What the types of `src/machine.rt` and `src/look.rt` stand for, where the program of the mote is this.
-use Rattle.std.specs.Prelude.{ℕ, ◌≡◌, ◌+◌, ◌<◌, ◌≤◌, ◌++◌, ◌^◌, Bool, IsTrue, List, [], ◌∷◌, Result, Ok, Err}
+use Rattle.std.specs.Prelude.{ℕ, ◌≡◌, ◌+◌, ◌<◌, ◌≤◌, ◌++◌, ◌^◌, Bool, IsTrue, List, [], ◌∷◌, Option, Some, None, Box, Result, Ok, Err}
+use Rattle.std.specs.declared.alloc.Global.{Global}
 use Rattle.mote_program.specs.Code.{Code, Tree}
 use Rattle.protothread.specs.declared.state.PtState.{PtState}
 use Rattle.protothread.specs.declared.thread.Thread.{Thread}
-use Rattle.protothread.specs.Remainder.{Remainder}
+use Rattle.protothread.specs.declared.part.Part.TheVariants.{Body}
+use Rattle.protothread.specs.Remainder.{Remainder, fresh_of}
 use Rattle.protothread.specs.Frames.{remainder_of}
 use Rattle.protothread.specs.Looks.{Looks}
 use Rattle.process_kernel.specs.declared.line.Line.{Line}
@@ -13,18 +15,29 @@ use Rattle.process_kernel.specs.declared.machine.Machine.{Machine}
 use Rattle.process_kernel.specs.declared.machine.Stop.{Stop}
 use Rattle.process_kernel.specs.declared.machine.Stop.TheVariants.{Halted, Memory}
 use Rattle.process_kernel.specs.declared.look.Shown.{Shown}
+use Rattle.mote_program.specs.declared.event.Event.{Event}
 use Rattle.mote_program.specs.declared.event.Proc.{Proc}
+use Rattle.protothread.specs.declared.part.Part.{Part}
 use Rattle.process_kernel.specs.Looks.{looks_at}
 use Rattle.process_kernel.specs.Processes.{is_running_state, state_at}
-use Rattle.process_kernel.specs.State.{State, Outcome, Ends, Goes}
+use Rattle.process_kernel.specs.State.{State, Outcome, Went, Ends, Goes, ◌>>=◌}
 use Rattle.process_kernel.specs.Mote.{Mote, at_rest}
-use Rattle.process_kernel.specs.Calls.{Answer}
+use Rattle.process_kernel.specs.Calls.{Calls, Answer}
 
--- what each thread has still to do, by the code of its process
-abbrev pub remainders_of : List Code → List Thread → List Remainder
+-- the body of a process, unless it is away, where it runs
+abbrev pub KeptBody : Type 0
+KeptBody = Option (Box Thread Global)
+
+-- what it has still to do; while it is away, a fresh one stands in its place
+abbrev pub body_of : Code → KeptBody → Remainder
+body_of code None = fresh_of code Body
+body_of code (Some thread) = remainder_of code thread.value
+
+-- what each body has still to do, by the code of its process
+abbrev pub remainders_of : List Code → List KeptBody → List Remainder
 remainders_of [] ts = []
 remainders_of (c ∷ cs) [] = []
-remainders_of (c ∷ cs) (t ∷ ts) = remainder_of c t ∷ remainders_of cs ts
+remainders_of (c ∷ cs) (t ∷ ts) = body_of c t ∷ remainders_of cs ts
 
 abbrev pub state_of : Tree → Machine → State
 state_of program m = record {
@@ -60,13 +73,13 @@ Tells (Err Halted) s o = o ≡ Ends s
 Tells (Err Memory) s o = Unit {0}
 
 -- the same of a thread, with what it has still to do
-abbrev pub told_answer : Code → Result (PtState × Thread) Stop → Result Answer Stop
-told_answer code (Ok a) = Ok (a.0, remainder_of code a.1)
-told_answer code (Err e) = Err e
+abbrev pub told_answer : Code → Thread → Result PtState Stop → Result Answer Stop
+told_answer code thread (Ok answer) = Ok (answer, remainder_of code thread)
+told_answer code thread (Err e) = Err e
 
-abbrev pub told_thread : Code → Result Thread Stop → Result Remainder Stop
-told_thread code (Ok t) = Ok (remainder_of code t)
-told_thread code (Err e) = Err e
+abbrev pub told_thread : Code → Thread → Result (Unit {0}) Stop → Result Remainder Stop
+told_thread code thread (Ok done) = Ok (remainder_of code thread)
+told_thread code thread (Err e) = Err e
 
 -- what was written begins with these lines and packets
 unfoldable pub Begins : List Line → List Sent → Out → Type 0
@@ -99,3 +112,7 @@ KeepsLists old new = (new.ring ≡ old.ring) × (new.timers ≡ old.timers)
 
 abbrev pub mote_of : Tree → Machine → (booted halted : Bool) → Mote
 mote_of program m booted halted = record { state = at_rest (state_of program m); booted = booted; halted = halted }
+
+-- a handler or a callback runs from its beginning
+abbrev pub part_of : Calls → State → Code → Part → (process : ℕ) → Event → Went
+part_of calls s code part p e = calls.run s code (fresh_of code part) p e >>= λ _ s1. Goes tt s1

@@ -6,7 +6,7 @@ ghost use Rattle.protothread.specs.Frames.{remainder_of};
 ghost use Rattle.process_kernel.specs.Call.{calls_of, has_ended as is_an_end};
 ghost use Rattle.process_kernel.specs.Ctimer.{callback_of, ctimer_of};
 ghost use Rattle.process_kernel.specs.Reaction.{handler_of, resume_of, own_of, react_of};
-ghost use Rattle.process_kernel.specs.Views.{state_of, Tells, Grows, HasRoom, Spends, Pays, told_answer};
+ghost use Rattle.process_kernel.specs.Views.{state_of, Tells, Grows, HasRoom, Spends, Pays, told_answer, part_of};
 
 use crate::event::is_event;
 use crate::machine::{Machine, Stop};
@@ -120,11 +120,12 @@ impl Machine {
         ensures grows { Grows self.old.out self.new.out }
     {
         if is_event(SystemEvent::Poll, event) {
-            self.run(program, text, Thread::fresh(Part::OnPoll), number, event)?;
+            self.run_part(program, text, Part::OnPoll, number, event)
         } else if is_event(SystemEvent::Exit, event) {
-            self.run(program, text, Thread::fresh(Part::OnExit), number, event)?;
+            self.run_part(program, text, Part::OnExit, number, event)
+        } else {
+            Ok(())
         }
-        Ok(())
     }
 
     /// Resumes the body of a process.
@@ -143,8 +144,8 @@ impl Machine {
         ensures spends { OnOk result (Spends 0 self.old self.new) }
         ensures grows { Grows self.old.out self.new.out }
     {
-        let body = self.take_thread(number);
-        let (answer, body) = self.run(program, text, body, number, event)?;
+        let mut body = self.take_thread(number)?;
+        let answer = self.run(program, text, &mut body, number, event)?;
         self.put_thread(number, body);
         Ok(answer)
     }
@@ -182,8 +183,27 @@ impl Machine {
         }
         let number = program.timer_process(timer);
         let text = program.process(number);
-        let callback = Thread::fresh(Part::Callback(timer as u8));
-        self.run(program, text, callback, number, event)?;
+        self.run_part(program, text, Part::Callback(timer as u8), number, event)
+    }
+
+    /// Runs a handler or a callback of a process from its beginning.
+    #[cycle(kernel)]
+    #[inline(never)]
+    fn run_part(
+        &mut self,
+        program: &Program,
+        text: &ProcessText,
+        part: Part,
+        process: u8,
+        event: &Event,
+    ) -> Result<(), Stop>
+        requires { HasRoom 0 self.old }
+        ensures exact { (k : ℕ) → self.old.fuel < k → Tells result (state_of (tree_of program.now) self.new) (part_of (calls_of k) (state_of (tree_of program.now) self.old) (code_of text.now) part process event.now) }
+        ensures spends { OnOk result (Spends 0 self.old self.new) }
+        ensures grows { Grows self.old.out self.new.out }
+    {
+        let mut thread = Thread::fresh(part);
+        self.run(program, text, &mut thread, process, event)?;
         Ok(())
     }
 
@@ -194,20 +214,19 @@ impl Machine {
         &mut self,
         program: &Program,
         text: &ProcessText,
-        thread: Thread,
+        thread: &mut Thread,
         process: u8,
         event: &Event,
-    ) -> Result<(PtState, Thread), Stop>
+    ) -> Result<PtState, Stop>
         requires { HasRoom 0 self.old }
-        ensures exact { (k : ℕ) → self.old.fuel < k → Tells (told_answer (code_of text.now) result) (state_of (tree_of program.now) self.new) ((calls_of k).run (state_of (tree_of program.now) self.old) (code_of text.now) (remainder_of (code_of text.now) thread) process event.now) }
+        ensures exact { (k : ℕ) → self.old.fuel < k → Tells (told_answer (code_of text.now) thread.new result) (state_of (tree_of program.now) self.new) ((calls_of k).run (state_of (tree_of program.now) self.old) (code_of text.now) (remainder_of (code_of text.now) thread.old) process event.now) }
         ensures spends { OnOk result (Spends 0 self.old self.new) }
         ensures grows { Grows self.old.out self.new.out }
     {
-        let mut thread = thread;
         loop {
-            match self.advance(text, &mut thread, process, event) {
-                Step::Op(op) => thread = self.perform(program, text, thread, process, op)?,
-                Step::Done(answer) => return Ok((answer, thread)),
+            match self.advance(text, thread, process, event) {
+                Step::Op(op) => self.perform(program, text, thread, process, op)?,
+                Step::Done(answer) => return Ok(answer),
                 Step::Runaway => return Err(self.halt()),
             }
         }

@@ -153,6 +153,14 @@ impl Kernel {
         self.machine.accept_packet(packet)
     }
 
+    /// The number of the mote.
+    #[tactic(auto, unfolding(crate::specs::Public::mote_in))]
+    pub fn number(&self) -> u16
+        ensures { (t : Tree) → IfSome (mote_in t self.now) (λ m. result ≡ m.state.mote) }
+    {
+        self.machine.mote
+    }
+
     /// Whether the mote was booted.
     #[tactic(auto, unfolding(crate::specs::Public::mote_in))]
     pub fn is_booted(&self) -> bool

@@ -1,12 +1,12 @@
 //! How the process list grows and shrinks.
 
-ghost use Rattle.std.specs.Prelude.{◌≡◌, ◌<◌, ◌≤◌, ◌+◌, ◌^◌, ◌∷◌, false, not, OnOk, Some, filter, length, slice_get};
+ghost use Rattle.std.specs.Prelude.{◌≡◌, ◌<◌, ◌≤◌, ◌+◌, ◌^◌, ◌∷◌, false, not, OnOk, IfOk, IfErr, Some, filter, length, slice_get};
 ghost use Rattle.mote_program.specs.Code.{Tree, Code};
 ghost use Rattle.protothread.specs.Frames.{remainder_of};
 ghost use Rattle.process_kernel.specs.Members.{is_same as are_same, place_of, stands_in};
 ghost use Rattle.process_kernel.specs.ProcessList.{put_remainder, enlist_of, exiting_of, unlisted_of, leave_of, numbered_from, with_fresh_body, with_fresh_process};
 ghost use Rattle.process_kernel.specs.Reaction.{remainder_at};
-ghost use Rattle.process_kernel.specs.Views.{state_of, Tells, Grows, KeepsCounts};
+ghost use Rattle.process_kernel.specs.Views.{state_of, body_of, Tells, Grows, KeepsCounts};
 
 use crate::line::What;
 use crate::machine::{MOST_PROCESSES, Machine, Stop};
@@ -15,7 +15,6 @@ use crate::table::is_same;
 use arrayvec::ArrayVec;
 use mote_program::Proc;
 use protothread::{Part, Thread};
-use std::mem;
 
 /// The members that are not of this process.
 fn without(members: &[Member], process: Proc) -> ArrayVec<Member, MOST_PROCESSES>
@@ -45,30 +44,59 @@ impl Machine {
 
     /// Puts a thread back as the body of a process.
     #[tactic(auto, using(crate::proofs::Remainders::remainders_set, crate::proofs::Remainders::remainders_set_past), unfolding(crate::specs::ProcessList::put_remainder))]
-    pub fn put_thread(&mut self, process: u8, thread: Thread)
-        ensures exact { (t : Tree) (code : Code) → slice_get t.codes process ≡ Some code → state_of t self.new ≡ put_remainder (state_of t self.old) process (remainder_of code thread) }
+    pub fn put_thread(&mut self, process: u8, thread: Box<Thread>)
+        ensures exact { (t : Tree) (code : Code) → slice_get t.codes process ≡ Some code → state_of t self.new ≡ put_remainder (state_of t self.old) process (remainder_of code thread.value) }
         ensures kept { KeepsCounts self.old self.new }
         ensures grows { Grows self.old.out self.new.out }
     {
         let place = usize::from(process);
         if place < self.threads.len() {
-            self.threads[place] = thread;
+            self.threads[place] = Some(thread);
         }
     }
 
-    /// Takes the body of a process, and leaves a fresh one in its place.
+    /// Takes the body of a process out of the table, where it is there.
     #[tactic(auto, using(crate::proofs::Remainders::remainders_get, crate::proofs::Remainders::remainders_past, crate::proofs::Remainders::remainders_fresh, crate::proofs::Remainders::fresh_past))]
-    pub fn take_thread(&mut self, process: u8) -> Thread
-        ensures exact { (t : Tree) (code : Code) → slice_get t.codes process ≡ Some code → remainder_of code result ≡ remainder_at (state_of t self.old) code process }
+    fn lift_thread(&mut self, process: u8) -> Option<Box<Thread>>
+        ensures exact { (t : Tree) (code : Code) → slice_get t.codes process ≡ Some code → body_of code result ≡ remainder_at (state_of t self.old) code process }
         ensures after { (t : Tree) → state_of t self.new ≡ with_fresh_body (state_of t self.old) process }
         ensures kept { KeepsCounts self.old self.new }
         ensures grows { Grows self.old.out self.new.out }
     {
         let place = usize::from(process);
         if place < self.threads.len() {
-            mem::replace(&mut self.threads[place], Thread::fresh(Part::Body))
+            self.threads[place].take()
         } else {
-            Thread::fresh(Part::Body)
+            None
+        }
+    }
+
+    /// Takes the body of a process out of the table; one that isn't there is fresh.
+    pub fn take_thread(&mut self, process: u8) -> Result<Box<Thread>, Stop>
+        ensures exact { (t : Tree) (code : Code) → slice_get t.codes process ≡ Some code → IfOk result (λ thread. remainder_of code thread.value ≡ remainder_at (state_of t self.old) code process) }
+        ensures err { IfErr result (λ stop. stop ≡ Stop.Memory) }
+        ensures after { (t : Tree) → state_of t self.new ≡ with_fresh_body (state_of t self.old) process }
+        ensures kept { KeepsCounts self.old self.new }
+        ensures grows { Grows self.old.out self.new.out }
+    {
+        match self.lift_thread(process) {
+            Some(thread) => Ok(thread),
+            None => Ok(Box::new(self.alloc, Thread::fresh(Part::Body))?),
+        }
+    }
+
+    /// Makes the body of a process fresh, in its place.
+    #[tactic(auto, using(crate::proofs::Remainders::remainders_fresh, crate::proofs::Remainders::fresh_past))]
+    fn refresh_body(&mut self, process: u8)
+        ensures exact { (t : Tree) → state_of t self.new ≡ with_fresh_body (state_of t self.old) process }
+        ensures kept { KeepsCounts self.old self.new }
+        ensures grows { Grows self.old.out self.new.out }
+    {
+        let place = usize::from(process);
+        if place < self.threads.len() {
+            if let Some(thread) = &mut self.threads[place] {
+                **thread = Thread::fresh(Part::Body);
+            }
         }
     }
 
@@ -79,9 +107,7 @@ impl Machine {
         ensures grows { Grows self.old.out self.new.out }
     {
         match process {
-            Proc::Own(number) => {
-                self.take_thread(number);
-            }
+            Proc::Own(number) => self.refresh_body(number),
             Proc::Etimer | Proc::Ctimer | Proc::Radio => {}
         }
     }

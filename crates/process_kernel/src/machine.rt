@@ -10,7 +10,7 @@ use circular_buffer::HeapCircularBuffer;
 use event_queue::EventQueue;
 use mote_timers::{Callbacks, Timers};
 use protothread::{Fuel, Semaphore, Thread, Vars};
-use std::alloc::{AllocError, AllocFailed};
+use std::alloc::{AllocError, AllocFailed, Global};
 
 /// How many processes a mote has at most: 64 of its program, and the three system processes.
 pub const MOST_PROCESSES: usize = 67;
@@ -45,14 +45,15 @@ impl<T: Drop> From<AllocFailed<T>> for Stop {
 }
 
 /// The kernel of a mote. The tables have the system processes first, then those of the program in their order; threads and
-/// variables are those of the program's processes alone.
+/// variables are those of the program's processes alone. The thread of a body is out of its table while it runs.
 #[derive(Drop)]
 pub struct Machine {
+    pub(crate) alloc: Global,
     pub(crate) mote: u16,
     pub(crate) states: Vec<ProcessState>,
     pub(crate) exiting: Vec<bool>,
     pub(crate) marks: Vec<bool>,
-    pub(crate) threads: Vec<Thread>,
+    pub(crate) threads: Vec<Option<Box<Thread>>>,
     pub(crate) variables: Vec<Vars>,
     pub(crate) members: ArrayVec<Member, MOST_PROCESSES>,
     pub(crate) started: u32,

@@ -50,26 +50,22 @@ impl Machine {
         &mut self,
         program: &Program,
         text: &ProcessText,
-        thread: Thread,
+        thread: &mut Thread,
         current: u8,
         op: Op,
-    ) -> Result<Thread, Stop>
+    ) -> Result<(), Stop>
         requires { HasRoom 1 self.old }
-        ensures exact { (k : ℕ) → self.old.fuel < k → Tells (told_thread (code_of text.now) result) (state_of (tree_of program.now) self.new) (perform_of (calls_of k) (state_of (tree_of program.now) self.old) (remainder_of (code_of text.now) thread) current op) }
+        ensures exact { (k : ℕ) → self.old.fuel < k → Tells (told_thread (code_of text.now) thread.new result) (state_of (tree_of program.now) self.new) (perform_of (calls_of k) (state_of (tree_of program.now) self.old) (remainder_of (code_of text.now) thread.old) current op) }
         ensures spends { OnOk result (Spends 1 self.old self.new) }
         ensures grows { Grows self.old.out self.new.out }
     {
-        let mut thread = thread;
         match op {
             Op::Post(target, number, word) => {
                 let is_full = self.post(target, posted(number, word))?;
-                self.answer(&mut thread, current, is_full);
-                Ok(thread)
+                self.answer(thread, current, is_full);
+                Ok(())
             }
-            op => {
-                self.act(program, current, op)?;
-                Ok(thread)
-            }
+            op => self.act(program, current, op),
         }
     }
 

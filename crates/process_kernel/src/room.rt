@@ -21,12 +21,13 @@ use std::alloc::{AllocError, Global};
 const RING: usize = 8;
 
 /// A fresh body for each process.
-fn fresh_bodies(alloc: Global, program: &Program) -> Result<Vec<Thread>, AllocError>
+fn fresh_bodies(alloc: Global, program: &Program) -> Result<Vec<Option<Box<Thread>>>, AllocError>
     ensures { IfOk result (λ threads. remainders_of (tree_of program.now).codes threads.items ≡ map (λ c. fresh_of c Part.Body) (tree_of program.now).codes) }
 {
     let mut threads = Vec::new(alloc);
     for _process in 0..program.processes() {
-        threads.push(Thread::fresh(Part::Body))?;
+        let body = Box::new(alloc, Thread::fresh(Part::Body))?;
+        threads.push(Some(body))?;
     }
     Ok(threads)
 }
@@ -69,6 +70,7 @@ impl Machine {
         let places = usize::from(program.processes()) + 3;
         let timers = program.timers();
         Ok(Machine {
+            alloc,
             mote,
             states: vec![in alloc; ProcessState::Off; places]?,
             exiting: vec![in alloc; false; places]?,

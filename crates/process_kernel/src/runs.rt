@@ -12,9 +12,8 @@ ghost use Rattle.process_kernel.specs.Views.{state_of, Tells, Grows, HasRoom, Sp
 
 use crate::event::told;
 use crate::line::What;
-use crate::machine::{MOST_PROCESSES, Machine, Stop};
+use crate::machine::{Machine, Stop};
 use crate::process::Member;
-use arrayvec::ArrayVec;
 use event_queue::Posted;
 use mote_program::{Proc, Program, SystemEvent, Target};
 use protothread::Fuel;
@@ -22,19 +21,14 @@ use protothread::Fuel;
 /// The units of work that a boot has, and each kernel run.
 pub const UNITS: u32 = 10_000;
 
-/// The same members, numbered anew.
-fn numbered(members: &[Member]) -> ArrayVec<Member, MOST_PROCESSES>
-    requires { length members.now ≤ 67 }
-    ensures { result.items ≡ numbered_from 0 members.now }
+/// Numbers the members anew, from the first on.
+fn number(members: &mut [Member])
+    requires { length members.old ≤ 67 }
+    ensures { members.new ≡ numbered_from 0 members.old }
 {
-    let mut numbered = ArrayVec::new();
-    for member in members {
-        numbered.push(Member {
-            process: member.process,
-            incarnation: numbered.len() as u32,
-        });
+    for place in 0..members.len() {
+        members[place].incarnation = place as u32;
     }
-    numbered
 }
 
 impl Machine {
@@ -49,7 +43,7 @@ impl Machine {
         self.moment = moment;
         self.fuel = Fuel::new(UNITS);
         self.started = self.members.len() as u32;
-        self.members = numbered(self.members.as_slice());
+        number(self.members.as_mut_slice());
     }
 
     /// How much is left to do: the queued events, and one more where the poll flag is set.
@@ -102,6 +96,16 @@ impl Machine {
             return Ok(());
         }
         self.flag = false;
+        self.poll_all(program)
+    }
+
+    /// The polls: each member of the process list as it stands now has its turn.
+    fn poll_all(&mut self, program: &Program) -> Result<(), Stop>
+        requires { HasRoom 0 self.old }
+        ensures exact { (k : ℕ) → self.old.fuel < k → Tells result (state_of (tree_of program.now) self.new) (walk_polls (calls_of k) self.old.members.items (state_of (tree_of program.now) self.old)) }
+        ensures spends { OnOk result (Spends 0 self.old self.new) }
+        ensures grows { Grows self.old.out self.new.out }
+    {
         let members = self.snapshot();
         self.walk_polls(program, members.as_slice())
     }
@@ -176,11 +180,19 @@ impl Machine {
                 let is_there = self.is_listed(process);
                 self.give(program, posted, process, is_there)
             }
-            Target::All => {
-                let members = self.snapshot();
-                self.walk_event(program, posted, members.as_slice())
-            }
+            Target::All => self.deliver_to_all(program, posted),
         }
+    }
+
+    /// Delivers an event that goes to all.
+    fn deliver_to_all(&mut self, program: &Program, posted: &Posted) -> Result<(), Stop>
+        requires { HasRoom 0 self.old }
+        ensures exact { (k : ℕ) → self.old.fuel < k → Tells result (state_of (tree_of program.now) self.new) (walk_event (calls_of k) posted.now self.old.members.items (state_of (tree_of program.now) self.old)) }
+        ensures spends { OnOk result (Spends 0 self.old self.new) }
+        ensures grows { Grows self.old.out self.new.out }
+    {
+        let members = self.snapshot();
+        self.walk_event(program, posted, members.as_slice())
     }
 
     /// Takes the event at the front of the queue, if there is one, and delivers it (`do_event` of `process.c`).

@@ -163,10 +163,46 @@ fn notation_limits(rt: HostRuntime) -> Result<(), Fail> {
         let opened = repeated(alloc, head, "if 1 {", times, "")?;
         let blocks = repeated(alloc, opened.as_str(), "}", times, "}}")?;
         assert_eq!(rt; told(alloc, blocks.as_str()), want, "{times} blocks");
+        let opened = repeated(alloc, "process a;code a{body{print ", "(", times, "1")?;
+        let sums = repeated(alloc, opened.as_str(), "+1)", times, ";}}")?;
+        assert_eq!(rt; told(alloc, sums.as_str()), want, "{times} sums");
     }
     for (times, want) in [(4096, (0, 0)), (4097, (8, 4097))] {
         let text = repeated(alloc, head, "yield;\n", times, "}}")?;
         assert_eq!(rt; told(alloc, text.as_str()), want, "{times} statements");
+    }
+    Ok(())
+}
+
+/// Long runs of one part, in the place of an expression, of a statement, or behind a whole program.
+#[test]
+fn long_runs(rt: HostRuntime) -> Result<(), Fail> {
+    let alloc = rt.alloc();
+    for (front, part, want) in [
+        ("", "(", (7, 1)),
+        ("", "!", (7, 1)),
+        ("", "(1+", (7, 1)),
+        ("", "{", (2, 1)),
+        ("", ";", (2, 1)),
+        ("", "9", (5, 1)),
+        ("", "0", (1, 1)),
+        ("", "a", (1, 1)),
+        ("", "//", (2, 1)),
+        ("", "\r\n", (2, 4_501)),
+        ("", "\0", (1, 1)),
+        ("", "\u{feff}", (1, 1)),
+        ("", "\u{e9}", (1, 1)),
+        ("1;", "if 1{", (7, 1)),
+        ("1;", "if 1{}else{", (7, 1)),
+        ("1;", "yield;\n", (8, 4096)),
+        ("1;}}", "}", (2, 1)),
+        ("1;}}", "//", (0, 0)),
+        ("1;}}//", "\u{e9}", (0, 0)),
+        ("1;}}", "\t", (0, 0)),
+    ] {
+        let head = format!(in alloc; "process a;code a{{body{{print {front}")?;
+        let text = repeated(alloc, head.as_str(), part, 4_500, "")?;
+        assert_eq!(rt; told(alloc, text.as_str()), want, "{part}");
     }
     Ok(())
 }
@@ -209,6 +245,19 @@ fn limits_of_names(rt: HostRuntime) -> Result<(), Fail> {
         assert_eq!(rt; told(alloc, full.as_str()), (0, 0), "{most} of {before}");
         let more = declared(alloc, front, before, most + 1, after, back)?;
         assert_eq!(rt; told(alloc, more.as_str()), (8, most + 1), "{before}");
+    }
+    Ok(())
+}
+
+/// The timers of both kinds are counted together, over all processes.
+#[test]
+fn timers_of_two_processes(rt: HostRuntime) -> Result<(), Fail> {
+    let alloc = rt.alloc();
+    let head = "process a,b;code a{";
+    let first = declared(alloc, head, "etimer ", 40, ";", "body{}}code b{")?;
+    for (count, want) in [(24, (0, 0)), (25, (8, 65))] {
+        let text = declared(alloc, first.as_str(), "ctimer ", count, "{}", "body{}}")?;
+        assert_eq!(rt; told(alloc, text.as_str()), want, "{count} more");
     }
     Ok(())
 }

@@ -100,20 +100,20 @@ pub resume-returns-in_err-answer-clause-exact : goal.resume-returns-in_err-answe
 unfolding resume_of
 resume-returns-in_err-answer-clause-exact t c =
     let T = tree_of c.args.program.now in
-    λ k enough. search (rules, c.take_thread-body.ensures.exact T (code_of c.args.text.now) c.requires.text, c.take_thread-body.ensures.after T)
+    λ k enough. search (rules, c.in_ok-body.ensures.exact T (code_of c.args.text.now) c.requires.text, c.take_thread.ensures.after T)
 
 pub resume-returns-clause-exact : goal.resume-returns-clause-exact
 unfolding resume_of
 resume-returns-clause-exact t c =
     let T = tree_of c.args.program.now in
-    λ k enough. search (rules, c.take_thread-body.ensures.exact T (code_of c.args.text.now) c.requires.text, c.take_thread-body.ensures.after T, c.put_thread.ensures.exact T (code_of c.args.text.now) c.requires.text)
+    λ k enough. search (rules, c.in_ok-body.ensures.exact T (code_of c.args.text.now) c.requires.text, c.take_thread.ensures.after T, c.put_thread.ensures.exact T (code_of c.args.text.now) c.requires.text)
 
 pub run-loop-op-preserved : goal.run-loop-op-preserved
 unfolding run_of
 run-loop-op-preserved t c =
     let T = tree_of c.args.program.now in
     let pays = c.in-Op.ensures.pays in
-    let spends = c.in_ok-thread-in-Op.ensures.spends in (
+    let spends = c.in_ok-perform-in-Op.ensures.spends in (
       (omega (arith, pays, spends), omega (arith, pays, spends)),
       search rules,
       λ k enough.
@@ -121,12 +121,12 @@ run-loop-op-preserved t c =
           let rest = now.0 - 1 in
           let more : 0 < now.0 = omega (arith, now.1) in
           let left : c.advance.new.self.fuel < rest = omega (arith, now.1, pays) in
-          (rest, omega (arith, left, spends), now.2 ∙ run_opens _ _ _ _ _ now.0 more ∙ rw (c.in-Op.ensures.exact T, c.in_ok-thread-in-Op.ensures.exact rest left) refl),
+          (rest, omega (arith, left, spends), now.2 ∙ run_opens _ _ _ _ _ now.0 more ∙ rw (c.in-Op.ensures.exact T, c.in_ok-perform-in-Op.ensures.exact rest left) refl),
     )
 
-pub run-returns-in_err-thread-in-Op-clause-exact : goal.run-returns-in_err-thread-in-Op-clause-exact
+pub run-returns-in_err-perform-in-Op-clause-exact : goal.run-returns-in_err-perform-in-Op-clause-exact
 unfolding run_of
-run-returns-in_err-thread-in-Op-clause-exact t c = λ k enough.
+run-returns-in_err-perform-in-Op-clause-exact t c = λ k enough.
     let now = c.loop-op.invariant.2 k enough in
     rw now.2 (deeper_run _ _ _ _ _ _ _ (λ j left. rw (c.in-Op.ensures.exact (tree_of c.args.program.now)) (search rules)) now.0 now.1)
 

@@ -12,22 +12,25 @@ abbrev pub decreases-call : goal.decreases-call
 decreases-call l = 6 * l.self.now.fuel + 0
 
 abbrev pub decreases-react : goal.decreases-react
-decreases-react l = 6 * l.self.now.fuel + 3
+decreases-react l = 6 * l.self.now.fuel + 4
 
 abbrev pub decreases-react_as_own : goal.decreases-react_as_own
-decreases-react_as_own l = 6 * l.self.now.fuel + 2
+decreases-react_as_own l = 6 * l.self.now.fuel + 3
 
 abbrev pub decreases-handle : goal.decreases-handle
-decreases-handle l = 6 * l.self.now.fuel + 1
+decreases-handle l = 6 * l.self.now.fuel + 2
 
 abbrev pub decreases-resume : goal.decreases-resume
 decreases-resume l = 6 * l.self.now.fuel + 1
 
 abbrev pub decreases-react_as_ctimer : goal.decreases-react_as_ctimer
-decreases-react_as_ctimer l = 6 * l.self.now.fuel + 2
+decreases-react_as_ctimer l = 6 * l.self.now.fuel + 3
 
 abbrev pub decreases-call_back : goal.decreases-call_back
-decreases-call_back l = 6 * l.self.now.fuel + 1
+decreases-call_back l = 6 * l.self.now.fuel + 2
+
+abbrev pub decreases-run_part : goal.decreases-run_part
+decreases-run_part l = 6 * l.self.now.fuel + 1
 
 abbrev pub decreases-run : goal.decreases-run
 decreases-run l = 6 * l.self.now.fuel + 0
