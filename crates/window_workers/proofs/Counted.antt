@@ -12,30 +12,19 @@ use Rattle.radio_medium.specs.declared.fate.Fate.{Fate}
 use Rattle.radio_medium.specs.declared.copy.RadioCopy.{RadioCopy}
 use Rattle.radio_medium.specs.Medium.{Radio, copies, copy_of, fates}
 use Rattle.net_scenario.specs.Net.{NetTold}
-use Rattle.window_workers.specs.System.{System}
-use Rattle.window_workers.specs.Agenda.{Item, Wake, Packet, moment_of, is_due, is_left, packets, wake_items, up_to}
-use Rattle.window_workers.specs.NetRun.{system_of, packet_of, IsReportOf}
-use Rattle.window_workers.specs.NetStep.{NetState, Run, Done, Turn, sends_of, turned_at, turn_at, boot}
+use Rattle.window_law.specs.System.{System}
+use Rattle.window_law.specs.Agenda.{Item, Wake, Packet, moment_of, is_due, is_left, packets, wake_items, up_to}
+use Rattle.window_law.proofs.Agenda.{packets_append, packets_map, packets_wakes}
+use Rattle.net_agenda.specs.NetSystem.{system_of}
+use Rattle.window_workers.specs.NetRun.{packet_of, IsReportOf}
+use Rattle.window_law.specs.NetStep.{NetState, Run, Done, Turn, sends_of, turned_at, turn_at, boot}
 use Rattle.window_workers.specs.Counted.{is_after, is_late, LateCopiesStay, LeftIsCounted, FatesTellLeft}
 use Rattle.window_workers.specs.Report.{ReportTold}
 
-packets-append : (xs ys : List Item) → packets (xs ++ ys) ≡ packets xs ++ packets ys
-packets-append [] ys = refl
-packets-append (Wake t m ∷ xs) ys = packets-append xs ys
-packets-append (Packet c ∷ xs) ys = ap (λ l. c ∷ l) (packets-append xs ys)
-
-packets-map : (cs : List RadioCopy) → packets (map Packet cs) ≡ cs
-packets-map [] = refl
-packets-map (c ∷ cs) = ap (λ l. c ∷ l) (packets-map cs)
-
 -- a turn adds a wake, and the copies of what it sent
 packets-added : (m : ℕ) (wake : Option ℕ) (cs : List RadioCopy) → packets (wake_items m wake ++ map Packet cs) ≡ cs
-packets-added m (Some t) cs = packets-map cs
-packets-added m None cs = packets-map cs
-
-pub packets-wakes : (ks : List ℕ) → packets (map (λ mote. Wake 0 mote) ks) ≡ []
-packets-wakes [] = refl
-packets-wakes (k ∷ ks) = packets-wakes ks
+packets-added m (Some t) cs = packets_map cs
+packets-added m None cs = packets_map cs
 
 not_after : (end t m at to : ℕ) → t ≤ end → (eqb at t && eqb to m) ≡ true → ltb end at ≡ false
 not_after end t m at to h e = grind (arith, nat_tests)
@@ -72,7 +61,7 @@ module _ {S L : Type 0} (system : System S L) where
 
   pub packets-turn : (t m : ℕ) (net : NetState S L) → packets (turn_at system t m net).agenda ≡ packets (filter (is_left t m) net.agenda) ++ more t m net
   packets-turn t m net =
-      packets-append (filter (is_left t m) net.agenda) (wake_items m (turned_at system t m net).wake ++ map Packet (more t m net))
+      packets_append (filter (is_left t m) net.agenda) (wake_items m (turned_at system t m net).wake ++ map Packet (more t m net))
       ∙ ap (λ l. packets (filter (is_left t m) net.agenda) ++ l) (packets-added m (turned_at system t m net).wake (more t m net))
 
   pub log-turn : (t m : ℕ) (net : NetState S L) → flat_map system.copies (turn_at system t m net).log ≡ flat_map system.copies net.log ++ more t m net
@@ -86,7 +75,7 @@ module _ {S L : Type 0} (system : System S L) where
       ∙ (sym (filter-append p (flat_map system.copies net.log) (more t m net)) ∙ ap (filter p) (sym (log-turn t m net)))))
 
   pub all_boot : (p : RadioCopy → Bool) → HasAll p (boot system)
-  all_boot p = ap (filter p) (packets-wakes (up_to system.motes))
+  all_boot p = ap (filter p) (packets_wakes (up_to system.motes))
 
   late_run : (end : ℕ) {net last : NetState S L} → Run system end net last → HasAll (is_after end) net → packets last.agenda ≡ filter (is_after end) (flat_map system.copies last.log)
   late_run end {net} (Done h) has = all_late end net.agenda h ∙ has

@@ -8,27 +8,15 @@ use Rattle.std.proofs.lemmas.List.Elements.{filter-append, All-from_recursion, r
 use Rattle.std.proofs.lemmas.List.Sorted.{IsPermutation-refl, IsPermutation-sym, IsPermutation-trans, IsPermutation-cons, IsPermutation-middle, IsPermutation-append_left, IsPermutation-append_right, All-permutation}
 use Rattle.radio_medium.specs.declared.copy.RadioCopy.{RadioCopy}
 use Rattle.net_scenario.specs.Net.{NetTold}
-use Rattle.window_workers.specs.System.{System}
-use Rattle.window_workers.specs.Agenda.{Item, Wake, Packet, moment_of, is_due, is_left, packets, up_to}
-use Rattle.window_workers.specs.Order.{is_before, insert_by, sorted_by, in_order}
-use Rattle.window_workers.specs.NetRun.{system_of}
-use Rattle.window_workers.specs.NetStep.{NetState, Run, Done, Turn, boot, turn_at}
+use Rattle.window_law.specs.System.{System}
+use Rattle.window_law.specs.Agenda.{Item, Wake, Packet, moment_of, is_due, is_left, packets, up_to}
+use Rattle.window_law.specs.Order.{in_order}
+use Rattle.window_law.proofs.Agenda.{packets_wakes}
+use Rattle.window_law.proofs.Order.{sorted_permutes}
+use Rattle.net_agenda.specs.NetSystem.{system_of}
+use Rattle.window_law.specs.NetStep.{NetState, Run, Done, Turn, boot, turn_at}
 use Rattle.window_workers.specs.Counted.{is_by, turns, IsGivenInTime, CopiesAreGiven, CopiesComeInTime}
-use Rattle.window_workers.proofs.Counted.{more, packets-turn, log-turn, packets-wakes}
-
-module _ {X : Type 0} (first second : X → ℕ) where
-  inserted : (x : X) (ys : List X) → IsPermutation (x ∷ ys) (insert_by first second x ys)
-  inserted x [] = IsPermutation-refl (x ∷ [])
-  inserted x (y ∷ ys) =
-      elim (cases_Bool (is_before first second x y)) [
-        | inl e ↦ rw e (IsPermutation-refl (x ∷ y ∷ ys))
-        | inr e ↦ rw e (IsPermutation-trans _ _ _ (IsPermutation-middle (x ∷ []) y ys) (IsPermutation-cons y _ _ (inserted x ys)))
-      ]
-
-  sorted : (xs : List X) → IsPermutation xs (sorted_by first second xs)
-  unfolding sorted_by
-  sorted [] = IsPermutation-refl []
-  sorted (x ∷ xs) = IsPermutation-trans _ _ _ (IsPermutation-cons x _ _ (sorted xs)) (inserted x (sorted_by first second xs))
+use Rattle.window_workers.proofs.Counted.{more, packets-turn, log-turn}
 
 due_is_by : (end t m at to : ℕ) → t ≤ end → (eqb at t && eqb to m) ≡ true → not (ltb end at) ≡ true
 due_is_by end t m at to h e = grind (arith, nat_tests)
@@ -89,7 +77,7 @@ module _ {S L : Type 0} (system : System S L) (end : ℕ) where
 
       taken : IsPermutation (by (packets net.agenda)) (due_at t m net ++ left)
       taken = IsPermutation-trans _ _ _ (split end t m net.agenda le)
-          (IsPermutation-append_left left _ _ (sorted (λ copy. copy.sender) (λ copy. copy.number) (packets (filter (is_due t m) net.agenda))))
+          (IsPermutation-append_left left _ _ (sorted_permutes (λ copy. copy.sender) (λ copy. copy.number) (packets (filter (is_due t m) net.agenda))))
 
       rest : (given ++ (due_at t m net ++ left)) ++ by new ≡ (given ++ due_at t m net) ++ by (packets (turn_at system t m net).agenda)
       rest =
@@ -105,7 +93,7 @@ module _ {S L : Type 0} (system : System S L) (end : ℕ) where
       (given_run run (given ++ due_at t m net) (given_turn t m net given le has))
 
 boots : (n : NetTold) → HasGiven (system_of n) n.end [] (boot (system_of n))
-boots n = subst (λ l. IsPermutation [] (by (system_of n) n.end l)) (sym (packets-wakes (up_to (system_of n).motes))) (IsPermutation-refl [])
+boots n = subst (λ l. IsPermutation [] (by (system_of n) n.end l)) (sym (packets_wakes (up_to (system_of n).motes))) (IsPermutation-refl [])
 
 pub copies_are_given : CopiesAreGiven
 unfolding system_of
@@ -130,7 +118,7 @@ run_in_time : {S L : Type 0} {system : System S L} {end : ℕ} {net last : NetSt
 run_in_time (Done h) = tt
 run_in_time {net = net} (Turn t m least le run) =
     let cs = packets (filter (is_due t m) net.agenda) in
-    let given = All-permutation (IsInTime t m) cs (in_order cs) (sorted (λ copy. copy.sender) (λ copy. copy.number) cs) (All-from_recursion (IsInTime t m) cs (in_time t m net.agenda)) in
+    let given = All-permutation (IsInTime t m) cs (in_order cs) (sorted_permutes (λ copy. copy.sender) (λ copy. copy.number) cs) (All-from_recursion (IsInTime t m) cs (in_time t m net.agenda)) in
     (recursion_from_All (IsInTime t m) (in_order cs) given, run_in_time run)
 
 pub copies_come_in_time : CopiesComeInTime

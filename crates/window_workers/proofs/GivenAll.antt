@@ -1,19 +1,19 @@
 -- A turn is given all copies of the log for its mote at its moment.
-use Rattle.std.proofs.Common.{◌≡◌, ℕ, suc, true, false, not, ◌&&◌, ◌||◌, ltb, eqb, List, [], ◌∷◌, ◌++◌, map, append-nil, refl, sym, ap, ◌∙◌, inl, inr, arith}
+use Rattle.std.proofs.Common.{◌≡◌, ℕ, suc, true, false, not, ◌&&◌, ◌||◌, ltb, eqb, List, [], ◌∷◌, ◌++◌, map, append-nil, refl, sym, ap, ◌∙◌, arith}
 use Rattle.std.specs.List.{filter, flat_map, AllByRecursion}
-use Rattle.std.proofs.lemmas.Bool.{cases_Bool}
 use Rattle.std.proofs.lemmas.Bool.Decides.{nat_tests}
 use Rattle.std.proofs.lemmas.List.Elements.{filter-append}
 use Rattle.radio_medium.specs.declared.copy.RadioCopy.{RadioCopy}
-use Rattle.window_workers.specs.System.{System, IsSystem}
-use Rattle.window_workers.specs.Agenda.{Item, Wake, Packet, moment_of, mote_of, is_due, is_left, is_from, packets, IsLeast, up_to}
-use Rattle.window_workers.specs.Order.{in_order}
-use Rattle.window_workers.specs.NetRun.{system_of}
-use Rattle.window_workers.specs.NetStep.{NetState, Run, Done, Turn, turn_at}
+use Rattle.window_law.specs.System.{System, IsSystem}
+use Rattle.window_law.specs.Agenda.{Item, Wake, Packet, moment_of, mote_of, is_due, is_left, is_from, packets, IsLeast, up_to}
+use Rattle.window_law.specs.Order.{in_order}
+use Rattle.net_agenda.specs.NetSystem.{system_of}
+use Rattle.window_law.specs.NetStep.{NetState, Run, Done, Turn, turn_at}
 use Rattle.window_workers.specs.Counted.{turns, is_for, IsGivenAll, TurnsAreGivenAll}
-use Rattle.window_workers.proofs.Lists.{any_every, every_weaker}
-use Rattle.window_workers.proofs.Ranks.{turn_ahead}
-use Rattle.window_workers.proofs.Reached.{system_is}
+use Rattle.window_law.proofs.Lists.{any_every, every_weaker}
+use Rattle.window_law.proofs.Ahead.{turn_ahead}
+use Rattle.window_law.proofs.Agenda.{packets_filter}
+use Rattle.net_agenda.proofs.Systems.{system_is}
 use Rattle.window_workers.proofs.Counted.{HasAll, more, packets-turn, log-turn, all_turn, all_boot}
 
 -- (t, m), (u, k), (v, j) and (at, to) are moments and motes
@@ -35,15 +35,6 @@ from_first k = grind (arith, nat_tests)
 second_none : {X : Type 0} (xs ys : List X) → xs ++ ys ≡ [] → ys ≡ []
 second_none [] ys e = e
 second_none (x ∷ xs) ys e = cc
-
-packets-due : (t m : ℕ) (items : List Item) → packets (filter (is_due t m) items) ≡ filter (is_for t m) (packets items)
-packets-due t m [] = refl
-packets-due t m (Wake u k ∷ items) =
-    let ih = packets-due t m items in
-    elim (cases_Bool (is_due t m (Wake u k))) [ inl e ↦ rw e ih | inr e ↦ rw e ih ]
-packets-due t m (Packet c ∷ items) =
-    let ih = packets-due t m items in
-    elim (cases_Bool (is_due t m (Packet c))) [ inl e ↦ rw e (ap (λ l. c ∷ l) ih) | inr e ↦ rw e ih ]
 
 -- nothing for this mote at this moment where all comes later
 none_for : (t m : ℕ) (items : List Item) → AllByRecursion (λ item. is_from t (suc m) item ≡ true) items → filter (is_for t m) (packets items) ≡ []
@@ -94,7 +85,7 @@ module _ {S L : Type 0} (system : System S L) (fine : IsSystem system) where
   given_all {net = net} (Turn u k least le run) t m from has =
       let here = first_from t m u k net.agenda least from in
       let next = turn_ahead system fine u k net least.is_first in (
-        ap in_order (packets-due u k net.agenda ∙ (has u k here ∙ sym (same_later run u k next ∙ same_log u k u k net next))),
+        ap in_order (packets_filter (is_due u k) net.agenda ∙ (has u k here ∙ sym (same_later run u k next ∙ same_log u k u k net next))),
         given_all run u (suc k) next (λ v j h. all_turn system (is_for v j) u k net (λ c e. not_both u k v j c.at c.to h e) (has v j (still_from t m u k v j here h))),
       )
 

@@ -7,8 +7,8 @@ use Rattle.kernel_laws.proofs.Motes.{in_order}
 use Rattle.mote_laws.proofs.Turns.{turn_keeps, new_goes}
 use Rattle.mote_node.specs.Node.{Node}
 use Rattle.net_scenario.specs.Net.{NetTold}
-use Rattle.window_workers.specs.NetRun.{system_of, mote_at}
-use Rattle.window_workers.specs.NetStep.{NetState, Run, Done, Turn, boot, turn_at}
+use Rattle.net_agenda.specs.NetSystem.{system_of, mote_at}
+use Rattle.window_law.specs.NetStep.{NetState, Run, Done, Turn, boot, turn_at}
 use Rattle.window_workers.specs.Laws.{TracesHandOn}
 
 module _ (n : NetTold) where

@@ -11,25 +11,14 @@ use Rattle.mote_node.specs.Node.{Node}
 use Rattle.mote_node.specs.Turn.{turn_of}
 use Rattle.mote_node.specs.Wake.{wake_of}
 use Rattle.net_scenario.specs.Net.{NetTold}
-use Rattle.window_workers.specs.System.{Turned, IsSystem}
-use Rattle.window_workers.specs.Agenda.{Item, Packet, mote_of, is_due, is_wake_of, is_left, wake_items}
-use Rattle.window_workers.specs.Buckets.{wake_but_at}
-use Rattle.window_workers.specs.NetStep.{NetState, stamped, sends_of, turned_at, turn_at}
-use Rattle.window_workers.specs.NetRun.{system_of}
+use Rattle.window_law.specs.System.{Turned, IsSystem}
+use Rattle.window_law.specs.Agenda.{Item, Packet, mote_of, is_due, is_wake_of, is_left, wake_items}
+use Rattle.window_law.proofs.Agenda.{no_wake_in_packets, own_wake, other_wake}
+use Rattle.net_agenda.specs.Buckets.{wake_but_at}
+use Rattle.window_law.specs.NetStep.{NetState, stamped, sends_of, turned_at, turn_at}
+use Rattle.net_agenda.specs.NetSystem.{system_of}
 use Rattle.window_workers.specs.Stands.{IsKept}
-use Rattle.window_workers.proofs.Lists.{filter_filter, every_append, every_filter, every_map, every_weaker}
-
-no_wake : (k : ℕ) (cs : List RadioCopy) → filter (is_wake_of k) (map Packet cs) ≡ []
-no_wake k [] = refl
-no_wake k (c ∷ cs) = no_wake k cs
-
-own_wake : (m : ℕ) (wake : Option ℕ) → filter (is_wake_of m) (wake_items m wake) ≡ wake_items m wake
-own_wake m None = refl
-own_wake m (Some u) = let f : eqb m m ≡ true = eq-eqb m m refl in rw f refl
-
-other_wake : (k m : ℕ) (wake : Option ℕ) → (k ≡ m → ⊥) → filter (is_wake_of k) (wake_items m wake) ≡ []
-other_wake k m None ne = refl
-other_wake k m (Some u) ne = let f : eqb m k ≡ false = ne_eqb m k (λ e. ne (sym e)) in rw f refl
+use Rattle.window_law.proofs.Lists.{filter_filter, every_append, every_filter, every_map, every_weaker}
 
 -- the mote's wake goes with its turn, another's stays
 wake_gone : (t m : ℕ) (wake : Option ℕ) → filter (is_left t m) (wake_items m wake) ≡ []
@@ -69,7 +58,7 @@ module _ (n : NetTold) where
     wakes = λ k h.
         filter-append (is_wake_of k) (filter (is_left t m) net.agenda) (wake_items m next.wake ++ more)
         ∙ (ap (λ l. l ++ filter (is_wake_of k) (wake_items m next.wake ++ more)) (filter_filter (is_wake_of k) (is_left t m) net.agenda ∙ ap (filter (is_left t m)) (kept.wakes k h))
-        ∙ (ap (λ l. filter (is_left t m) (wake_items k (wake_of (net.states k))) ++ l) (filter-append (is_wake_of k) (wake_items m next.wake) more ∙ (ap (λ l. filter (is_wake_of k) (wake_items m next.wake) ++ l) (no_wake k cs) ∙ append-nil _))
+        ∙ (ap (λ l. filter (is_left t m) (wake_items k (wake_of (net.states k))) ++ l) (filter-append (is_wake_of k) (wake_items m next.wake) more ∙ (ap (λ l. filter (is_wake_of k) (wake_items m next.wake) ++ l) (no_wake_in_packets k cs) ∙ append-nil _))
         ∙ elim (cases_eq k m) [
           | inl e ↦ (let f : eqb k m ≡ true = eq-eqb k m e in
               rw f (ap (λ j. filter (is_left t m) (wake_items j (wake_of (net.states k))) ++ filter (is_wake_of j) (wake_items m next.wake)) e

@@ -1,15 +1,9 @@
-pub mod Boots
+pub mod ByWindows
 pub mod Counted
-pub mod Gathered
 pub mod Given
 pub mod GivenAll
 pub mod Handed
 pub mod Kept
-pub mod Keys
-pub mod Lists
-pub mod NewWakes
-pub mod Orders
-pub mod Ranks
 pub mod Reached
 pub mod Reports
 pub mod SentOut

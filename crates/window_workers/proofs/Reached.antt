@@ -1,75 +1,27 @@
 -- How far the engine has come.
-use Rattle.std.proofs.Common.{◌≡◌, ℕ, zero, suc, ◌<◌, ◌≤◌, ◌⊎◌, true, false, cond, not, ◌&&◌, ◌||◌, ltb, eqb, [], ◌∷◌, ◌++◌, length, map, sym, ap, ◌∙◌, subst, refl, inl, inr, arith, zero-le, Some, None}
-use Rattle.std.specs.List.{filter, AllByRecursion}
-use Rattle.std.proofs.lemmas.Bool.{cases_order, lt-ltb, le-ltb, eq-eqb, ne_eqb, eqb-true, and_parts}
+use Rattle.std.proofs.Common.{◌≡◌, ℕ, ◌<◌, ◌≤◌, true, not, ◌&&◌, ◌||◌, ltb, eqb, [], length, sym, ap, ◌∙◌, subst, arith}
+use Rattle.std.specs.List.{AllByRecursion}
+use Rattle.std.proofs.lemmas.Bool.{lt-ltb, eqb-true, and_parts}
 use Rattle.std.proofs.lemmas.Bool.Decides.{nat_tests}
-use Rattle.std.proofs.lemmas.List.{map-append}
-use Rattle.std.proofs.lemmas.List.Elements.{filter-append}
 use Rattle.process_kernel.specs.declared.line.Line.{Line}
 use Rattle.mote_node.specs.Node.{Node}
-use Rattle.mote_node.proofs.WakeLaws.{wakes_later}
-use Rattle.radio_medium.specs.Medium.{medium_fault}
-use Rattle.radio_medium.proofs.Copies.{copies_later}
-use Rattle.radio_medium.proofs.Delays.{lookahead-above}
 use Rattle.net_scenario.specs.Net.{NetTold}
 use Rattle.window_workers.specs.declared.engine.Engine.{Engine}
-use Rattle.window_workers.specs.System.{IsSystem}
-use Rattle.window_workers.specs.Agenda.{Wake, moment_of, mote_of, is_due, is_wake_of, wake_items, IsLeast, up_to}
-use Rattle.window_workers.specs.Buckets.{arrival_of}
-use Rattle.window_workers.specs.NetRun.{system_of}
-use Rattle.window_workers.specs.NetStep.{NetState, Done, Turn, boot, turn_at}
+use Rattle.window_law.specs.System.{IsSystem}
+use Rattle.window_law.specs.Agenda.{Wake, moment_of, mote_of, is_due, wake_items, IsLeast, up_to}
+use Rattle.window_law.proofs.Agenda.{first_wakes, below_all}
+use Rattle.net_agenda.specs.NetSystem.{system_of}
+use Rattle.window_law.specs.NetStep.{NetState, Done, Turn, boot, turn_at}
 use Rattle.window_workers.specs.Stands.{Stands, IsKept}
 use Rattle.window_workers.specs.Ended.{HasReached, HasEnded}
-use Rattle.window_workers.proofs.Lists.{any_every, every_weaker, every_map, every_append}
+use Rattle.window_law.proofs.Lists.{any_every, every_weaker, every_map}
 use Rattle.window_workers.proofs.Kept.{kept_turn}
-use Rattle.window_workers.proofs.NewWakes.{new_wakes}
-
-pub system_is : (n : NetTold) → medium_fault n.radio ≡ None → length n.radio.places ≡ length n.motes → IsSystem (system_of n)
-unfolding system_of
-system_is n fault placed = record {
-  some_lookahead = lookahead-above n.radio fault n.end;
-  wakes_later = λ mote state moment given. wakes_later moment (map arrival_of given) state;
-  copies_later = λ sent. every_weaker _ _ (λ copy h. record { sender = h.sender; to = subst (λ k. copy.to < k) placed h.there; later = h.later n.end }) _ (copies_later n.radio sent);
-}
-
-first_wakes : (n k : ℕ) → k < n → filter (is_wake_of k) (map (λ mote. Wake 0 mote) (up_to n)) ≡ Wake 0 k ∷ []
-first_wakes n k h = all n ∙ (let e = lt-ltb k n h in rw e refl)
-  where
-    all : (n : ℕ) → filter (is_wake_of k) (map (λ mote. Wake 0 mote) (up_to n)) ≡ wake_items k (cond (ltb k n) (Some 0) None)
-    all zero = let a : ltb k 0 ≡ false = le-ltb k 0 zero-le in rw a refl
-    all (suc n) =
-        ap (filter (is_wake_of k)) (map-append (λ mote. Wake 0 mote) (up_to n) (n ∷ []))
-        ∙ (filter-append (is_wake_of k) (map (λ mote. Wake 0 mote) (up_to n)) (Wake 0 n ∷ [])
-        ∙ (ap (λ l. l ++ filter (is_wake_of k) (Wake 0 n ∷ [])) (all n) ∙ last n (cases_order k n)))
-      where
-        last : (n : ℕ) → (k ≡ n) ⊎ ((k < n) ⊎ (n < k)) → wake_items k (cond (ltb k n) (Some 0) None) ++ filter (is_wake_of k) (Wake 0 n ∷ []) ≡ wake_items k (cond (ltb k (suc n)) (Some 0) None)
-        last n (inl e) =
-            let a : ltb k n ≡ false = le-ltb k n (omega arith) in
-            let b : ltb k (suc n) ≡ true = lt-ltb k (suc n) (omega arith) in
-            let c : eqb n k ≡ true = eq-eqb n k (sym e) in
-            rw (a, b, c) (ap (λ j. Wake 0 j ∷ []) (sym e))
-        last n (inr (inl h)) =
-            let a : ltb k n ≡ true = lt-ltb k n h in
-            let b : ltb k (suc n) ≡ true = lt-ltb k (suc n) (omega arith) in
-            let c : eqb n k ≡ false = ne_eqb n k (λ e. absurd (omega arith)) in
-            rw (a, b, c) refl
-        last n (inr (inr h)) =
-            let a : ltb k n ≡ false = le-ltb k n (omega arith) in
-            let b : ltb k (suc n) ≡ false = le-ltb k (suc n) (omega arith) in
-            let c : eqb n k ≡ false = ne_eqb n k (λ e. absurd (omega arith)) in
-            rw (a, b, c) refl
-
-below_all : (n : ℕ) → AllByRecursion (λ k. k < n) (up_to n)
-below_all zero = tt
-below_all (suc n) = every_append _ (up_to n) (n ∷ []) (every_weaker _ _ (λ k h. omega arith) (up_to n) (below_all n)) (self n, tt)
-  where
-    self : (n : ℕ) → n < suc n
-    self n = omega arith
+use Rattle.net_agenda.proofs.NewWakes.{new_wakes}
 
 kept_first : (n : NetTold) → IsKept n (boot (system_of n))
 unfolding system_of
 kept_first n = record {
-  wakes = λ k h. first_wakes (length n.motes) k h ∙ ap (wake_items k) (sym (new_wakes n k));
+  wakes = λ k h. first_wakes (length n.motes) k ∙ (let e = lt-ltb k (length n.motes) h in rw e (ap (wake_items k) (sym (new_wakes n k))));
   inside = every_map _ (λ mote. Wake 0 mote) (up_to (length n.motes)) (below_all (length n.motes));
 }
 

@@ -9,7 +9,7 @@ use Rattle.process_kernel.specs.declared.line.Line.{Line}
 use Rattle.net_scenario.specs.Net.{NetTold}
 use Rattle.window_workers.specs.declared.engine.Engine.{Engine}
 use Rattle.window_workers.specs.declared.report.Report.{Report}
-use Rattle.window_workers.specs.Agenda.{packets, up_to}
+use Rattle.window_law.specs.Agenda.{packets, up_to}
 use Rattle.window_workers.specs.NetRun.{packet_of, told_at, IsReportOf}
 use Rattle.window_workers.specs.Report.{Packet, ReportTold, lines_in, told_line, report_of}
 use Rattle.window_workers.specs.Stands.{IsWhole}

@@ -16,13 +16,14 @@ use Rattle.mote_node.specs.Node.{Node}
 use Rattle.mote_node.proofs.WakeLaws.{wakes_later}
 use Rattle.radio_medium.proofs.Copies.{copies_later}
 use Rattle.net_scenario.specs.Net.{NetTold}
-use Rattle.window_workers.specs.System.{Turned, IsLater}
-use Rattle.window_workers.specs.Agenda.{Item, Packet, moment_of, mote_of, is_due, is_left, is_from, wake_items, IsLeast, up_to}
-use Rattle.window_workers.specs.NetRun.{system_of, mote_at, packet_of}
-use Rattle.window_workers.specs.NetStep.{NetState, Run, Done, Turn, boot, put, stamped, turned_at, turn_at}
+use Rattle.window_law.specs.System.{Turned, IsLater}
+use Rattle.window_law.specs.Agenda.{Item, Packet, moment_of, mote_of, is_due, is_left, is_from, wake_items, IsLeast, up_to}
+use Rattle.net_agenda.specs.NetSystem.{system_of, mote_at}
+use Rattle.window_workers.specs.NetRun.{packet_of}
+use Rattle.window_law.specs.NetStep.{NetState, Run, Done, Turn, boot, put, stamped, turned_at, turn_at}
 use Rattle.window_workers.specs.Report.{ReportTold, Packet as OfReport}
 use Rattle.window_workers.specs.Stamps.{TracesNeverGoBack, sent_by, LogCountsUp}
-use Rattle.window_workers.proofs.Lists.{every_append, every_filter, every_map, every_weaker, any_every}
+use Rattle.window_law.proofs.Lists.{every_append, every_filter, every_map, every_weaker, any_every}
 
 -- a first item's moment
 
@@ -193,8 +194,12 @@ sent_packets : (n : NetTold) (log : List Sent) → map (λ (p : OfReport). p.sen
 sent_packets n [] = refl
 sent_packets n (s ∷ log) = ap (λ l. s ∷ l) (sent_packets n log)
 
+-- the log of a run, by itself
+pub run_counts_up : (n : NetTold) {last : NetState Node Line} → Run (system_of n) n.end (boot (system_of n)) last → (mote : ℕ) → AreNumberedFrom 0 (sent_by mote last.log)
+run_counts_up n run mote = (run_counts n run (boot_counts n) mote).numbered
+
 pub log_counts_up : LogCountsUp
 log_counts_up n r report mote =
     let last = report.last in
     let is : map (λ (p : OfReport). p.sent) r.log ≡ last.log = ap (λ (x : ReportTold). map (λ (p : OfReport). p.sent) x.log) report.told ∙ sent_packets n last.log in
-    subst (λ l. AreNumberedFrom 0 (sent_by mote l)) (sym is) (run_counts n report.run (boot_counts n) mote).numbered
+    subst (λ l. AreNumberedFrom 0 (sent_by mote l)) (sym is) (run_counts_up n report.run mote)

@@ -1,5 +1,5 @@
 -- The engine's turn is the net's.
-use Rattle.std.proofs.Common.{◌≡◌, ℕ, ◌<◌, Bool, true, false, not, ◌&&◌, ◌||◌, List, ◌++◌, length, map, get_or, set, refl, sym, ap, ◌∙◌, subst, inl, inr, arith, append_assoc, Option, Some, None, unwrap_or, option_map, slice_get, get_or-set_same, get_or-set_other}
+use Rattle.std.proofs.Common.{◌≡◌, ℕ, ◌<◌, Bool, true, false, not, ◌&&◌, ◌||◌, List, ◌++◌, length, map, get_or, set, refl, sym, ap, ◌∙◌, subst, inl, inr, arith, append_assoc, Option, Some, None, option_map, get_or-set_same, get_or-set_other}
 use Rattle.std.specs.Prelude.{Vec}
 use Rattle.std.specs.declared.alloc.Global.{Global}
 use Rattle.std.specs.List.{filter, flat_map}
@@ -17,15 +17,16 @@ use Rattle.mote_node.specs.Turn as node
 use Rattle.mote_node.specs.Turn.{turn_of}
 use Rattle.mote_node.specs.Wake.{wake_of}
 use Rattle.radio_medium.specs.Medium.{copies}
-use Rattle.net_scenario.specs.Net.{MoteTold, NetTold}
+use Rattle.net_scenario.specs.Net.{NetTold}
 use Rattle.window_workers.specs.declared.engine.Engine.{Engine}
-use Rattle.window_workers.specs.Agenda.{Item, Packet, is_due, is_wake_of, is_left, wake_items}
-use Rattle.window_workers.specs.Buckets.{Holds, arrivals_at, wake_but_at}
-use Rattle.window_workers.specs.NetRun.{no_mote, system_of, packet_of}
-use Rattle.window_workers.specs.NetStep.{NetState, stamped, turn_at}
+use Rattle.window_law.specs.Agenda.{Item, Packet, is_due, is_wake_of, is_left, wake_items}
+use Rattle.net_agenda.specs.Buckets.{Holds, arrivals_at, wake_but_at}
+use Rattle.net_agenda.specs.NetSystem.{system_of, tree_at}
+use Rattle.window_workers.specs.NetRun.{packet_of}
+use Rattle.window_law.specs.NetStep.{NetState, stamped, turn_at}
 use Rattle.window_workers.specs.Report.{told_line}
-use Rattle.window_workers.specs.Stands.{tree_at, Stands, IsKept, TakesTurn, AddsLines}
-use Rattle.window_workers.proofs.Lists.{filter_filter, filter_both}
+use Rattle.window_workers.specs.Stands.{Stands, IsKept, TakesTurn, AddsLines}
+use Rattle.window_law.proofs.Lists.{filter_filter, filter_both}
 use Rattle.window_workers.proofs.Kept.{wake_later}
 
 -- what a turn told, and where it led
@@ -44,13 +45,6 @@ tells (Some x) out t e =
       sends = ap (λ (u : node.Turned). u.sends) f;
       wake = ap (λ (u : node.Turned). u.wake) f;
     }
-
-pub tree_is : (motes : List MoteTold) (k : ℕ) (t : Tree) → option_map (λ (m : MoteTold). m.tree) (slice_get motes k) ≡ Some t → t ≡ (unwrap_or (slice_get motes k) no_mote).tree
-tree_is motes k t e = of (slice_get motes k) e
-  where
-    of : (o : Option MoteTold) → option_map (λ (m : MoteTold). m.tree) o ≡ Some t → t ≡ (unwrap_or o no_mote).tree
-    of None e = cc
-    of (Some m) e = cc
 
 neither : (a b : Bool) → not (a || b) ≡ (not a && not b)
 neither true b = refl

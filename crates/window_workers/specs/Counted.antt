@@ -6,10 +6,10 @@ use Rattle.radio_medium.specs.declared.copy.RadioCopy.{RadioCopy}
 use Rattle.radio_medium.specs.declared.fate.Fate.{Fate}
 use Rattle.radio_medium.specs.Medium.{copies, medium_fault}
 use Rattle.net_scenario.specs.Net.{NetTold}
-use Rattle.window_workers.specs.System.{System}
-use Rattle.window_workers.specs.Order.{in_order}
-use Rattle.window_workers.specs.Agenda.{is_due, packets}
-use Rattle.window_workers.specs.NetStep.{NetState, Run, Done, Turn}
+use Rattle.window_law.specs.System.{System}
+use Rattle.window_law.specs.Order.{in_order}
+use Rattle.window_law.specs.Agenda.{is_due, packets}
+use Rattle.window_law.specs.NetStep.{NetState, Run, Done, Turn}
 use Rattle.window_workers.specs.NetRun.{IsReportOf}
 use Rattle.window_workers.specs.Report.{ReportTold}
 

@@ -3,8 +3,8 @@ use Rattle.process_kernel.specs.declared.line.Line.{Line}
 use Rattle.mote_node.specs.Node.{Node}
 use Rattle.net_scenario.specs.Net.{NetTold}
 use Rattle.window_workers.specs.declared.engine.Engine.{Engine}
-use Rattle.window_workers.specs.NetRun.{system_of}
-use Rattle.window_workers.specs.NetStep.{NetState, Run, boot}
+use Rattle.net_agenda.specs.NetSystem.{system_of}
+use Rattle.window_law.specs.NetStep.{NetState, Run, boot}
 use Rattle.window_workers.specs.Stands.{Stands, IsKept}
 
 -- The engine is where a beginning of the run leads: how the run goes on from there, it goes from boot.

@@ -1,16 +1,59 @@
 -- Laws of the run of a net.
-use Rattle.std.specs.Prelude.{◌≡◌, ℕ, ◌<◌, List, length}
+use Rattle.std.specs.Prelude.{◌≡◌, ℕ, suc, ◌<◌, List, length, map, None}
 use Rattle.std.specs.List.{filter}
+use Rattle.std.specs.List.Sorted.{IsPermutation, IsSortedBy}
+use Rattle.process_kernel.specs.declared.line.Line.{Line}
+use Rattle.process_kernel.specs.declared.line.Sent.{Sent}
 use Rattle.kernel_laws.specs.Going.{IsInOrder}
+use Rattle.mote_node.specs.Node.{Node}
+use Rattle.radio_medium.specs.declared.copy.RadioCopy.{RadioCopy}
+use Rattle.radio_medium.specs.Medium.{medium_fault}
 use Rattle.net_scenario.specs.Net.{NetTold}
-use Rattle.window_workers.specs.Agenda.{Item, is_due}
-use Rattle.window_workers.specs.Buckets.{Buckets, Holds, due_in, gathered}
-use Rattle.window_workers.specs.NetRun.{IsReportOf}
+use Rattle.window_law.specs.System.{IsSystem}
+use Rattle.window_law.specs.Order.{is_sooner}
+use Rattle.window_law.specs.Agenda.{Item, is_due, up_to}
+use Rattle.window_law.specs.Windows.{LoneMote, first_mote, IsJoined, IsLeft, Windows}
+use Rattle.net_agenda.specs.Buckets.{Buckets, Holds, due_in, gathered}
+use Rattle.net_agenda.specs.NetSystem.{system_of}
+use Rattle.window_workers.specs.NetRun.{packet_of, IsReportOf}
 use Rattle.window_workers.specs.Report.{ReportTold}
 
 -- a net has at most one report
 abbrev pub ReportIsOne : Type 0
 ReportIsOne = (n : NetTold) (a b : ReportTold) → IsReportOf n a → IsReportOf n b → b ≡ a
+
+-- A net whose medium is without fault and has a place for each mote, as every `Net` has, runs forward: wakes come later than the
+-- turn, and copies no sooner than the lookahead, which is above 0.
+abbrev pub NetsRunForward : Type 0
+NetsRunForward = (n : NetTold) → medium_fault n.radio ≡ None → length n.radio.places ≡ length n.motes → IsSystem (system_of n)
+
+-- so it has a report
+abbrev pub ReportIsThere : Type 0
+ReportIsThere = (n : NetTold) → medium_fault n.radio ≡ None → length n.radio.places ≡ length n.motes → (r : ReportTold) × IsReportOf n r
+
+-- the packets that the motes sent, sorted by moment, sender and number
+pub record IsMediumLog (n : NetTold) (motes : (number : ℕ) → LoneMote Node Line) (log : List Sent) : Type 0 where
+  pub joined : List Sent
+  pub is_joined : IsJoined (system_of n) motes joined
+  pub same : IsPermutation joined log
+  pub sorted : IsSortedBy is_sooner log
+
+-- what is told where each mote ran alone: its lines, the packets that all sent as a log, and how many copies are left
+abbrev pub told_by : (n : NetTold) → (motes : (number : ℕ) → LoneMote Node Line) → (log : List Sent) → (rest : List RadioCopy) → ReportTold
+told_by n motes log rest = record {
+  traces = map (λ number. (motes number).lines) (up_to (length n.motes));
+  log = map (packet_of n.radio) log;
+  left = length rest;
+}
+
+-- Windows commute. Cut 0 to end + 1 at any rising bounds whose steps are at most the lookahead, and run each mote alone through
+-- each window, the motes of a window in any order, on the copies that earlier windows sent to it: the lines of each mote, the
+-- medium's log sorted by moment, sender and number, and the copies that arrive after the end are those of the net's run.
+abbrev pub WindowsCommute : Type 0
+WindowsCommute = (n : NetTold) → medium_fault n.radio ≡ None → length n.radio.places ≡ length n.motes
+    → (motes : (number : ℕ) → LoneMote Node Line) → Windows (system_of n) 0 (suc n.end) (first_mote (system_of n)) motes
+    → (log : List Sent) → IsMediumLog n motes log → (rest : List RadioCopy) → IsLeft (system_of n) n.end motes rest
+    → IsReportOf n (told_by n motes log rest)
 
 -- the lines of each mote hand its events on, nothing follows a halt, and only a process that is not listed starts
 abbrev pub TracesHandOn : Type 0

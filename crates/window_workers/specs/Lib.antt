@@ -1,12 +1,7 @@
-pub mod Agenda
-pub mod Buckets
 pub mod Counted
 pub mod Ended
 pub mod Laws
 pub mod NetRun
-pub mod NetStep
-pub mod Order
 pub mod Report
 pub mod Stamps
 pub mod Stands
-pub mod System

@@ -12,15 +12,13 @@ use Rattle.mote_node.specs.Turn.{turn_of}
 use Rattle.mote_node.specs.Wake.{wake_of}
 use Rattle.net_scenario.specs.Net.{NetTold}
 use Rattle.window_workers.specs.declared.engine.Engine.{Engine}
-use Rattle.window_workers.specs.Agenda.{mote_of, is_wake_of, wake_items}
-use Rattle.window_workers.specs.Buckets.{Holds}
-use Rattle.window_workers.specs.NetRun.{mote_at, packet_of}
-use Rattle.window_workers.specs.NetStep.{NetState}
+use Rattle.window_law.specs.Agenda.{mote_of, is_wake_of, wake_items}
+use Rattle.net_agenda.specs.Buckets.{Holds}
+use Rattle.net_agenda.specs.NetSystem.{tree_at}
+use Rattle.window_workers.specs.NetRun.{packet_of}
+use Rattle.window_law.specs.NetStep.{NetState}
 use Rattle.window_workers.specs.Report.{told_line}
 use Rattle.mote_program.specs.Code as code
-
-abbrev pub tree_at : NetTold → (mote : ℕ) → code.Tree
-tree_at n mote = (mote_at n.motes mote).tree
 
 abbrev pub OneNode : NetTold → List Mote → NetState Node Line → (mote : ℕ) → Type 0
 OneNode n motes net k = (d : Mote) → node_in (tree_at n k) (slice_index_or motes k d) ≡ Some (net.states k)

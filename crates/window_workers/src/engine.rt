@@ -8,16 +8,16 @@ ghost use Rattle.mote_node.specs.declared.mote.Mote.{Mote as MoteOfCode};
 ghost use Rattle.mote_program.specs.Code.{Tree};
 ghost use Rattle.process_kernel.specs.declared.line.Line.{Line};
 ghost use Rattle.net_scenario.specs.Net.{net_of};
-ghost use Rattle.window_workers.specs.Buckets.{wake_but_at};
-ghost use Rattle.window_workers.specs.NetRun.{system_of, first_node};
-ghost use Rattle.window_workers.specs.NetStep.{NetState, turn_at, boot};
-ghost use Rattle.window_workers.specs.Stands.{tree_at, Stands, IsWhole, IsKept, TakesTurn, AddsLines};
+ghost use Rattle.net_agenda.specs.Buckets.{wake_but_at};
+ghost use Rattle.net_agenda.specs.NetSystem.{system_of, first_node, tree_at};
+ghost use Rattle.window_law.specs.NetStep.{NetState, turn_at, boot};
+ghost use Rattle.window_workers.specs.Stands.{Stands, IsWhole, IsKept, TakesTurn, AddsLines};
 
-use crate::agenda::Agenda;
 use crate::report::LogLine;
 use crate::sends::send_all;
 use mote_node::{Mote, TurnOut};
 use mote_program::Program;
+use net_agenda::{Agenda, new_mote};
 use net_scenario::Net;
 use process_kernel::{Arrival, Line};
 use std::alloc::{AllocError, Global};
@@ -44,19 +44,6 @@ fn wake_but_at(moment: u64, wake: Option<u64>) -> Option<u64>
         }
         None => None,
     }
-}
-
-/// The mote with this number, before its first turn.
-fn new_mote(alloc: Global, net: &Net, number: u16) -> Result<Mote, AllocError>
-    requires { number < length (net_of net.now).motes }
-    ensures { let n = net_of net.now in IfOk result (λ mote. node_in (tree_at n number) mote ≡ Some (first_node n number)) }
-{
-    let made = Mote::new(alloc, number, net.program(number), net.queue(number));
-    let Ok(mut mote) = made else {
-        return Err(AllocError);
-    };
-    mote.set_collide(net.collide());
-    Ok(mote)
 }
 
 /// The turn of one of the motes.
@@ -126,7 +113,6 @@ impl Engine {
     {
         let packets = self.agenda.take_due(moment, number);
         let wake = wake_but_at(moment, wake_at(&self.motes, number));
-        self.agenda.drop_wake(wake, number)?;
         let out = turn_mote(
             &mut self.motes,
             net.program(number),
@@ -134,8 +120,12 @@ impl Engine {
             moment,
             &packets,
         )?;
-        let TurnOut { lines, sends, wake } = out;
-        self.agenda.put_next_wake(wake, number)?;
+        let TurnOut {
+            lines,
+            sends,
+            wake: next,
+        } = out;
+        self.agenda.move_wake(wake, next, number)?;
         send_all(
             net.medium(),
             moment,

@@ -1,12 +1,26 @@
 //! Laws of the run of a net. Each is the contract of a function that does nothing.
 
 ghost use Rattle.window_workers.specs.Counted.{CopiesAreGiven, CopiesComeInTime, FatesTellLeft, LateCopiesStay, LeftIsCounted, TurnsAreGivenAll};
-ghost use Rattle.window_workers.specs.Laws.{BucketsHoldItems, ReportIsOne, TracesHandOn};
+ghost use Rattle.window_workers.specs.Laws.{BucketsHoldItems, NetsRunForward, ReportIsOne, ReportIsThere, TracesHandOn, WindowsCommute};
 ghost use Rattle.window_workers.specs.Stamps.{LogCountsUp, TracesNeverGoBack};
 
 /// A net has at most one report.
 pub fn report_is_one()
     ensures { ReportIsOne }
+{}
+
+/// A net whose medium is without fault and has a place for each mote, as in every `Net`, has a report: its wakes and copies come
+/// later than the turns that make them.
+pub fn report_is_there()
+    ensures forward { NetsRunForward }
+    ensures there { ReportIsThere }
+{}
+
+/// Windows commute. Cut 0 to end + 1 at any rising bounds whose steps are at most the lookahead, and run each mote alone through
+/// each window, the motes of a window in any order, on the copies that earlier windows sent to it. The lines of each mote, the
+/// medium's log sorted by moment, sender and number, and the copies left are those of the net's run.
+pub fn windows_commute()
+    ensures { WindowsCommute }
 {}
 
 /// The lines of each mote of a net hand its events on, nothing follows a halt, and only a process that is not listed starts.

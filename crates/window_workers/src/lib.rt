@@ -1,8 +1,6 @@
 //! Runs of a net: the motes' turns one after another, and what they leave to report.
 #![tactic(auto)]
 
-mod agenda;
-mod bucket;
 mod engine;
 mod error;
 pub mod laws;

@@ -3,14 +3,14 @@
 ghost use Rattle.std.specs.Prelude.{◌≡◌, ◌<◌, ◌≤◌, ◌^◌, List, [], ◌∷◌, ◌++◌, length, map, OnOk};
 ghost use Rattle.std.specs.List.{flat_map};
 ghost use Rattle.radio_medium.specs.Medium.{copies};
-ghost use Rattle.window_workers.specs.Agenda.{Item, Packet};
-ghost use Rattle.window_workers.specs.Buckets.{Holds};
+ghost use Rattle.window_law.specs.Agenda.{Item, Packet};
+ghost use Rattle.net_agenda.specs.Buckets.{Holds};
 ghost use Rattle.window_workers.specs.NetRun.{packet_of};
-ghost use Rattle.window_workers.specs.NetStep.{stamped};
+ghost use Rattle.window_law.specs.NetStep.{stamped};
 ghost use Rattle.window_workers.specs.Report.{told_line};
 
-use crate::agenda::Agenda;
 use crate::report::LogLine;
+use net_agenda::Agenda;
 use process_kernel::Sent;
 use radio_medium::Medium;
 use std::alloc::AllocError;

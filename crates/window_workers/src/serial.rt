@@ -3,8 +3,9 @@
 ghost use Rattle.std.specs.Prelude.{◌≡◌, ◌<◌, length, vec_len, All, IfOk, OnOk, IfErr};
 ghost use Rattle.kernel_laws.specs.Going.{IsInOrder};
 ghost use Rattle.net_scenario.specs.Net.{net_of};
-ghost use Rattle.window_workers.specs.NetRun.{system_of, IsReportOf};
-ghost use Rattle.window_workers.specs.NetStep.{boot};
+ghost use Rattle.net_agenda.specs.NetSystem.{system_of};
+ghost use Rattle.window_workers.specs.NetRun.{IsReportOf};
+ghost use Rattle.window_law.specs.NetStep.{boot};
 ghost use Rattle.window_workers.specs.Report.{report_of};
 ghost use Rattle.window_workers.specs.Stands.{Stands, IsWhole};
 ghost use Rattle.window_workers.specs.Ended.{HasEnded};

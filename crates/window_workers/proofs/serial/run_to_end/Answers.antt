@@ -1,10 +1,13 @@
 use Rattle.std.proofs.Common.{◌≡◌, ◌∙◌, ap, refl, sym, length, None}
 use Rattle.net_scenario.specs.Net.{net_of}
 use Rattle.radio_medium.specs.Medium.{Radio, medium_fault}
-use Rattle.window_workers.specs.Buckets.{first_key}
-use Rattle.window_workers.specs.NetRun.{system_of}
-use Rattle.window_workers.proofs.Ranks.{left_falls}
-use Rattle.window_workers.proofs.Reached.{system_is, reached_first, reached_next, inside_least, ended_past, ended_empty}
+use Rattle.net_agenda.specs.Buckets.{first_key}
+use Rattle.net_agenda.specs.NetSystem.{system_of}
+use Rattle.window_law.specs.NetStep.{turn_at}
+use Rattle.window_law.proofs.Ahead.{turn_ahead}
+use Rattle.net_agenda.proofs.Ranks.{left_falls}
+use Rattle.net_agenda.proofs.Systems.{system_is}
+use Rattle.window_workers.proofs.Reached.{reached_first, reached_next, inside_least, ended_past, ended_empty}
 use Rattle.window_workers.proofs.serial.run_to_end.Goals as goal
 
 pub turns-init : goal.turns-init
@@ -20,12 +23,15 @@ unfolding system_of
 turns-smaller c =
     let n = net_of c.args.net.now in
     let at = c.turns.invariant.reached in
+    let t = c.in-Some.moment in
+    let m = c.in-Some.number in
     let fault : medium_fault n.radio ≡ None = ap medium_fault (sym c.medium.ensures.value) ∙ c.lookahead-ahead.ensures.no_fault in
     let placed : length n.radio.places ≡ length n.motes = ap (λ (r : Radio). length r.places) (sym c.medium.ensures.value) ∙ c.medium.ensures.placed in
     let least = c.in-Some.ensures.least at.state.agenda at.stands.agenda in
     let next = c.in_ok-turn.ensures.stands at.state at.stands at.kept in
-    left_falls (system_of n) (system_is n fault placed) c.end-end.result c.in-Some.moment c.in-Some.number at.state (first_key c.turns.engine.agenda.buckets) (first_key c.turn.new.self.agenda.buckets)
-    c.turn.new.self.agenda.buckets (sym c.in-Some.ensures.first) (inside_least n c.in-Some.moment c.in-Some.number at.state at.kept least) c.if-moment-end.false least.is_first next.agenda refl
+    left_falls (length n.motes) c.end-end.result t m (turn_at (system_of n) t m at.state).agenda (first_key c.turns.engine.agenda.buckets) (first_key c.turn.new.self.agenda.buckets)
+    c.turn.new.self.agenda.buckets (sym c.in-Some.ensures.first) (inside_least n t m at.state at.kept least) c.if-moment-end.false
+    (turn_ahead (system_of n) (system_is n fault placed) t m at.state least.is_first) next.agenda refl
 
 pub turns-preserved : goal.turns-preserved
 turns-preserved c =

@@ -1,9 +1,9 @@
 use Rattle.std.proofs.Common.{length}
 use Rattle.net_scenario.specs.Net.{net_of}
-use Rattle.window_workers.specs.Buckets.{first_key}
+use Rattle.net_agenda.specs.Buckets.{first_key}
 use Rattle.window_workers.specs.Ended.{HasReached}
 use Rattle.window_workers.specs.Stands.{IsWhole}
-use Rattle.window_workers.proofs.Ranks.{turns_left}
+use Rattle.net_agenda.proofs.Ranks.{turns_left}
 use Rattle.window_workers.proofs.serial.run_to_end.Given as goal
 
 abbrev pub invariant-turns : goal.invariant-turns

@@ -3,12 +3,11 @@ use Rattle.mote_node.specs.declared.mote.Mote.{Mote}
 use Rattle.mote_node.specs.Public.{node_in}
 use Rattle.process_kernel.specs.declared.line.Line.{Line}
 use Rattle.net_scenario.specs.Net.{net_of}
-use Rattle.window_workers.specs.Agenda.{Wake, up_to}
-use Rattle.window_workers.specs.Buckets.{Holds}
-use Rattle.window_workers.specs.NetRun.{system_of, first_node}
+use Rattle.window_law.specs.Agenda.{Wake, up_to}
+use Rattle.net_agenda.specs.Buckets.{Holds}
+use Rattle.net_agenda.specs.NetSystem.{system_of, first_node, tree_at}
 use Rattle.window_workers.specs.Report.{told_line}
-use Rattle.window_workers.specs.Stands.{tree_at}
-use Rattle.window_workers.proofs.Boots.{pushed, wakes_more}
+use Rattle.net_agenda.proofs.Boots.{pushed, wakes_more}
 use Rattle.window_workers.proofs.engine.Engine.boot.Goals as goal
 
 pub loop-number-preserved : goal.loop-number-preserved

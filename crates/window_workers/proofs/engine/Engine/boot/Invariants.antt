@@ -5,10 +5,9 @@ use Rattle.mote_node.specs.declared.mote.Mote.{Mote}
 use Rattle.mote_node.specs.Public.{node_in}
 use Rattle.process_kernel.specs.declared.line.Line.{Line}
 use Rattle.net_scenario.specs.Net.{net_of}
-use Rattle.window_workers.specs.Agenda.{Wake, up_to}
-use Rattle.window_workers.specs.Buckets.{Holds}
-use Rattle.window_workers.specs.NetRun.{first_node}
-use Rattle.window_workers.specs.Stands.{tree_at}
+use Rattle.window_law.specs.Agenda.{Wake, up_to}
+use Rattle.net_agenda.specs.Buckets.{Holds}
+use Rattle.net_agenda.specs.NetSystem.{first_node, tree_at}
 use Rattle.window_workers.proofs.engine.Engine.boot.Given as goal
 
 abbrev pub invariant-loop-number : goal.invariant-loop-number

@@ -7,12 +7,13 @@ use Rattle.mote_node.specs.Public.{node_in, wake_in}
 use Rattle.net_scenario.specs.Net.{net_of}
 use Rattle.radio_medium.specs.Medium.{Radio, copies}
 use Rattle.process_kernel.specs.declared.line.Sent.{Sent}
-use Rattle.window_workers.specs.Agenda.{Item, Packet, is_due, is_wake_of, wake_items}
-use Rattle.window_workers.specs.Buckets.{Holds}
+use Rattle.window_law.specs.Agenda.{Item, Packet, is_due, is_wake_of, wake_items}
+use Rattle.net_agenda.specs.Buckets.{Holds}
 use Rattle.window_workers.specs.NetRun.{packet_of}
-use Rattle.window_workers.specs.NetStep.{stamped}
+use Rattle.window_law.specs.NetStep.{stamped}
 use Rattle.window_workers.specs.Report.{told_line}
-use Rattle.window_workers.proofs.Steps.{stands_turn, wake_to_drop, tree_is, sent_of}
+use Rattle.net_agenda.proofs.Systems.{tree_is}
+use Rattle.window_workers.proofs.Steps.{stands_turn, wake_to_drop, sent_of}
 use Rattle.window_workers.proofs.engine.Engine.turn.Goals as goal
 
 pub returns-clause-stands : goal.returns-clause-stands
@@ -23,8 +24,7 @@ returns-clause-stands c = λ state at kept.
     let takes = c.in_ok-out.ensures in
     let taken = c.take_due-packets.ensures.rest state.agenda at.agenda in
     let wakes = λ (x : Tree) (d : Mote). c.wake_at.ensures x d ∙ ap (λ l. wake_in (node_in x (get_or l m d))) c.deref.ensures.value in
-    let dropped = c.in_ok-drop_wake.ensures _ taken (wake_to_drop n t m state c.wake_at.result c.wake_but_at-wake.result c.args.self.now c.requires.there at kept wakes takes.after c.wake_but_at-wake.ensures) in
-    let woken = c.in_ok-put_next_wake.ensures _ dropped in
+    let woken = c.in_ok-move_wake.ensures _ taken (wake_to_drop n t m state c.wake_at.result c.wake_but_at-wake.result c.args.self.now c.requires.there at kept wakes takes.after c.wake_but_at-wake.ensures) in
     let base : List Item = filter (λ item. not (is_wake_of m item)) (filter (λ item. not (is_due t m item)) state.agenda) ++ wake_items m c.in_ok-out.out.wake in
     let sent = c.in_ok-send_all.ensures.agenda _ woken in
     stands_turn n t m state c.args.self.now _ (tree_of c.program.result.now) c.deref-2.result.now c.in_ok-out.out c.requires.there c.requires.whole.motes c.requires.whole.traces at

@@ -1,0 +1,16 @@
+-- A mote wakes at 0 before its first turn.
+use Rattle.std.proofs.Common.{◌≡◌, ℕ, Some, refl}
+use Rattle.process_kernel.specs.Mote.{unbooted}
+use Rattle.mote_node.specs.Node.{new_node}
+use Rattle.mote_node.specs.Wake.{wake_of}
+use Rattle.net_scenario.specs.Net.{NetTold}
+use Rattle.net_agenda.specs.NetSystem.{first_node}
+
+pub new_wakes : (n : NetTold) (k : ℕ) → wake_of (first_node n k) ≡ Some 0
+unfolding new_node unbooted
+new_wakes n k = refl
+
+-- and it knows its number
+pub new_numbers : (n : NetTold) (k : ℕ) → (first_node n k).mote.state.mote ≡ k
+unfolding new_node unbooted
+new_numbers n k = refl

@@ -1,0 +1,36 @@
+-- A net runs forward, and a mote tells when it wakes next.
+use Rattle.std.proofs.Common.{◌≡◌, ℕ, ◌<◌, List, length, map, subst, refl, Option, Some, None, option_map, unwrap_or, slice_get}
+use Rattle.mote_program.specs.Code.{Tree}
+use Rattle.mote_node.specs.Node.{Node}
+use Rattle.mote_node.specs.Turn.{turn_of}
+use Rattle.mote_node.specs.Wake.{wake_of}
+use Rattle.mote_node.proofs.WakeLaws.{wakes_later}
+use Rattle.radio_medium.specs.declared.copy.RadioCopy.{RadioCopy}
+use Rattle.radio_medium.specs.Medium.{medium_fault}
+use Rattle.radio_medium.proofs.Copies.{copies_later}
+use Rattle.radio_medium.proofs.Delays.{lookahead-above}
+use Rattle.net_scenario.specs.Net.{MoteTold, NetTold}
+use Rattle.window_law.specs.System.{IsSystem}
+use Rattle.window_law.proofs.Lists.{every_weaker}
+use Rattle.net_agenda.specs.Buckets.{arrival_of}
+use Rattle.net_agenda.specs.NetSystem.{no_mote, node_turn, system_of}
+
+pub system_is : (n : NetTold) → medium_fault n.radio ≡ None → length n.radio.places ≡ length n.motes → IsSystem (system_of n)
+unfolding system_of
+system_is n fault placed = record {
+  some_lookahead = lookahead-above n.radio fault n.end;
+  wakes_later = λ mote state moment given. wakes_later moment (map arrival_of given) state;
+  copies_later = λ sent. every_weaker _ _ (λ copy h. record { sender = h.sender; to = subst (λ k. copy.to < k) placed h.there; later = h.later n.end }) _ (copies_later n.radio sent);
+}
+
+-- a turn tells the wake of the mote that it leaves
+pub turn_wakes : (mote : ℕ) (state : Node) (moment : ℕ) (given : List RadioCopy) → (node_turn mote state moment given).wake ≡ wake_of (node_turn mote state moment given).state
+unfolding turn_of
+turn_wakes mote state moment given = refl
+
+pub tree_is : (motes : List MoteTold) (k : ℕ) (t : Tree) → option_map (λ (m : MoteTold). m.tree) (slice_get motes k) ≡ Some t → t ≡ (unwrap_or (slice_get motes k) no_mote).tree
+tree_is motes k t e = of (slice_get motes k) e
+  where
+    of : (o : Option MoteTold) → option_map (λ (m : MoteTold). m.tree) o ≡ Some t → t ≡ (unwrap_or o no_mote).tree
+    of None e = cc
+    of (Some m) e = cc

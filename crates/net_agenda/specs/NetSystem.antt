@@ -1,0 +1,48 @@
+-- The motes of a net and the medium between them.
+use Rattle.std.specs.Prelude.{ℕ, List, [], length, map, slice_get, unwrap_or, None}
+use Rattle.mote_program.specs.Code.{Tree}
+use Rattle.process_kernel.specs.declared.line.Line.{Line}
+use Rattle.mote_node.specs.Node.{Node, new_node}
+use Rattle.mote_node.specs.Public.{with_collide}
+use Rattle.mote_node.specs.Turn.{turn_of}
+use Rattle.mote_node.specs.Turn as node
+use Rattle.radio_medium.specs.declared.copy.RadioCopy.{RadioCopy}
+use Rattle.radio_medium.specs.Medium.{copies, lookahead}
+use Rattle.net_scenario.specs.Net.{MoteTold, NetTold}
+use Rattle.window_law.specs.System.{System, Turned}
+use Rattle.net_agenda.specs.Buckets.{arrival_of}
+
+-- stands for a mote past the last one, which never turns
+abbrev pub no_mote : MoteTold
+no_mote = record {
+  program = [];
+  tree = record { events = []; semaphores = []; counts = []; processes = []; autostart = []; receiver = None; codes = []; timers = [] };
+  queue = 1;
+}
+
+abbrev pub mote_at : List MoteTold → (mote : ℕ) → MoteTold
+mote_at motes mote = unwrap_or (slice_get motes mote) no_mote
+
+-- the program of a mote
+abbrev pub tree_at : NetTold → (mote : ℕ) → Tree
+tree_at n mote = (mote_at n.motes mote).tree
+
+-- a mote before its first turn
+abbrev pub first_node : NetTold → (mote : ℕ) → Node
+first_node n mote = let m = mote_at n.motes mote in with_collide n.collide (new_node m.tree mote m.queue)
+
+abbrev pub turned_of : node.Turned → Turned Node Line
+turned_of t = record { state = t.node; lines = t.lines; sends = t.sends; wake = t.wake }
+
+abbrev pub node_turn : (mote : ℕ) → Node → (moment : ℕ) → List RadioCopy → Turned Node Line
+node_turn mote n moment given = turned_of (turn_of moment (map arrival_of given) n)
+
+-- the motes of a net, and its medium
+unfoldable pub system_of : NetTold → System Node Line
+system_of n = record {
+  motes = length n.motes;
+  first = first_node n;
+  turn = node_turn;
+  copies = copies n.radio;
+  lookahead = lookahead n.radio n.end;
+}

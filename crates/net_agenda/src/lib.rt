@@ -1,0 +1,10 @@
+//! What is to come in a net: an agenda in buckets, by moment, then by mote; and a net's motes as they begin.
+#![tactic(auto)]
+
+mod agenda;
+mod bucket;
+mod mote;
+
+pub use agenda::Agenda;
+pub use bucket::Bucket;
+pub use mote::new_mote;

@@ -1,0 +1,12 @@
+pub mod Agenda
+pub mod Ahead
+pub mod Alone
+pub mod Commute
+pub mod Exist
+pub mod History
+pub mod Lists
+pub mod Numbered
+pub mod Order
+pub mod Pending
+pub mod Serial
+pub mod Unique

@@ -1,0 +1,4 @@
+//! The law that windows commute: a net has one run, however time is cut into windows in which each mote runs alone.
+#![tactic(auto)]
+
+pub mod laws;
