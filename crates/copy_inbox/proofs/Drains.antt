@@ -1,11 +1,13 @@
 -- A drain, item by item.
-use Rattle.std.proofs.Common.{◌≡◌, ℕ, ◌+◌, ◌≤◌, Bool, true, false, cond, List, [], ◌∷◌, ◌++◌, length, refl, sym, ap, ◌∙◌, subst, arith, length-append, append-nil, append_assoc}
+use Rattle.std.proofs.Common.{◌≡◌, ◌≢◌, ℕ, ◌+◌, ◌≤◌, Bool, true, false, cond, List, [], ◌∷◌, ◌++◌, length, refl, sym, ap, ◌∙◌, subst, arith, length-append, append-nil, append_assoc}
+use Rattle.std.proofs.lemmas.Bool.{true≢false}
 use Rattle.std.proofs.lemmas.List.{map-append}
 use Rattle.radio_medium.specs.declared.copy.RadioCopy.{RadioCopy}
 use Rattle.copy_inbox.specs.declared.items.Item.{Item}
-use Rattle.copy_inbox.specs.Items.{copies_of, packet_of}
-use Rattle.copy_inbox.specs.Gathered.{known_of, is_gathered, Later}
+use Rattle.copy_inbox.specs.Items.{copies_of, packet_of, part}
+use Rattle.copy_inbox.specs.Gathered.{known_of, is_gathered, Later, NoOthers}
 use Rattle.copy_inbox.specs.Handles.{TakerView, after_taking, IsNext}
+use Rattle.copy_inbox.proofs.Parts.{part-snoc_else}
 
 abbrev pub known_to : TakerView → ℕ
 known_to t = known_of t.desk.gathered t.desk.taken
@@ -18,6 +20,7 @@ pub record Drained (old new : TakerView) (copies : List RadioCopy) (n : ℕ) : T
   pub now : new ≡ after_taking old items
   pub known : known_to old ≤ known_to new + n
   pub later : Later old.desk.made old.desk.gathered → n ≤ known_to old → known_to old ≡ known_to new + n
+  pub others : Later old.desk.made old.desk.gathered → n ≤ known_to old → NoOthers old.desk.gathered old.desk.taken new.desk.taken
 
 pub drain_begins : (t : TakerView) → Drained t t [] 0
 drain_begins t = record {
@@ -27,6 +30,7 @@ drain_begins t = record {
   now = λ i. record { inbox = t.inbox; desk = record { made = t.desk.made; taken = sym (append-nil t.desk.taken) i; gathered = t.desk.gathered } };
   known = omega arith;
   later = λ _ _. omega arith;
+  others = λ _ _ s unseen. refl;
 }
 
 cond_le : (b : Bool) → cond b 1 0 ≤ 1
@@ -56,4 +60,11 @@ drain_goes old t u copies longer k x copy d e next of added =
           let all : b ≡ true = next.1 later' (omega arith) in
           let one : known_to t ≡ 1 + known_to u = down ∙ ap (λ z. cond z 1 0 + known_to u) all in
           omega arith;
+      others = λ later room s unseen.
+          let before = d.later later (omega arith) in
+          let later' : Later t.desk.made t.desk.gathered = subst (λ (y : TakerView). Later y.desk.made y.desk.gathered) (sym d.now) later in
+          let all : b ≡ true = next.1 later' (omega arith) in
+          let unseen' : is_gathered t.desk.gathered s ≡ false = ap (λ y. is_gathered y.desk.gathered s) d.now ∙ unseen in
+          let apart : x.sender ≢ s = λ same. true≢false (sym all ∙ (ap (is_gathered t.desk.gathered) same ∙ unseen')) in
+          ap (λ y. part s y.desk.taken) e ∙ (part-snoc_else s [] t.desk.taken x apart ∙ d.others later (omega arith) s unseen);
     }

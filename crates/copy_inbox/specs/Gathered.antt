@@ -33,3 +33,7 @@ Begun gathered taken = Each (λ (g : Gathered). BeginsWith g.pushed (part g.numb
 -- what was taken of each gathered sender is all that it pushed
 abbrev pub Whole : List Gathered → List Item → Type 0
 Whole gathered taken = Each (λ (g : Gathered). part g.number taken ≡ g.pushed) gathered
+
+-- of senders that aren't gathered nothing more was taken
+abbrev pub NoOthers : List Gathered → (old new : List Item) → Type 0
+NoOthers gathered old new = (s : ℕ) → is_gathered gathered s ≡ false → part s new ≡ part s old

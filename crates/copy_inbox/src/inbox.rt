@@ -4,7 +4,7 @@ ghost use Rattle.std.specs.Prelude.{◌≡◌, ◌≤◌, [], ◌∷◌, ◌++�
 ghost use Rattle.copy_inbox.specs.declared.items.Carried.TheVariants.{Packet};
 ghost use Rattle.copy_inbox.specs.declared.inbox.InboxError.TheVariants.{Memory};
 ghost use Rattle.copy_inbox.specs.Items.{part, BeginsWith, OfMade};
-ghost use Rattle.copy_inbox.specs.Gathered.{known_of, Begun, Whole, Later};
+ghost use Rattle.copy_inbox.specs.Gathered.{known_of, Begun, Whole, Later, NoOthers};
 ghost use Rattle.copy_inbox.specs.Views.{make_desk, make_post};
 ghost use Rattle.copy_inbox.specs.Handles.{InboxId, TakerView, SenderView, after_sender, after_gather, after_taking, TakesCopies, Empties, AllGathered, desk_in, post_in, IsTaker, IsSender, IsNext};
 
@@ -226,6 +226,9 @@ impl Inbox {
 
         // All that is known, where no sender that isn't gathered can stand before it.
         ensures whole { OnOk result (n ≡ known_of taker.old.desk.gathered taker.old.desk.taken → Later taker.old.desk.made taker.old.desk.gathered → Whole taker.new.desk.gathered taker.new.desk.taken) }
+
+        // And then it is of gathered senders alone.
+        ensures others { OnOk result (n ≡ known_of taker.old.desk.gathered taker.old.desk.taken → Later taker.old.desk.made taker.old.desk.gathered → NoOthers taker.old.desk.gathered taker.old.desk.taken taker.new.desk.taken) }
 
         ensures refused { OnErr result (taker.new ≡ taker.old) }
     {

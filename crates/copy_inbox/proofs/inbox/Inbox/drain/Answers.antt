@@ -24,3 +24,9 @@ returns-clause-whole g c = λ all later.
     let known = c.loop.invariant.drained.later later (omega arith) in
     let none : known_to c.loop.taker ≡ 0 = omega arith in
     whole_of c.loop.taker.desk.gathered c.loop.taker.desk.taken none begun
+
+pub returns-clause-others : goal.returns-clause-others
+returns-clause-others g c = λ all later.
+    let end = c.loop-test.false in
+    let top = c.loop.auto.counter-end in
+    c.loop.invariant.drained.others later (omega arith)

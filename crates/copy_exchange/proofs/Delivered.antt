@@ -1,0 +1,142 @@
+-- One copy more is delivered.
+use Rattle.std.proofs.Common.{◌≡◌, ◌≢◌, ℕ, zero, suc, ◌<◌, ◌==◌, Bool, true, false, cond, eqb, List, [], ◌∷◌, ◌++◌, length, filter, get_or, slice_get, slice_index, Option, Some, None, refl, sym, ap, ◌∙◌, subst, ⊎_elim, arith, append-nil, append_assoc, length-set, eq-eqb, ne_eqb}
+use Rattle.std.proofs.Math.Seq.{map-set_same}
+use Rattle.std.proofs.lemmas.Bool.Decides.{eqb_tells}
+use Rattle.std.proofs.lemmas.List.{get_or-set_same, get_or-set_other}
+use Rattle.std.proofs.lemmas.List.Elements.{filter-append}
+use Rattle.std.proofs.lemmas.Option.{slice_get-get_or}
+use Rattle.std.specs.Option.{IsSomeAnd}
+use Rattle.std.specs.Vec.{with_item}
+use Rattle.radio_medium.specs.declared.copy.RadioCopy.{RadioCopy}
+use Rattle.copy_inbox.specs.declared.items.Carried.TheVariants.{Packet}
+use Rattle.copy_inbox.specs.declared.rule.Post.{Post}
+use Rattle.copy_inbox.specs.Views.{make_post}
+use Rattle.copy_inbox.specs.Handles.{InboxId, SenderView}
+use Rattle.copy_exchange.specs.declared.courier.Courier.{Courier}
+use Rattle.copy_exchange.specs.Desks.{copies_pushed}
+use Rattle.copy_exchange.specs.Couriers.{IsCourier, IsSenderOn, Leaves, Stays, Delivers, sender_to, delivered, pushed_by, seat_of, is_to}
+use Rattle.copy_exchange.proofs.Parts.{pushed-append}
+
+same_at : (senders : List (Option SenderView)) (v : ℕ) (d e : Option SenderView) → v < length senders → get_or senders v d ≡ get_or senders v e
+same_at [] v d e lt = absurd (omega arith)
+same_at (s ∷ ss) zero d e lt = refl
+same_at (s ∷ ss) (suc v) d e lt = same_at ss v d e (omega arith)
+
+-- the sender on the inbox of the receiver's worker
+module _ (inboxes : List InboxId) (of : List ℕ) (c : Courier) (copy : RadioCopy) (to mote : ℕ) (courier : IsCourier inboxes c) (leaves : Leaves of (length inboxes) c.worker copy)
+    (at_mote : mote ≡ copy.to) (at_to : to ≡ get_or of mote 0) where
+  pub to_is : to ≡ slice_index of copy.to
+  to_is = at_to ∙ ap (λ k. slice_index of k) at_mote
+
+  pub to_inside : to < length inboxes
+  to_inside = let e = to_is in let h = leaves.its_worker in omega arith
+
+  to_other : (to == c.worker) ≡ false
+  to_other = ap (λ k. k == c.worker) to_is ∙ leaves.other
+
+  -- the sender is there
+  pub never_none : (s : Option SenderView) → s ≡ get_or c.senders.items to s → s ≡ None → ⊥
+  never_none s at_s none =
+      let count = courier.count in
+      let inside = to_inside in
+      let found = slice_get-get_or inboxes to c.taker.inbox inside in
+      let same : sender_to c to ≡ None = same_at c.senders.items to None s (omega arith) ∙ (sym at_s ∙ none) in
+      let id : InboxId = get_or inboxes to c.taker.inbox in
+      let P : Bool → Type 0 = λ b. IsSenderOn id b (sender_to c to) in
+      let Q : Option SenderView → Type 0 = λ t. IsSenderOn id false t in
+      subst Q same (subst P to_other (courier.each to id found))
+
+  pub sender_there : (id : InboxId) (s : Option SenderView) → id ≡ get_or inboxes to id → s ≡ get_or c.senders.items to s → IsSomeAnd s (λ sender. sender.inbox ≡ id)
+  sender_there id s at_id at_s =
+      let count = courier.count in
+      let inside = to_inside in
+      let found : slice_get inboxes to ≡ Some id = slice_get-get_or inboxes to id inside ∙ ap Some (sym at_id) in
+      let same : sender_to c to ≡ s = same_at c.senders.items to None s (omega arith) ∙ sym at_s in
+      let P : Bool → Type 0 = λ b. IsSenderOn id b (sender_to c to) in
+      let Q : Option SenderView → Type 0 = λ t. IsSenderOn id false t in
+      subst Q same (subst P to_other (courier.each to id found))
+
+-- ---- the courier after it
+sender_on : (id : InboxId) (own : Bool) (s t : SenderView) → t.inbox ≡ s.inbox → IsSenderOn id own (Some s) → IsSenderOn id own (Some t)
+sender_on id true s t e h = absurd cc
+sender_on id false s t e h = e ∙ h
+
+abbrev pub with_sender : Courier → (to : ℕ) → SenderView → Courier
+with_sender c to t = record { worker = c.worker; taker = c.taker; senders = with_item c.senders to (Some t) }
+
+module _ (inboxes : List InboxId) (of : List ℕ) (c : Courier) (copy : RadioCopy) (to : ℕ) (courier : IsCourier inboxes c) (inside : to < length inboxes) (is : to ≡ slice_index of copy.to)
+    (s t : SenderView) (was : Some s ≡ get_or c.senders.items to (Some s)) (same_inbox : t.inbox ≡ s.inbox) (post : t.post ≡ make_post s.post.number (s.post.pushed ++ Packet copy ∷ [])) where
+  here : sender_to c to ≡ Some s
+  here = let count = courier.count in same_at c.senders.items to None (Some s) (omega arith) ∙ sym was
+
+  then_here : sender_to (with_sender c to t) to ≡ Some t
+  then_here = let count = courier.count in get_or-set_same c.senders.items to (Some t) None (omega arith)
+
+  then_else : (v : ℕ) → v ≢ to → sender_to (with_sender c to t) v ≡ sender_to c v
+  then_else v n = get_or-set_other c.senders.items to v (Some t) None n
+
+  pub courier_with : IsCourier inboxes (with_sender c to t)
+  courier_with = record {
+    taker = courier.taker;
+    count = length-set c.senders.items to (Some t) ∙ courier.count;
+    each = λ v id found. ⊎_elim
+        (λ (q : (eqb v to ≡ true) × (v ≡ to)).
+        let P : Option SenderView → Type 0 = λ o. IsSenderOn id (v == c.worker) o in
+        let old : IsSenderOn id (v == c.worker) (Some s) = subst P (ap (sender_to c) q.1 ∙ here) (courier.each v id found) in
+        subst P (sym (ap (sender_to (with_sender c to t)) q.1 ∙ then_here)) (sender_on id (v == c.worker) s t same_inbox old))
+        (λ (q : (eqb v to ≡ false) × (v ≢ to)).
+        let P : Option SenderView → Type 0 = λ o. IsSenderOn id (v == c.worker) o in
+        subst P (sym (then_else v q.1)) (courier.each v id found))
+        (eqb_tells v to);
+    stands = courier.stands;
+  }
+
+  adds_at : (v : ℕ) → delivered (with_sender c to t) v ≡ delivered c v ++ filter (is_to of v) (copy ∷ [])
+  adds_at v = ⊎_elim
+      (λ (q : (eqb v to ≡ true) × (v ≡ to)).
+      let e : is_to of v copy ≡ true = eq-eqb (slice_index of copy.to) v (sym (q.1 ∙ is)) in
+      ap pushed_by (ap (sender_to (with_sender c to t)) q.1 ∙ then_here)
+      ∙ (ap (λ (p : Post). copies_pushed p.pushed) post ∙ pushed-append s.post.pushed (Packet copy ∷ []))
+      ∙ ap (λ (o : Option SenderView). pushed_by o ++ copy ∷ []) (sym (ap (sender_to c) q.1 ∙ here))
+      ∙ ap (λ (b : Bool). delivered c v ++ cond b (copy ∷ []) []) (sym e))
+      (λ (q : (eqb v to ≡ false) × (v ≢ to)).
+      let e : is_to of v copy ≡ false = ne_eqb (slice_index of copy.to) v (λ h. q.1 (sym (is ∙ h))) in
+      ap pushed_by (then_else v q.1) ∙ sym (append-nil (delivered c v)) ∙ ap (λ (b : Bool). delivered c v ++ cond b (copy ∷ []) []) (sym e))
+      (eqb_tells v to)
+
+  pub delivers_with : Delivers of c (with_sender c to t) (copy ∷ [])
+  delivers_with = record {
+    stays = record {
+      worker = refl;
+      inbox = refl;
+      made = refl;
+      gathered = refl;
+      seats = map-set_same seat_of c.senders.items to (Some t) (Some s) (ap Some (λ i. (same_inbox i, (post i).number)) ∙ ap seat_of was);
+    };
+    taker = refl;
+    adds = adds_at;
+  }
+
+-- ---- copy by copy
+pub stays_on : (a b c : Courier) → Stays a b → Stays b c → Stays a c
+stays_on a b c h k = record {
+  worker = k.worker ∙ h.worker;
+  inbox = k.inbox ∙ h.inbox;
+  made = k.made ∙ h.made;
+  gathered = k.gathered ∙ h.gathered;
+  seats = k.seats ∙ h.seats;
+}
+
+pub delivers_none : (of : List ℕ) (c : Courier) → Delivers of c c []
+delivers_none of c = record {
+  stays = record { worker = refl; inbox = refl; made = refl; gathered = refl; seats = refl };
+  taker = refl;
+  adds = λ v. sym (append-nil (delivered c v));
+}
+
+pub delivers_more : (of : List ℕ) (a b c : Courier) (xs ys : List RadioCopy) → Delivers of a b xs → Delivers of b c ys → Delivers of a c (xs ++ ys)
+delivers_more of a b c xs ys h k = record {
+  stays = stays_on a b c h.stays k.stays;
+  taker = k.taker ∙ h.taker;
+  adds = λ v. k.adds v ∙ (ap (λ l. l ++ filter (is_to of v) ys) (h.adds v) ∙ (append_assoc (delivered a v) (filter (is_to of v) xs) (filter (is_to of v) ys) ∙ ap (λ l. delivered a v ++ l) (sym (filter-append (is_to of v) xs ys))));
+}

@@ -1,0 +1,260 @@
+-- What the takers have gathered when all couriers are back.
+use Rattle.std.proofs.Common.{◌≡◌, ℕ, zero, suc, ◌+◌, ◌<◌, ◌==◌, Bool, true, false, List, [], ◌∷◌, ◌++◌, length, map, get_or, Option, Some, None, Vec, refl, sym, ap, ◌∙◌, subst, arith}
+use Rattle.std.specs.List.{AllByRecursion as Each, AllZip, cons_option, filter_map, range_with_len}
+use Rattle.std.proofs.lemmas.List.{length-map}
+use Rattle.std.proofs.lemmas.List.Elements.{filter_map-append}
+use Rattle.std.proofs.lemmas.List.FromFn.{length-range_with_len}
+use Rattle.std.proofs.lemmas.Option.{get_or_from_slice_get, slice_get-get_or}
+use Rattle.std.specs.declared.alloc.Global.{Global}
+use Rattle.copy_inbox.specs.declared.rule.Desk.{Desk}
+use Rattle.copy_inbox.specs.Gathered.{is_gathered}
+use Rattle.copy_inbox.specs.Handles.{InboxId, TakerView, SenderView, after_gather}
+use Rattle.copy_exchange.specs.declared.courier.Courier.{Courier}
+use Rattle.copy_exchange.specs.Desks.{copies_in}
+use Rattle.copy_exchange.specs.Couriers.{IsCourier, IsCollected, IsOwn, Stays, AreOpen, Returns, AllReturn, ComesHome, IsSenderOn, sender_to, senders_to, seat_of}
+use Rattle.copy_exchange.specs.Inboxes.{IsSettled, Settled}
+use Rattle.copy_exchange.specs.Steps.{AreTakersOf, AreSendersOn, GathersRow, gather_into, at_place}
+use Rattle.copy_exchange.proofs.Gathers.{gather_posts, gather_is, with_joined, numbers_of, joined_copies, all_gathered, stands_then, OneOf}
+use Rattle.copy_exchange.proofs.Lists.{each_at}
+use Rattle.copy_exchange.proofs.Rows.{into_inbox}
+use Rattle.copy_exchange.proofs.Owns.{workers_of, delivered_is, one_of}
+
+-- ---- what stays is what is asked of the couriers
+read_map : (l : List (Option SenderView)) (v : ℕ) → seat_of (get_or l v None) ≡ get_or (map seat_of l) v None
+read_map [] v = refl
+read_map (x ∷ xs) zero = refl
+read_map (x ∷ xs) (suc v) = read_map xs v
+
+same_seat : (old new : Courier) (v : ℕ) → Stays old new → seat_of (sender_to new v) ≡ seat_of (sender_to old v)
+same_seat old new v h = read_map new.senders.items v ∙ (ap (λ l. get_or l v None) h.seats ∙ sym (read_map old.senders.items v))
+
+numbers_same : (o p : Option SenderView) (ss us : List SenderView) → seat_of o ≡ seat_of p → numbers_of ss ≡ numbers_of us → numbers_of (cons_option o ss) ≡ numbers_of (cons_option p us)
+numbers_same None None ss us e h = h
+numbers_same None (Some q) ss us e h = absurd cc
+numbers_same (Some p) None ss us e h = absurd cc
+numbers_same (Some p) (Some q) ss us e h =
+    let pair : (p.inbox, p.post.number) ≡ (q.inbox, q.post.number) = cc in
+    let number : p.post.number ≡ q.post.number = ap (λ (x : InboxId × ℕ). x.1) pair in
+    λ i. number i ∷ h i
+
+module _ (inboxes : List InboxId) (worker_of : ℕ → ℕ) where
+  abbrev Back : List Courier → List Courier → Type 0
+  Back old new = AllZip (Returns inboxes worker_of) old new
+
+  same_workers : (old new : List Courier) → Back old new → workers_of new ≡ workers_of old
+  same_workers [] [] h = refl
+  same_workers (a ∷ as') (b ∷ bs) h = λ i. h.0.stays.worker i ∷ same_workers as' bs h.1 i
+  same_workers [] (b ∷ bs) h = absurd h
+  same_workers (a ∷ as') [] h = absurd h
+
+  same_numbers : (old new : List Courier) (v : ℕ) → Back old new → numbers_of (senders_to new v) ≡ numbers_of (senders_to old v)
+  same_numbers [] [] v h = refl
+  same_numbers (a ∷ as') (b ∷ bs) v h = numbers_same (sender_to b v) (sender_to a v) (senders_to bs v) (senders_to as' v) (same_seat a b v h.0.stays) (same_numbers as' bs v h.1)
+  same_numbers [] (b ∷ bs) v h = absurd h
+  same_numbers (a ∷ as') [] v h = absurd h
+
+  each_back : (P : Courier → Type 0) → ((a b : Courier) → Returns inboxes worker_of a b → P b) → (old new : List Courier) → Back old new → Each P new
+  each_back P f [] [] h = tt
+  each_back P f (a ∷ as') (b ∷ bs) h = (f a b h.0, each_back P f as' bs h.1)
+  each_back P f [] (b ∷ bs) h = absurd h
+  each_back P f (a ∷ as') [] h = absurd h
+
+  each_still : (P Q : Courier → Type 0) → ((a b : Courier) → P a → Returns inboxes worker_of a b → Q b) → (old new : List Courier) → Each P old → Back old new → Each Q new
+  each_still P Q f [] [] e h = tt
+  each_still P Q f (a ∷ as') (b ∷ bs) e h = (f a b e.0 h.0, each_still P Q f as' bs e.1 h.1)
+  each_still P Q f [] (b ∷ bs) e h = absurd h
+  each_still P Q f (a ∷ as') [] e h = absurd h
+
+open_same : (ss us : List SenderView) (d e : Desk) → AreOpen ss d → numbers_of us ≡ numbers_of ss → e.made ≡ d.made → e.gathered ≡ d.gathered → AreOpen us e
+open_same ss us d e h numbers made gathered =
+    let long : length us ≡ length ss = sym (length-map us (λ (s : SenderView). s.post.number)) ∙ (ap length numbers ∙ length-map ss (λ (s : SenderView). s.post.number)) in
+    record {
+      first = h.first;
+      numbered = numbers ∙ (h.numbered ∙ ap (range_with_len h.first) (sym long));
+      made = made ∙ (h.made ∙ ap (λ n. h.first + n) (sym long));
+      older = λ i lt. ap (λ g. is_gathered g i) gathered ∙ h.older i lt;
+      newer = λ i le. ap (λ g. is_gathered g i) gathered ∙ h.newer i le;
+    }
+
+module _ (P Q R S : Courier → Type 0) where
+  each_three : ((c : Courier) → P c → Q c → R c → S c) → (cs : List Courier) → Each P cs → Each Q cs → Each R cs → Each S cs
+  each_three f [] p q r = tt
+  each_three f (c ∷ cs) p q r = (f c p.0 q.0 r.0, each_three f cs p.1 q.1 r.1)
+
+module _ (inboxes : List InboxId) (cs : List Courier) (back : AllReturn inboxes cs) where
+  abbrev before : List Courier
+  before = back.before
+
+  pub workers : workers_of cs ≡ range_with_len 0 (length inboxes)
+  workers = same_workers inboxes back.worker_of before cs back.each ∙ back.together.workers
+
+  pub count : length cs ≡ length inboxes
+  count = sym (length-map cs (λ (c : Courier). c.worker)) ∙ (ap length workers ∙ length-range_with_len 0 (length inboxes))
+
+  still_open : Each (λ (c : Courier). AreOpen (senders_to cs c.worker) c.taker.desk) cs
+  still_open = each_still inboxes back.worker_of (λ c. AreOpen (senders_to before c.worker) c.taker.desk) (λ c. AreOpen (senders_to cs c.worker) c.taker.desk)
+      (λ a b h r. open_same (senders_to before a.worker) (senders_to cs b.worker) a.taker.desk b.taker.desk h
+      (same_numbers inboxes back.worker_of before cs b.worker back.each ∙ ap (λ v. numbers_of (senders_to before v)) r.stays.worker) r.stays.made r.stays.gathered)
+      before cs back.together.are_open back.each
+
+  pub owns : Each (IsOwn back.worker_of) cs
+  owns = each_back inboxes back.worker_of (IsOwn back.worker_of) (λ a b r. r.own) before cs back.each
+
+  one : (s v : ℕ) → OneOf s (senders_to cs v)
+  one s v = one_of back.worker_of s v 0 cs (workers ∙ ap (range_with_len 0) (sym count)) owns
+
+  -- the taker with all senders of its inbox gathered
+  abbrev pub IsHome : Courier → Type 0
+  IsHome c = IsCourier inboxes c × IsSettled c.taker.inbox (gather_posts c.taker (senders_to cs c.worker)) × ComesHome cs c (gather_posts c.taker (senders_to cs c.worker))
+
+  home : (c : Courier) → AreOpen (senders_to cs c.worker) c.taker.desk → IsCourier inboxes c → IsCollected c → IsHome c
+  home c are_open courier collected =
+      let ss : List SenderView = senders_to cs c.worker in
+      let d : Desk = c.taker.desk in
+      let P : TakerView → Type 0 = λ t. IsSettled c.taker.inbox t × ComesHome cs c t in
+      let then_ : P (record { inbox = c.taker.inbox; desk = with_joined ss d }) = (
+        record {
+          its = refl;
+          stands = stands_then ss d courier.stands collected are_open (λ s. one s c.worker);
+          all = all_gathered ss d courier.stands collected are_open (λ s. one s c.worker);
+        },
+        record {
+          same_taken = refl;
+          adds = joined_copies d.made ss d.gathered ∙ ap (λ l. copies_in d.gathered ++ l) (sym (delivered_is cs c.worker));
+        },
+      ) in
+      let both = subst P (sym (gather_is c.taker ss)) then_ in
+      (courier, both.0, both.1)
+
+  pub homes : Each IsHome cs
+  homes = each_three (λ c. AreOpen (senders_to cs c.worker) c.taker.desk) (IsCourier inboxes) IsCollected IsHome home cs still_open
+      (each_back inboxes back.worker_of (IsCourier inboxes) (λ a b r. r.courier) before cs back.each)
+      (each_back inboxes back.worker_of IsCollected (λ a b r. r.collected) before cs back.each)
+
+-- ---- row by row
+abbrev pub Row : Type 0
+Row = Vec (Option SenderView) Global
+
+-- the senders on the inbox of worker v
+abbrev pub row_senders : List Row → (v : ℕ) → List SenderView
+row_senders rows v = filter_map (λ (r : Row). at_place r.items v) rows
+
+pub record GathersRows (old new : List TakerView) (rows : List Row) : Type 0 where
+  pub count : length new ≡ length old
+  pub taker : (v : ℕ) (t : TakerView) → v < length old → get_or new v t ≡ gather_posts (get_or old v t) (row_senders rows v)
+
+posts_more : (t : TakerView) (ss : List SenderView) (o : Option SenderView) → gather_posts t (ss ++ cons_option o []) ≡ gather_into (gather_posts t ss) o
+posts_more t [] None = refl
+posts_more t [] (Some s) = refl
+posts_more t (s ∷ ss) o = posts_more (after_gather t s.post) ss o
+
+pub no_rows : (old : List TakerView) → GathersRows old old []
+no_rows old = record { count = refl; taker = λ v t lt. refl }
+
+pub more_rows : (old mid new : List TakerView) (rows : List Row) (row : Row) → GathersRows old mid rows → GathersRow mid new row.items → GathersRows old new (rows ++ row ∷ [])
+more_rows old mid new rows row h r =
+    let count = h.count in
+    record {
+      count = r.takers ∙ count;
+      taker = λ v t lt.
+          r.taker v t (omega arith) ∙ (ap (λ u. gather_into u (at_place row.items v)) (h.taker v t lt)
+          ∙ (sym (posts_more (get_or old v t) (row_senders rows v) (at_place row.items v)) ∙ ap (gather_posts (get_or old v t)) (sym (filter_map-append (λ (k : Row). at_place k.items v) rows (row ∷ [])))));
+    }
+
+pub takers_after : (inboxes : List InboxId) (old new : List TakerView) (senders : List (Option SenderView)) → AreTakersOf inboxes old → GathersRow old new senders → AreTakersOf inboxes new
+takers_after inboxes old new senders a r =
+    let count = a.count in
+    record {
+      count = r.takers ∙ count;
+      its = λ v id t lt. ap (λ (u : TakerView). u.inbox) (r.taker v t (omega arith)) ∙ (into_inbox (get_or old v t) (at_place senders v) ∙ a.its v id t lt);
+    }
+
+sender_id : (id : InboxId) (own : Bool) (s : SenderView) → IsSenderOn id own (Some s) → s.inbox ≡ id
+sender_id id true s h = absurd cc
+sender_id id false s h = h
+
+pub senders_on : (inboxes : List InboxId) (c : Courier) → IsCourier inboxes c → AreSendersOn inboxes c.senders.items
+senders_on inboxes c h = record {
+  count = h.count;
+  its = λ v id s lt at.
+      let found = slice_get-get_or inboxes v id lt in
+      let P : Option SenderView → Type 0 = λ o. IsSenderOn (get_or inboxes v id) (v == c.worker) o in
+      sender_id (get_or inboxes v id) (v == c.worker) s (subst P at (h.each v (get_or inboxes v id) found));
+}
+
+rows_of : (cs : List Courier) (v : ℕ) → row_senders (map (λ (c : Courier). c.senders) cs) v ≡ senders_to cs v
+rows_of [] v = refl
+rows_of (c ∷ cs) v = ap (cons_option (sender_to c v)) (rows_of cs v)
+
+each_row : (inboxes : List InboxId) (cs : List Courier) → Each (IsCourier inboxes) cs → Each (λ (r : Row). AreSendersOn inboxes r.items) (map (λ (c : Courier). c.senders) cs)
+each_row inboxes [] h = tt
+each_row inboxes (c ∷ cs) h = (senders_on inboxes c h.0, each_row inboxes cs h.1)
+
+pub row_fits : (inboxes : List InboxId) (cs : List Courier) (rows : List Row) (k : ℕ) (row : Row) → AllReturn inboxes cs → rows ≡ map (λ (c : Courier). c.senders) cs → k < length rows → row ≡ get_or rows k row
+    → AreSendersOn inboxes row.items
+row_fits inboxes cs rows k row back e lt is =
+    let P : Row → Type 0 = λ r. AreSendersOn inboxes r.items in
+    let each : Each P (map (λ (c : Courier). c.senders) cs) = each_row inboxes cs (each_back inboxes back.worker_of (IsCourier inboxes) (λ a b r. r.courier) back.before cs back.each) in
+    subst P (sym is) (each_at P rows k row (subst (λ (l : List Row). Each P l) (sym e) each) lt)
+
+-- ---- place by place
+module _ (P : Courier → Type 0) where
+  pub pick : (k : ℕ) (cs : List Courier) → workers_of cs ≡ range_with_len k (length cs) → Each P cs → (v : ℕ) → v < length cs
+      → (c : Courier) × (c.worker ≡ k + v) × ((t : TakerView) → get_or (map (λ (x : Courier). x.taker) cs) v t ≡ c.taker) × ((d : Courier) → get_or cs v d ≡ c) × P c
+  pick k [] e h v lt = absurd (omega arith)
+  pick k (c ∷ cs) e h zero lt = (c, (let n : c.worker ≡ k = cc in omega arith), λ t. refl, λ d. refl, h.0)
+  pick k (c ∷ cs) e h (suc v) lt =
+      let tail : workers_of cs ≡ range_with_len (k + 1) (length cs) = cc in
+      let p = pick (k + 1) cs tail h.1 v (omega arith) in
+      let is = p.1 in
+      (p.0, omega arith, p.2, p.3, p.4)
+
+pub zip_each : {A B : Type 0} (R : A → B → Type 0) (xs : List A) (ys : List B) → length ys ≡ length xs → ((i : ℕ) (d : A) (e : B) → i < length xs → R (get_or xs i d) (get_or ys i e)) → AllZip R xs ys
+zip_each R [] [] len f = tt
+zip_each R (x ∷ xs) (y ∷ ys) len f = (f 0 x y (omega arith), zip_each R xs ys (omega arith) (λ i d e lt. f (suc i) d e (omega arith)))
+zip_each R [] (y ∷ ys) len f = absurd (omega arith)
+zip_each R (x ∷ xs) [] len f = absurd (omega arith)
+
+module _ (inboxes : List InboxId) (cs : List Courier) (back : AllReturn inboxes cs) where
+  long : length cs ≡ length inboxes
+  long = count inboxes cs back
+
+  picked : (v : ℕ) → v < length cs → (c : Courier) × (c.worker ≡ 0 + v) × ((t : TakerView) → get_or (map (λ (x : Courier). x.taker) cs) v t ≡ c.taker) × ((d : Courier) → get_or cs v d ≡ c) × IsHome inboxes cs back c
+  picked v lt = pick (IsHome inboxes cs back) 0 cs (workers inboxes cs back ∙ ap (range_with_len 0) (sym long)) (homes inboxes cs back) v lt
+
+  inbox_of : (v : ℕ) (id : InboxId) (lt : v < length cs) → (picked v lt).0.taker.inbox ≡ get_or inboxes v id
+  inbox_of v id lt =
+      let p = picked v lt in
+      let is = p.1 in
+      let same : v ≡ p.0.worker = omega arith in
+      sym (ap (λ k. get_or inboxes k id) same ∙ get_or_from_slice_get inboxes p.0.worker p.0.taker.inbox id p.4.0.taker)
+
+  pub start_takers : AreTakersOf inboxes (map (λ (x : Courier). x.taker) cs)
+  start_takers = record {
+    count = length-map cs (λ (c : Courier). c.taker) ∙ long;
+    its = λ v id t lt. let n = long in let inside : v < length cs = omega arith in ap (λ (u : TakerView). u.inbox) ((picked v inside).2 t) ∙ inbox_of v id inside;
+  }
+
+  module _ (ts : List TakerView) (h : GathersRows (map (λ (x : Courier). x.taker) cs) ts (map (λ (x : Courier). x.senders) cs)) where
+    lengths : length ts ≡ length cs
+    lengths = h.count ∙ length-map cs (λ (c : Courier). c.taker)
+
+    taker_is : (v : ℕ) (t : TakerView) (lt : v < length cs) → get_or ts v t ≡ gather_posts (picked v lt).0.taker (senders_to cs (picked v lt).0.worker)
+    taker_is v t lt =
+        let p = picked v lt in
+        let n = length-map cs (λ (c : Courier). c.taker) in
+        let is = p.1 in
+        let same : v ≡ p.0.worker = omega arith in
+        h.taker v t (omega arith) ∙ ((λ i. gather_posts (p.2 t i) (rows_of cs v i)) ∙ ap (λ k. gather_posts p.0.taker (senders_to cs k)) same)
+
+    pub settled : Settled inboxes ts
+    settled = zip_each IsSettled inboxes ts (lengths ∙ long) (λ v id t lt.
+        let n = long in
+        let inside : v < length cs = omega arith in
+        let P : InboxId × TakerView → Type 0 = λ x. IsSettled x.0 x.1 in
+        subst P (λ i. (inbox_of v id inside i, sym (taker_is v t inside) i)) (picked v inside).4.1)
+
+    pub came_home : AllZip (ComesHome cs) cs ts
+    came_home = zip_each (ComesHome cs) cs ts lengths (λ v d t lt.
+        let P : Courier × TakerView → Type 0 = λ x. ComesHome cs x.0 x.1 in
+        subst P (λ i. (sym ((picked v lt).3 d) i, sym (taker_is v t lt) i)) (picked v lt).4.2)

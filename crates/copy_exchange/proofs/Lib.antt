@@ -1,0 +1,11 @@
+pub mod Collected
+pub mod Counted
+pub mod Delivered
+pub mod Gathers
+pub mod Homes
+pub mod Lists
+pub mod Owns
+pub mod Parts
+pub mod Rows
+pub mod Starts
+pub mod Windows

@@ -1,0 +1,22 @@
+-- Lists, element by element.
+use Rattle.std.proofs.Common.{ℕ, zero, suc, ◌<◌, List, [], ◌∷◌, ◌++◌, length, get_or, arith}
+use Rattle.std.specs.List.{AllByRecursion as Each}
+
+module _ {A : Type 0} (P : A → Type 0) where
+  pub each_at : (xs : List A) (i : ℕ) (d : A) → Each P xs → i < length xs → P (get_or xs i d)
+  each_at [] i d h lt = absurd (omega arith)
+  each_at (x ∷ xs) zero d h lt = h.0
+  each_at (x ∷ xs) (suc i) d h lt = each_at xs i d h.1 (omega arith)
+
+  pub each_from : (xs : List A) → ((i : ℕ) (d : A) → i < length xs → P (get_or xs i d)) → Each P xs
+  each_from [] f = tt
+  each_from (x ∷ xs) f = (f 0 x (omega arith), each_from xs (λ i d lt. f (suc i) d (omega arith)))
+
+  pub each_more : (xs : List A) (x : A) → Each P xs → P x → Each P (xs ++ x ∷ [])
+  each_more [] x h p = (p, tt)
+  each_more (y ∷ ys) x h p = (h.0, each_more ys x h.1 p)
+
+module _ {A : Type 0} (P Q : A → Type 0) where
+  pub each_map : (xs : List A) → ((x : A) → P x → Q x) → Each P xs → Each Q xs
+  each_map [] f h = tt
+  each_map (x ∷ xs) f h = (f x h.0, each_map xs f h.1)

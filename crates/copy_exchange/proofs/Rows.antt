@@ -1,0 +1,88 @@
+-- One worker's senders, inbox by inbox.
+use Rattle.std.proofs.Common.{◌≡◌, ◌≢◌, ℕ, zero, suc, ◌+◌, ◌<◌, ◌≤◌, ◌==◌, Bool, true, false, eqb, List, [], ◌∷◌, length, set, get_or, drop, add-one, slice_index_or, Option, Some, None, IfSome, refl, sym, ap, ◌∙◌, ⊎_elim, arith, length-set}
+use Rattle.std.proofs.lemmas.Bool.{cases_lt}
+use Rattle.std.proofs.lemmas.Bool.Decides.{eqb_tells}
+use Rattle.std.proofs.lemmas.List.{get_or-set_same, get_or-set_other}
+use Rattle.copy_inbox.specs.Handles.{InboxId, TakerView, SenderView}
+use Rattle.copy_exchange.specs.Steps.{AreTakersOf, AreSendersOn, GathersRow, Opens, gather_into, at_place, opened, opening}
+
+pub same_read : {A : Type 0} (xs : List A) (i : ℕ) (d e : A) → i < length xs → get_or xs i d ≡ get_or xs i e
+same_read [] i d e lt = absurd (omega arith)
+same_read (x ∷ xs) zero d e lt = refl
+same_read (x ∷ xs) (suc i) d e lt = same_read xs i d e (omega arith)
+
+-- the senders at the first k places are gathered
+pub record GathersTo (k : ℕ) (old new : List TakerView) (senders : List (Option SenderView)) : Type 0 where
+  pub count : length new ≡ length old
+  pub done : (v : ℕ) (t : TakerView) → v < k → v < length old → slice_index_or new v t ≡ gather_into (slice_index_or old v t) (at_place senders v)
+  pub left : (v : ℕ) (t : TakerView) → k ≤ v → v < length old → slice_index_or new v t ≡ slice_index_or old v t
+
+pub gathers_none : (old : List TakerView) (senders : List (Option SenderView)) → GathersTo 0 old old senders
+gathers_none old senders = record { count = refl; done = λ v t lt. absurd (omega arith); left = λ v t le lt. refl }
+
+pub gathers_next : (k : ℕ) (old new : List TakerView) (senders : List (Option SenderView)) (was now : TakerView) (sender : Option SenderView) → GathersTo k old new senders → k < length old
+    → was ≡ get_or new k was → sender ≡ at_place senders k → now ≡ gather_into was sender → GathersTo (k + 1) old (set new k now) senders
+gathers_next k old new senders was now sender h lt at_was at_sender is =
+    let count = h.count in
+    record {
+      count = length-set new k now ∙ count;
+      done = λ v t less inside. ⊎_elim
+          (λ (q : (eqb v k ≡ true) × (v ≡ k)).
+          let here : get_or (set new k now) v t ≡ now = ap (λ i. get_or (set new k now) i t) q.1 ∙ get_or-set_same new k now t (omega arith) in
+          let before : was ≡ get_or old v t = at_was ∙ (same_read new k was t (omega arith) ∙ (h.left k t (omega arith) lt ∙ ap (λ i. get_or old i t) (sym q.1))) in
+          here ∙ (is ∙ (λ i. gather_into (before i) ((at_sender ∙ ap (at_place senders) (sym q.1)) i))))
+          (λ (q : (eqb v k ≡ false) × (v ≢ k)). let n = q.1 in get_or-set_other new k v now t n ∙ h.done v t (omega arith) inside)
+          (eqb_tells v k);
+      left = λ v t more inside. get_or-set_other new k v now t (λ e. absurd (omega arith)) ∙ h.left v t (omega arith) inside;
+    }
+
+pub gathers_row : (k : ℕ) (old new : List TakerView) (senders : List (Option SenderView)) → GathersTo k old new senders → k ≡ length senders → length senders ≡ length old → GathersRow old new senders
+gathers_row k old new senders h end same = record { takers = h.count; taker = λ v t lt. h.done v t (omega arith) lt }
+
+-- each is still the taker of its inbox
+pub into_inbox : (t : TakerView) (s : Option SenderView) → (gather_into t s).inbox ≡ t.inbox
+into_inbox t None = refl
+into_inbox t (Some s) = refl
+
+pub still_takers : (inboxes : List InboxId) (k : ℕ) (old new : List TakerView) (senders : List (Option SenderView)) → AreTakersOf inboxes old → GathersTo k old new senders → AreTakersOf inboxes new
+still_takers inboxes k old new senders a h =
+    let count = a.count in
+    record {
+      count = h.count ∙ count;
+      its = λ v id t lt. ⊎_elim
+          (λ (less : v < k). ap (λ (u : TakerView). u.inbox) (h.done v t less (omega arith)) ∙ (into_inbox (get_or old v t) (at_place senders v) ∙ a.its v id t lt))
+          (λ (more : k ≤ v). ap (λ (u : TakerView). u.inbox) (h.left v t more (omega arith)) ∙ a.its v id t lt)
+          (cases_lt v k);
+    }
+
+pub sender_fits : (inboxes : List InboxId) (senders : List (Option SenderView)) (v : ℕ) (id : InboxId) (sender : Option SenderView) → AreSendersOn inboxes senders → v < length inboxes
+    → id ≡ get_or inboxes v id → sender ≡ at_place senders v → IfSome sender (λ s. s.inbox ≡ id)
+sender_fits inboxes senders v id None h lt at_id at_sender = tt
+sender_fits inboxes senders v id (Some s) h lt at_id at_sender = h.its v id s lt (sym at_sender) ∙ sym at_id
+
+-- the next of the senders that are left
+pub next_is : (senders rest : List (Option SenderView)) (k : ℕ) (sender : Option SenderView) → drop k senders ≡ sender ∷ rest → (k < length senders) × (sender ≡ at_place senders k) × (rest ≡ drop (k + 1) senders)
+next_is [] rest zero sender e = absurd cc
+next_is [] rest (suc k) sender e = absurd cc
+next_is (x ∷ xs) rest zero sender e = (omega arith, cc, cc)
+next_is (x ∷ xs) rest (suc k) sender e =
+    let h = next_is xs rest k sender e in
+    let less = h.0 in
+    (omega arith, h.1, h.2 ∙ rw (add-one k, add-one (suc k)) refl)
+
+-- ---- the senders at the first k places are made
+pub record OpensTo (worker k : ℕ) (old new : List TakerView) (senders : List (Option SenderView)) : Type 0 where
+  pub takers : length new ≡ length old
+  pub count : length senders ≡ k
+  pub taker : (v : ℕ) (t : TakerView) → v < k → v < length old → slice_index_or new v t ≡ opened (v == worker) (slice_index_or old v t)
+  pub sender : (v : ℕ) (t : TakerView) → v < k → v < length old → at_place senders v ≡ opening (v == worker) (slice_index_or old v t)
+  pub left : (v : ℕ) (t : TakerView) → k ≤ v → v < length old → slice_index_or new v t ≡ slice_index_or old v t
+
+opened_inbox : (own : Bool) (t : TakerView) → (opened own t).inbox ≡ t.inbox
+opened_inbox true t = refl
+opened_inbox false t = refl
+
+pub opened_takers : (inboxes : List InboxId) (worker : ℕ) (old new : List TakerView) (senders : List (Option SenderView)) → AreTakersOf inboxes old → Opens worker old new senders → AreTakersOf inboxes new
+opened_takers inboxes worker old new senders a h =
+    let count = a.count in
+    record { count = h.takers ∙ count; its = λ v id t lt. ap (λ (u : TakerView). u.inbox) (h.taker v t (omega arith)) ∙ (opened_inbox (v == worker) (get_or old v t) ∙ a.its v id t lt) }

@@ -1,0 +1,7 @@
+use Rattle.std.proofs.Common.{◌+◌, length, ap, sym, ◌∙◌}
+use Rattle.copy_inbox.specs.Items.{copies_of}
+use Rattle.copy_exchange.proofs.Counted.{gathered_length}
+use Rattle.copy_exchange.proofs.inboxes.known.Goals as goal
+
+pub returns : goal.returns
+returns c = gathered_length c.args.taker.now.desk c.requires.stands ∙ ap (λ n. length (copies_of c.args.taker.now.desk.taken) + n) (sym c.known.ensures)

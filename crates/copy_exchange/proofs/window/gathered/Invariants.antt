@@ -1,0 +1,9 @@
+use Rattle.copy_exchange.specs.Steps.{AreTakersOf}
+use Rattle.copy_exchange.proofs.Homes.{GathersRows}
+use Rattle.copy_exchange.proofs.window.gathered.Given as goal
+
+abbrev pub invariant-loop-senders : goal.invariant-loop-senders
+invariant-loop-senders g l = record {
+  gathered : GathersRows l.initial.takers.items l.takers.items l.yielded;
+  takers : AreTakersOf l.inboxes l.takers.items;
+}

@@ -1,0 +1,128 @@
+-- What a courier carries to and fro in one window.
+use Rattle.std.specs.Prelude.{◌≡◌, ℕ, ◌+◌, ◌<◌, ◌≤◌, ◌==◌, Bool, true, false, List, [], ◌++◌, length, map, filter, slice_get, slice_index, slice_index_or, Option, Some, None}
+use Rattle.std.specs.List.{AllByRecursion as Each, AllZip, filter_map, flat_map, range_with_len}
+use Rattle.std.specs.Option.{IsSomeAnd}
+use Rattle.radio_medium.specs.declared.copy.RadioCopy.{RadioCopy}
+use Rattle.copy_inbox.specs.declared.rule.Desk.{Desk}
+use Rattle.copy_inbox.specs.Gathered.{is_gathered, Whole}
+use Rattle.copy_inbox.specs.Handles.{InboxId, TakerView, SenderView}
+use Rattle.copy_exchange.specs.declared.courier.Courier.{Courier}
+use Rattle.copy_exchange.specs.Desks.{is_from_sender, SameOfEach, copies_pushed, taken_by, gathered_by, Stands}
+
+-- its sender on the inbox of worker v
+abbrev pub sender_to : Courier → (v : ℕ) → Option SenderView
+sender_to c v = slice_index_or c.senders.items v None
+
+abbrev pub pushed_by : Option SenderView → List RadioCopy
+pushed_by None = []
+pushed_by (Some s) = copies_pushed s.post.pushed
+
+-- what it delivered to worker v in this window
+abbrev pub delivered : Courier → (v : ℕ) → List RadioCopy
+delivered c v = pushed_by (sender_to c v)
+
+-- what all couriers delivered to worker v
+abbrev pub delivered_to : List Courier → (v : ℕ) → List RadioCopy
+delivered_to couriers v = flat_map (λ c. delivered c v) couriers
+
+-- on a worker's own inbox there is no sender of it, on each other one there is
+abbrev pub IsSenderOn : InboxId → (own : Bool) → Option SenderView → Type 0
+IsSenderOn id true s = s ≡ None
+IsSenderOn id false s = IsSomeAnd s (λ sender. sender.inbox ≡ id)
+
+-- a courier of one of these inboxes' workers
+pub record IsCourier (inboxes : List InboxId) (c : Courier) : Type 0 where
+  pub taker : slice_get inboxes c.worker ≡ Some c.taker.inbox
+  pub count : length c.senders.items ≡ length inboxes
+  pub each : (v : ℕ) (id : InboxId) → slice_get inboxes v ≡ Some id → IsSenderOn id (v == c.worker) (sender_to c v)
+  pub stands : Stands c.taker.desk
+
+-- all that was gathered before this window is taken
+abbrev pub IsCollected : Courier → Type 0
+IsCollected c = Whole c.taker.desk.gathered c.taker.desk.taken
+
+-- of motes of other workers it delivered nothing
+abbrev pub IsOwn : (worker_of : ℕ → ℕ) → Courier → Type 0
+IsOwn worker_of c = (s v : ℕ) → (worker_of s == c.worker) ≡ false → filter (is_from_sender s) (delivered c v) ≡ []
+
+-- ---- from the start of a window to its end
+-- which sender it is
+abbrev pub seat_of : Option SenderView → Option (InboxId × ℕ)
+seat_of None = None
+seat_of (Some s) = Some (s.inbox, s.post.number)
+
+-- the same courier, whatever it took and delivered
+pub record Stays (old new : Courier) : Type 0 where
+  pub worker : new.worker ≡ old.worker
+  pub inbox : new.taker.inbox ≡ old.taker.inbox
+  pub made : new.taker.desk.made ≡ old.taker.desk.made
+  pub gathered : new.taker.desk.gathered ≡ old.taker.desk.gathered
+  pub seats : map seat_of new.senders.items ≡ map seat_of old.senders.items
+
+-- it took these copies, which are all that was gathered and not yet taken
+pub record Collects (old new : Courier) (copies : List RadioCopy) : Type 0 where
+  pub stays : Stays old new
+  pub adds : taken_by new.taker ≡ taken_by old.taker ++ copies
+  pub in_order : SameOfEach (taken_by new.taker) (gathered_by old.taker)
+  pub all : IsCollected new
+  pub delivers_none : (v : ℕ) → delivered new v ≡ delivered old v
+
+-- the copy is for a mote of worker v
+abbrev pub is_to : (of : List ℕ) → (v : ℕ) → RadioCopy → Bool
+is_to of v copy = slice_index of copy.to == v
+
+-- the copy is for a mote of another of these workers
+pub record Leaves (of : List ℕ) (workers worker : ℕ) (copy : RadioCopy) : Type 0 where
+  pub there : copy.to < length of
+  pub its_worker : slice_index of copy.to < workers
+  pub other : is_to of worker copy ≡ false
+
+-- it delivered these copies, each to the worker of its receiver, in order
+pub record Delivers (of : List ℕ) (old new : Courier) (copies : List RadioCopy) : Type 0 where
+  pub stays : Stays old new
+  pub taker : new.taker ≡ old.taker
+  pub adds : (v : ℕ) → delivered new v ≡ delivered old v ++ filter (is_to of v) copies
+
+-- ---- the couriers of one window
+-- the courier of this taker at the start of a window
+pub record SetsOut (t : TakerView) (c : Courier) : Type 0 where
+  pub same_taken : c.taker.desk.taken ≡ t.desk.taken
+  pub same_gathered : c.taker.desk.gathered ≡ t.desk.gathered
+  pub nothing : (v : ℕ) → delivered c v ≡ []
+
+-- the senders of all workers on the inbox of worker v
+abbrev pub senders_to : List Courier → (v : ℕ) → List SenderView
+senders_to couriers v = filter_map (λ c. sender_to c v) couriers
+
+-- these are the senders of an inbox that aren't gathered, and no others
+pub record AreOpen (senders : List SenderView) (d : Desk) : Type 0 where
+  pub first : ℕ
+  pub numbered : map (λ (s : SenderView). s.post.number) senders ≡ range_with_len first (length senders)
+  pub made : d.made ≡ first + length senders
+  pub older : (i : ℕ) → i < first → is_gathered d.gathered i ≡ true
+  pub newer : (i : ℕ) → first ≤ i → is_gathered d.gathered i ≡ false
+
+-- a courier for each worker, and together they have all senders that aren't gathered
+pub record Together (inboxes : List InboxId) (couriers : List Courier) : Type 0 where
+  pub workers : map (λ (c : Courier). c.worker) couriers ≡ range_with_len 0 (length inboxes)
+  pub each : Each (IsCourier inboxes) couriers
+  pub are_open : Each (λ (c : Courier). AreOpen (senders_to couriers c.worker) c.taker.desk) couriers
+
+-- a courier is back at the end of the window
+pub record Returns (inboxes : List InboxId) (worker_of : ℕ → ℕ) (old new : Courier) : Type 0 where
+  pub stays : Stays old new
+  pub courier : IsCourier inboxes new
+  pub collected : IsCollected new
+  pub own : IsOwn worker_of new
+
+-- the couriers that set out together are back
+pub record AllReturn (inboxes : List InboxId) (couriers : List Courier) : Type 0 where
+  pub before : List Courier
+  pub together : Together inboxes before
+  pub worker_of : ℕ → ℕ
+  pub each : AllZip (Returns inboxes worker_of) before couriers
+
+-- the taker of a courier after the window: it has gathered what all couriers delivered to its worker
+pub record ComesHome (couriers : List Courier) (c : Courier) (t : TakerView) : Type 0 where
+  pub same_taken : t.desk.taken ≡ c.taker.desk.taken
+  pub adds : gathered_by t ≡ gathered_by c.taker ++ delivered_to couriers c.worker

@@ -1,0 +1,4 @@
+pub mod Couriers
+pub mod Desks
+pub mod Inboxes
+pub mod Steps

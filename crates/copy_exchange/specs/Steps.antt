@@ -1,0 +1,40 @@
+-- The steps before a window and after it, inbox by inbox.
+use Rattle.std.specs.Prelude.{◌≡◌, ℕ, ◌<◌, ◌==◌, Bool, cond, List, [], length, slice_index_or, Option, Some, None}
+use Rattle.copy_inbox.specs.Views.{make_post}
+use Rattle.copy_inbox.specs.Handles.{InboxId, TakerView, SenderView, after_sender, after_gather}
+
+-- each taker is that of the inbox at its place
+pub record AreTakersOf (inboxes : List InboxId) (takers : List TakerView) : Type 0 where
+  pub count : length takers ≡ length inboxes
+  pub its : (v : ℕ) (id : InboxId) (t : TakerView) → v < length inboxes → (slice_index_or takers v t).inbox ≡ slice_index_or inboxes v id
+
+abbrev pub at_place : List (Option SenderView) → (v : ℕ) → Option SenderView
+at_place senders v = slice_index_or senders v None
+
+-- ---- a worker's new senders
+abbrev pub opened : (own : Bool) → TakerView → TakerView
+opened own t = cond own t (after_sender t)
+
+abbrev pub opening : (own : Bool) → TakerView → Option SenderView
+opening own t = cond own None (Some (record { inbox = t.inbox; post = make_post t.desk.made [] }))
+
+-- on each inbox but its own the worker has a sender more
+pub record Opens (worker : ℕ) (old new : List TakerView) (senders : List (Option SenderView)) : Type 0 where
+  pub takers : length new ≡ length old
+  pub count : length senders ≡ length old
+  pub taker : (v : ℕ) (t : TakerView) → v < length old → slice_index_or new v t ≡ opened (v == worker) (slice_index_or old v t)
+  pub sender : (v : ℕ) (t : TakerView) → v < length old → at_place senders v ≡ opening (v == worker) (slice_index_or old v t)
+
+-- ---- a worker's senders are gathered
+abbrev pub gather_into : TakerView → Option SenderView → TakerView
+gather_into t None = t
+gather_into t (Some s) = after_gather t s.post
+
+-- each sender is one of the inbox at its place
+pub record AreSendersOn (inboxes : List InboxId) (senders : List (Option SenderView)) : Type 0 where
+  pub count : length senders ≡ length inboxes
+  pub its : (v : ℕ) (id : InboxId) (s : SenderView) → v < length inboxes → at_place senders v ≡ Some s → s.inbox ≡ slice_index_or inboxes v id
+
+pub record GathersRow (old new : List TakerView) (senders : List (Option SenderView)) : Type 0 where
+  pub takers : length new ≡ length old
+  pub taker : (v : ℕ) (t : TakerView) → v < length old → slice_index_or new v t ≡ gather_into (slice_index_or old v t) (at_place senders v)

@@ -1,0 +1,74 @@
+//! The inboxes of all workers, before the first window and after the last.
+
+ghost use Rattle.std.specs.Prelude.{◌≡◌, ◌+◌, length, map, IfOk};
+ghost use Rattle.std.specs.List.{AllByRecursion as Each, zip};
+ghost use Rattle.copy_inbox.specs.Handles.{AllGathered};
+ghost use Rattle.copy_exchange.specs.Desks.{taken_by, gathered_by};
+ghost use Rattle.copy_exchange.specs.Inboxes.{IsFresh, IsSettled};
+
+use copy_inbox::{Inbox, InboxError, Taker};
+use std::alloc::Global;
+use std::sync::Wait;
+
+/// So many new inboxes, each with its taker.
+pub fn make_inboxes(alloc: Global, count: usize) -> Result<Vec<(Inbox, Taker)>, InboxError>
+    ensures count { IfOk result (λ pairs. length pairs.items ≡ count) }
+    ensures fresh { IfOk result (λ pairs. Each (λ pair. IsFresh pair.0 pair.1) pairs.items) }
+{
+    let mut pairs = Vec::with_capacity(alloc, count)?;
+    for _ in 0..count {
+        pairs.push_reserved(Inbox::make(alloc)?);
+    }
+    Ok(pairs)
+}
+
+/// The inboxes, and their takers.
+pub fn parted(
+    alloc: Global,
+    pairs: Vec<(Inbox, Taker)>,
+) -> Result<(Vec<Inbox>, Vec<Taker>), InboxError>
+    ensures inboxes { IfOk result (λ r. r.0.items ≡ map (λ pair. pair.0) pairs.items) }
+    ensures takers { IfOk result (λ r. r.1.items ≡ map (λ pair. pair.1) pairs.items) }
+{
+    let mut inboxes = Vec::with_capacity(alloc, pairs.len())?;
+    let mut takers = Vec::with_capacity(alloc, pairs.len())?;
+    for (inbox, taker) in pairs {
+        inboxes.push_reserved(inbox);
+        takers.push_reserved(taker);
+    }
+    Ok((inboxes, takers))
+}
+
+/// Each inbox with its taker.
+pub fn paired(
+    alloc: Global,
+    inboxes: Vec<Inbox>,
+    takers: Vec<Taker>,
+) -> Result<Vec<(Inbox, Taker)>, InboxError>
+    ensures { IfOk result (λ pairs. pairs.items ≡ zip inboxes.items takers.items) }
+{
+    let mut pairs = Vec::with_capacity(alloc, inboxes.len())?;
+    for pair in inboxes.into_iter().zip(takers) {
+        pairs.push_reserved(pair);
+    }
+    Ok(pairs)
+}
+
+/// How many copies were delivered to a worker and not yet taken by it, between windows.
+pub fn known(inbox: &Inbox, taker: &Taker) -> u64
+    requires { IsSettled inbox.now taker.now }
+    ensures { length (gathered_by taker.now) ≡ length (taken_by taker.now) + result }
+{
+    inbox.known(taker)
+}
+
+/// Ends all inboxes. The copies that are left in them are given up.
+pub fn close_inboxes<R: Wait>(rt: &R, pairs: Vec<(Inbox, Taker)>) -> Result<(), InboxError>
+    requires inbox { Each (λ pair. pair.1.inbox ≡ pair.0) pairs.items }
+    requires gathered { Each (λ pair. AllGathered pair.1.desk) pairs.items }
+{
+    for (inbox, taker) in pairs {
+        inbox.close(rt, taker)?;
+    }
+    Ok(())
+}

@@ -1,0 +1,11 @@
+//! The inboxes of all workers, window by window. No copy that one worker delivers to another is lost, doubled or made
+//! up, and each mote's copies stay in order.
+#![tactic(auto)]
+
+pub mod courier;
+pub mod inboxes;
+pub mod window;
+
+pub use courier::Courier;
+pub use inboxes::{close_inboxes, known, make_inboxes, paired, parted};
+pub use window::{couriers, gathered};

@@ -1,0 +1,133 @@
+//! Before a window and after it.
+
+ghost use Rattle.std.specs.Prelude.{◌≡◌, ◌≤◌, ◌^◌, length, map, IfOk, IfSome, OnOk};
+ghost use Rattle.std.specs.List.{AllZip};
+ghost use Rattle.copy_exchange.specs.Couriers.{Together, SetsOut, AllReturn, ComesHome};
+ghost use Rattle.copy_exchange.specs.Inboxes.{Settled};
+ghost use Rattle.copy_exchange.specs.Steps.{AreTakersOf, Opens, opened, opening, AreSendersOn, gather_into, GathersRow};
+
+use crate::courier::Courier;
+use copy_inbox::{Inbox, InboxError, Sender, Taker};
+use std::alloc::Global;
+use std::sync::Wait;
+
+/// Before a window: a courier for each worker, with a new sender on the inbox of each other one.
+pub fn couriers(
+    alloc: Global,
+    inboxes: &[Inbox],
+    takers: Vec<Taker>,
+) -> Result<Vec<Courier>, InboxError>
+    requires few { length inboxes.now ≤ 2 ^ 16 }
+    requires settled { Settled inboxes.now takers.items }
+    ensures together { IfOk result (λ couriers. Together inboxes.now couriers.items) }
+    ensures set_out { IfOk result (λ couriers. AllZip SetsOut takers.items couriers.items) }
+{
+    let mut takers = takers;
+    let mut rows = Vec::with_capacity(alloc, inboxes.len())?;
+    for worker in 0..inboxes.len() {
+        rows.push_reserved(senders_of(alloc, inboxes, &mut takers, worker)?);
+    }
+    let mut couriers = Vec::with_capacity(alloc, inboxes.len())?;
+    for (taker, senders) in takers.into_iter().zip(rows) {
+        couriers.push_reserved(Courier {
+            worker: couriers.len() as u16,
+            taker,
+            senders,
+        });
+    }
+    Ok(couriers)
+}
+
+// The senders of one worker, one on the inbox of each other worker.
+fn senders_of(
+    alloc: Global,
+    inboxes: &[Inbox],
+    takers: &mut Vec<Taker>,
+    worker: usize,
+) -> Result<Vec<Option<Sender>>, InboxError>
+    requires { AreTakersOf inboxes.now takers.old.items }
+    ensures { IfOk result (λ senders. Opens worker takers.old.items takers.new.items senders.items) }
+{
+    let mut senders = Vec::with_capacity(alloc, inboxes.len())?;
+    for other in 0..inboxes.len() {
+        let sender = sender_on(&inboxes[other], &mut takers[other], other == worker)?;
+        senders.push_reserved(sender);
+    }
+    Ok(senders)
+}
+
+// A new sender on an inbox; none on the worker's own.
+fn sender_on(inbox: &Inbox, taker: &mut Taker, own: bool) -> Result<Option<Sender>, InboxError>
+    requires { taker.old.inbox ≡ inbox.now }
+    ensures sender { IfOk result (λ sender. sender ≡ opening own taker.old) }
+    ensures taker { OnOk result (taker.new ≡ opened own taker.old) }
+{
+    if own {
+        return Ok(None);
+    }
+    let sender = inbox.sender(taker)?;
+    Ok(Some(sender))
+}
+
+/// After a window, when all couriers are back: each worker's taker gathers what was delivered to it.
+pub fn gathered<R: Wait>(
+    rt: &R,
+    alloc: Global,
+    inboxes: &[Inbox],
+    couriers: Vec<Courier>,
+) -> Result<Vec<Taker>, InboxError>
+    requires { AllReturn inboxes.now couriers.items }
+    ensures settled { IfOk result (λ takers. Settled inboxes.now takers.items) }
+    ensures came_home { IfOk result (λ takers. AllZip (ComesHome couriers.items) couriers.items takers.items) }
+{
+    let (mut takers, rows) = unloaded(alloc, couriers)?;
+    for senders in rows {
+        gather_all(rt, inboxes, &mut takers, senders);
+    }
+    Ok(takers)
+}
+
+/// The senders of all workers, each worker's in a row.
+type Rows = Vec<Vec<Option<Sender>>>;
+
+// The takers of the couriers, and their senders.
+fn unloaded(alloc: Global, couriers: Vec<Courier>) -> Result<(Vec<Taker>, Rows), InboxError>
+    ensures takers { IfOk result (λ r. r.0.items ≡ map (λ courier. courier.taker) couriers.items) }
+    ensures rows { IfOk result (λ r. r.1.items ≡ map (λ courier. courier.senders) couriers.items) }
+{
+    let mut takers = Vec::with_capacity(alloc, couriers.len())?;
+    let mut rows = Vec::with_capacity(alloc, couriers.len())?;
+    for courier in couriers {
+        let Courier { taker, senders, .. } = courier;
+        takers.push_reserved(taker);
+        rows.push_reserved(senders);
+    }
+    Ok((takers, rows))
+}
+
+// One worker's senders are gathered, each by the taker of its inbox.
+fn gather_all<R: Wait>(
+    rt: &R,
+    inboxes: &[Inbox],
+    takers: &mut Vec<Taker>,
+    senders: Vec<Option<Sender>>,
+)
+    requires takers { AreTakersOf inboxes.now takers.old.items }
+    requires senders { AreSendersOn inboxes.now senders.items }
+    ensures { GathersRow takers.old.items takers.new.items senders.items }
+{
+    for (place, sender) in senders.into_iter().enumerate() {
+        gather_one(rt, &inboxes[place], &mut takers[place], sender);
+    }
+}
+
+// Gathers a sender, where there is one.
+fn gather_one<R: Wait>(rt: &R, inbox: &Inbox, taker: &mut Taker, sender: Option<Sender>)
+    requires taker { taker.old.inbox ≡ inbox.now }
+    requires sender { IfSome sender (λ s. s.inbox ≡ inbox.now) }
+    ensures { taker.new ≡ gather_into taker.old sender }
+{
+    if let Some(sender) = sender {
+        inbox.gather(rt, taker, sender);
+    }
+}
