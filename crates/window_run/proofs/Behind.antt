@@ -1,0 +1,46 @@
+-- A window's run behind earlier lines and packets, and its last wake.
+use Rattle.std.proofs.Common.{◌≡◌, ℕ, List, map, refl, sym, subst, append_assoc}
+use Rattle.std.specs.List.{filter}
+use Rattle.process_kernel.specs.declared.line.Arrival.{Arrival}
+use Rattle.process_kernel.specs.declared.line.Line.{Line}
+use Rattle.process_kernel.specs.declared.line.Sent.{Sent}
+use Rattle.mote_node.specs.Node.{Node}
+use Rattle.mote_node.specs.Wake.{wake_of}
+use Rattle.mote_node.specs.Turn.{turn_of}
+use Rattle.radio_medium.specs.declared.copy.RadioCopy.{RadioCopy}
+use Rattle.window_law.specs.NetStep.{sends_of}
+use Rattle.window_law.specs.Order.{in_order}
+use Rattle.window_law.specs.System.{System, Turned}
+use Rattle.window_law.specs.Windows.{is_at, Alone}
+use Rattle.window_law.specs.Windows.Alone.{Rests, Turns}
+use Rattle.window_run.specs.Laws.{behind, EarlierStaysInFront, EndsWithItsWake}
+use Rattle.window_run.specs.Window.{arrival_of, node_turn, Standing}
+use Rattle.window_run.proofs.Ends.{some_system}
+
+module _ (system : System Node Line) (number bound : ℕ) (lines : List Line) (sends : List Sent) where
+  alone_behind : {inbox : List RadioCopy} {mote last : Standing} → Alone system number bound inbox mote last → Alone system number bound inbox (behind lines sends mote) (behind lines sends last)
+  alone_behind (Rests quiet) = Rests quiet
+  alone_behind {inbox} {mote} (Turns m quiet comes below rest) =
+      let t = system.turn number mote.state m (in_order (filter (is_at m) inbox)) in
+      Turns m quiet comes below (rw (append_assoc lines mote.lines t.lines, append_assoc sends mote.sends (sends_of m number t)) (alone_behind rest))
+
+pub earlier_stays_in_front : EarlierStaysInFront
+earlier_stays_in_front window last run lines sends = λ system turns. alone_behind system window.mote.state.mote.state.mote window.until lines sends (run system turns)
+
+turn_wakes : (m : ℕ) (given : List Arrival) (n : Node) → (turn_of m given n).wake ≡ wake_of (turn_of m given n).node
+unfolding turn_of
+turn_wakes m given n = refl
+
+module _ (system : System Node Line) (turns : system.turn ≡ node_turn) (number bound : ℕ) where
+  turned_wakes : (m : ℕ) (given : List RadioCopy) (n : Node) → (system.turn number n m given).wake ≡ wake_of (system.turn number n m given).state
+  turned_wakes m given n =
+      let P : ((number : ℕ) → Node → (moment : ℕ) → List RadioCopy → Turned Node Line) → Type 0 = λ turn. (turn number n m given).wake ≡ wake_of (turn number n m given).state in
+      subst P (sym turns) (turn_wakes m (map arrival_of given) n)
+
+  alone_wakes : {inbox : List RadioCopy} {mote last : Standing} → mote.wake ≡ wake_of mote.state → Alone system number bound inbox mote last → last.wake ≡ wake_of last.state
+  alone_wakes wakes (Rests quiet) = wakes
+  alone_wakes {inbox} {mote} wakes (Turns m quiet comes below rest) = alone_wakes (turned_wakes m (in_order (filter (is_at m) inbox)) mote.state) rest
+
+pub ends_with_its_wake : EndsWithItsWake
+ends_with_its_wake window last wakes run =
+    let system = some_system window.mote.state in alone_wakes system refl window.mote.state.mote.state.mote window.until wakes (run system refl)

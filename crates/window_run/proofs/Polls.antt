@@ -1,0 +1,60 @@
+-- What a window may give, at its end and before a turn.
+use Rattle.std.proofs.Common.{◌≡◌, ℕ, not, List, map, Option, Some, None, Result, Ok, Err, sym, subst}
+use Rattle.std.specs.Prelude.{IfSome}
+use Rattle.std.specs.List.{filter}
+use Rattle.process_kernel.specs.declared.line.Line.{Line}
+use Rattle.mote_node.specs.declared.mote.MoteError.{MoteError}
+use Rattle.mote_node.specs.Node.{Node}
+use Rattle.mote_laws.proofs.Stamps.{turns_stamp}
+use Rattle.radio_medium.specs.declared.copy.RadioCopy.{RadioCopy}
+use Rattle.window_law.specs.Order.{in_order}
+use Rattle.window_law.specs.System.{Turned}
+use Rattle.window_law.specs.Windows.{after_own, is_at, Alone}
+use Rattle.window_law.specs.Windows.Alone.{Rests, Turns}
+use Rattle.window_run.specs.declared.out.WindowOut.{WindowOut}
+use Rattle.window_run.specs.Window.{Window, Standing, HasTurn, IsOver, turn_at, EndsAs, arrival_of, number_of}
+use Rattle.window_run.specs.Out.{shown, Gives}
+use Rattle.window_run.specs.declared.own.OwnWindow.{OwnWindow}
+use Rattle.window_run.specs.Own.{window_in}
+use Rattle.window_run.specs.Turns.{MayGive, MayAnswer, TurnsTo}
+
+pub at_rest : (old : Option OwnWindow) (own : OwnWindow) (out : WindowOut) → Some own ≡ old
+    → IfSome (window_in own) IsOver → IfSome (window_in own) (λ w. shown w.program out ≡ Some w.mote) → MayGive old out
+at_rest old own out is over made = rw (← is) (given (window_in own) over made)
+  where
+    given : (window : Option Window) → IfSome window IsOver → IfSome window (λ w. shown w.program out ≡ Some w.mote) → IfSome window (λ w. Gives w out)
+    given None over made = tt
+    given (Some w) over made = record { last = w.mote; run = λ system turns. Rests over; given = made }
+
+-- a run goes on from a turn before it
+turn_before : (w v : Window) (moment : ℕ) (last : Standing) → HasTurn moment w → v ≡ turn_at moment w → EndsAs v last → EndsAs w last
+turn_before w v moment last left made run = λ system turns. (
+    let given = in_order (filter (is_at moment) w.copies) in
+    let number = number_of w.mote.state in
+    let rest : List RadioCopy = filter (λ copy. not (is_at moment copy)) w.copies in
+    let after = run_at made system turns in
+    let same : number_of (turn_at moment w).mote.state ≡ number = (turns_stamp moment (map arrival_of given) w.mote.state).mote in
+    let P : ℕ → Type 0 = λ k. Alone system k w.until rest (turn_at moment w).mote last in
+    let Q : ((number : ℕ) → Node → (moment : ℕ) → List RadioCopy → Turned Node Line) → Type 0 = λ turn. Alone system number w.until rest (after_own moment number w.mote (turn number w.mote.state moment given)) last in
+    Turns moment left.next.quiet left.next.comes left.in_window (subst Q (sym turns) (subst P same after)))
+  where
+    run_at : v ≡ turn_at moment w → EndsAs (turn_at moment w) last
+    run_at e = subst (λ u. EndsAs u last) e run
+
+gives_before : (w v : Window) (moment : ℕ) (out : WindowOut) → HasTurn moment w → v ≡ turn_at moment w → Gives v out → Gives w out
+gives_before w v moment out left made g = record {
+  last = g.last;
+  run = turn_before w v moment g.last left made g.run;
+  given = subst (λ u. shown u.program out ≡ Some g.last) made g.given;
+}
+
+given_before : (window new : Option Window) (moment : ℕ) (out : WindowOut) → IfSome window (HasTurn moment) → TurnsTo moment window new
+    → IfSome new (λ w. Gives w out) → IfSome window (λ w. Gives w out)
+given_before None new moment out left turned h = tt
+given_before (Some w) None moment out left turned h = absurd turned
+given_before (Some w) (Some v) moment out left turned h = gives_before w v moment out left turned h
+
+pub before_turn : (old : Option OwnWindow) (own new : OwnWindow) (moment : ℕ) → Some own ≡ old
+    → IfSome (window_in own) (HasTurn moment) → TurnsTo moment (window_in own) (window_in new) → (r : Result WindowOut MoteError) → MayAnswer (Some new) r → MayAnswer old r
+before_turn old own new moment is left turned (Ok out) h = rw (← is) (given_before (window_in own) (window_in new) moment out left turned h)
+before_turn old own new moment is left turned (Err e) h = tt

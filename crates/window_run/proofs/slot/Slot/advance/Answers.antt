@@ -1,0 +1,5 @@
+use Rattle.std.proofs.Common.{Ok}
+use Rattle.window_run.proofs.slot.Slot.advance.Goals as goal
+
+pub returns-in_default-poll-clause-same : goal.returns-in_default-poll-clause-same
+returns-in_default-poll-clause-same g c = λ out h. rw c.in-Running.is (c.in_default-poll.ensures.same (Ok out) h)

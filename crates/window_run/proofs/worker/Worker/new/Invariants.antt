@@ -1,0 +1,12 @@
+use Rattle.std.specs.List.{AllZip}
+use Rattle.std.specs.Vec.Iter.{into_iter_items}
+use Rattle.net_scenario.specs.Net.{net_of}
+use Rattle.window_run.specs.Shares.{AreInNet}
+use Rattle.window_run.specs.Slots.{IsOf}
+use Rattle.window_run.proofs.worker.Worker.new.Given as goal
+
+abbrev pub invariant-loop-resident : goal.invariant-loop-resident
+invariant-loop-resident g l = record {
+  opened : AllZip (IsOf (net_of l.net) l.until) l.yielded l.slots.items;
+  there : AreInNet (net_of l.net) (into_iter_items l.resident-iterator);
+}

@@ -1,0 +1,12 @@
+use Rattle.std.proofs.Common.{◌≡◌, List, vec_len}
+use Rattle.futures.specs.Task.{Keeps}
+use Rattle.window_run.specs.declared.out.WindowOut.{WindowOut}
+use Rattle.window_run.specs.Slots.{SlotsGive}
+use Rattle.window_run.proofs.worker.advance_each.Given as goal
+
+abbrev pub invariant-loop-k : goal.invariant-loop-k
+invariant-loop-k g l = record {
+  len : vec_len l.slots ≡ l.k-end;
+  same : (outs : List WindowOut) → SlotsGive l.slots.items outs → SlotsGive l.fn.slots.items outs;
+  kept : Keeps l.fn.cx l.cx;
+}

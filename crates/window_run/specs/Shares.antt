@@ -1,0 +1,25 @@
+-- What the motes of a worker give.
+use Rattle.std.specs.Prelude.{ℕ, ◌<◌, List, length, Option, IfSome, slice_get}
+use Rattle.std.specs.List.{AllZip, AllByRecursion}
+use Rattle.mote_node.specs.Public.{node_in}
+use Rattle.net_scenario.specs.Net.{MoteTold, NetTold}
+use Rattle.window_run.specs.declared.out.WindowOut.{WindowOut}
+use Rattle.window_run.specs.declared.share.Resident.{Resident}
+use Rattle.window_run.specs.Window.{Window, opened}
+use Rattle.window_run.specs.Out.{Gives}
+
+-- a resident before its first turn in a window
+abbrev pub window_of : (until : ℕ) → MoteTold → Resident → Option Window
+window_of until m resident = opened m.tree until resident.copies.items (node_in m.tree resident.mote)
+
+-- a resident, which is this mote of the net, gives what its window's run says
+abbrev pub ResidentGives : NetTold → (until : ℕ) → Resident → WindowOut → Type 0
+ResidentGives n until resident out = IfSome (slice_get n.motes resident.number) (λ m. IfSome (window_of until m resident) (λ w. Gives w out))
+
+-- so do all, place by place
+abbrev pub GivesList : NetTold → (until : ℕ) → List Resident → List WindowOut → Type 0
+GivesList n until residents outs = AllZip (ResidentGives n until) residents outs
+
+-- each is a mote of the net
+abbrev pub AreInNet : NetTold → List Resident → Type 0
+AreInNet n residents = AllByRecursion (λ resident. resident.number < length n.motes) residents

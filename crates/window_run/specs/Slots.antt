@@ -1,0 +1,32 @@
+-- What a worker's slots give.
+use Rattle.std.specs.Prelude.{◌≡◌, ℕ, Bool, true, false, List, Result, IfOk, Vec}
+use Rattle.std.specs.List.{AllZip}
+use Rattle.std.specs.declared.alloc.Global.{Global}
+use Rattle.mote_node.specs.declared.mote.MoteError.{MoteError}
+use Rattle.net_scenario.specs.Net.{NetTold}
+use Rattle.window_run.specs.declared.out.WindowOut.{WindowOut}
+use Rattle.window_run.specs.declared.share.Resident.{Resident}
+use Rattle.window_run.specs.declared.slot.Slot.{Slot}
+use Rattle.window_run.specs.declared.slot.Slot.TheVariants.{Running, Done}
+use Rattle.window_run.specs.Shares.{ResidentGives}
+use Rattle.window_run.specs.Turns.{MayGive}
+
+abbrev pub is_done : {G : Type 0} → Slot G → Bool
+is_done (Running window) = false
+is_done (Done out) = true
+
+-- what the slot's window may give, or what it gave
+abbrev pub SlotGives : {G : Type 0} → Slot G → WindowOut → Type 0
+SlotGives (Running window) out = MayGive window.own out
+SlotGives (Done made) out = out ≡ made
+
+abbrev pub SlotsGive : {G : Type 0} → List (Slot G) → List WindowOut → Type 0
+SlotsGive slots outs = AllZip SlotGives slots outs
+
+-- what the slot may give, the resident's window gives
+abbrev pub IsOf : {G : Type 0} → NetTold → (until : ℕ) → Resident → Slot G → Type 0
+IsOf n until resident slot = (out : WindowOut) → SlotGives slot out → ResidentGives n until resident out
+
+-- where there is no error, the worker's answer is what its slots give
+abbrev pub WorkerMayAnswer : {G : Type 0} → List (Slot G) → Result (Vec WindowOut Global) MoteError → Type 0
+WorkerMayAnswer slots answer = IfOk answer (λ outs. SlotsGive slots outs.items)

@@ -1,0 +1,58 @@
+-- What a poll does to a mote's window. Nothing is said of a mote that had failed before.
+use Rattle.std.specs.Prelude.{◌≡◌, ◌⊎◌, ℕ, true, Option, Some, None, Result, IfOk, IfSome}
+use Rattle.mote_node.specs.declared.mote.MoteError.{MoteError}
+use Rattle.mote_node.specs.declared.mote.MoteError.TheVariants.{Failed, Memory, Past}
+use Rattle.mote_node.specs.Node.{is_past}
+use Rattle.window_run.specs.declared.out.WindowOut.{WindowOut}
+use Rattle.window_run.specs.declared.own.OwnWindow.{OwnWindow}
+use Rattle.window_run.specs.Own.{window_in}
+use Rattle.window_run.specs.Window.{Window, HasTurn, IsOver, turn_at}
+use Rattle.window_run.specs.Out.{shown, Gives}
+
+-- what a window that is not given up may give
+abbrev pub MayGive : Option OwnWindow → WindowOut → Type 0
+MayGive None out = ⊥
+MayGive (Some own) out = IfSome (window_in own) (λ w. Gives w out)
+
+-- where there is no error, it is what the window gives
+abbrev pub MayAnswer : Option OwnWindow → Result WindowOut MoteError → Type 0
+MayAnswer own answer = IfOk answer (MayGive own)
+
+-- the window after the turn at this moment; a mote that had failed takes none
+abbrev pub TurnsTo : (moment : ℕ) → (old new : Option Window) → Type 0
+TurnsTo moment (Some old) (Some new) = new ≡ turn_at moment old
+TurnsTo moment _ _ = ⊥
+
+-- the first turn of the window's run, and no more
+pub record IsFirstTurn (old new : Option Window) : Type 0 where
+  pub moment : ℕ
+  pub left : IfSome old (HasTurn moment)
+  pub turned : TurnsTo moment old new
+
+abbrev pub TakesTurn : (old new : Option OwnWindow) → Type 0
+TakesTurn (Some old) (Some new) = IsFirstTurn (window_in old) (window_in new)
+TakesTurn _ _ = ⊥
+
+-- no memory was found for the turn, or its moment isn't above that of the mote's last turn
+abbrev pub IsErrorAt : (moment : ℕ) → MoteError → Window → Type 0
+IsErrorAt moment e window = (e ≡ Memory) ⊎ ((e ≡ Past) × (is_past moment window.mote.state.last ≡ true))
+
+-- the error of the window's first turn
+pub record IsFirstError (window : Option Window) (e : MoteError) : Type 0 where
+  pub moment : ℕ
+  pub left : IfSome window (HasTurn moment)
+  pub error : IfSome window (IsErrorAt moment e)
+
+-- an error is that of the first turn, or tells that the window was given up
+abbrev pub ErrsAs : Option OwnWindow → MoteError → Type 0
+ErrsAs None e = e ≡ Failed
+ErrsAs (Some own) e = IsFirstError (window_in own) e
+
+-- no turn is left, and this is what was made
+pub record IsMade (window : Option Window) (out : WindowOut) : Type 0 where
+  pub over : IfSome window IsOver
+  pub made : IfSome window (λ w. shown w.program out ≡ Some w.mote)
+
+abbrev pub RestsAs : Option OwnWindow → WindowOut → Type 0
+RestsAs None out = ⊥
+RestsAs (Some own) out = IsMade (window_in own) out

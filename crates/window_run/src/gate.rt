@@ -1,0 +1,20 @@
+//! A way into the turns of workers, for tests and measurements.
+
+/// What is called from inside the workers.
+pub trait Gate {
+    /// It is called once inside each turn, with the worker, the turn's moment and the mote.
+    fn inside(&self, worker: u16, moment: u64, mote: u16);
+
+    /// It is asked before each start of a worker's thread; false counts as a start that failed.
+    fn start(&self, _worker: u16) -> bool {
+        true
+    }
+}
+
+/// A gate that does nothing.
+#[derive(Clone, Copy, Debug)]
+pub struct NoGate;
+
+impl Gate for NoGate {
+    fn inside(&self, _worker: u16, _moment: u64, _mote: u16) {}
+}

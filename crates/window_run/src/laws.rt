@@ -1,0 +1,18 @@
+//! Laws of windows. Each is the contract of a function that does nothing.
+
+ghost use Rattle.window_run.specs.Laws.{EarlierStaysInFront, EndIsOne, EndsWithItsWake};
+
+/// A window's run has one end, however the turns of motes alternate.
+pub fn one_window_run()
+    ensures { EndIsOne }
+{}
+
+/// Behind whatever lines and packets came before the window, its run is the same.
+pub fn earlier_stays_in_front()
+    ensures { EarlierStaysInFront }
+{}
+
+/// A window that begins with the wake of its mote ends with the wake of its mote.
+pub fn ends_with_its_wake()
+    ensures { EndsWithItsWake }
+{}

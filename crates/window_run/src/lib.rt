@@ -1,0 +1,19 @@
+//! A mote's window: what a mote does alone up to a bound, as a relation; its engine, which is a future that takes one turn each
+//! poll; and a worker's own future over the windows of its motes.
+#![tactic(auto)]
+
+mod gate;
+pub mod laws;
+mod mote_window;
+mod out;
+mod own;
+mod share;
+mod slot;
+mod worker;
+
+pub use gate::{Gate, NoGate};
+pub use mote_window::MoteWindow;
+pub use out::WindowOut;
+pub use own::OwnWindow;
+pub use share::{Resident, Share, ShareError};
+pub use worker::{Worker, run_share};

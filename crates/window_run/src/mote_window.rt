@@ -1,0 +1,99 @@
+//! A mote's window as a future: each poll takes one turn.
+
+ghost use Rattle.std.specs.Prelude.{◌≡◌, ◌≤◌, ◌^◌, true, None, IsSomeAnd, IfOk, IfErr, ⊤};
+ghost use Rattle.futures.specs.Poll.{IfReady, OnPending};
+ghost use Rattle.futures.specs.Task.{Covers, Keeps};
+ghost use Rattle.mote_program.specs.Program.{tree_of};
+ghost use Rattle.mote_node.specs.Public.{node_in};
+ghost use Rattle.window_run.specs.Own.{window_in};
+ghost use Rattle.window_run.specs.Window.{is_rising, opened};
+ghost use Rattle.window_run.specs.Turns.{MayAnswer, TakesTurn, RestsAs, ErrsAs};
+
+use crate::gate::Gate;
+use crate::out::WindowOut;
+use crate::own::OwnWindow;
+use futures::Future;
+use futures::task::{Context, Poll};
+use mote_node::{Mote, MoteError};
+use mote_program::Program;
+use radio_medium::RadioCopy;
+use std::alloc::Global;
+
+/// A mote in its window, until it was ready. A poll with a turn left takes exactly that turn, at the lesser of the mote's wake and
+/// the next copy's moment, and yields; with no turn left below the bound it is ready.
+pub struct MoteWindow<'a, G> {
+    own: Option<OwnWindow<'a>>,
+    worker: u16,
+    gate: &'a G,
+}
+
+impl<G> Drop for MoteWindow<'_, G> {
+    fn drop(self) {
+        let MoteWindow {
+            own: _,
+            worker: _,
+            gate: _,
+        } = self;
+    }
+}
+
+impl<'a, G: Gate> MoteWindow<'a, G> {
+    /// The window of a mote with this program, up to `until`, which is at most 2^40. The copies are the mote's, each below
+    /// `until`, in the order of moment, sender and number. This takes no memory.
+    pub fn new(
+        alloc: Global,
+        mote: Mote,
+        program: &'a Program,
+        copies: Vec<RadioCopy>,
+        until: u64,
+        worker: u16,
+        gate: &'a G,
+    ) -> MoteWindow<'a, G>
+        requires until { until ≤ 2 ^ 40 }
+        requires rising { is_rising copies.items ≡ true }
+        ensures worker { result.worker ≡ worker }
+        ensures window { let p = tree_of program.now in IsSomeAnd result.own (λ own. window_in own ≡ opened p until copies.items (node_in p mote)) }
+    {
+        let own = OwnWindow::new(alloc, mote, program, copies, until);
+        MoteWindow {
+            own: Some(own),
+            worker,
+            gate,
+        }
+    }
+}
+
+impl<G: Gate> Future for MoteWindow<'_, G> {
+    type Output = Result<WindowOut, MoteError>;
+
+    ghost gives = { λ w r. MayAnswer w.own r };
+
+    /// Takes one turn and yields, or is ready.
+    ///
+    /// # Errors
+    /// That of the turn, and then the mote is given up; `Failed` at a poll after that.
+    fn poll(&mut self, cx: &mut Context<'_>) -> Poll<Self::Output>
+        ensures value { IfReady result (MayAnswer self.old.own) }
+        ensures again { OnPending result ⊤ }
+        ensures same { OnPending result ((r : _) → MayAnswer self.new.own r → MayAnswer self.old.own r) }
+        ensures registered { OnPending result (Covers cx.new (λ _. ⊥)) }
+        ensures kept { Keeps cx.old cx.new }
+        ensures turn { OnPending result (TakesTurn self.old.own self.new.own) }
+        ensures rest { IfReady result (λ r. IfOk r (RestsAs self.old.own)) }
+        ensures err { IfReady result (λ r. IfErr r (ErrsAs self.old.own)) }
+        ensures given_up { IfReady result (λ _. self.new.own ≡ None) }
+    {
+        let Some(mut own) = self.own.take() else {
+            return Poll::Ready(Err(MoteError::Failed));
+        };
+        let Some(moment) = own.next_moment() else {
+            return Poll::Ready(Ok(own.finish()));
+        };
+        self.gate.inside(self.worker, moment, own.number());
+        if let Err(e) = own.turn(moment) {
+            return Poll::Ready(Err(e));
+        }
+        self.own = Some(own);
+        cx.yield_now()
+    }
+}

@@ -1,0 +1,13 @@
+//! What a mote's window gives.
+
+use mote_node::Mote;
+use process_kernel::{Line, Sent};
+
+/// The mote after its window, the lines and packets of its turns there, and when it wakes next.
+#[derive(Drop)]
+pub struct WindowOut {
+    pub mote: Mote,
+    pub lines: Vec<Line>,
+    pub sends: Vec<Sent>,
+    pub wake: Option<u64>,
+}

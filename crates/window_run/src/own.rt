@@ -1,0 +1,187 @@
+//! The engine of one mote's window.
+
+ghost use Rattle.std.specs.Prelude.{◌≡◌, ◌≤◌, ◌^◌, true, Some, map, vec_len, IfOk, IfErr, IfSome, MatchOption, OnOk, None, []};
+ghost use Rattle.std.specs.List.{take_while};
+ghost use Rattle.mote_program.specs.Program.{tree_of};
+ghost use Rattle.mote_node.specs.Public.{node_in};
+ghost use Rattle.window_law.specs.Windows.{is_at};
+ghost use Rattle.window_run.specs.Window.{Window, HasTurn, IsOver, IsNextOf, arrival_of, is_rising, number_of, opened};
+
+use crate::out::WindowOut;
+use mote_node::{Mote, MoteError, TurnOut};
+use mote_program::Program;
+use process_kernel::{Arrival, Line, Sent};
+use radio_medium::RadioCopy;
+use std::alloc::{AllocError, Global};
+
+/// A mote in its window, with the copies that come to it there.
+pub struct OwnWindow<'a> {
+    alloc: Global,
+    program: &'a Program,
+    until: u64,
+    mote: Mote,
+    wake: Option<u64>,
+    copies: Vec<RadioCopy>,
+    next: usize,
+    lines: Vec<Line>,
+    sends: Vec<Sent>,
+    ghost early: { until ≤ 2 ^ 40 },
+    ghost inside: { next ≤ vec_len copies },
+    ghost rising: { is_rising copies.items ≡ true },
+}
+
+impl Drop for OwnWindow<'_> {
+    fn drop(self) {
+        let OwnWindow {
+            alloc: _,
+            program: _,
+            until: _,
+            mote: _,
+            wake: _,
+            copies: _,
+            next: _,
+            lines: _,
+            sends: _,
+        } = self;
+    }
+}
+
+impl<'a> OwnWindow<'a> {
+    ghost use Rattle.window_run.specs.Out.{shown};
+    ghost use Rattle.window_run.specs.Own.{window_in};
+    ghost use Rattle.window_run.specs.Turns.{TurnsTo, IsErrorAt};
+
+    /// The mote, with this program, before its first turn in the window. The copies are the mote's, each below `until`, in the
+    /// order of moment, sender and number. `until` is at most 2^40. This takes no memory.
+    #[tactic(auto, unfolding(crate::specs::Own::window_in))]
+    pub fn new(
+        alloc: Global,
+        mote: Mote,
+        program: &'a Program,
+        copies: Vec<RadioCopy>,
+        until: u64,
+    ) -> OwnWindow<'a>
+        requires until { until ≤ 2 ^ 40 }
+        requires rising { is_rising copies.items ≡ true }
+        ensures { let p = tree_of program.now in window_in result ≡ opened p until copies.items (node_in p mote) }
+    {
+        let wake = mote.wake();
+        OwnWindow {
+            alloc,
+            program,
+            until,
+            mote,
+            wake,
+            copies,
+            next: 0,
+            lines: Vec::new(alloc),
+            sends: Vec::new(alloc),
+        }
+    }
+
+    /// The number of the mote.
+    #[tactic(auto, unfolding(crate::specs::Own::window_in))]
+    pub fn number(&self) -> u16
+        ensures { IfSome (window_in self.now) (λ w. result ≡ number_of w.mote.state) }
+    {
+        self.mote.number()
+    }
+
+    /// The moment of the next turn, where one is left in the window.
+    #[tactic(auto, unfolding(crate::specs::Own::window_in))]
+    pub fn next_moment(&self) -> Option<u64>
+        ensures next { IfSome (window_in self.now) (λ w. MatchOption result (IsOver w) (λ moment. HasTurn moment w)) }
+        ensures early { IfSome result (λ moment. moment ≤ 2 ^ 40) }
+    {
+        let moment = least(self.wake, &self.copies[self.next..])?;
+        if moment < self.until {
+            Some(moment)
+        } else {
+            None
+        }
+    }
+
+    /// Takes the turn at that moment.
+    ///
+    /// # Errors
+    /// That of `Mote::turn`; `Memory` also where the copies, lines or packets found none.
+    #[tactic(auto, unfolding(crate::specs::Own::window_in))]
+    pub fn turn(&mut self, moment: u64) -> Result<(), MoteError>
+        requires early { moment ≤ 2 ^ 40 }
+        requires left { IfSome (window_in self.old) (HasTurn moment) }
+        ensures ok { OnOk result (TurnsTo moment (window_in self.old) (window_in self.new)) }
+        ensures err { IfErr result (λ e. IfSome (window_in self.old) (IsErrorAt moment e)) }
+    {
+        let arrivals = arrivals_at(self.alloc, &self.copies[self.next..], moment)?;
+        self.next += arrivals.len();
+        let out = self.mote.turn(self.program, moment, &arrivals)?;
+        let TurnOut {
+            mut lines,
+            mut sends,
+            wake,
+        } = out;
+        self.wake = wake;
+        self.lines.append(&mut lines)?;
+        self.sends.append(&mut sends)?;
+        Ok(())
+    }
+
+    /// What the window gives, once no turn is left.
+    #[tactic(auto, unfolding(crate::specs::Own::window_in))]
+    pub fn finish(self) -> WindowOut
+        ensures { IfSome (window_in self.entry) (λ w. shown w.program result ≡ Some w.mote) }
+    {
+        let OwnWindow {
+            alloc: _,
+            program: _,
+            until: _,
+            mote,
+            wake,
+            copies: _,
+            next: _,
+            lines,
+            sends,
+        } = self;
+        WindowOut {
+            mote,
+            lines,
+            sends,
+            wake,
+        }
+    }
+}
+
+/// The lesser of the wake and the first copy's moment.
+fn least(wake: Option<u64>, copies: &[RadioCopy]) -> Option<u64>
+    requires { is_rising copies.now ≡ true }
+    ensures { MatchOption result ((wake ≡ None) × (copies.now ≡ [])) (λ moment. IsNextOf moment wake copies.now) }
+{
+    let Some(first) = copies.first() else {
+        return wake;
+    };
+    let Some(moment) = wake else {
+        return Some(first.at);
+    };
+    Some(moment.min(first.at))
+}
+
+fn arrival(copy: &RadioCopy) -> Arrival
+    ensures { result ≡ arrival_of copy.now }
+{
+    Arrival {
+        sender: copy.sender,
+        number: copy.number,
+        value: copy.value,
+    }
+}
+
+/// The copies at the front that arrive at this moment.
+fn arrivals_at(alloc: Global, copies: &[RadioCopy], moment: u64) -> Result<Vec<Arrival>, AllocError>
+    ensures { IfOk result (λ arrivals. arrivals.items ≡ map arrival_of (take_while (is_at moment) copies.now)) }
+{
+    copies
+        .iter()
+        .take_while(|copy| copy.at == moment)
+        .map(arrival)
+        .collect(alloc)
+}

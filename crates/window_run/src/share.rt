@@ -1,0 +1,58 @@
+//! What one worker has in a window.
+
+ghost use Rattle.std.specs.Prelude.{◌≡◌, true};
+ghost use Rattle.window_run.specs.Window.{is_rising};
+
+use mote_node::{Mote, MoteError};
+use radio_medium::RadioCopy;
+use std::alloc::AllocError;
+use std::error::Error;
+use std::fmt;
+
+/// A mote with its number in the net, and the copies that come to it in the window, in the order of moment, sender and number.
+#[derive(Drop)]
+pub struct Resident {
+    pub number: u16,
+    pub mote: Mote,
+    pub copies: Vec<RadioCopy>,
+    ghost rising: { is_rising copies.items ≡ true },
+}
+
+/// The motes of one worker.
+#[derive(Drop)]
+pub struct Share {
+    pub worker: u16,
+    pub residents: Vec<Resident>,
+}
+
+/// Why a worker gives nothing.
+#[derive(Clone, Copy, Debug, PartialEq, Eq)]
+pub enum ShareError {
+    /// No memory was found.
+    Memory = 1,
+    /// The executor answered an error.
+    Thread = 2,
+}
+
+impl fmt::Display for ShareError {
+    fn fmt<W: fmt::Write>(&self, f: &mut fmt::Formatter<W>) -> fmt::Result {
+        match self {
+            ShareError::Memory => write!(f, "out of memory"),
+            ShareError::Thread => write!(f, "the executor gave up"),
+        }
+    }
+}
+
+impl Error for ShareError {}
+
+impl From<AllocError> for ShareError {
+    fn from(_: AllocError) -> ShareError {
+        ShareError::Memory
+    }
+}
+
+impl From<MoteError> for ShareError {
+    fn from(_: MoteError) -> ShareError {
+        ShareError::Memory
+    }
+}

@@ -1,0 +1,62 @@
+//! One mote of a worker: its window, or what the window gave.
+
+ghost use Rattle.std.specs.Prelude.{◌≡◌, true, OnOk};
+ghost use Rattle.futures.specs.Task.{Keeps};
+ghost use Rattle.window_run.specs.Slots.{SlotGives, is_done};
+
+use crate::gate::Gate;
+use crate::mote_window::MoteWindow;
+use crate::out::WindowOut;
+use futures::Future;
+use futures::task::{Context, Poll};
+use mote_node::MoteError;
+
+pub(crate) enum Slot<'a, G> {
+    Running(MoteWindow<'a, G>),
+    Done(WindowOut),
+}
+
+impl<G> Drop for Slot<'_, G> {
+    fn drop(self) {
+        match self {
+            Slot::Running(_window) => {}
+            Slot::Done(_out) => {}
+        }
+    }
+}
+
+impl<G: Gate> Slot<'_, G> {
+    pub(crate) fn is_done(&self) -> bool
+        ensures { result ≡ is_done self.now }
+    {
+        match self {
+            Slot::Running(_) => false,
+            Slot::Done(_) => true,
+        }
+    }
+
+    /// What the window gave.
+    pub(crate) fn into_out(self) -> WindowOut
+        requires { is_done self ≡ true }
+        ensures { self.entry ≡ Slot.Done result }
+    {
+        match self {
+            Slot::Running(_window) => unreachable!(),
+            Slot::Done(out) => out,
+        }
+    }
+
+    /// Polls the window once, where it was not ready before.
+    pub(crate) fn advance(&mut self, cx: &mut Context<'_>) -> Result<(), MoteError>
+        ensures same { OnOk result ((out : _) → SlotGives self.new out → SlotGives self.old out) }
+        ensures kept { Keeps cx.old cx.new }
+    {
+        let Slot::Running(window) = self else {
+            return Ok(());
+        };
+        if let Poll::Ready(answer) = window.poll(cx) {
+            *self = Slot::Done(answer?);
+        }
+        Ok(())
+    }
+}

@@ -1,0 +1,162 @@
+//! A worker's own future over the windows of its motes.
+
+ghost use Rattle.std.specs.Prelude.{◌≡◌, ◌≤◌, ◌<◌, ◌^◌, true, List, length, IfOk, OnOk};
+ghost use Rattle.std.specs.List.{list_all};
+ghost use Rattle.futures.specs.Task.{Keeps};
+ghost use Rattle.net_scenario.specs.Net.{net_of};
+ghost use Rattle.window_run.specs.declared.out.WindowOut.{WindowOut as OutOfCode};
+ghost use Rattle.window_run.specs.Shares.{AreInNet, GivesList, ResidentGives};
+ghost use Rattle.window_run.specs.Slots.{SlotsGive, WorkerMayAnswer, is_done};
+ghost use Rattle.window_run.specs.Turns.{MayGive};
+
+use crate::gate::Gate;
+use crate::mote_window::MoteWindow;
+use crate::out::WindowOut;
+use crate::share::{Resident, Share, ShareError};
+use crate::slot::Slot;
+use futures::Future;
+use futures::executor::block_on;
+use futures::task::{Context, Poll};
+use mote_node::MoteError;
+use net_scenario::Net;
+use std::alloc::{AllocError, AllocGlobal, Global};
+use std::mem;
+use std::random::RandomSource;
+use std::sync::Wait;
+
+/// Polls each unfinished window once in turn, and then yields. It is ready once all are, with what they gave, in the order of the
+/// residents; or once one gave an error.
+pub struct Worker<'a, G> {
+    alloc: Global,
+    slots: Vec<Slot<'a, G>>,
+}
+
+impl<G> Drop for Worker<'_, G> {
+    fn drop(self) {
+        let Worker { alloc: _, slots: _ } = self;
+    }
+}
+
+/// The window of one resident.
+fn open<'a, G: Gate>(
+    alloc: Global,
+    net: &'a Net,
+    resident: Resident,
+    until: u64,
+    worker: u16,
+    gate: &'a G,
+) -> MoteWindow<'a, G>
+    requires until { until ≤ 2 ^ 40 }
+    requires there { resident.number < length (net_of net.now).motes }
+    ensures { (out : OutOfCode) → MayGive result.own out → ResidentGives (net_of net.now) until resident out }
+{
+    let Resident {
+        number,
+        mote,
+        copies,
+    } = resident;
+    let program = net.program(number);
+    MoteWindow::new(alloc, mote, program, copies, until, worker, gate)
+}
+
+impl<'a, G: Gate> Worker<'a, G> {
+    /// The worker's motes, each before its first turn in the window up to `until`, which is at most 2^40. Each is a mote of the
+    /// net.
+    pub fn new(
+        alloc: Global,
+        net: &'a Net,
+        share: Share,
+        until: u64,
+        gate: &'a G,
+    ) -> Result<Worker<'a, G>, AllocError>
+        requires until { until ≤ 2 ^ 40 }
+        requires there { AreInNet (net_of net.now) share.residents.items }
+        ensures { IfOk result (λ w. (outs : List OutOfCode) → SlotsGive w.slots.items outs → GivesList (net_of net.now) until share.residents.items outs) }
+    {
+        let Share { worker, residents } = share;
+        let mut slots = Vec::with_capacity(alloc, residents.len())?;
+        for resident in residents {
+            let window = open(alloc, net, resident, until, worker, gate);
+            slots.push(Slot::Running(window))?;
+        }
+        Ok(Worker { alloc, slots })
+    }
+}
+
+impl<G: Gate> Future for Worker<'_, G> {
+    type Output = Result<Vec<WindowOut>, MoteError>;
+
+    ghost gives = { λ w r. WorkerMayAnswer w.slots.items r };
+
+    fn poll(&mut self, cx: &mut Context<'_>) -> Poll<Self::Output> {
+        if let Err(e) = advance_each(&mut self.slots, cx) {
+            return Poll::Ready(Err(e));
+        }
+        if !all_done(&self.slots) {
+            return cx.yield_now();
+        }
+        let slots = mem::replace(&mut self.slots, Vec::new(self.alloc));
+        Poll::Ready(gathered(self.alloc, slots))
+    }
+}
+
+/// Polls each unfinished window once.
+fn advance_each<G: Gate>(
+    slots: &mut Vec<Slot<'_, G>>,
+    cx: &mut Context<'_>,
+) -> Result<(), MoteError>
+    ensures same { OnOk result ((outs : List OutOfCode) → SlotsGive slots.new.items outs → SlotsGive slots.old.items outs) }
+    ensures kept { Keeps cx.old cx.new }
+{
+    for k in 0..slots.len() {
+        slots[k].advance(cx)?;
+    }
+    Ok(())
+}
+
+fn all_done<G: Gate>(slots: &[Slot<'_, G>]) -> bool
+    ensures { result ≡ list_all is_done slots.now }
+{
+    slots.iter().all(|slot| slot.is_done())
+}
+
+/// What the windows gave.
+fn gathered<G: Gate>(alloc: Global, slots: Vec<Slot<'_, G>>) -> Result<Vec<WindowOut>, MoteError>
+    requires { list_all is_done slots.items ≡ true }
+    ensures { IfOk result (λ outs. SlotsGive slots.entry.items outs.items) }
+{
+    let mut outs = Vec::with_capacity(alloc, slots.len())?;
+    for slot in slots {
+        let Ok(()) = outs.push(slot.into_out()) else {
+            return Err(MoteError::Memory);
+        };
+    }
+    Ok(outs)
+}
+
+/// Runs a worker's motes, each of them a mote of the net, through the window up to `until`, which is at most 2^40, by the worker's
+/// future. What each gives stands in the order of the residents.
+///
+/// # Errors
+/// `Memory` where a mote's window gave an error, or no room for all was found; `Thread` where the executor answered an error.
+pub fn run_share<R, G>(
+    rt: &R,
+    alloc: Global,
+    net: &Net,
+    share: Share,
+    until: u64,
+    gate: &G,
+) -> Result<Vec<WindowOut>, ShareError>
+where
+    R: Wait + RandomSource + AllocGlobal,
+    G: Gate,
+    requires until { until ≤ 2 ^ 40 }
+    requires there { AreInNet (net_of net.now) share.residents.items }
+    ensures { IfOk result (λ outs. GivesList (net_of net.now) until share.residents.items outs.items) }
+{
+    let worker = Worker::new(alloc, net, share, until, gate)?;
+    match block_on(rt, worker) {
+        Ok(answer) => Ok(answer?),
+        Err(_) => Err(ShareError::Thread),
+    }
+}

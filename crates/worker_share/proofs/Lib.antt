@@ -1,0 +1,13 @@
+pub mod Back
+pub mod Begins
+pub mod Comings
+pub mod Fits
+pub mod Gathers
+pub mod Gives
+pub mod Idle
+pub mod Items
+pub mod Left
+pub mod Lone
+pub mod Parts
+pub mod Rises
+pub mod Starts

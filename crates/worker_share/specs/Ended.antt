@@ -1,0 +1,19 @@
+-- What a worker has to tell at the end.
+use Rattle.std.specs.Prelude.{ℕ, ◌≡◌, true, if◌then◌else◌, List, [], length, slice_index_or, Vec}
+use Rattle.std.specs.List.{filter}
+use Rattle.std.specs.declared.alloc.Global.{Global}
+use Rattle.process_kernel.specs.declared.line.Line.{Line}
+use Rattle.radio_medium.specs.declared.copy.RadioCopy.{RadioCopy}
+use Rattle.net_scenario.specs.Net.{NetTold}
+use Rattle.window_law.specs.Windows.{is_from_sender, is_sent_by}
+use Rattle.worker_share.specs.declared.share.Ended.{Ended}
+use Rattle.worker_share.specs.Share.{Motes, is_own, copies_known, is_to_come}
+
+-- the traces and the packets of the worker's motes, and how many copies are still to come to them
+pub record Tells (n : NetTold) (of : List ℕ) (worker from : ℕ) (motes : Motes) (taken : List RadioCopy) (ended : Ended) : Type 0 where
+  pub traces_kept : length ended.traces.items ≡ length n.motes
+  pub traces : (k : ℕ) → is_own of worker k ≡ true → (d : Vec Line Global) → (slice_index_or ended.traces.items k d).items ≡ (motes k).lines
+  pub log : (s : ℕ) → filter (is_sent_by s) ended.log.items ≡ (if is_own of worker s then (motes s).sends else [])
+  pub rest : List RadioCopy
+  pub rest_is : (s : ℕ) → filter (is_from_sender s) rest ≡ filter (is_to_come (is_own of worker) from) (copies_known n (is_own of worker) motes taken s)
+  pub left : ended.left ≡ length rest

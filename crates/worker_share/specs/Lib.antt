@@ -1,0 +1,5 @@
+pub mod Calls
+pub mod Ended
+pub mod Leaving
+pub mod Share
+pub mod Window

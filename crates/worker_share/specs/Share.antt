@@ -1,0 +1,80 @@
+-- What one worker of a net has: its motes, their traces and packets so far, and what is to come to them.
+use Rattle.std.specs.Prelude.{ℕ, ◌≡◌, Bool, true, not, ◌&&◌, ◌==◌, nat_lt, if◌then◌else◌, false, List, [], length, Option, Some, None, slice_get, slice_index_or, Vec}
+use Rattle.std.specs.List.{filter}
+use Rattle.std.specs.Option.{option_map_or}
+use Rattle.std.specs.declared.alloc.Global.{Global}
+use Rattle.mote_program.specs.Code.{Tree}
+use Rattle.process_kernel.specs.declared.line.Line.{Line}
+use Rattle.mote_node.specs.declared.mote.Mote.{Mote}
+use Rattle.mote_node.specs.Node.{Node}
+use Rattle.mote_node.specs.Public.{node_in}
+use Rattle.mote_node.specs.Wake.{wake_of}
+use Rattle.radio_medium.specs.declared.copy.RadioCopy.{RadioCopy}
+use Rattle.net_scenario.specs.Net.{NetTold}
+use Rattle.window_law.specs.Agenda.{Item, is_wake_of, packets, wake_items}
+use Rattle.window_law.specs.Windows.{LoneMote, WakesFrom, copies_by, is_from_sender, is_sent_by}
+use Rattle.net_agenda.specs.Buckets.{Buckets, Holds}
+use Rattle.net_agenda.specs.NetSystem.{tree_at, system_of}
+use Rattle.worker_share.specs.declared.share.Share.{Share}
+
+-- `of` tells the worker of each mote
+abbrev pub is_own : (of : List ℕ) → (worker mote : ℕ) → Bool
+is_own of worker mote = option_map_or (λ other. other == worker) (slice_get of mote) false
+
+-- the motes of a net, by number
+abbrev pub Motes : Type 0
+Motes = (number : ℕ) → LoneMote Node Line
+
+-- the mote's number in its own state
+abbrev pub number_of : Node → ℕ
+number_of n = n.mote.state.mote
+
+-- the node of a mote that is here
+abbrev pub node_at : Tree → Option Mote → Option Node
+node_at tree None = None
+node_at tree (Some mote) = node_in tree mote
+
+-- the mote with this number, if it is here
+abbrev pub mote_in : List (Option Mote) → (number : ℕ) → Option Mote
+mote_in motes number = slice_index_or motes number None
+
+-- the copies of a mote's packets, in the order of sending: of its own mote the worker knows all, of another's those that it took
+abbrev pub copies_known : NetTold → (own : ℕ → Bool) → Motes → (taken : List RadioCopy) → (sender : ℕ) → List RadioCopy
+copies_known n own motes taken sender = if own sender then copies_by (system_of n) motes sender else filter (is_from_sender sender) taken
+
+-- a copy for one of the worker's motes that arrives at this moment or later
+abbrev pub is_to_come : (own : ℕ → Bool) → (from : ℕ) → RadioCopy → Bool
+is_to_come own from copy = own copy.to && not (nat_lt copy.at from)
+
+-- the agenda has the next wake of each mote that is at home, and of each sender all copies that are to come, in the order of sending
+pub record HasToCome (n : NetTold) (own home : ℕ → Bool) (from : ℕ) (motes : Motes) (taken : List RadioCopy) (buckets : Buckets) : Type 0 where
+  pub items : List Item
+  pub holds : Holds buckets items
+  pub wakes : (k : ℕ) → filter (is_wake_of k) items ≡ (if home k then wake_items k (motes k).wake else [])
+  pub copies : (s : ℕ) → filter (is_from_sender s) (packets items) ≡ filter (is_to_come own from) (copies_known n own motes taken s)
+
+-- The share of a worker at a moment, before which nothing is to come, while some of its motes are at home: their nodes and wakes,
+-- the lines and packets of all its motes so far, and the agenda. `taken` are all copies that ever came from other workers.
+pub record IsShare (n : NetTold) (of : List ℕ) (worker : ℕ) (home : ℕ → Bool) (from : ℕ) (motes : Motes) (taken : List RadioCopy) (share : Share) : Type 0 where
+  pub is_worker : share.worker ≡ worker
+  pub places : length share.motes.items ≡ length n.motes
+  pub numbers : (k : ℕ) → home k ≡ true → number_of (motes k).state ≡ k
+  pub nodes : (k : ℕ) → home k ≡ true → node_at (tree_at n k) (mote_in share.motes.items k) ≡ Some (motes k).state
+  pub wakes : (k : ℕ) → home k ≡ true → (motes k).wake ≡ wake_of (motes k).state
+  pub quiet : (k : ℕ) → home k ≡ true → WakesFrom from (motes k).wake
+  pub traces_kept : length share.traces.items ≡ length n.motes
+  pub traces : (k : ℕ) → is_own of worker k ≡ true → (d : Vec Line Global) → (slice_index_or share.traces.items k d).items ≡ (motes k).lines
+  pub log : (s : ℕ) → filter (is_sent_by s) share.log.items ≡ (if is_own of worker s then (motes s).sends else [])
+  pub agenda : HasToCome n (is_own of worker) home from motes taken share.agenda.buckets
+
+-- with all of its motes at home, as between windows
+abbrev pub Keeps : NetTold → (of : List ℕ) → (worker from : ℕ) → Motes → (taken : List RadioCopy) → Share → Type 0
+Keeps n of worker from motes taken share = IsShare n of worker (is_own of worker) from motes taken share
+
+-- the share of some worker at some moment
+pub record IsKept (n : NetTold) (of : List ℕ) (share : Share) : Type 0 where
+  pub worker : ℕ
+  pub from : ℕ
+  pub motes : Motes
+  pub taken : List RadioCopy
+  pub keeps : Keeps n of worker from motes taken share

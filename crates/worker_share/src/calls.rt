@@ -1,0 +1,84 @@
+//! Which motes have a turn in a window, and the copies that come to each.
+
+ghost use Rattle.std.specs.Prelude.{◌≡◌, ℕ, length, List, [], OnOk, IfOk, if◌then◌else◌, ◌==◌, ◌++◌, Some, None, map, unwrap_or};
+ghost use Rattle.std.specs.List.{filter};
+ghost use Rattle.net_agenda.specs.Buckets.{Buckets, Holds};
+ghost use Rattle.window_law.specs.Agenda.{Item};
+ghost use Rattle.worker_share.specs.Calls.{Calls as CallsTold, copies_for, copy_at, is_late, Gathers, HasItems};
+
+use net_agenda::Agenda;
+use process_kernel::Arrival;
+use radio_medium::RadioCopy;
+use std::alloc::{AllocError, Global};
+use std::collections::BTreeMap;
+
+/// The motes that have a turn in a window, by rising number, each with the copies that come to it.
+#[derive(Drop)]
+pub struct Calls {
+    pub alloc: Global,
+    pub copies: BTreeMap<u16, Vec<RadioCopy>>,
+}
+
+impl Calls {
+    /// No mote.
+    fn new(alloc: Global) -> Calls
+        ensures { (mote : ℕ) → copies_for result.copies mote ≡ None }
+    {
+        Calls {
+            alloc,
+            copies: BTreeMap::new(alloc),
+        }
+    }
+
+    /// Takes out the copies of a mote, or none.
+    fn take(&mut self, mote: u16) -> Vec<RadioCopy>
+        ensures copies { result.items ≡ unwrap_or (copies_for self.old.copies mote) [] }
+        ensures others { (k : ℕ) → copies_for self.new.copies k ≡ (if mote == k then None else copies_for self.old.copies k) }
+    {
+        match self.copies.remove(&mote) {
+            Some(copies) => copies,
+            None => Vec::new(self.alloc),
+        }
+    }
+
+    /// A mote is called at a moment, with the copies that arrive.
+    fn add(&mut self, moment: u64, mote: u16, arrivals: Vec<Arrival>) -> Result<(), AllocError>
+        ensures { OnOk result ((k : ℕ) → copies_for self.new.copies k ≡ (if mote == k then Some (unwrap_or (copies_for self.old.copies mote) [] ++ map (copy_at moment mote) arrivals.items) else copies_for self.old.copies k)) }
+    {
+        let mut copies = self.take(mote);
+        for arrival in &arrivals {
+            copies.push(copy_at(moment, mote, arrival))?;
+        }
+        self.copies.insert(mote, copies)?;
+        Ok(())
+    }
+}
+
+/// The copy of a packet that arrives.
+fn copy_at(moment: u64, mote: u16, arrival: &Arrival) -> RadioCopy
+    ensures { result ≡ copy_at moment mote arrival.now }
+{
+    RadioCopy {
+        at: moment,
+        to: mote,
+        sender: arrival.sender,
+        number: arrival.number,
+        value: arrival.value,
+    }
+}
+
+/// Takes all that is to come before a moment out of the agenda, mote by mote.
+pub fn gather(alloc: Global, agenda: &mut Agenda, until: u64) -> Result<Calls, AllocError>
+    requires { HasItems agenda.old.buckets }
+    ensures gathered { IfOk result (λ calls. (items : List Item) → Holds agenda.old.buckets items → Gathers until items calls.copies) }
+    ensures rest { OnOk result ((items : List Item) → Holds agenda.old.buckets items → Holds agenda.new.buckets (filter (is_late until) items)) }
+{
+    let mut calls = Calls::new(alloc);
+    while let Some((moment, mote)) = agenda.first() {
+        if moment >= until {
+            break;
+        }
+        calls.add(moment, mote, agenda.take_due(moment, mote))?;
+    }
+    Ok(calls)
+}

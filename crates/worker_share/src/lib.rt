@@ -1,0 +1,9 @@
+//! What one worker of a net has, and its run through one window of time.
+#![tactic(auto)]
+
+mod calls;
+mod share;
+mod window;
+
+pub use share::{Ended, Share};
+pub use window_run::ShareError;

@@ -1,0 +1,125 @@
+//! The share of one worker: its motes, their traces and packets, and what is to come to them.
+
+ghost use Rattle.std.specs.Prelude.{◌≡◌, ◌≤◌, ◌<◌, ◌++◌, ◌∷◌, ℕ, true, [], length, List, Some, IfOk, OnOk, if◌then◌else◌};
+ghost use Rattle.std.specs.List.{filter, AllByRecursion};
+ghost use Rattle.radio_medium.specs.declared.copy.RadioCopy.{RadioCopy};
+ghost use Rattle.window_law.specs.Agenda.{Item, Wake};
+ghost use Rattle.window_law.specs.Windows.{WakesFrom, first_mote};
+ghost use Rattle.net_scenario.specs.Net.{NetTold, net_of};
+ghost use Rattle.net_agenda.specs.NetSystem.{first_node, system_of, tree_at};
+ghost use Rattle.net_agenda.specs.Buckets.{Holds};
+ghost use Rattle.worker_share.specs.Share.{Motes, Keeps, is_own, node_at, is_to_come, copies_known};
+ghost use Rattle.worker_share.specs.Ended.{Tells};
+
+use mote_node::Mote;
+use net_agenda::{Agenda, new_mote};
+use net_scenario::Net;
+use process_kernel::{Line, Sent};
+use std::alloc::{AllocError, Global};
+
+/// What one worker of a net has. Motes and traces stand by the number of the mote, with none and an empty one for the motes of
+/// other workers; the packets of the worker's motes, each mote's in order; and what is to come to its motes.
+#[derive(Drop)]
+pub struct Share {
+    pub(crate) alloc: Global,
+    pub(crate) worker: u16,
+    pub(crate) motes: Vec<Option<Mote>>,
+    pub(crate) traces: Vec<Vec<Line>>,
+    pub(crate) log: Vec<Sent>,
+    pub(crate) agenda: Agenda,
+}
+
+/// What a worker has to tell at the end: the traces of its motes, by number, the packets that they sent, each mote's in order, and
+/// how many copies of packets are still on their way to them.
+#[derive(Drop)]
+pub struct Ended {
+    pub traces: Vec<Vec<Line>>,
+    pub log: Vec<Sent>,
+    pub left: u64,
+}
+
+/// Whether a mote is one of this worker's: `of` tells the worker of each mote.
+pub(crate) fn is_own(of: &[u16], worker: u16, mote: u16) -> bool
+    ensures { result ≡ is_own of.now worker mote }
+{
+    match of.get(usize::from(mote)) {
+        Some(other) => *other == worker,
+        None => false,
+    }
+}
+
+/// A mote of the worker as it begins: it wakes at 0. There is none for a mote of another worker.
+fn begin(
+    alloc: Global,
+    net: &Net,
+    number: u16,
+    own: bool,
+    agenda: &mut Agenda,
+) -> Result<Option<Mote>, AllocError>
+    requires { number < length (net_of net.now).motes }
+    ensures mote { let n = net_of net.now in IfOk result (λ mote. own ≡ true → node_at (tree_at n number) mote ≡ Some (first_node n number)) }
+    ensures wake { OnOk result ((items : List Item) → Holds agenda.old.buckets items → Holds agenda.new.buckets (items ++ (if own then Wake 0 number ∷ [] else []))) }
+{
+    if !own {
+        return Ok(None);
+    }
+    agenda.put_wake(0, number)?;
+    Ok(Some(new_mote(alloc, net, number)?))
+}
+
+impl Share {
+    /// The share of a worker before the motes' first turns: each mote wakes at 0. `of` tells the worker of each mote.
+    pub fn new(alloc: Global, net: &Net, of: &[u16], worker: u16) -> Result<Share, AllocError>
+        requires { length of.now ≡ length (net_of net.now).motes }
+        ensures { let n = net_of net.now in IfOk result (λ share. Keeps n of.now worker 0 (first_mote (system_of n)) [] share) }
+    {
+        let mut share = Share {
+            alloc,
+            worker,
+            motes: Vec::new(alloc),
+            traces: Vec::new(alloc),
+            log: Vec::new(alloc),
+            agenda: Agenda::new(alloc),
+        };
+        for number in 0..net.motes() {
+            let own = is_own(of, worker, number);
+            let mote = begin(alloc, net, number, own, &mut share.agenda)?;
+            share.motes.push(mote)?;
+            share.traces.push(Vec::new(alloc))?;
+        }
+        Ok(share)
+    }
+
+    /// The moment of what is to come first, if anything is.
+    pub fn next(&self) -> Option<u64>
+        ensures from { (n : NetTold) (of : List ℕ) (worker from : ℕ) (motes : Motes) (taken : List RadioCopy) → Keeps n of worker from motes taken self.now → WakesFrom from result }
+        // Up to there nothing is to come, so the share stands at any moment from now to then.
+        ensures idle { (n : NetTold) (of : List ℕ) (worker from : ℕ) (motes : Motes) (taken : List RadioCopy) → Keeps n of worker from motes taken self.now
+            → (moment : ℕ) → from ≤ moment → WakesFrom moment result → Keeps n of worker moment motes taken self.now }
+        ensures no_copies { (n : NetTold) (of : List ℕ) (worker from : ℕ) (motes : Motes) (taken : List RadioCopy) → Keeps n of worker from motes taken self.now
+            → (moment : ℕ) → WakesFrom moment result → (sender : ℕ)
+            → AllByRecursion (λ copy. moment ≤ copy.at) (filter (is_to_come (is_own of worker) from) (copies_known n (is_own of worker) motes taken sender)) }
+    {
+        match self.agenda.first() {
+            Some((moment, _)) => Some(moment),
+            None => None,
+        }
+    }
+
+    /// Takes the share apart at the end.
+    pub fn end(self) -> Result<Ended, AllocError>
+        ensures { (n : NetTold) (of : List ℕ) (worker from : ℕ) (motes : Motes) (taken : List RadioCopy) → Keeps n of worker from motes taken self
+            → IfOk result (Tells n of worker from motes taken) }
+    {
+        let Share {
+            alloc: _,
+            worker: _,
+            motes: _,
+            traces,
+            log,
+            agenda,
+        } = self;
+        let left = agenda.left()?;
+        Ok(Ended { traces, log, left })
+    }
+}

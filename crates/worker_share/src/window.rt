@@ -1,0 +1,217 @@
+//! A worker's motes in a window: those that have a turn leave the share, run, and come back.
+
+ghost use Rattle.std.specs.Prelude.{◌≡◌, ◌+◌, ◌<◌, ◌≤◌, ◌^◌, ◌++◌, ◌==◌, ℕ, true, [], length, map, List, Some, None, IfOk, OnOk, IsSome, slice_index_or, slice_set, if◌then◌else◌, Vec as VecOfCode};
+ghost use Rattle.std.specs.declared.alloc.Global.{Global as GlobalOfCode};
+ghost use Rattle.process_kernel.specs.declared.line.Line.{Line as LineOfCode};
+ghost use Rattle.std.specs.List.{filter, flat_map, AllByRecursion};
+ghost use Rattle.radio_medium.specs.Medium.{copies};
+ghost use Rattle.window_law.specs.Agenda.{Item, Packet};
+ghost use Rattle.window_run.specs.Window.{is_rising};
+ghost use Rattle.net_agenda.specs.Buckets.{Holds};
+ghost use Rattle.worker_share.specs.Calls.{copies_for};
+ghost use Rattle.net_scenario.specs.Net.{net_of};
+ghost use Rattle.net_agenda.specs.NetSystem.{system_of};
+ghost use Rattle.radio_medium.specs.declared.copy.RadioCopy.{RadioCopy as CopyOfCode};
+ghost use Rattle.worker_share.specs.Share.{Motes, Keeps, IsKept, is_own, mote_in};
+ghost use Rattle.worker_share.specs.Window.{ComesIn, GoesOut, RunsWindow, leaves};
+ghost use Rattle.worker_share.specs.Leaving.{wake_from, Leaves, IsNumbered, IsFit, Returns};
+
+use crate::calls::{Calls, gather};
+use crate::share::{Share, is_own};
+use mote_node::Mote;
+use net_agenda::Agenda;
+use net_scenario::Net;
+use process_kernel::{Line, Sent};
+use radio_medium::{Medium, RadioCopy};
+use std::alloc::{AllocError, AllocGlobal, Global};
+use std::random::RandomSource;
+use std::sync::Wait;
+use window_run::{Gate, Resident, ShareError, WindowOut, run_share};
+
+/// A wake that isn't before a moment.
+fn wake_from(until: u64, wake: Option<u64>) -> Option<u64>
+    ensures { result ≡ wake_from until wake }
+{
+    match wake {
+        Some(moment) => {
+            if moment < until {
+                return None;
+            }
+            Some(moment)
+        }
+        None => None,
+    }
+}
+
+/// Takes a mote that is here out of the share, with its wake.
+fn take_mote(motes: &mut Vec<Option<Mote>>, number: u16) -> Mote
+    requires { IsSome (mote_in motes.old.items number) }
+    ensures mote { mote_in motes.old.items number ≡ Some result }
+    ensures others { motes.new.items ≡ slice_set motes.old.items number None }
+{
+    motes[usize::from(number)].take().unwrap()
+}
+
+/// Takes the motes that are called out of the share, with their wakes.
+pub(crate) fn leave(
+    motes: &mut Vec<Option<Mote>>,
+    agenda: &mut Agenda,
+    until: u64,
+    calls: Calls,
+) -> Result<Vec<Resident>, AllocError>
+    requires here { (k : ℕ) → IsSome (copies_for calls.copies k) → IsSome (mote_in motes.old.items k) }
+    requires rising { (k : ℕ) (copies : List RadioCopy) → copies_for calls.copies k ≡ Some copies → is_rising copies ≡ true }
+    ensures { IfOk result (λ residents. Leaves until calls.copies motes.old.items motes.new.items agenda.old.buckets agenda.new.buckets residents.items) }
+{
+    let mut residents = Vec::new(calls.alloc);
+    let mut copies = calls.copies;
+    while let Some((number, copies)) = copies.pop_first() {
+        let mote = take_mote(motes, number);
+        agenda.drop_wake(wake_from(until, mote.wake()), number)?;
+        residents.push(Resident {
+            number,
+            mote,
+            copies,
+        })?;
+    }
+    Ok(residents)
+}
+
+/// Deals copies out: those for the worker's own motes, and those for others.
+fn deal(
+    of: &[u16],
+    worker: u16,
+    copies: &[RadioCopy],
+    own: &mut Vec<RadioCopy>,
+    away: &mut Vec<RadioCopy>,
+) -> Result<(), AllocError>
+    ensures own { OnOk result (own.new.items ≡ own.old.items ++ filter (λ copy. is_own of.now worker copy.to) copies.now) }
+    ensures away { OnOk result (away.new.items ≡ away.old.items ++ filter (leaves (is_own of.now worker)) copies.now) }
+{
+    for copy in copies {
+        if is_own(of, worker, copy.to) {
+            own.push(*copy)?;
+        } else {
+            away.push(*copy)?;
+        }
+    }
+    Ok(())
+}
+
+/// The packets of a mote go out: the copies for the worker's own motes are to come, the others go away.
+pub(crate) fn send_all(
+    alloc: Global,
+    medium: &Medium,
+    of: &[u16],
+    worker: u16,
+    sends: &[Sent],
+    agenda: &mut Agenda,
+    away: &mut Vec<RadioCopy>,
+) -> Result<(), AllocError>
+    requires { AllByRecursion (λ sent. (sent.sender < length medium.now.places) × (sent.at ≤ 2 ^ 40)) sends.now }
+    ensures own { OnOk result ((items : List Item) → Holds agenda.old.buckets items → Holds agenda.new.buckets (items ++ map Packet (filter (λ copy. is_own of.now worker copy.to) (flat_map (copies medium.now) sends.now)))) }
+    ensures away { OnOk result (away.new.items ≡ away.old.items ++ filter (leaves (is_own of.now worker)) (flat_map (copies medium.now) sends.now)) }
+{
+    let mut own = Vec::new(alloc);
+    for sent in sends {
+        let copies = medium.copies(sent)?;
+        deal(of, worker, &copies, &mut own, away)?;
+    }
+    agenda.put_copies(&own)?;
+    Ok(())
+}
+
+/// Lines more at the end of a mote's trace.
+fn add_lines(traces: &mut Vec<Vec<Line>>, number: u16, lines: Vec<Line>) -> Result<(), AllocError>
+    requires { number < length traces.old.items }
+    ensures length { OnOk result (length traces.new.items ≡ length traces.old.items) }
+    ensures lines { OnOk result ((k : ℕ) (d : VecOfCode LineOfCode GlobalOfCode) → (slice_index_or traces.new.items k d).items ≡ (slice_index_or traces.old.items k d).items ++ (if k == number then lines.items else [])) }
+{
+    let mut lines = lines;
+    traces[usize::from(number)].append(&mut lines)?;
+    Ok(())
+}
+
+impl Share {
+    /// A mote comes back from its window: its next wake is to come, its packets go out, and its lines and packets are kept. The
+    /// copies for other workers' motes go away.
+    fn take_back(
+        &mut self,
+        medium: &Medium,
+        of: &[u16],
+        out: WindowOut,
+        away: &mut Vec<RadioCopy>,
+    ) -> Result<(), AllocError>
+        requires motes { IsFit (length self.old.motes.items) out }
+        requires traces { IsFit (length self.old.traces.items) out }
+        requires places { IsFit (length medium.now.places) out }
+        ensures { OnOk result ((number : ℕ) → IsNumbered number out.mote → Returns medium.now of.now number out self.old self.new away.old.items away.new.items) }
+    {
+        let number = out.mote.number();
+        let WindowOut {
+            mote,
+            lines,
+            sends,
+            wake,
+        } = out;
+        let mut sends = sends;
+        self.agenda.put_next_wake(wake, number)?;
+        send_all(
+            self.alloc,
+            medium,
+            of,
+            self.worker,
+            &sends,
+            &mut self.agenda,
+            away,
+        )?;
+        add_lines(&mut self.traces, number, lines)?;
+        self.log.append(&mut sends)?;
+        self.motes[usize::from(number)] = Some(mote);
+        Ok(())
+    }
+
+    /// Runs the worker's motes through the window up to `until`, which is at most 2^40: takes in the copies that arrived from
+    /// other workers, runs each mote that has something before `until` by the worker's future, and keeps what is to come to its own
+    /// motes. The answer is the copies for other workers' motes, those of each mote in the order of sending. `of` tells the worker of
+    /// each mote. The time goes with the turns of the window and the copies that it takes and makes, and not with the motes.
+    ///
+    /// # Errors
+    /// `Memory`, and `Thread` where the executor answered an error. A mote that gives no turn is told as `Memory`: its turns come
+    /// at rising moments, so it found none.
+    pub fn run_window<R, G>(
+        &mut self,
+        rt: &R,
+        net: &Net,
+        of: &[u16],
+        arrived: Vec<RadioCopy>,
+        until: u64,
+        gate: &G,
+    ) -> Result<Vec<RadioCopy>, ShareError>
+    where
+        R: Wait + RandomSource + AllocGlobal,
+        G: Gate,
+        requires early { until ≤ 2 ^ 40 }
+        requires of { length of.now ≡ length (net_of net.now).motes }
+        requires kept { IsKept (net_of net.now) of.now self.old }
+        requires to_own { AllByRecursion (λ copy. is_own of.now self.old.worker copy.to ≡ true) arrived.items }
+        ensures window { let n = net_of net.now in IfOk result (λ sent. (worker from : ℕ) (motes : Motes) (taken : List CopyOfCode) → Keeps n of.now worker from motes taken self.old
+            → from ≤ until → until ≤ from + (system_of n).lookahead → AllByRecursion (ComesIn of.now worker from) arrived.items
+            → RunsWindow n of.now worker from until motes (taken ++ arrived.items) self.new sent.items) }
+        ensures out { let n = net_of net.now in IfOk result (λ sent. AllByRecursion (GoesOut n of.now self.old.worker) sent.items) }
+    {
+        self.agenda.put_copies(&arrived)?;
+        let calls = gather(self.alloc, &mut self.agenda, until)?;
+        let residents = leave(&mut self.motes, &mut self.agenda, until, calls)?;
+        let called = window_run::Share {
+            worker: self.worker,
+            residents,
+        };
+        let mut outs = run_share(rt, self.alloc, net, called, until, gate)?;
+        let mut away = Vec::new(self.alloc);
+        while let Some(out) = outs.pop() {
+            self.take_back(net.medium(), of, out, &mut away)?;
+        }
+        Ok(away)
+    }
+}
