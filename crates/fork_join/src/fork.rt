@@ -1,0 +1,131 @@
+//! The fork and the join.
+
+ghost use Rattle.std.specs.Prelude.{◌≡◌, IfOk};
+ghost use Rattle.std.specs.List.{AllZip, AllByRecursion as Each};
+ghost use Rattle.fork_join.specs.Kept.{AllKept};
+
+use crate::work::{Refused, Work};
+use std::alloc::{AllocFailed, Global};
+use std::snapshot::Snapshot;
+use std::sync::Wait;
+use std::thread;
+use std::thread::{Promise, PromisedHandle, Scope, Threads};
+
+/// What a thread promises: what the work makes of this record.
+pub struct Promised<W, T> {
+    work: Snapshot<W>,
+    worker: Snapshot<T>,
+}
+
+impl<W, T> Drop for Promised<W, T> {
+    fn drop(self) {
+        let Promised { work: _, worker: _ } = self;
+    }
+}
+
+impl<T, W: Work<T>> Promise<Result<T, Refused>> for Promised<W, T> {
+    ghost kept_by = { λ p r. IfOk r (W.makes p.work.value p.worker.value) };
+}
+
+/// Has each worker work in a thread of its own. The threads are started one after another, and all that started are joined. After a
+/// start that failed no further worker is started. The workers come back in their order.
+///
+/// # Errors
+/// That of the first worker that has one, if any that was started has one; else `Thread` where a thread couldn't be started, or
+/// `work` didn't let it, and `Memory` where no memory was found for its handle.
+pub fn fork_join<R, T, W>(
+    rt: &R,
+    alloc: Global,
+    workers: Vec<T>,
+    work: &W,
+) -> Result<Vec<T>, Refused>
+where
+    R: Threads + Wait + Sync,
+    T: Send + Drop,
+    W: Work<T> + Sync,
+    requires { Each (W.ready work.now) workers.items }
+    ensures { IfOk result (λ done. AllZip (W.makes work.now) workers.items done.items) }
+{
+    thread::scope(
+        thread::scope_env(),
+        rt,
+        |scope| -> Result<Vec<T>, Refused>
+            requires { Each (W.ready work.now) workers.items }
+            ensures { IfOk result (λ done. AllZip (W.makes work.entry.now) workers.items done.items) }
+        { forked(scope, rt, alloc, workers, work) },
+    )
+}
+
+// Starts the threads and joins them, inside the scope.
+fn forked<'s, 'e: 's, R, T, W>(
+    scope: &Scope<'s, &'e ()>,
+    rt: &'e R,
+    alloc: Global,
+    workers: Vec<T>,
+    work: &'e W,
+) -> Result<Vec<T>, Refused>
+where
+    R: Threads + Wait + Sync,
+    T: Send + Drop + 'e,
+    W: Work<T> + Sync,
+    requires { Each (W.ready work.now) workers.items }
+    ensures { IfOk result (λ done. AllZip (W.makes work.now) workers.items done.items) }
+{
+    let mut started = Vec::with_capacity(alloc, workers.len())?;
+    let mut refused = None;
+    for worker in workers {
+        if !work.may_start(&worker) {
+            refused = Some(Refused::Thread);
+            break;
+        }
+        let promise = Promised {
+            work: Snapshot::of(work),
+            worker: Snapshot::of(&worker),
+        };
+        let begun = scope.spawn_with(promise, move || work.work(worker));
+        let Ok(handle) = begun else {
+            refused = Some(Refused::Thread);
+            break;
+        };
+        if let Err(AllocFailed { value: handle }) = started.push(handle) {
+            let _answer = handle.join(rt);
+            refused = Some(Refused::Memory);
+            break;
+        }
+    }
+    let done = joined(rt, alloc, started)?;
+    match refused {
+        Some(refused) => Err(refused),
+        None => Ok(done),
+    }
+}
+
+// Joins each thread. The answers, or the first error.
+fn joined<R: Threads, T: Send + Drop, W: Work<T>>(
+    rt: &R,
+    alloc: Global,
+    started: Vec<PromisedHandle<Result<T, Refused>, Promised<W, T>>>,
+) -> Result<Vec<T>, Refused>
+    ensures { IfOk result (λ done. AllKept W.makes started.items done.items) }
+{
+    let mut done = Vec::new(alloc);
+    let mut failed = None;
+    for handle in started {
+        let answer = handle.join(rt);
+        if failed.is_some() {
+            continue;
+        }
+        match answer {
+            Ok(worker) => {
+                if let Err(_worker) = done.push(worker) {
+                    failed = Some(Refused::Memory);
+                }
+            }
+            Err(refused) => failed = Some(refused),
+        }
+    }
+    match failed {
+        Some(refused) => Err(refused),
+        None => Ok(done),
+    }
+}

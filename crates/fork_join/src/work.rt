@@ -1,0 +1,43 @@
+//! What a worker does in its thread.
+
+use std::alloc::{AllocError, AllocFailed};
+
+/// Why a worker gave up, or wasn't started.
+#[derive(Clone, Copy, Debug, PartialEq, Eq)]
+pub enum Refused {
+    /// No memory was found.
+    Memory,
+    /// A thread couldn't be started, or what ran in it failed.
+    Thread,
+}
+
+impl From<AllocError> for Refused {
+    fn from(_: AllocError) -> Refused {
+        Refused::Memory
+    }
+}
+
+impl<T: Drop> From<AllocFailed<T>> for Refused {
+    fn from(_: AllocFailed<T>) -> Refused {
+        Refused::Memory
+    }
+}
+
+/// The work that all workers do, each on its own record `T`.
+pub trait Work<T> {
+    ghost use Rattle.std.specs.Prelude.{IfOk};
+
+    /// What a worker's record must be.
+    ghost ready: { Self → T → Type 0 };
+
+    /// What the work makes of it.
+    ghost makes: { Self → T → T → Type 0 };
+
+    /// Works on the record of one worker.
+    fn work(&self, worker: T) -> Result<T, Refused>
+        requires { ready self.now worker }
+        ensures { IfOk result (makes self.now worker) };
+
+    /// It is asked before a worker's thread is started. No counts as a start that failed.
+    fn may_start(&self, worker: &T) -> bool;
+}

@@ -1,0 +1,11 @@
+pub mod Choose
+pub mod Firsts
+pub mod Lookups
+pub mod Moved
+pub mod Moves
+pub mod Nexts
+pub mod Same
+pub mod Stands
+pub mod Starts
+pub mod Step
+pub mod Working

@@ -1,0 +1,128 @@
+-- A window of all workers moves the crew on.
+use Rattle.std.proofs.Common.{◌≡◌, ◌⊎◌, ℕ, ◌+◌, ◌<◌, ◌≤◌, true, false, List, [], ◌∷◌, ◌++◌, length, map, get_or, sym, ap, ◌∙◌, subst, inl, inr, arith, Option, Some, None}
+use Rattle.std.specs.List.{filter, zip, slice_get, AllByRecursion as Each}
+use Rattle.std.proofs.lemmas.Bool.{cases_Bool, eqb-true}
+use Rattle.std.proofs.lemmas.List.Elements.{filter-append}
+use Rattle.std.proofs.lemmas.List.FromFn.{get_or-range_with_len}
+use Rattle.radio_medium.specs.declared.copy.RadioCopy.{RadioCopy}
+use Rattle.net_scenario.specs.Net.{NetTold}
+use Rattle.window_law.specs.Windows.{WakesFrom, is_from_sender}
+use Rattle.window_law.proofs.Lists.{every_passes, every_weaker, every_both}
+use Rattle.net_agenda.specs.NetSystem.{system_of}
+use Rattle.copy_inbox.specs.Handles.{TakerView}
+use Rattle.copy_exchange.specs.declared.courier.Courier.{Courier}
+use Rattle.copy_exchange.specs.Couriers.{SetsOut, ComesHome}
+use Rattle.copy_exchange.specs.Desks.{copies_in, taken_by, gathered_by}
+use Rattle.copy_inbox.specs.Items.{copies_of}
+use Rattle.worker_cut.specs.Crossed.{is_own, is_to}
+use Rattle.worker_share.specs.declared.share.Share.{Share}
+use Rattle.worker_share.specs.Share.{Keeps}
+use Rattle.worker_share.specs.Window.{RunsWindow, ComesIn}
+use Rattle.worker_crew.specs.declared.crew.Crew.{Crew}
+use Rattle.worker_crew.specs.declared.worker.Worker.{Worker}
+use Rattle.worker_crew.specs.Crew.{IsAt, IsWorkerAt}
+use Rattle.worker_crew.specs.Laws.{RunsAll, manned_by}
+use Rattle.worker_crew.specs.Worker.{RunsWorker, IsNotBefore}
+use Rattle.worker_crew.proofs.Lookups.{there, read, mapped, paired, beside, as_long}
+use Rattle.worker_crew.proofs.Working.{every_of_each, arrived_have}
+
+-- lists that begin alike go on alike
+goes_on : (xs ys zs : List RadioCopy) → xs ++ ys ≡ xs ++ zs → ys ≡ zs
+goes_on [] ys zs e = e
+goes_on (x ∷ xs) ys zs e = goes_on xs ys zs (cc)
+
+not_before : (from : ℕ) (first : Option ℕ) (c : RadioCopy) → WakesFrom from first → IsNotBefore first c → from ≤ c.at
+not_before from None c w h = absurd h
+not_before from (Some m) c w h = omega arith
+
+module _ (n : NetTold) (of : List ℕ) (from until : ℕ) (old new : Crew) (at : IsAt n of from old) (all : RunsAll n of until old new) where
+  -- one worker of the window: what it had, and what it has
+  pub record Piece (v : ℕ) : Type 0 where
+    pub share : Share
+    pub taker : TakerView
+    pub courier : Courier
+    pub done : Worker
+    pub home : TakerView
+    pub done_at : slice_get all.done v ≡ Some done
+    pub home_at : slice_get new.takers.items v ≡ Some home
+    pub here : IsWorkerAt n of from at.motes old.first_out v share taker
+    pub set_out : SetsOut taker courier
+    pub number : courier.worker ≡ v
+    pub ran : RunsWorker n of old.inboxes.items until (manned_by (share, courier)) done
+    pub came : ComesHome (map (λ (worker : Worker). worker.courier) all.done) done.courier home
+
+  takers_long : length old.takers.items ≡ length old.inboxes.items
+  takers_long = as_long _ old.inboxes.items old.takers.items at.settled
+
+  pub piece : (v : ℕ) → v < length old.inboxes.items → Piece v
+  piece v h =
+      let s = there old.shares.items v (subst (λ l. v < l) (sym at.shares) h) in
+      let t = there old.takers.items v (subst (λ l. v < l) (sym takers_long) h) in
+      let c = beside SetsOut old.takers.items all.couriers all.set_out v t.0 t.1 in
+      let d = beside _ _ all.done all.ran v (manned_by (s.0, c.0)) (mapped manned_by (zip old.shares.items all.couriers) v (s.0, c.0) (paired old.shares.items all.couriers v s.0 c.0 s.1 c.1)) in
+      let g = beside _ _ new.takers.items all.home v d.0.courier (mapped (λ (worker : Worker). worker.courier) all.done v d.0 d.1) in
+      let is_share = read old.shares.items v s.0 s.0 s.1 in
+      let is_taker = read old.takers.items v t.0 t.0 t.1 in
+      record {
+        share = s.0;
+        taker = t.0;
+        courier = c.0;
+        done = d.0;
+        home = g.0;
+        done_at = d.1;
+        home_at = g.1;
+        here = subst (λ x. IsWorkerAt n of from at.motes old.first_out v x t.0) is_share (subst (λ x. IsWorkerAt n of from at.motes old.first_out v (get_or old.shares.items v s.0) x) is_taker (at.each v h s.0 t.0));
+        set_out = c.2;
+        number = worker_number c.0 c.1;
+        ran = d.2;
+        came = g.2;
+      }
+    where
+      worker_number : (c : Courier) → slice_get all.couriers v ≡ Some c → c.worker ≡ v
+      worker_number c e =
+          sym (read (map (λ (x : Courier). x.worker) all.couriers) v c.worker 0 (mapped (λ (x : Courier). x.worker) all.couriers v c e))
+          ∙ (ap (λ l. get_or l v 0) all.together.workers ∙ (get_or-range_with_len 0 (length old.inboxes.items) v 0 h ∙ omega arith))
+
+  module _ (short : until ≤ from + (system_of n).lookahead) (up : from ≤ until) (v : ℕ) (p : Piece v) where
+    -- what the worker had gathered
+    gathered_same : gathered_by p.courier.taker ≡ gathered_by p.taker
+    gathered_same = ap copies_in p.set_out.same_gathered
+
+    taken_same : taken_by p.courier.taker ≡ taken_by p.taker
+    taken_same = ap copies_of p.set_out.same_taken
+
+    foreign : (s : ℕ) → Each (λ (c : RadioCopy). (is_own of v c.to ≡ true) × (is_own of v c.sender ≡ false)) (filter (is_from_sender s) (gathered_by p.taker))
+    foreign s = of_case (cases_Bool (is_own of v s))
+      where
+        of_case : (is_own of v s ≡ true) ⊎ (is_own of v s ≡ false) → Each (λ (c : RadioCopy). (is_own of v c.to ≡ true) × (is_own of v c.sender ≡ false)) (filter (is_from_sender s) (gathered_by p.taker))
+        of_case (inl e) = let t = p.here.gathered s in let u = rw e at t in subst (Each (λ (c : RadioCopy). (is_own of v c.to ≡ true) × (is_own of v c.sender ≡ false))) (sym u) tt
+        of_case (inr e) =
+            let t = p.here.gathered s in
+            let u = rw e at t in
+            every_weaker _ _ (λ c g. (g.0, ap (is_own of v) (eqb-true c.sender s g.1) ∙ e)) _
+            (every_both (λ (c : RadioCopy). is_to of v c ≡ true) (λ (c : RadioCopy). is_from_sender s c ≡ true) (filter (is_from_sender s) (gathered_by p.taker)) (subst (Each (λ (c : RadioCopy). is_to of v c ≡ true)) (sym u) (every_passes (is_to of v) _)) (every_passes (is_from_sender s) (gathered_by p.taker)))
+
+    all_foreign : Each (λ (c : RadioCopy). (is_own of v c.to ≡ true) × (is_own of v c.sender ≡ false)) p.ran.arrived
+    all_foreign = arrived_have (λ (c : RadioCopy). (is_own of v c.to ≡ true) × (is_own of v c.sender ≡ false)) p.courier p.ran.between p.ran.arrived p.ran.collects (subst (Each (λ (c : RadioCopy). (is_own of v c.to ≡ true) × (is_own of v c.sender ≡ false))) (sym gathered_same) (every_of_each (λ (c : RadioCopy). (is_own of v c.to ≡ true) × (is_own of v c.sender ≡ false)) (gathered_by p.taker) foreign))
+
+    waited : (s : ℕ) → filter (is_from_sender s) p.ran.arrived ≡ (p.here.waits s).rest
+    waited s = goes_on (filter (is_from_sender s) (taken_by p.taker)) _ _ (
+        ap (λ l. filter (is_from_sender s) l ++ filter (is_from_sender s) p.ran.arrived) (sym taken_same)
+        ∙ (sym (filter-append (is_from_sender s) (taken_by p.courier.taker) p.ran.arrived)
+        ∙ (ap (filter (is_from_sender s)) (sym p.ran.collects.adds)
+        ∙ (p.ran.collects.in_order s
+        ∙ (ap (filter (is_from_sender s)) gathered_same ∙ (p.here.waits s).all)))))
+
+    all_later : Each (λ (c : RadioCopy). from ≤ c.at) p.ran.arrived
+    all_later = every_of_each (λ (c : RadioCopy). from ≤ c.at) p.ran.arrived (λ s. subst (Each (λ (c : RadioCopy). from ≤ c.at)) (sym (waited s)) (every_weaker _ _ (λ c g. not_before from old.first_out c at.first g) _ (p.here.waits s).later))
+
+    pub comes : Each (ComesIn of v from) p.ran.arrived
+    comes = every_weaker _ _ (λ c g. record { to = g.0.0; sender = g.0.1; later = g.1 }) _ (every_both (λ (c : RadioCopy). (is_own of v c.to ≡ true) × (is_own of v c.sender ≡ false)) (λ (c : RadioCopy). from ≤ c.at) p.ran.arrived all_foreign all_later)
+
+    pub window : RunsWindow n of v from until at.motes (taken_by p.done.courier.taker) p.done.share p.ran.sent
+    window =
+        subst (λ w. RunsWindow n of w from until at.motes (taken_by p.done.courier.taker) p.done.share p.ran.sent) p.number
+        (p.ran.runs from at.motes
+        (subst (λ w. Keeps n of w from at.motes (taken_by p.courier.taker) p.share) (sym p.number) (subst (λ t. Keeps n of v from at.motes t p.share) (sym taken_same) p.here.keeps))
+        up short
+        (subst (λ w. Each (ComesIn of w from) p.ran.arrived) (sym p.number) comes))

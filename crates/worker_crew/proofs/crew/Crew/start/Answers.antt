@@ -1,0 +1,11 @@
+use Rattle.std.proofs.Common.{rules, ◌≡◌, ◌∙◌, refl, subst, vec_len, length}
+use Rattle.net_scenario.specs.Net.{net_of}
+use Rattle.worker_crew.specs.Start.{AreFirst}
+use Rattle.worker_crew.proofs.Starts.{starts}
+use Rattle.worker_crew.proofs.crew.Crew.start.Goals as goal
+
+pub returns-clause-at : goal.returns-clause-at
+returns-clause-at c =
+    let n = net_of c.args.net.now in
+    let long : vec_len c.args.inboxes ≡ length c.args.inboxes.items = search rules in
+    starts n c.args.of.now _ c.requires.cut c.requires.fresh (subst (λ w. AreFirst n c.args.of.now w c.in_ok-shares.shares.items) (c.len.ensures ∙ long) c.in_ok-shares.ensures) refl

@@ -1,0 +1,4 @@
+pub mod Crew
+pub mod Laws
+pub mod Start
+pub mod Worker

@@ -1,0 +1,16 @@
+//! Laws of the workers. Each is the contract of a function that does nothing.
+
+ghost use Rattle.worker_crew.specs.Laws.{StandsUntilNext, WindowMovesOn};
+
+/// Where each worker took in what had been sent to it, ran its motes, and delivered what they sent, and where all senders were then
+/// gathered, the window of all workers is one of those of the law of windows: the motes have come to its end, each worker keeps its
+/// own, and has gathered of each mote of another worker all copies for its own.
+pub fn a_window_moves_on()
+    ensures { WindowMovesOn }
+{}
+
+/// Until something is to come, to a share or out of an inbox, the workers stand at each moment, and nothing comes before the moment
+/// at which they stand.
+pub fn workers_stand_until_next()
+    ensures { StandsUntilNext }
+{}

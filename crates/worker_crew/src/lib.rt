@@ -1,0 +1,10 @@
+//! The workers of a net, window by window: each has its share of the motes, and runs it in a thread of its own.
+#![tactic(auto)]
+
+mod crew;
+pub mod laws;
+mod start;
+mod worker;
+
+pub use crew::{Crew, first_of_all};
+pub use worker::{Runner, Task, Window, Worker};

@@ -1,0 +1,58 @@
+//! The workers before the first window.
+
+ghost use Rattle.std.specs.Prelude.{◌≡◌, ◌≤◌, length, IfOk};
+ghost use Rattle.std.specs.List.{AllZip};
+ghost use Rattle.net_scenario.specs.Net.{net_of};
+ghost use Rattle.copy_exchange.specs.Inboxes.{IsFresh};
+ghost use Rattle.worker_crew.specs.Crew.{IsAt};
+ghost use Rattle.worker_crew.specs.Start.{AreFirst};
+ghost use Rattle.worker_crew.specs.Worker.{IsCut};
+
+use crate::crew::Crew;
+use copy_inbox::{Inbox, Taker};
+use fork_join::Refused;
+use net_scenario::Net;
+use std::alloc::Global;
+use worker_share::Share;
+
+/// The shares of so many workers: each mote wakes at 0.
+fn first_shares(alloc: Global, net: &Net, of: &[u16], workers: u16) -> Result<Vec<Share>, Refused>
+    requires { length of.now ≡ length (net_of net.now).motes }
+    ensures { let n = net_of net.now in IfOk result (λ shares. AreFirst n of.now workers shares.items) }
+{
+    let mut shares = Vec::new(alloc);
+    for worker in 0..workers {
+        let share = Share::new(alloc, net, of, worker)?;
+        shares.push(share)?;
+    }
+    Ok(shares)
+}
+
+impl Crew {
+    /// The workers before the motes' first turns: each mote wakes at 0, and nothing lies in the inboxes. `of` tells the worker of
+    /// each mote.
+    ///
+    /// # Errors
+    /// `Memory` alone.
+    pub fn start(
+        alloc: Global,
+        net: &Net,
+        of: &[u16],
+        inboxes: Vec<Inbox>,
+        takers: Vec<Taker>,
+    ) -> Result<Crew, Refused>
+        requires few { length inboxes.items ≤ 16 }
+        requires cut { IsCut (length (net_of net.now).motes) (length inboxes.items) of.now }
+        requires fresh { AllZip IsFresh inboxes.items takers.items }
+        ensures at { IfOk result (λ crew. IsAt (net_of net.now) of.now 0 crew) }
+        ensures inboxes { IfOk result (λ crew. crew.inboxes.items ≡ inboxes.items) }
+    {
+        let shares = first_shares(alloc, net, of, inboxes.len() as u16)?;
+        Ok(Crew {
+            shares,
+            inboxes,
+            takers,
+            first_out: None,
+        })
+    }
+}

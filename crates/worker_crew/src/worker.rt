@@ -1,0 +1,137 @@
+//! One worker in one window.
+
+ghost use Rattle.std.specs.Prelude.{ℕ, IfOk};
+ghost use Rattle.std.specs.Prelude.{◌≤◌, IfSome};
+ghost use Rattle.net_scenario.specs.Net.{net_of};
+ghost use Rattle.radio_medium.specs.declared.copy.RadioCopy.{RadioCopy};
+ghost use Rattle.window_law.specs.Windows.{WakesFrom};
+ghost use Rattle.worker_crew.specs.Worker.{IsReady, RunsWorker, IsFirstOf, IsNotBefore};
+
+use copy_exchange::Courier;
+use copy_inbox::Inbox;
+use fork_join::{Refused, Work};
+use net_scenario::Net;
+use radio_medium::RadioCopy;
+use std::random::RandomSource;
+use std::sync::Wait;
+use window_run::Gate;
+use worker_share::{Share, ShareError};
+
+/// A worker: its share of the net, and the courier of its copies.
+#[derive(Drop)]
+pub struct Worker {
+    pub share: Share,
+    pub courier: Courier,
+    /// When the first of the copies that it delivered in its window arrives.
+    pub first_out: Option<u64>,
+}
+
+/// What all workers of a window have in common.
+#[derive(Clone, Copy)]
+pub struct Window<'a> {
+    pub net: &'a Net,
+    /// The worker of each mote.
+    pub of: &'a [u16],
+    /// The inbox of each worker.
+    pub inboxes: &'a [Inbox],
+    /// The window ends before this moment.
+    pub until: u64,
+}
+
+/// A worker that has a window to run through.
+#[derive(Drop)]
+pub struct Task<'a> {
+    pub worker: Worker,
+    pub window: Window<'a>,
+}
+
+/// What each worker's thread needs besides: the runtime, and the gate into its turns.
+pub struct Runner<'a, R, G> {
+    pub rt: &'a R,
+    pub gate: &'a G,
+}
+
+impl<R, G> Drop for Runner<'_, R, G> {
+    fn drop(self) {
+        let Runner { rt: _, gate: _ } = self;
+    }
+}
+
+/// The sooner of two moments, or the one that there is.
+pub fn sooner(one: Option<u64>, other: Option<u64>) -> Option<u64>
+    ensures one { (copy : RadioCopy) → IsNotBefore one copy → IsNotBefore result copy }
+    ensures other { (copy : RadioCopy) → IsNotBefore other copy → IsNotBefore result copy }
+    ensures greatest { (moment : ℕ) → WakesFrom moment one → WakesFrom moment other → WakesFrom moment result }
+    ensures least { (moment : ℕ) → WakesFrom moment result → WakesFrom moment one × WakesFrom moment other }
+{
+    let Some(moment) = one else {
+        return other;
+    };
+    let Some(second) = other else {
+        return one;
+    };
+    Some(moment.min(second))
+}
+
+/// When the first of these copies arrives.
+fn first_of(copies: &[RadioCopy]) -> Option<u64>
+    ensures { IsFirstOf copies.now result }
+{
+    let mut first = None;
+    for copy in copies {
+        first = sooner(Some(copy.at), first);
+    }
+    first
+}
+
+/// Has a worker take in what other workers sent in earlier windows, while they may already send more; run its motes through the
+/// window; and deliver what they sent to the motes of others.
+fn run_worker<R: Wait + RandomSource + AllocGlobal, G: Gate>(
+    rt: &R,
+    gate: &G,
+    window: &Window<'_>,
+    worker: Worker,
+) -> Result<Worker, Refused>
+    requires { IsReady (net_of window.now.net.now) window.now.of.now window.now.inboxes.now window.now.until worker }
+    ensures { IfOk result (RunsWorker (net_of window.now.net.now) window.now.of.now window.now.inboxes.now window.now.until worker) }
+{
+    let Worker {
+        mut share,
+        mut courier,
+        first_out: _,
+    } = worker;
+    let Ok(arrived) = courier.collect(rt, window.inboxes) else {
+        return Err(Refused::Memory);
+    };
+    let ran = share.run_window(rt, window.net, window.of, arrived, window.until, gate);
+    let sent = match ran {
+        Ok(sent) => sent,
+        Err(ShareError::Memory) => return Err(Refused::Memory),
+        Err(ShareError::Thread) => return Err(Refused::Thread),
+    };
+    let first_out = first_of(&sent);
+    let Ok(()) = courier.deliver(rt, window.inboxes, window.of, sent) else {
+        return Err(Refused::Memory);
+    };
+    Ok(Worker {
+        share,
+        courier,
+        first_out,
+    })
+}
+
+impl<'a, R: Wait + RandomSource + AllocGlobal, G: Gate> Work<Task<'a>> for Runner<'_, R, G> {
+    ghost ready = { λ w task. IsReady (net_of task.window.net.now) task.window.of.now task.window.inboxes.now task.window.until task.worker };
+
+    ghost makes = { λ w old new. RunsWorker (net_of old.window.net.now) old.window.of.now old.window.inboxes.now old.window.until old.worker new.worker };
+
+    fn work(&self, task: Task<'a>) -> Result<Task<'a>, Refused> {
+        let Task { worker, window } = task;
+        let worker = run_worker(self.rt, self.gate, &window, worker)?;
+        Ok(Task { worker, window })
+    }
+
+    fn may_start(&self, task: &Task<'a>) -> bool {
+        self.gate.start(task.worker.courier.worker)
+    }
+}

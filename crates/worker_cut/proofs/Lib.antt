@@ -1,0 +1,4 @@
+pub mod Carried
+pub mod Counts
+pub mod Crossed
+pub mod Windows

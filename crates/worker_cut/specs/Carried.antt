@@ -1,0 +1,14 @@
+-- What the inboxes carried: each copy that crosses from one worker to another, once.
+use Rattle.std.specs.Prelude.{ℕ, Bool, not, ◌&&◌, List, IsPermutation}
+use Rattle.std.specs.List.{filter, flat_map}
+use Rattle.process_kernel.specs.declared.line.Sent.{Sent}
+use Rattle.radio_medium.specs.declared.copy.RadioCopy.{RadioCopy}
+use Rattle.worker_cut.specs.Crossed.{is_own}
+
+-- from a mote of another worker, for a mote of this one
+abbrev pub crosses_to : (of : List ℕ) → (worker : ℕ) → RadioCopy → Bool
+crosses_to of worker copy = not (is_own of worker copy.sender) && is_own of worker copy.to
+
+-- of the copies of these packets, those that cross to this worker, each once and no others
+abbrev pub AreThoseTo : (copies : Sent → List RadioCopy) → (of : List ℕ) → (worker : ℕ) → (log : List Sent) → List RadioCopy → Type 0
+AreThoseTo copies of worker log got = IsPermutation (filter (crosses_to of worker) (flat_map copies log)) got

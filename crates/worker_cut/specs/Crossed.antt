@@ -1,0 +1,27 @@
+-- Who has which mote, and what crosses from one worker to another.
+use Rattle.std.specs.Prelude.{ℕ, Bool, false, not, ◌==◌, if◌then◌else◌, List, []}
+use Rattle.std.specs.List.{filter, slice_get}
+use Rattle.std.specs.Option.{option_map_or}
+use Rattle.radio_medium.specs.declared.copy.RadioCopy.{RadioCopy}
+use Rattle.window_law.specs.System.{System}
+use Rattle.window_law.specs.Windows.{LoneMote, copies_by, is_from_sender}
+
+-- this worker has this mote
+abbrev pub is_own : (of : List ℕ) → (worker mote : ℕ) → Bool
+is_own of worker mote = option_map_or (λ w. w == worker) (slice_get of mote) false
+
+-- the copy is for a mote of this worker
+abbrev pub is_to : (of : List ℕ) → (worker : ℕ) → RadioCopy → Bool
+is_to of worker copy = is_own of worker copy.to
+
+-- it isn't
+abbrev pub leaves : (of : List ℕ) → (worker : ℕ) → RadioCopy → Bool
+leaves of worker copy = not (is_own of worker copy.to)
+
+-- what this mote has sent for motes of the worker, where it is another worker's
+abbrev pub crossed : {S L : Type 0} → System S L → (of : List ℕ) → (motes : (number : ℕ) → LoneMote S L) → (worker sender : ℕ) → List RadioCopy
+crossed system of motes worker sender = if is_own of worker sender then [] else filter (is_to of worker) (copies_by system motes sender)
+
+-- what a worker has of what this mote sent: all that a mote of its own sent, and of others what it took
+abbrev pub copies_known : {S L : Type 0} → System S L → (own : ℕ → Bool) → (motes : (number : ℕ) → LoneMote S L) → (taken : List RadioCopy) → (sender : ℕ) → List RadioCopy
+copies_known system own motes taken sender = if own sender then copies_by system motes sender else filter (is_from_sender sender) taken

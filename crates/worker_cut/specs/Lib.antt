@@ -1,0 +1,4 @@
+pub mod Carried
+pub mod Crossed
+pub mod Cut
+pub mod Laws

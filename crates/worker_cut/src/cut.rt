@@ -1,0 +1,55 @@
+//! Which worker has which mote.
+
+ghost use Rattle.std.specs.Prelude.{◌≡◌, ◌<◌, ◌*◌, ◌/◌, IfOk};
+ghost use Rattle.worker_cut.specs.Cut.{block_of, stripe_of};
+
+use std::alloc::{AllocError, Global};
+
+/// A cut of the motes of a net among workers.
+#[derive(Debug, Drop)]
+pub struct Cut {
+    /// The worker of each mote, by the mote's number.
+    pub of: Vec<u16>,
+    /// The longest window wished, in moments, or 0 for no wish.
+    pub longest: u32,
+}
+
+/// Mote i goes to the worker `i * workers / motes`.
+fn in_blocks(mote: u16, motes: u16, workers: u16) -> u16
+    requires { mote < motes }
+    ensures { result ≡ (mote * workers) / motes }
+{
+    let part = u32::from(mote) * u32::from(workers) / u32::from(motes);
+    part as u16
+}
+
+impl Cut {
+    /// Gives each worker motes that follow one another, as many as each other worker or one more or less: mote i goes to the
+    /// worker `i * workers / motes`.
+    pub fn block(alloc: Global, motes: u16, workers: u16) -> Result<Cut, AllocError>
+        requires motes { 0 < motes }
+        requires workers { 0 < workers }
+        ensures of { IfOk result (λ cut. cut.of.items ≡ block_of motes workers) }
+        ensures longest { IfOk result (λ cut. cut.longest ≡ 0) }
+    {
+        let mut of = Vec::new(alloc);
+        for mote in 0..motes {
+            of.push(in_blocks(mote, motes, workers))?;
+        }
+        Ok(Cut { of, longest: 0 })
+    }
+
+    /// Deals the motes in turn: mote i goes to the worker `i` mod `workers`.
+    pub fn stripe(alloc: Global, motes: u16, workers: u16) -> Result<Cut, AllocError>
+        requires motes { 0 < motes }
+        requires workers { 0 < workers }
+        ensures of { IfOk result (λ cut. cut.of.items ≡ stripe_of motes workers) }
+        ensures longest { IfOk result (λ cut. cut.longest ≡ 0) }
+    {
+        let mut of = Vec::new(alloc);
+        for mote in 0..motes {
+            of.push(mote % workers)?;
+        }
+        Ok(Cut { of, longest: 0 })
+    }
+}

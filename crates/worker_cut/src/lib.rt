@@ -1,0 +1,7 @@
+//! Cuts of the motes of a net among workers, and what crosses from one worker to another.
+#![tactic(auto)]
+
+mod cut;
+pub mod laws;
+
+pub use cut::Cut;
