@@ -2,6 +2,7 @@
 
 mod limits;
 mod nets;
+mod odd_texts;
 mod tables;
 mod versions;
 
