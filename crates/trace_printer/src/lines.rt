@@ -99,7 +99,7 @@ fn put_fate(page: &mut Page, fate: Fate) -> Result<(), AllocError>
     ensures { OnOk result (page.new ≡ page.old ++ 32 ∷ fate_word fate) }
 {
     put_words(page, &[Number(u64::from(fate.to))])?;
-    page.put_text("@")?;
+    page.put_byte(b'@')?;
     match fate.at {
         Some(at) => page.put_number(at),
         None => page.put_text("lost"),
@@ -125,5 +125,5 @@ pub fn put_packet(page: &mut Page, line: &LogLine) -> Result<(), AllocError>
     put_word(page, Number(sent.at))?;
     put_words(page, &[sender, Number(sent.number), value])?;
     put_fates(page, &line.fates)?;
-    page.put_text("\n")
+    page.put_byte(b'\n')
 }

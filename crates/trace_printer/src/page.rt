@@ -1,5 +1,5 @@
 //! The text that waits to be written.
-ghost use Rattle.std.specs.Prelude.{◌≡◌, [], ◌++◌, decimal, IfOk, OnOk};
+ghost use Rattle.std.specs.Prelude.{◌≡◌, ◌≤◌, [], ◌∷◌, ◌++◌, length, decimal, IfOk, OnOk};
 ghost use Rattle.trace_printer.specs.Output.{Writes};
 
 use crate::output::{WriteFault, write_bytes};
@@ -14,31 +14,33 @@ const ROOM: usize = 65_536;
 /// From how many bytes on a page is written. The longest line fits between this and `ROOM`.
 const FULL: usize = 32_768;
 
-/// Lines that wait to be written, so that the writer is called once for many of them.
+/// Lines that wait to be written, so that the writer is called once for many of them: so many bytes, behind which there is room.
 #[derive(Drop)]
 pub struct Page {
     bytes: Vec<u8>,
+    len: usize,
+    ghost within: { len ≤ length bytes.items },
 }
 
 impl Model for Page {
-    ghost use Rattle.std.specs.Prelude.{List, ℕ};
+    ghost use Rattle.std.specs.Prelude.{List, ℕ, take};
 
     ghost Value = { List ℕ };
 
-    ghost view = { λ p. p.bytes.items };
+    ghost view = { λ p. take p.len p.bytes.items };
 }
 
 impl Page {
     pub fn new(alloc: Global) -> Result<Page, AllocError>
         ensures { IfOk result (λ page. page ≡ []) }
     {
-        let bytes = Vec::with_capacity(alloc, ROOM)?;
-        Ok(Page { bytes })
+        let bytes = vec![in alloc; 0u8; ROOM]?;
+        Ok(Page { bytes, len: 0 })
     }
 
     /// Whether it is time to write the page.
     pub fn is_full(&self) -> bool {
-        self.bytes.len() >= FULL
+        self.len >= FULL
     }
 
     /// Writes the page, and empties it. After a fault a front of it has been written, which lacks at least a byte.
@@ -46,8 +48,21 @@ impl Page {
         ensures written { Writes (W.contents writer.old) (W.contents writer.new) result self.old }
         ensures emptied { OnOk result (self.new ≡ []) }
     {
-        write_bytes(writer, &self.bytes)?;
-        self.bytes.clear();
+        write_bytes(writer, &self.bytes[..self.len])?;
+        self.len = 0;
+        Ok(())
+    }
+
+    #[inline(always)]
+    pub fn put_byte(&mut self, byte: u8) -> Result<(), AllocError>
+        ensures { OnOk result (self.new ≡ self.old ++ byte ∷ []) }
+    {
+        if self.len < self.bytes.len() {
+            self.bytes[self.len] = byte;
+        } else {
+            self.bytes.push(byte)?;
+        }
+        self.len += 1;
         Ok(())
     }
 
@@ -55,13 +70,19 @@ impl Page {
     pub fn put_text(&mut self, text: &str) -> Result<(), AllocError>
         ensures { OnOk result (self.new ≡ self.old ++ text.now) }
     {
-        self.bytes.extend_from_slice(text.as_bytes())
+        for byte in text.as_bytes() {
+            self.put_byte(*byte)?;
+        }
+        Ok(())
     }
 
     #[inline(always)]
     pub fn put_number(&mut self, number: u64) -> Result<(), AllocError>
         ensures { OnOk result (self.new ≡ self.old ++ decimal number) }
     {
+        if number < 10 {
+            return self.put_byte(b'0' + number as u8);
+        }
         let mut digits = Buffer::new();
         self.put_text(digits.format(number))
     }

@@ -30,7 +30,7 @@ pub fn put_words(page: &mut Page, words: &[Word<'_>]) -> Result<(), AllocError>
     ensures { OnOk result (page.new ≡ page.old ++ flat_map (λ w. 32 ∷ w) (map word_text words.now)) }
 {
     for word in words {
-        page.put_text(" ")?;
+        page.put_byte(b' ')?;
         put_word(page, *word)?;
     }
     Ok(())
@@ -43,5 +43,5 @@ pub fn put_line(page: &mut Page, first: Word<'_>, others: &[Word<'_>]) -> Result
 {
     put_word(page, first)?;
     put_words(page, others)?;
-    page.put_text("\n")
+    page.put_byte(b'\n')
 }
