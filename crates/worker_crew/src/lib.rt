@@ -4,6 +4,7 @@
 mod crew;
 pub mod laws;
 mod start;
+mod window;
 mod worker;
 
 pub use crew::{Crew, first_of_all};
