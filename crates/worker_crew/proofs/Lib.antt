@@ -4,6 +4,7 @@ pub mod Lookups
 pub mod Moved
 pub mod Moves
 pub mod Nexts
+pub mod Runs
 pub mod Same
 pub mod Stands
 pub mod Starts
