@@ -1,9 +1,12 @@
 pub mod Choose
+pub mod Crossing
 pub mod Firsts
 pub mod Lookups
 pub mod Moved
 pub mod Moves
 pub mod Nexts
+pub mod Ready
+pub mod Returned
 pub mod Same
 pub mod Stands
 pub mod Starts

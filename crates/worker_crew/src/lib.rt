@@ -4,7 +4,8 @@
 mod crew;
 pub mod laws;
 mod start;
+mod window;
 mod worker;
 
 pub use crew::{Crew, first_of_all};
-pub use worker::{Runner, Task, Window, Worker};
+pub use worker::{Runner, Window, Worker};
