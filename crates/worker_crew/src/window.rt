@@ -22,11 +22,7 @@ use window_run::Gate;
 use worker_share::Share;
 
 /// Each worker with its share and its courier.
-fn manned(
-    alloc: Global,
-    shares: Vec<Share>,
-    couriers: Vec<Courier>,
-) -> Result<Vec<Worker>, Refused>
+fn manned(alloc: Global, shares: Vec<Share>, couriers: Vec<Courier>) -> Result<Vec<Worker>, Refused>
     ensures { IfOk result (λ workers. workers.items ≡ map manned_by (zip shares.items couriers.items)) }
 {
     let mut workers = Vec::new(alloc);

@@ -1,4 +1,3 @@
-use denote.Param.Send.{IsSync}
 use mir.Syntax.{erased}
 use Rattle.worker_crew.proofs.Crossing.{runner_sync}
 use Rattle.worker_crew.proofs.window.run_together.Goals as goal
