@@ -1,5 +1,5 @@
 -- Workers that stand somewhere are ready to run when their couriers set out.
-use Rattle.std.proofs.Common.{◌≡◌, ℕ, suc, ◌<◌, ◌≤◌, ◌^◌, true, false, List, [], ◌∷◌, length, map, get_or, refl, sym, ap, ◌∙◌, subst, arith, Option, Some}
+use Rattle.std.proofs.Common.{◌≡◌, ℕ, suc, ◌<◌, ◌≤◌, ◌^◌, true, false, List, [], ◌∷◌, length, map, get_or, refl, sym, ap, ◌∙◌, subst, arith, Some}
 use Rattle.std.specs.List.{zip, slice_get, range_with_len, AllZip, AllByRecursion as Each}
 use Rattle.std.proofs.lemmas.List.FromFn.{get_or-range_with_len}
 use Rattle.radio_medium.specs.declared.copy.RadioCopy.{RadioCopy}
@@ -14,7 +14,7 @@ use Rattle.worker_crew.specs.declared.crew.Crew.{Crew}
 use Rattle.worker_crew.specs.Crew.{IsAt, IsWorkerAt}
 use Rattle.worker_crew.specs.Laws.{manned_by}
 use Rattle.worker_crew.specs.Worker.{IsReady}
-use Rattle.worker_crew.proofs.Lookups.{there, inside, read, mapped, beside, as_long, each_at}
+use Rattle.worker_crew.proofs.Lookups.{there, inside, read, mapped, beside, as_long, each_at, same_found}
 use Rattle.worker_crew.proofs.Working.{foreign}
 
 module _ {X Y Z : Type 0} (P : Z → Type 0) (f : X × Y → Z) where
@@ -22,9 +22,6 @@ module _ {X Y Z : Type 0} (P : Z → Type 0) (f : X × Y → Z) where
   each_zipped [] ys h = tt
   each_zipped (x ∷ xs) [] h = tt
   each_zipped (x ∷ xs) (y ∷ ys) h = (h 0 x y refl refl, each_zipped xs ys (λ i a b e g. h (suc i) a b e g))
-
-same_found : {X : Type 0} (o : Option X) (x y : X) → o ≡ Some x → o ≡ Some y → x ≡ y
-same_found o x y e f = cc
 
 -- each courier is that of the worker at its place
 pub numbered : (workers : ℕ) (couriers : List Courier) → map (λ (c : Courier). c.worker) couriers ≡ range_with_len 0 workers → (v : ℕ) → v < workers → (c : Courier) → slice_get couriers v ≡ Some c → c.worker ≡ v
