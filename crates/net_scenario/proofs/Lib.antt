@@ -1,11 +1,9 @@
 pub mod ByName
-pub mod Crossing
 pub mod Each
 pub mod Keeps
 pub mod Members
 pub mod NetMotes
 pub mod OneAnswer
-pub mod ProgramCrossing
 pub mod ReadSoFar
 pub mod Reading
 pub mod Tables

@@ -3,7 +3,9 @@ pub mod Firsts
 pub mod Lookups
 pub mod Moved
 pub mod Moves
+pub mod NetCrossing
 pub mod Nexts
+pub mod ProgramCrossing
 pub mod Same
 pub mod Stands
 pub mod Starts

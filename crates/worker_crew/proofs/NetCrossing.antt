@@ -10,8 +10,8 @@ use Rattle.net_scenario.specs.contracts.net.Net as Net
 use Rattle.net_scenario.specs.contracts.programs.NamedProgram as NamedProgram
 use Rattle.radio_medium.proofs.medium.Medium.TheSendSync as medium
 use Rattle.std.proofs.Crossing.{Vec-sync}
-use Rattle.net_scenario.proofs.ProgramCrossing as programs
-use Rattle.net_scenario.proofs.ProgramCrossing.{program_sync}
+use Rattle.worker_crew.proofs.ProgramCrossing as programs
+use Rattle.worker_crew.proofs.ProgramCrossing.{program_sync}
 
 u32 : IsSync (as_row u32-field)
 u32 = search sendable
