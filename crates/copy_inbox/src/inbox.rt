@@ -26,7 +26,7 @@ const MOST: u64 = 1 << 62;
 #[derive(Clone, Copy, Debug, PartialEq, Eq)]
 pub enum InboxError {
     /// Memory was refused.
-    Memory,
+    Memory = 1,
 }
 
 impl fmt::Display for InboxError {
