@@ -3,6 +3,7 @@ pub mod Gathered
 pub mod Keys
 pub mod NewWakes
 pub mod Orders
+pub mod Places
 pub mod Ranks
 pub mod Systems
 pub mod Woken

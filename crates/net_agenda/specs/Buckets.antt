@@ -1,5 +1,5 @@
 -- What an agenda has for one mote at one moment, gathered in a bucket.
-use Rattle.std.specs.Prelude.{ℕ, ◌≡◌, Bool, true, false, ◌&&◌, ◌||◌, ◌==◌, nat_lt, if◌then◌else◌, List, [], ◌∷◌, map, Option, Some, None, option_map, slice_get}
+use Rattle.std.specs.Prelude.{ℕ, ◌≡◌, Bool, true, false, ◌&&◌, ◌==◌, if◌then◌else◌, List, [], ◌∷◌, map, Option, Some, None, option_map, slice_get}
 use Rattle.std.specs.List.{list_any, filter}
 use Rattle.std.specs.Ordering.{nat_cmp, ordering_then}
 use Rattle.std.specs.declared.cmp.Ordering.{Ordering}
@@ -9,19 +9,11 @@ use Rattle.radio_medium.specs.declared.copy.RadioCopy.{RadioCopy}
 use Rattle.net_agenda.specs.declared.bucket.Bucket.{Bucket}
 use Rattle.window_law.specs.Order.{in_order}
 use Rattle.window_law.specs.Agenda.{Item, Wake, Packet, is_due, packets}
+use Rattle.net_agenda.specs.Arrivals.{put_in_order}
 
 -- what a mote is given of a copy
 abbrev pub arrival_of : RadioCopy → Arrival
 arrival_of copy = record { sender = copy.sender; number = copy.number; value = copy.value }
-
--- by sender, then by number
-abbrev pub is_earlier : Arrival → Arrival → Bool
-is_earlier a b = nat_lt a.sender b.sender || ((a.sender == b.sender) && nat_lt a.number b.number)
-
--- one more among arrivals that are in order: before the first that is later
-abbrev pub put_in_order : Arrival → List Arrival → List Arrival
-put_in_order a [] = a ∷ []
-put_in_order a (b ∷ bs) = if is_earlier a b then a ∷ b ∷ bs else b ∷ put_in_order a bs
 
 -- whether the mote wakes, and the copies for it, in order
 pub record Due : Type 0 where

@@ -54,7 +54,7 @@ impl Agenda {
     {
         let empty = Bucket::new(self.alloc);
         let bucket = self.buckets.entry((moment, mote))?.or_insert(empty);
-        bucket.wakes = true;
+        bucket.set_wake();
         Ok(())
     }
 

@@ -1,4 +1,5 @@
 pub mod Choose
+pub mod Crossing
 pub mod Firsts
 pub mod Lookups
 pub mod Moved
@@ -6,6 +7,9 @@ pub mod Moves
 pub mod NetCrossing
 pub mod Nexts
 pub mod ProgramCrossing
+pub mod Ready
+pub mod Returned
+pub mod Runs
 pub mod Same
 pub mod Stands
 pub mod Starts

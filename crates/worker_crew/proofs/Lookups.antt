@@ -1,5 +1,5 @@
 -- What stands at a place of a list.
-use Rattle.std.proofs.Common.{◌≡◌, ℕ, zero, suc, ◌<◌, Bool, cond, List, [], ◌∷◌, ◌++◌, length, map, get_or, refl, ap, ◌∙◌, subst, arith, Some, append-nil}
+use Rattle.std.proofs.Common.{◌≡◌, ℕ, zero, suc, ◌<◌, Bool, cond, List, [], ◌∷◌, ◌++◌, length, map, get_or, refl, ap, ◌∙◌, subst, arith, Option, Some, append-nil}
 use Rattle.std.proofs.lemmas.List.Elements.{filter-append}
 use Rattle.std.specs.List.{filter, flat_map, zip, AllZip, AllByRecursion as Each, slice_get}
 
@@ -18,6 +18,9 @@ module _ {X : Type 0} where
   read [] i x d e = cc
   read (y ∷ xs) zero x d e = cc
   read (y ∷ xs) (suc i) x d e = read xs i x d e
+
+  pub same_found : (o : Option X) (x y : X) → o ≡ Some x → o ≡ Some y → x ≡ y
+  same_found o x y e f = cc
 
   pub each_from : (P : X → Type 0) (xs : List X) → ((i : ℕ) (x : X) → slice_get xs i ≡ Some x → P x) → Each P xs
   each_from P [] h = tt

@@ -26,14 +26,11 @@ use Rattle.worker_crew.specs.Crew.{IsAt, IsWorkerAt}
 use Rattle.worker_crew.specs.Laws.{RunsAll, manned_by}
 use Rattle.worker_crew.specs.Worker.{IsCut, IsNotBefore, IsFirstOf}
 use Rattle.worker_crew.proofs.Choose.{choose}
-use Rattle.worker_crew.proofs.Lookups.{there, read, mapped, as_long, inside, each_from, each_at, zip_long, map_long, none_of, one_of, same_tests}
+use Rattle.worker_crew.proofs.Lookups.{there, read, mapped, as_long, inside, each_from, each_at, zip_long, map_long, none_of, one_of, same_tests, same_found}
 use Rattle.worker_crew.proofs.Moves.{Piece, piece, window}
 use Rattle.worker_crew.proofs.Same.{keeps_same}
 use Rattle.worker_crew.proofs.Step.{next, next_is, led_next, out_of, told_next, sent_late}
 use Rattle.worker_crew.proofs.Working.{own_is, each_of_every}
-
-same_found : {X : Type 0} (o : Option X) (x y : X) → o ≡ Some x → o ≡ Some y → x ≡ y
-same_found o x y e f = cc
 
 -- what a window made of one worker's part
 record Told : Type 0 where

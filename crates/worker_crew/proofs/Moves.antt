@@ -1,20 +1,18 @@
 -- A window of all workers moves the crew on.
-use Rattle.std.proofs.Common.{◌≡◌, ◌⊎◌, ℕ, ◌+◌, ◌<◌, ◌≤◌, true, false, List, [], ◌∷◌, ◌++◌, length, map, get_or, sym, ap, ◌∙◌, subst, inl, inr, arith, Option, Some, None}
+use Rattle.std.proofs.Common.{◌≡◌, ℕ, ◌+◌, ◌<◌, ◌≤◌, true, false, List, [], ◌∷◌, ◌++◌, length, map, get_or, sym, ap, ◌∙◌, subst, arith, Option, Some, None}
 use Rattle.std.specs.List.{filter, zip, slice_get, AllByRecursion as Each}
-use Rattle.std.proofs.lemmas.Bool.{cases_Bool, eqb-true}
 use Rattle.std.proofs.lemmas.List.Elements.{filter-append}
-use Rattle.std.proofs.lemmas.List.FromFn.{get_or-range_with_len}
 use Rattle.radio_medium.specs.declared.copy.RadioCopy.{RadioCopy}
 use Rattle.net_scenario.specs.Net.{NetTold}
 use Rattle.window_law.specs.Windows.{WakesFrom, is_from_sender}
-use Rattle.window_law.proofs.Lists.{every_passes, every_weaker, every_both}
+use Rattle.window_law.proofs.Lists.{every_weaker, every_both}
 use Rattle.net_agenda.specs.NetSystem.{system_of}
 use Rattle.copy_inbox.specs.Handles.{TakerView}
 use Rattle.copy_exchange.specs.declared.courier.Courier.{Courier}
 use Rattle.copy_exchange.specs.Couriers.{SetsOut, ComesHome}
 use Rattle.copy_exchange.specs.Desks.{copies_in, taken_by, gathered_by}
 use Rattle.copy_inbox.specs.Items.{copies_of}
-use Rattle.worker_cut.specs.Crossed.{is_own, is_to}
+use Rattle.worker_cut.specs.Crossed.{is_own}
 use Rattle.worker_share.specs.declared.share.Share.{Share}
 use Rattle.worker_share.specs.Share.{Keeps}
 use Rattle.worker_share.specs.Window.{RunsWindow, ComesIn}
@@ -24,7 +22,8 @@ use Rattle.worker_crew.specs.Crew.{IsAt, IsWorkerAt}
 use Rattle.worker_crew.specs.Laws.{RunsAll, manned_by}
 use Rattle.worker_crew.specs.Worker.{RunsWorker, IsNotBefore}
 use Rattle.worker_crew.proofs.Lookups.{there, read, mapped, paired, beside, as_long}
-use Rattle.worker_crew.proofs.Working.{every_of_each, arrived_have}
+use Rattle.worker_crew.proofs.Ready.{numbered}
+use Rattle.worker_crew.proofs.Working.{every_of_each, arrived_have, foreign}
 
 -- lists that begin alike go on alike
 goes_on : (xs ys zs : List RadioCopy) → xs ++ ys ≡ xs ++ zs → ys ≡ zs
@@ -73,15 +72,10 @@ module _ (n : NetTold) (of : List ℕ) (from until : ℕ) (old new : Crew) (at :
         home_at = g.1;
         here = subst (λ x. IsWorkerAt n of from at.motes old.first_out v x t.0) is_share (subst (λ x. IsWorkerAt n of from at.motes old.first_out v (get_or old.shares.items v s.0) x) is_taker (at.each v h s.0 t.0));
         set_out = c.2;
-        number = worker_number c.0 c.1;
+        number = numbered (length old.inboxes.items) all.couriers all.together.workers v h c.0 c.1;
         ran = d.2;
         came = g.2;
       }
-    where
-      worker_number : (c : Courier) → slice_get all.couriers v ≡ Some c → c.worker ≡ v
-      worker_number c e =
-          sym (read (map (λ (x : Courier). x.worker) all.couriers) v c.worker 0 (mapped (λ (x : Courier). x.worker) all.couriers v c e))
-          ∙ (ap (λ l. get_or l v 0) all.together.workers ∙ (get_or-range_with_len 0 (length old.inboxes.items) v 0 h ∙ omega arith))
 
   module _ (short : until ≤ from + (system_of n).lookahead) (up : from ≤ until) (v : ℕ) (p : Piece v) where
     -- what the worker had gathered
@@ -91,19 +85,8 @@ module _ (n : NetTold) (of : List ℕ) (from until : ℕ) (old new : Crew) (at :
     taken_same : taken_by p.courier.taker ≡ taken_by p.taker
     taken_same = ap copies_of p.set_out.same_taken
 
-    foreign : (s : ℕ) → Each (λ (c : RadioCopy). (is_own of v c.to ≡ true) × (is_own of v c.sender ≡ false)) (filter (is_from_sender s) (gathered_by p.taker))
-    foreign s = of_case (cases_Bool (is_own of v s))
-      where
-        of_case : (is_own of v s ≡ true) ⊎ (is_own of v s ≡ false) → Each (λ (c : RadioCopy). (is_own of v c.to ≡ true) × (is_own of v c.sender ≡ false)) (filter (is_from_sender s) (gathered_by p.taker))
-        of_case (inl e) = let t = p.here.gathered s in let u = rw e at t in subst (Each (λ (c : RadioCopy). (is_own of v c.to ≡ true) × (is_own of v c.sender ≡ false))) (sym u) tt
-        of_case (inr e) =
-            let t = p.here.gathered s in
-            let u = rw e at t in
-            every_weaker _ _ (λ c g. (g.0, ap (is_own of v) (eqb-true c.sender s g.1) ∙ e)) _
-            (every_both (λ (c : RadioCopy). is_to of v c ≡ true) (λ (c : RadioCopy). is_from_sender s c ≡ true) (filter (is_from_sender s) (gathered_by p.taker)) (subst (Each (λ (c : RadioCopy). is_to of v c ≡ true)) (sym u) (every_passes (is_to of v) _)) (every_passes (is_from_sender s) (gathered_by p.taker)))
-
     all_foreign : Each (λ (c : RadioCopy). (is_own of v c.to ≡ true) × (is_own of v c.sender ≡ false)) p.ran.arrived
-    all_foreign = arrived_have (λ (c : RadioCopy). (is_own of v c.to ≡ true) × (is_own of v c.sender ≡ false)) p.courier p.ran.between p.ran.arrived p.ran.collects (subst (Each (λ (c : RadioCopy). (is_own of v c.to ≡ true) × (is_own of v c.sender ≡ false))) (sym gathered_same) (every_of_each (λ (c : RadioCopy). (is_own of v c.to ≡ true) × (is_own of v c.sender ≡ false)) (gathered_by p.taker) foreign))
+    all_foreign = arrived_have (λ (c : RadioCopy). (is_own of v c.to ≡ true) × (is_own of v c.sender ≡ false)) p.courier p.ran.between p.ran.arrived p.ran.collects (subst (Each (λ (c : RadioCopy). (is_own of v c.to ≡ true) × (is_own of v c.sender ≡ false))) (sym gathered_same) (foreign n of at.motes v (gathered_by p.taker) p.here.gathered))
 
     waited : (s : ℕ) → filter (is_from_sender s) p.ran.arrived ≡ (p.here.waits s).rest
     waited s = goes_on (filter (is_from_sender s) (taken_by p.taker)) _ _ (

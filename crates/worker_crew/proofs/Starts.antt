@@ -1,5 +1,5 @@
 -- The workers before the first window.
-use Rattle.std.proofs.Common.{◌≡◌, ◌⊎◌, ℕ, zero, suc, ◌<◌, Bool, true, false, ltb, eqb, List, [], ◌∷◌, ◌++◌, length, get_or, map, refl, sym, ap, ◌∙◌, subst, arith, inl, inr, Option, Some, None}
+use Rattle.std.proofs.Common.{◌≡◌, ℕ, zero, suc, ◌<◌, ltb, eqb, List, [], ◌∷◌, length, get_or, refl, sym, ap, subst, arith, inl, inr, None}
 use Rattle.std.specs.List.{filter, AllZip}
 use Rattle.std.proofs.lemmas.Bool.{cases_Bool, eq-eqb}
 use Rattle.radio_medium.specs.declared.copy.RadioCopy.{RadioCopy}
@@ -11,14 +11,13 @@ use Rattle.copy_inbox.specs.declared.items.Item.{Item}
 use Rattle.copy_inbox.specs.Items.{copies_of, part}
 use Rattle.copy_inbox.specs.Handles.{InboxId, TakerView}
 use Rattle.copy_inbox.specs.Views.{make_desk}
-use Rattle.copy_exchange.specs.Desks.{IsRest, SameOfEach, Stands, taken_by}
+use Rattle.copy_exchange.specs.Desks.{Stands}
 use Rattle.copy_exchange.specs.Inboxes.{IsFresh, IsSettled, Settled}
 use Rattle.worker_cut.specs.Crossed.{is_own, is_to, crossed}
-use Rattle.worker_cut.specs.Laws.{HasGathered}
 use Rattle.worker_share.specs.declared.share.Share.{Share}
 use Rattle.worker_share.specs.Share.{Keeps}
 use Rattle.worker_crew.specs.declared.crew.Crew.{Crew}
-use Rattle.worker_crew.specs.Crew.{IsAt, IsWorkerAt, Waits}
+use Rattle.worker_crew.specs.Crew.{IsAt, IsWorkerAt}
 use Rattle.worker_crew.specs.Start.{AreFirst}
 use Rattle.worker_crew.specs.Worker.{IsCut}
 

@@ -22,7 +22,7 @@ use Rattle.worker_crew.proofs.Same.{own_copies_same}
 use Rattle.worker_crew.proofs.Working.{every_of_each}
 
 -- a mote has the worker that it is said to have, and no other
-own_of : (of : List ℕ) (v k : ℕ) → is_own of v k ≡ true → slice_get of k ≡ Some v
+pub own_of : (of : List ℕ) (v k : ℕ) → is_own of v k ≡ true → slice_get of k ≡ Some v
 own_of of v k = at (slice_get of k)
   where
     at : (o : Option ℕ) → option_map_or (λ w. eqb w v) o false ≡ true → o ≡ Some v

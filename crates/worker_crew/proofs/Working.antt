@@ -1,16 +1,19 @@
 -- What a worker was sent is for its motes, and what it sends leaves it.
-use Rattle.std.proofs.Common.{◌≡◌, ℕ, zero, suc, ◌<◌, Bool, true, eqb, List, [], ◌∷◌, ◌++◌, length, refl, sym, ◌∙◌, subst, arith, inl, inr}
+use Rattle.std.proofs.Common.{◌≡◌, ◌⊎◌, ℕ, zero, suc, ◌<◌, Bool, true, false, eqb, List, [], ◌∷◌, ◌++◌, length, refl, sym, ap, ◌∙◌, subst, arith, inl, inr}
 use Rattle.std.specs.Prelude.{slice_index}
 use Rattle.std.specs.List.{filter, AllByRecursion as Each}
-use Rattle.std.proofs.lemmas.Bool.{cases_Bool, eq-eqb}
+use Rattle.std.proofs.lemmas.Bool.{cases_Bool, eq-eqb, eqb-true}
 use Rattle.radio_medium.specs.declared.copy.RadioCopy.{RadioCopy}
 use Rattle.net_scenario.specs.Net.{NetTold}
 use Rattle.copy_exchange.specs.declared.courier.Courier.{Courier}
 use Rattle.copy_exchange.specs.Couriers.{Collects, Leaves}
 use Rattle.copy_exchange.specs.Desks.{is_from_sender, SameOfEach, taken_by, gathered_by}
-use Rattle.worker_share.specs.Share.{is_own}
+use Rattle.net_agenda.specs.NetSystem.{system_of}
+use Rattle.worker_cut.specs.Crossed.{is_to}
+use Rattle.worker_cut.specs.Laws.{HasGathered}
+use Rattle.worker_share.specs.Share.{Motes, is_own}
 use Rattle.worker_share.specs.Window.{GoesOut}
-use Rattle.window_law.proofs.Lists.{every_weaker}
+use Rattle.window_law.proofs.Lists.{every_weaker, every_both, every_passes}
 use Rattle.worker_crew.specs.Worker.{IsCut}
 
 module _ (P : RadioCopy → Type 0) where
@@ -55,3 +58,19 @@ leaves_sent n of workers worker sent cut out = every_weaker _ _ one sent out
     one c g =
         let h : c.to < length of = subst (λ l. c.to < l) (sym cut.len) g.there in
         record { there = h; its_worker = there_at of c.to workers h cut.there; other = sym (own_is of c.to worker h) ∙ g.to }
+
+-- what a worker gathered is for its motes, and no mote of its own sent it
+module _ (n : NetTold) (of : List ℕ) (motes : Motes) (v : ℕ) (gathered : List RadioCopy) (told : HasGathered (system_of n) of motes v gathered) where
+  foreign_of : (s : ℕ) → Each (λ (c : RadioCopy). (is_own of v c.to ≡ true) × (is_own of v c.sender ≡ false)) (filter (is_from_sender s) gathered)
+  foreign_of s = of_case (cases_Bool (is_own of v s))
+    where
+      of_case : (is_own of v s ≡ true) ⊎ (is_own of v s ≡ false) → Each (λ (c : RadioCopy). (is_own of v c.to ≡ true) × (is_own of v c.sender ≡ false)) (filter (is_from_sender s) gathered)
+      of_case (inl e) = let t = told s in let u = rw e at t in subst (Each (λ (c : RadioCopy). (is_own of v c.to ≡ true) × (is_own of v c.sender ≡ false))) (sym u) tt
+      of_case (inr e) =
+          let t = told s in
+          let u = rw e at t in
+          every_weaker _ _ (λ c g. (g.0, ap (is_own of v) (eqb-true c.sender s g.1) ∙ e)) _
+          (every_both (λ (c : RadioCopy). is_to of v c ≡ true) (λ (c : RadioCopy). is_from_sender s c ≡ true) (filter (is_from_sender s) gathered) (subst (Each (λ (c : RadioCopy). is_to of v c ≡ true)) (sym u) (every_passes (is_to of v) _)) (every_passes (is_from_sender s) gathered))
+
+  pub foreign : Each (λ (c : RadioCopy). (is_own of v c.to ≡ true) × (is_own of v c.sender ≡ false)) gathered
+  foreign = every_of_each (λ (c : RadioCopy). (is_own of v c.to ≡ true) × (is_own of v c.sender ≡ false)) gathered foreign_of

@@ -3,8 +3,11 @@
 
 mod crew;
 pub mod laws;
+mod run;
 mod start;
+mod window;
 mod worker;
 
 pub use crew::{Crew, first_of_all};
-pub use worker::{Runner, Task, Window, Worker};
+pub use run::run_windows;
+pub use worker::{Runner, Window, Worker};

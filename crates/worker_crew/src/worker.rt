@@ -38,22 +38,20 @@ pub struct Window<'a> {
     pub until: u64,
 }
 
-/// A worker that has a window to run through.
-#[derive(Drop)]
-pub struct Task<'a> {
-    pub worker: Worker,
-    pub window: Window<'a>,
-}
-
-/// What each worker's thread needs besides: the runtime, and the gate into its turns.
+/// What each worker's thread needs besides: the runtime, the gate into its turns, and the window.
 pub struct Runner<'a, R, G> {
     pub rt: &'a R,
     pub gate: &'a G,
+    pub window: Window<'a>,
 }
 
 impl<R, G> Drop for Runner<'_, R, G> {
     fn drop(self) {
-        let Runner { rt: _, gate: _ } = self;
+        let Runner {
+            rt: _,
+            gate: _,
+            window: _,
+        } = self;
     }
 }
 
@@ -120,18 +118,16 @@ fn run_worker<R: Wait + RandomSource + AllocGlobal, G: Gate>(
     })
 }
 
-impl<'a, R: Wait + RandomSource + AllocGlobal, G: Gate> Work<Task<'a>> for Runner<'_, R, G> {
-    ghost ready = { λ w task. IsReady (net_of task.window.net.now) task.window.of.now task.window.inboxes.now task.window.until task.worker };
+impl<R: Wait + RandomSource + AllocGlobal, G: Gate> Work<Worker> for Runner<'_, R, G> {
+    ghost ready = { λ w worker. IsReady (net_of w.window.net.now) w.window.of.now w.window.inboxes.now w.window.until worker };
 
-    ghost makes = { λ w old new. RunsWorker (net_of old.window.net.now) old.window.of.now old.window.inboxes.now old.window.until old.worker new.worker };
+    ghost makes = { λ w old new. RunsWorker (net_of w.window.net.now) w.window.of.now w.window.inboxes.now w.window.until old new };
 
-    fn work(&self, task: Task<'a>) -> Result<Task<'a>, Refused> {
-        let Task { worker, window } = task;
-        let worker = run_worker(self.rt, self.gate, &window, worker)?;
-        Ok(Task { worker, window })
+    fn work(&self, worker: Worker) -> Result<Worker, Refused> {
+        run_worker(self.rt, self.gate, &self.window, worker)
     }
 
-    fn may_start(&self, task: &Task<'a>) -> bool {
-        self.gate.start(task.worker.courier.worker)
+    fn may_start(&self, worker: &Worker) -> bool {
+        self.gate.start(worker.courier.worker)
     }
 }

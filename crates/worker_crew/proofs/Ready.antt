@@ -1,0 +1,55 @@
+-- Workers that stand somewhere are ready to run when their couriers set out.
+use Rattle.std.proofs.Common.{◌≡◌, ℕ, suc, ◌<◌, ◌≤◌, ◌^◌, true, false, List, [], ◌∷◌, length, map, get_or, refl, sym, ap, ◌∙◌, subst, arith, Some}
+use Rattle.std.specs.List.{zip, slice_get, range_with_len, AllZip, AllByRecursion as Each}
+use Rattle.std.proofs.lemmas.List.FromFn.{get_or-range_with_len}
+use Rattle.radio_medium.specs.declared.copy.RadioCopy.{RadioCopy}
+use Rattle.net_scenario.specs.Net.{NetTold}
+use Rattle.window_law.proofs.Lists.{every_weaker}
+use Rattle.copy_exchange.specs.declared.courier.Courier.{Courier}
+use Rattle.copy_exchange.specs.Couriers.{IsCourier, Together, SetsOut}
+use Rattle.copy_exchange.specs.Desks.{copies_in, taken_by, gathered_by}
+use Rattle.worker_share.specs.declared.share.Share.{Share}
+use Rattle.worker_share.specs.Share.{is_own}
+use Rattle.worker_crew.specs.declared.crew.Crew.{Crew}
+use Rattle.worker_crew.specs.Crew.{IsAt, IsWorkerAt}
+use Rattle.worker_crew.specs.Laws.{manned_by}
+use Rattle.worker_crew.specs.Worker.{IsReady}
+use Rattle.worker_crew.proofs.Lookups.{there, inside, read, mapped, beside, as_long, each_at, same_found}
+use Rattle.worker_crew.proofs.Working.{foreign}
+
+module _ {X Y Z : Type 0} (P : Z → Type 0) (f : X × Y → Z) where
+  each_zipped : (xs : List X) (ys : List Y) → ((i : ℕ) (x : X) (y : Y) → slice_get xs i ≡ Some x → slice_get ys i ≡ Some y → P (f (x, y))) → Each P (map f (zip xs ys))
+  each_zipped [] ys h = tt
+  each_zipped (x ∷ xs) [] h = tt
+  each_zipped (x ∷ xs) (y ∷ ys) h = (h 0 x y refl refl, each_zipped xs ys (λ i a b e g. h (suc i) a b e g))
+
+-- each courier is that of the worker at its place
+pub numbered : (workers : ℕ) (couriers : List Courier) → map (λ (c : Courier). c.worker) couriers ≡ range_with_len 0 workers → (v : ℕ) → v < workers → (c : Courier) → slice_get couriers v ≡ Some c → c.worker ≡ v
+numbered workers couriers e v h c f =
+    sym (read (map (λ (x : Courier). x.worker) couriers) v c.worker 0 (mapped (λ (x : Courier). x.worker) couriers v c f))
+    ∙ (ap (λ l. get_or l v 0) e ∙ (get_or-range_with_len 0 workers v 0 h ∙ omega arith))
+
+module _ (n : NetTold) (of : List ℕ) (from until : ℕ) (old : Crew) (at : IsAt n of from old) (early : until ≤ 2 ^ 40)
+    (couriers : List Courier) (together : Together old.inboxes.items couriers) (set_out : AllZip SetsOut old.takers.items couriers) where
+  one_ready : (v : ℕ) (s : Share) (c : Courier) → slice_get old.shares.items v ≡ Some s → slice_get couriers v ≡ Some c → IsReady n of old.inboxes.items until (manned_by (s, c))
+  one_ready v s c e f =
+      let h : v < length old.inboxes.items = subst (λ l. v < l) at.shares (inside old.shares.items v s e) in
+      let t = there old.takers.items v (subst (λ l. v < l) (sym (as_long _ old.inboxes.items old.takers.items at.settled)) h) in
+      let b = beside SetsOut old.takers.items couriers set_out v t.0 t.1 in
+      let set : SetsOut t.0 c = subst (SetsOut t.0) (same_found (slice_get couriers v) b.0 c b.1 f) b.2 in
+      let here : IsWorkerAt n of from at.motes old.first_out v s t.0 = subst (λ x. IsWorkerAt n of from at.motes old.first_out v x t.0) (read old.shares.items v s s e)
+      (subst (λ x. IsWorkerAt n of from at.motes old.first_out v (get_or old.shares.items v s) x) (read old.takers.items v t.0 t.0 t.1) (at.each v h s t.0)) in
+      let number : c.worker ≡ v = numbered (length old.inboxes.items) couriers together.workers v h c f in
+      let own : Each (λ (x : RadioCopy). is_own of v x.to ≡ true) (gathered_by t.0) = every_weaker (λ (x : RadioCopy). (is_own of v x.to ≡ true) × (is_own of v x.sender ≡ false)) (λ (x : RadioCopy). is_own of v x.to ≡ true) (λ x g. g.0) (gathered_by t.0) (foreign n of at.motes v (gathered_by t.0) here.gathered) in
+      record {
+        early = early;
+        cut = at.cut;
+        share = record { worker = v; from = from; motes = at.motes; taken = taken_by t.0; keeps = here.keeps };
+        same = here.keeps.is_worker ∙ sym number;
+        courier = each_at (IsCourier old.inboxes.items) couriers v c together.each f;
+        own = subst (λ w. Each (λ (x : RadioCopy). is_own of w x.to ≡ true) (gathered_by c.taker)) (sym number)
+            (subst (λ l. Each (λ (x : RadioCopy). is_own of v x.to ≡ true) l) (sym (ap copies_in set.same_gathered)) own);
+      }
+
+  pub ready : Each (IsReady n of old.inboxes.items until) (map manned_by (zip old.shares.items couriers))
+  ready = each_zipped (IsReady n of old.inboxes.items until) manned_by old.shares.items couriers one_ready

@@ -1,0 +1,15 @@
+use Rattle.std.proofs.Common.{ℕ, ◌+◌, ◌<◌, ◌≤◌}
+use Rattle.std.proofs.lemmas.Result.{IfOk-weaker}
+use Rattle.net_scenario.specs.Net.{net_of}
+use Rattle.net_agenda.specs.NetSystem.{system_of}
+use Rattle.worker_crew.specs.Crew.{IsAt}
+use Rattle.worker_crew.specs.Laws.{RunsAll}
+use Rattle.worker_crew.proofs.Moved.{moved}
+use Rattle.worker_crew.proofs.crew.Crew.run_window.Goals as goal
+
+pub returns-clause-moves : goal.returns-clause-moves
+returns-clause-moves g c = λ fine.
+    let n = net_of c.args.net.now in
+    IfOk-weaker c.run_all.result (RunsAll n c.args.of.now c.args.until c.args.self)
+    (λ done. (from : ℕ) → IsAt n c.args.of.now from c.args.self → from < c.args.until → c.args.until ≤ from + (system_of n).lookahead → IsAt n c.args.of.now c.args.until done)
+    (λ done all from at up short. moved n fine c.args.of.now from c.args.until c.args.self done at up short all) c.run_all.ensures

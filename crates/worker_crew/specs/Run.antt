@@ -1,0 +1,23 @@
+-- The windows of a run: where they begin, and where they end.
+use Rattle.std.specs.Prelude.{ℕ, ◌≡◌, ◌+◌, min, nat_lt, ◌&&◌, if◌then◌else◌, Option, Some, None}
+use Rattle.worker_crew.specs.declared.crew.Crew.{Crew}
+use Rattle.worker_crew.specs.Crew.{IsNext}
+
+-- a window lasts as long as the lookahead, or less where a shorter length is told
+abbrev pub length_of_window : (lookahead longest : ℕ) → ℕ
+length_of_window lookahead longest = if nat_lt 0 longest && nat_lt longest lookahead then longest else lookahead
+
+-- it begins when something comes, or after the end, where nothing comes up to the end
+abbrev pub start_of_window : (end : ℕ) → (next : Option ℕ) → ℕ
+start_of_window end None = end + 1
+start_of_window end (Some moment) = min moment (end + 1)
+
+-- the moment before which it ends
+abbrev pub end_of_window : (end length from : ℕ) → ℕ
+end_of_window end length from = min (from + length) (end + 1)
+
+-- where the next window of these workers begins
+pub record BeginsAt (end : ℕ) (crew : Crew) (from : ℕ) : Type 0 where
+  pub next : Option ℕ
+  pub is : IsNext crew.first_out crew.shares.items next
+  pub start : from ≡ start_of_window end next

@@ -1,0 +1,149 @@
+//! One window of all workers, each in a thread of its own.
+
+ghost use Rattle.std.specs.Prelude.{◌≡◌, ℕ, ◌+◌, ◌^◌, ◌<◌, ◌≤◌, length, map, IfOk};
+ghost use Rattle.std.specs.List.{AllByRecursion as Each, AllZip, zip};
+ghost use Rattle.net_scenario.specs.Net.{net_of};
+ghost use Rattle.net_agenda.specs.NetSystem.{system_of};
+ghost use Rattle.window_law.specs.System.{IsSystem};
+ghost use Rattle.worker_crew.specs.Crew.{IsAt};
+ghost use Rattle.worker_crew.specs.Laws.{RunsAll, manned_by};
+ghost use Rattle.worker_crew.specs.Worker.{IsReady, RunsWorker};
+
+use crate::crew::{Crew, first_of_all};
+use crate::worker::{Runner, Window, Worker};
+use copy_exchange::{Courier, couriers, gathered};
+use fork_join::{Refused, fork_join};
+use net_scenario::Net;
+use std::alloc::{AllocGlobal, Global};
+use std::random::RandomSource;
+use std::sync::Wait;
+use std::thread::Threads;
+use window_run::Gate;
+use worker_share::Share;
+
+/// Each worker with its share and its courier.
+fn manned(alloc: Global, shares: Vec<Share>, couriers: Vec<Courier>) -> Result<Vec<Worker>, Refused>
+    ensures { IfOk result (λ workers. workers.items ≡ map manned_by (zip shares.items couriers.items)) }
+{
+    let mut workers = Vec::new(alloc);
+    for (share, courier) in shares.into_iter().zip(couriers) {
+        workers.push(Worker {
+            share,
+            courier,
+            first_out: None,
+        })?;
+    }
+    Ok(workers)
+}
+
+/// The workers' shares, and their couriers.
+fn parted(alloc: Global, workers: Vec<Worker>) -> Result<(Vec<Share>, Vec<Courier>), Refused>
+    ensures shares { IfOk result (λ r. r.0.items ≡ map (λ worker. worker.share) workers.items) }
+    ensures couriers { IfOk result (λ r. r.1.items ≡ map (λ worker. worker.courier) workers.items) }
+{
+    let mut shares = Vec::new(alloc);
+    let mut couriers = Vec::new(alloc);
+    for worker in workers {
+        let Worker {
+            share,
+            courier,
+            first_out: _,
+        } = worker;
+        shares.push(share)?;
+        couriers.push(courier)?;
+    }
+    Ok((shares, couriers))
+}
+
+/// Has each worker run through the window in a thread of its own.
+fn run_together<R, G>(
+    rt: &R,
+    alloc: Global,
+    workers: Vec<Worker>,
+    window: Window<'_>,
+    gate: &G,
+) -> Result<Vec<Worker>, Refused>
+where
+    R: Threads + Wait + RandomSource + AllocGlobal + Sync,
+    G: Gate + Sync,
+    requires { Each (IsReady (net_of window.net.now) window.of.now window.inboxes.now window.until) workers.items }
+    ensures { IfOk result (λ done. AllZip (RunsWorker (net_of window.entry.net.now) window.entry.of.now window.entry.inboxes.now window.entry.until) workers.items done.items) }
+{
+    fork_join(rt, alloc, workers, &Runner { rt, gate, window })
+}
+
+impl Crew {
+    /// Runs all workers through one window: the couriers set out, each worker runs in its thread, and all come home.
+    fn run_all<R, G>(
+        self,
+        rt: &R,
+        alloc: Global,
+        net: &Net,
+        of: &[u16],
+        until: u64,
+        gate: &G,
+    ) -> Result<Crew, Refused>
+    where
+        R: Threads + Wait + RandomSource + AllocGlobal + Sync,
+        G: Gate + Sync,
+        requires early { until ≤ 2 ^ 40 }
+        requires few { length self.inboxes.items ≤ 16 }
+        requires stands { (from : ℕ) × IsAt (net_of net.now) of.now from self }
+        ensures { IfOk result (RunsAll (net_of net.now) of.now until self) }
+    {
+        let Crew {
+            shares,
+            inboxes,
+            takers,
+            first_out: _,
+        } = self;
+        let Ok(couriers) = couriers(alloc, &inboxes, takers) else {
+            return Err(Refused::Memory);
+        };
+        let workers = manned(alloc, shares, couriers)?;
+        let window = Window {
+            net,
+            of,
+            inboxes: &inboxes,
+            until,
+        };
+        let done = run_together(rt, alloc, workers, window, gate)?;
+        let first_out = first_of_all(&done);
+        let (shares, couriers) = parted(alloc, done)?;
+        let Ok(takers) = gathered(rt, alloc, &inboxes, couriers) else {
+            return Err(Refused::Memory);
+        };
+        Ok(Crew {
+            shares,
+            inboxes,
+            takers,
+            first_out,
+        })
+    }
+
+    /// One window: each worker takes in what was sent to it, runs its motes up to `until`, and delivers what they sent, all in
+    /// threads of their own; then all senders are gathered.
+    ///
+    /// # Errors
+    /// That of the first worker that has one; `Thread` where a thread couldn't be started, or the gate didn't let it; and `Memory`.
+    pub(crate) fn run_window<R, G>(
+        self,
+        rt: &R,
+        alloc: Global,
+        net: &Net,
+        of: &[u16],
+        until: u64,
+        gate: &G,
+    ) -> Result<Crew, Refused>
+    where
+        R: Threads + Wait + RandomSource + AllocGlobal + Sync,
+        G: Gate + Sync,
+        requires early { until ≤ 2 ^ 40 }
+        requires few { length self.inboxes.items ≤ 16 }
+        requires stands { (from : ℕ) × IsAt (net_of net.now) of.now from self }
+        ensures moves { let n = net_of net.now in IsSystem (system_of n) → IfOk result (λ done. (from : ℕ) → IsAt n of.now from self → from < until → until ≤ from + (system_of n).lookahead → IsAt n of.now until done) }
+        ensures inboxes { IfOk result (λ done. done.inboxes.items ≡ self.inboxes.items) }
+    {
+        self.run_all(rt, alloc, net, of, until, gate)
+    }
+}
