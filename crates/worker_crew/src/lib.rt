@@ -3,8 +3,10 @@
 
 mod crew;
 pub mod laws;
+mod run;
 mod start;
 mod worker;
 
 pub use crew::{Crew, first_of_all};
+pub use run::run_windows;
 pub use worker::{Runner, Task, Window, Worker};
