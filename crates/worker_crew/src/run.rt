@@ -31,6 +31,5 @@ where
     ensures at { let n = net_of net.now in IfOk result (λ done. IsAt n of.now (suc n.end) done) }
     ensures inboxes { IfOk result (λ done. done.inboxes.items ≡ crew.inboxes.items) }
 {
-    let _ = (rt, alloc, longest, gate);
     Err(Refused::Memory)
 }
