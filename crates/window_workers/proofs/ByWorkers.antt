@@ -1,8 +1,8 @@
 -- What the workers tell at the end is the report, and what their inboxes carried are the copies of its log.
-use Rattle.std.proofs.Common.{◌≡◌, ℕ, zero, suc, ◌<◌, List, [], ◌∷◌, length, map, get_or, refl, sym, ap, ◌∙◌, subst, arith, Some, None, Vec, length-append}
+use Rattle.std.proofs.Common.{◌≡◌, ℕ, zero, suc, ◌+◌, ◌<◌, List, [], ◌∷◌, length, map, get_or, refl, sym, ap, ◌∙◌, subst, arith, Some, None, Vec, length-append}
 use Rattle.std.specs.Prelude.{All}
 use Rattle.std.specs.declared.alloc.Global.{Global}
-use Rattle.std.specs.List.{zip, slice_get, AllByRecursion as Each, AllZip}
+use Rattle.std.specs.List.{zip, slice_get, sum_by, AllByRecursion as Each, AllZip}
 use Rattle.std.proofs.lemmas.List.{length-map}
 use Rattle.std.proofs.lemmas.List.Elements.{All-from_recursion}
 use Rattle.process_kernel.specs.declared.line.Line.{Line}
@@ -19,21 +19,22 @@ use Rattle.window_law.proofs.Agenda.{below_all}
 use Rattle.window_law.proofs.Lists.{every_map, every_weaker}
 use Rattle.window_law.proofs.Pending.{pending_left}
 use Rattle.window_law.proofs.Unique.{run_is_one}
-use Rattle.copy_inbox.specs.Handles.{InboxId, TakerView}
+use Rattle.copy_inbox.specs.Handles.{TakerView}
+use Rattle.copy_exchange.specs.Desks.{taken_by, gathered_by}
 use Rattle.worker_cut.proofs.Carried.{carried}
 use Rattle.worker_cut.proofs.Windows.{coming, coming_pending, senders}
 use Rattle.worker_share.specs.declared.share.Ended.{Ended}
 use Rattle.worker_crew.specs.declared.crew.Crew.{Crew}
 use Rattle.worker_crew.specs.Crew.{IsAt, IsWorkerAt}
-use Rattle.worker_crew.proofs.Lookups.{there, inside, read, zip_inside}
+use Rattle.worker_crew.proofs.Lookups.{there, read, zip_inside, zip_long}
 use Rattle.window_workers.specs.declared.report.Report.{Report}
 use Rattle.window_workers.specs.Carried.{Pair, packets_told, HasCarried, AllCarried}
-use Rattle.window_workers.specs.NetRun.{packet_of, told_at, IsReportOf}
-use Rattle.window_workers.specs.Over.{EndsAs, logs_of, IsLogOf}
-use Rattle.window_workers.specs.Report.{Packet, ReportTold, lines_in, report_of}
+use Rattle.window_workers.specs.NetRun.{packet_of, IsReportOf}
+use Rattle.window_workers.specs.Over.{EndsAs, logs_of, IsLogOf, AreTracesOf}
+use Rattle.window_workers.specs.Report.{Packet, ReportTold, lines_in, told_line, report_of}
 use Rattle.window_workers.proofs.ByWindows.{windows_commute}
 use Rattle.window_workers.proofs.Handed.{traces_hand_on}
-use Rattle.window_workers.proofs.Joined.{is_joined, is_report, takers_long}
+use Rattle.window_workers.proofs.Joined.{is_joined, is_report, left_is, takers_long, traces_are}
 use Rattle.window_workers.proofs.Pairs.{each_mapped, second_at}
 use Rattle.window_workers.proofs.Stamps.{sent_packets}
 use Rattle.window_workers.proofs.Waiting.{taken_by_end}
@@ -47,7 +48,7 @@ module _ (n : NetTold) (fault : medium_fault n.radio ≡ None) (placed : length 
 
   -- the report that the windows leave
   abbrev all_left : ℕ
-  all_left = length (coming (system_of n) (suc n.end) at.motes)
+  all_left = length (coming (system_of n) fine (suc n.end) at.motes)
 
   by_windows : (log : List Packet) (is : IsLogOf n (logs_of ended) log) → IsReportOf n (told_of (map (λ number. (at.motes number).lines) (up_to (length n.motes))) (map (packet_of n.radio) is.sorted) all_left)
   by_windows log is = windows_commute n fault placed at.motes at.led is.sorted (record {
@@ -55,9 +56,9 @@ module _ (n : NetTold) (fault : medium_fault n.radio ≡ None) (placed : length 
       is_joined = is_joined n fine of crew at ended ends;
       same = is.same;
       sorted = is.in_order;
-  }) (coming (system_of n) (suc n.end) at.motes) (pending_left (system_of n) at.motes (coming (system_of n) (suc n.end) at.motes) n.end (coming_pending (system_of n) fine (suc n.end) at.motes at.led))
+  }) (coming (system_of n) fine (suc n.end) at.motes) (pending_left (system_of n) at.motes (coming (system_of n) fine (suc n.end) at.motes) n.end (coming_pending (system_of n) fine (suc n.end) at.motes at.led))
 
-  pub report_is : (r : ReportTold) → r.traces ≡ map (λ number. (at.motes number).lines) (up_to (length n.motes)) → IsLogOf n (logs_of ended) r.log → r.left ≡ all_left → IsReportOf n r
+  report_is : (r : ReportTold) → r.traces ≡ map (λ number. (at.motes number).lines) (up_to (length n.motes)) → IsLogOf n (logs_of ended) r.log → r.left ≡ all_left → IsReportOf n r
   report_is r traces is left =
       let w = by_windows r.log is in record {
         last = w.last;
@@ -68,6 +69,16 @@ module _ (n : NetTold) (fault : medium_fault n.radio ≡ None) (placed : length 
             ∙ (ap (told_of (map (λ number. (at.motes number).lines) (up_to (length n.motes))) (map (packet_of n.radio) is.sorted)) left
             ∙ w.told));
       }
+
+  -- what the workers told, joined, is the report
+  pub told_is : (r : Report) → AreTracesOf of ended r.traces.items → IsLogOf n (logs_of ended) (map told_line r.medium.items)
+      → sum_by (λ (one : Ended). one.left) ended + sum_by (λ (pair : Pair). length (gathered_by pair.1)) (zip crew.inboxes.items crew.takers.items)
+          ≡ r.left + sum_by (λ (pair : Pair). length (taken_by pair.1)) (zip crew.inboxes.items crew.takers.items)
+      → IsReportOf n (report_of r)
+  told_is r traces log sums =
+      report_is (report_of r) (traces_are n fine of crew at ended ends r.traces.items traces) log
+      (left_is n fine of crew at ended ends r.left (zip crew.inboxes.items crew.takers.items) (zip_long crew.inboxes.items crew.takers.items (takers_long n fine of crew at ended ends))
+      (λ v pair e. second_at crew.inboxes.items crew.takers.items v pair e) sums)
 
   -- the report's packets are those of the motes, in order
   packets_are : (r : ReportTold) → IsReportOf n r → packets_told r ≡ as_log (logs_of ended)

@@ -5,8 +5,7 @@ use Rattle.std.specs.declared.alloc.Global.{Global}
 use Rattle.std.specs.List.{filter, flat_map, slice_get, sum_by, AllByRecursion as Each, AllZip}
 use Rattle.std.specs.Option.{option_map_or}
 use Rattle.std.proofs.lemmas.Bool.{cases_Bool, eqb-true, ne_eqb, ltb-true, ltb-false, false≢true}
-use Rattle.std.proofs.lemmas.List.Elements.{All-from_recursion, recursion_from_All}
-use Rattle.std.proofs.lemmas.List.Sorted.{IsPermutation-sym, All-permutation}
+use Rattle.std.proofs.lemmas.List.Sorted.{IsPermutation-sym}
 use Rattle.process_kernel.specs.declared.line.Line.{Line}
 use Rattle.process_kernel.specs.declared.line.Sent.{Sent}
 use Rattle.radio_medium.specs.declared.copy.RadioCopy.{RadioCopy}
@@ -35,7 +34,7 @@ use Rattle.worker_crew.proofs.Step.{own_by, some_worker}
 use Rattle.window_workers.specs.Carried.{Pair}
 use Rattle.window_workers.specs.Over.{EndsAs, logs_of, HasFates, AreTracesOf}
 use Rattle.window_workers.specs.Report.{lines_in}
-use Rattle.window_workers.proofs.Pairs.{beyond, same_found}
+use Rattle.window_workers.proofs.Pairs.{beyond, each_permutes, same_found}
 use Rattle.window_workers.proofs.Reports.{family}
 use Rattle.window_workers.proofs.Sums.{two_sums}
 use Rattle.window_workers.proofs.Waiting.{left_here}
@@ -121,16 +120,14 @@ module _ (n : NetTold) (fine : IsSystem (system_of n)) (of : List ℕ) (crew : C
               ∙ (of_one w.0 o.0 o.1 ∙ (rw mine refl)))
       of_case (inr t) = rw t (none_of (is_sent_by s) (λ (x : Ended). x.log.items) ended (λ i x e. foreign i x e (nobody of s i (subst (λ l. l ≤ s) (sym at.cut.len) (ltb-false s (length n.motes) t)))))
 
-  pub is_report : IsReport (system_of n) n.end (map (λ number. (at.motes number).lines) (up_to (system_of n).motes)) (as_log (logs_of ended)) (length (coming (system_of n) (suc n.end) at.motes))
+  pub is_report : IsReport (system_of n) n.end (map (λ number. (at.motes number).lines) (up_to (system_of n).motes)) (as_log (logs_of ended)) (length (coming (system_of n) fine (suc n.end) at.motes))
   is_report = at_the_end (system_of n) fine n.end at.motes at.led (logs_of ended) is_joined
 
   early : Each (λ (sent : Sent). sent.at ≤ n.end) (logs_of ended)
   early =
       let log = logs_of ended in
       let of_run = subst (Each (λ (sent : Sent). sent.at ≤ n.end)) (sym is_report.log_is) (run_early is_report.run tt) in
-      recursion_from_All (λ (sent : Sent). sent.at ≤ n.end) log
-      (All-permutation (λ (sent : Sent). sent.at ≤ n.end) (as_log log) log (IsPermutation-sym _ _ (sorted_permutes (λ sent. sent.at) (λ sent. sent.sender) log))
-      (All-from_recursion (λ (sent : Sent). sent.at ≤ n.end) (as_log log) of_run))
+      each_permutes (λ (sent : Sent). sent.at ≤ n.end) (as_log log) log (IsPermutation-sym _ _ (sorted_permutes (λ sent. sent.at) (λ sent. sent.sender) log)) of_run
 
   senders_there : Each (λ (sent : Sent). sent.sender < length n.motes) (logs_of ended)
   unfolding system_of
@@ -176,7 +173,7 @@ module _ (n : NetTold) (fine : IsSystem (system_of n)) (of : List ℕ) (crew : C
           ∙ (ap (λ (x : Ended). lines_in (get_or x.traces.items k d)) told ∙ (piece w.0 o.0 o.1).tells.traces k (own_by of w.0 k w.1) d))
 
   -- ---- copies
-  all_had : Each (λ copy. IsHad of workers copy.to) (coming (system_of n) (suc n.end) at.motes)
+  all_had : Each (λ copy. IsHad of workers copy.to) (coming (system_of n) fine (suc n.end) at.motes)
   unfolding system_of
   all_had = every_filter (λ (copy : RadioCopy). IsHad of workers copy.to) (λ (copy : RadioCopy). IsHad of workers copy.to) _ (λ copy h e. h) _ (every_flat_map (λ (copy : RadioCopy). IsHad of workers copy.to) (copies_by (system_of n) at.motes) (up_to (length n.motes)) (each (up_to (length n.motes))))
     where
@@ -189,17 +186,17 @@ module _ (n : NetTold) (fine : IsSystem (system_of n)) (of : List ℕ) (crew : C
 
   pub left_is : (left : ℕ) (pairs : List Pair) → length pairs ≡ workers → ((v : ℕ) (pair : Pair) → slice_get pairs v ≡ Some pair → slice_get crew.takers.items v ≡ Some pair.1)
       → sum_by (λ (one : Ended). one.left) ended + sum_by (λ (pair : Pair). length (gathered_by pair.1)) pairs ≡ left + sum_by (λ (pair : Pair). length (taken_by pair.1)) pairs
-      → left ≡ length (coming (system_of n) (suc n.end) at.motes)
+      → left ≡ length (coming (system_of n) fine (suc n.end) at.motes)
   left_is left pairs long takers sums =
-      let all = coming (system_of n) (suc n.end) at.motes in
+      let all = coming (system_of n) fine (suc n.end) at.motes in
       let told = two_sums (λ (one : Ended). one.left) (λ (pair : Pair). length (gathered_by pair.1)) (λ (pair : Pair). length (taken_by pair.1)) (λ v. length (filter (is_to of v) all)) ended pairs (long ∙ sym ended_long) each in
       let count : total (λ v. length (filter (is_to of v) all)) (length ended) ≡ length all = ap (total (λ v. length (filter (is_to of v) all))) ended_long ∙ by_worker of workers all all_had in
       omega arith
     where
       each : (v : ℕ) (one : Ended) (pair : Pair) → slice_get ended v ≡ Some one → slice_get pairs v ≡ Some pair
-          → one.left + length (gathered_by pair.1) ≡ length (filter (is_to of v) (coming (system_of n) (suc n.end) at.motes)) + length (taken_by pair.1)
+          → one.left + length (gathered_by pair.1) ≡ length (filter (is_to of v) (coming (system_of n) fine (suc n.end) at.motes)) + length (taken_by pair.1)
       each v one pair e f =
           let p = piece v one e in
           let same : p.taker ≡ pair.1 = same_found crew.takers.items v p.taker pair.1 p.taker_at (takers v pair f) in
-          subst (λ t. one.left + length (gathered_by t) ≡ length (filter (is_to of v) (coming (system_of n) (suc n.end) at.motes)) + length (taken_by t)) same
+          subst (λ t. one.left + length (gathered_by t) ≡ length (filter (is_to of v) (coming (system_of n) fine (suc n.end) at.motes)) + length (taken_by t)) same
           (left_here n fine of (suc n.end) at.motes at.led crew.first_out at.first v p.share p.taker p.here one.left p.tells.rest p.tells.left p.tells.rest_is)

@@ -1,6 +1,9 @@
 -- Lists side by side, and in one.
-use Rattle.std.proofs.Common.{◌≡◌, ℕ, zero, suc, ◌≤◌, List, [], ◌∷◌, ◌++◌, length, map, refl, ap, arith, Some, None}
+use Rattle.std.proofs.Common.{◌≡◌, ℕ, zero, suc, ◌≤◌, List, [], ◌∷◌, ◌++◌, length, map, refl, ap, arith, Some, None, Result, Ok, Err}
+use Rattle.std.specs.Prelude.{IfOk, IsPermutation}
 use Rattle.std.specs.List.{zip, slice_get, AllByRecursion as Each, AllZip}
+use Rattle.std.proofs.lemmas.List.Elements.{All-from_recursion, recursion_from_All}
+use Rattle.std.proofs.lemmas.List.Sorted.{All-permutation}
 
 module _ {A B : Type 0} where
   pub each_zip : (R : A → B → Type 0) (xs : List A) (ys : List B) → AllZip R xs ys → Each (λ (p : A × B). R p.0 p.1) (zip xs ys)
@@ -36,7 +39,15 @@ module _ {X : Type 0} where
   ends_of P [] ys h = (tt, h)
   ends_of P (x ∷ xs) ys h = let e = ends_of P xs ys h.1 in ((h.0, e.0), e.1)
 
+  pub each_permutes : (P : X → Type 0) (xs ys : List X) → IsPermutation xs ys → Each P xs → Each P ys
+  each_permutes P xs ys same h = recursion_from_All P ys (All-permutation P xs ys same (All-from_recursion P xs h))
+
 module _ {X Y : Type 0} where
   pub each_mapped : (P : Y → Type 0) (f : X → Y) (xs : List X) → Each P (map f xs) → Each (λ x. P (f x)) xs
   each_mapped P f [] h = tt
   each_mapped P f (x ∷ xs) h = (h.0, each_mapped P f xs h.1)
+
+-- what follows from what an answer has
+pub if_ok : {X E : Type 0} (P Q : X → Type 0) (r : Result X E) → ((x : X) → P x → Q x) → IfOk r P → IfOk r Q
+if_ok P Q (Ok x) f h = f x h
+if_ok P Q (Err e) f h = tt

@@ -112,21 +112,21 @@ module _ (n : NetTold) (fine : IsSystem (system_of n)) (of : List ℕ) (from : �
           all_to = (ends_of (λ c. is_to of v c ≡ true) (taken_of s) (rest_of s) (subst (Each (λ c. is_to of v c ≡ true)) (sym whole) (every_passes (is_to of v) (copies_by (system_of n) motes s)))).0
 
   to_come_long : (rest : List RadioCopy) → ((s : ℕ) → filter (is_from_sender s) rest ≡ filter (is_to_come (is_own of v) from) (copies_known n (is_own of v) motes (taken_by taker) s))
-      → length rest + length waiting ≡ length (filter (is_to of v) (coming (system_of n) from motes))
-  to_come_long rest told = sym (length-append rest waiting) ∙ length_same (rest ++ waiting) (filter (is_to of v) (coming (system_of n) from motes)) each
+      → length rest + length waiting ≡ length (filter (is_to of v) (coming (system_of n) fine from motes))
+  to_come_long rest told = sym (length-append rest waiting) ∙ length_same (rest ++ waiting) (filter (is_to of v) (coming (system_of n) fine from motes)) each
     where
-      each : (s : ℕ) → filter (is_from_sender s) (rest ++ waiting) ≡ filter (is_from_sender s) (filter (is_to of v) (coming (system_of n) from motes))
+      each : (s : ℕ) → filter (is_from_sender s) (rest ++ waiting) ≡ filter (is_from_sender s) (filter (is_to of v) (coming (system_of n) fine from motes))
       each s =
           filter-append (is_from_sender s) rest waiting
           ∙ (ap₂ (λ a b. a ++ b) (told s) (waiting_of s)
           ∙ (of_sender s
           ∙ (filter_filter (comes_from from) (is_to of v) (copies_by (system_of n) motes s)
           ∙ (ap (filter (is_to of v)) (sym (coming_pending (system_of n) fine from motes led s))
-          ∙ sym (filter_filter (is_from_sender s) (is_to of v) (coming (system_of n) from motes))))))
+          ∙ sym (filter_filter (is_from_sender s) (is_to of v) (coming (system_of n) fine from motes))))))
 
   -- this worker's part of what is left
   pub left_here : (left : ℕ) (rest : List RadioCopy) → left ≡ length rest → ((s : ℕ) → filter (is_from_sender s) rest ≡ filter (is_to_come (is_own of v) from) (copies_known n (is_own of v) motes (taken_by taker) s))
-      → left + length (gathered_by taker) ≡ length (filter (is_to of v) (coming (system_of n) from motes)) + length (taken_by taker)
+      → left + length (gathered_by taker) ≡ length (filter (is_to of v) (coming (system_of n) fine from motes)) + length (taken_by taker)
   left_here left rest is told = let a = to_come_long rest told in let b = gathered_long in omega arith
 
   -- what was gathered and comes by the end was taken

@@ -96,13 +96,14 @@ where
     ensures unfit { (fault : ErrorOfCode) → cut_fault (length (net_of net.now).motes) (length pairs.items) cut.now.of.items ≡ Some fault → result ≡ Err fault }
     ensures fits { IfErr result (IsAnswerTo (cut_fault (length (net_of net.now).motes) (length pairs.items) cut.now.of.items)) }
 {
-    if let Some(fault) = fault_of(net.motes(), pairs.len(), &cut.of) {
+    let of = cut.of.as_slice();
+    if let Some(fault) = fault_of(net.motes(), pairs.len(), of) {
         return Err(fault);
     }
     let (inboxes, takers) = parted(alloc, pairs)?;
-    let crew = Crew::start(alloc, net, &cut.of, inboxes, takers)?;
-    let crew = run_windows(rt, alloc, net, &cut.of, cut.longest, gate, crew)?;
-    told(alloc, net, &cut.of, crew)
+    let crew = Crew::start(alloc, net, of, inboxes, takers)?;
+    let crew = run_windows(rt, alloc, net, of, cut.longest, gate, crew)?;
+    told(alloc, net, of, crew)
 }
 
 /// The report of a net, by so many workers, each in threads of its own: that of one thread, whatever the cut.

@@ -1,0 +1,10 @@
+use Rattle.std.specs.List.{AllByRecursion as Each}
+use Rattle.copy_inbox.specs.Handles.{AllGathered}
+use Rattle.copy_exchange.specs.Inboxes.{IsSettled}
+use Rattle.window_law.proofs.Lists.{every_weaker}
+use Rattle.window_workers.specs.Carried.{Pair}
+use Rattle.window_workers.proofs.workers.run_workers.Goals as goal
+
+pub close_inboxes-requires-clause-gathered : goal.close_inboxes-requires-clause-gathered
+close_inboxes-requires-clause-gathered g c =
+    every_weaker (λ (pair : Pair). IsSettled pair.0 pair.1) (λ (pair : Pair). AllGathered pair.1.desk) (λ pair h. h.all) c.in_ok-report.pairs.items c.in_ok-report.ensures.settled
