@@ -6,7 +6,6 @@ use Rattle.std.specs.List.{zip, slice_get, sum_by, AllByRecursion as Each, AllZi
 use Rattle.std.proofs.lemmas.List.{length-map}
 use Rattle.std.proofs.lemmas.List.Elements.{All-from_recursion}
 use Rattle.process_kernel.specs.declared.line.Line.{Line}
-use Rattle.process_kernel.specs.declared.line.Sent.{Sent}
 use Rattle.kernel_laws.specs.Going.{IsInOrder}
 use Rattle.radio_medium.specs.Medium.{medium_fault}
 use Rattle.net_scenario.specs.Net.{NetTold}
@@ -52,10 +51,10 @@ module _ (n : NetTold) (fault : medium_fault n.radio ≡ None) (placed : length 
 
   by_windows : (log : List Packet) (is : IsLogOf n (logs_of ended) log) → IsReportOf n (told_of (map (λ number. (at.motes number).lines) (up_to (length n.motes))) (map (packet_of n.radio) is.sorted) all_left)
   by_windows log is = windows_commute n fault placed at.motes at.led is.sorted (record {
-      joined = logs_of ended;
-      is_joined = is_joined n fine of crew at ended ends;
-      same = is.same;
-      sorted = is.in_order;
+    joined = logs_of ended;
+    is_joined = is_joined n fine of crew at ended ends;
+    same = is.same;
+    sorted = is.in_order;
   }) (coming (system_of n) fine (suc n.end) at.motes) (pending_left (system_of n) at.motes (coming (system_of n) fine (suc n.end) at.motes) n.end (coming_pending (system_of n) fine (suc n.end) at.motes at.led))
 
   report_is : (r : ReportTold) → r.traces ≡ map (λ number. (at.motes number).lines) (up_to (length n.motes)) → IsLogOf n (logs_of ended) r.log → r.left ≡ all_left → IsReportOf n r
@@ -73,7 +72,7 @@ module _ (n : NetTold) (fault : medium_fault n.radio ≡ None) (placed : length 
   -- what the workers told, joined, is the report
   pub told_is : (r : Report) → AreTracesOf of ended r.traces.items → IsLogOf n (logs_of ended) (map told_line r.medium.items)
       → sum_by (λ (one : Ended). one.left) ended + sum_by (λ (pair : Pair). length (gathered_by pair.1)) (zip crew.inboxes.items crew.takers.items)
-          ≡ r.left + sum_by (λ (pair : Pair). length (taken_by pair.1)) (zip crew.inboxes.items crew.takers.items)
+      ≡ r.left + sum_by (λ (pair : Pair). length (taken_by pair.1)) (zip crew.inboxes.items crew.takers.items)
       → IsReportOf n (report_of r)
   told_is r traces log sums =
       report_is (report_of r) (traces_are n fine of crew at ended ends r.traces.items traces) log
@@ -93,7 +92,7 @@ module _ (n : NetTold) (fault : medium_fault n.radio ≡ None) (placed : length 
   carried_to r report v h taker e =
       let s = there crew.shares.items v (subst (λ l. v < l) (sym at.shares) h) in
       let here : IsWorkerAt n of (suc n.end) at.motes crew.first_out v (get_or crew.shares.items v s.0) taker =
-          subst (λ x. IsWorkerAt n of (suc n.end) at.motes crew.first_out v (get_or crew.shares.items v s.0) x) (read crew.takers.items v taker taker e) (at.each v h s.0 taker) in
+      subst (λ x. IsWorkerAt n of (suc n.end) at.motes crew.first_out v (get_or crew.shares.items v s.0) x) (read crew.takers.items v taker taker e) (at.each v h s.0 taker) in
       record {
         gathered = rw (packets_are r report) (carried (system_of n) fine of at.motes v _ (logs_of ended) (senders (system_of n) fine (suc n.end) at.motes at.led) (is_joined n fine of crew at ended ends) here.gathered);
         taken = taken_by_end n fine of (suc n.end) at.motes at.led crew.first_out at.first v (get_or crew.shares.items v s.0) taker here n.end refl;

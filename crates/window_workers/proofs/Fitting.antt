@@ -1,7 +1,7 @@
 -- What it means that a cut has no fault.
-use Rattle.std.proofs.Common.{◌≡◌, ◌⊎◌, ℕ, ◌<◌, ◌≤◌, true, false, not, ◌&&◌, ◌||◌, ltb, eqb, List, [], ◌∷◌, length, inl, inr, arith, None}
+use Rattle.std.proofs.Common.{◌≡◌, ◌⊎◌, ℕ, ◌<◌, ◌≤◌, true, false, not, ◌||◌, ltb, eqb, List, [], ◌∷◌, length, inl, inr, arith, None}
 use Rattle.std.specs.List.{list_all, AllByRecursion as Each}
-use Rattle.std.proofs.lemmas.Bool.{cases_Bool, and_parts, ltb-true, eqb-true}
+use Rattle.std.proofs.lemmas.Bool.{cases_Bool, and_parts, ltb-true}
 use Rattle.std.proofs.lemmas.Bool.Decides.{nat_tests}
 use Rattle.worker_crew.specs.Worker.{IsCut}
 use Rattle.window_workers.specs.Fits.{cut_fault}

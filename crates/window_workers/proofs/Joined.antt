@@ -1,19 +1,17 @@
 -- What the workers told at the end, joined: the packets, the traces and the count of copies left.
-use Rattle.std.proofs.Common.{◌≡◌, ◌⊎◌, ℕ, suc, ◌+◌, ◌<◌, ◌≤◌, ◌^◌, true, false, cond, eqb, ltb, List, [], ◌∷◌, length, map, get_or, refl, sym, ap, ◌∙◌, subst, inl, inr, arith, Some, None, Vec}
-use Rattle.std.specs.Prelude.{slice_index}
+use Rattle.std.proofs.Common.{◌≡◌, ◌⊎◌, ℕ, suc, ◌+◌, ◌<◌, ◌≤◌, ◌^◌, true, false, cond, eqb, ltb, List, [], ◌∷◌, length, map, get_or, refl, sym, ap, ◌∙◌, subst, inl, inr, arith, Some, Vec}
 use Rattle.std.specs.declared.alloc.Global.{Global}
-use Rattle.std.specs.List.{filter, flat_map, slice_get, sum_by, AllByRecursion as Each, AllZip}
+use Rattle.std.specs.List.{filter, slice_get, sum_by, AllByRecursion as Each, AllZip}
 use Rattle.std.specs.Option.{option_map_or}
-use Rattle.std.proofs.lemmas.Bool.{cases_Bool, eqb-true, ne_eqb, ltb-true, ltb-false, false≢true}
+use Rattle.std.proofs.lemmas.Bool.{cases_Bool, eqb-true, ne_eqb, ltb-true, ltb-false}
 use Rattle.std.proofs.lemmas.List.Sorted.{IsPermutation-sym}
 use Rattle.process_kernel.specs.declared.line.Line.{Line}
 use Rattle.process_kernel.specs.declared.line.Sent.{Sent}
 use Rattle.radio_medium.specs.declared.copy.RadioCopy.{RadioCopy}
-use Rattle.mote_node.specs.Node.{Node}
 use Rattle.net_scenario.specs.Net.{NetTold}
 use Rattle.net_agenda.specs.NetSystem.{system_of}
 use Rattle.window_law.specs.Agenda.{up_to}
-use Rattle.window_law.specs.NetStep.{NetState, Run, Done, Turn, sends_of, stamped, turned_at}
+use Rattle.window_law.specs.NetStep.{NetState, Run, Done, Turn, stamped, turned_at}
 use Rattle.window_law.specs.Report.{IsReport}
 use Rattle.window_law.specs.System.{System, IsSystem}
 use Rattle.window_law.specs.Windows.{is_sent_by, IsJoined, as_log, sends_by, copies_by}
@@ -89,8 +87,8 @@ module _ (n : NetTold) (fine : IsSystem (system_of n)) (of : List ℕ) (crew : C
       let t = there crew.takers.items v (subst (λ l. v < l) (sym takers_long) h) in
       let o = beside EndsAs crew.shares.items ended ends v s.0 s.1 in
       let is_here : IsWorkerAt n of (suc n.end) at.motes crew.first_out v s.0 t.0 =
-          subst (λ x. IsWorkerAt n of (suc n.end) at.motes crew.first_out v x t.0) (read crew.shares.items v s.0 s.0 s.1)
-          (subst (λ x. IsWorkerAt n of (suc n.end) at.motes crew.first_out v (get_or crew.shares.items v s.0) x) (read crew.takers.items v t.0 t.0 t.1) (at.each v h s.0 t.0)) in
+      subst (λ x. IsWorkerAt n of (suc n.end) at.motes crew.first_out v x t.0) (read crew.shares.items v s.0 s.0 s.1)
+      (subst (λ x. IsWorkerAt n of (suc n.end) at.motes crew.first_out v (get_or crew.shares.items v s.0) x) (read crew.takers.items v t.0 t.0 t.1) (at.each v h s.0 t.0)) in
       record {
         share = s.0;
         taker = t.0;
@@ -116,8 +114,8 @@ module _ (n : NetTold) (fine : IsSystem (system_of n)) (of : List ℕ) (crew : C
           let o = there ended w.0 (subst (λ l. w.0 < l) (sym ended_long) w.2) in
           let mine = own_by of w.0 s w.1 in
           rw t (
-              one_of (is_sent_by s) (λ (x : Ended). x.log.items) ended w.0 o.0 o.1 (λ i x e ne. foreign i x e (not_mine of s w.0 i w.1 ne))
-              ∙ (of_one w.0 o.0 o.1 ∙ (rw mine refl)))
+          one_of (is_sent_by s) (λ (x : Ended). x.log.items) ended w.0 o.0 o.1 (λ i x e ne. foreign i x e (not_mine of s w.0 i w.1 ne))
+          ∙ (of_one w.0 o.0 o.1 ∙ (rw mine refl)))
       of_case (inr t) = rw t (none_of (is_sent_by s) (λ (x : Ended). x.log.items) ended (λ i x e. foreign i x e (nobody of s i (subst (λ l. l ≤ s) (sym at.cut.len) (ltb-false s (length n.motes) t)))))
 
   pub is_report : IsReport (system_of n) n.end (map (λ number. (at.motes number).lines) (up_to (system_of n).motes)) (as_log (logs_of ended)) (length (coming (system_of n) fine (suc n.end) at.motes))

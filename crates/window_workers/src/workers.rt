@@ -1,6 +1,6 @@
 //! The run of a net by workers, each in threads of its own, window by window.
 
-ghost use Rattle.std.specs.Prelude.{◌≡◌, suc, length, map, vec_len, All, None, Some, IfOk, IfErr};
+ghost use Rattle.std.specs.Prelude.{◌≡◌, suc, length, map, vec_len, All, None, IfOk, IfErr};
 ghost use Rattle.std.specs.List.{AllByRecursion as Each};
 ghost use Rattle.kernel_laws.specs.Going.{IsInOrder};
 ghost use Rattle.net_scenario.specs.Net.{net_of};
@@ -10,7 +10,6 @@ ghost use Rattle.window_workers.specs.Carried.{AllCarried};
 ghost use Rattle.window_workers.specs.Fits.{cut_fault, IsAnswerTo};
 ghost use Rattle.window_workers.specs.NetRun.{IsReportOf};
 ghost use Rattle.window_workers.specs.Report.{report_of};
-ghost use Rattle.window_workers.specs.declared.error.RunError.{RunError as ErrorOfCode};
 
 use crate::ended::{end_all, left_of_all};
 use crate::error::RunError;
@@ -93,8 +92,8 @@ where
     // They carried the copies that went from worker to worker, each once and nothing else.
     ensures carried { IfOk result (λ r. AllCarried (net_of net.now) cut.now.of.items (report_of r.0) r.1.items) }
     // A fault of the cut is answered exactly where there is one.
-    ensures unfit { (fault : ErrorOfCode) → cut_fault (length (net_of net.now).motes) (length pairs.items) cut.now.of.items ≡ Some fault → result ≡ Err fault }
-    ensures fits { IfErr result (IsAnswerTo (cut_fault (length (net_of net.now).motes) (length pairs.items) cut.now.of.items)) }
+    ensures fits { IfOk result (λ r. cut_fault (length (net_of net.now).motes) (length pairs.items) cut.now.of.items ≡ None) }
+    ensures err { IfErr result (IsAnswerTo (cut_fault (length (net_of net.now).motes) (length pairs.items) cut.now.of.items)) }
 {
     let of = cut.of.as_slice();
     if let Some(fault) = fault_of(net.motes(), pairs.len(), of) {
@@ -128,8 +127,8 @@ where
     // Each trace hands its events on, nothing follows a halt in it, and only a process that is not listed starts.
     ensures handed_on { IfOk result (λ r. All (λ trace. IsInOrder trace.items) r.traces.items) }
     // A fault of the cut is answered exactly where there is one.
-    ensures unfit { (fault : ErrorOfCode) → cut_fault (length (net_of net.now).motes) workers cut.now.of.items ≡ Some fault → result ≡ Err fault }
-    ensures fits { IfErr result (IsAnswerTo (cut_fault (length (net_of net.now).motes) workers cut.now.of.items)) }
+    ensures fits { IfOk result (λ r. cut_fault (length (net_of net.now).motes) workers cut.now.of.items ≡ None) }
+    ensures err { IfErr result (IsAnswerTo (cut_fault (length (net_of net.now).motes) workers cut.now.of.items)) }
 {
     if let Some(fault) = fault_of(net.motes(), usize::from(workers), &cut.of) {
         return Err(fault);

@@ -1,4 +1,3 @@
-use Rattle.std.specs.List.{AllByRecursion as Each}
 use Rattle.copy_inbox.specs.Handles.{AllGathered}
 use Rattle.copy_exchange.specs.Inboxes.{IsSettled}
 use Rattle.window_law.proofs.Lists.{every_weaker}
