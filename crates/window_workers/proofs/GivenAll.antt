@@ -32,7 +32,7 @@ not_both u k v j at to h e = grind (arith, nat_tests)
 from_first : (k : ℕ) → (ltb 0 0 || (eqb 0 0 && not (ltb k 0))) ≡ true
 from_first k = grind (arith, nat_tests)
 
-second_none : {X : Type 0} (xs ys : List X) → xs ++ ys ≡ [] → ys ≡ []
+pub second_none : {X : Type 0} (xs ys : List X) → xs ++ ys ≡ [] → ys ≡ []
 second_none [] ys e = e
 second_none (x ∷ xs) ys e = cc
 

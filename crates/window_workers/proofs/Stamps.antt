@@ -190,7 +190,7 @@ module _ (n : NetTold) where
   unfolding system_of
   boot_counts k = let m = mote_at n.motes k in record { numbered = refl; counted = (new_is m.tree k m.queue).1 }
 
-sent_packets : (n : NetTold) (log : List Sent) → map (λ (p : OfReport). p.sent) (map (packet_of n.radio) log) ≡ log
+pub sent_packets : (n : NetTold) (log : List Sent) → map (λ (p : OfReport). p.sent) (map (packet_of n.radio) log) ≡ log
 sent_packets n [] = refl
 sent_packets n (s ∷ log) = ap (λ l. s ∷ l) (sent_packets n log)
 

@@ -1,7 +1,10 @@
+pub mod Carried
 pub mod Counted
 pub mod Ended
+pub mod Fits
 pub mod Laws
 pub mod NetRun
+pub mod Over
 pub mod Report
 pub mod Stamps
 pub mod Stands

@@ -1,5 +1,11 @@
 //! Why there is no report.
 
+ghost use Rattle.std.specs.Prelude.{◌≡◌};
+ghost use Rattle.window_workers.specs.declared.error.RunError.TheVariants.{Memory};
+ghost use Rattle.window_workers.specs.Fits.{of_refused};
+
+use copy_inbox::InboxError;
+use fork_join::Refused;
 use std::alloc::AllocError;
 use std::error::Error;
 use std::fmt;
@@ -7,14 +13,26 @@ use std::fmt;
 /// Why a run gives no report.
 #[derive(Clone, Copy, Debug, PartialEq, Eq)]
 pub enum RunError {
+    /// The number of workers is none of 1 to 16.
+    Workers = 1,
+    /// The cut doesn't tell a worker for each mote of the net, or tells one for more.
+    CutLength = 2,
+    /// The cut gives a mote to a worker that isn't there.
+    CutWorker = 3,
     /// No memory was found.
     Memory = 4,
+    /// A thread couldn't be started, the gate refused a start, or the executor in a thread answered an error.
+    Thread = 5,
 }
 
 impl fmt::Display for RunError {
     fn fmt<W: fmt::Write>(&self, f: &mut fmt::Formatter<W>) -> fmt::Result {
         match self {
+            RunError::Workers => write!(f, "run fault 1"),
+            RunError::CutLength => write!(f, "run fault 2"),
+            RunError::CutWorker => write!(f, "run fault 3"),
             RunError::Memory => write!(f, "out of memory"),
+            RunError::Thread => write!(f, "run fault 5"),
         }
     }
 }
@@ -22,7 +40,28 @@ impl fmt::Display for RunError {
 impl Error for RunError {}
 
 impl From<AllocError> for RunError {
+    ghost from_gives = { λ _ e. e ≡ Memory };
+
     fn from(_: AllocError) -> RunError {
         RunError::Memory
+    }
+}
+
+impl From<InboxError> for RunError {
+    ghost from_gives = { λ _ e. e ≡ Memory };
+
+    fn from(_: InboxError) -> RunError {
+        RunError::Memory
+    }
+}
+
+impl From<Refused> for RunError {
+    ghost from_gives = { λ refused e. e ≡ of_refused refused };
+
+    fn from(refused: Refused) -> RunError {
+        match refused {
+            Refused::Memory => RunError::Memory,
+            Refused::Thread => RunError::Thread,
+        }
     }
 }

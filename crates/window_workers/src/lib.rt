@@ -1,16 +1,24 @@
-//! Runs of a net: the motes' turns one after another, and what they leave to report.
+//! Runs of a net, by one thread or by workers: the motes' turns, and what they leave to report.
 #![tactic(auto)]
 
+mod ended;
 mod engine;
 mod error;
+mod fits;
 pub mod laws;
+mod medium_log;
 mod report;
 mod sends;
 mod serial;
+mod traces;
+mod workers;
 
 pub use error::RunError;
 pub use report::{LogLine, Report};
 pub use serial::run_serial;
+pub use window_run::{Gate, MoteWindow, NoGate, WindowOut};
+pub use worker_cut::Cut;
+pub use workers::{run_inboxes, run_workers};
 
 #[cfg(test)]
 mod tests;

@@ -1,0 +1,117 @@
+-- What the workers tell at the end is the report, and what their inboxes carried are the copies of its log.
+use Rattle.std.proofs.Common.{◌≡◌, ℕ, zero, suc, ◌+◌, ◌<◌, List, [], ◌∷◌, length, map, get_or, refl, sym, ap, ◌∙◌, subst, arith, Some, None, Vec, length-append}
+use Rattle.std.specs.Prelude.{All}
+use Rattle.std.specs.declared.alloc.Global.{Global}
+use Rattle.std.specs.List.{zip, slice_get, sum_by, AllByRecursion as Each, AllZip}
+use Rattle.std.proofs.lemmas.List.{length-map}
+use Rattle.std.proofs.lemmas.List.Elements.{All-from_recursion}
+use Rattle.process_kernel.specs.declared.line.Line.{Line}
+use Rattle.kernel_laws.specs.Going.{IsInOrder}
+use Rattle.radio_medium.specs.Medium.{medium_fault}
+use Rattle.net_scenario.specs.Net.{NetTold}
+use Rattle.net_agenda.specs.NetSystem.{system_of}
+use Rattle.net_agenda.proofs.Systems.{system_is}
+use Rattle.window_law.specs.Agenda.{up_to}
+use Rattle.window_law.specs.System.{IsSystem}
+use Rattle.window_law.specs.Windows.{as_log}
+use Rattle.window_law.proofs.Agenda.{below_all}
+use Rattle.window_law.proofs.Lists.{every_map, every_weaker}
+use Rattle.window_law.proofs.Pending.{pending_left}
+use Rattle.window_law.proofs.Unique.{run_is_one}
+use Rattle.copy_inbox.specs.Handles.{TakerView}
+use Rattle.copy_exchange.specs.Desks.{taken_by, gathered_by}
+use Rattle.worker_cut.proofs.Carried.{carried}
+use Rattle.worker_cut.proofs.Windows.{coming, coming_pending, senders}
+use Rattle.worker_share.specs.declared.share.Ended.{Ended}
+use Rattle.worker_crew.specs.declared.crew.Crew.{Crew}
+use Rattle.worker_crew.specs.Crew.{IsAt, IsWorkerAt}
+use Rattle.worker_crew.proofs.Lookups.{there, read, zip_inside, zip_long}
+use Rattle.window_workers.specs.declared.report.Report.{Report}
+use Rattle.window_workers.specs.Carried.{Pair, packets_told, HasCarried, AllCarried}
+use Rattle.window_workers.specs.NetRun.{packet_of, IsReportOf}
+use Rattle.window_workers.specs.Over.{EndsAs, logs_of, IsLogOf, AreTracesOf}
+use Rattle.window_workers.specs.Report.{Packet, ReportTold, lines_in, told_line, report_of}
+use Rattle.window_workers.proofs.ByWindows.{windows_commute}
+use Rattle.window_workers.proofs.Handed.{traces_hand_on}
+use Rattle.window_workers.proofs.Joined.{is_joined, is_report, left_is, takers_long, traces_are}
+use Rattle.window_workers.proofs.Pairs.{each_mapped, second_at}
+use Rattle.window_workers.proofs.Stamps.{sent_packets}
+use Rattle.window_workers.proofs.Waiting.{taken_by_end}
+
+abbrev told_of : List (List Line) → List Packet → ℕ → ReportTold
+told_of traces log left = record { traces = traces; log = log; left = left }
+
+module _ (n : NetTold) (fault : medium_fault n.radio ≡ None) (placed : length n.radio.places ≡ length n.motes) (of : List ℕ) (crew : Crew) (at : IsAt n of (suc n.end) crew) (ended : List Ended) (ends : AllZip EndsAs crew.shares.items ended) where
+  fine : IsSystem (system_of n)
+  fine = system_is n fault placed
+
+  -- the report that the windows leave
+  abbrev all_left : ℕ
+  all_left = length (coming (system_of n) fine (suc n.end) at.motes)
+
+  by_windows : (log : List Packet) (is : IsLogOf n (logs_of ended) log) → IsReportOf n (told_of (map (λ number. (at.motes number).lines) (up_to (length n.motes))) (map (packet_of n.radio) is.sorted) all_left)
+  by_windows log is = windows_commute n fault placed at.motes at.led is.sorted (record {
+    joined = logs_of ended;
+    is_joined = is_joined n fine of crew at ended ends;
+    same = is.same;
+    sorted = is.in_order;
+  }) (coming (system_of n) fine (suc n.end) at.motes) (pending_left (system_of n) at.motes (coming (system_of n) fine (suc n.end) at.motes) n.end (coming_pending (system_of n) fine (suc n.end) at.motes at.led))
+
+  report_is : (r : ReportTold) → r.traces ≡ map (λ number. (at.motes number).lines) (up_to (length n.motes)) → IsLogOf n (logs_of ended) r.log → r.left ≡ all_left → IsReportOf n r
+  report_is r traces is left =
+      let w = by_windows r.log is in record {
+        last = w.last;
+        run = w.run;
+        told =
+            ap (λ t. told_of t r.log r.left) traces
+            ∙ (ap (λ l. told_of (map (λ number. (at.motes number).lines) (up_to (length n.motes))) l r.left) is.told
+            ∙ (ap (told_of (map (λ number. (at.motes number).lines) (up_to (length n.motes))) (map (packet_of n.radio) is.sorted)) left
+            ∙ w.told));
+      }
+
+  -- what the workers told, joined, is the report
+  pub told_is : (r : Report) → AreTracesOf of ended r.traces.items → IsLogOf n (logs_of ended) (map told_line r.medium.items)
+      → sum_by (λ (one : Ended). one.left) ended + sum_by (λ (pair : Pair). length (gathered_by pair.1)) (zip crew.inboxes.items crew.takers.items)
+      ≡ r.left + sum_by (λ (pair : Pair). length (taken_by pair.1)) (zip crew.inboxes.items crew.takers.items)
+      → IsReportOf n (report_of r)
+  told_is r traces log sums =
+      report_is (report_of r) (traces_are n fine of crew at ended ends r.traces.items traces) log
+      (left_is n fine of crew at ended ends r.left (zip crew.inboxes.items crew.takers.items) (zip_long crew.inboxes.items crew.takers.items (takers_long n fine of crew at ended ends))
+      (λ v pair e. second_at crew.inboxes.items crew.takers.items v pair e) sums)
+
+  -- the report's packets are those of the motes, in order
+  packets_are : (r : ReportTold) → IsReportOf n r → packets_told r ≡ as_log (logs_of ended)
+  packets_are r report =
+      let by = is_report n fine of crew at ended ends in
+      ap packets_told report.told
+      ∙ (sent_packets n report.last.log
+      ∙ (ap (λ net. net.log) (run_is_one (system_of n) n.end by.run report.run) ∙ sym by.log_is))
+
+  carried_to : (r : ReportTold) → IsReportOf n r → (v : ℕ) → v < length crew.inboxes.items → (taker : TakerView) → slice_get crew.takers.items v ≡ Some taker → HasCarried n of (packets_told r) v taker
+  unfolding system_of
+  carried_to r report v h taker e =
+      let s = there crew.shares.items v (subst (λ l. v < l) (sym at.shares) h) in
+      let here : IsWorkerAt n of (suc n.end) at.motes crew.first_out v (get_or crew.shares.items v s.0) taker =
+      subst (λ x. IsWorkerAt n of (suc n.end) at.motes crew.first_out v (get_or crew.shares.items v s.0) x) (read crew.takers.items v taker taker e) (at.each v h s.0 taker) in
+      record {
+        gathered = rw (packets_are r report) (carried (system_of n) fine of at.motes v _ (logs_of ended) (senders (system_of n) fine (suc n.end) at.motes at.led) (is_joined n fine of crew at ended ends) here.gathered);
+        taken = taken_by_end n fine of (suc n.end) at.motes at.led crew.first_out at.first v (get_or crew.shares.items v s.0) taker here n.end refl;
+      }
+
+  pub all_carried : (r : ReportTold) → IsReportOf n r → AllCarried n of r (zip crew.inboxes.items crew.takers.items)
+  all_carried r report v pair e = carried_to r report v (zip_inside crew.inboxes.items crew.takers.items v pair e) pair.1 (second_at crew.inboxes.items crew.takers.items v pair e)
+
+-- ---- what every report has
+pub one_trace_each : (n : NetTold) (r : Report) → IsReportOf n (report_of r) → length r.traces.items ≡ length n.motes
+one_trace_each n r report =
+    sym (length-map r.traces.items lines_in) ∙ (ap (λ (t : ReportTold). length t.traces) report.told ∙ (length-map (up_to (length n.motes)) report.last.traces ∙ counted (length n.motes)))
+  where
+    counted : (k : ℕ) → length (up_to k) ≡ k
+    counted zero = refl
+    counted (suc k) = let e = counted k in let a = length-append (up_to k) (k ∷ []) in omega arith
+
+pub all_hand_on : (n : NetTold) (r : Report) → IsReportOf n (report_of r) → All (λ (v : Vec Line Global). IsInOrder v.items) r.traces.items
+all_hand_on n r report =
+    All-from_recursion (λ (v : Vec Line Global). IsInOrder v.items) r.traces.items
+    (each_mapped IsInOrder lines_in r.traces.items (subst (Each IsInOrder) (sym (ap (λ (t : ReportTold). t.traces) report.told)) (every_map IsInOrder report.last.traces (up_to (length n.motes))
+    (every_weaker (λ k. k < length n.motes) (λ k. IsInOrder (report.last.traces k)) (λ k h. traces_hand_on n (report_of r) report k h) (up_to (length n.motes)) (below_all (length n.motes))))))

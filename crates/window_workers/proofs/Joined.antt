@@ -1,0 +1,200 @@
+-- What the workers told at the end, joined: the packets, the traces and the count of copies left.
+use Rattle.std.proofs.Common.{◌≡◌, ◌⊎◌, ℕ, suc, ◌+◌, ◌<◌, ◌≤◌, ◌^◌, true, false, cond, eqb, ltb, List, [], ◌∷◌, length, map, get_or, refl, sym, ap, ◌∙◌, subst, inl, inr, arith, Some, Vec}
+use Rattle.std.specs.declared.alloc.Global.{Global}
+use Rattle.std.specs.List.{filter, slice_get, sum_by, AllByRecursion as Each, AllZip}
+use Rattle.std.specs.Option.{option_map_or}
+use Rattle.std.proofs.lemmas.Bool.{cases_Bool, eqb-true, ne_eqb, ltb-true, ltb-false}
+use Rattle.std.proofs.lemmas.List.Sorted.{IsPermutation-sym}
+use Rattle.process_kernel.specs.declared.line.Line.{Line}
+use Rattle.process_kernel.specs.declared.line.Sent.{Sent}
+use Rattle.radio_medium.specs.declared.copy.RadioCopy.{RadioCopy}
+use Rattle.net_scenario.specs.Net.{NetTold}
+use Rattle.net_agenda.specs.NetSystem.{system_of}
+use Rattle.window_law.specs.Agenda.{up_to}
+use Rattle.window_law.specs.NetStep.{NetState, Run, Done, Turn, stamped, turned_at}
+use Rattle.window_law.specs.Report.{IsReport}
+use Rattle.window_law.specs.System.{System, IsSystem}
+use Rattle.window_law.specs.Windows.{is_sent_by, IsJoined, as_log, sends_by, copies_by}
+use Rattle.window_law.proofs.Lists.{every_append, every_both, every_filter, every_flat_map, every_passes, every_weaker}
+use Rattle.window_law.proofs.Order.{sorted_permutes}
+use Rattle.copy_inbox.specs.Handles.{TakerView}
+use Rattle.copy_exchange.specs.Desks.{taken_by, gathered_by}
+use Rattle.worker_cut.specs.Crossed.{is_own, is_to}
+use Rattle.worker_cut.proofs.Counts.{IsHad, by_worker, total}
+use Rattle.worker_cut.proofs.Windows.{at_the_end, coming, receivers}
+use Rattle.worker_share.specs.declared.share.Share.{Share}
+use Rattle.worker_share.specs.declared.share.Ended.{Ended}
+use Rattle.worker_share.specs.Ended.{Tells}
+use Rattle.worker_crew.specs.declared.crew.Crew.{Crew}
+use Rattle.worker_crew.specs.Crew.{IsAt, IsWorkerAt}
+use Rattle.worker_crew.proofs.Lookups.{there, inside, read, beside, as_long, none_of, one_of}
+use Rattle.worker_crew.proofs.Step.{own_by, some_worker}
+use Rattle.window_workers.specs.Carried.{Pair}
+use Rattle.window_workers.specs.Over.{EndsAs, logs_of, HasFates, AreTracesOf}
+use Rattle.window_workers.specs.Report.{lines_in}
+use Rattle.window_workers.proofs.Pairs.{beyond, each_permutes, same_found}
+use Rattle.window_workers.proofs.Reports.{family}
+use Rattle.window_workers.proofs.Sums.{two_sums}
+use Rattle.window_workers.proofs.Waiting.{left_here}
+
+-- no packet of a run is sent after the end
+each_stamped : (end t m : ℕ) → t ≤ end → (sends : List Sent) → Each (λ (sent : Sent). sent.at ≤ end) (map (stamped t m) sends)
+each_stamped end t m le [] = tt
+each_stamped end t m le (x ∷ sends) = (le, each_stamped end t m le sends)
+
+run_early : {S L : Type 0} {system : System S L} {end : ℕ} {net last : NetState S L} → Run system end net last → Each (λ (sent : Sent). sent.at ≤ end) net.log → Each (λ (sent : Sent). sent.at ≤ end) last.log
+run_early (Done h) early = early
+run_early {system = system} {end = end} {net = net} (Turn t m least le run) early = run_early run (every_append (λ (sent : Sent). sent.at ≤ end) net.log _ early (each_stamped end t m le (turned_at system t m net).sends))
+
+-- what holds of each sender's packets
+of_each_sender : (P : Sent → Type 0) (xs : List Sent) → ((s : ℕ) → Each P (filter (is_sent_by s) xs)) → Each P xs
+of_each_sender P [] h = tt
+of_each_sender P (x ∷ xs) h =
+    let e : eqb x.sender x.sender ≡ true = grind (arith) in
+    let g = rw e at (h x.sender) in
+    (g.0, of_each_sender P xs (λ s. elim (cases_Bool (eqb x.sender s)) [ inl t ↦ (let k = rw t at (h s) in k.1) | inr t ↦ (let k = rw t at (h s) in k) ]))
+
+-- a mote past the last is nobody's
+nobody : (of : List ℕ) (s i : ℕ) → length of ≤ s → is_own of i s ≡ false
+nobody of s i h = ap (λ o. option_map_or (λ w. eqb w i) o false) (beyond of s h)
+
+-- and one worker's isn't another's
+not_mine : (of : List ℕ) (s w i : ℕ) → slice_get of s ≡ Some w → (i ≡ w → ⊥) → is_own of i s ≡ false
+not_mine of s w i e ne = ap (λ o. option_map_or (λ w. eqb w i) o false) e ∙ ne_eqb w i (λ q. ne (sym q))
+
+module _ (n : NetTold) (fine : IsSystem (system_of n)) (of : List ℕ) (crew : Crew) (at : IsAt n of (suc n.end) crew) (ended : List Ended) (ends : AllZip EndsAs crew.shares.items ended) where
+  abbrev workers : ℕ
+  workers = length crew.inboxes.items
+
+  -- one worker at the end
+  record Piece (v : ℕ) (one : Ended) : Type 0 where
+    share : Share
+    taker : TakerView
+    taker_at : slice_get crew.takers.items v ≡ Some taker
+    here : IsWorkerAt n of (suc n.end) at.motes crew.first_out v share taker
+    tells : Tells n of v (suc n.end) at.motes (taken_by taker) one
+
+  pub ended_long : length ended ≡ workers
+  ended_long = as_long EndsAs crew.shares.items ended ends ∙ at.shares
+
+  pub takers_long : length crew.takers.items ≡ workers
+  takers_long = as_long _ crew.inboxes.items crew.takers.items at.settled
+
+  piece : (v : ℕ) (one : Ended) → slice_get ended v ≡ Some one → Piece v one
+  piece v one e =
+      let h : v < workers = subst (λ l. v < l) ended_long (inside ended v one e) in
+      let s = there crew.shares.items v (subst (λ l. v < l) (sym at.shares) h) in
+      let t = there crew.takers.items v (subst (λ l. v < l) (sym takers_long) h) in
+      let o = beside EndsAs crew.shares.items ended ends v s.0 s.1 in
+      let is_here : IsWorkerAt n of (suc n.end) at.motes crew.first_out v s.0 t.0 =
+      subst (λ x. IsWorkerAt n of (suc n.end) at.motes crew.first_out v x t.0) (read crew.shares.items v s.0 s.0 s.1)
+      (subst (λ x. IsWorkerAt n of (suc n.end) at.motes crew.first_out v (get_or crew.shares.items v s.0) x) (read crew.takers.items v t.0 t.0 t.1) (at.each v h s.0 t.0)) in
+      record {
+        share = s.0;
+        taker = t.0;
+        taker_at = t.1;
+        here = is_here;
+        tells = subst (Tells n of v (suc n.end) at.motes (taken_by t.0)) (same_found ended v o.0 one o.1 e) (o.2 n of v (suc n.end) at.motes (taken_by t.0) is_here.keeps);
+      }
+
+  -- ---- packets
+  pub is_joined : IsJoined (system_of n) at.motes (logs_of ended)
+  unfolding system_of
+  is_joined s = of_case (cases_Bool (ltb s (length n.motes)))
+    where
+      of_one : (i : ℕ) (x : Ended) → slice_get ended i ≡ Some x → filter (is_sent_by s) x.log.items ≡ cond (is_own of i s) (at.motes s).sends []
+      of_one i x e = (piece i x e).tells.log s
+
+      foreign : (i : ℕ) (x : Ended) → slice_get ended i ≡ Some x → is_own of i s ≡ false → filter (is_sent_by s) x.log.items ≡ []
+      foreign i x e f = of_one i x e ∙ (rw f refl)
+
+      of_case : (ltb s (length n.motes) ≡ true) ⊎ (ltb s (length n.motes) ≡ false) → filter (is_sent_by s) (logs_of ended) ≡ sends_by (system_of n) at.motes s
+      of_case (inl t) =
+          let w = some_worker (length n.motes) workers of at.cut s (ltb-true s (length n.motes) t) in
+          let o = there ended w.0 (subst (λ l. w.0 < l) (sym ended_long) w.2) in
+          let mine = own_by of w.0 s w.1 in
+          rw t (
+          one_of (is_sent_by s) (λ (x : Ended). x.log.items) ended w.0 o.0 o.1 (λ i x e ne. foreign i x e (not_mine of s w.0 i w.1 ne))
+          ∙ (of_one w.0 o.0 o.1 ∙ (rw mine refl)))
+      of_case (inr t) = rw t (none_of (is_sent_by s) (λ (x : Ended). x.log.items) ended (λ i x e. foreign i x e (nobody of s i (subst (λ l. l ≤ s) (sym at.cut.len) (ltb-false s (length n.motes) t)))))
+
+  pub is_report : IsReport (system_of n) n.end (map (λ number. (at.motes number).lines) (up_to (system_of n).motes)) (as_log (logs_of ended)) (length (coming (system_of n) fine (suc n.end) at.motes))
+  is_report = at_the_end (system_of n) fine n.end at.motes at.led (logs_of ended) is_joined
+
+  early : Each (λ (sent : Sent). sent.at ≤ n.end) (logs_of ended)
+  early =
+      let log = logs_of ended in
+      let of_run = subst (Each (λ (sent : Sent). sent.at ≤ n.end)) (sym is_report.log_is) (run_early is_report.run tt) in
+      each_permutes (λ (sent : Sent). sent.at ≤ n.end) (as_log log) log (IsPermutation-sym _ _ (sorted_permutes (λ sent. sent.at) (λ sent. sent.sender) log)) of_run
+
+  senders_there : Each (λ (sent : Sent). sent.sender < length n.motes) (logs_of ended)
+  unfolding system_of
+  senders_there = of_each_sender (λ (sent : Sent). sent.sender < length n.motes) (logs_of ended) one
+    where
+      one : (s : ℕ) → Each (λ (sent : Sent). sent.sender < length n.motes) (filter (is_sent_by s) (logs_of ended))
+      one s = elim (cases_Bool (ltb s (length n.motes))) [
+        | inl t ↦ (let low = ltb-true s (length n.motes) t in every_weaker (λ (sent : Sent). is_sent_by s sent ≡ true) (λ (sent : Sent). sent.sender < length n.motes) (λ x e. let q = eqb-true x.sender s e in omega arith) _ (every_passes (is_sent_by s) (logs_of ended)))
+        | inr t ↦ (let none : filter (is_sent_by s) (logs_of ended) ≡ [] = is_joined s ∙ (rw t refl) in subst (Each (λ (sent : Sent). sent.sender < length n.motes)) (sym none) tt)
+      ]
+
+  pub have_fates : n.end ≤ 2 ^ 40 → Each (HasFates (length n.motes)) (logs_of ended)
+  have_fates soon =
+      every_weaker (λ (sent : Sent). (sent.sender < length n.motes) × (sent.at ≤ n.end)) (HasFates (length n.motes)) (λ x h. (h.0, low x.at h.1)) (logs_of ended)
+      (every_both (λ (sent : Sent). sent.sender < length n.motes) (λ (sent : Sent). sent.at ≤ n.end) (logs_of ended) senders_there early)
+    where
+      low : (moment : ℕ) → moment ≤ n.end → moment ≤ 2 ^ 40
+      low moment h = omega arith
+
+  -- ---- traces
+  pub all_places : Each (λ (one : Ended). length one.traces.items ≡ length of) ended
+  all_places = each_from ended (λ v one e. (piece v one e).tells.traces_kept ∙ sym at.cut.len)
+    where
+      each_from : (xs : List Ended) → ((i : ℕ) (x : Ended) → slice_get xs i ≡ Some x → length x.traces.items ≡ length of) → Each (λ (one : Ended). length one.traces.items ≡ length of) xs
+      each_from [] h = tt
+      each_from (x ∷ xs) h = (h 0 x refl, each_from xs (λ i y e. h (suc i) y e))
+
+  pub workers_there : Each (λ worker. worker < length ended) of
+  workers_there = subst (λ l. Each (λ worker. worker < l) of) (sym ended_long) at.cut.there
+
+  pub traces_are : (traces : List (Vec Line Global)) → AreTracesOf of ended traces → map lines_in traces ≡ map (λ number. (at.motes number).lines) (up_to (length n.motes))
+  traces_are traces is = family lines_in (λ number. (at.motes number).lines) traces each ∙ ap (λ k. map (λ number. (at.motes number).lines) (up_to k)) (is.count ∙ at.cut.len)
+    where
+      each : (k : ℕ) → k < length traces → (d : Vec Line Global) → lines_in (get_or traces k d) ≡ (at.motes k).lines
+      each k h d =
+          let low : k < length of = subst (λ l. k < l) is.count h in
+          let w = some_worker (length n.motes) workers of at.cut k (subst (λ l. k < l) at.cut.len low) in
+          let o = there ended w.0 (subst (λ l. w.0 < l) (sym ended_long) w.2) in
+          let its : get_or of k 0 ≡ w.0 = read of k w.0 0 w.1 in
+          let told : get_or ended w.0 o.0 ≡ o.0 = read ended w.0 o.0 o.0 o.1 in
+          ap lines_in (is.each k o.0 d low)
+          ∙ (ap (λ v. lines_in (get_or (get_or ended v o.0).traces.items k d)) its
+          ∙ (ap (λ (x : Ended). lines_in (get_or x.traces.items k d)) told ∙ (piece w.0 o.0 o.1).tells.traces k (own_by of w.0 k w.1) d))
+
+  -- ---- copies
+  all_had : Each (λ copy. IsHad of workers copy.to) (coming (system_of n) fine (suc n.end) at.motes)
+  unfolding system_of
+  all_had = every_filter (λ (copy : RadioCopy). IsHad of workers copy.to) (λ (copy : RadioCopy). IsHad of workers copy.to) _ (λ copy h e. h) _ (every_flat_map (λ (copy : RadioCopy). IsHad of workers copy.to) (copies_by (system_of n) at.motes) (up_to (length n.motes)) (each (up_to (length n.motes))))
+    where
+      each : (ks : List ℕ) → Each (λ k. Each (λ (copy : RadioCopy). IsHad of workers copy.to) (copies_by (system_of n) at.motes k)) ks
+      each [] = tt
+      each (k ∷ ks) = (
+        every_weaker (λ (copy : RadioCopy). copy.to < length n.motes) (λ (copy : RadioCopy). IsHad of workers copy.to) (λ copy h. some_worker (length n.motes) workers of at.cut copy.to h) _ (receivers (system_of n) fine at.motes k),
+        each ks,
+      )
+
+  pub left_is : (left : ℕ) (pairs : List Pair) → length pairs ≡ workers → ((v : ℕ) (pair : Pair) → slice_get pairs v ≡ Some pair → slice_get crew.takers.items v ≡ Some pair.1)
+      → sum_by (λ (one : Ended). one.left) ended + sum_by (λ (pair : Pair). length (gathered_by pair.1)) pairs ≡ left + sum_by (λ (pair : Pair). length (taken_by pair.1)) pairs
+      → left ≡ length (coming (system_of n) fine (suc n.end) at.motes)
+  left_is left pairs long takers sums =
+      let all = coming (system_of n) fine (suc n.end) at.motes in
+      let told = two_sums (λ (one : Ended). one.left) (λ (pair : Pair). length (gathered_by pair.1)) (λ (pair : Pair). length (taken_by pair.1)) (λ v. length (filter (is_to of v) all)) ended pairs (long ∙ sym ended_long) each in
+      let count : total (λ v. length (filter (is_to of v) all)) (length ended) ≡ length all = ap (total (λ v. length (filter (is_to of v) all))) ended_long ∙ by_worker of workers all all_had in
+      omega arith
+    where
+      each : (v : ℕ) (one : Ended) (pair : Pair) → slice_get ended v ≡ Some one → slice_get pairs v ≡ Some pair
+          → one.left + length (gathered_by pair.1) ≡ length (filter (is_to of v) (coming (system_of n) fine (suc n.end) at.motes)) + length (taken_by pair.1)
+      each v one pair e f =
+          let p = piece v one e in
+          let same : p.taker ≡ pair.1 = same_found crew.takers.items v p.taker pair.1 p.taker_at (takers v pair f) in
+          subst (λ t. one.left + length (gathered_by t) ≡ length (filter (is_to of v) (coming (system_of n) fine (suc n.end) at.motes)) + length (taken_by t)) same
+          (left_here n fine of (suc n.end) at.motes at.led crew.first_out at.first v p.share p.taker p.here one.left p.tells.rest p.tells.left p.tells.rest_is)

@@ -1,0 +1,8 @@
+use Rattle.std.proofs.Common.{◌≡◌, ◌+◌, length, take}
+use Rattle.std.specs.List.{sum_by}
+use Rattle.copy_exchange.specs.Desks.{taken_by, gathered_by}
+use Rattle.window_workers.specs.Carried.{Pair}
+use Rattle.window_workers.proofs.ended.left_in_inboxes.Given as goal
+
+abbrev pub invariant-loop-inbox : goal.invariant-loop-inbox
+invariant-loop-inbox l = sum_by (λ (pair : Pair). length (gathered_by pair.1)) (take l.inbox-index l.pairs) ≡ sum_by (λ (pair : Pair). length (taken_by pair.1)) (take l.inbox-index l.pairs) + l.left

@@ -1,0 +1,51 @@
+-- What the workers leave at the end.
+use Rattle.std.specs.Prelude.{ℕ, ◌≡◌, ◌<◌, ◌≤◌, ◌^◌, List, length, map, slice_index, slice_index_or, Vec, IsPermutation}
+use Rattle.std.specs.List.{flat_map}
+use Rattle.std.specs.List.Sorted.{IsSortedBy}
+use Rattle.std.specs.declared.alloc.Global.{Global}
+use Rattle.process_kernel.specs.declared.line.Line.{Line}
+use Rattle.process_kernel.specs.declared.line.Sent.{Sent}
+use Rattle.radio_medium.specs.declared.copy.RadioCopy.{RadioCopy}
+use Rattle.net_scenario.specs.Net.{NetTold}
+use Rattle.window_law.specs.Order.{is_sooner}
+use Rattle.worker_share.specs.declared.share.Share.{Share}
+use Rattle.worker_share.specs.declared.share.Ended.{Ended}
+use Rattle.worker_share.specs.Share.{Motes, Keeps}
+use Rattle.worker_share.specs.Ended.{Tells}
+use Rattle.window_workers.specs.NetRun.{packet_of}
+use Rattle.window_workers.specs.Report.{Packet}
+
+-- a share that is taken apart tells what it kept
+abbrev pub EndsAs : Share → Ended → Type 0
+EndsAs share ended = (n : NetTold) (of : List ℕ) (worker from : ℕ) (motes : Motes) (taken : List RadioCopy) → Keeps n of worker from motes taken share → Tells n of worker from motes taken ended
+
+-- the packets of all workers, one worker's after another's
+abbrev pub logs_of : List Ended → List Sent
+logs_of ended = flat_map (λ one. one.log.items) ended
+
+-- the medium can tell the fates of such a packet: its sender is there, and its moment early enough
+abbrev pub HasFates : (motes : ℕ) → Sent → Type 0
+HasFates motes sent = (sent.sender < motes) × (sent.at ≤ 2 ^ 40)
+
+-- these packets in the order of moment, sender and number, each with the fates of its copies
+pub record IsLogOf (n : NetTold) (sends : List Sent) (log : List Packet) : Type 0 where
+  pub sorted : List Sent
+  pub same : IsPermutation sends sorted
+  pub in_order : IsSortedBy is_sooner sorted
+  pub told : log ≡ map (packet_of n.radio) sorted
+
+-- what one worker told of one mote's trace
+abbrev pub trace_at : List Ended → (worker mote : ℕ) → Ended → Vec Line Global → Vec Line Global
+trace_at ended worker mote d e = slice_index_or (slice_index_or ended worker d).traces.items mote e
+
+-- one mote's trace was taken from one worker, and no other mote's
+pub record TakesTrace (worker mote : ℕ) (old new : List Ended) (trace : Vec Line Global) : Type 0 where
+  pub taken : (d : Ended) (e : Vec Line Global) → trace ≡ trace_at old worker mote d e
+  pub count : length new ≡ length old
+  pub places : (w : ℕ) (d : Ended) → length (slice_index_or new w d).traces.items ≡ length (slice_index_or old w d).traces.items
+  pub others : (w k : ℕ) (d : Ended) (e : Vec Line Global) → (k ≡ mote → ⊥) → trace_at new w k d e ≡ trace_at old w k d e
+
+-- of each mote the trace that its worker told
+pub record AreTracesOf (of : List ℕ) (ended : List Ended) (traces : List (Vec Line Global)) : Type 0 where
+  pub count : length traces ≡ length of
+  pub each : (k : ℕ) (d : Ended) (e : Vec Line Global) → k < length of → slice_index_or traces k e ≡ trace_at ended (slice_index of k) k d e

@@ -1,0 +1,63 @@
+//! What the workers have at the end, taken apart, and how many copies are left.
+
+ghost use Rattle.std.specs.Prelude.{◌≡◌, ◌+◌, length, IfOk};
+ghost use Rattle.std.specs.List.{AllByRecursion as Each, AllZip, sum_by};
+ghost use Rattle.copy_exchange.specs.Desks.{taken_by, gathered_by};
+ghost use Rattle.copy_exchange.specs.Inboxes.{IsSettled};
+ghost use Rattle.window_workers.specs.Over.{EndsAs};
+
+use copy_exchange::known;
+use copy_inbox::{Inbox, Taker};
+use std::alloc::{AllocError, Global};
+use worker_share::{Ended, Share};
+
+/// Takes the shares of all workers apart.
+pub fn end_all(alloc: Global, shares: Vec<Share>) -> Result<Vec<Ended>, AllocError>
+    ensures { IfOk result (λ all. AllZip EndsAs shares.items all.items) }
+{
+    let mut all = Vec::new(alloc);
+    for share in shares {
+        let ended = share.end()?;
+        all.push(ended)?;
+    }
+    Ok(all)
+}
+
+/// The sum of two counts of copies. Where it is past the greatest number there are more copies than any memory holds.
+fn plus(one: u64, other: u64) -> Result<u64, AllocError>
+    ensures { IfOk result (λ sum. sum ≡ one + other) }
+{
+    one.checked_add(other).ok_or(AllocError)
+}
+
+/// How many copies were still to come to the workers' motes.
+fn left_to_come(ended: &[Ended]) -> Result<u64, AllocError>
+    ensures { IfOk result (λ left. left ≡ sum_by (λ one. one.left) ended.now) }
+{
+    let mut left = 0;
+    for one in ended {
+        left = plus(left, one.left)?;
+    }
+    Ok(left)
+}
+
+/// How many copies lie in the inboxes.
+fn left_in_inboxes(pairs: &[(Inbox, Taker)]) -> Result<u64, AllocError>
+    requires { Each (λ pair. IsSettled pair.0 pair.1) pairs.now }
+    ensures { IfOk result (λ left. sum_by (λ pair. length (gathered_by pair.1)) pairs.now ≡ sum_by (λ pair. length (taken_by pair.1)) pairs.now + left) }
+{
+    let mut left = 0;
+    for (inbox, taker) in pairs {
+        left = plus(left, known(inbox, taker))?;
+    }
+    Ok(left)
+}
+
+/// How many copies are left, with the workers and in the inboxes.
+pub fn left_of_all(ended: &[Ended], pairs: &[(Inbox, Taker)]) -> Result<u64, AllocError>
+    requires { Each (λ pair. IsSettled pair.0 pair.1) pairs.now }
+    ensures { IfOk result (λ left. sum_by (λ one. one.left) ended.now + sum_by (λ pair. length (gathered_by pair.1)) pairs.now
+        ≡ left + sum_by (λ pair. length (taken_by pair.1)) pairs.now) }
+{
+    plus(left_to_come(ended)?, left_in_inboxes(pairs)?)
+}

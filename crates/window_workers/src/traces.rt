@@ -1,0 +1,40 @@
+//! The traces of all motes, each from its worker.
+
+ghost use Rattle.std.specs.Prelude.{ℕ, ◌≡◌, ◌<◌, length, slice_index_or, IfOk};
+ghost use Rattle.std.specs.List.{AllByRecursion as Each};
+ghost use Rattle.worker_share.specs.declared.share.Ended.{Ended as EndedOfCode};
+ghost use Rattle.window_workers.specs.Over.{TakesTrace, AreTracesOf};
+
+use process_kernel::Line;
+use std::alloc::{AllocError, Global};
+use std::mem;
+use worker_share::Ended;
+
+/// Takes the trace of a mote from its worker.
+fn take_trace(alloc: Global, ended: &mut [Ended], worker: usize, mote: usize) -> Vec<Line>
+    requires worker { worker < length ended.old }
+    requires mote { (d : EndedOfCode) → mote < length (slice_index_or ended.old worker d).traces.items }
+    ensures { TakesTrace worker mote ended.old ended.new result }
+{
+    let one = &mut ended[worker];
+    mem::replace(&mut one.traces[mote], Vec::new(alloc))
+}
+
+/// The trace of each mote, by its number, from its worker. `of` tells the worker of each mote.
+pub fn joined_traces(
+    alloc: Global,
+    of: &[u16],
+    ended: Vec<Ended>,
+) -> Result<Vec<Vec<Line>>, AllocError>
+    requires workers { Each (λ worker. worker < length ended.items) of.now }
+    requires places { Each (λ one. length one.traces.items ≡ length of.now) ended.items }
+    ensures { IfOk result (λ traces. AreTracesOf of.now ended.items traces.items) }
+{
+    let mut ended = ended;
+    let mut traces = Vec::new(alloc);
+    for mote in 0..of.len() {
+        let trace = take_trace(alloc, &mut ended, usize::from(of[mote]), mote);
+        traces.push(trace)?;
+    }
+    Ok(traces)
+}
