@@ -1,5 +1,6 @@
 pub mod Counted
 pub mod Ended
+pub mod Fits
 pub mod Laws
 pub mod NetRun
 pub mod Report

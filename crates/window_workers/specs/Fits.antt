@@ -1,0 +1,24 @@
+-- Whether a cut fits a net, and what is told of one that doesn't.
+use Rattle.std.specs.Prelude.{ℕ, ◌≡◌, ◌==◌, ◌||◌, nat_lt, not, if◌then◌else◌, List, length, Option, Some, None}
+use Rattle.std.specs.List.{list_all}
+use Rattle.window_workers.specs.declared.error.RunError.{RunError}
+use Rattle.window_workers.specs.declared.error.RunError.TheVariants.{Workers, CutLength, CutWorker, Memory, Thread}
+
+abbrev pub most_workers : ℕ
+most_workers = 16
+
+-- the first fault of a cut: there are no workers or too many, or not a worker for each mote, or a worker that isn't there
+abbrev pub cut_fault : (motes workers : ℕ) → (of : List ℕ) → Option RunError
+cut_fault motes workers of =
+    if (workers == 0) || nat_lt most_workers workers then Some Workers
+    else (if not (length of == motes) then Some CutLength
+    else (if list_all (λ worker. nat_lt worker workers) of then None else Some CutWorker))
+
+-- what a call may answer at an error, where the cut has this fault or none: the fault, or else want of memory or a thread
+abbrev pub IsAnswerTo : Option RunError → RunError → Type 0
+IsAnswerTo (Some fault) error = error ≡ fault
+IsAnswerTo None Workers = ⊥
+IsAnswerTo None CutLength = ⊥
+IsAnswerTo None CutWorker = ⊥
+IsAnswerTo None Memory = Unit {0}
+IsAnswerTo None Thread = Unit {0}

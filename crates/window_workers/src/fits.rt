@@ -1,0 +1,33 @@
+//! Whether a cut fits a net.
+
+ghost use Rattle.std.specs.Prelude.{◌≡◌, nat_lt};
+ghost use Rattle.std.specs.List.{list_all};
+ghost use Rattle.window_workers.specs.Fits.{cut_fault};
+
+use crate::error::RunError;
+
+/// The most workers that a run may have.
+const MOST_WORKERS: usize = 16;
+
+/// Whether each of these workers is one of so many.
+fn are_there(workers: usize, of: &[u16]) -> bool
+    ensures { result ≡ list_all (λ worker. nat_lt worker workers) of.now }
+{
+    of.iter().all(|worker| usize::from(*worker) < workers)
+}
+
+/// The first fault of a cut of so many motes among so many workers, if it has one. `of` tells the worker of each mote.
+pub fn fault_of(motes: u16, workers: usize, of: &[u16]) -> Option<RunError>
+    ensures { result ≡ cut_fault motes workers of.now }
+{
+    if workers == 0 || workers > MOST_WORKERS {
+        return Some(RunError::Workers);
+    }
+    if of.len() != usize::from(motes) {
+        return Some(RunError::CutLength);
+    }
+    if !are_there(workers, of) {
+        return Some(RunError::CutWorker);
+    }
+    None
+}
