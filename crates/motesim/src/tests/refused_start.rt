@@ -7,6 +7,7 @@ use std::test::Fail;
 use window_workers::{Gate, RunError};
 
 /// A gate that lets no thread of one worker start.
+#[derive(Clone, Copy)]
 struct Shut {
     worker: u16,
 }
