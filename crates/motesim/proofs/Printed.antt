@@ -13,7 +13,7 @@ use Rattle.motesim.specs.Input.{IsText}
 use Rattle.motesim.specs.Laws.{OneReport}
 use Rattle.motesim.specs.declared.simulate.SimError.{SimError}
 use Rattle.motesim.specs.declared.simulate.SimError.TheVariants as fault
-use Rattle.motesim.specs.Simulation.{IsScenario, Reported, RefusesText, Simulated, SimulatedSome}
+use Rattle.motesim.specs.Simulation.{IsScenario, Reported, RefusesText, SimulatedWith, SimulatedSome}
 
 -- the text tells this net
 abbrev pub scenario_of : (bytes : List ℕ) (n : NetTold) → IsText bytes → TellsNet bytes n → IsScenario bytes
@@ -36,19 +36,22 @@ refused bytes (scenario.Program name e) h = h
 refused bytes (scenario.Medium e) h = h
 
 -- an answer to a text is one to some bytes
-pub some_bytes : (bytes : List ℕ) (old new : Option (List ℕ)) (r : Result (Unit {0}) SimError) → Simulated bytes old new r → SimulatedSome old new r
-some_bytes bytes old new (Ok u) h = (bytes, h)
-some_bytes bytes old new (Err (fault.Scenario e)) h = (bytes, h)
-some_bytes bytes old new (Err (fault.Run e)) h = (bytes, h)
-some_bytes bytes old new (Err (fault.Print e)) h = (bytes, h)
-some_bytes bytes old new (Err e) h = tt
+pub some_bytes : (workers : Option ℕ) (bytes : List ℕ) (old new : Option (List ℕ)) (r : Result (Unit {0}) SimError) → SimulatedWith workers bytes old new r → SimulatedSome workers old new r
+some_bytes workers bytes old new (Ok u) h = (bytes, h)
+some_bytes workers bytes old new (Err (fault.Scenario e)) h = (bytes, h)
+some_bytes workers bytes old new (Err (fault.Run e)) h = (bytes, h)
+some_bytes workers bytes old new (Err (fault.Print e)) h = (bytes, h)
+some_bytes workers bytes old new (Err e) h = tt
 
 -- of one net two reports have one text
 same_text : ReportIsOne → (m n : NetTold) (r s : ReportTold) → m ≡ n → IsReportOf m r → IsReportOf n s → report_text m r ≡ report_text n s
 same_text one m n r s same ran run =
     ap (λ net. report_text net r) same ∙ ap (report_text n) (one n s r run (subst (λ net. IsReportOf net r) same ran))
 
--- two runs on the same bytes that write a whole report write the same
-pub one_report : OneNet → ReportIsOne → OneReport
-one_report one_net one_run bytes old a b x y =
+same_report : OneNet → ReportIsOne → (bytes old a b : List ℕ) → Reported bytes (λ text. a ≡ old ++ text) → Reported bytes (λ text. b ≡ old ++ text) → a ≡ b
+same_report one_net one_run bytes old a b x y =
     x.got ∙ ap (λ text. old ++ text) (same_text one_run x.from.net y.from.net x.report y.report (one_net bytes x.from.net y.from.net x.from.told y.from.told) x.run y.run) ∙ sym y.got
+
+-- two runs on the same bytes that write a whole report write the same, whoever ran them
+pub one_report : OneNet → ReportIsOne → OneReport
+one_report one_net one_run bytes old a b v w x y = same_report one_net one_run bytes old a b x.1 y.1

@@ -1,18 +1,29 @@
 //! The program: a scenario in a file or on standard input, its report on standard output, a fault's line on standard error.
 
-ghost use Rattle.std.specs.Prelude.{Some};
-ghost use Rattle.motesim.specs.FaultLines.{fault_line};
+ghost use Rattle.std.specs.Prelude.{◌≡◌, Some};
+ghost use Rattle.motesim.specs.FaultLines.{fault_line, run_fault_number};
 
-use crate::command_line::file_of;
-use crate::simulate::{SimError, simulate_serial};
+use crate::command_line::asked_by;
+use crate::options::Options;
+use crate::simulate::{SimError, simulate};
 use clap::error::ErrorKind;
 use net_scenario::ScenarioError;
 use radio_medium::MediumError;
 use std::io::{Read, Write};
+use std::random::RandomSource;
 use std::rt::Files;
+use std::sync::Wait;
+use std::thread::Threads;
 use std::{fmt, fs};
 use trace_printer::PrintError;
-use window_workers::RunError;
+use window_workers::{NoGate, RunError};
+
+/// The number of a run's fault, as it is printed.
+fn run_fault_number(error: RunError) -> u8
+    ensures { result ≡ run_fault_number error }
+{
+    error as u8
+}
 
 impl fmt::Display for SimError {
     ghost output = { λ fault. Some (fault_line fault) };
@@ -42,6 +53,10 @@ impl fmt::Display for SimError {
                 write!(f, "scenario fault {kind}")
             }
             SimError::Run(RunError::Memory) => write!(f, "out of memory"),
+            SimError::Run(error) => {
+                let kind = run_fault_number(*error);
+                write!(f, "run fault {kind}")
+            }
             SimError::Print(PrintError::Write) => write!(f, "write fault"),
             SimError::Print(PrintError::Memory) => write!(f, "out of memory"),
             SimError::Memory => write!(f, "out of memory"),
@@ -79,33 +94,48 @@ fn status_of_words<W: Write, E: Write>(error: &clap::Error, output: &mut W, erro
 ///
 /// # Errors
 /// `Read` also where the file can't be opened.
-fn simulate_file<T: AllocGlobal + Files, W: Write>(
+fn simulate_file<T, W>(
     rt: &T,
     file: &str,
     output: &mut W,
-) -> Result<(), SimError> {
+    options: &Options,
+) -> Result<(), SimError>
+where
+    T: AllocGlobal + Files + Threads + Wait + RandomSource + Sync,
+    W: Write,
+{
     match fs::open(rt, file) {
-        Ok(mut input) => simulate_serial(rt.alloc(), &mut input, output),
+        Ok(mut input) => simulate(rt, rt.alloc(), &mut input, output, options, &NoGate),
         Err(_) => Err(SimError::Read),
     }
 }
 
 /// Does what the program does with these words of the command line, the program's name first: simulates the scenario in
-/// the file that they name, or else the one that `input` gives, and writes its report to `output`, or the line of its fault
-/// to `errors`. Help that is asked for goes to `output`, and what is wrong with the words to `errors`.
+/// the file that they name, or else the one that `input` gives, on one thread or by workers, and writes its report to `output`, or
+/// the line of its fault to `errors`. Help that is asked for goes to `output`, and what is wrong with the words to `errors`.
 ///
 /// It answers the exit status: 0 where the report or the help was due, 1 where there was a fault, and 2 where the fault was in
 /// the words. A help text or a fault's line that can't be written changes nothing.
-pub fn run_command<T: AllocGlobal + Files, R: Read, W: Write, E: Write>(
+pub fn run_command<T, R, W, E>(
     rt: &T,
     words: &[&str],
     input: &mut R,
     output: &mut W,
     errors: &mut E,
-) -> u8 {
-    match file_of(rt.alloc(), words) {
-        Ok(Some(file)) => status_of(simulate_file(rt, file, output), errors),
-        Ok(None) => status_of(simulate_serial(rt.alloc(), input, output), errors),
-        Err(error) => status_of_words(&error, output, errors),
-    }
+) -> u8
+where
+    T: AllocGlobal + Files + Threads + Wait + RandomSource + Sync,
+    R: Read,
+    W: Write,
+    E: Write,
+{
+    let asked = match asked_by(rt.alloc(), words) {
+        Ok(asked) => asked,
+        Err(error) => return status_of_words(&error, output, errors),
+    };
+    let answer = match asked.file {
+        Some(file) => simulate_file(rt, file, output, &asked.options),
+        None => simulate(rt, rt.alloc(), input, output, &asked.options, &NoGate),
+    };
+    status_of(answer, errors)
 }

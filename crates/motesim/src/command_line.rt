@@ -1,24 +1,67 @@
 //! The words of the command line, as `clap` reads them.
 
+use crate::by_workers::MOST_WORKERS;
+use crate::options::{CutKind, Options};
 use clap::{Arg, Command, Error};
 use std::alloc::{AllocError, Global};
 
+/// What the words ask for.
+#[derive(Clone, Copy, Debug, PartialEq, Eq)]
+pub struct Asked<'a> {
+    /// The scenario's file; without one, standard input is read.
+    pub file: Option<&'a str>,
+    pub options: Options,
+}
+
+/// The names of the cuts.
+static CUTS: [&str; 2] = ["block", "stripe"];
+
+/// The cut of this name.
+fn cut_named(name: &str) -> CutKind {
+    match name {
+        "stripe" => CutKind::Stripe,
+        _ => CutKind::Block,
+    }
+}
+
 /// The program's one command.
 fn command<'a>(alloc: Global) -> Result<Command<'a>, AllocError> {
+    let workers = Arg::new(alloc, "workers")
+        .long("workers")
+        .value_name("N")
+        .value_parser(clap::value_parser!(u16).range(1..=i64::from(MOST_WORKERS)))
+        .help(
+            "Has 1 to 16 workers run the motes, each in a thread of its own; without it, one thread runs them all",
+        );
+    let cut = Arg::new(alloc, "cut")
+        .long("cut")
+        .value_name("CUT")
+        .value_parser(CUTS.as_slice())
+        .default_value("block")
+        .help(
+            "How the motes are cut among the workers: in blocks that follow one another, or dealt in turn",
+        );
     let file = Arg::new(alloc, "FILE").help("The scenario; without it, standard input is read");
     Command::new(alloc, "motesim")
         .about(
             "Simulates a network of Contiki motes, and writes the traces of the motes and the log of the radio medium",
         )
+        .arg(workers)?
+        .arg(cut)?
         .arg(file)
 }
 
-/// The file that the words name, of which the first is the program's name.
+/// What the words of the command line ask for, of which the first is the program's name. Without workers, the cut has no effect.
 ///
 /// # Errors
 /// Of the kind `DisplayHelp` where help is asked for, `OutOfMemory` where a growth was refused, and else of the fault of the
 /// words.
-pub fn file_of<'a>(alloc: Global, words: &'a [&'a str]) -> Result<Option<&'a str>, Error> {
+pub fn asked_by<'a>(alloc: Global, words: &'a [&'a str]) -> Result<Asked<'a>, Error> {
     let matches = command(alloc)?.try_get_matches_from(words)?;
-    Ok(matches.get_str("FILE"))
+    let options = Options {
+        workers: matches.get_one::<u16>("workers"),
+        cut: matches.get_str("cut").map(cut_named).unwrap_or_default(),
+    };
+    let file = matches.get_str("FILE");
+    Ok(Asked { file, options })
 }

@@ -5,8 +5,11 @@ mod fault_lines;
 mod motes;
 mod nets;
 mod queues;
+mod refused_start;
 mod scenarios;
 mod streams;
+mod with_workers;
+mod workers_of_the_command;
 
 use crate::simulate::{SimError, simulate_serial};
 use std::alloc::{AllocError, Global};

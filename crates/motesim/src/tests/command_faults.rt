@@ -3,17 +3,17 @@
 use crate::command::run_command;
 use crate::tests::{PRINT_THEN_YIELD, PRINT_THEN_YIELD_REPORT};
 use std::process::Abort;
+use std::random::RandomSource;
 use std::rt::Files;
+use std::sync::Wait;
 use std::test::Fail;
+use std::thread::Threads;
 
 /// Runs the program with these words on a scenario, and compares its status and the beginnings of what it writes.
-fn expect<T: AllocGlobal + Files + Abort>(
-    rt: &T,
-    words: &[&str],
-    status: u8,
-    report: &str,
-    line: &str,
-) {
+pub(crate) fn expect<T>(rt: &T, words: &[&str], status: u8, report: &str, line: &str)
+where
+    T: AllocGlobal + Files + Threads + Wait + RandomSource + Sync + Abort,
+{
     let mut input = PRINT_THEN_YIELD.as_bytes();
     let mut output = Vec::new(rt.alloc());
     let mut errors = Vec::new(rt.alloc());
@@ -59,6 +59,5 @@ fn faults_of_the_words(rt: HostRuntime) {
     let unexpected = "error: unexpected argument";
     expect(&rt, &["motesim", "a.toml", "b.toml"], 2, "", unexpected);
     expect(&rt, &["motesim", "--hel"], 2, "", unexpected);
-    expect(&rt, &["motesim", "--workers", "2"], 2, "", unexpected);
     expect(&rt, &["motesim", "-x"], 2, "", unexpected);
 }

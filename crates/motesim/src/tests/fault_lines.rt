@@ -1,22 +1,25 @@
 //! What the program writes and answers, fault by fault.
 
-use crate::command::run_command;
+use crate::command::{run_command, status_of};
+use crate::simulate::SimError;
 use crate::tests::streams::{Failing, Narrow};
 use crate::tests::{PRINT_THEN_YIELD, PRINT_THEN_YIELD_REPORT, changed, scenario_of};
 use std::io;
 use std::io::Read;
 use std::process::Abort;
+use std::random::RandomSource;
 use std::rt::Files;
+use std::sync::Wait;
 use std::test::Fail;
+use std::thread::Threads;
+use window_workers::RunError;
 
 /// Runs the program on the input, and compares its status and what it writes.
-fn expect<T: AllocGlobal + Files + Abort, R: Read + Drop>(
-    rt: &T,
-    mut input: R,
-    status: u8,
-    report: &str,
-    line: &str,
-) -> Result<(), Fail> {
+fn expect<T, R>(rt: &T, mut input: R, status: u8, report: &str, line: &str) -> Result<(), Fail>
+where
+    T: AllocGlobal + Files + Threads + Wait + RandomSource + Sync + Abort,
+    R: Read + Drop,
+{
     let mut output = Vec::new(rt.alloc());
     let mut errors = Vec::new(rt.alloc());
     let answer = run_command(rt, &["motesim"], &mut input, &mut output, &mut errors);
@@ -115,6 +118,24 @@ fn faults_of_the_program(rt: HostRuntime) -> Result<(), Fail> {
     for (program, line) in cases {
         let scenario = scenario_of(rt.alloc(), program)?;
         expect(&rt, scenario.as_bytes(), 1, "", line)?;
+    }
+    Ok(())
+}
+
+#[test]
+fn faults_of_the_run(rt: HostRuntime) -> Result<(), Fail> {
+    let cases = [
+        (RunError::Workers, "motesim: run fault 1\n"),
+        (RunError::CutLength, "motesim: run fault 2\n"),
+        (RunError::CutWorker, "motesim: run fault 3\n"),
+        (RunError::Memory, "motesim: out of memory\n"),
+        (RunError::Thread, "motesim: run fault 5\n"),
+    ];
+    for (fault, line) in cases {
+        let mut errors = Vec::new(rt.alloc());
+        let status = status_of(Err(SimError::Run(fault)), &mut errors);
+        assert_eq!(rt; errors.as_slice(), line.as_bytes());
+        assert_eq!(rt; status, 1);
     }
     Ok(())
 }

@@ -32,7 +32,7 @@ const BESIDE: &str =
 
 /// How a net differs from the others.
 #[derive(Clone, Copy, Debug)]
-struct Net {
+pub(crate) struct Net {
     version: &'static str,
     end: u32,
     medium: &'static str,
@@ -40,7 +40,7 @@ struct Net {
     motes: &'static str,
 }
 
-fn scenario_of(alloc: Global, net: &Net) -> Result<String, AllocError> {
+pub(crate) fn scenario_of(alloc: Global, net: &Net) -> Result<String, AllocError> {
     let version = net.version;
     let end = net.end;
     let medium = net.medium;
@@ -59,7 +59,7 @@ fn expect<T: AllocGlobal + Abort>(rt: &T, net: &Net, wanted: &str) -> Result<(),
     Ok(())
 }
 
-const TWO_SENDERS: Net = Net {
+pub(crate) const TWO_SENDERS: Net = Net {
     version: "1",
     end: 9,
     medium: "range = 5\nbase = 2\n",
@@ -73,28 +73,30 @@ fn two_senders(rt: HostRuntime) -> Result<(), Fail> {
         "mote 0 s\n{STARTS}0 start a\n0 send 0 5\n0 leave a\nmote 1 r\n{STARTS}0 start r\n2 recv 0 0 5\n2 recv 2 0 7\n2 post 0 r packet 5\n2 post 1 r packet 7\n2 take 0 r\n2 print r 0\n2 print r 5\n2 take 1 r\n2 print r 2\n2 print r 7\nmote 2 s\n{STARTS}0 start a\n0 send 0 7\n0 leave a\nmedium\n0 0 0 5 1@2\n0 2 0 7 1@2\nleft 0\n"
     )?;
     expect(&rt, &TWO_SENDERS, wanted.as_str())?;
-    let apart = Net {
-        version: "2",
-        medium: "range = 5\nbase = 2\ncollide = false\n",
-        ..TWO_SENDERS
-    };
-    expect(&rt, &apart, wanted.as_str())
+    expect(&rt, &TWO_SENDERS_APART, wanted.as_str())
 }
+
+pub(crate) const TWO_SENDERS_APART: Net = Net {
+    version: "2",
+    medium: "range = 5\nbase = 2\ncollide = false\n",
+    ..TWO_SENDERS
+};
+
+pub(crate) const TWO_SENDERS_COLLIDE: Net = Net {
+    version: "2",
+    medium: "range = 5\nbase = 2\ncollide = true\n",
+    ..TWO_SENDERS
+};
 
 #[test]
 fn collisions(rt: HostRuntime) -> Result<(), Fail> {
-    let net = Net {
-        version: "2",
-        medium: "range = 5\nbase = 2\ncollide = true\n",
-        ..TWO_SENDERS
-    };
     let wanted = format!(in rt.alloc();
         "mote 0 s\n{STARTS}0 start a\n0 send 0 5\n0 leave a\nmote 1 r\n{STARTS}0 start r\n2 collide 0 0\n2 collide 2 0\nmote 2 s\n{STARTS}0 start a\n0 send 0 7\n0 leave a\nmedium\n0 0 0 5 1@2\n0 2 0 7 1@2\nleft 0\n"
     )?;
-    expect(&rt, &net, wanted.as_str())
+    expect(&rt, &TWO_SENDERS_COLLIDE, wanted.as_str())
 }
 
-const PACKET_AFTER_TIMER: Net = Net {
+pub(crate) const PACKET_AFTER_TIMER: Net = Net {
     version: "1",
     end: 9,
     medium: "range = 1\nbase = 3\n",
@@ -108,31 +110,34 @@ fn packet_after_timer(rt: HostRuntime) -> Result<(), Fail> {
         "mote 0 s\n{STARTS}0 start a\n2 post 0 a timer 0\n2 take 0 a\n2 send 0 9\n2 leave a\nmote 1 r\n{STARTS}0 start r\n5 recv 0 0 9\n5 post 0 r packet 9\n5 take 0 r\n5 print r 0\n5 print r 9\nmedium\n2 0 0 9 1@5\nleft 0\n"
     )?;
     expect(&rt, &PACKET_AFTER_TIMER, wanted.as_str())?;
-    let just_in_time = Net {
-        end: 5,
-        ..PACKET_AFTER_TIMER
-    };
-    expect(&rt, &just_in_time, wanted.as_str())
+    expect(&rt, &PACKET_JUST_IN_TIME, wanted.as_str())
 }
+
+pub(crate) const PACKET_JUST_IN_TIME: Net = Net {
+    end: 5,
+    ..PACKET_AFTER_TIMER
+};
+
+pub(crate) const PACKET_PAST_THE_END: Net = Net {
+    end: 4,
+    ..PACKET_AFTER_TIMER
+};
 
 #[test]
 fn copy_past_the_end(rt: HostRuntime) -> Result<(), Fail> {
-    let net = Net {
-        end: 4,
-        ..PACKET_AFTER_TIMER
-    };
     let wanted = format!(in rt.alloc();
         "mote 0 s\n{STARTS}0 start a\n2 post 0 a timer 0\n2 take 0 a\n2 send 0 9\n2 leave a\nmote 1 r\n{STARTS}0 start r\nmedium\n2 0 0 9 1@5\nleft 1\n"
     )?;
-    expect(&rt, &net, wanted.as_str())
+    expect(&rt, &PACKET_PAST_THE_END, wanted.as_str())
 }
+
+pub(crate) const RING_OVERFLOWS: Net = Net {
+    sender: FAST_SENDER,
+    ..PACKET_AFTER_TIMER
+};
 
 #[test]
 fn ring_overflows(rt: HostRuntime) -> Result<(), Fail> {
-    let net = Net {
-        sender: FAST_SENDER,
-        ..PACKET_AFTER_TIMER
-    };
     let alloc = rt.alloc();
     let mut sends = String::new(alloc);
     let mut packets = String::new(alloc);
@@ -151,5 +156,5 @@ fn ring_overflows(rt: HostRuntime) -> Result<(), Fail> {
     let wanted = format!(in alloc;
         "mote 0 s\n{STARTS}0 start a\n{sends}0 leave a\nmote 1 r\n{STARTS}0 start r\n{arrivals}3 lost 0 8\n{posts}{takes}medium\n{packets}left 0\n"
     )?;
-    expect(&rt, &net, wanted.as_str())
+    expect(&rt, &RING_OVERFLOWS, wanted.as_str())
 }
