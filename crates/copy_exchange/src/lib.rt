@@ -9,3 +9,6 @@ pub mod window;
 pub use courier::Courier;
 pub use inboxes::{close_inboxes, known, make_inboxes, paired, parted};
 pub use window::{couriers, gathered};
+
+#[cfg(test)]
+mod tests;

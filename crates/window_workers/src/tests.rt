@@ -1,5 +1,7 @@
 //! Runs of a few motes, with values worked by hand.
 
+mod workers;
+
 use crate::run_serial;
 use net_scenario::read_scenario;
 use std::alloc::Global;
