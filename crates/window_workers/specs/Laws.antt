@@ -1,6 +1,5 @@
 -- Laws of the run of a net.
 use Rattle.std.specs.Prelude.{◌≡◌, ℕ, suc, ◌<◌, List, length, map, None}
-use Rattle.std.specs.List.{filter}
 use Rattle.std.specs.List.Sorted.{IsPermutation, IsSortedBy}
 use Rattle.process_kernel.specs.declared.line.Line.{Line}
 use Rattle.process_kernel.specs.declared.line.Sent.{Sent}
@@ -11,9 +10,10 @@ use Rattle.radio_medium.specs.Medium.{medium_fault}
 use Rattle.net_scenario.specs.Net.{NetTold}
 use Rattle.window_law.specs.System.{IsSystem}
 use Rattle.window_law.specs.Order.{is_sooner}
-use Rattle.window_law.specs.Agenda.{Item, is_due, up_to}
+use Rattle.window_law.specs.Agenda.{Item, up_to}
 use Rattle.window_law.specs.Windows.{LoneMote, first_mote, IsJoined, IsLeft, Windows}
-use Rattle.net_agenda.specs.Buckets.{Buckets, Holds, due_in, gathered}
+use Rattle.net_agenda.specs.Buckets.{Buckets, Holds}
+use Rattle.net_agenda.specs.Items.{AreSameItems, items_of}
 use Rattle.net_agenda.specs.NetSystem.{system_of}
 use Rattle.window_workers.specs.NetRun.{packet_of, IsReportOf}
 use Rattle.window_workers.specs.Report.{ReportTold}
@@ -59,7 +59,6 @@ WindowsCommute = (n : NetTold) → medium_fault n.radio ≡ None → length n.ra
 abbrev pub TracesHandOn : Type 0
 TracesHandOn = (n : NetTold) (r : ReportTold) (report : IsReportOf n r) (k : ℕ) → k < length n.motes → IsInOrder (report.last.traces k)
 
--- the items of the buckets are those of the agenda: a bucket has all items of its moment and mote, and where there are none
--- there is no bucket
-abbrev pub BucketsHoldItems : Type 0
-BucketsHoldItems = (buckets : Buckets) (items : List Item) → Holds buckets items → (moment mote : ℕ) → due_in buckets moment mote ≡ gathered (filter (is_due moment mote) items)
+-- the items that are in the buckets of an agenda are those of the list that they hold
+abbrev pub BucketsHoldItems : Buckets → Type 0
+BucketsHoldItems buckets = (items : List Item) → Holds buckets items → AreSameItems items (items_of buckets)

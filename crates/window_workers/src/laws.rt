@@ -1,8 +1,10 @@
-//! Laws of the run of a net. Each is the contract of a function that does nothing.
+//! Laws of the run of a net. Each is the contract of a function that does nothing, or no more than to ask for a length.
 
 ghost use Rattle.window_workers.specs.Counted.{CopiesAreGiven, CopiesComeInTime, FatesTellLeft, LateCopiesStay, LeftIsCounted, TurnsAreGivenAll};
 ghost use Rattle.window_workers.specs.Laws.{BucketsHoldItems, NetsRunForward, ReportIsOne, ReportIsThere, TracesHandOn, WindowsCommute};
 ghost use Rattle.window_workers.specs.Stamps.{LogCountsUp, TracesNeverGoBack};
+
+use net_agenda::Agenda;
 
 /// A net has at most one report.
 pub fn report_is_one()
@@ -28,11 +30,14 @@ pub fn traces_hand_on()
     ensures { TracesHandOn }
 {}
 
-/// The items of an agenda kept in buckets are those of the net's one list: each bucket has all that is due for its mote at its
-/// moment, the packets in the order of sender and number, and there is no empty bucket.
-pub fn buckets_hold_items()
-    ensures { BucketsHoldItems }
-{}
+/// The items that are in the buckets of an agenda, read back from one bucket after another, are those of the net's one list: the
+/// same packets, each as often, and a wake of a mote at a moment where the list has one. The map tells its length since it then
+/// says that its keys rise, so that no two buckets have the same.
+pub fn buckets_hold_items(agenda: &Agenda)
+    ensures { BucketsHoldItems agenda.now.buckets }
+{
+    let _length = agenda.buckets.len();
+}
 
 /// At the end the agenda has those copies, of all packets of the log, that arrive after the end: none else, and in the order of
 /// the log. So a copy that the medium didn't lose arrives at or before the end, or is on its way when the run ends.
