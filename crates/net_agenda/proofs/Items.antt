@@ -1,5 +1,5 @@
 -- The items that are read back from buckets are those of the list that the buckets hold.
-use Rattle.std.proofs.Common.{◌≡◌, ℕ, Bool, true, false, not, ◌&&◌, ◌||◌, eqb, if◌then◌else◌, List, [], ◌∷◌, ◌++◌, map, refl, sym, ap, ◌∙◌, subst, inl, inr, arith, Option, Some, None, unwrap_or, option_map}
+use Rattle.std.proofs.Common.{◌≡◌, ℕ, ◌≤◌, Bool, true, false, not, ◌&&◌, ◌||◌, eqb, if◌then◌else◌, List, [], ◌∷◌, ◌++◌, length, map, refl, sym, ap, ◌∙◌, subst, inl, inr, arith, Option, Some, None, unwrap_or, option_map}
 use Rattle.std.specs.List.{filter, list_any, flat_map, AllByRecursion}
 use Rattle.std.specs.List.Sorted.{IsPermutation, IsStrictlySortedBy}
 use Rattle.std.specs.Map.{lookup, keys_of}
@@ -9,18 +9,20 @@ use Rattle.std.specs.declared.cmp.Ordering.TheVariants.{Less}
 use Rattle.std.proofs.lemmas.Bool.{cases_Bool, eq-eqb, eqb-true, and_parts, and_from}
 use Rattle.std.proofs.lemmas.Bool.Decides.{nat_tests}
 use Rattle.std.proofs.lemmas.List.Folds.{list_any-append}
-use Rattle.std.proofs.lemmas.List.Sorted.{IsPermutation-refl, IsPermutation-trans, IsPermutation-map, IsPermutation-append, IsPermutation-filter_both}
+use Rattle.std.proofs.lemmas.List.{nil_from_length}
+use Rattle.std.proofs.lemmas.List.Filters.{length-filter_both}
+use Rattle.std.proofs.lemmas.List.Sorted.{IsPermutation-refl, IsPermutation-trans, IsPermutation-map, IsPermutation-append, IsPermutation-append_right, IsPermutation-filter_both}
 use Rattle.std.proofs.lemmas.Map.Keys.{sorted_head, sorted_tail}
 use Rattle.process_kernel.specs.declared.line.Arrival.{Arrival}
 use Rattle.radio_medium.specs.declared.copy.RadioCopy.{RadioCopy}
 use Rattle.window_law.specs.Order.{in_order}
 use Rattle.window_law.specs.Agenda.{Item, Wake, Packet, is_due, moment_of, mote_of, packets}
 use Rattle.window_law.proofs.Agenda.{packets_append, packets_filter, packets_map}
-use Rattle.window_law.proofs.Lists.{every_passes}
+use Rattle.window_law.proofs.Lists.{every_passes, filter_both, filter_filter}
 use Rattle.window_law.proofs.Order.{sorted_permutes}
 use Rattle.net_agenda.specs.declared.bucket.Bucket.{Bucket}
 use Rattle.net_agenda.specs.Buckets.{arrival_of, Due, nothing_due, is_wake, gathered, due_of, told_bucket, key_cmp, is_here, Buckets, Holds}
-use Rattle.net_agenda.specs.Items.{copy_at, bucket_items, items_of, is_wake_at, AreSameItems}
+use Rattle.net_agenda.specs.Items.{copy_at, bucket_items, items_of, is_wake_at, AreSameItems, WakesDiffer}
 use Rattle.net_agenda.proofs.Gathered.{Is, due_among, removed, unwrapped}
 use Rattle.net_agenda.proofs.Keys.{key_is, updated}
 
@@ -104,36 +106,34 @@ none_held (x ∷ xs) is =
     let there = rw (i, j) at (is (moment_of x) (mote_of x)) in
     cc
 
-packets_among : (es : Entries) (items : List Item) → IsStrictlySortedBy key_cmp (keys_of es) → Is (due_among es) items → IsPermutation (packets items) (packets (items_among es))
-packets_among [] items sorted is = subst (λ l. IsPermutation (packets l) []) (sym (none_held items is)) (IsPermutation-refl [])
-packets_among (e ∷ es) items sorted is =
-    subst (IsPermutation (packets items)) (sym (packets_append (bucket_items t m e.1) (items_among es) ∙ ap (λ l. l ++ packets (items_among es)) (bucket_packets t m e.1)))
-    (IsPermutation-trans _ _ _ (parted (is_due t m) items) (IsPermutation-append _ _ _ _ here (packets_among es rest (sorted_tail key_cmp e.0 (keys_of es) sorted) rest_held)))
+-- the first bucket has what is due there, and the later ones hold the others
+
+found : (e : (ℕ × ℕ) × Bucket) (es : Entries) (items : List Item) → Is (due_among (e ∷ es)) items → gathered (filter (is_due e.0.0 e.0.1) items) ≡ Some (told_bucket e.1)
+found e es items is = sym (is e.0.0 e.0.1) ∙ at_its_key e es
+
+rest_held : (e : (ℕ × ℕ) × Bucket) (es : Entries) (items : List Item) → IsStrictlySortedBy key_cmp (keys_of (e ∷ es)) → Is (due_among (e ∷ es)) items
+    → Is (due_among es) (filter (λ item. not (is_due e.0.0 e.0.1 item)) items)
+rest_held e es items sorted is = removed (due_among (e ∷ es)) (due_among es) e.0.0 e.0.1 items is without
   where
-    t : ℕ
-    t = e.0.0
-
-    m : ℕ
-    m = e.0.1
-
-    rest : List Item
-    rest = filter (λ item. not (is_due t m item)) items
-
-    found : gathered (filter (is_due t m) items) ≡ Some (told_bucket e.1)
-    found = sym (is t m) ∙ at_its_key e es
-
-    here : IsPermutation (packets (filter (is_due t m) items)) (map (copy_at t m) e.1.copies.items)
-    here = of_bucket t m e.1.copies.items (filter (is_due t m) items) (every_passes (is_due t m) items) (gathered_copies (filter (is_due t m) items) (told_bucket e.1) found)
-
-    without : (u k : ℕ) → due_among es u k ≡ (if is_here t m u k then None else due_among (e ∷ es) u k)
+    without : (u k : ℕ) → due_among es u k ≡ (if is_here e.0.0 e.0.1 u k then None else due_among (e ∷ es) u k)
     without u k =
-        elim (cases_Bool (is_here t m u k)) [
+        elim (cases_Bool (is_here e.0.0 e.0.1 u k)) [
           | inl h ↦ rw h (none_later e es u k sorted h)
           | inr h ↦ (let later = rw h at (first_or_later e es u k) in rw h (sym later))
         ]
 
-    rest_held : Is (due_among es) rest
-    rest_held = removed (due_among (e ∷ es)) (due_among es) t m items is without
+packets_among : (es : Entries) (items : List Item) → IsStrictlySortedBy key_cmp (keys_of es) → Is (due_among es) items → IsPermutation (packets items) (packets (items_among es))
+packets_among [] items sorted is = subst (λ l. IsPermutation (packets l) []) (sym (none_held items is)) (IsPermutation-refl [])
+packets_among (e ∷ es) items sorted is =
+    subst (IsPermutation (packets items)) (sym (packets_append (bucket_items e.0.0 e.0.1 e.1) (items_among es) ∙ ap (λ l. l ++ packets (items_among es)) (bucket_packets e.0.0 e.0.1 e.1)))
+    (IsPermutation-trans _ _ _ (parted p items)
+    (IsPermutation-append _ _ _ _ here (packets_among es (filter (λ item. not (p item)) items) (sorted_tail key_cmp e.0 (keys_of es) sorted) (rest_held e es items sorted is))))
+  where
+    p : Item → Bool
+    p = is_due e.0.0 e.0.1
+
+    here : IsPermutation (packets (filter p items)) (map (copy_at e.0.0 e.0.1) e.1.copies.items)
+    here = of_bucket e.0.0 e.0.1 e.1.copies.items (filter p items) (every_passes p items) (gathered_copies (filter p items) (told_bucket e.1) (found e es items is))
 
 -- wakes
 
@@ -189,8 +189,68 @@ wakes_among (e ∷ es) u k sorted =
           | inr h ↦ (let first = rw h at (first_or_later e es u k) in rw h (same ∙ ap wakes_in (sym first)))
         ]
 
+-- all items, where no mote has two wakes at one moment
+
+one_wake : (t m : ℕ) (xs : List Item) → AllByRecursion (λ item. is_due t m item ≡ true) xs → length (filter is_wake xs) ≤ 1 → filter is_wake xs ≡ (if list_any is_wake xs then Wake t m ∷ [] else [])
+one_wake t m [] due h = refl
+one_wake t m (Packet c ∷ xs) due h = one_wake t m xs due.1 h
+one_wake t m (Wake u k ∷ xs) due h =
+    let there = and_parts (eqb u t) (eqb k m) due.0 in
+    let none : filter is_wake xs ≡ [] = nil_from_length (filter is_wake xs) (omega arith) in
+    ap (λ l. Wake u k ∷ l) none ∙ (ap (λ x. Wake x k ∷ []) (eqb-true u t there.0) ∙ ap (λ x. Wake t x ∷ []) (eqb-true k m there.1))
+
+not_wakes : (xs : List Item) → filter (λ item. not (is_wake item)) xs ≡ map Packet (packets xs)
+not_wakes [] = refl
+not_wakes (Wake u k ∷ xs) = not_wakes xs
+not_wakes (Packet c ∷ xs) = ap (λ l. Packet c ∷ l) (not_wakes xs)
+
+bucket_permutes : (t m : ℕ) (b : Bucket) (xs : List Item) → AllByRecursion (λ item. is_due t m item ≡ true) xs → gathered xs ≡ Some (told_bucket b) → length (filter is_wake xs) ≤ 1
+    → IsPermutation xs (bucket_items t m b)
+bucket_permutes t m b xs due e one =
+    IsPermutation-trans _ _ _
+    (subst (λ l. IsPermutation xs (wakes ++ l)) (not_wakes xs) (subst (λ l. IsPermutation xs (l ++ filter (λ item. not (is_wake item)) xs)) woken (IsPermutation-filter_both is_wake (λ item. not (is_wake item)) (λ item. refl) xs)))
+    (IsPermutation-append_right wakes _ _ (IsPermutation-map Packet _ _ (of_bucket t m b.copies.items xs due (gathered_copies xs (told_bucket b) e))))
+  where
+    wakes : List Item
+    wakes = if b.wakes then Wake t m ∷ [] else []
+
+    same : list_any is_wake xs ≡ b.wakes
+    same = sym (ap (λ d. d.wakes) (unwrapped xs)) ∙ ap (λ o. (unwrap_or o nothing_due).wakes) e
+
+    woken : filter is_wake xs ≡ wakes
+    woken = one_wake t m xs due one ∙ ap (λ w. if w then Wake t m ∷ [] else []) same
+
+no_more : {X : Type 0} (p : X → Bool) (xs : List X) → length (filter p xs) ≤ length xs
+no_more p xs = let both = length-filter_both p (λ x. not (p x)) (λ x. refl) xs in omega arith
+
+items_among_permute : (es : Entries) (items : List Item) → IsStrictlySortedBy key_cmp (keys_of es) → Is (due_among es) items → WakesDiffer items → IsPermutation items (items_among es)
+items_among_permute [] items sorted is one = subst (λ l. IsPermutation l []) (sym (none_held items is)) (IsPermutation-refl [])
+items_among_permute (e ∷ es) items sorted is one =
+    IsPermutation-trans _ _ _ (IsPermutation-filter_both p (λ item. not (p item)) (λ item. refl) items)
+    (IsPermutation-append _ _ _ _ here (items_among_permute es rest (sorted_tail key_cmp e.0 (keys_of es) sorted) (rest_held e es items sorted is) fewer))
+  where
+    p : Item → Bool
+    p = is_due e.0.0 e.0.1
+
+    rest : List Item
+    rest = filter (λ item. not (p item)) items
+
+    fewer : WakesDiffer rest
+    fewer u k =
+        let same = ap length (filter_filter (is_wake_at u k) (λ item. not (p item)) items) in
+        let less = no_more (λ item. not (p item)) (filter (is_wake_at u k) items) in
+        let at_most = one u k in
+        omega arith
+
+    here : IsPermutation (filter p items) (bucket_items e.0.0 e.0.1 e.1)
+    here =
+        let same = ap length (filter_both is_wake p (is_wake_at e.0.0 e.0.1) (λ item. refl) items) in
+        let at_most = one e.0.0 e.0.1 in
+        bucket_permutes e.0.0 e.0.1 e.1 (filter p items) (every_passes p items) (found e es items is) (omega arith)
+
 pub items_held : (buckets : Buckets) → IsOrdered key_cmp buckets → (items : List Item) → Holds buckets items → AreSameItems items (items_of buckets)
 items_held buckets ordered items holds = record {
   same_packets = packets_among buckets.entries items ordered holds;
   same_wakes = λ u k. wakes_held u k items ∙ (ap wakes_in (sym (holds u k)) ∙ sym (wakes_among buckets.entries u k ordered));
+  permuted = items_among_permute buckets.entries items ordered holds;
 }

@@ -1,6 +1,6 @@
 -- The items that are in buckets, read back from them.
-use Rattle.std.specs.Prelude.{ℕ, ◌≡◌, Bool, ◌&&◌, if◌then◌else◌, List, [], ◌∷◌, ◌++◌, map}
-use Rattle.std.specs.List.{list_any, flat_map}
+use Rattle.std.specs.Prelude.{ℕ, ◌≡◌, ◌≤◌, Bool, ◌&&◌, if◌then◌else◌, List, [], ◌∷◌, ◌++◌, length, map}
+use Rattle.std.specs.List.{filter, list_any, flat_map}
 use Rattle.std.specs.List.Sorted.{IsPermutation}
 use Rattle.process_kernel.specs.declared.line.Arrival.{Arrival}
 use Rattle.radio_medium.specs.declared.copy.RadioCopy.{RadioCopy}
@@ -24,7 +24,13 @@ items_of buckets = flat_map (λ entry. bucket_items entry.0.0 entry.0.1 entry.1)
 abbrev pub is_wake_at : (moment mote : ℕ) → Item → Bool
 is_wake_at moment mote item = is_due moment mote item && is_wake item
 
--- the same items: each packet as often, and a wake of a mote at a moment in the one list where there is one in the other
+-- no mote has two wakes at one moment
+abbrev pub WakesDiffer : List Item → Type 0
+WakesDiffer items = (moment mote : ℕ) → length (filter (is_wake_at moment mote) items) ≤ 1
+
+-- The same items: each packet as often, and a wake of a mote at a moment in the one list where there is one in the other. Where no
+-- mote has two wakes at one moment, ys is a permutation of xs.
 pub record AreSameItems (xs ys : List Item) : Type 0 where
   pub same_packets : IsPermutation (packets xs) (packets ys)
   pub same_wakes : (moment mote : ℕ) → list_any (is_wake_at moment mote) xs ≡ list_any (is_wake_at moment mote) ys
+  pub permuted : WakesDiffer xs → IsPermutation xs ys
