@@ -4,6 +4,7 @@ pub mod Given
 pub mod GivenAll
 pub mod Handed
 pub mod Kept
+pub mod OneWake
 pub mod Reached
 pub mod Reports
 pub mod SentOut

@@ -1,7 +1,7 @@
 //! Laws of the run of a net. Each is the contract of a function that does nothing, or no more than to ask for a length.
 
 ghost use Rattle.window_workers.specs.Counted.{CopiesAreGiven, CopiesComeInTime, FatesTellLeft, LateCopiesStay, LeftIsCounted, TurnsAreGivenAll};
-ghost use Rattle.window_workers.specs.Laws.{BucketsHoldItems, NetsRunForward, ReportIsOne, ReportIsThere, TracesHandOn, WindowsCommute};
+ghost use Rattle.window_workers.specs.Laws.{BucketsHoldItems, NetsRunForward, ReportIsOne, ReportIsThere, TracesHandOn, WakesAlwaysDiffer, WindowsCommute};
 ghost use Rattle.window_workers.specs.Stamps.{LogCountsUp, TracesNeverGoBack};
 
 use net_agenda::Agenda;
@@ -32,13 +32,18 @@ pub fn traces_hand_on()
 
 /// The items that are in the buckets of an agenda, read back from one bucket after another, are those of the net's one list: the
 /// same packets, each as often, and a wake of a mote at a moment where the list has one; so they are a permutation of the list where
-/// it has no two wakes of a mote at one moment. The map is asked for its length since it then says that its keys rise: no two
+/// no mote has two wakes at one moment. The map is asked for its length since it then says that its keys rise: no two
 /// buckets are of one mote and moment.
 pub fn buckets_hold_items(agenda: &Agenda)
     ensures { BucketsHoldItems agenda.now.buckets }
 {
     let _length = agenda.buckets.len();
 }
+
+/// Before each turn of a net's run, and at its end, no mote has two wakes at one moment.
+pub fn wakes_differ()
+    ensures { WakesAlwaysDiffer }
+{}
 
 /// At the end the agenda has those copies, of all packets of the log, that arrive after the end: none else, and in the order of
 /// the log. So a copy that the medium didn't lose arrives at or before the end, or is on its way when the run ends.
