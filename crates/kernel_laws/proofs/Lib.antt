@@ -6,6 +6,7 @@ pub mod EachStep
 pub mod Emptied
 pub mod Fits
 pub mod InStep
+pub mod Lives
 pub mod Motes
 pub mod Owners
 pub mod Packets
@@ -19,6 +20,7 @@ pub mod Steps
 pub mod Tables
 pub mod Timers
 pub mod Traces
+pub mod Untold
 pub mod Watch
 pub mod WatchedBoot
 pub mod WatchedRuns

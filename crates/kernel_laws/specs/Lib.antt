@@ -5,6 +5,7 @@ pub mod Laws
 pub mod Own
 pub mod Poll
 pub mod Polled
+pub mod Printed
 pub mod Ring
 pub mod Seen
 pub mod Stamps
