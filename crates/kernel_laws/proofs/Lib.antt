@@ -1,4 +1,5 @@
 pub mod Alive
+pub mod BodyRuns
 pub mod CallSteps
 pub mod Delivers
 pub mod Due
@@ -16,6 +17,7 @@ pub mod Resting
 pub mod Ring
 pub mod StampedCalls
 pub mod Stamps
+pub mod Standing
 pub mod Steps
 pub mod Tables
 pub mod Timers

@@ -71,7 +71,7 @@ module _ (code : Code) (start : List ℕ) where
   ends_there did answer r next vars changed now e c steps =
       subst (λ l. HasRun l (done now [] changed)) (append-nil did) (c.on now [] [] (done now [] changed) e (has_ended r next vars changed now [] steps))
 
-  pub life_of : (did : List Happening) (out : Outcome) → HasRun did out → Life code start
+  abbrev pub life_of : (did : List Happening) (out : Outcome) → HasRun did out → Life code start
   life_of did out run = record { now = run.now; later = run.later; did = did; became = out; reads = reads_the_text code Body start run.now run.later did out run.runs }
 
 -- what was printed, and what is printed next
