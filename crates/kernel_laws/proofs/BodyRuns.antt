@@ -59,6 +59,11 @@ pub record IsAway (program : Tree) (v : Standing) : Type 0 where
   pub not_running : is_running_state v.state ≡ false
   pub busy : (is_called_state v.state || v.exiting) ≡ true
 
+-- an operation but a print
+abbrev pub IsNoPrint : Op → Type 0
+IsNoPrint (op.Print v) = ⊥
+IsNoPrint o = Unit {0}
+
 module _ (program : Tree) (p : ℕ) (code : Code) where
   -- In the life that its last start began it came to here.
   pub record ComesHere (told : List What) (r : Remainder) (vars : List ℕ) : Type 0 where
@@ -89,11 +94,6 @@ module _ (program : Tree) (p : ℕ) (code : Code) where
   BodyRuns calls =
       (s : State) (r : Remainder) (vars : List ℕ) (e : Event) → IsAway program (standing_of p s) → (standing_of p s).vars ≡ Some vars → ComesHere (standing_of p s).told r vars
       → IfGives (RanFrom (standing_of p s)) (calls.run s code r p e)
-
-  -- an operation but a print
-  abbrev pub IsNoPrint : Op → Type 0
-  IsNoPrint (op.Print v) = ⊥
-  IsNoPrint o = Unit {0}
 
   -- where the process is away, what its operations start leaves it as it stands, but for a print
   abbrev pub ActsAside : Calls → Type 0

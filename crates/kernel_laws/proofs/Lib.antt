@@ -9,6 +9,7 @@ pub mod Fits
 pub mod InStep
 pub mod Lives
 pub mod Motes
+pub mod OwnSteps
 pub mod Owners
 pub mod Packets
 pub mod Passes
