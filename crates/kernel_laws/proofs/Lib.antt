@@ -1,4 +1,5 @@
 pub mod Alive
+pub mod BodyCalls
 pub mod BodyRuns
 pub mod CallSteps
 pub mod Delivers

@@ -1,0 +1,395 @@
+-- Each call keeps that what is told of a process are its lives, however deep calls nest.
+use Rattle.std.proofs.Common.{ℕ, zero, suc, ◌≡◌, ◌⊎◌, inl, inr, not, ◌&&◌, ◌||◌, ◌==◌, nat_lt, Bool, true, false, if◌then◌else◌, List, [], ◌∷◌, ◌++◌, Option, Some, None, slice_get, unwrap_or, refl, sym, ap, ◌∙◌, subst, arith, append-nil}
+use Rattle.std.proofs.lemmas.Bool.Decides.{nat_tests}
+use Rattle.mote_program.specs.declared.event.Proc.{Proc}
+use Rattle.mote_program.specs.declared.event.Proc.TheVariants.{Own, Etimer, Ctimer, Radio}
+use Rattle.mote_program.specs.declared.event.Target.TheVariants.{One}
+use Rattle.mote_program.specs.declared.event.Event.{Event}
+use Rattle.mote_program.specs.declared.event.SystemEvent.TheVariants.{Poll, Exit, Exited, Timer, Init}
+use Rattle.mote_program.specs.declared.timer.Timer.{Timer as TimerOfProgram}
+use Rattle.mote_program.specs.Code.{Code, Tree, callback_at}
+use Rattle.mote_timers.specs.Timer.{is_due}
+use Rattle.mote_timers.specs.TimerLists.{timer_at}
+use Rattle.protothread.specs.declared.part.Part.{Part}
+use Rattle.protothread.specs.declared.part.Part.TheVariants.{Body, OnPoll, OnExit, Callback}
+use Rattle.protothread.specs.declared.state.PtState.{PtState}
+use Rattle.protothread.specs.declared.state.PtState.TheVariants.{Yielded, Ended}
+use Rattle.protothread.specs.declared.step.Op.{Op}
+use Rattle.protothread.specs.declared.step.Op.TheVariants as op
+use Rattle.protothread.specs.declared.step.Step.{Step}
+use Rattle.protothread.specs.declared.step.Step.TheVariants as step
+use Rattle.protothread.specs.Remainder.{Remainder, statements_of, fresh_of, whole_of}
+use Rattle.process_kernel.specs.declared.line.What.{What}
+use Rattle.process_kernel.specs.declared.line.What.TheVariants as what
+use Rattle.process_kernel.specs.declared.process.ProcessState.{ProcessState}
+use Rattle.process_kernel.specs.declared.process.ProcessState.TheVariants.{Off, Running, Called}
+use Rattle.process_kernel.specs.declared.process.Member.{Member}
+use Rattle.process_kernel.specs.Members.{place_of, is_same}
+use Rattle.process_kernel.specs.State.{State, Outcome, Went, Ends, Goes, ◌>>=◌}
+use Rattle.process_kernel.specs.Processes.{is_running_state, is_called_state, has_process, is_busy, is_listed, is_running, is_on_list, with_state}
+use Rattle.process_kernel.specs.ProcessList.{put_remainder, with_fresh_body, enlist_of, exiting_of, leave_of}
+use Rattle.process_kernel.specs.Posts.{post_of, poll_of, send_of}
+use Rattle.process_kernel.specs.Semaphores.{take_of, signal_of}
+use Rattle.process_kernel.specs.TimerOperations.{has_timer, timer_is_set, set_of, reset_of, restart_of, stop_of}
+use Rattle.process_kernel.specs.Writes.{with_line, write_of, spend_of}
+use Rattle.process_kernel.specs.Calls.{Calls, Answer, told, is_event, walk_of}
+use Rattle.process_kernel.specs.Etimer.{fired_of, purge_of, post_due, walk_timers, walks_of, pass_of, etimer_of}
+use Rattle.process_kernel.specs.Ctimer.{callback_of, waits_for, ctimer_of}
+use Rattle.process_kernel.specs.Radio.{radio_of}
+use Rattle.process_kernel.specs.Reaction.{remainder_at, handler_of, resume_of, own_of, react_of}
+use Rattle.process_kernel.specs.Exit.{number_of, last_run_of, exit_of}
+use Rattle.process_kernel.specs.Start.{start_of}
+use Rattle.process_kernel.specs.Kill.{kill_of}
+use Rattle.process_kernel.specs.Thread.{stepped_with, stepped_of}
+use Rattle.process_kernel.specs.Operation.{answered_with, answer_of, act_of, perform_of, after_step, run_of}
+use Rattle.process_kernel.specs.Call.{has_ended, answered, call_of, calls_of}
+use Rattle.kernel_laws.specs.Printed.{HasBodyAlone}
+use Rattle.kernel_laws.proofs.Packets.{IfGoes, goes_if, goes_bind}
+use Rattle.kernel_laws.proofs.EachStep.{Lead, AreJoined, lead_from, lead_bind, lead_if, lead_option, lead_goes, lead_still, bind_twice, empty_led}
+use Rattle.kernel_laws.proofs.Tables.{is_equal}
+use Rattle.kernel_laws.proofs.Watch.{Whatever}
+use Rattle.kernel_laws.proofs.Lives.{at_first}
+use Rattle.kernel_laws.proofs.Standing.{Standing, standing_of, IsOther, IsQuiet, which, own_other, other_own, etimer_other, ctimer_other, radio_other, line_quiet, print_quiet, state_quiet, exiting_quiet, quiet_if, poll_quiet, variables_quiet, remainder_quiet, body_quiet, enlist_quiet, leave_quiet, post_quiet, send_quiet}
+use Rattle.kernel_laws.proofs.OwnSteps.{alike, empty_runs, state_stands, exiting_stands, leave_stands, body_stands, put_stands, enlist_stands}
+use Rattle.kernel_laws.proofs.BodyRuns.{IfGives, gives_bind, gives_weaker, from_goes, IsAway, ComesHere, HasLived, Ran, RanFrom, BodyRuns, IsNoPrint, runs_on}
+
+module _ (program : Tree) (p : ℕ) (code : Code) where
+  -- on the process list, in a life that came to here; or off it
+  pub record IsIn (v : Standing) (r : Remainder) (vars : List ℕ) : Type 0 where
+    pub has : v.has ≡ true
+    pub state : v.state ≡ Running
+    pub listed : v.listed ≡ true
+    pub comes : ComesHere program p code v.told r vars
+
+  pub record IsOut (v : Standing) : Type 0 where
+    pub state : v.state ≡ Off
+    pub listed : v.listed ≡ false
+
+  -- The process is at rest, and what was told of it are its lives.
+  pub record Stands (v : Standing) : Type 0 where
+    pub of_program : v.program ≡ program
+    pub room : v.room ≡ true
+    pub free : v.exiting ≡ false
+    pub still : Remainder
+    pub rest : v.rest ≡ Some still
+    pub left : List ℕ
+    pub vars : v.vars ≡ Some left
+    pub lived : HasLived program p code v.told left
+    pub where_it_is : IsOut v ⊎ IsIn v still left
+
+  -- It can be called: it is at rest, or has just started.
+  pub record IsReady (v : Standing) : Type 0 where
+    pub of_program : v.program ≡ program
+    pub room : v.room ≡ true
+    pub free : v.exiting ≡ false
+    pub still : Remainder
+    pub rest : v.rest ≡ Some still
+    pub left : List ℕ
+    pub vars : v.vars ≡ Some left
+    pub is_in : IsIn v still left
+
+  -- a process that is away is left as it stands, and of one that is at rest lives are told
+  pub record Keeps (s t : State) : Type 0 where
+    pub away : IsAway program (standing_of p s) → IsQuiet p s t
+    pub stands : Stands (standing_of p s) → Stands (standing_of p t)
+
+  pub quiet_keeps : (s t : State) → IsQuiet p s t → Keeps s t
+  quiet_keeps s t e = record { away = λ a. e; stands = λ h. subst Stands (sym e) h }
+
+  keeps_joined : (a b c : State) → Keeps a b → Keeps b c → Keeps a c
+  keeps_joined a b c h i = record {
+    away = λ x. i.away (subst (λ v. IsAway program v) (sym (h.away x)) x) ∙ h.away x;
+    stands = λ x. i.stands (h.stands x);
+  }
+
+  pub chain : AreJoined Keeps Whatever
+  chain = record { same = λ s. quiet_keeps s s refl; joined = keeps_joined; ended = λ a b c h i. tt }
+
+  abbrev pub Leads : (A : Type 0) → State → Outcome A → Type 0
+  Leads A s o = Lead Keeps Whatever A s o
+
+  -- chains of steps
+
+  pub from : {A : Type 0} (s t : State) (o : Outcome A) → IsQuiet p s t → Leads A t o → Leads A s o
+  from {A} s t o e h = lead_from Keeps Whatever chain A s t o (quiet_keeps s t e) h
+
+  pub bind : {A B : Type 0} (s : State) (o : Outcome A) (f : A → State → Outcome B) → Leads A s o → ((a : A) (t : State) → Leads B t (f a t)) → Leads B s (o >>= f)
+  bind {A} {B} s o f h go = lead_bind Keeps Whatever chain A B s o f h go
+
+  pub either : {A : Type 0} (s : State) (b : Bool) (o q : Outcome A) → Leads A s o → Leads A s q → Leads A s (if b then o else q)
+  either {A} s b o q h i = lead_if Keeps Whatever chain A s b o q h i
+
+  pub goes : {A : Type 0} (s : State) (a : A) (t : State) → IsQuiet p s t → Leads A s (Goes a t)
+  goes {A} s a t e = lead_goes Keeps Whatever chain A s a t (quiet_keeps s t e)
+
+  pub still : {A : Type 0} (s : State) (a : A) → Leads A s (Goes a s)
+  still {A} s a = lead_still Keeps Whatever chain A s a
+
+  pub ends : {A : Type 0} (s t : State) → Leads A s (Ends t)
+  ends {A} s t = record { leads = tt }
+
+  pub quietly : {A : Type 0} (s : State) (o : Outcome A) → IfGoes (λ t. IsQuiet p s t) o → Leads A s o
+  quietly {A} s (Ends t) h = ends s t
+  quietly {A} s (Goes a t) h = goes s a t h
+
+  -- both sides of it
+  pub lead_of : {A : Type 0} (s : State) (o : Outcome A) → (IsAway program (standing_of p s) → IfGoes (λ t. IsQuiet p s t) o) → (Stands (standing_of p s) → IfGoes (λ t. Stands (standing_of p t)) o) → Leads A s o
+  lead_of {A} s (Ends t) h i = ends s t
+  lead_of {A} s (Goes a t) h i = record { leads = record { away = h; stands = i } }
+
+  -- where the program is known
+  pub knowing : {A : Type 0} (s : State) (o : Outcome A) → ((standing_of p s).program ≡ program → IfGoes (λ t. IsQuiet p s t) o) → Leads A s o
+  knowing {A} s (Ends t) h = ends s t
+  knowing {A} s (Goes a t) h = record { leads = record { away = λ x. h x.of_program; stands = λ x. subst Stands (sym (h x.of_program)) x } }
+
+  pub lead_away : {A : Type 0} (s : State) (o : Outcome A) → Leads A s o → IsAway program (standing_of p s) → IfGoes (λ t. IsQuiet p s t) o
+  lead_away {A} s (Ends t) h a = tt
+  lead_away {A} s (Goes x t) h a = h.leads.away a
+
+  -- small steps that are quiet
+
+  pub spend_quiet : (s : State) → IfGoes (λ t. IsQuiet p s t) (spend_of s)
+  unfolding spend_of
+  spend_quiet s = goes_if (Unit {0}) (λ t. IsQuiet p s t) (s.units == 0) _ _ tt refl
+
+  spends : (s : State) → Leads (Unit {0}) s (spend_of s)
+  spends s = quietly s _ (spend_quiet s)
+
+  set_quiet : (s : State) (t n q : ℕ) → IsQuiet p s (set_of s t n q)
+  unfolding set_of timer_is_set
+  set_quiet s t n q = quiet_if p s (has_timer s t) _ s (poll_quiet p _ Etimer) refl
+
+  reset_quiet : (s : State) (t q : ℕ) → IsQuiet p s (reset_of s t q)
+  unfolding reset_of timer_is_set
+  reset_quiet s t q = quiet_if p s (has_timer s t) _ s (poll_quiet p _ Etimer) refl
+
+  restart_quiet : (s : State) (t q : ℕ) → IsQuiet p s (restart_of s t q)
+  unfolding restart_of timer_is_set
+  restart_quiet s t q = quiet_if p s (has_timer s t) _ s (poll_quiet p _ Etimer) refl
+
+  stop_quiet : (s : State) (t : ℕ) → IsQuiet p s (stop_of s t)
+  unfolding stop_of
+  stop_quiet s t = quiet_if p s (has_timer s t) _ s refl refl
+
+  fired_quiet : (s : State) (t : ℕ) → IsQuiet p s (fired_of s t)
+  unfolding fired_of
+  fired_quiet s t = refl
+
+  purge_quiet : (s : State) (q : ℕ) → IsQuiet p s (purge_of s q)
+  unfolding purge_of
+  purge_quiet s q = quiet_if p s (nat_lt q 256) _ s refl refl
+
+  take_quiet : (s : State) (k : ℕ) → IsQuiet p s (take_of s k)
+  unfolding take_of
+  take_quiet s k = refl
+
+  signal_quiet : (s : State) (k : ℕ) → IsQuiet p s (signal_of s k)
+  unfolding signal_of
+  signal_quiet s k = refl
+
+  writes : (s : State) (w : What) → IsQuiet p s (with_line s w) → Leads (Unit {0}) s (write_of s w)
+  unfolding write_of
+  writes s w e = goes s tt _ e
+
+  stepped_as : (variables : Option (List ℕ)) (s : State) (c : Code) (r : Remainder) (q : ℕ) (e : Event) → (q ≡ p → ⊥) → IsQuiet p s (stepped_with variables s c r q e).state
+  stepped_as (Some variables) s c r q e n = variables_quiet p s q _ s.units n
+  stepped_as None s c r q e n = refl
+
+  answered_as : (variables : Option (List ℕ)) (s : State) (r : Remainder) (q answer : ℕ) → (q ≡ p → ⊥) → Leads Remainder s (answered_with variables s r q answer)
+  answered_as (Some variables) s r q answer n = goes s _ _ (variables_quiet p s q _ s.units n)
+  answered_as None s r q answer n = still s r
+
+  answers : (s : State) (r : Remainder) (q : ℕ) (full : Bool) → (q ≡ p → ⊥) → Leads Remainder s (answer_of s r q full)
+  unfolding answer_of
+  answers s r q full n = answered_as _ s r q _ n
+
+  -- the system processes
+
+  due_led : (again on : State → Went) → ((s : State) → Leads (Unit {0}) s (again s)) → ((s : State) → Leads (Unit {0}) s (on s)) → (s : State) (timer : ℕ) (owner : Option Proc) → Leads (Unit {0}) s (post_due again on s timer owner)
+  due_led again on h i s timer None = i s
+  due_led again on h i s timer (Some owner) =
+      bind s _ _ (quietly s _ (post_quiet p s (One owner) (told Timer timer))) (λ full t. either t full _ _ (from t _ _ (poll_quiet p t Etimer) (i _)) (from t _ _ (fired_quiet t timer) (h _)))
+
+  walk_timers_led : (again : State → Went) → ((s : State) → Leads (Unit {0}) s (again s)) → (ts : List ℕ) (s : State) → Leads (Unit {0}) s (walk_timers again ts s)
+  walk_timers_led again h [] s = still s tt
+  walk_timers_led again h (t ∷ ts) s =
+      either s (is_due s.moment (timer_at s.timers.timers t)) _ _ (due_led again (walk_timers again ts) h (walk_timers_led again h ts) s t _) (walk_timers_led again h ts s)
+
+  walks_led : (k : ℕ) (s : State) → Leads (Unit {0}) s (walks_of k s)
+  walks_led zero s = still s tt
+  walks_led (suc k) s = walk_timers_led (walks_of k) (walks_led k) s.timers.listed s
+
+  etimer_led : (s : State) (e : Event) → Leads (Unit {0}) s (etimer_of s e)
+  unfolding etimer_of pass_of
+  etimer_led s e =
+      either s (is_event Poll e) _ _ (walks_led _ s) (either s (is_event Exited e) _ _ (goes s tt _ (purge_quiet s e.word)) (still s tt))
+
+  radio_led : (s : State) (e : Event) → Leads (Unit {0}) s (radio_of s e)
+  unfolding radio_of
+  radio_led s e =
+      either s (is_event Poll e) _ _ (empty_led Keeps Whatever chain (λ t packets. quiet_keeps t _ refl) (λ t target event fits. quietly t _ (post_quiet p t target event)) (λ t sender number. quiet_keeps t _ (line_quiet p t (what.Deaf sender number) refl)) s.program.receiver s.ring s) (still s tt)
+
+  -- what the calls of a process, and the runs of a thread, keep
+  pub record AreTold (calls : Calls) : Type 0 where
+    pub call : (s : State) (q : Proc) (e : Event) → Leads (Unit {0}) s (calls.call s q e)
+    pub ready : (s : State) (e : Event) → IsReady (standing_of p s) → IfGoes (λ t. Stands (standing_of p t)) (calls.call s (Own p) e)
+    pub run : (s : State) (c : Code) (r : Remainder) (q : ℕ) (e : Event) → (q ≡ p → ⊥) → Leads Answer s (calls.run s c r q e)
+    pub body : BodyRuns program p code calls
+    pub nothing : (s : State) (part : Part) (e : Event) → whole_of code part ≡ [] → IfGives (λ a t. IsQuiet p s t) (calls.run s code (fresh_of code part) p e)
+
+  -- the body has run, or what runs before it alone
+  record Reacted (v : Standing) (a : PtState) (w : Standing) : Type 0 where
+    left : List ℕ
+    next : Remainder
+    same : w ≡ record v { rest = Some next; vars = Some left; told = w.told }
+    lived : HasLived program p code w.told left
+    comes : has_ended a ≡ false → ComesHere program p code w.told next left
+
+  -- it is about to leave the list, which it may do by itself, without a last run
+  record IsLeaving (v : Standing) (by_itself : Bool) : Type 0 where
+    of_program : v.program ≡ program
+    has : v.has ≡ true
+    room : v.room ≡ true
+    listed : v.listed ≡ true
+    now : Remainder
+    rest : v.rest ≡ Some now
+    left : List ℕ
+    vars : v.vars ≡ Some left
+    lived : HasLived program p code v.told left
+    comes : by_itself ≡ false → ComesHere program p code v.told now left
+
+  record IsGone (v : Standing) : Type 0 where
+    of_program : v.program ≡ program
+    room : v.room ≡ true
+    state : v.state ≡ Off
+    now : Remainder
+    rest : v.rest ≡ Some now
+    left : List ℕ
+    vars : v.vars ≡ Some left
+    lived : HasLived program p code v.told left
+
+  some_is : {X : Type 0} (x y : X) → Some x ≡ Some y → x ≡ y
+  some_is x y e = ap (λ o. unwrap_or o x) e
+
+  to_goes : {A : Type 0} (P : State → Type 0) (o : Outcome A) → IfGives (λ a t. P t) o → IfGoes P o
+  to_goes {A} P (Ends t) h = tt
+  to_goes {A} P (Goes a t) h = h
+
+  gives_if : {A : Type 0} (P : A → State → Type 0) (b : Bool) (o q : Outcome A) → IfGives P o → IfGives P q → IfGives P (if b then o else q)
+  gives_if {A} P true o q h i = h
+  gives_if {A} P false o q h i = i
+
+  -- the same standing, known to be so in every field
+  abbrev At : Standing → State → Type 0
+  At v t = standing_of p t ≡ v
+
+  module _ (is_code : slice_get program.codes p ≡ Some code) (alone : HasBodyAlone code) where
+    code_there : (s : State) → (standing_of p s).program ≡ program → slice_get s.program.codes p ≡ Some code
+    code_there s e = ap (λ t. slice_get t.codes p) e ∙ is_code
+
+    none_at : {X : Type 0} (xs : List X) (k : ℕ) → xs ≡ [] → slice_get xs k ≡ None
+    none_at xs k e = ap (λ l. slice_get l k) e
+
+    no_callback : (timer : ℕ) → whole_of code (Callback timer) ≡ []
+    no_callback timer = ap statements_of (by _ _ (none_at code.callbacks _ alone.no_callbacks))
+      where
+        by : {X : Type 0} (b : Bool) (o : Option X) → o ≡ None → (if b then o else None) ≡ None
+        by true o e = e
+        by false o e = refl
+
+    module _ (calls : Calls) (are : AreTold calls) where
+      walk_led : (e : Event) (q : Proc) (ms : List Member) (s : State) → Leads (Unit {0}) s (walk_of calls e q ms s)
+      walk_led e q [] s = still s tt
+      walk_led e q (m ∷ ms) s = bind s _ _ (either s _ _ _ (are.call s m.process e) (still s tt)) (λ a t. walk_led e q ms t)
+
+      -- another process
+
+      handler_led : (s : State) (c : Code) (q : ℕ) (e : Event) → (q ≡ p → ⊥) → Leads (Unit {0}) s (handler_of calls s c q e)
+      unfolding handler_of
+      handler_led s c q e n =
+          either s (is_event Poll e) _ _ (bind s _ _ (are.run s c (fresh_of c OnPoll) q e n) (λ a t. still t tt))
+          (either s (is_event Exit e) _ _ (bind s _ _ (are.run s c (fresh_of c OnExit) q e n) (λ a t. still t tt)) (still s tt))
+
+      resume_led : (s : State) (c : Code) (q : ℕ) (e : Event) → (q ≡ p → ⊥) → Leads PtState s (resume_of calls s c q e)
+      unfolding resume_of
+      resume_led s c q e n =
+          bind s _ _ (from s (with_fresh_body s q) _ (body_quiet p s q n) (are.run _ c _ q e n)) (λ a t. goes t _ _ (remainder_quiet p t q _ n))
+
+      own_led : (s : State) (q : ℕ) (e : Event) → (q ≡ p → ⊥) → Leads PtState s (own_of calls s q e)
+      unfolding own_of
+      own_led s q e n =
+          lead_option Keeps Whatever chain PtState Code s (slice_get s.program.codes q) (Goes Ended s) (λ c. handler_of calls s c q e >>= λ u t. resume_of calls t c q e) (still s Ended) (λ c. bind s _ _ (handler_led s c q e n) (λ u t. resume_led t c q e n))
+
+      -- callbacks, of which the process has none
+
+      abbrev Called_back : State → (q : ℕ) → Event → Option Code → Went
+      Called_back s q e c = elim c [ None ↦ Goes tt s | Some c ↦ calls.run s c (fresh_of c (Callback e.word)) q e >>= λ _ s1. Goes tt s1 ]
+
+      own_callback : (s : State) (e : Event) (c : Option Code) → slice_get s.program.codes p ≡ c → (standing_of p s).program ≡ program → IfGoes (λ t. IsQuiet p s t) (Called_back s p e c)
+      own_callback s e None is of_program = refl
+      own_callback s e (Some c) is of_program =
+          let same : c ≡ code = some_is c code (sym is ∙ code_there s of_program) in
+          to_goes (λ t. IsQuiet p s t) _ (gives_bind Answer (Unit {0}) (λ a t. IsQuiet p s t) (λ a t. IsQuiet p s t) (calls.run s c (fresh_of c (Callback e.word)) p e) _
+          (subst (λ c. IfGives (λ a t. IsQuiet p s t) (calls.run s c (fresh_of c (Callback e.word)) p e)) (sym same) (are.nothing s (Callback e.word) e (no_callback e.word))) (λ a t h. h))
+
+      other_callback : (s : State) (q : ℕ) (e : Event) (c : Option Code) → (q ≡ p → ⊥) → Leads (Unit {0}) s (Called_back s q e c)
+      other_callback s q e None n = still s tt
+      other_callback s q e (Some c) n = bind s _ _ (are.run s c _ q e n) (λ a t. still t tt)
+
+      code_led : (s : State) (q : ℕ) (e : Event) → (Own q ≡ Own p) ⊎ IsOther p (Own q) → (q ≡ p) ⊎ (q ≡ p → ⊥) → Leads (Unit {0}) s (Called_back s q e (slice_get s.program.codes q))
+      code_led s q e w (inl same) = subst (λ k. Leads (Unit {0}) s (Called_back s k e (slice_get s.program.codes k))) (sym same) (knowing s _ (own_callback s e _ refl))
+      code_led s q e w (inr n) = other_callback s q e _ n
+
+      callback_led : (s : State) (e : Event) → Leads (Unit {0}) s (callback_of calls s e)
+      unfolding callback_of
+      callback_led s e =
+          lead_option Keeps Whatever chain (Unit {0}) TimerOfProgram s (slice_get s.program.timers e.word) (Goes tt s) _ (still s tt) (λ t. code_led s t.process e (which p (Own t.process)) (is_equal t.process p))
+
+      ctimer_led : (s : State) (e : Event) → Leads (Unit {0}) s (ctimer_of calls s e)
+      unfolding ctimer_of
+      ctimer_led s e = either s (is_event Timer e && waits_for s e.word) _ _ (from s _ _ refl (callback_led _ e)) (still s tt)
+
+      react_led : (s : State) (q : Proc) (e : Event) → IsOther p q → Leads PtState s (react_of calls s q e)
+      unfolding react_of
+      react_led s (Own q) e n = own_led s q e (λ k. other_own p q n (sym k))
+      react_led s Etimer e n = bind s _ _ (etimer_led s e) (λ u t. still t Yielded)
+      react_led s Ctimer e n = bind s _ _ (ctimer_led s e) (λ u t. still t Yielded)
+      react_led s Radio e n = bind s _ _ (radio_led s e) (λ u t. still t Yielded)
+
+      last_run_led : (s : State) (q : Proc) → IsOther p q → Leads (Unit {0}) s (last_run_of calls s q)
+      unfolding last_run_of
+      last_run_led s q n = bind s _ _ (spends s) (λ u t. bind t _ _ (react_led t q _ n) (λ a v. still v tt))
+
+      other_exit : (s : State) (q f : Proc) → IsOther p q → Leads (Unit {0}) s (exit_of calls s q f)
+      unfolding exit_of
+      other_exit s q f n =
+          either s (is_listed s q) _ _ (bind s _ _ (from s _ _ (exiting_quiet p s q n) (walk_led (told Exited (number_of q)) q s.members _)) (λ a t.
+          bind t _ _ (either t (is_same q f) _ _ (still t tt) (last_run_led t q n)) (λ b u. quietly u _ (leave_quiet p u q n)))) (still s tt)
+
+      -- the process itself
+
+      handled : (s : State) (e : Event) → IfGives (λ u t. IsQuiet p s t) (handler_of calls s code p e)
+      unfolding handler_of
+      handled s e =
+          gives_if (λ u t. IsQuiet p s t) (is_event Poll e) _ _ (gives_bind Answer (Unit {0}) (λ a t. IsQuiet p s t) (λ a t. IsQuiet p s t) (calls.run s code (fresh_of code OnPoll) p e) _ (are.nothing s OnPoll e (ap statements_of alone.no_poll)) (λ a t h. h))
+          (gives_if (λ u t. IsQuiet p s t) (is_event Exit e) _ _ (gives_bind Answer (Unit {0}) (λ a t. IsQuiet p s t) (λ a t. IsQuiet p s t) (calls.run s code (fresh_of code OnExit) p e) _ (are.nothing s OnExit e (ap statements_of alone.no_exit)) (λ a t h. h)) refl)
+
+      resumed : (s : State) (r : Remainder) (vars : List ℕ) (e : Event) → IsAway program (standing_of p s) → (standing_of p s).vars ≡ Some vars → (standing_of p s).rest ≡ Some r → ComesHere program p code (standing_of p s).told r vars
+          → IfGives (λ a t. Reacted (standing_of p s) a (standing_of p t)) (resume_of calls s code p e)
+      unfolding resume_of put_remainder
+      resumed s r vars e away has rest here =
+          let s1 = with_fresh_body s p in
+          let same1 : standing_of p s1 ≡ record (standing_of p s) { rest = Some (fresh_of code Body) } = body_stands p s code r (code_there s away.of_program) rest in
+          let away1 : IsAway program (standing_of p s1) = record { of_program = away.of_program; not_running = away.not_running; busy = away.busy } in
+          gives_bind Answer PtState (RanFrom program p code (standing_of p s1)) (λ a t. Reacted (standing_of p s) a (standing_of p t)) (calls.run s1 code (remainder_at s code p) p e) _
+          (subst (λ x. IfGives (RanFrom program p code (standing_of p s1)) (calls.run s1 code x p e)) (ap (λ o. unwrap_or o r) (sym rest) ∙ unwrapped (slice_get s.remainders p) r (fresh_of code Body) rest) (are.body s1 r vars e away1 has here))
+          (λ a t ran. record {
+            left = ran.left;
+            next = a.1;
+            same = put_stands p t a.1 (fresh_of code Body) (ap (λ v. v.rest) ran.same ∙ ap (λ v. v.rest) same1) ∙ ap {A = Standing} (λ v. record v { rest = Some a.1 }) ran.same ∙ ap {A = Standing} (λ v. record v { rest = Some a.1; vars = Some ran.left; told = (standing_of p t).told }) same1;
+            lived = ran.lived;
+            comes = ran.comes;
+          })
+        where
+          unwrapped : (o : Option Remainder) (r d : Remainder) → o ≡ Some r → unwrap_or o r ≡ unwrap_or o d
+          unwrapped o r d e = ap (λ x. unwrap_or x r) e ∙ sym (ap (λ x. unwrap_or x d) e)
