@@ -336,14 +336,14 @@ module _ (program : Tree) (p : ℕ) (code : Code) where
       other_callback s q e None n = still s tt
       other_callback s q e (Some c) n = bind s _ _ (are.run s c _ q e n) (λ a t. still t tt)
 
-      code_led : (s : State) (q : ℕ) (e : Event) → (Own q ≡ Own p) ⊎ IsOther p (Own q) → (q ≡ p) ⊎ (q ≡ p → ⊥) → Leads (Unit {0}) s (Called_back s q e (slice_get s.program.codes q))
-      code_led s q e w (inl same) = subst (λ k. Leads (Unit {0}) s (Called_back s k e (slice_get s.program.codes k))) (sym same) (knowing s _ (own_callback s e _ refl))
-      code_led s q e w (inr n) = other_callback s q e _ n
+      code_led : (s : State) (q : ℕ) (e : Event) → (q ≡ p) ⊎ (q ≡ p → ⊥) → Leads (Unit {0}) s (Called_back s q e (slice_get s.program.codes q))
+      code_led s q e (inl same) = subst (λ k. Leads (Unit {0}) s (Called_back s k e (slice_get s.program.codes k))) (sym same) (knowing s _ (own_callback s e _ refl))
+      code_led s q e (inr n) = other_callback s q e _ n
 
       callback_led : (s : State) (e : Event) → Leads (Unit {0}) s (callback_of calls s e)
       unfolding callback_of
       callback_led s e =
-          lead_option Keeps Whatever chain (Unit {0}) TimerOfProgram s (slice_get s.program.timers e.word) (Goes tt s) _ (still s tt) (λ t. code_led s t.process e (which p (Own t.process)) (is_equal t.process p))
+          lead_option Keeps Whatever chain (Unit {0}) TimerOfProgram s (slice_get s.program.timers e.word) (Goes tt s) _ (still s tt) (λ t. code_led s t.process e (is_equal t.process p))
 
       ctimer_led : (s : State) (e : Event) → Leads (Unit {0}) s (ctimer_of calls s e)
       unfolding ctimer_of
@@ -382,7 +382,7 @@ module _ (program : Tree) (p : ℕ) (code : Code) where
           let same1 : standing_of p s1 ≡ record (standing_of p s) { rest = Some (fresh_of code Body) } = body_stands p s code r (code_there s away.of_program) rest in
           let away1 : IsAway program (standing_of p s1) = record { of_program = away.of_program; not_running = away.not_running; busy = away.busy } in
           gives_bind Answer PtState (RanFrom program p code (standing_of p s1)) (λ a t. Reacted (standing_of p s) a (standing_of p t)) (calls.run s1 code (remainder_at s code p) p e) _
-          (subst (λ x. IfGives (RanFrom program p code (standing_of p s1)) (calls.run s1 code x p e)) (ap (λ o. unwrap_or o r) (sym rest) ∙ unwrapped (slice_get s.remainders p) r (fresh_of code Body) rest) (are.body s1 r vars e away1 has here))
+          (subst (λ x. IfGives (RanFrom program p code (standing_of p s1)) (calls.run s1 code x p e)) (ap (λ o. unwrap_or o (fresh_of code Body)) (sym rest)) (are.body s1 r vars e away1 has here))
           (λ a t ran. record {
             left = ran.left;
             next = a.1;
@@ -390,6 +390,123 @@ module _ (program : Tree) (p : ℕ) (code : Code) where
             lived = ran.lived;
             comes = ran.comes;
           })
+
+      reacts : (s : State) (r : Remainder) (vars : List ℕ) (e : Event) → IsAway program (standing_of p s) → (standing_of p s).vars ≡ Some vars → (standing_of p s).rest ≡ Some r → ComesHere program p code (standing_of p s).told r vars
+          → IfGives (λ a t. Reacted (standing_of p s) a (standing_of p t)) (react_of calls s (Own p) e)
+      unfolding react_of own_of
+      reacts s r vars e away has rest here =
+          subst (λ o. IfGives (λ a t. Reacted (standing_of p s) a (standing_of p t)) (elim o [ None ↦ Goes Ended s | Some c ↦ handler_of calls s c p e >>= λ _ s1. resume_of calls s1 c p e ])) (sym (code_there s away.of_program))
+          (gives_bind (Unit {0}) PtState (λ u t. IsQuiet p s t) (λ a t. Reacted (standing_of p s) a (standing_of p t)) (handler_of calls s code p e) _ (handled s e) (λ u t same.
+          subst (λ v. IfGives (λ a w. Reacted v a (standing_of p w)) (resume_of calls t code p e)) same
+          (resumed t r vars e (subst (λ v. IsAway program v) (sym same) away) (ap (λ v. v.vars) same ∙ has) (ap (λ v. v.rest) same ∙ rest) (subst (λ v. ComesHere program p code v.told r vars) (sym same) here))))
+
+      -- it leaves
+
+      gone : (s : State) → IsGone (standing_of p s) → IfGoes (λ t. Stands (standing_of p t)) (leave_of s (Own p))
+      gone s h = to_goes (λ t. Stands (standing_of p t)) (leave_of s (Own p)) (gives_weaker (Unit {0}) (λ a t. At (record (standing_of p s) { exiting = false; listed = false }) t) (λ a t. Stands (standing_of p t)) (leave_of s (Own p)) (from_goes (Unit {0}) _ (leave_of s (Own p)) (leave_stands p s h.room)) (λ a t same.
+          subst Stands (sym same) (record {
+            of_program = h.of_program;
+            room = h.room;
+            free = refl;
+            still = h.now;
+            rest = h.rest;
+            left = h.left;
+            vars = h.vars;
+            lived = h.lived;
+            where_it_is = inl (record { state = h.state; listed = refl });
+          })))
+
+      -- while it is being exited
+      abbrev On_its_way : Standing → Standing
+      On_its_way v = record v { state = Off; exiting = true }
+
+      way_is_away : (v : Standing) → v.program ≡ program → IsAway program (On_its_way v)
+      way_is_away v e = record { of_program = e; not_running = refl; busy = refl }
+
+      walked : (s : State) (b : Bool) (e : Event) (ms : List Member) → IsLeaving (standing_of p s) b → IfGoes (λ t. At (On_its_way (standing_of p s)) t) (walk_of calls e (Own p) ms (exiting_of s (Own p)))
+      walked s b e ms h =
+          let same = exiting_stands p s h.has h.room in
+          subst (λ v. IfGoes (λ t. At v t) (walk_of calls e (Own p) ms (exiting_of s (Own p)))) same
+          (lead_away (exiting_of s (Own p)) _ (walk_led e (Own p) ms (exiting_of s (Own p))) (subst (λ v. IsAway program v) (sym same) (way_is_away (standing_of p s) h.of_program)))
+
+      last_gone : (v : Standing) (a : PtState) (w : Standing) → v.program ≡ program → v.room ≡ true → v.state ≡ Off → Reacted v a w → IsGone w
+      last_gone v a w of_program room state r = record {
+        of_program = ap (λ x. x.program) r.same ∙ of_program;
+        room = ap (λ x. x.room) r.same ∙ room;
+        state = ap (λ x. x.state) r.same ∙ state;
+        now = r.next;
+        rest = ap (λ x. x.rest) r.same;
+        left = r.left;
+        vars = ap (λ x. x.vars) r.same;
+        lived = r.lived;
+      }
+
+      last_runs : (s t : State) → IsLeaving (standing_of p s) false → At (On_its_way (standing_of p s)) t → IfGoes (λ u. IsGone (standing_of p u)) (last_run_of calls t (Own p))
+      unfolding last_run_of
+      last_runs s t h same =
+          goes_bind (Unit {0}) (Unit {0}) (λ u. At (On_its_way (standing_of p s)) u) (λ u. IsGone (standing_of p u)) (spend_of t) _ (subst (λ v. IfGoes (λ u. At v u) (spend_of t)) same (spend_quiet t)) (λ a u there.
+          to_goes (λ w. IsGone (standing_of p w)) _ (gives_bind PtState (Unit {0}) (λ a w. Reacted (standing_of p u) a (standing_of p w)) (λ a w. IsGone (standing_of p w)) (react_of calls u (Own p) (told Exit 0)) _
+          (reacts u h.now h.left (told Exit 0) (subst (λ v. IsAway program v) (sym there) (way_is_away (standing_of p s) h.of_program)) (ap (λ v. v.vars) there ∙ h.vars) (ap (λ v. v.rest) there ∙ h.rest) (subst (λ v. ComesHere program p code v.told h.now h.left) (sym there) (h.comes refl)))
+          (λ a w r. last_gone (standing_of p u) a (standing_of p w) (ap (λ v. v.program) there ∙ h.of_program) (ap (λ v. v.room) there ∙ h.room) (ap (λ v. v.state) there) r)))
+
+      last : (s t : State) (b : Bool) → IsLeaving (standing_of p s) b → At (On_its_way (standing_of p s)) t → IfGoes (λ u. IsGone (standing_of p u)) (if b then Goes tt t else last_run_of calls t (Own p))
+      last s t true h same = subst (λ v. IsGone v) (sym same) (record { of_program = h.of_program; room = h.room; state = refl; now = h.now; rest = h.rest; left = h.left; vars = h.vars; lived = h.lived })
+      last s t false h same = last_runs s t h same
+
+      exits : (s : State) (f : Proc) → IsLeaving (standing_of p s) (is_same (Own p) f) → IfGoes (λ t. Stands (standing_of p t)) (exit_of calls s (Own p) f)
+      unfolding exit_of
+      exits s f h =
+          subst (λ b. IfGoes (λ t. Stands (standing_of p t)) (if b then (walk_of calls (told Exited (number_of (Own p))) (Own p) s.members (exiting_of s (Own p)) >>= λ _ s1. (if is_same (Own p) f then Goes tt s1 else last_run_of calls s1 (Own p)) >>= λ _ s2. leave_of s2 (Own p)) else Goes tt s)) (sym h.listed)
+          (goes_bind (Unit {0}) (Unit {0}) (λ t. At (On_its_way (standing_of p s)) t) (λ t. Stands (standing_of p t)) (walk_of calls (told Exited (number_of (Own p))) (Own p) s.members (exiting_of s (Own p))) _ (walked s _ _ s.members h) (λ a t same.
+          goes_bind (Unit {0}) (Unit {0}) (λ u. IsGone (standing_of p u)) (λ u. Stands (standing_of p u)) (if is_same (Own p) f then Goes tt t else last_run_of calls t (Own p)) _ (last s t (is_same (Own p) f) h same) (λ b u g. gone u g)))
+
+      -- it is called
+
+      answers_so : (s : State) (v : Standing) (a : PtState) (exit : Bool) → IsReady v → Reacted (record v { state = Called }) a (standing_of p s) → IfGoes (λ t. Stands (standing_of p t)) (answered calls s (Own p) (has_ended a || exit))
+      unfolding answered
+      answers_so s v a exit h r = by (has_ended a || exit) refl
         where
-          unwrapped : (o : Option Remainder) (r d : Remainder) → o ≡ Some r → unwrap_or o r ≡ unwrap_or o d
-          unwrapped o r d e = ap (λ x. unwrap_or x r) e ∙ sym (ap (λ x. unwrap_or x d) e)
+          not_ended : (b c : Bool) → (b || c) ≡ false → b ≡ false
+          not_ended true c e = e
+          not_ended false c e = refl
+
+          by : (b : Bool) → (has_ended a || exit) ≡ b → IfGoes (λ t. Stands (standing_of p t)) (if b then exit_of calls s (Own p) (Own p) else Goes tt (with_state s (Own p) Running))
+          by true e = exits s (Own p) (record {
+            of_program = ap (λ x. x.program) r.same ∙ h.of_program;
+            has = ap (λ x. x.has) r.same ∙ h.is_in.has;
+            room = ap (λ x. x.room) r.same ∙ h.room;
+            listed = ap (λ x. x.listed) r.same ∙ h.is_in.listed;
+            now = r.next;
+            rest = ap (λ x. x.rest) r.same;
+            left = r.left;
+            vars = ap (λ x. x.vars) r.same;
+            lived = r.lived;
+            comes = λ q. absurd (let f : true ≡ false = sym (alike (place_of (Own p))) ∙ q in cc);
+          })
+          by false e =
+              let has : (standing_of p s).has ≡ true = ap (λ x. x.has) r.same ∙ h.is_in.has in
+              subst (λ x. Stands x) (sym (state_stands p s Running has)) (record {
+                of_program = ap (λ x. x.program) r.same ∙ h.of_program;
+                room = ap (λ x. x.room) r.same ∙ h.room;
+                free = ap (λ x. x.exiting) r.same ∙ h.free;
+                still = r.next;
+                rest = ap (λ x. x.rest) r.same;
+                left = r.left;
+                vars = ap (λ x. x.vars) r.same;
+                lived = r.lived;
+                where_it_is = inr (record { has = has; state = refl; listed = ap (λ x. x.listed) r.same ∙ h.is_in.listed; comes = r.comes (not_ended (has_ended a) exit e) });
+              })
+
+      is_called : (s : State) (e : Event) → IsReady (standing_of p s) → IfGoes (λ t. Stands (standing_of p t)) (call_of calls s (Own p) e)
+      unfolding call_of
+      is_called s e h =
+          let runs : is_running s (Own p) ≡ true = ap is_running_state h.is_in.state in
+          subst (λ b. IfGoes (λ t. Stands (standing_of p t)) (if b then (spend_of s >>= λ _ s1. react_of calls (with_state s1 (Own p) Called) (Own p) e >>= λ answer s2. answered calls s2 (Own p) (has_ended answer || is_event Exit e)) else Goes tt s)) (sym runs)
+          (goes_bind (Unit {0}) (Unit {0}) (λ t. IsQuiet p s t) (λ t. Stands (standing_of p t)) (spend_of s) _ (spend_quiet s) (λ u t same.
+          let s2 = with_state t (Own p) Called in
+          let same2 : standing_of p s2 ≡ record (standing_of p s) { state = Called } = state_stands p t Called (ap (λ v. v.has) same ∙ h.is_in.has) ∙ ap {A = Standing} (λ v. record v { state = Called }) same in
+          let away : IsAway program (standing_of p s2) = subst (λ v. IsAway program v) (sym same2) (record { of_program = h.of_program; not_running = refl; busy = refl }) in
+          to_goes (λ w. Stands (standing_of p w)) _ (gives_bind PtState (Unit {0}) (λ a w. Reacted (record (standing_of p s) { state = Called }) a (standing_of p w)) (λ a w. Stands (standing_of p w)) (react_of calls s2 (Own p) e) _
+          (subst (λ v. IfGives (λ a w. Reacted v a (standing_of p w)) (react_of calls s2 (Own p) e)) same2
+          (reacts s2 h.still h.left e away (ap (λ v. v.vars) same2 ∙ h.vars) (ap (λ v. v.rest) same2 ∙ h.rest) (subst (λ v. ComesHere program p code v.told h.still h.left) (sym same2) h.is_in.comes)))
+          (λ a w r. from_goes (Unit {0}) (λ t. Stands (standing_of p t)) _ (answers_so w (standing_of p s) a (is_event Exit e) h r)))))
