@@ -510,3 +510,190 @@ module _ (program : Tree) (p : ℕ) (code : Code) where
           (subst (λ v. IfGives (λ a w. Reacted v a (standing_of p w)) (react_of calls s2 (Own p) e)) same2
           (reacts s2 h.still h.left e away (ap (λ v. v.vars) same2 ∙ h.vars) (ap (λ v. v.rest) same2 ∙ h.rest) (subst (λ v. ComesHere program p code v.told h.still h.left) (sym same2) h.is_in.comes)))
           (λ a w r. from_goes (Unit {0}) (λ t. Stands (standing_of p t)) _ (answers_so w (standing_of p s) a (is_event Exit e) h r)))))
+
+      -- starts and kills
+
+      ready_first : (v w : Standing) (h : Stands v) → v.has ≡ true → w ≡ record v { state = Running; listed = true; rest = Some (fresh_of code Body); told = v.told ++ what.Start (Own p) ∷ [] } → IsReady w
+      ready_first v w h has same = subst (λ x. IsReady x) (sym same) (record {
+        of_program = h.of_program;
+        room = h.room;
+        free = h.free;
+        still = fresh_of code Body;
+        rest = refl;
+        left = h.left;
+        vars = h.vars;
+        is_in = record {
+          has = has;
+          state = refl;
+          listed = refl;
+          comes = record { before = v.told; start = h.left; lived = h.lived; did = []; answer = 0; comes = at_first code h.left 0; is_told = refl };
+        };
+      })
+
+      starts_up : (s : State) → Stands (standing_of p s) → has_process s (Own p) ≡ true → IfGoes (λ t. Stands (standing_of p t)) (enlist_of s (Own p) >>= λ _ s1. calls.call s1 (Own p) (told Init 0))
+      starts_up s h has =
+          goes_bind (Unit {0}) (Unit {0}) (λ t. IsReady (standing_of p t)) (λ t. Stands (standing_of p t)) (enlist_of s (Own p)) _
+          (to_goes (λ t. IsReady (standing_of p t)) (enlist_of s (Own p)) (gives_weaker (Unit {0}) _ (λ a t. IsReady (standing_of p t)) (enlist_of s (Own p)) (from_goes (Unit {0}) _ (enlist_of s (Own p)) (enlist_stands p s code h.still (code_there s h.of_program) has h.rest)) (λ a t same. ready_first (standing_of p s) (standing_of p t) h has same)))
+          (λ a t ready. are.ready t (told Init 0) ready)
+
+      own_start_if : (s : State) (b : Bool) → Stands (standing_of p s) → (has_process s (Own p) && not (is_listed s (Own p))) ≡ b
+          → IfGoes (λ t. Stands (standing_of p t)) (if b then (enlist_of s (Own p) >>= λ _ s1. calls.call s1 (Own p) (told Init 0)) else Goes tt s)
+      own_start_if s true h e = starts_up s h (has (has_process s (Own p)) _ e)
+        where
+          has : (b c : Bool) → (b && c) ≡ true → b ≡ true
+          has true c e = refl
+          has false c e = absurd (cc)
+      own_start_if s false h e = h
+
+      busy_away : (s : State) → IsAway program (standing_of p s) → is_busy s (Own p) ≡ false → ⊥
+      busy_away s a e = let f : true ≡ false = sym a.busy ∙ e in cc
+
+      own_start : (s : State) → Leads (Unit {0}) s (start_of calls s (Own p))
+      unfolding start_of
+      own_start s = by (is_busy s (Own p)) refl
+        where
+          by : (b : Bool) → is_busy s (Own p) ≡ b → Leads (Unit {0}) s (if b then write_of s (what.Busy (Own p)) else (if has_process s (Own p) && not (is_listed s (Own p)) then (enlist_of s (Own p) >>= λ _ s1. calls.call s1 (Own p) (told Init 0)) else Goes tt s))
+          by true e = writes s _ (line_quiet p s (what.Busy (Own p)) refl)
+          by false e = lead_of s _ (λ a. absurd (busy_away s a e)) (λ h. own_start_if s _ h refl)
+
+      unlisted_exit : (s : State) (f : Proc) → Stands (standing_of p s) → is_listed s (Own p) ≡ false → IfGoes (λ t. Stands (standing_of p t)) (exit_of calls s (Own p) f)
+      unfolding exit_of
+      unlisted_exit s f h e = rw e h
+
+      own_exit : (s : State) (f : Proc) → Stands (standing_of p s) → IfGoes (λ t. Stands (standing_of p t)) (exit_of calls s (Own p) f)
+      own_exit s f h = by h.where_it_is
+        where
+          by : IsOut (standing_of p s) ⊎ IsIn (standing_of p s) h.still h.left → IfGoes (λ t. Stands (standing_of p t)) (exit_of calls s (Own p) f)
+          by (inl out) = unlisted_exit s f h out.listed
+          by (inr is_in) = exits s f (record {
+            of_program = h.of_program;
+            has = is_in.has;
+            room = h.room;
+            listed = is_in.listed;
+            now = h.still;
+            rest = h.rest;
+            left = h.left;
+            vars = h.vars;
+            lived = h.lived;
+            comes = λ q. is_in.comes;
+          })
+
+      own_kill : (s : State) (current : ℕ) → Leads (Unit {0}) s (kill_of calls s (Own p) current)
+      unfolding kill_of
+      own_kill s current = by (is_busy s (Own p)) refl
+        where
+          by : (b : Bool) → is_busy s (Own p) ≡ b → Leads (Unit {0}) s (if b then write_of s (what.Busy (Own p)) else exit_of calls s (Own p) (Own current))
+          by true e = writes s _ (line_quiet p s (what.Busy (Own p)) refl)
+          by false e = lead_of s _ (λ a. absurd (busy_away s a e)) (λ h. own_exit s (Own current) h)
+
+      other_start : (s : State) (q : Proc) → IsOther p q → Leads (Unit {0}) s (start_of calls s q)
+      unfolding start_of
+      other_start s q n =
+          either s (is_busy s q) _ _ (writes s _ (line_quiet p s (what.Busy q) refl)) (either s (has_process s q && not (is_listed s q)) _ _ (bind s _ _ (quietly s _ (enlist_quiet p s q n)) (λ a t. are.call t q _)) (still s tt))
+
+      other_kill : (s : State) (q : Proc) (current : ℕ) → IsOther p q → Leads (Unit {0}) s (kill_of calls s q current)
+      unfolding kill_of
+      other_kill s q current n = either s (is_busy s q) _ _ (writes s _ (line_quiet p s (what.Busy q) refl)) (other_exit s q (Own current) n)
+
+      pub start_led : (s : State) (q : Proc) → Leads (Unit {0}) s (start_of calls s q)
+      start_led s q = by (which p q)
+        where
+          by : (q ≡ Own p) ⊎ IsOther p q → Leads (Unit {0}) s (start_of calls s q)
+          by (inl e) = subst (λ k. Leads (Unit {0}) s (start_of calls s k)) (sym e) (own_start s)
+          by (inr n) = other_start s q n
+
+      kill_led : (s : State) (q : Proc) (current : ℕ) → Leads (Unit {0}) s (kill_of calls s q current)
+      kill_led s q current = by (which p q)
+        where
+          by : (q ≡ Own p) ⊎ IsOther p q → Leads (Unit {0}) s (kill_of calls s q current)
+          by (inl e) = subst (λ k. Leads (Unit {0}) s (kill_of calls s k current)) (sym e) (own_kill s current)
+          by (inr n) = other_kill s q current n
+
+      -- operations, but for prints
+
+      act_led : (s : State) (current : ℕ) (o : Op) → IsNoPrint o → Leads (Unit {0}) s (act_of calls s current o)
+      unfolding act_of
+      act_led s current (op.Post t e w) f = still s tt
+      act_led s current (op.Synch q e w) f = are.call s q _
+      act_led s current (op.Poll q) f = goes s tt _ (poll_quiet p s q)
+      act_led s current (op.Start q) f = start_led s q
+      act_led s current (op.Kill q) f = kill_led s q current
+      act_led s current (op.Set t n) f = goes s tt _ (set_quiet s t n current)
+      act_led s current (op.Reset t) f = goes s tt _ (reset_quiet s t current)
+      act_led s current (op.RestartTimer t) f = goes s tt _ (restart_quiet s t current)
+      act_led s current (op.Stop t) f = goes s tt _ (stop_quiet s t)
+      act_led s current (op.Send v) f = quietly s _ (send_quiet p s v)
+      act_led s current (op.Print v) f = absurd f
+      act_led s current (op.Take k) f = goes s tt _ (take_quiet s k)
+      act_led s current (op.Signal k) f = goes s tt _ (signal_quiet s k)
+
+      print_led : (s : State) (q v : ℕ) → (q ≡ p → ⊥) → Leads (Unit {0}) s (act_of calls s q (op.Print v))
+      unfolding act_of
+      print_led s q v n = writes s _ (print_quiet p s q v n)
+
+      perform_led : (s : State) (r : Remainder) (q : ℕ) (o : Op) → (q ≡ p → ⊥) → Leads Remainder s (perform_of calls s r q o)
+      unfolding perform_of
+      perform_led s r q (op.Post to e w) n = bind s _ _ (quietly s _ (post_quiet p s to _)) (λ full t. answers t r q full n)
+      perform_led s r q (op.Print v) n = bind s _ _ (print_led s q v n) (λ a t. still t r)
+      perform_led s r q o n = bind s _ _ (act_led s q o tt) (λ a t. still t r)
+
+      step_led : (c : Code) (q : ℕ) (e : Event) (x : Step) (r : Remainder) (s : State) → (q ≡ p → ⊥) → Leads Answer s (after_step calls c q e x r s)
+      step_led c q e (step.Op o) r s n = bind s _ _ (perform_led s r q o n) (λ r1 t. are.run t c r1 q e n)
+      step_led c q e (step.Done a) r s n = still s _
+      step_led c q e step.Runaway r s n = ends s _
+
+      run_led : (s : State) (c : Code) (r : Remainder) (q : ℕ) (e : Event) → (q ≡ p → ⊥) → Leads Answer s (run_of calls s c r q e)
+      unfolding run_of stepped_of
+      run_led s c r q e n = from s _ _ (stepped_as _ s c r q e n) (step_led c q e _ _ _ n)
+
+      body_runs : (s : State) (r : Remainder) (vars : List ℕ) (e : Event) → IsAway program (standing_of p s) → (standing_of p s).vars ≡ Some vars → ComesHere program p code (standing_of p s).told r vars
+          → IfGives (RanFrom program p code (standing_of p s)) (run_of calls s code r p e)
+      body_runs s r vars e away has here =
+          runs_on program p code calls s r vars e away has here are.body (λ t o f a. lead_away t _ (act_led t p o f) a)
+
+      -- a call
+
+      other_answered : (s : State) (q : Proc) (b : Bool) → IsOther p q → Leads (Unit {0}) s (answered calls s q b)
+      unfolding answered
+      other_answered s q true n = other_exit s q q n
+      other_answered s q false n = goes s tt _ (state_quiet p s q Running n)
+
+      other_called : (s : State) (q : Proc) (e : Event) → IsOther p q → Leads (Unit {0}) s (call_of calls s q e)
+      unfolding call_of
+      other_called s q e n =
+          either s (is_running s q) _ _ (bind s _ _ (spends s) (λ a t. from t _ _ (state_quiet p t q Called n) (bind _ _ _ (react_led _ q e n) (λ answer u. other_answered u q _ n)))) (still s tt)
+
+      lost : (s : State) (e : Event) → is_running s (Own p) ≡ false → call_of calls s (Own p) e ≡ Goes tt s
+      unfolding call_of
+      lost s e r = rw r refl
+
+      own_called : (s : State) (e : Event) → Leads (Unit {0}) s (call_of calls s (Own p) e)
+      own_called s e = lead_of s _ (λ a. subst (λ o. IfGoes (λ t. IsQuiet p s t) o) (sym (lost s e a.not_running)) refl) (λ h. by h h.where_it_is)
+        where
+          by : (h : Stands (standing_of p s)) → IsOut (standing_of p s) ⊎ IsIn (standing_of p s) h.still h.left → IfGoes (λ t. Stands (standing_of p t)) (call_of calls s (Own p) e)
+          by h (inl out) = subst (λ o. IfGoes (λ t. Stands (standing_of p t)) o) (sym (lost s e (ap is_running_state out.state))) h
+          by h (inr is_in) = is_called s e (record { of_program = h.of_program; room = h.room; free = h.free; still = h.still; rest = h.rest; left = h.left; vars = h.vars; is_in = is_in })
+
+      call_led : (s : State) (q : Proc) (e : Event) → Leads (Unit {0}) s (call_of calls s q e)
+      call_led s q e = by (which p q)
+        where
+          by : (q ≡ Own p) ⊎ IsOther p q → Leads (Unit {0}) s (call_of calls s q e)
+          by (inl i) = subst (λ k. Leads (Unit {0}) s (call_of calls s k e)) (sym i) (own_called s e)
+          by (inr n) = other_called s q e n
+
+    pub calls_told : (k : ℕ) → AreTold (calls_of k)
+    unfolding calls_of
+    calls_told zero = record {
+      call = λ s q e. ends s _;
+      ready = λ s e h. tt;
+      run = λ s c r q e n. ends s _;
+      body = λ s r vars e away has here. tt;
+      nothing = λ s part e none. tt;
+    }
+    calls_told (suc k) = record {
+      call = call_led (calls_of k) (calls_told k);
+      ready = is_called (calls_of k) (calls_told k);
+      run = run_led (calls_of k) (calls_told k);
+      body = body_runs (calls_of k) (calls_told k);
+      nothing = λ s part e none. empty_runs p (calls_of k) s code part e none;
+    }
