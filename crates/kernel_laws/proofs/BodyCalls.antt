@@ -1,5 +1,5 @@
 -- Each call keeps that what is told of a process are its lives, however deep calls nest.
-use Rattle.std.proofs.Common.{ℕ, zero, suc, ◌≡◌, ◌⊎◌, inl, inr, not, ◌&&◌, ◌||◌, ◌==◌, nat_lt, Bool, true, false, if◌then◌else◌, List, [], ◌∷◌, ◌++◌, Option, Some, None, slice_get, unwrap_or, refl, sym, ap, ◌∙◌, subst, arith, append-nil}
+use Rattle.std.proofs.Common.{ℕ, zero, suc, ◌≡◌, ◌⊎◌, inl, inr, not, ◌&&◌, ◌||◌, ◌==◌, nat_lt, Bool, true, false, if◌then◌else◌, List, [], ◌∷◌, ◌++◌, Option, Some, None, slice_get, unwrap_or, refl, sym, ap, ◌∙◌, subst, arith, append_assoc}
 use Rattle.std.proofs.lemmas.Bool.Decides.{nat_tests}
 use Rattle.mote_program.specs.declared.event.Proc.{Proc}
 use Rattle.mote_program.specs.declared.event.Proc.TheVariants.{Own, Etimer, Ctimer, Radio}
@@ -53,13 +53,14 @@ use Rattle.kernel_laws.proofs.Standing.{Standing, standing_of, IsOther, IsQuiet,
 use Rattle.kernel_laws.proofs.OwnSteps.{alike, empty_runs, state_stands, exiting_stands, leave_stands, body_stands, put_stands, enlist_stands}
 use Rattle.kernel_laws.proofs.BodyRuns.{IfGives, gives_bind, gives_weaker, from_goes, IsAway, ComesHere, HasLived, Ran, RanFrom, BodyRuns, IsNoPrint, runs_on}
 
-module _ (program : Tree) (p : ℕ) (code : Code) where
+-- behind what was told of the process earlier
+module _ (program : Tree) (p : ℕ) (code : Code) (earlier : List What) where
   -- on the process list, in a life that came to here; or off it
   pub record IsIn (v : Standing) (r : Remainder) (vars : List ℕ) : Type 0 where
     pub has : v.has ≡ true
     pub state : v.state ≡ Running
     pub listed : v.listed ≡ true
-    pub comes : ComesHere program p code v.told r vars
+    pub comes : ComesHere program p code earlier v.told r vars
 
   pub record IsOut (v : Standing) : Type 0 where
     pub state : v.state ≡ Off
@@ -68,19 +69,19 @@ module _ (program : Tree) (p : ℕ) (code : Code) where
   -- The process is at rest, and what was told of it are its lives.
   pub record Stands (v : Standing) : Type 0 where
     pub of_program : v.program ≡ program
-    pub room : v.room ≡ true
+    pub tables : v.room ≡ v.has
     pub free : v.exiting ≡ false
     pub still : Remainder
     pub rest : v.rest ≡ Some still
     pub left : List ℕ
     pub vars : v.vars ≡ Some left
-    pub lived : HasLived program p code v.told left
+    pub lived : HasLived program p code earlier v.told left
     pub where_it_is : IsOut v ⊎ IsIn v still left
 
   -- It can be called: it is at rest, or has just started.
   pub record IsReady (v : Standing) : Type 0 where
     pub of_program : v.program ≡ program
-    pub room : v.room ≡ true
+    pub tables : v.room ≡ v.has
     pub free : v.exiting ≡ false
     pub still : Remainder
     pub rest : v.rest ≡ Some still
@@ -234,7 +235,7 @@ module _ (program : Tree) (p : ℕ) (code : Code) where
     pub call : (s : State) (q : Proc) (e : Event) → Leads (Unit {0}) s (calls.call s q e)
     pub ready : (s : State) (e : Event) → IsReady (standing_of p s) → IfGoes (λ t. Stands (standing_of p t)) (calls.call s (Own p) e)
     pub run : (s : State) (c : Code) (r : Remainder) (q : ℕ) (e : Event) → (q ≡ p → ⊥) → Leads Answer s (calls.run s c r q e)
-    pub body : BodyRuns program p code calls
+    pub body : BodyRuns program p code earlier calls
     pub nothing : (s : State) (part : Part) (e : Event) → whole_of code part ≡ [] → IfGives (λ a t. IsQuiet p s t) (calls.run s code (fresh_of code part) p e)
 
   -- the body has run, or what runs before it alone
@@ -242,8 +243,8 @@ module _ (program : Tree) (p : ℕ) (code : Code) where
     left : List ℕ
     next : Remainder
     same : w ≡ record v { rest = Some next; vars = Some left; told = w.told }
-    lived : HasLived program p code w.told left
-    comes : has_ended a ≡ false → ComesHere program p code w.told next left
+    lived : HasLived program p code earlier w.told left
+    comes : has_ended a ≡ false → ComesHere program p code earlier w.told next left
 
   -- it is about to leave the list, which it may do by itself, without a last run
   record IsLeaving (v : Standing) (by_itself : Bool) : Type 0 where
@@ -255,18 +256,19 @@ module _ (program : Tree) (p : ℕ) (code : Code) where
     rest : v.rest ≡ Some now
     left : List ℕ
     vars : v.vars ≡ Some left
-    lived : HasLived program p code v.told left
-    comes : by_itself ≡ false → ComesHere program p code v.told now left
+    lived : HasLived program p code earlier v.told left
+    comes : by_itself ≡ false → ComesHere program p code earlier v.told now left
 
   record IsGone (v : Standing) : Type 0 where
     of_program : v.program ≡ program
+    has : v.has ≡ true
     room : v.room ≡ true
     state : v.state ≡ Off
     now : Remainder
     rest : v.rest ≡ Some now
     left : List ℕ
     vars : v.vars ≡ Some left
-    lived : HasLived program p code v.told left
+    lived : HasLived program p code earlier v.told left
 
   some_is : {X : Type 0} (x y : X) → Some x ≡ Some y → x ≡ y
   some_is x y e = ap (λ o. unwrap_or o x) e
@@ -374,15 +376,15 @@ module _ (program : Tree) (p : ℕ) (code : Code) where
           gives_if (λ u t. IsQuiet p s t) (is_event Poll e) _ _ (gives_bind Answer (Unit {0}) (λ a t. IsQuiet p s t) (λ a t. IsQuiet p s t) (calls.run s code (fresh_of code OnPoll) p e) _ (are.nothing s OnPoll e (ap statements_of alone.no_poll)) (λ a t h. h))
           (gives_if (λ u t. IsQuiet p s t) (is_event Exit e) _ _ (gives_bind Answer (Unit {0}) (λ a t. IsQuiet p s t) (λ a t. IsQuiet p s t) (calls.run s code (fresh_of code OnExit) p e) _ (are.nothing s OnExit e (ap statements_of alone.no_exit)) (λ a t h. h)) refl)
 
-      resumed : (s : State) (r : Remainder) (vars : List ℕ) (e : Event) → IsAway program (standing_of p s) → (standing_of p s).vars ≡ Some vars → (standing_of p s).rest ≡ Some r → ComesHere program p code (standing_of p s).told r vars
+      resumed : (s : State) (r : Remainder) (vars : List ℕ) (e : Event) → IsAway program (standing_of p s) → (standing_of p s).vars ≡ Some vars → (standing_of p s).rest ≡ Some r → ComesHere program p code earlier (standing_of p s).told r vars
           → IfGives (λ a t. Reacted (standing_of p s) a (standing_of p t)) (resume_of calls s code p e)
       unfolding resume_of put_remainder
       resumed s r vars e away has rest here =
           let s1 = with_fresh_body s p in
           let same1 : standing_of p s1 ≡ record (standing_of p s) { rest = Some (fresh_of code Body) } = body_stands p s code r (code_there s away.of_program) rest in
           let away1 : IsAway program (standing_of p s1) = record { of_program = away.of_program; not_running = away.not_running; busy = away.busy } in
-          gives_bind Answer PtState (RanFrom program p code (standing_of p s1)) (λ a t. Reacted (standing_of p s) a (standing_of p t)) (calls.run s1 code (remainder_at s code p) p e) _
-          (subst (λ x. IfGives (RanFrom program p code (standing_of p s1)) (calls.run s1 code x p e)) (ap (λ o. unwrap_or o (fresh_of code Body)) (sym rest)) (are.body s1 r vars e away1 has here))
+          gives_bind Answer PtState (RanFrom program p code earlier (standing_of p s1)) (λ a t. Reacted (standing_of p s) a (standing_of p t)) (calls.run s1 code (remainder_at s code p) p e) _
+          (subst (λ x. IfGives (RanFrom program p code earlier (standing_of p s1)) (calls.run s1 code x p e)) (ap (λ o. unwrap_or o (fresh_of code Body)) (sym rest)) (are.body s1 r vars e away1 has here))
           (λ a t ran. record {
             left = ran.left;
             next = a.1;
@@ -391,14 +393,14 @@ module _ (program : Tree) (p : ℕ) (code : Code) where
             comes = ran.comes;
           })
 
-      reacts : (s : State) (r : Remainder) (vars : List ℕ) (e : Event) → IsAway program (standing_of p s) → (standing_of p s).vars ≡ Some vars → (standing_of p s).rest ≡ Some r → ComesHere program p code (standing_of p s).told r vars
+      reacts : (s : State) (r : Remainder) (vars : List ℕ) (e : Event) → IsAway program (standing_of p s) → (standing_of p s).vars ≡ Some vars → (standing_of p s).rest ≡ Some r → ComesHere program p code earlier (standing_of p s).told r vars
           → IfGives (λ a t. Reacted (standing_of p s) a (standing_of p t)) (react_of calls s (Own p) e)
       unfolding react_of own_of
       reacts s r vars e away has rest here =
           subst (λ o. IfGives (λ a t. Reacted (standing_of p s) a (standing_of p t)) (elim o [ None ↦ Goes Ended s | Some c ↦ handler_of calls s c p e >>= λ _ s1. resume_of calls s1 c p e ])) (sym (code_there s away.of_program))
           (gives_bind (Unit {0}) PtState (λ u t. IsQuiet p s t) (λ a t. Reacted (standing_of p s) a (standing_of p t)) (handler_of calls s code p e) _ (handled s e) (λ u t same.
           subst (λ v. IfGives (λ a w. Reacted v a (standing_of p w)) (resume_of calls t code p e)) same
-          (resumed t r vars e (subst (λ v. IsAway program v) (sym same) away) (ap (λ v. v.vars) same ∙ has) (ap (λ v. v.rest) same ∙ rest) (subst (λ v. ComesHere program p code v.told r vars) (sym same) here))))
+          (resumed t r vars e (subst (λ v. IsAway program v) (sym same) away) (ap (λ v. v.vars) same ∙ has) (ap (λ v. v.rest) same ∙ rest) (subst (λ v. ComesHere program p code earlier v.told r vars) (sym same) here))))
 
       -- it leaves
 
@@ -406,7 +408,7 @@ module _ (program : Tree) (p : ℕ) (code : Code) where
       gone s h = to_goes (λ t. Stands (standing_of p t)) (leave_of s (Own p)) (gives_weaker (Unit {0}) (λ a t. At (record (standing_of p s) { exiting = false; listed = false }) t) (λ a t. Stands (standing_of p t)) (leave_of s (Own p)) (from_goes (Unit {0}) _ (leave_of s (Own p)) (leave_stands p s h.room)) (λ a t same.
           subst Stands (sym same) (record {
             of_program = h.of_program;
-            room = h.room;
+            tables = h.room ∙ sym h.has;
             free = refl;
             still = h.now;
             rest = h.rest;
@@ -429,9 +431,10 @@ module _ (program : Tree) (p : ℕ) (code : Code) where
           subst (λ v. IfGoes (λ t. At v t) (walk_of calls e (Own p) ms (exiting_of s (Own p)))) same
           (lead_away (exiting_of s (Own p)) _ (walk_led e (Own p) ms (exiting_of s (Own p))) (subst (λ v. IsAway program v) (sym same) (way_is_away (standing_of p s) h.of_program)))
 
-      last_gone : (v : Standing) (a : PtState) (w : Standing) → v.program ≡ program → v.room ≡ true → v.state ≡ Off → Reacted v a w → IsGone w
-      last_gone v a w of_program room state r = record {
+      last_gone : (v : Standing) (a : PtState) (w : Standing) → v.program ≡ program → v.has ≡ true → v.room ≡ true → v.state ≡ Off → Reacted v a w → IsGone w
+      last_gone v a w of_program has room state r = record {
         of_program = ap (λ x. x.program) r.same ∙ of_program;
+        has = ap (λ x. x.has) r.same ∙ has;
         room = ap (λ x. x.room) r.same ∙ room;
         state = ap (λ x. x.state) r.same ∙ state;
         now = r.next;
@@ -446,11 +449,11 @@ module _ (program : Tree) (p : ℕ) (code : Code) where
       last_runs s t h same =
           goes_bind (Unit {0}) (Unit {0}) (λ u. At (On_its_way (standing_of p s)) u) (λ u. IsGone (standing_of p u)) (spend_of t) _ (subst (λ v. IfGoes (λ u. At v u) (spend_of t)) same (spend_quiet t)) (λ a u there.
           to_goes (λ w. IsGone (standing_of p w)) _ (gives_bind PtState (Unit {0}) (λ a w. Reacted (standing_of p u) a (standing_of p w)) (λ a w. IsGone (standing_of p w)) (react_of calls u (Own p) (told Exit 0)) _
-          (reacts u h.now h.left (told Exit 0) (subst (λ v. IsAway program v) (sym there) (way_is_away (standing_of p s) h.of_program)) (ap (λ v. v.vars) there ∙ h.vars) (ap (λ v. v.rest) there ∙ h.rest) (subst (λ v. ComesHere program p code v.told h.now h.left) (sym there) (h.comes refl)))
-          (λ a w r. last_gone (standing_of p u) a (standing_of p w) (ap (λ v. v.program) there ∙ h.of_program) (ap (λ v. v.room) there ∙ h.room) (ap (λ v. v.state) there) r)))
+          (reacts u h.now h.left (told Exit 0) (subst (λ v. IsAway program v) (sym there) (way_is_away (standing_of p s) h.of_program)) (ap (λ v. v.vars) there ∙ h.vars) (ap (λ v. v.rest) there ∙ h.rest) (subst (λ v. ComesHere program p code earlier v.told h.now h.left) (sym there) (h.comes refl)))
+          (λ a w r. last_gone (standing_of p u) a (standing_of p w) (ap (λ v. v.program) there ∙ h.of_program) (ap (λ v. v.has) there ∙ h.has) (ap (λ v. v.room) there ∙ h.room) (ap (λ v. v.state) there) r)))
 
       last : (s t : State) (b : Bool) → IsLeaving (standing_of p s) b → At (On_its_way (standing_of p s)) t → IfGoes (λ u. IsGone (standing_of p u)) (if b then Goes tt t else last_run_of calls t (Own p))
-      last s t true h same = subst (λ v. IsGone v) (sym same) (record { of_program = h.of_program; room = h.room; state = refl; now = h.now; rest = h.rest; left = h.left; vars = h.vars; lived = h.lived })
+      last s t true h same = subst (λ v. IsGone v) (sym same) (record { of_program = h.of_program; has = h.has; room = h.room; state = refl; now = h.now; rest = h.rest; left = h.left; vars = h.vars; lived = h.lived })
       last s t false h same = last_runs s t h same
 
       exits : (s : State) (f : Proc) → IsLeaving (standing_of p s) (is_same (Own p) f) → IfGoes (λ t. Stands (standing_of p t)) (exit_of calls s (Own p) f)
@@ -474,7 +477,7 @@ module _ (program : Tree) (p : ℕ) (code : Code) where
           by true e = exits s (Own p) (record {
             of_program = ap (λ x. x.program) r.same ∙ h.of_program;
             has = ap (λ x. x.has) r.same ∙ h.is_in.has;
-            room = ap (λ x. x.room) r.same ∙ h.room;
+            room = ap (λ x. x.room) r.same ∙ h.tables ∙ h.is_in.has;
             listed = ap (λ x. x.listed) r.same ∙ h.is_in.listed;
             now = r.next;
             rest = ap (λ x. x.rest) r.same;
@@ -487,7 +490,7 @@ module _ (program : Tree) (p : ℕ) (code : Code) where
               let has : (standing_of p s).has ≡ true = ap (λ x. x.has) r.same ∙ h.is_in.has in
               subst (λ x. Stands x) (sym (state_stands p s Running has)) (record {
                 of_program = ap (λ x. x.program) r.same ∙ h.of_program;
-                room = ap (λ x. x.room) r.same ∙ h.room;
+                tables = ap (λ x. x.room) r.same ∙ h.tables ∙ sym (ap (λ x. x.has) r.same);
                 free = ap (λ x. x.exiting) r.same ∙ h.free;
                 still = r.next;
                 rest = ap (λ x. x.rest) r.same;
@@ -508,7 +511,7 @@ module _ (program : Tree) (p : ℕ) (code : Code) where
           let away : IsAway program (standing_of p s2) = subst (λ v. IsAway program v) (sym same2) (record { of_program = h.of_program; not_running = refl; busy = refl }) in
           to_goes (λ w. Stands (standing_of p w)) _ (gives_bind PtState (Unit {0}) (λ a w. Reacted (record (standing_of p s) { state = Called }) a (standing_of p w)) (λ a w. Stands (standing_of p w)) (react_of calls s2 (Own p) e) _
           (subst (λ v. IfGives (λ a w. Reacted v a (standing_of p w)) (react_of calls s2 (Own p) e)) same2
-          (reacts s2 h.still h.left e away (ap (λ v. v.vars) same2 ∙ h.vars) (ap (λ v. v.rest) same2 ∙ h.rest) (subst (λ v. ComesHere program p code v.told h.still h.left) (sym same2) h.is_in.comes)))
+          (reacts s2 h.still h.left e away (ap (λ v. v.vars) same2 ∙ h.vars) (ap (λ v. v.rest) same2 ∙ h.rest) (subst (λ v. ComesHere program p code earlier v.told h.still h.left) (sym same2) h.is_in.comes)))
           (λ a w r. from_goes (Unit {0}) (λ t. Stands (standing_of p t)) _ (answers_so w (standing_of p s) a (is_event Exit e) h r)))))
 
       -- starts and kills
@@ -516,7 +519,7 @@ module _ (program : Tree) (p : ℕ) (code : Code) where
       ready_first : (v w : Standing) (h : Stands v) → v.has ≡ true → w ≡ record v { state = Running; listed = true; rest = Some (fresh_of code Body); told = v.told ++ what.Start (Own p) ∷ [] } → IsReady w
       ready_first v w h has same = subst (λ x. IsReady x) (sym same) (record {
         of_program = h.of_program;
-        room = h.room;
+        tables = h.tables;
         free = h.free;
         still = fresh_of code Body;
         rest = refl;
@@ -526,7 +529,7 @@ module _ (program : Tree) (p : ℕ) (code : Code) where
           has = has;
           state = refl;
           listed = refl;
-          comes = record { before = v.told; start = h.left; lived = h.lived; did = []; answer = 0; comes = at_first code h.left 0; is_told = refl };
+          comes = record { before = earlier ++ v.told; start = h.left; lived = h.lived; did = []; answer = 0; comes = at_first code h.left 0; is_told = sym (append_assoc earlier v.told (what.Start (Own p) ∷ [])) };
         };
       })
 
@@ -568,7 +571,7 @@ module _ (program : Tree) (p : ℕ) (code : Code) where
           by (inr is_in) = exits s f (record {
             of_program = h.of_program;
             has = is_in.has;
-            room = h.room;
+            room = h.tables ∙ is_in.has;
             listed = is_in.listed;
             now = h.still;
             rest = h.rest;
@@ -646,10 +649,10 @@ module _ (program : Tree) (p : ℕ) (code : Code) where
       unfolding run_of stepped_of
       run_led s c r q e n = from s _ _ (stepped_as _ s c r q e n) (step_led c q e _ _ _ n)
 
-      body_runs : (s : State) (r : Remainder) (vars : List ℕ) (e : Event) → IsAway program (standing_of p s) → (standing_of p s).vars ≡ Some vars → ComesHere program p code (standing_of p s).told r vars
-          → IfGives (RanFrom program p code (standing_of p s)) (run_of calls s code r p e)
+      body_runs : (s : State) (r : Remainder) (vars : List ℕ) (e : Event) → IsAway program (standing_of p s) → (standing_of p s).vars ≡ Some vars → ComesHere program p code earlier (standing_of p s).told r vars
+          → IfGives (RanFrom program p code earlier (standing_of p s)) (run_of calls s code r p e)
       body_runs s r vars e away has here =
-          runs_on program p code calls s r vars e away has here are.body (λ t o f a. lead_away t _ (act_led t p o f) a)
+          runs_on program p code earlier calls s r vars e away has here are.body (λ t o f a. lead_away t _ (act_led t p o f) a)
 
       -- a call
 
@@ -672,7 +675,7 @@ module _ (program : Tree) (p : ℕ) (code : Code) where
         where
           by : (h : Stands (standing_of p s)) → IsOut (standing_of p s) ⊎ IsIn (standing_of p s) h.still h.left → IfGoes (λ t. Stands (standing_of p t)) (call_of calls s (Own p) e)
           by h (inl out) = subst (λ o. IfGoes (λ t. Stands (standing_of p t)) o) (sym (lost s e (ap is_running_state out.state))) h
-          by h (inr is_in) = is_called s e (record { of_program = h.of_program; room = h.room; free = h.free; still = h.still; rest = h.rest; left = h.left; vars = h.vars; is_in = is_in })
+          by h (inr is_in) = is_called s e (record { of_program = h.of_program; tables = h.tables; free = h.free; still = h.still; rest = h.rest; left = h.left; vars = h.vars; is_in = is_in })
 
       call_led : (s : State) (q : Proc) (e : Event) → Leads (Unit {0}) s (call_of calls s q e)
       call_led s q e = by (which p q)

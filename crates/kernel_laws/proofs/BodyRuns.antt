@@ -64,7 +64,8 @@ abbrev pub IsNoPrint : Op → Type 0
 IsNoPrint (op.Print v) = ⊥
 IsNoPrint o = Unit {0}
 
-module _ (program : Tree) (p : ℕ) (code : Code) where
+-- behind what was told of the process earlier
+module _ (program : Tree) (p : ℕ) (code : Code) (earlier : List What) where
   -- In the life that its last start began it came to here.
   pub record ComesHere (told : List What) (r : Remainder) (vars : List ℕ) : Type 0 where
     pub before : List What
@@ -73,11 +74,11 @@ module _ (program : Tree) (p : ℕ) (code : Code) where
     pub did : List Happening
     pub answer : ℕ
     pub comes : ComesTo code start did answer r vars
-    pub is_told : told ≡ before ++ what.Start (Own p) ∷ prints (Own p) did
+    pub is_told : earlier ++ told ≡ before ++ what.Start (Own p) ∷ prints (Own p) did
 
   -- What was told is lives up to these variables.
   abbrev pub HasLived : List What → List ℕ → Type 0
-  HasLived told vars = Lives code (Own p) code.starts told vars
+  HasLived told vars = Lives code (Own p) code.starts (earlier ++ told) vars
 
   -- A run of the body has answered: of how the process stands, what was told of it and its variables alone have changed.
   pub record Ran (v : Standing) (a : PtState) (r : Remainder) (w : Standing) : Type 0 where
@@ -101,20 +102,20 @@ module _ (program : Tree) (p : ℕ) (code : Code) where
       (s : State) (o : Op) → IsNoPrint o → IsAway program (standing_of p s) → IfGoes (λ t. standing_of p t ≡ standing_of p s) (act_of calls s p o)
 
   -- it printed what the happening printed
-  told_next : (told before : List What) (did : List Happening) (h : Happening) → told ≡ before ++ what.Start (Own p) ∷ prints (Own p) did
-      → told ++ prints (Own p) (h ∷ []) ≡ before ++ what.Start (Own p) ∷ prints (Own p) (did ++ h ∷ [])
+  told_next : (told before : List What) (did : List Happening) (h : Happening) → earlier ++ told ≡ before ++ what.Start (Own p) ∷ prints (Own p) did
+      → earlier ++ (told ++ prints (Own p) (h ∷ [])) ≡ before ++ what.Start (Own p) ∷ prints (Own p) (did ++ h ∷ [])
   told_next told before did h e =
-      ap (λ l. l ++ prints (Own p) (h ∷ [])) e ∙ append_assoc before (what.Start (Own p) ∷ prints (Own p) did) (prints (Own p) (h ∷ []))
+      sym (append_assoc earlier told (prints (Own p) (h ∷ []))) ∙ ap (λ l. l ++ prints (Own p) (h ∷ [])) e ∙ append_assoc before (what.Start (Own p) ∷ prints (Own p) did) (prints (Own p) (h ∷ []))
       ∙ ap (λ l. before ++ what.Start (Own p) ∷ l) (sym (prints-append (Own p) did (h ∷ [])))
 
   -- and nothing where it gave up
-  told_still : (told before : List What) (did : List Happening) (a : PtState) → told ≡ before ++ what.Start (Own p) ∷ prints (Own p) did
-      → told ≡ before ++ what.Start (Own p) ∷ prints (Own p) (did ++ gives_up a ∷ [])
-  told_still told before did a e = sym (append-nil told) ∙ told_next told before did (gives_up a) e
+  told_still : (told before : List What) (did : List Happening) (a : PtState) → earlier ++ told ≡ before ++ what.Start (Own p) ∷ prints (Own p) did
+      → earlier ++ told ≡ before ++ what.Start (Own p) ∷ prints (Own p) (did ++ gives_up a ∷ [])
+  told_still told before did a e = ap (λ l. earlier ++ l) (sym (append-nil told)) ∙ told_next told before did (gives_up a) e
 
-  lived_more : (told before : List What) (start : List ℕ) (did : List Happening) (out : Became) → HasLived before start → HasRun code start did out → told ≡ before ++ what.Start (Own p) ∷ prints (Own p) did
+  lived_more : (told before : List What) (start : List ℕ) (did : List Happening) (out : Became) → Lives code (Own p) code.starts before start → HasRun code start did out → earlier ++ told ≡ before ++ what.Start (Own p) ∷ prints (Own p) did
       → HasLived told (left_by out)
-  lived_more told before start did out lived run e = subst (λ l. HasLived l (left_by out)) (sym e) (Lives_again lived (life_of code start did out run))
+  lived_more told before start did out lived run e = subst (λ l. Lives code (Own p) code.starts l (left_by out)) (sym e) (Lives_again lived (life_of code start did out run))
 
   module _ (calls : Calls) (s : State) (r : Remainder) (vars : List ℕ) (e : Event) (away : IsAway program (standing_of p s)) (has : (standing_of p s).vars ≡ Some vars) (here : ComesHere (standing_of p s).told r vars) where
     -- what it is shown
@@ -143,15 +144,15 @@ module _ (program : Tree) (p : ℕ) (code : Code) where
       };
     }
       where
-        now_told : w.told ≡ here.before ++ what.Start (Own p) ∷ prints (Own p) (here.did ++ gives_up a ∷ [])
-        now_told = ap (λ v. v.told) same ∙ told_still (standing_of p s).told here.before here.did a here.is_told
+        now_told : earlier ++ w.told ≡ here.before ++ what.Start (Own p) ∷ prints (Own p) (here.did ++ gives_up a ∷ [])
+        now_told = ap (λ v. earlier ++ v.told) same ∙ told_still (standing_of p s).told here.before here.did a here.is_told
 
     ends : (a : PtState) (next : Remainder) (changed : List ℕ) (out : Became) → HasRun code here.start here.did out → left_by out ≡ changed → has_ended a ≡ true
         → (w : Standing) → w ≡ record (standing_of p s) { vars = Some changed } → Ran (standing_of p s) a next w
     ends a next changed out run is ended w same = record {
       left = changed;
       same = same ∙ ap (λ l. record (standing_of p s) { vars = Some changed; told = l }) (sym (ap (λ v. v.told) same));
-      lived = subst (λ l. HasLived w.told l) is (lived_more w.told here.before here.start here.did out here.lived run (ap (λ v. v.told) same ∙ here.is_told));
+      lived = subst (λ l. HasLived w.told l) is (lived_more w.told here.before here.start here.did out here.lived run (ap (λ v. earlier ++ v.told) same ∙ here.is_told));
       comes = λ q. absurd (let f : true ≡ false = sym ended ∙ q in cc);
     }
 
@@ -189,7 +190,7 @@ module _ (program : Tree) (p : ℕ) (code : Code) where
             did = here.did ++ operates o ∷ [];
             answer = told;
             comes = operates_on code here.start here.did here.answer told r next vars changed _ o refl here.comes takes;
-            is_told = ap (λ v. v.told) same ∙ told_next (standing_of p s).told here.before here.did (operates o) here.is_told;
+            is_told = ap (λ v. earlier ++ v.told) same ∙ told_next (standing_of p s).told here.before here.did (operates o) here.is_told;
           })) (ran_on o _ t same)
 
       -- where the operation tells the thread no answer

@@ -2,6 +2,7 @@
 
 ghost use Rattle.kernel_laws.specs.Polled.{PacketsAreHanded, TimersAreTold};
 ghost use Rattle.kernel_laws.specs.Due.{CallsForgetNone, BootForgetsNone, RunForgetsNone, RunTellsDue, BootKeepsOwners, RunKeepsOwners};
+ghost use Rattle.kernel_laws.specs.Printed.{PrintsAreTheReading};
 ghost use Rattle.kernel_laws.specs.Ring.{CallsTellPackets, BootTellsPackets, RunTellsPackets, RunEmptiesRing};
 ghost use Rattle.kernel_laws.specs.Laws.{KernelsHandOn, GoingIsInOrder, NoLinesGoFirst, BootAddsItsLines, RunAddsItsLines, PollKeeps, PacketKeeps, NoteKeeps, OnlyTheRunningAreCalled, CallsKeepStep, ListedAreRunning, CallsStamp, BootStamps, RunStamps};
 
@@ -67,4 +68,11 @@ pub fn no_timer_is_forgotten()
     ensures told { RunTellsDue }
     ensures boot_owners { BootKeepsOwners }
     ensures run_owners { RunKeepsOwners }
+{}
+
+/// A process that has its body alone prints, from each of its starts on, what a reading of its body does: of its block, read by its
+/// structure, over what it was shown; whatever the others do in between, and whatever calls of the kernel follow the boot, as long as the
+/// mote doesn't halt. A next life begins with the variables that the one before left.
+pub fn prints_are_the_reading()
+    ensures { PrintsAreTheReading }
 {}

@@ -1,0 +1,229 @@
+-- Boots and kernel runs keep that what is told of a process are its lives, and so do the calls of a kernel.
+use Rattle.std.proofs.Common.{ℕ, ◌≡◌, ◌+◌, Bool, true, false, nat_lt, if◌then◌else◌, List, [], ◌∷◌, ◌++◌, ◌⊎◌, inl, inr, Option, Some, None, length, slice_get, replicate, refl, sym, ap, ◌∙◌, subst, map, append-nil, append_assoc}
+use Rattle.std.specs.List.{filter}
+use Rattle.std.specs.Prelude.{option_map}
+use Rattle.std.proofs.lemmas.List.{length-replicate, map-append}
+use Rattle.std.proofs.lemmas.List.Elements.{filter-append}
+use Rattle.std.proofs.lemmas.Option.{slice_get-map}
+use Rattle.mote_program.specs.declared.event.Proc.{Proc}
+use Rattle.mote_program.specs.declared.event.Proc.TheVariants.{Own, Etimer, Ctimer, Radio}
+use Rattle.mote_program.specs.declared.event.Target.{Target}
+use Rattle.mote_program.specs.declared.event.Target.TheVariants.{One, All}
+use Rattle.mote_program.specs.declared.event.SystemEvent.TheVariants.{Poll}
+use Rattle.mote_program.specs.Code.{Code, Tree}
+use Rattle.event_queue.specs.declared.queue.Posted.{Posted}
+use Rattle.event_queue.specs.Queue.{without_front}
+use Rattle.protothread.specs.declared.part.Part.TheVariants.{Body}
+use Rattle.protothread.specs.Remainder.{fresh_of}
+use Rattle.process_kernel.specs.declared.line.Line.{Line}
+use Rattle.process_kernel.specs.declared.line.What.{What}
+use Rattle.process_kernel.specs.declared.line.What.TheVariants as what
+use Rattle.process_kernel.specs.declared.process.ProcessState.{ProcessState}
+use Rattle.process_kernel.specs.declared.process.ProcessState.TheVariants.{Off, Running, Called}
+use Rattle.process_kernel.specs.declared.process.Member.{Member}
+use Rattle.process_kernel.specs.declared.runs.TheConstants.{UNITS}
+use Rattle.process_kernel.specs.Members.{place_of}
+use Rattle.process_kernel.specs.State.{State, Outcome, Went, Ends, Goes}
+use Rattle.process_kernel.specs.Processes.{is_listed, is_on_list, with_mark}
+use Rattle.process_kernel.specs.Writes.{with_line, write_of}
+use Rattle.process_kernel.specs.Calls.{Calls, told}
+use Rattle.process_kernel.specs.Call.{calls_of}
+use Rattle.process_kernel.specs.Polls.{walk_polls, polls_of, polls_due_of, poll_turn_of}
+use Rattle.process_kernel.specs.Delivery.{give_of, turn_of, walk_event, deliver_to, deliver_of}
+use Rattle.process_kernel.specs.Run.{begun_of, left_of, deliver_front, kernel_of}
+use Rattle.process_kernel.specs.Boot.{starts_of, boot_of}
+use Rattle.process_kernel.specs.Mote.{Mote, at_rest, unbooted, with_poll, with_packet}
+use Rattle.process_kernel.specs.Public.{Given, given, begun, unless_halted, boot_given, run_given}
+use Rattle.kernel_laws.specs.Going.{IsNote}
+use Rattle.kernel_laws.specs.InStep.{AreInStep, state_at, exiting_at, listed_in}
+use Rattle.kernel_laws.specs.Traces.{KernelCall, RunAt, PollOf, Accepts, Notes, Traced, with_given, after_call, after_calls, booted_at}
+use Rattle.kernel_laws.specs.Printed.{HasBodyAlone, is_told_of, starts_and_prints, Lives, Unborn, TellsLives, PrintsAreTheReading}
+use Rattle.kernel_laws.proofs.Packets.{IfGoes}
+use Rattle.kernel_laws.proofs.Resting.{numbered_listed, first_rests}
+use Rattle.kernel_laws.proofs.Standing.{Standing, standing_of, IsQuiet, told_more, line_quiet, mark_quiet, poll_quiet}
+use Rattle.kernel_laws.proofs.BodyCalls.{Stands, Keeps, Leads, AreTold, from, bind, either, goes, still, IsOut, IsIn, start_led, calls_told}
+
+module _ (program : Tree) (p : ℕ) (code : Code) (is_code : slice_get program.codes p ≡ Some code) (alone : HasBodyAlone code) where
+  -- boots and kernel runs
+  module _ (earlier : List What) (calls : Calls) (are : AreTold program p code earlier calls) where
+    abbrev L : (A : Type 0) → State → Outcome A → Type 0
+    L A s o = Leads program p code earlier A s o
+
+    polls_led : (ms : List Member) (s : State) → L (Unit {0}) s (walk_polls calls ms s)
+    unfolding poll_turn_of
+    polls_led [] s = still program p code earlier s tt
+    polls_led (m ∷ ms) s =
+        bind program p code earlier s _ _ (either program p code earlier s _ _ _ (from program p code earlier s _ _ (mark_quiet p s m.process false) (are.call _ m.process (told Poll 0))) (still program p code earlier s tt)) (λ a t. polls_led ms t)
+
+    polls_due_led : (s : State) → L (Unit {0}) s (polls_due_of calls s)
+    unfolding polls_due_of polls_of
+    polls_due_led s = either program p code earlier s s.flag _ _ (from program p code earlier s _ _ refl (polls_led s.members _)) (still program p code earlier s tt)
+
+    give_led : (s : State) (x : Posted) (q : Proc) (there : Bool) → L (Unit {0}) s (give_of calls s x q there)
+    unfolding give_of write_of
+    give_led s x q there =
+        either program p code earlier s there _ _ (from program p code earlier s _ _ (line_quiet p s (what.Take x.serial q) refl) (are.call _ q x.event)) (goes program p code earlier s tt _ (line_quiet p s (what.Drop x.serial q) refl))
+
+    walk_event_led : (x : Posted) (ms : List Member) (s : State) → L (Unit {0}) s (walk_event calls x ms s)
+    unfolding turn_of
+    walk_event_led x [] s = still program p code earlier s tt
+    walk_event_led x (m ∷ ms) s =
+        bind program p code earlier s _ _ (bind program p code earlier s _ _ (polls_due_led s) (λ a t. give_led t x m.process (is_on_list t m))) (λ a t. walk_event_led x ms t)
+
+    target_led : (target : Target) (s : State) (x : Posted) → L (Unit {0}) s (deliver_to target calls s x)
+    target_led (One q) s x = give_led s x q (is_listed s q)
+    target_led All s x = walk_event_led x s.members s
+
+    front_led : (q : List Posted) (s : State) → L (Unit {0}) s (deliver_front calls q s)
+    unfolding deliver_of
+    front_led [] s = still program p code earlier s tt
+    front_led (x ∷ q) s = from program p code earlier s (record s { queue = without_front s.queue }) _ refl (target_led x.target _ x)
+
+    kernel_led : (s : State) → L ℕ s (kernel_of calls s)
+    unfolding kernel_of
+    kernel_led s =
+        bind program p code earlier s _ _ (polls_due_led s) (λ a t. bind program p code earlier t _ _ (front_led t.queue.events t) (λ b u. still program p code earlier u _))
+
+    starts_led : (ps : List Proc) (s : State) → L (Unit {0}) s (starts_of calls ps s)
+    starts_led [] s = still program p code earlier s tt
+    starts_led (q ∷ ps) s = bind program p code earlier s _ _ (start_led program p code earlier is_code alone calls are s q) (λ a t. starts_led ps t)
+
+    boot_led : (s : State) → L ℕ s (boot_of calls s)
+    unfolding boot_of
+    boot_led s = bind program p code earlier s _ _ (starts_led (Etimer ∷ Ctimer ∷ Radio ∷ map Own s.program.autostart) s) (λ a t. still program p code earlier t (left_of t))
+
+  -- between the calls of a kernel
+
+  -- a mote that has not halted, with these lines
+  abbrev pub IsTold : List Line → Mote → Type 0
+  IsTold lines m = m.halted ≡ false → Stands program p code (starts_and_prints (Own p) lines) (record (standing_of p m.state) { told = [] })
+
+  told_twice : (xs ys : List Line) → starts_and_prints (Own p) (xs ++ ys) ≡ starts_and_prints (Own p) xs ++ starts_and_prints (Own p) ys
+  told_twice xs ys = ap (filter (is_told_of (Own p))) (map-append (λ l. l.what) xs ys) ∙ filter-append (is_told_of (Own p)) (map (λ l. l.what) xs) (map (λ l. l.what) ys)
+
+  -- what is told now, belongs to what was told earlier
+  settles : (earlier later : List What) (v : Standing) → later ≡ earlier ++ v.told → Stands program p code earlier v → Stands program p code later (record v { told = [] })
+  settles earlier later v e h = record {
+    of_program = h.of_program;
+    tables = h.tables;
+    free = h.free;
+    still = h.still;
+    rest = h.rest;
+    left = h.left;
+    vars = h.vars;
+    lived = subst (λ l. Lives code (Own p) code.starts l h.left) (sym (append-nil later ∙ e)) h.lived;
+    where_it_is = elim h.where_it_is [ inl out ↦ inl (record { state = out.state; listed = out.listed }) | inr here ↦ inr (is_in here) ];
+  }
+    where
+      is_in : IsIn program p code earlier v h.still h.left → IsIn program p code later (record v { told = [] }) h.still h.left
+      is_in here = let c = here.comes in record {
+        has = here.has;
+        state = here.state;
+        listed = here.listed;
+        comes = record { before = c.before; start = c.start; lived = c.lived; did = c.did; answer = c.answer; comes = c.comes; is_told = append-nil later ∙ e ∙ c.is_told };
+      }
+
+  begun_stands : (m : Mote) (moment : ℕ) → standing_of p (begun m moment [] []) ≡ record (standing_of p m.state) { told = [] }
+  unfolding begun_of
+  begun_stands m moment = ap (λ b. record (standing_of p m.state) { listed = b; told = [] }) (numbered_listed 0 m.state.members (place_of (Own p)))
+
+  -- what a boot or a run that goes on adds
+  given_told : (lines : List Line) (m : Mote) (moment : ℕ) (o : Outcome ℕ) → Stands program p code (starts_and_prints (Own p) lines) (record (standing_of p m.state) { told = [] }) → Leads program p code (starts_and_prints (Own p) lines) ℕ (begun m moment [] []) o
+      → IsTold (lines ++ (given o).lines) (given o).mote
+  given_told lines m moment (Ends t) h leads = λ halted. absurd (cc)
+  given_told lines m moment (Goes a t) h leads = λ on.
+      settles (starts_and_prints (Own p) lines) (starts_and_prints (Own p) (lines ++ t.lines)) (standing_of p t) (told_twice lines t.lines) (leads.leads.stands (subst (λ v. Stands program p code (starts_and_prints (Own p) lines) v) (sym (begun_stands m moment)) h))
+
+  unless_told : (lines : List Line) (m : Mote) (o : Outcome ℕ) (b : Bool) → m.halted ≡ b → (m.halted ≡ false → IsTold (lines ++ (given o).lines) (given o).mote)
+      → IsTold (lines ++ (unless_halted m [] [] (given o)).lines) (unless_halted m [] [] (given o)).mote
+  unless_told lines m o true e h = rw e (λ on. absurd (cc))
+  unless_told lines m o false e h = rw e (h e)
+
+  run_told : (lines : List Line) (m : Mote) (moment : ℕ) → IsTold lines m → IsTold (lines ++ (run_given moment m [] []).lines) (run_given moment m [] []).mote
+  unfolding run_given
+  run_told lines m moment h =
+      let earlier = starts_and_prints (Own p) lines in
+      unless_told lines m _ m.halted refl (λ on. given_told lines m moment _ (h on) (kernel_led earlier (calls_of (UNITS + 1)) (calls_told program p code earlier is_code alone (UNITS + 1)) (begun m moment [] [])))
+
+  boot_told : (lines : List Line) (m : Mote) (moment : ℕ) → IsTold lines m → IsTold (lines ++ (boot_given moment m [] []).lines) (boot_given moment m [] []).mote
+  unfolding boot_given
+  boot_told lines m moment h =
+      let earlier = starts_and_prints (Own p) lines in
+      unless_told lines m _ m.halted refl (λ on. given_told lines m moment _ (h on) (boot_led earlier (calls_of (UNITS + 1)) (calls_told program p code earlier is_code alone (UNITS + 1)) (begun m moment [] [])))
+
+  poll_told : (lines : List Line) (m : Mote) (q : Proc) → IsTold lines m → IsTold lines (with_poll m q)
+  unfolding with_poll
+  poll_told lines m q h = λ on. subst (λ v. Stands program p code (starts_and_prints (Own p) lines) (record v { told = [] })) (sym (poll_quiet p m.state q)) (h on)
+
+  note_apart : (w : What) → IsNote w → is_told_of (Own p) w ≡ false
+  note_apart (what.Recv f n v) h = refl
+  note_apart (what.Lost f n) h = refl
+  note_apart (what.Collide f n) h = refl
+  note_apart (what.Start q) h = absurd h
+  note_apart (what.Leave q) h = absurd h
+  note_apart (what.Post n t e w) h = absurd h
+  note_apart (what.Full t e w) h = absurd h
+  note_apart (what.Take n q) h = absurd h
+  note_apart (what.Drop n q) h = absurd h
+  note_apart (what.Print q v) h = absurd h
+  note_apart (what.Busy q) h = absurd h
+  note_apart what.Halt h = absurd h
+  note_apart (what.Send n v) h = absurd h
+  note_apart (what.Deaf f n) h = absurd h
+
+  note_told : (lines : List Line) (m : Mote) (l : Line) → IsNote l.what → IsTold lines m → IsTold (lines ++ l ∷ []) m
+  note_told lines m l n h = λ on.
+      subst (λ ws. Stands program p code ws (record (standing_of p m.state) { told = [] })) (sym (told_more (Own p) lines l ∙ ap (λ b. starts_and_prints (Own p) lines ++ (if b then l.what ∷ [] else [])) (note_apart l.what n) ∙ append-nil _)) (h on)
+
+  call_told : (t : Traced) (c : KernelCall) → IsTold t.lines t.mote → IsTold (after_call t c).lines (after_call t c).mote
+  unfolding with_packet
+  call_told t (RunAt moment) h = run_told t.lines t.mote moment h
+  call_told t (PollOf q) h = poll_told t.lines t.mote q h
+  call_told t (Accepts a) h = h
+  call_told t (Notes l n) h = noted t.mote.halted
+    where
+      noted : (b : Bool) → IsTold (if b then t else record t { lines = t.lines ++ l ∷ [] }).lines (if b then t else record t { lines = t.lines ++ l ∷ [] }).mote
+      noted true = h
+      noted false = note_told t.lines t.mote l n h
+
+  calls_kept : (cs : List KernelCall) (t : Traced) → IsTold t.lines t.mote → IsTold (after_calls t cs).lines (after_calls t cs).mote
+  calls_kept [] t h = h
+  calls_kept (c ∷ cs) t h = calls_kept cs (after_call t c) (call_told t c h)
+
+  -- before the boot
+
+  is_off : (x : ProcessState) (e l : Bool) → AreInStep x e l → l ≡ false → x ≡ Off
+  is_off Off e l h q = refl
+  is_off Running e l h q = absurd (let f : true ≡ false = sym h.1 ∙ q in cc)
+  is_off Called e l h q = absurd (let f : true ≡ false = sym h.1 ∙ q in cc)
+
+  first_told : (mote queue : ℕ) → IsTold [] (unbooted program mote queue)
+  unfolding unbooted
+  first_told mote queue = λ on.
+      let s = (unbooted program mote queue).state in
+      let n = length program.processes + 3 in
+      let r = first_rests program mote queue in
+      let k = place_of (Own p) in record {
+        of_program = refl;
+        tables = ap (nat_lt k) (length-replicate n false ∙ sym (length-replicate n Off));
+        free = r.idle.exiting k;
+        still = fresh_of code Body;
+        rest = slice_get-map (λ c. fresh_of c Body) program.codes p ∙ ap (λ o. option_map (λ c. fresh_of c Body) o) is_code;
+        left = code.starts;
+        vars = slice_get-map (λ c. c.starts) program.codes p ∙ ap (λ o. option_map (λ c. c.starts) o) is_code;
+        lived = Unborn;
+        where_it_is = inl (record { state = is_off (state_at s k) (exiting_at s k) (listed_in s.members k) (r.step.each k) refl; listed = refl });
+      }
+
+  pub booted_told : (mote queue moment : ℕ) → IsTold (booted_at program mote queue moment).lines (booted_at program mote queue moment).mote
+  booted_told mote queue moment = boot_told [] (unbooted program mote queue) moment (first_told mote queue)
+
+  pub lives_told : (lines : List Line) (m : Mote) → IsTold lines m → m.halted ≡ false → TellsLives code p lines (slice_get m.state.variables p)
+  lives_told lines m h on =
+      let k = h on in (k.left, k.vars, subst (λ l. Lives code (Own p) code.starts l k.left) (append-nil (starts_and_prints (Own p) lines)) k.lived)
+
+pub prints_are_the_reading : PrintsAreTheReading
+prints_are_the_reading program p code mote queue moment calls is_code alone on =
+    let first = booted_at program mote queue moment in
+    let t = after_calls first calls in
+    lives_told program p code is_code alone t.lines t.mote (calls_kept program p code is_code alone calls first (booted_told program p code is_code alone mote queue moment)) on
