@@ -44,39 +44,26 @@ use Rattle.process_kernel.specs.Thread.{stepped_with, stepped_of}
 use Rattle.process_kernel.specs.Operation.{answered_with, answer_of, act_of, perform_of, after_step, run_of}
 use Rattle.process_kernel.specs.Call.{has_ended, answered, call_of, calls_of}
 use Rattle.kernel_laws.specs.Printed.{HasBodyAlone}
+use Rattle.kernel_laws.specs.Telling as telling
+use Rattle.kernel_laws.specs.Telling.{Standing, standing_of, IsOut}
 use Rattle.kernel_laws.proofs.Packets.{IfGoes, goes_if, goes_bind}
 use Rattle.kernel_laws.proofs.EachStep.{Lead, AreJoined, lead_from, lead_bind, lead_if, lead_option, lead_goes, lead_still, bind_twice, empty_led}
 use Rattle.kernel_laws.proofs.Tables.{is_equal}
 use Rattle.kernel_laws.proofs.Watch.{Whatever}
 use Rattle.kernel_laws.proofs.Lives.{at_first}
-use Rattle.kernel_laws.proofs.Standing.{Standing, standing_of, IsOther, IsQuiet, which, own_other, other_own, etimer_other, ctimer_other, radio_other, line_quiet, print_quiet, state_quiet, exiting_quiet, quiet_if, poll_quiet, variables_quiet, remainder_quiet, body_quiet, enlist_quiet, leave_quiet, post_quiet, send_quiet}
+use Rattle.kernel_laws.proofs.Standing.{IsOther, IsQuiet, which, own_other, other_own, etimer_other, ctimer_other, radio_other, line_quiet, print_quiet, state_quiet, exiting_quiet, quiet_if, poll_quiet, variables_quiet, remainder_quiet, body_quiet, enlist_quiet, leave_quiet, post_quiet, send_quiet}
 use Rattle.kernel_laws.proofs.OwnSteps.{alike, empty_runs, state_stands, exiting_stands, leave_stands, body_stands, put_stands, enlist_stands}
 use Rattle.kernel_laws.proofs.BodyRuns.{IfGives, gives_bind, gives_weaker, from_goes, IsAway, ComesHere, HasLived, Ran, RanFrom, BodyRuns, IsNoPrint, runs_on}
 
 -- behind what was told of the process earlier
 module _ (program : Tree) (p : ℕ) (code : Code) (earlier : List What) where
-  -- on the process list, in a life that came to here; or off it
-  pub record IsIn (v : Standing) (r : Remainder) (vars : List ℕ) : Type 0 where
-    pub has : v.has ≡ true
-    pub state : v.state ≡ Running
-    pub listed : v.listed ≡ true
-    pub comes : ComesHere program p code earlier v.told r vars
-
-  pub record IsOut (v : Standing) : Type 0 where
-    pub state : v.state ≡ Off
-    pub listed : v.listed ≡ false
+  -- on the process list, in a life that came to here
+  abbrev pub IsIn : Standing → Remainder → List ℕ → Type 0
+  IsIn v r vars = telling.IsIn p code (earlier ++ v.told) v r vars
 
   -- The process is at rest, and what was told of it are its lives.
-  pub record Stands (v : Standing) : Type 0 where
-    pub of_program : v.program ≡ program
-    pub tables : v.room ≡ v.has
-    pub free : v.exiting ≡ false
-    pub still : Remainder
-    pub rest : v.rest ≡ Some still
-    pub left : List ℕ
-    pub vars : v.vars ≡ Some left
-    pub lived : HasLived program p code earlier v.told left
-    pub where_it_is : IsOut v ⊎ IsIn v still left
+  abbrev pub Stands : Standing → Type 0
+  Stands v = telling.Stands program p code (earlier ++ v.told) v
 
   -- It can be called: it is at rest, or has just started.
   pub record IsReady (v : Standing) : Type 0 where
@@ -95,7 +82,7 @@ module _ (program : Tree) (p : ℕ) (code : Code) (earlier : List What) where
     pub stands : Stands (standing_of p s) → Stands (standing_of p t)
 
   pub quiet_keeps : (s t : State) → IsQuiet p s t → Keeps s t
-  quiet_keeps s t e = record { away = λ a. e; stands = λ h. subst Stands (sym e) h }
+  quiet_keeps s t e = record { away = λ a. e; stands = λ h. subst (λ x. Stands x) (sym e) h }
 
   keeps_joined : (a b c : State) → Keeps a b → Keeps b c → Keeps a c
   keeps_joined a b c h i = record {
@@ -141,7 +128,7 @@ module _ (program : Tree) (p : ℕ) (code : Code) (earlier : List What) where
   -- where the program is known
   pub knowing : {A : Type 0} (s : State) (o : Outcome A) → ((standing_of p s).program ≡ program → IfGoes (λ t. IsQuiet p s t) o) → Leads A s o
   knowing {A} s (Ends t) h = ends s t
-  knowing {A} s (Goes a t) h = record { leads = record { away = λ x. h x.of_program; stands = λ x. subst Stands (sym (h x.of_program)) x } }
+  knowing {A} s (Goes a t) h = record { leads = record { away = λ x. h x.of_program; stands = λ x. subst (λ x. Stands x) (sym (h x.of_program)) x } }
 
   pub lead_away : {A : Type 0} (s : State) (o : Outcome A) → Leads A s o → IsAway program (standing_of p s) → IfGoes (λ t. IsQuiet p s t) o
   lead_away {A} s (Ends t) h a = tt
@@ -406,7 +393,7 @@ module _ (program : Tree) (p : ℕ) (code : Code) (earlier : List What) where
 
       gone : (s : State) → IsGone (standing_of p s) → IfGoes (λ t. Stands (standing_of p t)) (leave_of s (Own p))
       gone s h = to_goes (λ t. Stands (standing_of p t)) (leave_of s (Own p)) (gives_weaker (Unit {0}) (λ a t. At (record (standing_of p s) { exiting = false; listed = false }) t) (λ a t. Stands (standing_of p t)) (leave_of s (Own p)) (from_goes (Unit {0}) _ (leave_of s (Own p)) (leave_stands p s h.room)) (λ a t same.
-          subst Stands (sym same) (record {
+          subst (λ x. Stands x) (sym same) (record {
             of_program = h.of_program;
             tables = h.room ∙ sym h.has;
             free = refl;

@@ -16,6 +16,7 @@ use Rattle.event_queue.specs.Queue.{without_front}
 use Rattle.protothread.specs.declared.part.Part.TheVariants.{Body}
 use Rattle.protothread.specs.Remainder.{fresh_of}
 use Rattle.process_kernel.specs.declared.line.Line.{Line}
+use Rattle.process_kernel.specs.declared.line.Sent.{Sent}
 use Rattle.process_kernel.specs.declared.line.What.{What}
 use Rattle.process_kernel.specs.declared.line.What.TheVariants as what
 use Rattle.process_kernel.specs.declared.process.ProcessState.{ProcessState}
@@ -38,10 +39,11 @@ use Rattle.kernel_laws.specs.Going.{IsNote}
 use Rattle.kernel_laws.specs.InStep.{AreInStep, state_at, exiting_at, listed_in}
 use Rattle.kernel_laws.specs.Traces.{KernelCall, RunAt, PollOf, Accepts, Notes, Traced, with_given, after_call, after_calls, booted_at}
 use Rattle.kernel_laws.specs.Printed.{HasBodyAlone, is_told_of, starts_and_prints, Lives, Unborn, TellsLives, PrintsAreTheReading}
+use Rattle.kernel_laws.specs.Telling.{Standing, standing_of, IsOut, IsIn, Stands, TellsSoFar, IsProcess, TellingIsOfLives, NoLinesTellFirst, BootTells, RunTells, PollTells, PacketTells, NoteTells}
 use Rattle.kernel_laws.proofs.Packets.{IfGoes}
 use Rattle.kernel_laws.proofs.Resting.{numbered_listed, first_rests}
-use Rattle.kernel_laws.proofs.Standing.{Standing, standing_of, IsQuiet, told_more, line_quiet, mark_quiet, poll_quiet}
-use Rattle.kernel_laws.proofs.BodyCalls.{Stands, Keeps, Leads, AreTold, from, bind, either, goes, still, IsOut, IsIn, start_led, calls_told}
+use Rattle.kernel_laws.proofs.Standing.{IsQuiet, told_more, line_quiet, mark_quiet, poll_quiet}
+use Rattle.kernel_laws.proofs.BodyCalls.{Leads, AreTold, from, bind, either, goes, still, start_led, calls_told}
 
 module _ (program : Tree) (p : ℕ) (code : Code) (is_code : slice_get program.codes p ≡ Some code) (alone : HasBodyAlone code) where
   -- boots and kernel runs
@@ -92,18 +94,15 @@ module _ (program : Tree) (p : ℕ) (code : Code) (is_code : slice_get program.c
     unfolding boot_of
     boot_led s = bind program p code earlier s _ _ (starts_led (Etimer ∷ Ctimer ∷ Radio ∷ map Own s.program.autostart) s) (λ a t. still program p code earlier t (left_of t))
 
-  -- between the calls of a kernel
+-- between the calls of a kernel
 
-  -- a mote that has not halted, with these lines
-  abbrev pub IsTold : List Line → Mote → Type 0
-  IsTold lines m = m.halted ≡ false → Stands program p code (starts_and_prints (Own p) lines) (record (standing_of p m.state) { told = [] })
-
+module _ (program : Tree) (p : ℕ) (code : Code) where
   told_twice : (xs ys : List Line) → starts_and_prints (Own p) (xs ++ ys) ≡ starts_and_prints (Own p) xs ++ starts_and_prints (Own p) ys
   told_twice xs ys = ap (filter (is_told_of (Own p))) (map-append (λ l. l.what) xs ys) ∙ filter-append (is_told_of (Own p)) (map (λ l. l.what) xs) (map (λ l. l.what) ys)
 
-  -- what is told now, belongs to what was told earlier
-  settles : (earlier later : List What) (v : Standing) → later ≡ earlier ++ v.told → Stands program p code earlier v → Stands program p code later (record v { told = [] })
-  settles earlier later v e h = record {
+  -- whatever the lines of the run under way tell
+  retold : (told : List What) (v : Standing) (now : List What) → Stands program p code told v → Stands program p code told (record v { told = now })
+  retold told v now h = record {
     of_program = h.of_program;
     tables = h.tables;
     free = h.free;
@@ -111,119 +110,126 @@ module _ (program : Tree) (p : ℕ) (code : Code) (is_code : slice_get program.c
     rest = h.rest;
     left = h.left;
     vars = h.vars;
-    lived = subst (λ l. Lives code (Own p) code.starts l h.left) (sym (append-nil later ∙ e)) h.lived;
-    where_it_is = elim h.where_it_is [ inl out ↦ inl (record { state = out.state; listed = out.listed }) | inr here ↦ inr (is_in here) ];
+    lived = h.lived;
+    where_it_is = elim h.where_it_is [ inl out ↦ inl (record { state = out.state; listed = out.listed }) | inr here ↦ inr (record { has = here.has; state = here.state; listed = here.listed; comes = here.comes }) ];
   }
-    where
-      is_in : IsIn program p code earlier v h.still h.left → IsIn program p code later (record v { told = [] }) h.still h.left
-      is_in here = let c = here.comes in record {
-        has = here.has;
-        state = here.state;
-        listed = here.listed;
-        comes = record { before = c.before; start = c.start; lived = c.lived; did = c.did; answer = c.answer; comes = c.comes; is_told = append-nil later ∙ e ∙ c.is_told };
-      }
 
-  begun_stands : (m : Mote) (moment : ℕ) → standing_of p (begun m moment [] []) ≡ record (standing_of p m.state) { told = [] }
+  begun_stands : (m : Mote) (moment : ℕ) (before : List Line) (sends : List Sent) → standing_of p (begun m moment before sends) ≡ record (standing_of p m.state) { told = starts_and_prints (Own p) before }
   unfolding begun_of
-  begun_stands m moment = ap (λ b. record (standing_of p m.state) { listed = b; told = [] }) (numbered_listed 0 m.state.members (place_of (Own p)))
+  begun_stands m moment before sends = ap (λ b. record (standing_of p m.state) { listed = b; told = starts_and_prints (Own p) before }) (numbered_listed 0 m.state.members (place_of (Own p)))
+
+  begins : (earlier : List Line) (m : Mote) (moment : ℕ) (before : List Line) (sends : List Sent) → Stands program p code (starts_and_prints (Own p) (earlier ++ before)) (standing_of p m.state)
+      → let s = begun m moment before sends in Stands program p code (starts_and_prints (Own p) earlier ++ (standing_of p s).told) (standing_of p s)
+  begins earlier m moment before sends h =
+      subst (λ v. Stands program p code (starts_and_prints (Own p) earlier ++ v.told) v) (sym (begun_stands m moment before sends))
+      (subst (λ l. Stands program p code l (record (standing_of p m.state) { told = starts_and_prints (Own p) before })) (told_twice earlier before) (retold _ (standing_of p m.state) _ h))
 
   -- what a boot or a run that goes on adds
-  given_told : (lines : List Line) (m : Mote) (moment : ℕ) (o : Outcome ℕ) → Stands program p code (starts_and_prints (Own p) lines) (record (standing_of p m.state) { told = [] }) → Leads program p code (starts_and_prints (Own p) lines) ℕ (begun m moment [] []) o
-      → IsTold (lines ++ (given o).lines) (given o).mote
-  given_told lines m moment (Ends t) h leads = λ halted. absurd (cc)
-  given_told lines m moment (Goes a t) h leads = λ on.
-      settles (starts_and_prints (Own p) lines) (starts_and_prints (Own p) (lines ++ t.lines)) (standing_of p t) (told_twice lines t.lines) (leads.leads.stands (subst (λ v. Stands program p code (starts_and_prints (Own p) lines) v) (sym (begun_stands m moment)) h))
+  given_told : (earlier : List Line) (m : Mote) (moment : ℕ) (before : List Line) (sends : List Sent) (o : Outcome ℕ) → Stands program p code (starts_and_prints (Own p) (earlier ++ before)) (standing_of p m.state)
+      → Leads program p code (starts_and_prints (Own p) earlier) ℕ (begun m moment before sends) o → TellsSoFar program p code (earlier ++ (given o).lines) (given o).mote
+  given_told earlier m moment before sends (Ends t) h leads = λ halted. absurd (cc)
+  given_told earlier m moment before sends (Goes a t) h leads = λ on.
+      subst (λ l. Stands program p code l (record (standing_of p t) { told = [] })) (sym (told_twice earlier t.lines)) (retold _ (standing_of p t) [] (leads.leads.stands (begins earlier m moment before sends h)))
 
-  unless_told : (lines : List Line) (m : Mote) (o : Outcome ℕ) (b : Bool) → m.halted ≡ b → (m.halted ≡ false → IsTold (lines ++ (given o).lines) (given o).mote)
-      → IsTold (lines ++ (unless_halted m [] [] (given o)).lines) (unless_halted m [] [] (given o)).mote
-  unless_told lines m o true e h = rw e (λ on. absurd (cc))
-  unless_told lines m o false e h = rw e (h e)
+  unless_told : (earlier : List Line) (m : Mote) (before : List Line) (sends : List Sent) (o : Outcome ℕ) (b : Bool) → m.halted ≡ b → (m.halted ≡ false → TellsSoFar program p code (earlier ++ (given o).lines) (given o).mote)
+      → let g = unless_halted m before sends (given o) in TellsSoFar program p code (earlier ++ g.lines) g.mote
+  unless_told earlier m before sends o true e h = rw e (λ on. absurd (cc))
+  unless_told earlier m before sends o false e h = rw e (h e)
 
-  run_told : (lines : List Line) (m : Mote) (moment : ℕ) → IsTold lines m → IsTold (lines ++ (run_given moment m [] []).lines) (run_given moment m [] []).mote
-  unfolding run_given
-  run_told lines m moment h =
-      let earlier = starts_and_prints (Own p) lines in
-      unless_told lines m _ m.halted refl (λ on. given_told lines m moment _ (h on) (kernel_led earlier (calls_of (UNITS + 1)) (calls_told program p code earlier is_code alone (UNITS + 1)) (begun m moment [] [])))
+pub run_tells : RunTells
+unfolding run_given
+run_tells program p code earlier m moment before sends is h =
+    let told = starts_and_prints (Own p) earlier in
+    unless_told program p code earlier m before sends _ m.halted refl (λ on. given_told program p code earlier m moment before sends _ (h on) (kernel_led program p code is.is_code is.alone told (calls_of (UNITS + 1)) (calls_told program p code told is.is_code is.alone (UNITS + 1)) (begun m moment before sends)))
 
-  boot_told : (lines : List Line) (m : Mote) (moment : ℕ) → IsTold lines m → IsTold (lines ++ (boot_given moment m [] []).lines) (boot_given moment m [] []).mote
-  unfolding boot_given
-  boot_told lines m moment h =
-      let earlier = starts_and_prints (Own p) lines in
-      unless_told lines m _ m.halted refl (λ on. given_told lines m moment _ (h on) (boot_led earlier (calls_of (UNITS + 1)) (calls_told program p code earlier is_code alone (UNITS + 1)) (begun m moment [] [])))
+pub boot_tells : BootTells
+unfolding boot_given
+boot_tells program p code earlier m moment before sends is h =
+    let told = starts_and_prints (Own p) earlier in
+    unless_told program p code earlier m before sends _ m.halted refl (λ on. given_told program p code earlier m moment before sends _ (h on) (boot_led program p code is.is_code is.alone told (calls_of (UNITS + 1)) (calls_told program p code told is.is_code is.alone (UNITS + 1)) (begun m moment before sends)))
 
-  poll_told : (lines : List Line) (m : Mote) (q : Proc) → IsTold lines m → IsTold lines (with_poll m q)
-  unfolding with_poll
-  poll_told lines m q h = λ on. subst (λ v. Stands program p code (starts_and_prints (Own p) lines) (record v { told = [] })) (sym (poll_quiet p m.state q)) (h on)
+pub poll_tells : PollTells
+unfolding with_poll
+poll_tells program p code lines m q h = λ on. subst (λ v. Stands program p code (starts_and_prints (Own p) lines) v) (sym (poll_quiet p m.state q)) (h on)
 
-  note_apart : (w : What) → IsNote w → is_told_of (Own p) w ≡ false
-  note_apart (what.Recv f n v) h = refl
-  note_apart (what.Lost f n) h = refl
-  note_apart (what.Collide f n) h = refl
-  note_apart (what.Start q) h = absurd h
-  note_apart (what.Leave q) h = absurd h
-  note_apart (what.Post n t e w) h = absurd h
-  note_apart (what.Full t e w) h = absurd h
-  note_apart (what.Take n q) h = absurd h
-  note_apart (what.Drop n q) h = absurd h
-  note_apart (what.Print q v) h = absurd h
-  note_apart (what.Busy q) h = absurd h
-  note_apart what.Halt h = absurd h
-  note_apart (what.Send n v) h = absurd h
-  note_apart (what.Deaf f n) h = absurd h
+pub packet_tells : PacketTells
+unfolding with_packet
+packet_tells program p code lines m a h = h
 
-  note_told : (lines : List Line) (m : Mote) (l : Line) → IsNote l.what → IsTold lines m → IsTold (lines ++ l ∷ []) m
-  note_told lines m l n h = λ on.
-      subst (λ ws. Stands program p code ws (record (standing_of p m.state) { told = [] })) (sym (told_more (Own p) lines l ∙ ap (λ b. starts_and_prints (Own p) lines ++ (if b then l.what ∷ [] else [])) (note_apart l.what n) ∙ append-nil _)) (h on)
+note_apart : (p : ℕ) (w : What) → IsNote w → is_told_of (Own p) w ≡ false
+note_apart p (what.Recv f n v) h = refl
+note_apart p (what.Lost f n) h = refl
+note_apart p (what.Collide f n) h = refl
+note_apart p (what.Start q) h = absurd h
+note_apart p (what.Leave q) h = absurd h
+note_apart p (what.Post n t e w) h = absurd h
+note_apart p (what.Full t e w) h = absurd h
+note_apart p (what.Take n q) h = absurd h
+note_apart p (what.Drop n q) h = absurd h
+note_apart p (what.Print q v) h = absurd h
+note_apart p (what.Busy q) h = absurd h
+note_apart p what.Halt h = absurd h
+note_apart p (what.Send n v) h = absurd h
+note_apart p (what.Deaf f n) h = absurd h
 
-  call_told : (t : Traced) (c : KernelCall) → IsTold t.lines t.mote → IsTold (after_call t c).lines (after_call t c).mote
-  unfolding with_packet
-  call_told t (RunAt moment) h = run_told t.lines t.mote moment h
-  call_told t (PollOf q) h = poll_told t.lines t.mote q h
-  call_told t (Accepts a) h = h
-  call_told t (Notes l n) h = noted t.mote.halted
+pub note_tells : NoteTells
+note_tells program p code lines m l n h = λ on.
+    subst (λ told. Stands program p code told (standing_of p m.state)) (sym (told_more (Own p) lines l ∙ ap (λ b. starts_and_prints (Own p) lines ++ (if b then l.what ∷ [] else [])) (note_apart p l.what n) ∙ append-nil _)) (h on)
+
+-- before the boot
+
+is_off : (x : ProcessState) (e l : Bool) → AreInStep x e l → l ≡ false → x ≡ Off
+is_off Off e l h q = refl
+is_off Running e l h q = absurd (let f : true ≡ false = sym h.1 ∙ q in cc)
+is_off Called e l h q = absurd (let f : true ≡ false = sym h.1 ∙ q in cc)
+
+pub no_lines_tell_first : NoLinesTellFirst
+unfolding unbooted
+no_lines_tell_first program p code mote queue is = λ on.
+    let s = (unbooted program mote queue).state in
+    let n = length program.processes + 3 in
+    let r = first_rests program mote queue in
+    let k = place_of (Own p) in record {
+      of_program = refl;
+      tables = ap (nat_lt k) (length-replicate n false ∙ sym (length-replicate n Off));
+      free = r.idle.exiting k;
+      still = fresh_of code Body;
+      rest = slice_get-map (λ c. fresh_of c Body) program.codes p ∙ ap (λ o. option_map (λ c. fresh_of c Body) o) is.is_code;
+      left = code.starts;
+      vars = slice_get-map (λ c. c.starts) program.codes p ∙ ap (λ o. option_map (λ c. c.starts) o) is.is_code;
+      lived = Unborn;
+      where_it_is = inl (record { state = is_off (state_at s k) (exiting_at s k) (listed_in s.members k) (r.step.each k) refl; listed = refl });
+    }
+
+pub telling_is_of_lives : TellingIsOfLives
+telling_is_of_lives program p code lines m h on = let k = h on in (k.left, k.vars, k.lived)
+
+-- over any calls of a kernel
+
+module _ (program : Tree) (p : ℕ) (code : Code) (is : IsProcess program p code) where
+  abbrev Tells : Traced → Type 0
+  Tells t = TellsSoFar program p code t.lines t.mote
+
+  call_tells : (t : Traced) (c : KernelCall) → Tells t → Tells (after_call t c)
+  call_tells t (RunAt moment) h = run_tells program p code t.lines t.mote moment [] [] is (subst (λ l. TellsSoFar program p code l t.mote) (sym (append-nil t.lines)) h)
+  call_tells t (PollOf q) h = poll_tells program p code t.lines t.mote q h
+  call_tells t (Accepts a) h = packet_tells program p code t.lines t.mote a h
+  call_tells t (Notes l n) h = noted t.mote.halted
     where
-      noted : (b : Bool) → IsTold (if b then t else record t { lines = t.lines ++ l ∷ [] }).lines (if b then t else record t { lines = t.lines ++ l ∷ [] }).mote
+      noted : (b : Bool) → Tells (if b then t else record t { lines = t.lines ++ l ∷ [] })
       noted true = h
-      noted false = note_told t.lines t.mote l n h
+      noted false = note_tells program p code t.lines t.mote l n h
 
-  calls_kept : (cs : List KernelCall) (t : Traced) → IsTold t.lines t.mote → IsTold (after_calls t cs).lines (after_calls t cs).mote
-  calls_kept [] t h = h
-  calls_kept (c ∷ cs) t h = calls_kept cs (after_call t c) (call_told t c h)
+  calls_tell : (cs : List KernelCall) (t : Traced) → Tells t → Tells (after_calls t cs)
+  calls_tell [] t h = h
+  calls_tell (c ∷ cs) t h = calls_tell cs (after_call t c) (call_tells t c h)
 
-  -- before the boot
-
-  is_off : (x : ProcessState) (e l : Bool) → AreInStep x e l → l ≡ false → x ≡ Off
-  is_off Off e l h q = refl
-  is_off Running e l h q = absurd (let f : true ≡ false = sym h.1 ∙ q in cc)
-  is_off Called e l h q = absurd (let f : true ≡ false = sym h.1 ∙ q in cc)
-
-  first_told : (mote queue : ℕ) → IsTold [] (unbooted program mote queue)
-  unfolding unbooted
-  first_told mote queue = λ on.
-      let s = (unbooted program mote queue).state in
-      let n = length program.processes + 3 in
-      let r = first_rests program mote queue in
-      let k = place_of (Own p) in record {
-        of_program = refl;
-        tables = ap (nat_lt k) (length-replicate n false ∙ sym (length-replicate n Off));
-        free = r.idle.exiting k;
-        still = fresh_of code Body;
-        rest = slice_get-map (λ c. fresh_of c Body) program.codes p ∙ ap (λ o. option_map (λ c. fresh_of c Body) o) is_code;
-        left = code.starts;
-        vars = slice_get-map (λ c. c.starts) program.codes p ∙ ap (λ o. option_map (λ c. c.starts) o) is_code;
-        lived = Unborn;
-        where_it_is = inl (record { state = is_off (state_at s k) (exiting_at s k) (listed_in s.members k) (r.step.each k) refl; listed = refl });
-      }
-
-  pub booted_told : (mote queue moment : ℕ) → IsTold (booted_at program mote queue moment).lines (booted_at program mote queue moment).mote
-  booted_told mote queue moment = boot_told [] (unbooted program mote queue) moment (first_told mote queue)
-
-  pub lives_told : (lines : List Line) (m : Mote) → IsTold lines m → m.halted ≡ false → TellsLives code p lines (slice_get m.state.variables p)
-  lives_told lines m h on =
-      let k = h on in (k.left, k.vars, subst (λ l. Lives code (Own p) code.starts l k.left) (append-nil (starts_and_prints (Own p) lines)) k.lived)
+  booted_tells : (mote queue moment : ℕ) → Tells (booted_at program mote queue moment)
+  booted_tells mote queue moment = boot_tells program p code [] (unbooted program mote queue) moment [] [] is (no_lines_tell_first program p code mote queue is)
 
 pub prints_are_the_reading : PrintsAreTheReading
 prints_are_the_reading program p code mote queue moment calls is_code alone on =
+    let is : IsProcess program p code = record { is_code = is_code; alone = alone } in
     let first = booted_at program mote queue moment in
     let t = after_calls first calls in
-    lives_told program p code is_code alone t.lines t.mote (calls_kept program p code is_code alone calls first (booted_told program p code is_code alone mote queue moment)) on
+    telling_is_of_lives program p code t.lines t.mote (calls_tell program p code is calls first (booted_tells program p code is mote queue moment)) on

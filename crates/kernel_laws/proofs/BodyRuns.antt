@@ -31,10 +31,12 @@ use Rattle.process_kernel.specs.Call.{has_ended}
 use Rattle.process_kernel.specs.Thread.{stepped_with, stepped_of}
 use Rattle.process_kernel.specs.Operation.{posted, act_of, answered_with, answer_of, perform_of, after_step, run_of}
 use Rattle.kernel_laws.specs.Printed.{prints, left_by, starts_and_prints, is_told_of, Life, Lives, Lives_again}
+use Rattle.kernel_laws.specs.Telling as telling
+use Rattle.kernel_laws.specs.Telling.{Standing, standing_of, HasRun}
 use Rattle.kernel_laws.proofs.Packets.{IfGoes}
-use Rattle.kernel_laws.proofs.Lives.{HasRun, ComesTo, operates_on, gives_up_on, stands_there, exits_there, ends_there, life_of, prints-append}
+use Rattle.kernel_laws.proofs.Lives.{operates_on, gives_up_on, stands_there, exits_there, ends_there, life_of, prints-append}
 use Rattle.kernel_laws.proofs.Untold.{IsUntold, StepUntold, step_untold, answer_untold}
-use Rattle.kernel_laws.proofs.Standing.{Standing, standing_of, get_set, told_more, post_quiet}
+use Rattle.kernel_laws.proofs.Standing.{get_set, told_more, post_quiet}
 
 -- what is true of the answer and the state of an outcome that goes on
 abbrev pub IfGives : {A : Type 0} → (A → State → Type 0) → Outcome A → Type 0
@@ -67,14 +69,8 @@ IsNoPrint o = Unit {0}
 -- behind what was told of the process earlier
 module _ (program : Tree) (p : ℕ) (code : Code) (earlier : List What) where
   -- In the life that its last start began it came to here.
-  pub record ComesHere (told : List What) (r : Remainder) (vars : List ℕ) : Type 0 where
-    pub before : List What
-    pub start : List ℕ
-    pub lived : Lives code (Own p) code.starts before start
-    pub did : List Happening
-    pub answer : ℕ
-    pub comes : ComesTo code start did answer r vars
-    pub is_told : earlier ++ told ≡ before ++ what.Start (Own p) ∷ prints (Own p) did
+  abbrev pub ComesHere : List What → Remainder → List ℕ → Type 0
+  ComesHere told r vars = telling.ComesHere p code (earlier ++ told) r vars
 
   -- What was told is lives up to these variables.
   abbrev pub HasLived : List What → List ℕ → Type 0

@@ -16,18 +16,15 @@ use Rattle.protothread.specs.Runs.{Steps, Runs, operated, operated_last, gave_up
 use Rattle.protothread.proofs.Splits.{reads_the_text}
 use Rattle.process_kernel.specs.declared.line.What.{What}
 use Rattle.process_kernel.specs.declared.line.What.TheVariants as what
-use Rattle.kernel_laws.specs.Printed.{prints, left_by, Life, Lives, Lives_again}
+use Rattle.kernel_laws.specs.Printed.{prints, Life}
+use Rattle.kernel_laws.specs.Telling as telling
 
 module _ (code : Code) (start : List ℕ) where
-  -- a run of a fresh thread that did this
-  pub record HasRun (did : List Happening) (out : Outcome) : Type 0 where
-    pub now : Sight
-    pub later : List Sight
-    pub runs : Runs code (fresh_of code Body) start now later did out
+  abbrev HasRun : List Happening → Outcome → Type 0
+  HasRun did out = telling.HasRun code start did out
 
-  -- It did this so far, and whatever it does from here on, told this answer, belongs to the same run.
-  pub record ComesTo (did : List Happening) (answer : ℕ) (r : Remainder) (vars : List ℕ) : Type 0 where
-    pub on : (now : Sight) (later : List Sight) (more : List Happening) (out : Outcome) → now.answer ≡ answer → Runs code r vars now later more out → HasRun (did ++ more) out
+  abbrev ComesTo : List Happening → (answer : ℕ) → Remainder → List ℕ → Type 0
+  ComesTo did answer r vars = telling.ComesTo code start did answer r vars
 
   pub at_first : (answer : ℕ) → ComesTo [] answer (fresh_of code Body) start
   at_first answer = record { on = λ now later more out e runs. record { now = now; later = later; runs = runs } }

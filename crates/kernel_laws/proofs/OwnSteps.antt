@@ -27,9 +27,10 @@ use Rattle.process_kernel.specs.Calls.{Calls, Answer}
 use Rattle.process_kernel.specs.Thread.{stepped_with, stepped_of}
 use Rattle.process_kernel.specs.Operation.{after_step, run_of}
 use Rattle.kernel_laws.specs.Printed.{starts_and_prints}
+use Rattle.kernel_laws.specs.Telling.{Standing, standing_of}
 use Rattle.kernel_laws.proofs.Packets.{IfGoes}
 use Rattle.kernel_laws.proofs.Tables.{set_same, left_out}
-use Rattle.kernel_laws.proofs.Standing.{Standing, standing_of, get_set, fresh_there, told_more, line_quiet, IsQuiet}
+use Rattle.kernel_laws.proofs.Standing.{get_set, fresh_there, told_more, line_quiet, IsQuiet}
 use Rattle.kernel_laws.proofs.BodyRuns.{IfGives}
 
 below : (k n : ℕ) → nat_lt k n ≡ true → k < n

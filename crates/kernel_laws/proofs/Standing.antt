@@ -26,35 +26,10 @@ use Rattle.process_kernel.specs.ProcessList.{put_remainder, fresh_at, with_fresh
 use Rattle.process_kernel.specs.Posts.{post_of, poll_of, send_of}
 use Rattle.process_kernel.specs.Writes.{with_line, write_of}
 use Rattle.kernel_laws.specs.Printed.{is_told_of, starts_and_prints}
+use Rattle.kernel_laws.specs.Telling.{standing_of}
 use Rattle.kernel_laws.proofs.Packets.{IfGoes, goes_if}
 use Rattle.kernel_laws.proofs.Steps.{others_stay}
 use Rattle.kernel_laws.proofs.Tables.{set_same, set_other, is_equal}
-
--- the program; whether the tables have room for the process; its state, whether it is being exited, and whether it is on the process
--- list; what its body has still to do, its variables, and what was told of it
-pub record Standing : Type 0 where
-  pub program : Tree
-  pub has : Bool
-  pub room : Bool
-  pub state : ProcessState
-  pub exiting : Bool
-  pub listed : Bool
-  pub rest : Option Remainder
-  pub vars : Option (List ℕ)
-  pub told : List What
-
-abbrev pub standing_of : (p : ℕ) → State → Standing
-standing_of p s = record {
-  program = s.program;
-  has = has_process s (Own p);
-  room = nat_lt (place_of (Own p)) (length s.exiting);
-  state = process_state s (Own p);
-  exiting = flag_at s.exiting (Own p);
-  listed = is_listed s (Own p);
-  rest = slice_get s.remainders p;
-  vars = slice_get s.variables p;
-  told = starts_and_prints (Own p) s.lines;
-}
 
 -- tables
 

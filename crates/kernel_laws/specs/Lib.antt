@@ -9,4 +9,5 @@ pub mod Printed
 pub mod Ring
 pub mod Seen
 pub mod Stamps
+pub mod Telling
 pub mod Traces

@@ -3,6 +3,7 @@
 ghost use Rattle.kernel_laws.specs.Polled.{PacketsAreHanded, TimersAreTold};
 ghost use Rattle.kernel_laws.specs.Due.{CallsForgetNone, BootForgetsNone, RunForgetsNone, RunTellsDue, BootKeepsOwners, RunKeepsOwners};
 ghost use Rattle.kernel_laws.specs.Printed.{PrintsAreTheReading};
+ghost use Rattle.kernel_laws.specs.Telling.{TellingIsOfLives, NoLinesTellFirst, BootTells, RunTells, PollTells, PacketTells, NoteTells};
 ghost use Rattle.kernel_laws.specs.Ring.{CallsTellPackets, BootTellsPackets, RunTellsPackets, RunEmptiesRing};
 ghost use Rattle.kernel_laws.specs.Laws.{KernelsHandOn, GoingIsInOrder, NoLinesGoFirst, BootAddsItsLines, RunAddsItsLines, PollKeeps, PacketKeeps, NoteKeeps, OnlyTheRunningAreCalled, CallsKeepStep, ListedAreRunning, CallsStamp, BootStamps, RunStamps};
 
@@ -75,4 +76,16 @@ pub fn no_timer_is_forgotten()
 /// mote doesn't halt. A next life begins with the variables that the one before left.
 pub fn prints_are_the_reading()
     ensures { PrintsAreTheReading }
+{}
+
+/// The lines so far of a kernel tell of the lives of such a process up to where it stands: a mote that was not booted has none, and each call of
+/// its kernel keeps this, whatever was written before the call.
+pub fn each_call_tells_lives()
+    ensures lives { TellingIsOfLives }
+    ensures first { NoLinesTellFirst }
+    ensures boot { BootTells }
+    ensures run { RunTells }
+    ensures poll { PollTells }
+    ensures packet { PacketTells }
+    ensures note { NoteTells }
 {}
