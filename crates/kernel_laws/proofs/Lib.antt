@@ -16,6 +16,7 @@ pub mod Owners
 pub mod Packets
 pub mod Passes
 pub mod PollTurns
+pub mod QuietThreads
 pub mod Resting
 pub mod Ring
 pub mod StampedCalls

@@ -1,9 +1,9 @@
 -- What a process prints, and what its body says.
-use Rattle.std.specs.Prelude.{ℕ, ◌≡◌, Bool, false, List, [], ◌∷◌, ◌++◌, map, Option, None, Some, slice_get}
+use Rattle.std.specs.Prelude.{ℕ, ◌≡◌, ◌&&◌, Bool, true, false, List, [], ◌∷◌, ◌++◌, map, Option, None, Some, slice_get}
 use Rattle.std.specs.List.{filter}
 use Rattle.mote_program.specs.declared.event.Proc.{Proc}
 use Rattle.mote_program.specs.declared.event.Proc.TheVariants.{Own}
-use Rattle.mote_program.specs.Tree.{listed}
+use Rattle.mote_program.specs.Tree.{Action, assign, print, spawn, post, broadcast, Statement, does, branch, while, Body, end, next, Otherwise, nothing, otherwise, listed}
 use Rattle.mote_program.specs.Code.{Code, Tree}
 use Rattle.protothread.specs.declared.state.PtState.TheVariants.{Yielded}
 use Rattle.protothread.specs.declared.step.Op.TheVariants as op
@@ -14,12 +14,44 @@ use Rattle.process_kernel.specs.declared.line.What.TheVariants as what
 use Rattle.process_kernel.specs.Members.{is_same}
 use Rattle.kernel_laws.specs.Traces.{KernelCall, Traced, after_calls, booted_at}
 
--- The process has its body alone: no block that is run at POLL or at EXIT, and no callback timer. Those would print in its name too, and
--- change its variables between the calls of its body.
-pub record HasBodyAlone (code : Code) : Type 0 where
-  pub no_poll : code.on_poll ≡ None
-  pub no_exit : code.on_exit ≡ None
-  pub no_callbacks : code.callbacks ≡ []
+-- A statement, or a block, that is quiet: it prints nothing, sets no variable and spawns no thread.
+
+abbrev pub is_quiet_action : Action ℕ → Bool
+is_quiet_action (print e) = false
+is_quiet_action (assign i e) = false
+is_quiet_action (spawn t) = false
+is_quiet_action (post q e w (Some i)) = false
+is_quiet_action (broadcast e w (Some i)) = false
+is_quiet_action a = true
+
+abbrev mutual
+  pub is_quiet : Body ℕ → Bool
+  is_quiet end = true
+  is_quiet (next s b) = is_quiet_statement s && is_quiet b
+
+  pub is_quiet_statement : Statement ℕ → Bool
+  is_quiet_statement (does a) = is_quiet_action a
+  is_quiet_statement (branch c a o) = is_quiet a && is_quiet_other o
+  is_quiet_statement (while c a) = is_quiet a
+
+  pub is_quiet_other : Otherwise ℕ → Bool
+  is_quiet_other nothing = true
+  is_quiet_other (otherwise b) = is_quiet b
+
+abbrev pub are_quiet : List (Body ℕ) → Bool
+are_quiet [] = true
+are_quiet (b ∷ bs) = is_quiet b && are_quiet bs
+
+abbrev pub is_quiet_block : Option (Body ℕ) → Bool
+is_quiet_block None = true
+is_quiet_block (Some b) = is_quiet b
+
+-- Apart from its body a process is quiet, in the blocks that are run at POLL and at EXIT, and in those of its callback timers. Else these would
+-- print in its name too, and change its variables between the calls of its body.
+pub record IsQuietApart (code : Code) : Type 0 where
+  pub at_poll : is_quiet_block code.on_poll ≡ true
+  pub at_exit : is_quiet_block code.on_exit ≡ true
+  pub in_callbacks : are_quiet code.callbacks ≡ true
 
 -- it tells that this process starts, or what it prints
 abbrev pub is_told_of : Proc → What → Bool
@@ -64,10 +96,10 @@ pub data Lives (code : Code) (p : Proc) (variables : List ℕ) : List What → (
 abbrev pub TellsLives : Code → (p : ℕ) → List Line → (variables : Option (List ℕ)) → Type 0
 TellsLives code p lines variables = (left : List ℕ) × (variables ≡ Some left) × Lives code (Own p) code.starts (starts_and_prints (Own p) lines) left
 
--- A process that has its body alone prints, from each start on, what a reading of its body does, whatever the others do, and whatever calls
+-- A process that is quiet apart from its body prints, from each start on, what a reading of its body does, whatever the others do, and whatever calls
 -- follow the boot, as long as the mote doesn't halt.
 abbrev pub PrintsAreTheReading : Type 0
 PrintsAreTheReading =
-    (program : Tree) (p : ℕ) (code : Code) (mote queue moment : ℕ) (calls : List KernelCall) → slice_get program.codes p ≡ Some code → HasBodyAlone code →
+    (program : Tree) (p : ℕ) (code : Code) (mote queue moment : ℕ) (calls : List KernelCall) → slice_get program.codes p ≡ Some code → IsQuietApart code →
     let t = after_calls (booted_at program mote queue moment) calls in
     t.mote.halted ≡ false → TellsLives code p t.lines (slice_get t.mote.state.variables p)

@@ -20,7 +20,7 @@ use Rattle.process_kernel.specs.Processes.{process_state, flag_at, has_process, 
 use Rattle.process_kernel.specs.Mote.{Mote, unbooted, with_packet, with_poll}
 use Rattle.process_kernel.specs.Public.{boot_given, run_given}
 use Rattle.kernel_laws.specs.Going.{IsNote}
-use Rattle.kernel_laws.specs.Printed.{HasBodyAlone, starts_and_prints, prints, Lives, TellsLives}
+use Rattle.kernel_laws.specs.Printed.{IsQuietApart, starts_and_prints, prints, Lives, TellsLives}
 
 -- a run of the fresh thread of the body, from these variables, that did this
 pub record HasRun (code : Code) (start : List ℕ) (did : List Happening) (out : Outcome) : Type 0 where
@@ -95,10 +95,10 @@ pub record Stands (program : Tree) (p : ℕ) (code : Code) (told : List What) (v
 abbrev pub TellsSoFar : Tree → (p : ℕ) → Code → List Line → Mote → Type 0
 TellsSoFar program p code lines m = m.halted ≡ false → Stands program p code (starts_and_prints (Own p) lines) (standing_of p m.state)
 
--- a process of this number, with this code, that has its body alone
+-- a process of this number, with this code, that is quiet apart from its body
 pub record IsProcess (program : Tree) (p : ℕ) (code : Code) : Type 0 where
   pub is_code : slice_get program.codes p ≡ Some code
-  pub alone : HasBodyAlone code
+  pub quiet : IsQuietApart code
 
 -- lines that tell so far tell of lives
 
