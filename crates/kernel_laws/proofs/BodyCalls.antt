@@ -1,16 +1,14 @@
 -- Each call keeps that what is told of a process are its lives, however deep calls nest.
-use Rattle.std.proofs.Common.{ℕ, zero, suc, ◌≡◌, ◌⊎◌, inl, inr, not, ◌&&◌, ◌||◌, ◌==◌, nat_lt, Bool, true, false, if◌then◌else◌, List, [], ◌∷◌, ◌++◌, Option, Some, None, slice_get, unwrap_or, refl, sym, ap, ◌∙◌, subst, arith, append_assoc}
-use Rattle.std.proofs.lemmas.Bool.Decides.{nat_tests}
+use Rattle.std.proofs.Common.{ℕ, zero, suc, ◌≡◌, ◌⊎◌, inl, inr, not, ◌&&◌, ◌||◌, ◌==◌, nat_lt, Bool, true, false, if◌then◌else◌, List, [], ◌∷◌, ◌++◌, Option, Some, None, slice_get, unwrap_or, refl, sym, ap, ◌∙◌, subst, append_assoc}
 use Rattle.mote_program.specs.declared.event.Proc.{Proc}
 use Rattle.mote_program.specs.declared.event.Proc.TheVariants.{Own, Etimer, Ctimer, Radio}
 use Rattle.mote_program.specs.declared.event.Target.TheVariants.{One}
 use Rattle.mote_program.specs.declared.event.Event.{Event}
 use Rattle.mote_program.specs.declared.event.SystemEvent.TheVariants.{Poll, Exit, Exited, Timer, Init}
 use Rattle.mote_program.specs.declared.timer.Timer.{Timer as TimerOfProgram}
-use Rattle.mote_program.specs.Code.{Code, Tree, callback_at}
+use Rattle.mote_program.specs.Code.{Code, Tree}
 use Rattle.mote_timers.specs.Timer.{is_due}
 use Rattle.mote_timers.specs.TimerLists.{timer_at}
-use Rattle.protothread.specs.declared.part.Part.{Part}
 use Rattle.protothread.specs.declared.part.Part.TheVariants.{Body, OnPoll, OnExit, Callback}
 use Rattle.protothread.specs.declared.state.PtState.{PtState}
 use Rattle.protothread.specs.declared.state.PtState.TheVariants.{Yielded, Ended}
@@ -18,17 +16,17 @@ use Rattle.protothread.specs.declared.step.Op.{Op}
 use Rattle.protothread.specs.declared.step.Op.TheVariants as op
 use Rattle.protothread.specs.declared.step.Step.{Step}
 use Rattle.protothread.specs.declared.step.Step.TheVariants as step
-use Rattle.protothread.specs.Remainder.{Remainder, statements_of, fresh_of, whole_of}
+use Rattle.protothread.specs.Remainder.{Remainder, fresh_of}
+use Rattle.protothread.specs.Step.{advanced_of, answered_of}
 use Rattle.process_kernel.specs.declared.line.What.{What}
 use Rattle.process_kernel.specs.declared.line.What.TheVariants as what
-use Rattle.process_kernel.specs.declared.process.ProcessState.{ProcessState}
 use Rattle.process_kernel.specs.declared.process.ProcessState.TheVariants.{Off, Running, Called}
 use Rattle.process_kernel.specs.declared.process.Member.{Member}
 use Rattle.process_kernel.specs.Members.{place_of, is_same}
 use Rattle.process_kernel.specs.State.{State, Outcome, Went, Ends, Goes, ◌>>=◌}
-use Rattle.process_kernel.specs.Processes.{is_running_state, is_called_state, has_process, is_busy, is_listed, is_running, is_on_list, with_state}
+use Rattle.process_kernel.specs.Processes.{is_running_state, has_process, is_busy, is_listed, is_running, with_state}
 use Rattle.process_kernel.specs.ProcessList.{put_remainder, with_fresh_body, enlist_of, exiting_of, leave_of}
-use Rattle.process_kernel.specs.Posts.{post_of, poll_of, send_of}
+use Rattle.process_kernel.specs.Posts.{post_of}
 use Rattle.process_kernel.specs.Semaphores.{take_of, signal_of}
 use Rattle.process_kernel.specs.TimerOperations.{has_timer, timer_is_set, set_of, reset_of, restart_of, stop_of}
 use Rattle.process_kernel.specs.Writes.{with_line, write_of, spend_of}
@@ -41,9 +39,10 @@ use Rattle.process_kernel.specs.Exit.{number_of, last_run_of, exit_of}
 use Rattle.process_kernel.specs.Start.{start_of}
 use Rattle.process_kernel.specs.Kill.{kill_of}
 use Rattle.process_kernel.specs.Thread.{stepped_with, stepped_of}
-use Rattle.process_kernel.specs.Operation.{answered_with, answer_of, act_of, perform_of, after_step, run_of}
+use Rattle.process_kernel.specs.Looks.{looks_of}
+use Rattle.process_kernel.specs.Operation.{posted, answered_with, answer_of, act_of, perform_of, after_step, run_of}
 use Rattle.process_kernel.specs.Call.{has_ended, answered, call_of, calls_of}
-use Rattle.kernel_laws.specs.Printed.{HasBodyAlone}
+use Rattle.kernel_laws.specs.Printed.{IsQuietApart}
 use Rattle.kernel_laws.specs.Telling as telling
 use Rattle.kernel_laws.specs.Telling.{Standing, standing_of, IsOut}
 use Rattle.kernel_laws.proofs.Packets.{IfGoes, goes_if, goes_bind}
@@ -51,9 +50,10 @@ use Rattle.kernel_laws.proofs.EachStep.{Lead, AreJoined, lead_from, lead_bind, l
 use Rattle.kernel_laws.proofs.Tables.{is_equal}
 use Rattle.kernel_laws.proofs.Watch.{Whatever}
 use Rattle.kernel_laws.proofs.Lives.{at_first}
-use Rattle.kernel_laws.proofs.Standing.{IsOther, IsQuiet, which, own_other, other_own, etimer_other, ctimer_other, radio_other, line_quiet, print_quiet, state_quiet, exiting_quiet, quiet_if, poll_quiet, variables_quiet, remainder_quiet, body_quiet, enlist_quiet, leave_quiet, post_quiet, send_quiet}
-use Rattle.kernel_laws.proofs.OwnSteps.{alike, empty_runs, state_stands, exiting_stands, leave_stands, body_stands, put_stands, enlist_stands}
-use Rattle.kernel_laws.proofs.BodyRuns.{IfGives, gives_bind, gives_weaker, from_goes, IsAway, ComesHere, HasLived, Ran, RanFrom, BodyRuns, IsNoPrint, runs_on}
+use Rattle.kernel_laws.proofs.QuietThreads.{IsQuietRest, fresh_quiet, poll_quiet as on_poll_quiet, exit_quiet as on_exit_quiet, callback_quiet, IsNoPrintStep, advances_quietly, answered_quietly}
+use Rattle.kernel_laws.proofs.Standing.{get_set, IsOther, IsQuiet, which, other_own, line_quiet, print_quiet, state_quiet, exiting_quiet, quiet_if, poll_quiet, variables_quiet, remainder_quiet, body_quiet, enlist_quiet, leave_quiet, post_quiet, send_quiet}
+use Rattle.kernel_laws.proofs.OwnSteps.{alike, state_stands, exiting_stands, leave_stands, body_stands, put_stands, enlist_stands}
+use Rattle.kernel_laws.proofs.BodyRuns.{IfGives, gives_bind, gives_weaker, from_goes, IsAway, ComesHere, HasLived, RanFrom, BodyRuns, IsNoPrint, runs_on}
 
 -- behind what was told of the process earlier
 module _ (program : Tree) (p : ℕ) (code : Code) (earlier : List What) where
@@ -126,9 +126,9 @@ module _ (program : Tree) (p : ℕ) (code : Code) (earlier : List What) where
   lead_of {A} s (Goes a t) h i = record { leads = record { away = h; stands = i } }
 
   -- where the program is known
-  pub knowing : {A : Type 0} (s : State) (o : Outcome A) → ((standing_of p s).program ≡ program → IfGoes (λ t. IsQuiet p s t) o) → Leads A s o
+  pub knowing : {A : Type 0} (s : State) (o : Outcome A) → ((standing_of p s).program ≡ program → Leads A s o) → Leads A s o
   knowing {A} s (Ends t) h = ends s t
-  knowing {A} s (Goes a t) h = record { leads = record { away = λ x. h x.of_program; stands = λ x. subst (λ x. Stands x) (sym (h x.of_program)) x } }
+  knowing {A} s (Goes a t) h = record { leads = record { away = λ x. (h x.of_program).leads.away x; stands = λ x. (h x.of_program).leads.stands x } }
 
   pub lead_away : {A : Type 0} (s : State) (o : Outcome A) → Leads A s o → IsAway program (standing_of p s) → IfGoes (λ t. IsQuiet p s t) o
   lead_away {A} s (Ends t) h a = tt
@@ -217,13 +217,13 @@ module _ (program : Tree) (p : ℕ) (code : Code) (earlier : List What) where
   radio_led s e =
       either s (is_event Poll e) _ _ (empty_led Keeps Whatever chain (λ t packets. quiet_keeps t _ refl) (λ t target event fits. quietly t _ (post_quiet p t target event)) (λ t sender number. quiet_keeps t _ (line_quiet p t (what.Deaf sender number) refl)) s.program.receiver s.ring s) (still s tt)
 
-  -- what the calls of a process, and the runs of a thread, keep
+  -- what the calls of a process keep, and the runs of a thread: those of others, of its body, and of its blocks beside
   pub record AreTold (calls : Calls) : Type 0 where
     pub call : (s : State) (q : Proc) (e : Event) → Leads (Unit {0}) s (calls.call s q e)
     pub ready : (s : State) (e : Event) → IsReady (standing_of p s) → IfGoes (λ t. Stands (standing_of p t)) (calls.call s (Own p) e)
     pub run : (s : State) (c : Code) (r : Remainder) (q : ℕ) (e : Event) → (q ≡ p → ⊥) → Leads Answer s (calls.run s c r q e)
     pub body : BodyRuns program p code earlier calls
-    pub nothing : (s : State) (part : Part) (e : Event) → whole_of code part ≡ [] → IfGives (λ a t. IsQuiet p s t) (calls.run s code (fresh_of code part) p e)
+    pub beside : (s : State) (r : Remainder) (e : Event) → IsQuietRest code r → Leads Answer s (calls.run s code r p e)
 
   -- the body has run, or what runs before it alone
   record Reacted (v : Standing) (a : PtState) (w : Standing) : Type 0 where
@@ -264,27 +264,13 @@ module _ (program : Tree) (p : ℕ) (code : Code) (earlier : List What) where
   to_goes {A} P (Ends t) h = tt
   to_goes {A} P (Goes a t) h = h
 
-  gives_if : {A : Type 0} (P : A → State → Type 0) (b : Bool) (o q : Outcome A) → IfGives P o → IfGives P q → IfGives P (if b then o else q)
-  gives_if {A} P true o q h i = h
-  gives_if {A} P false o q h i = i
-
   -- the same standing, known to be so in every field
   abbrev At : Standing → State → Type 0
   At v t = standing_of p t ≡ v
 
-  module _ (is_code : slice_get program.codes p ≡ Some code) (alone : HasBodyAlone code) where
+  module _ (is_code : slice_get program.codes p ≡ Some code) (apart : IsQuietApart code) where
     code_there : (s : State) → (standing_of p s).program ≡ program → slice_get s.program.codes p ≡ Some code
     code_there s e = ap (λ t. slice_get t.codes p) e ∙ is_code
-
-    none_at : {X : Type 0} (xs : List X) (k : ℕ) → xs ≡ [] → slice_get xs k ≡ None
-    none_at xs k e = ap (λ l. slice_get l k) e
-
-    no_callback : (timer : ℕ) → whole_of code (Callback timer) ≡ []
-    no_callback timer = ap statements_of (by _ _ (none_at code.callbacks _ alone.no_callbacks))
-      where
-        by : {X : Type 0} (b : Bool) (o : Option X) → o ≡ None → (if b then o else None) ≡ None
-        by true o e = e
-        by false o e = refl
 
     module _ (calls : Calls) (are : AreTold calls) where
       walk_led : (e : Event) (q : Proc) (ms : List Member) (s : State) → Leads (Unit {0}) s (walk_of calls e q ms s)
@@ -309,17 +295,16 @@ module _ (program : Tree) (p : ℕ) (code : Code) (earlier : List What) where
       own_led s q e n =
           lead_option Keeps Whatever chain PtState Code s (slice_get s.program.codes q) (Goes Ended s) (λ c. handler_of calls s c q e >>= λ u t. resume_of calls t c q e) (still s Ended) (λ c. bind s _ _ (handler_led s c q e n) (λ u t. resume_led t c q e n))
 
-      -- callbacks, of which the process has none
+      -- callbacks
 
       abbrev Called_back : State → (q : ℕ) → Event → Option Code → Went
       Called_back s q e c = elim c [ None ↦ Goes tt s | Some c ↦ calls.run s c (fresh_of c (Callback e.word)) q e >>= λ _ s1. Goes tt s1 ]
 
-      own_callback : (s : State) (e : Event) (c : Option Code) → slice_get s.program.codes p ≡ c → (standing_of p s).program ≡ program → IfGoes (λ t. IsQuiet p s t) (Called_back s p e c)
-      own_callback s e None is of_program = refl
+      own_callback : (s : State) (e : Event) (c : Option Code) → slice_get s.program.codes p ≡ c → (standing_of p s).program ≡ program → Leads (Unit {0}) s (Called_back s p e c)
+      own_callback s e None is of_program = still s tt
       own_callback s e (Some c) is of_program =
           let same : c ≡ code = some_is c code (sym is ∙ code_there s of_program) in
-          to_goes (λ t. IsQuiet p s t) _ (gives_bind Answer (Unit {0}) (λ a t. IsQuiet p s t) (λ a t. IsQuiet p s t) (calls.run s c (fresh_of c (Callback e.word)) p e) _
-          (subst (λ c. IfGives (λ a t. IsQuiet p s t) (calls.run s c (fresh_of c (Callback e.word)) p e)) (sym same) (are.nothing s (Callback e.word) e (no_callback e.word))) (λ a t h. h))
+          bind s _ _ (subst (λ c. Leads Answer s (calls.run s c (fresh_of c (Callback e.word)) p e)) (sym same) (are.beside s _ e (fresh_quiet code (Callback e.word) (callback_quiet code e.word apart)))) (λ a t. still t tt)
 
       other_callback : (s : State) (q : ℕ) (e : Event) (c : Option Code) → (q ≡ p → ⊥) → Leads (Unit {0}) s (Called_back s q e c)
       other_callback s q e None n = still s tt
@@ -357,11 +342,11 @@ module _ (program : Tree) (p : ℕ) (code : Code) (earlier : List What) where
 
       -- the process itself
 
-      handled : (s : State) (e : Event) → IfGives (λ u t. IsQuiet p s t) (handler_of calls s code p e)
+      handled : (s : State) (e : Event) → Leads (Unit {0}) s (handler_of calls s code p e)
       unfolding handler_of
       handled s e =
-          gives_if (λ u t. IsQuiet p s t) (is_event Poll e) _ _ (gives_bind Answer (Unit {0}) (λ a t. IsQuiet p s t) (λ a t. IsQuiet p s t) (calls.run s code (fresh_of code OnPoll) p e) _ (are.nothing s OnPoll e (ap statements_of alone.no_poll)) (λ a t h. h))
-          (gives_if (λ u t. IsQuiet p s t) (is_event Exit e) _ _ (gives_bind Answer (Unit {0}) (λ a t. IsQuiet p s t) (λ a t. IsQuiet p s t) (calls.run s code (fresh_of code OnExit) p e) _ (are.nothing s OnExit e (ap statements_of alone.no_exit)) (λ a t h. h)) refl)
+          either s (is_event Poll e) _ _ (bind s _ _ (are.beside s _ e (fresh_quiet code OnPoll (on_poll_quiet code apart))) (λ a t. still t tt))
+          (either s (is_event Exit e) _ _ (bind s _ _ (are.beside s _ e (fresh_quiet code OnExit (on_exit_quiet code apart))) (λ a t. still t tt)) (still s tt))
 
       resumed : (s : State) (r : Remainder) (vars : List ℕ) (e : Event) → IsAway program (standing_of p s) → (standing_of p s).vars ≡ Some vars → (standing_of p s).rest ≡ Some r → ComesHere program p code earlier (standing_of p s).told r vars
           → IfGives (λ a t. Reacted (standing_of p s) a (standing_of p t)) (resume_of calls s code p e)
@@ -385,7 +370,7 @@ module _ (program : Tree) (p : ℕ) (code : Code) (earlier : List What) where
       unfolding react_of own_of
       reacts s r vars e away has rest here =
           subst (λ o. IfGives (λ a t. Reacted (standing_of p s) a (standing_of p t)) (elim o [ None ↦ Goes Ended s | Some c ↦ handler_of calls s c p e >>= λ _ s1. resume_of calls s1 c p e ])) (sym (code_there s away.of_program))
-          (gives_bind (Unit {0}) PtState (λ u t. IsQuiet p s t) (λ a t. Reacted (standing_of p s) a (standing_of p t)) (handler_of calls s code p e) _ (handled s e) (λ u t same.
+          (gives_bind (Unit {0}) PtState (λ u t. IsQuiet p s t) (λ a t. Reacted (standing_of p s) a (standing_of p t)) (handler_of calls s code p e) _ (from_goes (Unit {0}) (λ t. IsQuiet p s t) (handler_of calls s code p e) (lead_away s _ (handled s e) away)) (λ u t same.
           subst (λ v. IfGives (λ a w. Reacted v a (standing_of p w)) (resume_of calls t code p e)) same
           (resumed t r vars e (subst (λ v. IsAway program v) (sym same) away) (ap (λ v. v.vars) same ∙ has) (ap (λ v. v.rest) same ∙ rest) (subst (λ v. ComesHere program p code earlier v.told r vars) (sym same) here))))
 
@@ -641,6 +626,42 @@ module _ (program : Tree) (p : ℕ) (code : Code) (earlier : List What) where
       body_runs s r vars e away has here =
           runs_on program p code earlier calls s r vars e away has here are.body (λ t o f a. lead_away t _ (act_led t p o f) a)
 
+      -- a block beside the body
+
+      answered_beside : (u : State) (r : Remainder) (e : Event) (answer : ℕ) (variables : Option (List ℕ)) → slice_get u.variables p ≡ variables → IsQuietRest code r
+          → Leads Answer u (answered_with variables u r p answer >>= λ r1 s1. calls.run s1 code r1 p e)
+      answered_beside u r e answer None there h = are.beside u r e h
+      answered_beside u r e answer (Some vs) there h =
+          let a = answered_quietly code r vs answer h in
+          from u _ _ (ap (λ o. record (standing_of p u) { vars = o }) (get_set u.variables p (answered_of r vs answer).variables vs there ∙ ap Some a.1 ∙ sym there)) (are.beside _ _ e a.0)
+
+      told_beside : (u : State) (r : Remainder) (e : Event) (full : Bool) → IsQuietRest code r → Leads Answer u (answer_of u r p full >>= λ r1 s1. calls.run s1 code r1 p e)
+      unfolding answer_of
+      told_beside u r e full h = answered_beside u r e _ (slice_get u.variables p) refl h
+
+      performed_beside : (s : State) (r : Remainder) (e : Event) (o : Op) → IsNoPrint o → IsQuietRest code r → Leads Answer s (perform_of calls s r p o >>= λ r1 s1. calls.run s1 code r1 p e)
+      unfolding perform_of
+      performed_beside s r e (op.Post t number word) f h =
+          bind_twice Keeps Whatever chain _ _ _ s (post_of s t (posted number word)) _ _ (bind s _ _ (quietly s _ (post_quiet p s t (posted number word))) (λ full u. told_beside u r e full h))
+      performed_beside s r e o f h = bind_twice Keeps Whatever chain _ _ _ s (act_of calls s p o) _ _ (bind s _ _ (act_led s p o f) (λ a u. are.beside u r e h))
+
+      after_beside : (s : State) (r : Remainder) (e : Event) (x : Step) → IsNoPrintStep x → IsQuietRest code r → Leads Answer s (after_step calls code p e x r s)
+      after_beside s r e (step.Op o) f h = performed_beside s r e o f h
+      after_beside s r e (step.Done a) f h = still s _
+      after_beside s r e step.Runaway f h = ends s _
+
+      stepped_beside : (s : State) (r : Remainder) (e : Event) (variables : Option (List ℕ)) → slice_get s.variables p ≡ variables → IsQuietRest code r
+          → Leads Answer s (let m = stepped_with variables s code r p e in after_step calls code p e m.step m.remainder m.state)
+      stepped_beside s r e None there h = still s _
+      stepped_beside s r e (Some vs) there h =
+          let a = advances_quietly code e (looks_of s) r vs s.units h in
+          let next = advanced_of code e (looks_of s) r vs s.units in
+          from s _ _ (ap (λ o. record (standing_of p s) { vars = o }) (get_set s.variables p next.variables vs there ∙ ap Some a.variables ∙ sym there)) (after_beside _ next.remainder e next.step a.step a.rest)
+
+      runs_beside : (s : State) (r : Remainder) (e : Event) → IsQuietRest code r → Leads Answer s (run_of calls s code r p e)
+      unfolding run_of stepped_of
+      runs_beside s r e h = stepped_beside s r e (slice_get s.variables p) refl h
+
       -- a call
 
       other_answered : (s : State) (q : Proc) (b : Bool) → IsOther p q → Leads (Unit {0}) s (answered calls s q b)
@@ -678,12 +699,12 @@ module _ (program : Tree) (p : ℕ) (code : Code) (earlier : List What) where
       ready = λ s e h. tt;
       run = λ s c r q e n. ends s _;
       body = λ s r vars e away has here. tt;
-      nothing = λ s part e none. tt;
+      beside = λ s r e h. ends s _;
     }
     calls_told (suc k) = record {
       call = call_led (calls_of k) (calls_told k);
       ready = is_called (calls_of k) (calls_told k);
       run = run_led (calls_of k) (calls_told k);
       body = body_runs (calls_of k) (calls_told k);
-      nothing = λ s part e none. empty_runs p (calls_of k) s code part e none;
+      beside = runs_beside (calls_of k) (calls_told k);
     }

@@ -1,5 +1,5 @@
 -- Boots and kernel runs keep that what is told of a process are its lives, and so do the calls of a kernel.
-use Rattle.std.proofs.Common.{ℕ, ◌≡◌, ◌+◌, Bool, true, false, nat_lt, if◌then◌else◌, List, [], ◌∷◌, ◌++◌, ◌⊎◌, inl, inr, Option, Some, None, length, slice_get, replicate, refl, sym, ap, ◌∙◌, subst, map, append-nil, append_assoc}
+use Rattle.std.proofs.Common.{ℕ, ◌≡◌, ◌+◌, Bool, true, false, nat_lt, if◌then◌else◌, List, [], ◌∷◌, ◌++◌, inl, inr, Some, length, slice_get, refl, sym, ap, ◌∙◌, subst, map, append-nil}
 use Rattle.std.specs.List.{filter}
 use Rattle.std.specs.Prelude.{option_map}
 use Rattle.std.proofs.lemmas.List.{length-replicate, map-append}
@@ -24,28 +24,27 @@ use Rattle.process_kernel.specs.declared.process.ProcessState.TheVariants.{Off, 
 use Rattle.process_kernel.specs.declared.process.Member.{Member}
 use Rattle.process_kernel.specs.declared.runs.TheConstants.{UNITS}
 use Rattle.process_kernel.specs.Members.{place_of}
-use Rattle.process_kernel.specs.State.{State, Outcome, Went, Ends, Goes}
-use Rattle.process_kernel.specs.Processes.{is_listed, is_on_list, with_mark}
-use Rattle.process_kernel.specs.Writes.{with_line, write_of}
+use Rattle.process_kernel.specs.State.{State, Outcome, Ends, Goes}
+use Rattle.process_kernel.specs.Processes.{is_listed, is_on_list}
+use Rattle.process_kernel.specs.Writes.{write_of}
 use Rattle.process_kernel.specs.Calls.{Calls, told}
 use Rattle.process_kernel.specs.Call.{calls_of}
 use Rattle.process_kernel.specs.Polls.{walk_polls, polls_of, polls_due_of, poll_turn_of}
 use Rattle.process_kernel.specs.Delivery.{give_of, turn_of, walk_event, deliver_to, deliver_of}
 use Rattle.process_kernel.specs.Run.{begun_of, left_of, deliver_front, kernel_of}
 use Rattle.process_kernel.specs.Boot.{starts_of, boot_of}
-use Rattle.process_kernel.specs.Mote.{Mote, at_rest, unbooted, with_poll, with_packet}
-use Rattle.process_kernel.specs.Public.{Given, given, begun, unless_halted, boot_given, run_given}
+use Rattle.process_kernel.specs.Mote.{Mote, unbooted, with_poll, with_packet}
+use Rattle.process_kernel.specs.Public.{given, begun, unless_halted, boot_given, run_given}
 use Rattle.kernel_laws.specs.Going.{IsNote}
 use Rattle.kernel_laws.specs.InStep.{AreInStep, state_at, exiting_at, listed_in}
-use Rattle.kernel_laws.specs.Traces.{KernelCall, RunAt, PollOf, Accepts, Notes, Traced, with_given, after_call, after_calls, booted_at}
-use Rattle.kernel_laws.specs.Printed.{HasBodyAlone, is_told_of, starts_and_prints, Lives, Unborn, TellsLives, PrintsAreTheReading}
-use Rattle.kernel_laws.specs.Telling.{Standing, standing_of, IsOut, IsIn, Stands, TellsSoFar, IsProcess, TellingIsOfLives, NoLinesTellFirst, BootTells, RunTells, PollTells, PacketTells, NoteTells}
-use Rattle.kernel_laws.proofs.Packets.{IfGoes}
+use Rattle.kernel_laws.specs.Traces.{KernelCall, RunAt, PollOf, Accepts, Notes, Traced, after_call, after_calls, booted_at}
+use Rattle.kernel_laws.specs.Printed.{IsQuietApart, is_told_of, starts_and_prints, Unborn, PrintsAreTheReading}
+use Rattle.kernel_laws.specs.Telling.{Standing, standing_of, Stands, TellsSoFar, IsProcess, TellingIsOfLives, NoLinesTellFirst, BootTells, RunTells, PollTells, PacketTells, NoteTells}
 use Rattle.kernel_laws.proofs.Resting.{numbered_listed, first_rests}
-use Rattle.kernel_laws.proofs.Standing.{IsQuiet, told_more, line_quiet, mark_quiet, poll_quiet}
+use Rattle.kernel_laws.proofs.Standing.{told_more, line_quiet, mark_quiet, poll_quiet}
 use Rattle.kernel_laws.proofs.BodyCalls.{Leads, AreTold, from, bind, either, goes, still, start_led, calls_told}
 
-module _ (program : Tree) (p : ℕ) (code : Code) (is_code : slice_get program.codes p ≡ Some code) (alone : HasBodyAlone code) where
+module _ (program : Tree) (p : ℕ) (code : Code) (is_code : slice_get program.codes p ≡ Some code) (apart : IsQuietApart code) where
   -- boots and kernel runs
   module _ (earlier : List What) (calls : Calls) (are : AreTold program p code earlier calls) where
     abbrev L : (A : Type 0) → State → Outcome A → Type 0
@@ -88,7 +87,7 @@ module _ (program : Tree) (p : ℕ) (code : Code) (is_code : slice_get program.c
 
     starts_led : (ps : List Proc) (s : State) → L (Unit {0}) s (starts_of calls ps s)
     starts_led [] s = still program p code earlier s tt
-    starts_led (q ∷ ps) s = bind program p code earlier s _ _ (start_led program p code earlier is_code alone calls are s q) (λ a t. starts_led ps t)
+    starts_led (q ∷ ps) s = bind program p code earlier s _ _ (start_led program p code earlier is_code apart calls are s q) (λ a t. starts_led ps t)
 
     boot_led : (s : State) → L ℕ s (boot_of calls s)
     unfolding boot_of
@@ -140,13 +139,13 @@ pub run_tells : RunTells
 unfolding run_given
 run_tells program p code earlier m moment before sends is h =
     let told = starts_and_prints (Own p) earlier in
-    unless_told program p code earlier m before sends _ m.halted refl (λ on. given_told program p code earlier m moment before sends _ (h on) (kernel_led program p code is.is_code is.alone told (calls_of (UNITS + 1)) (calls_told program p code told is.is_code is.alone (UNITS + 1)) (begun m moment before sends)))
+    unless_told program p code earlier m before sends _ m.halted refl (λ on. given_told program p code earlier m moment before sends _ (h on) (kernel_led program p code is.is_code is.quiet told (calls_of (UNITS + 1)) (calls_told program p code told is.is_code is.quiet (UNITS + 1)) (begun m moment before sends)))
 
 pub boot_tells : BootTells
 unfolding boot_given
 boot_tells program p code earlier m moment before sends is h =
     let told = starts_and_prints (Own p) earlier in
-    unless_told program p code earlier m before sends _ m.halted refl (λ on. given_told program p code earlier m moment before sends _ (h on) (boot_led program p code is.is_code is.alone told (calls_of (UNITS + 1)) (calls_told program p code told is.is_code is.alone (UNITS + 1)) (begun m moment before sends)))
+    unless_told program p code earlier m before sends _ m.halted refl (λ on. given_told program p code earlier m moment before sends _ (h on) (boot_led program p code is.is_code is.quiet told (calls_of (UNITS + 1)) (calls_told program p code told is.is_code is.quiet (UNITS + 1)) (begun m moment before sends)))
 
 pub poll_tells : PollTells
 unfolding with_poll
@@ -228,8 +227,8 @@ module _ (program : Tree) (p : ℕ) (code : Code) (is : IsProcess program p code
   booted_tells mote queue moment = boot_tells program p code [] (unbooted program mote queue) moment [] [] is (no_lines_tell_first program p code mote queue is)
 
 pub prints_are_the_reading : PrintsAreTheReading
-prints_are_the_reading program p code mote queue moment calls is_code alone on =
-    let is : IsProcess program p code = record { is_code = is_code; alone = alone } in
+prints_are_the_reading program p code mote queue moment calls is_code quiet on =
+    let is : IsProcess program p code = record { is_code = is_code; quiet = quiet } in
     let first = booted_at program mote queue moment in
     let t = after_calls first calls in
     telling_is_of_lives program p code t.lines t.mote (calls_tell program p code is calls first (booted_tells program p code is mote queue moment)) on

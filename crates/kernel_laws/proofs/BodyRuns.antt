@@ -1,7 +1,6 @@
 -- A run of the body of a process goes on with the run of its fresh thread, where what it calls leaves the process alone.
-use Rattle.std.proofs.Common.{ℕ, zero, ◌≡◌, ◌<◌, ◌⊎◌, inl, inr, ◌||◌, Bool, true, false, if◌then◌else◌, List, [], ◌∷◌, ◌++◌, Option, Some, None, slice_get, slice_set, refl, sym, ap, ◌∙◌, subst, arith, append_assoc, append-nil}
+use Rattle.std.proofs.Common.{ℕ, zero, ◌≡◌, ◌<◌, ◌||◌, Bool, true, false, if◌then◌else◌, List, [], ◌∷◌, ◌++◌, Some, None, slice_get, slice_set, refl, sym, ap, ◌∙◌, subst, arith, append_assoc, append-nil}
 use Rattle.std.proofs.lemmas.Bool.Decides.{nat_tests}
-use Rattle.mote_program.specs.declared.event.Proc.{Proc}
 use Rattle.mote_program.specs.declared.event.Proc.TheVariants.{Own}
 use Rattle.mote_program.specs.declared.event.Target.{Target}
 use Rattle.mote_program.specs.declared.event.Event.{Event}
@@ -15,12 +14,11 @@ use Rattle.protothread.specs.declared.step.Step.{Step}
 use Rattle.protothread.specs.declared.step.Step.TheVariants as step
 use Rattle.protothread.specs.State.{number_of}
 use Rattle.protothread.specs.Remainder.{Remainder}
-use Rattle.protothread.specs.Step.{Advanced, advanced_of, answered_of}
-use Rattle.protothread.specs.Reading.{Sight, Happening, operates, gives_up, Outcome as Became, done, exits, stands}
+use Rattle.protothread.specs.Step.{advanced_of, answered_of}
+use Rattle.protothread.specs.Reading.{Sight, Happening, operates, gives_up, Outcome as Became, stands}
 use Rattle.protothread.specs.Runs.{Steps}
 use Rattle.process_kernel.specs.declared.line.What.{What}
 use Rattle.process_kernel.specs.declared.line.What.TheVariants as what
-use Rattle.process_kernel.specs.declared.process.ProcessState.{ProcessState}
 use Rattle.process_kernel.specs.State.{State, Outcome, Ends, Goes, ◌>>=◌}
 use Rattle.process_kernel.specs.Processes.{is_running_state, is_called_state}
 use Rattle.process_kernel.specs.Looks.{looks_of}
@@ -30,7 +28,7 @@ use Rattle.process_kernel.specs.Calls.{Calls, Answer}
 use Rattle.process_kernel.specs.Call.{has_ended}
 use Rattle.process_kernel.specs.Thread.{stepped_with, stepped_of}
 use Rattle.process_kernel.specs.Operation.{posted, act_of, answered_with, answer_of, perform_of, after_step, run_of}
-use Rattle.kernel_laws.specs.Printed.{prints, left_by, starts_and_prints, is_told_of, Life, Lives, Lives_again}
+use Rattle.kernel_laws.specs.Printed.{prints, left_by, starts_and_prints, is_told_of, Lives, Lives_again}
 use Rattle.kernel_laws.specs.Telling as telling
 use Rattle.kernel_laws.specs.Telling.{Standing, standing_of, HasRun}
 use Rattle.kernel_laws.proofs.Packets.{IfGoes}

@@ -1,5 +1,5 @@
 -- The run so far of a fresh thread, from which it goes on.
-use Rattle.std.proofs.Common.{ℕ, ◌≡◌, ◌<◌, List, [], ◌∷◌, ◌++◌, refl, sym, ◌∙◌, ap, subst, append_assoc, append-nil}
+use Rattle.std.proofs.Common.{ℕ, ◌≡◌, ◌<◌, List, [], ◌∷◌, ◌++◌, refl, sym, ap, subst, append_assoc, append-nil}
 use Rattle.mote_program.specs.declared.event.Proc.{Proc}
 use Rattle.mote_program.specs.Code.{Code}
 use Rattle.protothread.specs.declared.part.Part.TheVariants.{Body}
@@ -12,9 +12,8 @@ use Rattle.protothread.specs.State.{number_of}
 use Rattle.protothread.specs.Remainder.{Remainder, fresh_of}
 use Rattle.protothread.specs.Step.{answered_of}
 use Rattle.protothread.specs.Reading.{Sight, Happening, operates, gives_up, Outcome, done, exits, stands}
-use Rattle.protothread.specs.Runs.{Steps, Runs, operated, operated_last, gave_up, gave_up_last, has_exited, has_ended}
+use Rattle.protothread.specs.Runs.{Steps, Runs, operated, gave_up, gave_up_last, has_exited, has_ended}
 use Rattle.protothread.proofs.Splits.{reads_the_text}
-use Rattle.process_kernel.specs.declared.line.What.{What}
 use Rattle.process_kernel.specs.declared.line.What.TheVariants as what
 use Rattle.kernel_laws.specs.Printed.{prints, Life}
 use Rattle.kernel_laws.specs.Telling as telling
@@ -38,9 +37,9 @@ module _ (code : Code) (start : List ℕ) where
       → ComesTo (did ++ operates o ∷ []) told (answered_of next changed told).remainder (answered_of next changed told).variables
   operates_on did answer told r next vars changed now o e c steps = record {
     on = λ resumed later more out q runs.
-    then_more did more (operates o) out (c.on now (resumed ∷ later) (operates o ∷ more) out e
-    (operated r next vars changed now resumed later o more out steps
-    (subst (λ n. Runs code (answered_of next changed n).remainder (answered_of next changed n).variables resumed later more out) (sym q) runs)));
+        then_more did more (operates o) out (c.on now (resumed ∷ later) (operates o ∷ more) out e
+        (operated r next vars changed now resumed later o more out steps
+        (subst (λ n. Runs code (answered_of next changed n).remainder (answered_of next changed n).variables resumed later more out) (sym q) runs)));
   }
 
   -- an answer 0 or 1
@@ -49,7 +48,7 @@ module _ (code : Code) (start : List ℕ) where
       → ComesTo (did ++ gives_up a ∷ []) told next changed
   gives_up_on did answer told r next vars changed now a e c steps l = record {
     on = λ resumed later more out q runs.
-    then_more did more (gives_up a) out (c.on now (resumed ∷ later) (gives_up a ∷ more) out e (gave_up r next vars changed now resumed later a more out steps l runs));
+        then_more did more (gives_up a) out (c.on now (resumed ∷ later) (gives_up a ∷ more) out e (gave_up r next vars changed now resumed later a more out steps l runs));
   }
 
   pub stands_there : (did : List Happening) (answer : ℕ) (r next : Remainder) (vars changed : List ℕ) (now : Sight) (a : PtState)

@@ -1,37 +1,24 @@
--- The small steps that a process of the program takes itself: it starts, is called, runs a block that it doesn't have, and leaves.
-use Rattle.std.proofs.Common.{ℕ, zero, suc, ◌≡◌, ◌+◌, ◌-◌, ◌<◌, ◌||◌, ◌==◌, Bool, true, false, nat_lt, if◌then◌else◌, List, [], ◌∷◌, ◌++◌, Option, Some, None, length, slice_get, slice_set, unwrap_or, refl, sym, ap, ◌∙◌, subst, arith}
+-- The small steps that a process of the program takes itself: it starts, is called, and leaves.
+use Rattle.std.proofs.Common.{ℕ, ◌≡◌, ◌+◌, ◌<◌, ◌||◌, ◌==◌, Bool, true, false, nat_lt, if◌then◌else◌, [], ◌∷◌, ◌++◌, Some, slice_get, slice_set, refl, ap, ◌∙◌, arith}
 use Rattle.std.proofs.lemmas.List.{length-set}
 use Rattle.std.proofs.lemmas.Bool.Decides.{nat_tests}
 use Rattle.mote_program.specs.declared.event.Proc.TheVariants.{Own}
-use Rattle.mote_program.specs.declared.event.Event.{Event}
 use Rattle.mote_program.specs.Code.{Code}
-use Rattle.protothread.specs.declared.part.Part.{Part}
 use Rattle.protothread.specs.declared.part.Part.TheVariants.{Body}
-use Rattle.protothread.specs.declared.state.PtState.TheVariants.{Ended}
-use Rattle.protothread.specs.declared.step.Step.{Step}
-use Rattle.protothread.specs.declared.step.Step.TheVariants as step
-use Rattle.protothread.specs.declared.thread.Mark.TheVariants.{AtRest}
-use Rattle.protothread.specs.Looks.{Looks}
-use Rattle.protothread.specs.Remainder.{Remainder, Place, ended, before, fresh_of, whole_of}
-use Rattle.protothread.specs.Step.{Advanced, continued, passed, advanced_of}
+use Rattle.protothread.specs.Remainder.{Remainder, fresh_of}
 use Rattle.process_kernel.specs.declared.line.What.TheVariants as what
 use Rattle.process_kernel.specs.declared.process.ProcessState.{ProcessState}
 use Rattle.process_kernel.specs.declared.process.ProcessState.TheVariants.{Off, Running}
 use Rattle.process_kernel.specs.Members.{place_of, stands_in}
-use Rattle.process_kernel.specs.State.{State, Outcome, Ends, Goes}
+use Rattle.process_kernel.specs.State.{State}
 use Rattle.process_kernel.specs.Processes.{with_state, with_exiting, flag_at, process_state}
 use Rattle.process_kernel.specs.ProcessList.{put_remainder, with_fresh_body, enlist_of, exiting_of, unlisted_of, leave_of}
 use Rattle.process_kernel.specs.Writes.{with_line, write_of}
-use Rattle.process_kernel.specs.Looks.{looks_of}
-use Rattle.process_kernel.specs.Calls.{Calls, Answer}
-use Rattle.process_kernel.specs.Thread.{stepped_with, stepped_of}
-use Rattle.process_kernel.specs.Operation.{after_step, run_of}
 use Rattle.kernel_laws.specs.Printed.{starts_and_prints}
 use Rattle.kernel_laws.specs.Telling.{Standing, standing_of}
 use Rattle.kernel_laws.proofs.Packets.{IfGoes}
 use Rattle.kernel_laws.proofs.Tables.{set_same, left_out}
-use Rattle.kernel_laws.proofs.Standing.{get_set, fresh_there, told_more, line_quiet, IsQuiet}
-use Rattle.kernel_laws.proofs.BodyRuns.{IfGives}
+use Rattle.kernel_laws.proofs.Standing.{get_set, fresh_there, told_more, line_quiet}
 
 below : (k n : ℕ) → nat_lt k n ≡ true → k < n
 below k n h = grind (arith, nat_tests)
@@ -39,48 +26,7 @@ below k n h = grind (arith, nat_tests)
 pub alike : (k : ℕ) → (k == k) ≡ true
 alike k = grind (arith, nat_tests)
 
--- a thread at its end ends at once
-
-ended_goes_on : (code : Code) (part : Part) (e : Event) (looks : Looks) (vs : List ℕ) (n : ℕ)
-    → ((continued code part e looks ended vs n).step ≡ step.Done Ended) × ((continued code part e looks ended vs n).variables ≡ vs)
-ended_goes_on code part e looks vs zero = (refl, refl)
-ended_goes_on code part e looks vs (suc n) = (refl, refl)
-
-abbrev EndsAtOnce : Advanced → List ℕ → Type 0
-EndsAtOnce a vs = (a.step ≡ step.Done Ended) × (a.variables ≡ vs)
-
-ended_advances : (code : Code) (part : Part) (e : Event) (looks : Looks) (vs : List ℕ) (n : ℕ)
-    → EndsAtOnce (advanced_of code e looks (record { part = part; mark = AtRest; place = ended }) vs n) vs
-unfolding advanced_of
-ended_advances code part e looks vs n =
-    let no : nat_lt n 0 ≡ false = grind (arith, nat_tests) in
-    rw no (ended_goes_on code part e looks vs (n - 0))
-
 module _ (p : ℕ) where
-  -- a block that a code lacks changes nothing
-
-  ended_runs : (calls : Calls) (s : State) (code : Code) (e : Event) (r next : Remainder) (x : Step) (vs changed : List ℕ) (n : ℕ) → slice_get s.variables p ≡ Some vs → x ≡ step.Done Ended → changed ≡ vs
-      → IfGives (λ a t. IsQuiet p s t) (after_step calls code p e x next (record s { variables = slice_set s.variables p changed; units = n }))
-  ended_runs calls s code e r next x vs changed n there is same =
-      subst (λ y. IfGives (λ a t. IsQuiet p s t) (after_step calls code p e y next (record s { variables = slice_set s.variables p changed; units = n }))) (sym is)
-      (ap (λ o. record (standing_of p s) { vars = o }) (get_set s.variables p changed vs there ∙ ap Some same ∙ sym there))
-
-  nothing_runs : (calls : Calls) (s : State) (code : Code) (part : Part) (e : Event) (variables : Option (List ℕ)) → slice_get s.variables p ≡ variables
-      → IfGives (λ a t. IsQuiet p s t) (let m = stepped_with variables s code (record { part = part; mark = AtRest; place = ended }) p e in after_step calls code p e m.step m.remainder m.state)
-  nothing_runs calls s code part e None there = refl
-  nothing_runs calls s code part e (Some vs) there =
-      let r : Remainder = record { part = part; mark = AtRest; place = ended } in
-      let a = advanced_of code e (looks_of s) r vs s.units in
-      let h = ended_advances code part e (looks_of s) vs s.units in
-      ended_runs calls s code e r a.remainder a.step vs a.variables a.units there h.0 h.1
-
-  pub empty_runs : (calls : Calls) (s : State) (code : Code) (part : Part) (e : Event) → whole_of code part ≡ []
-      → IfGives (λ a t. IsQuiet p s t) (run_of calls s code (fresh_of code part) p e)
-  unfolding run_of stepped_of
-  empty_runs calls s code part e none =
-      subst (λ w. IfGives (λ a t. IsQuiet p s t) (let m = stepped_with (slice_get s.variables p) s code (record { part = part; mark = AtRest; place = before false w }) p e in after_step calls code p e m.step m.remainder m.state)) (sym none)
-      (nothing_runs calls s code part e (slice_get s.variables p) refl)
-
   -- states
 
   pub state_stands : (s : State) (x : ProcessState) → (standing_of p s).has ≡ true → standing_of p (with_state s (Own p) x) ≡ record (standing_of p s) { state = x }

@@ -1,15 +1,14 @@
 -- How a process of the program stands, and the small steps that leave it so: all those of others.
-use Rattle.std.proofs.Common.{ℕ, zero, suc, ◌≡◌, ◌+◌, ◌^◌, ◌⊎◌, inl, inr, ◌==◌, Bool, true, false, not, nat_lt, nat_le, if◌then◌else◌, List, [], ◌∷◌, ◌++◌, Option, Some, None, length, slice_get, slice_set, refl, sym, ap, ◌∙◌, subst, arith, map, append-nil}
+use Rattle.std.proofs.Common.{ℕ, zero, suc, ◌≡◌, ◌+◌, ◌^◌, ◌⊎◌, inl, inr, ◌==◌, Bool, true, false, not, nat_lt, nat_le, if◌then◌else◌, List, [], ◌∷◌, ◌++◌, Some, None, length, slice_get, slice_set, refl, sym, ap, ◌∙◌, arith, map, append-nil}
 use Rattle.std.specs.List.{filter}
 use Rattle.std.proofs.lemmas.List.{length-set, map-append}
 use Rattle.std.proofs.lemmas.List.Elements.{filter-append}
-use Rattle.std.proofs.lemmas.Option.{slice_get_within}
 use Rattle.std.proofs.lemmas.Bool.Decides.{nat_tests}
 use Rattle.mote_program.specs.declared.event.Proc.{Proc}
 use Rattle.mote_program.specs.declared.event.Proc.TheVariants.{Own, Etimer, Ctimer, Radio}
 use Rattle.mote_program.specs.declared.event.Target.{Target}
 use Rattle.mote_program.specs.declared.event.Event.{Event}
-use Rattle.mote_program.specs.Code.{Code, Tree}
+use Rattle.mote_program.specs.Code.{Code}
 use Rattle.event_queue.specs.Queue.{with_posted}
 use Rattle.protothread.specs.Remainder.{Remainder, fresh_of}
 use Rattle.protothread.specs.declared.part.Part.TheVariants.{Body}
@@ -17,11 +16,11 @@ use Rattle.process_kernel.specs.declared.line.Line.{Line}
 use Rattle.process_kernel.specs.declared.line.What.{What}
 use Rattle.process_kernel.specs.declared.line.What.TheVariants as what
 use Rattle.process_kernel.specs.declared.process.ProcessState.{ProcessState}
-use Rattle.process_kernel.specs.declared.process.ProcessState.TheVariants.{Off, Running, Called}
+use Rattle.process_kernel.specs.declared.process.ProcessState.TheVariants.{Off, Running}
 use Rattle.process_kernel.specs.declared.process.Member.{Member}
 use Rattle.process_kernel.specs.Members.{place_of, is_same, stands_in}
-use Rattle.process_kernel.specs.State.{State, Outcome, Ends, Goes}
-use Rattle.process_kernel.specs.Processes.{is_alive, process_state, flag_at, has_process, is_listed, with_state, with_exiting, with_mark}
+use Rattle.process_kernel.specs.State.{State}
+use Rattle.process_kernel.specs.Processes.{is_alive, process_state, flag_at, with_state, with_exiting, with_mark}
 use Rattle.process_kernel.specs.ProcessList.{put_remainder, fresh_at, with_fresh_body, with_fresh_process, enlist_of, exiting_of, unlisted_of, leave_of}
 use Rattle.process_kernel.specs.Posts.{post_of, poll_of, send_of}
 use Rattle.process_kernel.specs.Writes.{with_line, write_of}
@@ -29,7 +28,7 @@ use Rattle.kernel_laws.specs.Printed.{is_told_of, starts_and_prints}
 use Rattle.kernel_laws.specs.Telling.{standing_of}
 use Rattle.kernel_laws.proofs.Packets.{IfGoes, goes_if}
 use Rattle.kernel_laws.proofs.Steps.{others_stay}
-use Rattle.kernel_laws.proofs.Tables.{set_same, set_other, is_equal}
+use Rattle.kernel_laws.proofs.Tables.{set_other, is_equal}
 
 -- tables
 

@@ -12,7 +12,7 @@ use Rattle.process_kernel.specs.declared.line.Line.{Line}
 use Rattle.process_kernel.specs.declared.line.What.{What}
 use Rattle.process_kernel.specs.declared.line.What.TheVariants as what
 use Rattle.process_kernel.specs.Members.{is_same}
-use Rattle.kernel_laws.specs.Traces.{KernelCall, Traced, after_calls, booted_at}
+use Rattle.kernel_laws.specs.Traces.{KernelCall, after_calls, booted_at}
 
 -- A statement, or a block, that is quiet: it prints nothing, sets no variable and spawns no thread.
 

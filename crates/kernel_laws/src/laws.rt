@@ -71,7 +71,8 @@ pub fn no_timer_is_forgotten()
     ensures run_owners { RunKeepsOwners }
 {}
 
-/// A process that has its body alone prints, from each of its starts on, what a reading of its body does: of its block, read by its
+/// A process that is quiet apart from its body (its blocks at POLL and EXIT and those of its callback timers print nothing, set no
+/// variable and spawn no thread) prints, from each of its starts on, what a reading of its body does: of its block, read by its
 /// structure, over what it was shown; whatever the others do in between, and whatever calls of the kernel follow the boot, as long as the
 /// mote doesn't halt. A next life begins with the variables that the one before left.
 pub fn prints_are_the_reading()
