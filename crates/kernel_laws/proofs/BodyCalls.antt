@@ -18,6 +18,7 @@ use Rattle.protothread.specs.declared.step.Step.{Step}
 use Rattle.protothread.specs.declared.step.Step.TheVariants as step
 use Rattle.protothread.specs.Remainder.{Remainder, fresh_of}
 use Rattle.protothread.specs.Step.{advanced_of, answered_of}
+use Rattle.process_kernel.specs.declared.line.Line.{Line}
 use Rattle.process_kernel.specs.declared.line.What.{What}
 use Rattle.process_kernel.specs.declared.line.What.TheVariants as what
 use Rattle.process_kernel.specs.declared.process.ProcessState.TheVariants.{Off, Running, Called}
@@ -44,7 +45,7 @@ use Rattle.process_kernel.specs.Operation.{posted, answered_with, answer_of, act
 use Rattle.process_kernel.specs.Call.{has_ended, answered, call_of, calls_of}
 use Rattle.kernel_laws.specs.Printed.{IsQuietApart}
 use Rattle.kernel_laws.specs.Telling as telling
-use Rattle.kernel_laws.specs.Telling.{Standing, standing_of, IsOut}
+use Rattle.kernel_laws.specs.Telling.{Standing, standing_of, IsOut, Next, AtStart, AtCall, CanCome}
 use Rattle.kernel_laws.proofs.Packets.{IfGoes, goes_if, goes_bind}
 use Rattle.kernel_laws.proofs.EachStep.{Lead, AreJoined, lead_from, lead_bind, lead_if, lead_option, lead_goes, lead_still, bind_twice, empty_led}
 use Rattle.kernel_laws.proofs.Tables.{is_equal}
@@ -56,29 +57,32 @@ use Rattle.kernel_laws.proofs.OwnSteps.{alike, state_stands, exiting_stands, lea
 use Rattle.kernel_laws.proofs.BodyRuns.{IfGives, gives_bind, gives_weaker, from_goes, IsAway, ComesHere, HasLived, RanFrom, BodyRuns, IsNoPrint, runs_on}
 
 -- behind what was told of the process earlier
-module _ (program : Tree) (p : ℕ) (code : Code) (earlier : List What) where
+module _ (program : Tree) (mote p : ℕ) (code : Code) (earlier : List Line) where
   -- on the process list, in a life that came to here
-  abbrev pub IsIn : Standing → Remainder → List ℕ → Type 0
-  IsIn v r vars = telling.IsIn p code (earlier ++ v.told) v r vars
+  abbrev pub IsIn : Next → Standing → Remainder → List ℕ → Type 0
+  IsIn next v r vars = telling.IsIn p code mote (earlier ++ v.told) next v r vars
 
   -- The process is at rest, and what was told of it are its lives.
   abbrev pub Stands : Standing → Type 0
-  Stands v = telling.Stands program p code (earlier ++ v.told) v
+  Stands v = telling.Stands program mote p code (earlier ++ v.told) v
 
-  -- It can be called: it is at rest, or has just started.
-  pub record IsReady (v : Standing) : Type 0 where
+  -- It can be called with this event: it is at rest, or has just started.
+  pub record IsReady (v : Standing) (e : Event) : Type 0 where
     pub of_program : v.program ≡ program
+    pub of_mote : v.mote ≡ mote
     pub tables : v.room ≡ v.has
     pub free : v.exiting ≡ false
     pub still : Remainder
     pub rest : v.rest ≡ Some still
     pub left : List ℕ
     pub vars : v.vars ≡ Some left
-    pub is_in : IsIn v still left
+    pub coming : Next
+    pub can : CanCome coming e v.moment
+    pub is_in : IsIn coming v still left
 
   -- a process that is away is left as it stands, and of one that is at rest lives are told
   pub record Keeps (s t : State) : Type 0 where
-    pub away : IsAway program (standing_of p s) → IsQuiet p s t
+    pub away : IsAway program mote (standing_of p s) → IsQuiet p s t
     pub stands : Stands (standing_of p s) → Stands (standing_of p t)
 
   pub quiet_keeps : (s t : State) → IsQuiet p s t → Keeps s t
@@ -86,7 +90,7 @@ module _ (program : Tree) (p : ℕ) (code : Code) (earlier : List What) where
 
   keeps_joined : (a b c : State) → Keeps a b → Keeps b c → Keeps a c
   keeps_joined a b c h i = record {
-    away = λ x. i.away (subst (λ v. IsAway program v) (sym (h.away x)) x) ∙ h.away x;
+    away = λ x. i.away (subst (λ v. IsAway program mote v) (sym (h.away x)) x) ∙ h.away x;
     stands = λ x. i.stands (h.stands x);
   }
 
@@ -121,7 +125,7 @@ module _ (program : Tree) (p : ℕ) (code : Code) (earlier : List What) where
   quietly {A} s (Goes a t) h = goes s a t h
 
   -- both sides of it
-  pub lead_of : {A : Type 0} (s : State) (o : Outcome A) → (IsAway program (standing_of p s) → IfGoes (λ t. IsQuiet p s t) o) → (Stands (standing_of p s) → IfGoes (λ t. Stands (standing_of p t)) o) → Leads A s o
+  pub lead_of : {A : Type 0} (s : State) (o : Outcome A) → (IsAway program mote (standing_of p s) → IfGoes (λ t. IsQuiet p s t) o) → (Stands (standing_of p s) → IfGoes (λ t. Stands (standing_of p t)) o) → Leads A s o
   lead_of {A} s (Ends t) h i = ends s t
   lead_of {A} s (Goes a t) h i = record { leads = record { away = h; stands = i } }
 
@@ -130,7 +134,7 @@ module _ (program : Tree) (p : ℕ) (code : Code) (earlier : List What) where
   knowing {A} s (Ends t) h = ends s t
   knowing {A} s (Goes a t) h = record { leads = record { away = λ x. (h x.of_program).leads.away x; stands = λ x. (h x.of_program).leads.stands x } }
 
-  pub lead_away : {A : Type 0} (s : State) (o : Outcome A) → Leads A s o → IsAway program (standing_of p s) → IfGoes (λ t. IsQuiet p s t) o
+  pub lead_away : {A : Type 0} (s : State) (o : Outcome A) → Leads A s o → IsAway program mote (standing_of p s) → IfGoes (λ t. IsQuiet p s t) o
   lead_away {A} s (Ends t) h a = tt
   lead_away {A} s (Goes x t) h a = h.leads.away a
 
@@ -220,9 +224,9 @@ module _ (program : Tree) (p : ℕ) (code : Code) (earlier : List What) where
   -- what the calls of a process keep, and the runs of a thread: those of others, of its body, and of its blocks beside
   pub record AreTold (calls : Calls) : Type 0 where
     pub call : (s : State) (q : Proc) (e : Event) → Leads (Unit {0}) s (calls.call s q e)
-    pub ready : (s : State) (e : Event) → IsReady (standing_of p s) → IfGoes (λ t. Stands (standing_of p t)) (calls.call s (Own p) e)
+    pub ready : (s : State) (e : Event) → IsReady (standing_of p s) e → IfGoes (λ t. Stands (standing_of p t)) (calls.call s (Own p) e)
     pub run : (s : State) (c : Code) (r : Remainder) (q : ℕ) (e : Event) → (q ≡ p → ⊥) → Leads Answer s (calls.run s c r q e)
-    pub body : BodyRuns program p code earlier calls
+    pub body : BodyRuns program mote p code earlier calls
     pub beside : (s : State) (r : Remainder) (e : Event) → IsQuietRest code r → Leads Answer s (calls.run s code r p e)
 
   -- the body has run, or what runs before it alone
@@ -230,12 +234,13 @@ module _ (program : Tree) (p : ℕ) (code : Code) (earlier : List What) where
     left : List ℕ
     next : Remainder
     same : w ≡ record v { rest = Some next; vars = Some left; told = w.told }
-    lived : HasLived program p code earlier w.told left
-    comes : has_ended a ≡ false → ComesHere program p code earlier w.told next left
+    lived : HasLived program mote p code earlier w.told left
+    comes : has_ended a ≡ false → ComesHere program mote p code earlier w.told AtCall next left
 
   -- it is about to leave the list, which it may do by itself, without a last run
   record IsLeaving (v : Standing) (by_itself : Bool) : Type 0 where
     of_program : v.program ≡ program
+    of_mote : v.mote ≡ mote
     has : v.has ≡ true
     room : v.room ≡ true
     listed : v.listed ≡ true
@@ -243,11 +248,12 @@ module _ (program : Tree) (p : ℕ) (code : Code) (earlier : List What) where
     rest : v.rest ≡ Some now
     left : List ℕ
     vars : v.vars ≡ Some left
-    lived : HasLived program p code earlier v.told left
-    comes : by_itself ≡ false → ComesHere program p code earlier v.told now left
+    lived : HasLived program mote p code earlier v.told left
+    comes : by_itself ≡ false → ComesHere program mote p code earlier v.told AtCall now left
 
   record IsGone (v : Standing) : Type 0 where
     of_program : v.program ≡ program
+    of_mote : v.mote ≡ mote
     has : v.has ≡ true
     room : v.room ≡ true
     state : v.state ≡ Off
@@ -255,7 +261,7 @@ module _ (program : Tree) (p : ℕ) (code : Code) (earlier : List What) where
     rest : v.rest ≡ Some now
     left : List ℕ
     vars : v.vars ≡ Some left
-    lived : HasLived program p code earlier v.told left
+    lived : HasLived program mote p code earlier v.told left
 
   some_is : {X : Type 0} (x y : X) → Some x ≡ Some y → x ≡ y
   some_is x y e = ap (λ o. unwrap_or o x) e
@@ -348,15 +354,15 @@ module _ (program : Tree) (p : ℕ) (code : Code) (earlier : List What) where
           either s (is_event Poll e) _ _ (bind s _ _ (are.beside s _ e (fresh_quiet code OnPoll (on_poll_quiet code apart))) (λ a t. still t tt))
           (either s (is_event Exit e) _ _ (bind s _ _ (are.beside s _ e (fresh_quiet code OnExit (on_exit_quiet code apart))) (λ a t. still t tt)) (still s tt))
 
-      resumed : (s : State) (r : Remainder) (vars : List ℕ) (e : Event) → IsAway program (standing_of p s) → (standing_of p s).vars ≡ Some vars → (standing_of p s).rest ≡ Some r → ComesHere program p code earlier (standing_of p s).told r vars
+      resumed : (s : State) (r : Remainder) (vars : List ℕ) (e : Event) (coming : Next) → IsAway program mote (standing_of p s) → (standing_of p s).vars ≡ Some vars → (standing_of p s).rest ≡ Some r → CanCome coming e s.moment → ComesHere program mote p code earlier (standing_of p s).told coming r vars
           → IfGives (λ a t. Reacted (standing_of p s) a (standing_of p t)) (resume_of calls s code p e)
       unfolding resume_of put_remainder
-      resumed s r vars e away has rest here =
+      resumed s r vars e coming away has rest can here =
           let s1 = with_fresh_body s p in
           let same1 : standing_of p s1 ≡ record (standing_of p s) { rest = Some (fresh_of code Body) } = body_stands p s code r (code_there s away.of_program) rest in
-          let away1 : IsAway program (standing_of p s1) = record { of_program = away.of_program; not_running = away.not_running; busy = away.busy } in
-          gives_bind Answer PtState (RanFrom program p code earlier (standing_of p s1)) (λ a t. Reacted (standing_of p s) a (standing_of p t)) (calls.run s1 code (remainder_at s code p) p e) _
-          (subst (λ x. IfGives (RanFrom program p code earlier (standing_of p s1)) (calls.run s1 code x p e)) (ap (λ o. unwrap_or o (fresh_of code Body)) (sym rest)) (are.body s1 r vars e away1 has here))
+          let away1 : IsAway program mote (standing_of p s1) = record { of_program = away.of_program; of_mote = away.of_mote; not_running = away.not_running; busy = away.busy } in
+          gives_bind Answer PtState (RanFrom program mote p code earlier (standing_of p s1)) (λ a t. Reacted (standing_of p s) a (standing_of p t)) (calls.run s1 code (remainder_at s code p) p e) _
+          (subst (λ x. IfGives (RanFrom program mote p code earlier (standing_of p s1)) (calls.run s1 code x p e)) (ap (λ o. unwrap_or o (fresh_of code Body)) (sym rest)) (are.body s1 r vars e coming away1 has can here))
           (λ a t ran. record {
             left = ran.left;
             next = a.1;
@@ -365,14 +371,14 @@ module _ (program : Tree) (p : ℕ) (code : Code) (earlier : List What) where
             comes = ran.comes;
           })
 
-      reacts : (s : State) (r : Remainder) (vars : List ℕ) (e : Event) → IsAway program (standing_of p s) → (standing_of p s).vars ≡ Some vars → (standing_of p s).rest ≡ Some r → ComesHere program p code earlier (standing_of p s).told r vars
+      reacts : (s : State) (r : Remainder) (vars : List ℕ) (e : Event) (coming : Next) → IsAway program mote (standing_of p s) → (standing_of p s).vars ≡ Some vars → (standing_of p s).rest ≡ Some r → CanCome coming e s.moment → ComesHere program mote p code earlier (standing_of p s).told coming r vars
           → IfGives (λ a t. Reacted (standing_of p s) a (standing_of p t)) (react_of calls s (Own p) e)
       unfolding react_of own_of
-      reacts s r vars e away has rest here =
+      reacts s r vars e coming away has rest can here =
           subst (λ o. IfGives (λ a t. Reacted (standing_of p s) a (standing_of p t)) (elim o [ None ↦ Goes Ended s | Some c ↦ handler_of calls s c p e >>= λ _ s1. resume_of calls s1 c p e ])) (sym (code_there s away.of_program))
           (gives_bind (Unit {0}) PtState (λ u t. IsQuiet p s t) (λ a t. Reacted (standing_of p s) a (standing_of p t)) (handler_of calls s code p e) _ (from_goes (Unit {0}) (λ t. IsQuiet p s t) (handler_of calls s code p e) (lead_away s _ (handled s e) away)) (λ u t same.
           subst (λ v. IfGives (λ a w. Reacted v a (standing_of p w)) (resume_of calls t code p e)) same
-          (resumed t r vars e (subst (λ v. IsAway program v) (sym same) away) (ap (λ v. v.vars) same ∙ has) (ap (λ v. v.rest) same ∙ rest) (subst (λ v. ComesHere program p code earlier v.told r vars) (sym same) here))))
+          (resumed t r vars e coming (subst (λ v. IsAway program mote v) (sym same) away) (ap (λ v. v.vars) same ∙ has) (ap (λ v. v.rest) same ∙ rest) (subst (λ v. CanCome coming e v.moment) (sym same) can) (subst (λ v. ComesHere program mote p code earlier v.told coming r vars) (sym same) here))))
 
       -- it leaves
 
@@ -380,6 +386,7 @@ module _ (program : Tree) (p : ℕ) (code : Code) (earlier : List What) where
       gone s h = to_goes (λ t. Stands (standing_of p t)) (leave_of s (Own p)) (gives_weaker (Unit {0}) (λ a t. At (record (standing_of p s) { exiting = false; listed = false }) t) (λ a t. Stands (standing_of p t)) (leave_of s (Own p)) (from_goes (Unit {0}) _ (leave_of s (Own p)) (leave_stands p s h.room)) (λ a t same.
           subst (λ x. Stands x) (sym same) (record {
             of_program = h.of_program;
+            of_mote = h.of_mote;
             tables = h.room ∙ sym h.has;
             free = refl;
             still = h.now;
@@ -394,18 +401,19 @@ module _ (program : Tree) (p : ℕ) (code : Code) (earlier : List What) where
       abbrev On_its_way : Standing → Standing
       On_its_way v = record v { state = Off; exiting = true }
 
-      way_is_away : (v : Standing) → v.program ≡ program → IsAway program (On_its_way v)
-      way_is_away v e = record { of_program = e; not_running = refl; busy = refl }
+      way_is_away : (v : Standing) → v.program ≡ program → v.mote ≡ mote → IsAway program mote (On_its_way v)
+      way_is_away v e f = record { of_program = e; of_mote = f; not_running = refl; busy = refl }
 
       walked : (s : State) (b : Bool) (e : Event) (ms : List Member) → IsLeaving (standing_of p s) b → IfGoes (λ t. At (On_its_way (standing_of p s)) t) (walk_of calls e (Own p) ms (exiting_of s (Own p)))
       walked s b e ms h =
           let same = exiting_stands p s h.has h.room in
           subst (λ v. IfGoes (λ t. At v t) (walk_of calls e (Own p) ms (exiting_of s (Own p)))) same
-          (lead_away (exiting_of s (Own p)) _ (walk_led e (Own p) ms (exiting_of s (Own p))) (subst (λ v. IsAway program v) (sym same) (way_is_away (standing_of p s) h.of_program)))
+          (lead_away (exiting_of s (Own p)) _ (walk_led e (Own p) ms (exiting_of s (Own p))) (subst (λ v. IsAway program mote v) (sym same) (way_is_away (standing_of p s) h.of_program h.of_mote)))
 
-      last_gone : (v : Standing) (a : PtState) (w : Standing) → v.program ≡ program → v.has ≡ true → v.room ≡ true → v.state ≡ Off → Reacted v a w → IsGone w
-      last_gone v a w of_program has room state r = record {
+      last_gone : (v : Standing) (a : PtState) (w : Standing) → v.program ≡ program → v.mote ≡ mote → v.has ≡ true → v.room ≡ true → v.state ≡ Off → Reacted v a w → IsGone w
+      last_gone v a w of_program of_mote has room state r = record {
         of_program = ap (λ x. x.program) r.same ∙ of_program;
+        of_mote = ap (λ x. x.mote) r.same ∙ of_mote;
         has = ap (λ x. x.has) r.same ∙ has;
         room = ap (λ x. x.room) r.same ∙ room;
         state = ap (λ x. x.state) r.same ∙ state;
@@ -421,11 +429,11 @@ module _ (program : Tree) (p : ℕ) (code : Code) (earlier : List What) where
       last_runs s t h same =
           goes_bind (Unit {0}) (Unit {0}) (λ u. At (On_its_way (standing_of p s)) u) (λ u. IsGone (standing_of p u)) (spend_of t) _ (subst (λ v. IfGoes (λ u. At v u) (spend_of t)) same (spend_quiet t)) (λ a u there.
           to_goes (λ w. IsGone (standing_of p w)) _ (gives_bind PtState (Unit {0}) (λ a w. Reacted (standing_of p u) a (standing_of p w)) (λ a w. IsGone (standing_of p w)) (react_of calls u (Own p) (told Exit 0)) _
-          (reacts u h.now h.left (told Exit 0) (subst (λ v. IsAway program v) (sym there) (way_is_away (standing_of p s) h.of_program)) (ap (λ v. v.vars) there ∙ h.vars) (ap (λ v. v.rest) there ∙ h.rest) (subst (λ v. ComesHere program p code earlier v.told h.now h.left) (sym there) (h.comes refl)))
-          (λ a w r. last_gone (standing_of p u) a (standing_of p w) (ap (λ v. v.program) there ∙ h.of_program) (ap (λ v. v.has) there ∙ h.has) (ap (λ v. v.room) there ∙ h.room) (ap (λ v. v.state) there) r)))
+          (reacts u h.now h.left (told Exit 0) AtCall (subst (λ v. IsAway program mote v) (sym there) (way_is_away (standing_of p s) h.of_program h.of_mote)) (ap (λ v. v.vars) there ∙ h.vars) (ap (λ v. v.rest) there ∙ h.rest) tt (subst (λ v. ComesHere program mote p code earlier v.told AtCall h.now h.left) (sym there) (h.comes refl)))
+          (λ a w r. last_gone (standing_of p u) a (standing_of p w) (ap (λ v. v.program) there ∙ h.of_program) (ap (λ v. v.mote) there ∙ h.of_mote) (ap (λ v. v.has) there ∙ h.has) (ap (λ v. v.room) there ∙ h.room) (ap (λ v. v.state) there) r)))
 
       last : (s t : State) (b : Bool) → IsLeaving (standing_of p s) b → At (On_its_way (standing_of p s)) t → IfGoes (λ u. IsGone (standing_of p u)) (if b then Goes tt t else last_run_of calls t (Own p))
-      last s t true h same = subst (λ v. IsGone v) (sym same) (record { of_program = h.of_program; has = h.has; room = h.room; state = refl; now = h.now; rest = h.rest; left = h.left; vars = h.vars; lived = h.lived })
+      last s t true h same = subst (λ v. IsGone v) (sym same) (record { of_program = h.of_program; of_mote = h.of_mote; has = h.has; room = h.room; state = refl; now = h.now; rest = h.rest; left = h.left; vars = h.vars; lived = h.lived })
       last s t false h same = last_runs s t h same
 
       exits : (s : State) (f : Proc) → IsLeaving (standing_of p s) (is_same (Own p) f) → IfGoes (λ t. Stands (standing_of p t)) (exit_of calls s (Own p) f)
@@ -437,9 +445,9 @@ module _ (program : Tree) (p : ℕ) (code : Code) (earlier : List What) where
 
       -- it is called
 
-      answers_so : (s : State) (v : Standing) (a : PtState) (exit : Bool) → IsReady v → Reacted (record v { state = Called }) a (standing_of p s) → IfGoes (λ t. Stands (standing_of p t)) (answered calls s (Own p) (has_ended a || exit))
+      answers_so : (s : State) (v : Standing) (e : Event) (a : PtState) (exit : Bool) → IsReady v e → Reacted (record v { state = Called }) a (standing_of p s) → IfGoes (λ t. Stands (standing_of p t)) (answered calls s (Own p) (has_ended a || exit))
       unfolding answered
-      answers_so s v a exit h r = by (has_ended a || exit) refl
+      answers_so s v e a exit h r = by (has_ended a || exit) refl
         where
           not_ended : (b c : Bool) → (b || c) ≡ false → b ≡ false
           not_ended true c e = e
@@ -448,6 +456,7 @@ module _ (program : Tree) (p : ℕ) (code : Code) (earlier : List What) where
           by : (b : Bool) → (has_ended a || exit) ≡ b → IfGoes (λ t. Stands (standing_of p t)) (if b then exit_of calls s (Own p) (Own p) else Goes tt (with_state s (Own p) Running))
           by true e = exits s (Own p) (record {
             of_program = ap (λ x. x.program) r.same ∙ h.of_program;
+            of_mote = ap (λ x. x.mote) r.same ∙ h.of_mote;
             has = ap (λ x. x.has) r.same ∙ h.is_in.has;
             room = ap (λ x. x.room) r.same ∙ h.tables ∙ h.is_in.has;
             listed = ap (λ x. x.listed) r.same ∙ h.is_in.listed;
@@ -462,6 +471,7 @@ module _ (program : Tree) (p : ℕ) (code : Code) (earlier : List What) where
               let has : (standing_of p s).has ≡ true = ap (λ x. x.has) r.same ∙ h.is_in.has in
               subst (λ x. Stands x) (sym (state_stands p s Running has)) (record {
                 of_program = ap (λ x. x.program) r.same ∙ h.of_program;
+                of_mote = ap (λ x. x.mote) r.same ∙ h.of_mote;
                 tables = ap (λ x. x.room) r.same ∙ h.tables ∙ sym (ap (λ x. x.has) r.same);
                 free = ap (λ x. x.exiting) r.same ∙ h.free;
                 still = r.next;
@@ -472,7 +482,7 @@ module _ (program : Tree) (p : ℕ) (code : Code) (earlier : List What) where
                 where_it_is = inr (record { has = has; state = refl; listed = ap (λ x. x.listed) r.same ∙ h.is_in.listed; comes = r.comes (not_ended (has_ended a) exit e) });
               })
 
-      is_called : (s : State) (e : Event) → IsReady (standing_of p s) → IfGoes (λ t. Stands (standing_of p t)) (call_of calls s (Own p) e)
+      is_called : (s : State) (e : Event) → IsReady (standing_of p s) e → IfGoes (λ t. Stands (standing_of p t)) (call_of calls s (Own p) e)
       unfolding call_of
       is_called s e h =
           let runs : is_running s (Own p) ≡ true = ap is_running_state h.is_in.state in
@@ -480,35 +490,45 @@ module _ (program : Tree) (p : ℕ) (code : Code) (earlier : List What) where
           (goes_bind (Unit {0}) (Unit {0}) (λ t. IsQuiet p s t) (λ t. Stands (standing_of p t)) (spend_of s) _ (spend_quiet s) (λ u t same.
           let s2 = with_state t (Own p) Called in
           let same2 : standing_of p s2 ≡ record (standing_of p s) { state = Called } = state_stands p t Called (ap (λ v. v.has) same ∙ h.is_in.has) ∙ ap {A = Standing} (λ v. record v { state = Called }) same in
-          let away : IsAway program (standing_of p s2) = subst (λ v. IsAway program v) (sym same2) (record { of_program = h.of_program; not_running = refl; busy = refl }) in
+          let away : IsAway program mote (standing_of p s2) = subst (λ v. IsAway program mote v) (sym same2) (record { of_program = h.of_program; of_mote = h.of_mote; not_running = refl; busy = refl }) in
           to_goes (λ w. Stands (standing_of p w)) _ (gives_bind PtState (Unit {0}) (λ a w. Reacted (record (standing_of p s) { state = Called }) a (standing_of p w)) (λ a w. Stands (standing_of p w)) (react_of calls s2 (Own p) e) _
           (subst (λ v. IfGives (λ a w. Reacted v a (standing_of p w)) (react_of calls s2 (Own p) e)) same2
-          (reacts s2 h.still h.left e away (ap (λ v. v.vars) same2 ∙ h.vars) (ap (λ v. v.rest) same2 ∙ h.rest) (subst (λ v. ComesHere program p code earlier v.told h.still h.left) (sym same2) h.is_in.comes)))
-          (λ a w r. from_goes (Unit {0}) (λ t. Stands (standing_of p t)) _ (answers_so w (standing_of p s) a (is_event Exit e) h r)))))
+          (reacts s2 h.still h.left e h.coming away (ap (λ v. v.vars) same2 ∙ h.vars) (ap (λ v. v.rest) same2 ∙ h.rest) (subst (λ v. CanCome h.coming e v.moment) (sym same2) h.can) (subst (λ v. ComesHere program mote p code earlier v.told h.coming h.still h.left) (sym same2) h.is_in.comes)))
+          (λ a w r. from_goes (Unit {0}) (λ t. Stands (standing_of p t)) _ (answers_so w (standing_of p s) e a (is_event Exit e) h r)))))
 
       -- starts and kills
 
-      ready_first : (v w : Standing) (h : Stands v) → v.has ≡ true → w ≡ record v { state = Running; listed = true; rest = Some (fresh_of code Body); told = v.told ++ what.Start (Own p) ∷ [] } → IsReady w
-      ready_first v w h has same = subst (λ x. IsReady x) (sym same) (record {
+      ready_first : (v w : Standing) (h : Stands v) → v.has ≡ true → w ≡ record v { state = Running; listed = true; rest = Some (fresh_of code Body); told = v.told ++ record { at = v.moment; what = what.Start (Own p) } ∷ [] } → IsReady w (told Init 0)
+      ready_first v w h has same = subst (λ x. IsReady x (told Init 0)) (sym same) (record {
         of_program = h.of_program;
+        of_mote = h.of_mote;
         tables = h.tables;
         free = h.free;
         still = fresh_of code Body;
         rest = refl;
         left = h.left;
         vars = h.vars;
+        coming = AtStart v.moment;
+        can = (refl, refl);
         is_in = record {
           has = has;
           state = refl;
           listed = refl;
-          comes = record { before = earlier ++ v.told; start = h.left; lived = h.lived; did = []; answer = 0; comes = at_first code h.left 0; is_told = sym (append_assoc earlier v.told (what.Start (Own p) ∷ [])) };
+          comes = record {
+            before = earlier ++ v.told;
+            start = h.left;
+            lived = h.lived;
+            lines = record { at = v.moment; what = what.Start (Own p) } ∷ [];
+            comes = at_first p code mote h.left v.moment;
+            is_told = sym (append_assoc earlier v.told (record { at = v.moment; what = what.Start (Own p) } ∷ []));
+          };
         };
       })
 
       starts_up : (s : State) → Stands (standing_of p s) → has_process s (Own p) ≡ true → IfGoes (λ t. Stands (standing_of p t)) (enlist_of s (Own p) >>= λ _ s1. calls.call s1 (Own p) (told Init 0))
       starts_up s h has =
-          goes_bind (Unit {0}) (Unit {0}) (λ t. IsReady (standing_of p t)) (λ t. Stands (standing_of p t)) (enlist_of s (Own p)) _
-          (to_goes (λ t. IsReady (standing_of p t)) (enlist_of s (Own p)) (gives_weaker (Unit {0}) _ (λ a t. IsReady (standing_of p t)) (enlist_of s (Own p)) (from_goes (Unit {0}) _ (enlist_of s (Own p)) (enlist_stands p s code h.still (code_there s h.of_program) has h.rest)) (λ a t same. ready_first (standing_of p s) (standing_of p t) h has same)))
+          goes_bind (Unit {0}) (Unit {0}) (λ t. IsReady (standing_of p t) (told Init 0)) (λ t. Stands (standing_of p t)) (enlist_of s (Own p)) _
+          (to_goes (λ t. IsReady (standing_of p t) (told Init 0)) (enlist_of s (Own p)) (gives_weaker (Unit {0}) _ (λ a t. IsReady (standing_of p t) (told Init 0)) (enlist_of s (Own p)) (from_goes (Unit {0}) _ (enlist_of s (Own p)) (enlist_stands p s code h.still (code_there s h.of_program) has h.rest)) (λ a t same. ready_first (standing_of p s) (standing_of p t) h has same)))
           (λ a t ready. are.ready t (told Init 0) ready)
 
       own_start_if : (s : State) (b : Bool) → Stands (standing_of p s) → (has_process s (Own p) && not (is_listed s (Own p))) ≡ b
@@ -520,7 +540,7 @@ module _ (program : Tree) (p : ℕ) (code : Code) (earlier : List What) where
           has false c e = absurd (cc)
       own_start_if s false h e = h
 
-      busy_away : (s : State) → IsAway program (standing_of p s) → is_busy s (Own p) ≡ false → ⊥
+      busy_away : (s : State) → IsAway program mote (standing_of p s) → is_busy s (Own p) ≡ false → ⊥
       busy_away s a e = let f : true ≡ false = sym a.busy ∙ e in cc
 
       own_start : (s : State) → Leads (Unit {0}) s (start_of calls s (Own p))
@@ -538,10 +558,11 @@ module _ (program : Tree) (p : ℕ) (code : Code) (earlier : List What) where
       own_exit : (s : State) (f : Proc) → Stands (standing_of p s) → IfGoes (λ t. Stands (standing_of p t)) (exit_of calls s (Own p) f)
       own_exit s f h = by h.where_it_is
         where
-          by : IsOut (standing_of p s) ⊎ IsIn (standing_of p s) h.still h.left → IfGoes (λ t. Stands (standing_of p t)) (exit_of calls s (Own p) f)
+          by : IsOut (standing_of p s) ⊎ IsIn AtCall (standing_of p s) h.still h.left → IfGoes (λ t. Stands (standing_of p t)) (exit_of calls s (Own p) f)
           by (inl out) = unlisted_exit s f h out.listed
           by (inr is_in) = exits s f (record {
             of_program = h.of_program;
+            of_mote = h.of_mote;
             has = is_in.has;
             room = h.tables ∙ is_in.has;
             listed = is_in.listed;
@@ -621,10 +642,10 @@ module _ (program : Tree) (p : ℕ) (code : Code) (earlier : List What) where
       unfolding run_of stepped_of
       run_led s c r q e n = from s _ _ (stepped_as _ s c r q e n) (step_led c q e _ _ _ n)
 
-      body_runs : (s : State) (r : Remainder) (vars : List ℕ) (e : Event) → IsAway program (standing_of p s) → (standing_of p s).vars ≡ Some vars → ComesHere program p code earlier (standing_of p s).told r vars
-          → IfGives (RanFrom program p code earlier (standing_of p s)) (run_of calls s code r p e)
-      body_runs s r vars e away has here =
-          runs_on program p code earlier calls s r vars e away has here are.body (λ t o f a. lead_away t _ (act_led t p o f) a)
+      body_runs : (s : State) (r : Remainder) (vars : List ℕ) (e : Event) (coming : Next) → IsAway program mote (standing_of p s) → (standing_of p s).vars ≡ Some vars → CanCome coming e s.moment → ComesHere program mote p code earlier (standing_of p s).told coming r vars
+          → IfGives (RanFrom program mote p code earlier (standing_of p s)) (run_of calls s code r p e)
+      body_runs s r vars e coming away has can here =
+          runs_on program mote p code earlier calls s r vars e coming away has can here are.body (λ t o f a. lead_away t _ (act_led t p o f) a)
 
       -- a block beside the body
 
@@ -681,9 +702,9 @@ module _ (program : Tree) (p : ℕ) (code : Code) (earlier : List What) where
       own_called : (s : State) (e : Event) → Leads (Unit {0}) s (call_of calls s (Own p) e)
       own_called s e = lead_of s _ (λ a. subst (λ o. IfGoes (λ t. IsQuiet p s t) o) (sym (lost s e a.not_running)) refl) (λ h. by h h.where_it_is)
         where
-          by : (h : Stands (standing_of p s)) → IsOut (standing_of p s) ⊎ IsIn (standing_of p s) h.still h.left → IfGoes (λ t. Stands (standing_of p t)) (call_of calls s (Own p) e)
+          by : (h : Stands (standing_of p s)) → IsOut (standing_of p s) ⊎ IsIn AtCall (standing_of p s) h.still h.left → IfGoes (λ t. Stands (standing_of p t)) (call_of calls s (Own p) e)
           by h (inl out) = subst (λ o. IfGoes (λ t. Stands (standing_of p t)) o) (sym (lost s e (ap is_running_state out.state))) h
-          by h (inr is_in) = is_called s e (record { of_program = h.of_program; tables = h.tables; free = h.free; still = h.still; rest = h.rest; left = h.left; vars = h.vars; is_in = is_in })
+          by h (inr is_in) = is_called s e (record { of_program = h.of_program; of_mote = h.of_mote; tables = h.tables; free = h.free; still = h.still; rest = h.rest; left = h.left; vars = h.vars; coming = AtCall; can = tt; is_in = is_in })
 
       call_led : (s : State) (q : Proc) (e : Event) → Leads (Unit {0}) s (call_of calls s q e)
       call_led s q e = by (which p q)
@@ -698,7 +719,7 @@ module _ (program : Tree) (p : ℕ) (code : Code) (earlier : List What) where
       call = λ s q e. ends s _;
       ready = λ s e h. tt;
       run = λ s c r q e n. ends s _;
-      body = λ s r vars e away has here. tt;
+      body = λ s r vars e coming away has can here. tt;
       beside = λ s r e h. ends s _;
     }
     calls_told (suc k) = record {

@@ -70,12 +70,12 @@ module _ (p : ℕ) where
   member_stands : (s : State) (k : ℕ) → standing_of p (record s { members = record { process = Own p; incarnation = s.started } ∷ s.members; started = k }) ≡ record (standing_of p s) { listed = true }
   member_stands s k = ap (λ b. record (standing_of p s) { listed = b || stands_in s.members (Own p) }) (alike (place_of (Own p)))
 
-  start_stands : (s : State) → standing_of p (with_line s (what.Start (Own p))) ≡ record (standing_of p s) { told = (standing_of p s).told ++ what.Start (Own p) ∷ [] }
+  start_stands : (s : State) → standing_of p (with_line s (what.Start (Own p))) ≡ record (standing_of p s) { told = (standing_of p s).told ++ record { at = s.moment; what = what.Start (Own p) } ∷ [] }
   start_stands s =
-      ap (λ l. record (standing_of p s) { told = l }) (told_more (Own p) s.lines (record { at = s.moment; what = what.Start (Own p) }) ∙ ap (λ b. starts_and_prints (Own p) s.lines ++ (if b then what.Start (Own p) ∷ [] else [])) (alike (place_of (Own p))))
+      ap (λ l. record (standing_of p s) { told = l }) (told_more (Own p) s.lines (record { at = s.moment; what = what.Start (Own p) }) ∙ ap (λ b. starts_and_prints (Own p) s.lines ++ (if b then record { at = s.moment; what = what.Start (Own p) } ∷ [] else [])) (alike (place_of (Own p))))
 
   pub enlist_stands : (s : State) (code : Code) (r : Remainder) → slice_get s.program.codes p ≡ Some code → (standing_of p s).has ≡ true → (standing_of p s).rest ≡ Some r
-      → IfGoes (λ t. standing_of p t ≡ record (standing_of p s) { state = Running; listed = true; rest = Some (fresh_of code Body); told = (standing_of p s).told ++ what.Start (Own p) ∷ [] }) (enlist_of s (Own p))
+      → IfGoes (λ t. standing_of p t ≡ record (standing_of p s) { state = Running; listed = true; rest = Some (fresh_of code Body); told = (standing_of p s).told ++ record { at = s.moment; what = what.Start (Own p) } ∷ [] }) (enlist_of s (Own p))
   unfolding enlist_of write_of with_state
   enlist_stands s code r is has rest =
       let s1 = record s { members = record { process = Own p; incarnation = s.started } ∷ s.members; started = s.started + 1 } in
@@ -84,4 +84,4 @@ module _ (p : ℕ) where
       let e2 : standing_of p s2 ≡ record (standing_of p s) { listed = true; state = Running } = state_stands s1 Running has ∙ ap {A = Standing} (λ v. record v { state = Running }) e1 in
       let s3 = with_fresh_body s2 p in
       let e3 : standing_of p s3 ≡ record (standing_of p s) { listed = true; state = Running; rest = Some (fresh_of code Body) } = body_stands s2 code r is rest ∙ ap {A = Standing} (λ v. record v { rest = Some (fresh_of code Body) }) e2 in
-      start_stands s3 ∙ ap {A = Standing} (λ v. record v { told = v.told ++ what.Start (Own p) ∷ [] }) e3
+      start_stands s3 ∙ ap {A = Standing} (λ v. record v { told = v.told ++ record { at = s.moment; what = what.Start (Own p) } ∷ [] }) e3

@@ -1,7 +1,7 @@
 -- How a process of the program stands, and the small steps that leave it so: all those of others.
-use Rattle.std.proofs.Common.{ℕ, zero, suc, ◌≡◌, ◌+◌, ◌^◌, ◌⊎◌, inl, inr, ◌==◌, Bool, true, false, not, nat_lt, nat_le, if◌then◌else◌, List, [], ◌∷◌, ◌++◌, Some, None, length, slice_get, slice_set, refl, sym, ap, ◌∙◌, arith, map, append-nil}
+use Rattle.std.proofs.Common.{ℕ, zero, suc, ◌≡◌, ◌+◌, ◌^◌, ◌⊎◌, inl, inr, ◌==◌, Bool, true, false, not, nat_lt, nat_le, if◌then◌else◌, List, [], ◌∷◌, ◌++◌, Some, None, length, slice_get, slice_set, refl, sym, ap, ◌∙◌, arith, append-nil}
 use Rattle.std.specs.List.{filter}
-use Rattle.std.proofs.lemmas.List.{length-set, map-append}
+use Rattle.std.proofs.lemmas.List.{length-set}
 use Rattle.std.proofs.lemmas.List.Elements.{filter-append}
 use Rattle.std.proofs.lemmas.Bool.Decides.{nat_tests}
 use Rattle.mote_program.specs.declared.event.Proc.{Proc}
@@ -63,12 +63,11 @@ others_filtered ms q p e = others_stay ms q p e
 
 -- what is told more
 
-pub told_more : (p : Proc) (lines : List Line) (l : Line) → starts_and_prints p (lines ++ l ∷ []) ≡ starts_and_prints p lines ++ filter (is_told_of p) (l.what ∷ [])
-told_more p lines l =
-    ap (filter (is_told_of p)) (map-append (λ k. k.what) lines (l ∷ [])) ∙ filter-append (is_told_of p) (map (λ k. k.what) lines) (l.what ∷ [])
+pub told_more : (p : Proc) (lines : List Line) (l : Line) → starts_and_prints p (lines ++ l ∷ []) ≡ starts_and_prints p lines ++ (if is_told_of p l.what then l ∷ [] else [])
+told_more p lines l = filter-append (λ k. is_told_of p k.what) lines (l ∷ [])
 
-told_nothing : (p : Proc) (w : What) → is_told_of p w ≡ false → filter (is_told_of p) (w ∷ []) ≡ []
-told_nothing p w e = rw e refl
+told_nothing : (p : Proc) (l : Line) → is_told_of p l.what ≡ false → (if is_told_of p l.what then l ∷ [] else []) ≡ []
+told_nothing p l e = rw e refl
 
 -- the processes but that of this number
 abbrev pub IsOther : ℕ → Proc → Type 0
@@ -105,7 +104,7 @@ module _ (p : ℕ) where
 
   pub line_quiet : (s : State) (w : What) → is_told_of (Own p) w ≡ false → IsQuiet s (with_line s w)
   line_quiet s w e =
-      ap (λ l. record (standing_of p s) { told = l }) (told_more (Own p) s.lines (record { at = s.moment; what = w }) ∙ ap (λ l. starts_and_prints (Own p) s.lines ++ l) (told_nothing (Own p) w e) ∙ append-nil _)
+      ap (λ l. record (standing_of p s) { told = l }) (told_more (Own p) s.lines (record { at = s.moment; what = w }) ∙ ap (λ l. starts_and_prints (Own p) s.lines ++ l) (told_nothing (Own p) (record { at = s.moment; what = w }) e) ∙ append-nil _)
 
   pub print_quiet : (s : State) (q v : ℕ) → (q ≡ p → ⊥) → IsQuiet s (with_line s (what.Print (Own q) v))
   print_quiet s q v n = line_quiet s _ (other_differs p (Own q) (own_other p q n))

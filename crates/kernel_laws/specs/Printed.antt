@@ -1,17 +1,19 @@
 -- What a process prints, and what its body says.
-use Rattle.std.specs.Prelude.{ℕ, ◌≡◌, ◌&&◌, Bool, true, false, List, [], ◌∷◌, ◌++◌, map, Option, None, Some, slice_get}
+use Rattle.std.specs.Prelude.{ℕ, ◌≡◌, ◌&&◌, ◌<◌, Bool, true, false, List, [], ◌∷◌, ◌++◌, Option, None, Some, slice_get}
 use Rattle.std.specs.List.{filter}
 use Rattle.mote_program.specs.declared.event.Proc.{Proc}
 use Rattle.mote_program.specs.declared.event.Proc.TheVariants.{Own}
+use Rattle.mote_program.specs.declared.event.SystemEvent.TheVariants.{Init}
 use Rattle.mote_program.specs.Tree.{Action, assign, print, spawn, post, broadcast, Statement, does, branch, while, Body, end, next, Otherwise, nothing, otherwise, listed}
 use Rattle.mote_program.specs.Code.{Code, Tree}
 use Rattle.protothread.specs.declared.state.PtState.TheVariants.{Yielded}
 use Rattle.protothread.specs.declared.step.Op.TheVariants as op
-use Rattle.protothread.specs.Reading.{Sight, Happening, operates, Outcome, done, restarts, exits, stands, ReadsThread}
+use Rattle.protothread.specs.Reading.{Sight, Happening, operates, gives_up, Outcome, done, restarts, exits, stands, ReadsThread}
 use Rattle.process_kernel.specs.declared.line.Line.{Line}
 use Rattle.process_kernel.specs.declared.line.What.{What}
 use Rattle.process_kernel.specs.declared.line.What.TheVariants as what
 use Rattle.process_kernel.specs.Members.{is_same}
+use Rattle.process_kernel.specs.Calls.{told}
 use Rattle.kernel_laws.specs.Traces.{KernelCall, after_calls, booted_at}
 
 -- A statement, or a block, that is quiet: it prints nothing, sets no variable and spawns no thread.
@@ -59,15 +61,37 @@ is_told_of p (what.Start q) = is_same q p
 is_told_of p (what.Print q v) = is_same q p
 is_told_of p w = false
 
--- the starts and the prints of a process, in order
-abbrev pub starts_and_prints : Proc → List Line → List What
-starts_and_prints p lines = filter (is_told_of p) (map (λ l. l.what) lines)
+-- the lines of the starts and the prints of a process
+abbrev pub starts_and_prints : Proc → List Line → List Line
+starts_and_prints p lines = filter (λ l. is_told_of p l.what) lines
 
--- what a process prints that does this
-abbrev pub prints : Proc → List Happening → List What
-prints p [] = []
-prints p (operates (op.Print v) ∷ did) = what.Print p v ∷ prints p did
-prints p (h ∷ did) = prints p did
+-- what a process prints where it is shown these sights, and does this: a line for each print, at the moment at which it is seen
+abbrev pub printed : Proc → Sight → Happening → List Line
+printed p now (operates (op.Print v)) = record { at = now.looks.moment; what = what.Print p v } ∷ []
+printed p now h = []
+
+abbrev pub prints : Proc → List Sight → List Happening → List Line
+prints p [] did = []
+prints p (now ∷ later) [] = []
+prints p (now ∷ later) (h ∷ did) = printed p now h ++ prints p later did
+
+-- Behind an operation a process is shown the same event at the same moment, since it is still in the same call, and it is told 0, or 1 for a
+-- full queue.
+pub record IsSameCall (now then : Sight) : Type 0 where
+  pub event : then.event ≡ now.event
+  pub moment : then.looks.moment ≡ now.looks.moment
+  pub answer : then.answer < 2
+
+abbrev pub IsShownThen : Happening → Sight → Sight → Type 0
+IsShownThen (operates o) now then = IsSameCall now then
+IsShownThen (gives_up a) now then = Unit {0}
+
+-- such sights, one behind another, of this mote
+abbrev pub AreShown : (mote : ℕ) → List Sight → List Happening → Type 0
+AreShown mote [] did = Unit {0}
+AreShown mote (now ∷ []) did = now.looks.mote ≡ mote
+AreShown mote (now ∷ then ∷ later) [] = ⊥
+AreShown mote (now ∷ then ∷ later) (h ∷ did) = (now.looks.mote ≡ mote) × IsShownThen h now then × AreShown mote (then ∷ later) did
 
 -- the variables that a reading leaves
 abbrev pub left_by : Outcome → List ℕ
@@ -76,25 +100,31 @@ left_by (restarts now later variables) = variables
 left_by (exits now later variables) = variables
 left_by (stands variables) = variables
 
--- One life of a process that starts with these variables: it is shown these sights, and does what its body says, read by its structure.
-pub record Life (code : Code) (variables : List ℕ) : Type 0 where
+-- One life of a process that starts with these variables: it is shown these sights, INIT first, and does what its body says, read by its
+-- structure.
+pub record Life (code : Code) (mote : ℕ) (variables : List ℕ) : Type 0 where
   pub now : Sight
   pub later : List Sight
   pub did : List Happening
   pub became : Outcome
+  pub init : now.event ≡ told Init 0
+  pub shown : AreShown mote (now ∷ later) did
   pub reads : ReadsThread code Yielded (listed code.body) now later variables did became
 
--- Its lives, one after another, as its starts and its prints tell of them: each begins with a start and prints what it did, and the next one
--- has the variables that it left.
-pub data Lives (code : Code) (p : Proc) (variables : List ℕ) : List What → (left : List ℕ) → Type 0 where
-  Unborn : Lives code p variables [] variables
-  Lives_again : {told : List What} {left : List ℕ}
-      → Lives code p variables told left → (life : Life code left)
-      → Lives code p variables (told ++ what.Start p ∷ prints p life.did) (left_by life.became)
+-- its lines: it starts, and prints what it does
+abbrev pub lines_of : {code : Code} {mote : ℕ} {variables : List ℕ} → Proc → Life code mote variables → List Line
+lines_of p life = record { at = life.now.looks.moment; what = what.Start p } ∷ prints p (life.now ∷ life.later) life.did
 
--- the lines tell of the lives of a process, in which it came to these variables
-abbrev pub TellsLives : Code → (p : ℕ) → List Line → (variables : Option (List ℕ)) → Type 0
-TellsLives code p lines variables = (left : List ℕ) × (variables ≡ Some left) × Lives code (Own p) code.starts (starts_and_prints (Own p) lines) left
+-- Its lives, one after another, and their lines: the next one has the variables that the one before left.
+pub data Lives (code : Code) (p : Proc) (mote : ℕ) (variables : List ℕ) : List Line → (left : List ℕ) → Type 0 where
+  Unborn : Lives code p mote variables [] variables
+  LivesAgain : {lines : List Line} {left : List ℕ}
+      → Lives code p mote variables lines left → (life : Life code mote left)
+      → Lives code p mote variables (lines ++ lines_of p life) (left_by life.became)
+
+-- the starts and the prints among these lines are those of lives of the process, in which it came to these variables
+abbrev pub TellsLives : Code → (p mote : ℕ) → List Line → (variables : Option (List ℕ)) → Type 0
+TellsLives code p mote lines variables = (left : List ℕ) × (variables ≡ Some left) × Lives code (Own p) mote code.starts (starts_and_prints (Own p) lines) left
 
 -- A process that is quiet apart from its body prints, from each start on, what a reading of its body does, whatever the others do, and whatever calls
 -- follow the boot, as long as the mote doesn't halt.
@@ -102,4 +132,4 @@ abbrev pub PrintsAreTheReading : Type 0
 PrintsAreTheReading =
     (program : Tree) (p : ℕ) (code : Code) (mote queue moment : ℕ) (calls : List KernelCall) → slice_get program.codes p ≡ Some code → IsQuietApart code →
     let t = after_calls (booted_at program mote queue moment) calls in
-    t.mote.halted ≡ false → TellsLives code p t.lines (slice_get t.mote.state.variables p)
+    t.mote.halted ≡ false → TellsLives code p mote t.lines (slice_get t.mote.state.variables p)
