@@ -30,7 +30,7 @@ use Rattle.process_kernel.specs.ProcessList.{put_remainder, with_fresh_body, enl
 use Rattle.process_kernel.specs.Posts.{post_of}
 use Rattle.process_kernel.specs.Semaphores.{take_of, signal_of}
 use Rattle.process_kernel.specs.TimerOperations.{has_timer, timer_is_set, set_of, reset_of, restart_of, stop_of}
-use Rattle.process_kernel.specs.Writes.{with_line, write_of, spend_of}
+use Rattle.process_kernel.specs.Writes.{with_line, write_of, halted_of, spend_of}
 use Rattle.process_kernel.specs.Calls.{Calls, Answer, told, is_event, walk_of}
 use Rattle.process_kernel.specs.Etimer.{fired_of, purge_of, post_due, walk_timers, walks_of, pass_of, etimer_of}
 use Rattle.process_kernel.specs.Ctimer.{callback_of, waits_for, ctimer_of}
@@ -43,18 +43,16 @@ use Rattle.process_kernel.specs.Thread.{stepped_with, stepped_of}
 use Rattle.process_kernel.specs.Looks.{looks_of}
 use Rattle.process_kernel.specs.Operation.{posted, answered_with, answer_of, act_of, perform_of, after_step, run_of}
 use Rattle.process_kernel.specs.Call.{has_ended, answered, call_of, calls_of}
-use Rattle.kernel_laws.specs.Printed.{IsQuietApart}
+use Rattle.kernel_laws.specs.Printed.{IsQuietApart, LivesSoFar, Told, HasStarted}
 use Rattle.kernel_laws.specs.Telling as telling
 use Rattle.kernel_laws.specs.Telling.{Standing, standing_of, IsOut, Next, AtStart, AtCall, CanCome}
-use Rattle.kernel_laws.proofs.Packets.{IfGoes, goes_if, goes_bind}
 use Rattle.kernel_laws.proofs.EachStep.{Lead, AreJoined, lead_from, lead_bind, lead_if, lead_option, lead_goes, lead_still, bind_twice, empty_led}
 use Rattle.kernel_laws.proofs.Tables.{is_equal}
-use Rattle.kernel_laws.proofs.Watch.{Whatever}
 use Rattle.kernel_laws.proofs.Lives.{at_first}
 use Rattle.kernel_laws.proofs.QuietThreads.{IsQuietRest, fresh_quiet, poll_quiet as on_poll_quiet, exit_quiet as on_exit_quiet, callback_quiet, IsNoPrintStep, advances_quietly, answered_quietly}
-use Rattle.kernel_laws.proofs.Standing.{get_set, IsOther, IsQuiet, which, other_own, line_quiet, print_quiet, state_quiet, exiting_quiet, quiet_if, poll_quiet, variables_quiet, remainder_quiet, body_quiet, enlist_quiet, leave_quiet, post_quiet, send_quiet}
+use Rattle.kernel_laws.proofs.Standing.{Always, always_if, halted_quiet, get_set, IsOther, IsQuiet, which, other_own, line_quiet, print_quiet, state_quiet, exiting_quiet, quiet_if, poll_quiet, variables_quiet, remainder_quiet, body_quiet, enlist_quiet, leave_quiet, post_quiet, send_quiet}
 use Rattle.kernel_laws.proofs.OwnSteps.{alike, state_stands, exiting_stands, leave_stands, body_stands, put_stands, enlist_stands}
-use Rattle.kernel_laws.proofs.BodyRuns.{IfGives, gives_bind, gives_weaker, from_goes, IsAway, ComesHere, HasLived, RanFrom, BodyRuns, IsNoPrint, runs_on}
+use Rattle.kernel_laws.proofs.BodyRuns.{IfGives, gives_bind, from_always, IsAway, ComesHere, HasLived, SoFar, RanFrom, BodyRuns, IsNoPrint, runs_on}
 
 -- behind what was told of the process earlier
 module _ (program : Tree) (mote p : ℕ) (code : Code) (earlier : List Line) where
@@ -79,6 +77,7 @@ module _ (program : Tree) (mote p : ℕ) (code : Code) (earlier : List Line) whe
     pub coming : Next
     pub can : CanCome coming e v.moment
     pub is_in : IsIn coming v still left
+    pub so_far : SoFar program mote p code earlier v.told
 
   -- a process that is away is left as it stands, and of one that is at rest lives are told
   pub record Keeps (s t : State) : Type 0 where
@@ -94,55 +93,90 @@ module _ (program : Tree) (mote p : ℕ) (code : Code) (earlier : List Line) whe
     stands = λ x. i.stands (h.stands x);
   }
 
-  pub chain : AreJoined Keeps Whatever
-  chain = record { same = λ s. quiet_keeps s s refl; joined = keeps_joined; ended = λ a b c h i. tt }
+  -- and where the mote halts, what was told are lives so far
+  abbrev pub Stopped : State → Type 0
+  Stopped t = SoFar program mote p code earlier (standing_of p t).told
+
+  pub record Stops (s t : State) : Type 0 where
+    pub away : IsAway program mote (standing_of p s) → Stopped s → Stopped t
+    pub stands : Stands (standing_of p s) → Stopped t
+
+  stands_so_far : (s : State) → Stands (standing_of p s) → Stopped s
+  stands_so_far s h = Told h.lived
+
+  quiet_stopped : (s t : State) → IsQuiet p s t → Stopped s → Stopped t
+  quiet_stopped s t e h = subst (λ v. SoFar program mote p code earlier v.told) (sym e) h
+
+  quiet_stops : (s t : State) → IsQuiet p s t → Stops s t
+  quiet_stops s t e = record { away = λ a h. quiet_stopped s t e h; stands = λ h. quiet_stopped s t e (stands_so_far s h) }
+
+  keeps_stops : (a b c : State) → Keeps a b → Stops b c → Stops a c
+  keeps_stops a b c h i = record {
+    away = λ x so. i.away (subst (λ v. IsAway program mote v) (sym (h.away x)) x) (quiet_stopped a b (h.away x) so);
+    stands = λ x. i.stands (h.stands x);
+  }
+
+  pub chain : AreJoined Keeps Stops
+  chain = record { same = λ s. quiet_keeps s s refl; joined = keeps_joined; ended = keeps_stops }
 
   abbrev pub Leads : (A : Type 0) → State → Outcome A → Type 0
-  Leads A s o = Lead Keeps Whatever A s o
+  Leads A s o = Lead Keeps Stops A s o
 
   -- chains of steps
 
   pub from : {A : Type 0} (s t : State) (o : Outcome A) → IsQuiet p s t → Leads A t o → Leads A s o
-  from {A} s t o e h = lead_from Keeps Whatever chain A s t o (quiet_keeps s t e) h
+  from {A} s t o e h = lead_from Keeps Stops chain A s t o (quiet_keeps s t e) h
 
   pub bind : {A B : Type 0} (s : State) (o : Outcome A) (f : A → State → Outcome B) → Leads A s o → ((a : A) (t : State) → Leads B t (f a t)) → Leads B s (o >>= f)
-  bind {A} {B} s o f h go = lead_bind Keeps Whatever chain A B s o f h go
+  bind {A} {B} s o f h go = lead_bind Keeps Stops chain A B s o f h go
 
   pub either : {A : Type 0} (s : State) (b : Bool) (o q : Outcome A) → Leads A s o → Leads A s q → Leads A s (if b then o else q)
-  either {A} s b o q h i = lead_if Keeps Whatever chain A s b o q h i
+  either {A} s b o q h i = lead_if Keeps Stops chain A s b o q h i
 
   pub goes : {A : Type 0} (s : State) (a : A) (t : State) → IsQuiet p s t → Leads A s (Goes a t)
-  goes {A} s a t e = lead_goes Keeps Whatever chain A s a t (quiet_keeps s t e)
+  goes {A} s a t e = lead_goes Keeps Stops chain A s a t (quiet_keeps s t e)
 
   pub still : {A : Type 0} (s : State) (a : A) → Leads A s (Goes a s)
-  still {A} s a = lead_still Keeps Whatever chain A s a
+  still {A} s a = lead_still Keeps Stops chain A s a
 
-  pub ends : {A : Type 0} (s t : State) → Leads A s (Ends t)
-  ends {A} s t = record { leads = tt }
+  pub ends : {A : Type 0} (s t : State) → IsQuiet p s t → Leads A s (Ends t)
+  ends {A} s t e = record { leads = quiet_stops s t e }
 
-  pub quietly : {A : Type 0} (s : State) (o : Outcome A) → IfGoes (λ t. IsQuiet p s t) o → Leads A s o
-  quietly {A} s (Ends t) h = ends s t
+  pub halts : {A : Type 0} (s : State) → Leads A s (Ends (halted_of s))
+  halts {A} s = ends s (halted_of s) (halted_quiet p s)
+
+  pub quietly : {A : Type 0} (s : State) (o : Outcome A) → Always (λ t. IsQuiet p s t) o → Leads A s o
+  quietly {A} s (Ends t) h = ends s t h
   quietly {A} s (Goes a t) h = goes s a t h
 
+  -- the process settles again, where the mote goes on
+  abbrev pub Settles : {A : Type 0} → Outcome A → Type 0
+  Settles {A} o = IfGives Stopped (λ a t. Stands (standing_of p t)) o
+
   -- both sides of it
-  pub lead_of : {A : Type 0} (s : State) (o : Outcome A) → (IsAway program mote (standing_of p s) → IfGoes (λ t. IsQuiet p s t) o) → (Stands (standing_of p s) → IfGoes (λ t. Stands (standing_of p t)) o) → Leads A s o
-  lead_of {A} s (Ends t) h i = ends s t
+  pub lead_of : {A : Type 0} (s : State) (o : Outcome A) → (IsAway program mote (standing_of p s) → Always (λ t. IsQuiet p s t) o) → (Stands (standing_of p s) → Settles o) → Leads A s o
+  lead_of {A} s (Ends t) h i = record { leads = record { away = λ a so. quiet_stopped s t (h a) so; stands = i } }
   lead_of {A} s (Goes a t) h i = record { leads = record { away = h; stands = i } }
 
   -- where the program is known
   pub knowing : {A : Type 0} (s : State) (o : Outcome A) → ((standing_of p s).program ≡ program → Leads A s o) → Leads A s o
-  knowing {A} s (Ends t) h = ends s t
+  knowing {A} s (Ends t) h = record { leads = record { away = λ x. (h x.of_program).leads.away x; stands = λ x. (h x.of_program).leads.stands x } }
   knowing {A} s (Goes a t) h = record { leads = record { away = λ x. (h x.of_program).leads.away x; stands = λ x. (h x.of_program).leads.stands x } }
 
-  pub lead_away : {A : Type 0} (s : State) (o : Outcome A) → Leads A s o → IsAway program mote (standing_of p s) → IfGoes (λ t. IsQuiet p s t) o
-  lead_away {A} s (Ends t) h a = tt
-  lead_away {A} s (Goes x t) h a = h.leads.away a
+  pub lead_away : {A : Type 0} (s : State) (o : Outcome A) → Leads A s o → IsAway program mote (standing_of p s) → Stopped s → IfGives Stopped (λ a t. IsQuiet p s t) o
+  lead_away {A} s (Ends t) h a so = h.leads.away a so
+  lead_away {A} s (Goes x t) h a so = h.leads.away a
 
   -- small steps that are quiet
 
-  pub spend_quiet : (s : State) → IfGoes (λ t. IsQuiet p s t) (spend_of s)
+  pub spend_quiet : (s : State) → Always (λ t. IsQuiet p s t) (spend_of s)
   unfolding spend_of
-  spend_quiet s = goes_if (Unit {0}) (λ t. IsQuiet p s t) (s.units == 0) _ _ tt refl
+  spend_quiet s = always_if (λ t. IsQuiet p s t) (s.units == 0) _ _ (halted_quiet p s) refl
+
+  -- a unit is spent by a process that stands like this
+  spent : (v : Standing) (s : State) → standing_of p s ≡ v → SoFar program mote p code earlier v.told → IfGives Stopped (λ a t. standing_of p t ≡ v) (spend_of s)
+  spent v s e so =
+      from_always (Unit {0}) Stopped (λ t. IsQuiet p s t) (λ t. standing_of p t ≡ v) (spend_of s) (spend_quiet s) (λ t same. subst (λ w. SoFar program mote p code earlier w.told) (sym (same ∙ e)) so) (λ t same. same ∙ e)
 
   spends : (s : State) → Leads (Unit {0}) s (spend_of s)
   spends s = quietly s _ (spend_quiet s)
@@ -219,12 +253,12 @@ module _ (program : Tree) (mote p : ℕ) (code : Code) (earlier : List Line) whe
   radio_led : (s : State) (e : Event) → Leads (Unit {0}) s (radio_of s e)
   unfolding radio_of
   radio_led s e =
-      either s (is_event Poll e) _ _ (empty_led Keeps Whatever chain (λ t packets. quiet_keeps t _ refl) (λ t target event fits. quietly t _ (post_quiet p t target event)) (λ t sender number. quiet_keeps t _ (line_quiet p t (what.Deaf sender number) refl)) s.program.receiver s.ring s) (still s tt)
+      either s (is_event Poll e) _ _ (empty_led Keeps Stops chain (λ t packets. quiet_keeps t _ refl) (λ t target event fits. quietly t _ (post_quiet p t target event)) (λ t sender number. quiet_keeps t _ (line_quiet p t (what.Deaf sender number) refl)) s.program.receiver s.ring s) (still s tt)
 
   -- what the calls of a process keep, and the runs of a thread: those of others, of its body, and of its blocks beside
   pub record AreTold (calls : Calls) : Type 0 where
     pub call : (s : State) (q : Proc) (e : Event) → Leads (Unit {0}) s (calls.call s q e)
-    pub ready : (s : State) (e : Event) → IsReady (standing_of p s) e → IfGoes (λ t. Stands (standing_of p t)) (calls.call s (Own p) e)
+    pub ready : (s : State) (e : Event) → IsReady (standing_of p s) e → Settles (calls.call s (Own p) e)
     pub run : (s : State) (c : Code) (r : Remainder) (q : ℕ) (e : Event) → (q ≡ p → ⊥) → Leads Answer s (calls.run s c r q e)
     pub body : BodyRuns program mote p code earlier calls
     pub beside : (s : State) (r : Remainder) (e : Event) → IsQuietRest code r → Leads Answer s (calls.run s code r p e)
@@ -266,10 +300,6 @@ module _ (program : Tree) (mote p : ℕ) (code : Code) (earlier : List Line) whe
   some_is : {X : Type 0} (x y : X) → Some x ≡ Some y → x ≡ y
   some_is x y e = ap (λ o. unwrap_or o x) e
 
-  to_goes : {A : Type 0} (P : State → Type 0) (o : Outcome A) → IfGives (λ a t. P t) o → IfGoes P o
-  to_goes {A} P (Ends t) h = tt
-  to_goes {A} P (Goes a t) h = h
-
   -- the same standing, known to be so in every field
   abbrev At : Standing → State → Type 0
   At v t = standing_of p t ≡ v
@@ -299,7 +329,7 @@ module _ (program : Tree) (mote p : ℕ) (code : Code) (earlier : List Line) whe
       own_led : (s : State) (q : ℕ) (e : Event) → (q ≡ p → ⊥) → Leads PtState s (own_of calls s q e)
       unfolding own_of
       own_led s q e n =
-          lead_option Keeps Whatever chain PtState Code s (slice_get s.program.codes q) (Goes Ended s) (λ c. handler_of calls s c q e >>= λ u t. resume_of calls t c q e) (still s Ended) (λ c. bind s _ _ (handler_led s c q e n) (λ u t. resume_led t c q e n))
+          lead_option Keeps Stops chain PtState Code s (slice_get s.program.codes q) (Goes Ended s) (λ c. handler_of calls s c q e >>= λ u t. resume_of calls t c q e) (still s Ended) (λ c. bind s _ _ (handler_led s c q e n) (λ u t. resume_led t c q e n))
 
       -- callbacks
 
@@ -323,7 +353,7 @@ module _ (program : Tree) (mote p : ℕ) (code : Code) (earlier : List Line) whe
       callback_led : (s : State) (e : Event) → Leads (Unit {0}) s (callback_of calls s e)
       unfolding callback_of
       callback_led s e =
-          lead_option Keeps Whatever chain (Unit {0}) TimerOfProgram s (slice_get s.program.timers e.word) (Goes tt s) _ (still s tt) (λ t. code_led s t.process e (is_equal t.process p))
+          lead_option Keeps Stops chain (Unit {0}) TimerOfProgram s (slice_get s.program.timers e.word) (Goes tt s) _ (still s tt) (λ t. code_led s t.process e (is_equal t.process p))
 
       ctimer_led : (s : State) (e : Event) → Leads (Unit {0}) s (ctimer_of calls s e)
       unfolding ctimer_of
@@ -354,15 +384,15 @@ module _ (program : Tree) (mote p : ℕ) (code : Code) (earlier : List Line) whe
           either s (is_event Poll e) _ _ (bind s _ _ (are.beside s _ e (fresh_quiet code OnPoll (on_poll_quiet code apart))) (λ a t. still t tt))
           (either s (is_event Exit e) _ _ (bind s _ _ (are.beside s _ e (fresh_quiet code OnExit (on_exit_quiet code apart))) (λ a t. still t tt)) (still s tt))
 
-      resumed : (s : State) (r : Remainder) (vars : List ℕ) (e : Event) (coming : Next) → IsAway program mote (standing_of p s) → (standing_of p s).vars ≡ Some vars → (standing_of p s).rest ≡ Some r → CanCome coming e s.moment → ComesHere program mote p code earlier (standing_of p s).told coming r vars
-          → IfGives (λ a t. Reacted (standing_of p s) a (standing_of p t)) (resume_of calls s code p e)
+      resumed : (s : State) (r : Remainder) (vars : List ℕ) (e : Event) (coming : Next) → IsAway program mote (standing_of p s) → (standing_of p s).vars ≡ Some vars → (standing_of p s).rest ≡ Some r → CanCome coming e s.moment → ComesHere program mote p code earlier (standing_of p s).told coming r vars → Stopped s
+          → IfGives Stopped (λ a t. Reacted (standing_of p s) a (standing_of p t)) (resume_of calls s code p e)
       unfolding resume_of put_remainder
-      resumed s r vars e coming away has rest can here =
+      resumed s r vars e coming away has rest can here so =
           let s1 = with_fresh_body s p in
           let same1 : standing_of p s1 ≡ record (standing_of p s) { rest = Some (fresh_of code Body) } = body_stands p s code r (code_there s away.of_program) rest in
           let away1 : IsAway program mote (standing_of p s1) = record { of_program = away.of_program; of_mote = away.of_mote; not_running = away.not_running; busy = away.busy } in
-          gives_bind Answer PtState (RanFrom program mote p code earlier (standing_of p s1)) (λ a t. Reacted (standing_of p s) a (standing_of p t)) (calls.run s1 code (remainder_at s code p) p e) _
-          (subst (λ x. IfGives (RanFrom program mote p code earlier (standing_of p s1)) (calls.run s1 code x p e)) (ap (λ o. unwrap_or o (fresh_of code Body)) (sym rest)) (are.body s1 r vars e coming away1 has can here))
+          gives_bind Answer PtState Stopped (RanFrom program mote p code earlier (standing_of p s1)) (λ a t. Reacted (standing_of p s) a (standing_of p t)) (calls.run s1 code (remainder_at s code p) p e) _
+          (subst (λ x. IfGives Stopped (RanFrom program mote p code earlier (standing_of p s1)) (calls.run s1 code x p e)) (ap (λ o. unwrap_or o (fresh_of code Body)) (sym rest)) (are.body s1 r vars e coming away1 has can here so))
           (λ a t ran. record {
             left = ran.left;
             next = a.1;
@@ -371,20 +401,23 @@ module _ (program : Tree) (mote p : ℕ) (code : Code) (earlier : List Line) whe
             comes = ran.comes;
           })
 
-      reacts : (s : State) (r : Remainder) (vars : List ℕ) (e : Event) (coming : Next) → IsAway program mote (standing_of p s) → (standing_of p s).vars ≡ Some vars → (standing_of p s).rest ≡ Some r → CanCome coming e s.moment → ComesHere program mote p code earlier (standing_of p s).told coming r vars
-          → IfGives (λ a t. Reacted (standing_of p s) a (standing_of p t)) (react_of calls s (Own p) e)
+      reacts : (s : State) (r : Remainder) (vars : List ℕ) (e : Event) (coming : Next) → IsAway program mote (standing_of p s) → (standing_of p s).vars ≡ Some vars → (standing_of p s).rest ≡ Some r → CanCome coming e s.moment → ComesHere program mote p code earlier (standing_of p s).told coming r vars → Stopped s
+          → IfGives Stopped (λ a t. Reacted (standing_of p s) a (standing_of p t)) (react_of calls s (Own p) e)
       unfolding react_of own_of
-      reacts s r vars e coming away has rest can here =
-          subst (λ o. IfGives (λ a t. Reacted (standing_of p s) a (standing_of p t)) (elim o [ None ↦ Goes Ended s | Some c ↦ handler_of calls s c p e >>= λ _ s1. resume_of calls s1 c p e ])) (sym (code_there s away.of_program))
-          (gives_bind (Unit {0}) PtState (λ u t. IsQuiet p s t) (λ a t. Reacted (standing_of p s) a (standing_of p t)) (handler_of calls s code p e) _ (from_goes (Unit {0}) (λ t. IsQuiet p s t) (handler_of calls s code p e) (lead_away s _ (handled s e) away)) (λ u t same.
-          subst (λ v. IfGives (λ a w. Reacted v a (standing_of p w)) (resume_of calls t code p e)) same
-          (resumed t r vars e coming (subst (λ v. IsAway program mote v) (sym same) away) (ap (λ v. v.vars) same ∙ has) (ap (λ v. v.rest) same ∙ rest) (subst (λ v. CanCome coming e v.moment) (sym same) can) (subst (λ v. ComesHere program mote p code earlier v.told coming r vars) (sym same) here))))
+      reacts s r vars e coming away has rest can here so =
+          subst (λ o. IfGives Stopped (λ a t. Reacted (standing_of p s) a (standing_of p t)) (elim o [ None ↦ Goes Ended s | Some c ↦ handler_of calls s c p e >>= λ _ s1. resume_of calls s1 c p e ])) (sym (code_there s away.of_program))
+          (gives_bind (Unit {0}) PtState Stopped (λ u t. IsQuiet p s t) (λ a t. Reacted (standing_of p s) a (standing_of p t)) (handler_of calls s code p e) _ (lead_away s _ (handled s e) away so) (λ u t same.
+          subst (λ v. IfGives Stopped (λ a w. Reacted v a (standing_of p w)) (resume_of calls t code p e)) same
+          (resumed t r vars e coming (subst (λ v. IsAway program mote v) (sym same) away) (ap (λ v. v.vars) same ∙ has) (ap (λ v. v.rest) same ∙ rest) (subst (λ v. CanCome coming e v.moment) (sym same) can) (subst (λ v. ComesHere program mote p code earlier v.told coming r vars) (sym same) here) (quiet_stopped s t same so))))
 
       -- it leaves
 
-      gone : (s : State) → IsGone (standing_of p s) → IfGoes (λ t. Stands (standing_of p t)) (leave_of s (Own p))
-      gone s h = to_goes (λ t. Stands (standing_of p t)) (leave_of s (Own p)) (gives_weaker (Unit {0}) (λ a t. At (record (standing_of p s) { exiting = false; listed = false }) t) (λ a t. Stands (standing_of p t)) (leave_of s (Own p)) (from_goes (Unit {0}) _ (leave_of s (Own p)) (leave_stands p s h.room)) (λ a t same.
-          subst (λ x. Stands x) (sym same) (record {
+      gone : (s : State) → IsGone (standing_of p s) → Settles (leave_of s (Own p))
+      gone s h =
+          from_always (Unit {0}) Stopped (λ t. At (record (standing_of p s) { exiting = false; listed = false }) t) (λ t. Stands (standing_of p t)) (leave_of s (Own p)) (leave_stands p s h.room) (λ t same. stands_so_far t (left_list t same)) left_list
+        where
+          left_list : (t : State) → At (record (standing_of p s) { exiting = false; listed = false }) t → Stands (standing_of p t)
+          left_list t same = subst (λ x. Stands x) (sym same) (record {
             of_program = h.of_program;
             of_mote = h.of_mote;
             tables = h.room ∙ sym h.has;
@@ -395,7 +428,7 @@ module _ (program : Tree) (mote p : ℕ) (code : Code) (earlier : List Line) whe
             vars = h.vars;
             lived = h.lived;
             where_it_is = inl (record { state = h.state; listed = refl });
-          })))
+          })
 
       -- while it is being exited
       abbrev On_its_way : Standing → Standing
@@ -404,11 +437,11 @@ module _ (program : Tree) (mote p : ℕ) (code : Code) (earlier : List Line) whe
       way_is_away : (v : Standing) → v.program ≡ program → v.mote ≡ mote → IsAway program mote (On_its_way v)
       way_is_away v e f = record { of_program = e; of_mote = f; not_running = refl; busy = refl }
 
-      walked : (s : State) (b : Bool) (e : Event) (ms : List Member) → IsLeaving (standing_of p s) b → IfGoes (λ t. At (On_its_way (standing_of p s)) t) (walk_of calls e (Own p) ms (exiting_of s (Own p)))
+      walked : (s : State) (b : Bool) (e : Event) (ms : List Member) → IsLeaving (standing_of p s) b → IfGives Stopped (λ a t. At (On_its_way (standing_of p s)) t) (walk_of calls e (Own p) ms (exiting_of s (Own p)))
       walked s b e ms h =
           let same = exiting_stands p s h.has h.room in
-          subst (λ v. IfGoes (λ t. At v t) (walk_of calls e (Own p) ms (exiting_of s (Own p)))) same
-          (lead_away (exiting_of s (Own p)) _ (walk_led e (Own p) ms (exiting_of s (Own p))) (subst (λ v. IsAway program mote v) (sym same) (way_is_away (standing_of p s) h.of_program h.of_mote)))
+          subst (λ v. IfGives Stopped (λ a t. At v t) (walk_of calls e (Own p) ms (exiting_of s (Own p)))) same
+          (lead_away (exiting_of s (Own p)) _ (walk_led e (Own p) ms (exiting_of s (Own p))) (subst (λ v. IsAway program mote v) (sym same) (way_is_away (standing_of p s) h.of_program h.of_mote)) (subst (λ v. SoFar program mote p code earlier v.told) (sym same) (Told h.lived)))
 
       last_gone : (v : Standing) (a : PtState) (w : Standing) → v.program ≡ program → v.mote ≡ mote → v.has ≡ true → v.room ≡ true → v.state ≡ Off → Reacted v a w → IsGone w
       last_gone v a w of_program of_mote has room state r = record {
@@ -424,28 +457,28 @@ module _ (program : Tree) (mote p : ℕ) (code : Code) (earlier : List Line) whe
         lived = r.lived;
       }
 
-      last_runs : (s t : State) → IsLeaving (standing_of p s) false → At (On_its_way (standing_of p s)) t → IfGoes (λ u. IsGone (standing_of p u)) (last_run_of calls t (Own p))
+      last_runs : (s t : State) → IsLeaving (standing_of p s) false → At (On_its_way (standing_of p s)) t → IfGives Stopped (λ a u. IsGone (standing_of p u)) (last_run_of calls t (Own p))
       unfolding last_run_of
       last_runs s t h same =
-          goes_bind (Unit {0}) (Unit {0}) (λ u. At (On_its_way (standing_of p s)) u) (λ u. IsGone (standing_of p u)) (spend_of t) _ (subst (λ v. IfGoes (λ u. At v u) (spend_of t)) same (spend_quiet t)) (λ a u there.
-          to_goes (λ w. IsGone (standing_of p w)) _ (gives_bind PtState (Unit {0}) (λ a w. Reacted (standing_of p u) a (standing_of p w)) (λ a w. IsGone (standing_of p w)) (react_of calls u (Own p) (told Exit 0)) _
-          (reacts u h.now h.left (told Exit 0) AtCall (subst (λ v. IsAway program mote v) (sym there) (way_is_away (standing_of p s) h.of_program h.of_mote)) (ap (λ v. v.vars) there ∙ h.vars) (ap (λ v. v.rest) there ∙ h.rest) tt (subst (λ v. ComesHere program mote p code earlier v.told AtCall h.now h.left) (sym there) (h.comes refl)))
-          (λ a w r. last_gone (standing_of p u) a (standing_of p w) (ap (λ v. v.program) there ∙ h.of_program) (ap (λ v. v.mote) there ∙ h.of_mote) (ap (λ v. v.has) there ∙ h.has) (ap (λ v. v.room) there ∙ h.room) (ap (λ v. v.state) there) r)))
+          gives_bind (Unit {0}) (Unit {0}) Stopped (λ a u. At (On_its_way (standing_of p s)) u) (λ a u. IsGone (standing_of p u)) (spend_of t) _ (spent (On_its_way (standing_of p s)) t same (Told h.lived)) (λ a u there.
+          gives_bind PtState (Unit {0}) Stopped (λ a w. Reacted (standing_of p u) a (standing_of p w)) (λ a w. IsGone (standing_of p w)) (react_of calls u (Own p) (told Exit 0)) _
+          (reacts u h.now h.left (told Exit 0) AtCall (subst (λ v. IsAway program mote v) (sym there) (way_is_away (standing_of p s) h.of_program h.of_mote)) (ap (λ v. v.vars) there ∙ h.vars) (ap (λ v. v.rest) there ∙ h.rest) tt (subst (λ v. ComesHere program mote p code earlier v.told AtCall h.now h.left) (sym there) (h.comes refl)) (subst (λ v. SoFar program mote p code earlier v.told) (sym there) (Told h.lived)))
+          (λ a w r. last_gone (standing_of p u) a (standing_of p w) (ap (λ v. v.program) there ∙ h.of_program) (ap (λ v. v.mote) there ∙ h.of_mote) (ap (λ v. v.has) there ∙ h.has) (ap (λ v. v.room) there ∙ h.room) (ap (λ v. v.state) there) r))
 
-      last : (s t : State) (b : Bool) → IsLeaving (standing_of p s) b → At (On_its_way (standing_of p s)) t → IfGoes (λ u. IsGone (standing_of p u)) (if b then Goes tt t else last_run_of calls t (Own p))
+      last : (s t : State) (b : Bool) → IsLeaving (standing_of p s) b → At (On_its_way (standing_of p s)) t → IfGives Stopped (λ a u. IsGone (standing_of p u)) (if b then Goes tt t else last_run_of calls t (Own p))
       last s t true h same = subst (λ v. IsGone v) (sym same) (record { of_program = h.of_program; of_mote = h.of_mote; has = h.has; room = h.room; state = refl; now = h.now; rest = h.rest; left = h.left; vars = h.vars; lived = h.lived })
       last s t false h same = last_runs s t h same
 
-      exits : (s : State) (f : Proc) → IsLeaving (standing_of p s) (is_same (Own p) f) → IfGoes (λ t. Stands (standing_of p t)) (exit_of calls s (Own p) f)
+      exits : (s : State) (f : Proc) → IsLeaving (standing_of p s) (is_same (Own p) f) → Settles (exit_of calls s (Own p) f)
       unfolding exit_of
       exits s f h =
-          subst (λ b. IfGoes (λ t. Stands (standing_of p t)) (if b then (walk_of calls (told Exited (number_of (Own p))) (Own p) s.members (exiting_of s (Own p)) >>= λ _ s1. (if is_same (Own p) f then Goes tt s1 else last_run_of calls s1 (Own p)) >>= λ _ s2. leave_of s2 (Own p)) else Goes tt s)) (sym h.listed)
-          (goes_bind (Unit {0}) (Unit {0}) (λ t. At (On_its_way (standing_of p s)) t) (λ t. Stands (standing_of p t)) (walk_of calls (told Exited (number_of (Own p))) (Own p) s.members (exiting_of s (Own p))) _ (walked s _ _ s.members h) (λ a t same.
-          goes_bind (Unit {0}) (Unit {0}) (λ u. IsGone (standing_of p u)) (λ u. Stands (standing_of p u)) (if is_same (Own p) f then Goes tt t else last_run_of calls t (Own p)) _ (last s t (is_same (Own p) f) h same) (λ b u g. gone u g)))
+          subst (λ b. Settles (if b then (walk_of calls (told Exited (number_of (Own p))) (Own p) s.members (exiting_of s (Own p)) >>= λ _ s1. (if is_same (Own p) f then Goes tt s1 else last_run_of calls s1 (Own p)) >>= λ _ s2. leave_of s2 (Own p)) else Goes tt s)) (sym h.listed)
+          (gives_bind (Unit {0}) (Unit {0}) Stopped (λ a t. At (On_its_way (standing_of p s)) t) (λ a t. Stands (standing_of p t)) (walk_of calls (told Exited (number_of (Own p))) (Own p) s.members (exiting_of s (Own p))) _ (walked s _ _ s.members h) (λ a t same.
+          gives_bind (Unit {0}) (Unit {0}) Stopped (λ a u. IsGone (standing_of p u)) (λ a u. Stands (standing_of p u)) (if is_same (Own p) f then Goes tt t else last_run_of calls t (Own p)) _ (last s t (is_same (Own p) f) h same) (λ b u g. gone u g)))
 
       -- it is called
 
-      answers_so : (s : State) (v : Standing) (e : Event) (a : PtState) (exit : Bool) → IsReady v e → Reacted (record v { state = Called }) a (standing_of p s) → IfGoes (λ t. Stands (standing_of p t)) (answered calls s (Own p) (has_ended a || exit))
+      answers_so : (s : State) (v : Standing) (e : Event) (a : PtState) (exit : Bool) → IsReady v e → Reacted (record v { state = Called }) a (standing_of p s) → Settles (answered calls s (Own p) (has_ended a || exit))
       unfolding answered
       answers_so s v e a exit h r = by (has_ended a || exit) refl
         where
@@ -453,7 +486,7 @@ module _ (program : Tree) (mote p : ℕ) (code : Code) (earlier : List Line) whe
           not_ended true c e = e
           not_ended false c e = refl
 
-          by : (b : Bool) → (has_ended a || exit) ≡ b → IfGoes (λ t. Stands (standing_of p t)) (if b then exit_of calls s (Own p) (Own p) else Goes tt (with_state s (Own p) Running))
+          by : (b : Bool) → (has_ended a || exit) ≡ b → Settles {A = Unit {0}} (if b then exit_of calls s (Own p) (Own p) else Goes tt (with_state s (Own p) Running))
           by true e = exits s (Own p) (record {
             of_program = ap (λ x. x.program) r.same ∙ h.of_program;
             of_mote = ap (λ x. x.mote) r.same ∙ h.of_mote;
@@ -482,19 +515,19 @@ module _ (program : Tree) (mote p : ℕ) (code : Code) (earlier : List Line) whe
                 where_it_is = inr (record { has = has; state = refl; listed = ap (λ x. x.listed) r.same ∙ h.is_in.listed; comes = r.comes (not_ended (has_ended a) exit e) });
               })
 
-      is_called : (s : State) (e : Event) → IsReady (standing_of p s) e → IfGoes (λ t. Stands (standing_of p t)) (call_of calls s (Own p) e)
+      is_called : (s : State) (e : Event) → IsReady (standing_of p s) e → Settles (call_of calls s (Own p) e)
       unfolding call_of
       is_called s e h =
           let runs : is_running s (Own p) ≡ true = ap is_running_state h.is_in.state in
-          subst (λ b. IfGoes (λ t. Stands (standing_of p t)) (if b then (spend_of s >>= λ _ s1. react_of calls (with_state s1 (Own p) Called) (Own p) e >>= λ answer s2. answered calls s2 (Own p) (has_ended answer || is_event Exit e)) else Goes tt s)) (sym runs)
-          (goes_bind (Unit {0}) (Unit {0}) (λ t. IsQuiet p s t) (λ t. Stands (standing_of p t)) (spend_of s) _ (spend_quiet s) (λ u t same.
+          subst (λ b. Settles (if b then (spend_of s >>= λ _ s1. react_of calls (with_state s1 (Own p) Called) (Own p) e >>= λ answer s2. answered calls s2 (Own p) (has_ended answer || is_event Exit e)) else Goes tt s)) (sym runs)
+          (gives_bind (Unit {0}) (Unit {0}) Stopped (λ a t. IsQuiet p s t) (λ a t. Stands (standing_of p t)) (spend_of s) _ (spent (standing_of p s) s refl h.so_far) (λ u t same.
           let s2 = with_state t (Own p) Called in
           let same2 : standing_of p s2 ≡ record (standing_of p s) { state = Called } = state_stands p t Called (ap (λ v. v.has) same ∙ h.is_in.has) ∙ ap {A = Standing} (λ v. record v { state = Called }) same in
           let away : IsAway program mote (standing_of p s2) = subst (λ v. IsAway program mote v) (sym same2) (record { of_program = h.of_program; of_mote = h.of_mote; not_running = refl; busy = refl }) in
-          to_goes (λ w. Stands (standing_of p w)) _ (gives_bind PtState (Unit {0}) (λ a w. Reacted (record (standing_of p s) { state = Called }) a (standing_of p w)) (λ a w. Stands (standing_of p w)) (react_of calls s2 (Own p) e) _
-          (subst (λ v. IfGives (λ a w. Reacted v a (standing_of p w)) (react_of calls s2 (Own p) e)) same2
-          (reacts s2 h.still h.left e h.coming away (ap (λ v. v.vars) same2 ∙ h.vars) (ap (λ v. v.rest) same2 ∙ h.rest) (subst (λ v. CanCome h.coming e v.moment) (sym same2) h.can) (subst (λ v. ComesHere program mote p code earlier v.told h.coming h.still h.left) (sym same2) h.is_in.comes)))
-          (λ a w r. from_goes (Unit {0}) (λ t. Stands (standing_of p t)) _ (answers_so w (standing_of p s) e a (is_event Exit e) h r)))))
+          gives_bind PtState (Unit {0}) Stopped (λ a w. Reacted (record (standing_of p s) { state = Called }) a (standing_of p w)) (λ a w. Stands (standing_of p w)) (react_of calls s2 (Own p) e) _
+          (subst (λ v. IfGives Stopped (λ a w. Reacted v a (standing_of p w)) (react_of calls s2 (Own p) e)) same2
+          (reacts s2 h.still h.left e h.coming away (ap (λ v. v.vars) same2 ∙ h.vars) (ap (λ v. v.rest) same2 ∙ h.rest) (subst (λ v. CanCome h.coming e v.moment) (sym same2) h.can) (subst (λ v. ComesHere program mote p code earlier v.told h.coming h.still h.left) (sym same2) h.is_in.comes) (subst (λ v. SoFar program mote p code earlier v.told) (sym same2) h.so_far)))
+          (λ a w r. answers_so w (standing_of p s) e a (is_event Exit e) h r)))
 
       -- starts and kills
 
@@ -523,16 +556,17 @@ module _ (program : Tree) (mote p : ℕ) (code : Code) (earlier : List Line) whe
             is_told = sym (append_assoc earlier v.told (record { at = v.moment; what = what.Start (Own p) } ∷ []));
           };
         };
+        so_far = subst (λ l. LivesSoFar code (Own p) mote code.starts l) (append_assoc earlier v.told (record { at = v.moment; what = what.Start (Own p) } ∷ [])) (HasStarted h.lived v.moment);
       })
 
-      starts_up : (s : State) → Stands (standing_of p s) → has_process s (Own p) ≡ true → IfGoes (λ t. Stands (standing_of p t)) (enlist_of s (Own p) >>= λ _ s1. calls.call s1 (Own p) (told Init 0))
+      starts_up : (s : State) → Stands (standing_of p s) → has_process s (Own p) ≡ true → Settles (enlist_of s (Own p) >>= λ _ s1. calls.call s1 (Own p) (told Init 0))
       starts_up s h has =
-          goes_bind (Unit {0}) (Unit {0}) (λ t. IsReady (standing_of p t) (told Init 0)) (λ t. Stands (standing_of p t)) (enlist_of s (Own p)) _
-          (to_goes (λ t. IsReady (standing_of p t) (told Init 0)) (enlist_of s (Own p)) (gives_weaker (Unit {0}) _ (λ a t. IsReady (standing_of p t) (told Init 0)) (enlist_of s (Own p)) (from_goes (Unit {0}) _ (enlist_of s (Own p)) (enlist_stands p s code h.still (code_there s h.of_program) has h.rest)) (λ a t same. ready_first (standing_of p s) (standing_of p t) h has same)))
+          gives_bind (Unit {0}) (Unit {0}) Stopped (λ a t. IsReady (standing_of p t) (told Init 0)) (λ a t. Stands (standing_of p t)) (enlist_of s (Own p)) _
+          (from_always (Unit {0}) Stopped _ (λ t. IsReady (standing_of p t) (told Init 0)) (enlist_of s (Own p)) (enlist_stands p s code h.still (code_there s h.of_program) has h.rest) (λ t same. (ready_first (standing_of p s) (standing_of p t) h has same).so_far) (λ t same. ready_first (standing_of p s) (standing_of p t) h has same))
           (λ a t ready. are.ready t (told Init 0) ready)
 
       own_start_if : (s : State) (b : Bool) → Stands (standing_of p s) → (has_process s (Own p) && not (is_listed s (Own p))) ≡ b
-          → IfGoes (λ t. Stands (standing_of p t)) (if b then (enlist_of s (Own p) >>= λ _ s1. calls.call s1 (Own p) (told Init 0)) else Goes tt s)
+          → Settles (if b then (enlist_of s (Own p) >>= λ _ s1. calls.call s1 (Own p) (told Init 0)) else Goes tt s)
       own_start_if s true h e = starts_up s h (has (has_process s (Own p)) _ e)
         where
           has : (b c : Bool) → (b && c) ≡ true → b ≡ true
@@ -551,14 +585,14 @@ module _ (program : Tree) (mote p : ℕ) (code : Code) (earlier : List Line) whe
           by true e = writes s _ (line_quiet p s (what.Busy (Own p)) refl)
           by false e = lead_of s _ (λ a. absurd (busy_away s a e)) (λ h. own_start_if s _ h refl)
 
-      unlisted_exit : (s : State) (f : Proc) → Stands (standing_of p s) → is_listed s (Own p) ≡ false → IfGoes (λ t. Stands (standing_of p t)) (exit_of calls s (Own p) f)
+      unlisted_exit : (s : State) (f : Proc) → Stands (standing_of p s) → is_listed s (Own p) ≡ false → Settles (exit_of calls s (Own p) f)
       unfolding exit_of
       unlisted_exit s f h e = rw e h
 
-      own_exit : (s : State) (f : Proc) → Stands (standing_of p s) → IfGoes (λ t. Stands (standing_of p t)) (exit_of calls s (Own p) f)
+      own_exit : (s : State) (f : Proc) → Stands (standing_of p s) → Settles (exit_of calls s (Own p) f)
       own_exit s f h = by h.where_it_is
         where
-          by : IsOut (standing_of p s) ⊎ IsIn AtCall (standing_of p s) h.still h.left → IfGoes (λ t. Stands (standing_of p t)) (exit_of calls s (Own p) f)
+          by : IsOut (standing_of p s) ⊎ IsIn AtCall (standing_of p s) h.still h.left → Settles (exit_of calls s (Own p) f)
           by (inl out) = unlisted_exit s f h out.listed
           by (inr is_in) = exits s f (record {
             of_program = h.of_program;
@@ -636,16 +670,16 @@ module _ (program : Tree) (mote p : ℕ) (code : Code) (earlier : List Line) whe
       step_led : (c : Code) (q : ℕ) (e : Event) (x : Step) (r : Remainder) (s : State) → (q ≡ p → ⊥) → Leads Answer s (after_step calls c q e x r s)
       step_led c q e (step.Op o) r s n = bind s _ _ (perform_led s r q o n) (λ r1 t. are.run t c r1 q e n)
       step_led c q e (step.Done a) r s n = still s _
-      step_led c q e step.Runaway r s n = ends s _
+      step_led c q e step.Runaway r s n = halts s
 
       run_led : (s : State) (c : Code) (r : Remainder) (q : ℕ) (e : Event) → (q ≡ p → ⊥) → Leads Answer s (run_of calls s c r q e)
       unfolding run_of stepped_of
       run_led s c r q e n = from s _ _ (stepped_as _ s c r q e n) (step_led c q e _ _ _ n)
 
-      body_runs : (s : State) (r : Remainder) (vars : List ℕ) (e : Event) (coming : Next) → IsAway program mote (standing_of p s) → (standing_of p s).vars ≡ Some vars → CanCome coming e s.moment → ComesHere program mote p code earlier (standing_of p s).told coming r vars
-          → IfGives (RanFrom program mote p code earlier (standing_of p s)) (run_of calls s code r p e)
-      body_runs s r vars e coming away has can here =
-          runs_on program mote p code earlier calls s r vars e coming away has can here are.body (λ t o f a. lead_away t _ (act_led t p o f) a)
+      body_runs : (s : State) (r : Remainder) (vars : List ℕ) (e : Event) (coming : Next) → IsAway program mote (standing_of p s) → (standing_of p s).vars ≡ Some vars → CanCome coming e s.moment → ComesHere program mote p code earlier (standing_of p s).told coming r vars → Stopped s
+          → IfGives Stopped (RanFrom program mote p code earlier (standing_of p s)) (run_of calls s code r p e)
+      body_runs s r vars e coming away has can here so =
+          runs_on program mote p code earlier calls s r vars e coming away has can here so are.body (λ t o f a so. lead_away t _ (act_led t p o f) a so)
 
       -- a block beside the body
 
@@ -663,13 +697,13 @@ module _ (program : Tree) (mote p : ℕ) (code : Code) (earlier : List Line) whe
       performed_beside : (s : State) (r : Remainder) (e : Event) (o : Op) → IsNoPrint o → IsQuietRest code r → Leads Answer s (perform_of calls s r p o >>= λ r1 s1. calls.run s1 code r1 p e)
       unfolding perform_of
       performed_beside s r e (op.Post t number word) f h =
-          bind_twice Keeps Whatever chain _ _ _ s (post_of s t (posted number word)) _ _ (bind s _ _ (quietly s _ (post_quiet p s t (posted number word))) (λ full u. told_beside u r e full h))
-      performed_beside s r e o f h = bind_twice Keeps Whatever chain _ _ _ s (act_of calls s p o) _ _ (bind s _ _ (act_led s p o f) (λ a u. are.beside u r e h))
+          bind_twice Keeps Stops chain _ _ _ s (post_of s t (posted number word)) _ _ (bind s _ _ (quietly s _ (post_quiet p s t (posted number word))) (λ full u. told_beside u r e full h))
+      performed_beside s r e o f h = bind_twice Keeps Stops chain _ _ _ s (act_of calls s p o) _ _ (bind s _ _ (act_led s p o f) (λ a u. are.beside u r e h))
 
       after_beside : (s : State) (r : Remainder) (e : Event) (x : Step) → IsNoPrintStep x → IsQuietRest code r → Leads Answer s (after_step calls code p e x r s)
       after_beside s r e (step.Op o) f h = performed_beside s r e o f h
       after_beside s r e (step.Done a) f h = still s _
-      after_beside s r e step.Runaway f h = ends s _
+      after_beside s r e step.Runaway f h = halts s
 
       stepped_beside : (s : State) (r : Remainder) (e : Event) (variables : Option (List ℕ)) → slice_get s.variables p ≡ variables → IsQuietRest code r
           → Leads Answer s (let m = stepped_with variables s code r p e in after_step calls code p e m.step m.remainder m.state)
@@ -700,11 +734,11 @@ module _ (program : Tree) (mote p : ℕ) (code : Code) (earlier : List Line) whe
       lost s e r = rw r refl
 
       own_called : (s : State) (e : Event) → Leads (Unit {0}) s (call_of calls s (Own p) e)
-      own_called s e = lead_of s _ (λ a. subst (λ o. IfGoes (λ t. IsQuiet p s t) o) (sym (lost s e a.not_running)) refl) (λ h. by h h.where_it_is)
+      own_called s e = lead_of s _ (λ a. subst (λ o. Always (λ t. IsQuiet p s t) o) (sym (lost s e a.not_running)) refl) (λ h. by h h.where_it_is)
         where
-          by : (h : Stands (standing_of p s)) → IsOut (standing_of p s) ⊎ IsIn AtCall (standing_of p s) h.still h.left → IfGoes (λ t. Stands (standing_of p t)) (call_of calls s (Own p) e)
-          by h (inl out) = subst (λ o. IfGoes (λ t. Stands (standing_of p t)) o) (sym (lost s e (ap is_running_state out.state))) h
-          by h (inr is_in) = is_called s e (record { of_program = h.of_program; of_mote = h.of_mote; tables = h.tables; free = h.free; still = h.still; rest = h.rest; left = h.left; vars = h.vars; coming = AtCall; can = tt; is_in = is_in })
+          by : (h : Stands (standing_of p s)) → IsOut (standing_of p s) ⊎ IsIn AtCall (standing_of p s) h.still h.left → Settles (call_of calls s (Own p) e)
+          by h (inl out) = subst (λ o. Settles o) (sym (lost s e (ap is_running_state out.state))) h
+          by h (inr is_in) = is_called s e (record { of_program = h.of_program; of_mote = h.of_mote; tables = h.tables; free = h.free; still = h.still; rest = h.rest; left = h.left; vars = h.vars; coming = AtCall; can = tt; is_in = is_in; so_far = Told h.lived })
 
       call_led : (s : State) (q : Proc) (e : Event) → Leads (Unit {0}) s (call_of calls s q e)
       call_led s q e = by (which p q)
@@ -716,11 +750,11 @@ module _ (program : Tree) (mote p : ℕ) (code : Code) (earlier : List Line) whe
     pub calls_told : (k : ℕ) → AreTold (calls_of k)
     unfolding calls_of
     calls_told zero = record {
-      call = λ s q e. ends s _;
-      ready = λ s e h. tt;
-      run = λ s c r q e n. ends s _;
-      body = λ s r vars e coming away has can here. tt;
-      beside = λ s r e h. ends s _;
+      call = λ s q e. halts s;
+      ready = λ s e h. quiet_stopped s (halted_of s) (halted_quiet p s) h.so_far;
+      run = λ s c r q e n. halts s;
+      body = λ s r vars e coming away has can here so. quiet_stopped s (halted_of s) (halted_quiet p s) so;
+      beside = λ s r e h. halts s;
     }
     calls_told (suc k) = record {
       call = call_led (calls_of k) (calls_told k);

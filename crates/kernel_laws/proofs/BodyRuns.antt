@@ -23,35 +23,34 @@ use Rattle.process_kernel.specs.State.{State, Outcome, Ends, Goes, ◌>>=◌}
 use Rattle.process_kernel.specs.Processes.{is_running_state, is_called_state}
 use Rattle.process_kernel.specs.Looks.{looks_of}
 use Rattle.process_kernel.specs.Posts.{post_of}
-use Rattle.process_kernel.specs.Writes.{with_line, write_of}
+use Rattle.process_kernel.specs.Writes.{with_line, write_of, halted_of}
 use Rattle.process_kernel.specs.Calls.{Calls, Answer}
 use Rattle.process_kernel.specs.Call.{has_ended}
 use Rattle.process_kernel.specs.Thread.{stepped_with, stepped_of}
 use Rattle.process_kernel.specs.Operation.{posted, act_of, answered_with, answer_of, perform_of, after_step, run_of}
-use Rattle.kernel_laws.specs.Printed.{printed, left_by, starts_and_prints, is_told_of, lines_of, Lives, LivesAgain}
+use Rattle.kernel_laws.specs.Printed.{printed, left_by, starts_and_prints, is_told_of, lines_of, Lives, LivesAgain, LivesSoFar, Told}
 use Rattle.kernel_laws.specs.Telling as telling
 use Rattle.kernel_laws.specs.Telling.{Standing, standing_of, Next, AtStart, InCall, AtCall, CanCome, IsAnswered, HasLife}
-use Rattle.kernel_laws.proofs.Packets.{IfGoes}
-use Rattle.kernel_laws.proofs.Lives.{operates_on, gives_up_on, stands_there, exits_there, ends_there}
+use Rattle.kernel_laws.proofs.Lives.{operates_on, performs_there, gives_up_on, stands_there, exits_there, ends_there}
 use Rattle.kernel_laws.proofs.Untold.{IsUntold, StepUntold, step_untold, answer_untold}
-use Rattle.kernel_laws.proofs.Standing.{get_set, told_more, post_quiet}
+use Rattle.kernel_laws.proofs.Standing.{Always, get_set, told_more, halted_quiet, post_quiet}
 
--- what is true of the answer and the state of an outcome that goes on
-abbrev pub IfGives : {A : Type 0} → (A → State → Type 0) → Outcome A → Type 0
-IfGives P (Ends t) = Unit {0}
-IfGives P (Goes a t) = P a t
+-- what is true of the answer and the state of an outcome that goes on, and of the state in which it ends
+abbrev pub IfGives : {A : Type 0} → (State → Type 0) → (A → State → Type 0) → Outcome A → Type 0
+IfGives E P (Ends t) = E t
+IfGives E P (Goes a t) = P a t
 
-pub gives_bind : (A B : Type 0) (P : A → State → Type 0) (Q : B → State → Type 0) (o : Outcome A) (f : A → State → Outcome B) → IfGives P o → ((a : A) (t : State) → P a t → IfGives Q (f a t)) → IfGives Q (o >>= f)
-gives_bind A B P Q (Ends t) f h go = tt
-gives_bind A B P Q (Goes a t) f h go = go a t h
+pub gives_bind : (A B : Type 0) (E : State → Type 0) (P : A → State → Type 0) (Q : B → State → Type 0) (o : Outcome A) (f : A → State → Outcome B) → IfGives E P o → ((a : A) (t : State) → P a t → IfGives E Q (f a t)) → IfGives E Q (o >>= f)
+gives_bind A B E P Q (Ends t) f h go = h
+gives_bind A B E P Q (Goes a t) f h go = go a t h
 
-pub gives_weaker : (A : Type 0) (P Q : A → State → Type 0) (o : Outcome A) → IfGives P o → ((a : A) (t : State) → P a t → Q a t) → IfGives Q o
-gives_weaker A P Q (Ends t) h go = tt
-gives_weaker A P Q (Goes a t) h go = go a t h
+pub gives_weaker : (A : Type 0) (E : State → Type 0) (P Q : A → State → Type 0) (o : Outcome A) → IfGives E P o → ((a : A) (t : State) → P a t → Q a t) → IfGives E Q o
+gives_weaker A E P Q (Ends t) h go = h
+gives_weaker A E P Q (Goes a t) h go = go a t h
 
-pub from_goes : (A : Type 0) (P : State → Type 0) (o : Outcome A) → IfGoes P o → IfGives (λ a t. P t) o
-from_goes A P (Ends t) h = tt
-from_goes A P (Goes a t) h = h
+pub from_always : (A : Type 0) (E P Q : State → Type 0) (o : Outcome A) → Always P o → ((t : State) → P t → E t) → ((t : State) → P t → Q t) → IfGives E (λ a t. Q t) o
+from_always A E P Q (Ends t) h i j = i t h
+from_always A E P Q (Goes a t) h i j = j t h
 
 -- the process is called or being exited, so that nothing calls, starts or kills it
 pub record IsAway (program : Tree) (mote : ℕ) (v : Standing) : Type 0 where
@@ -85,6 +84,13 @@ module _ (program : Tree) (mote p : ℕ) (code : Code) (earlier : List Line) whe
   abbrev pub HasLived : List Line → List ℕ → Type 0
   HasLived told vars = Lives code (Own p) mote code.starts (earlier ++ told) vars
 
+  -- What was told is lives so far.
+  abbrev pub SoFar : List Line → Type 0
+  SoFar told = LivesSoFar code (Own p) mote code.starts (earlier ++ told)
+
+  abbrev pub Stopped : State → Type 0
+  Stopped t = SoFar (standing_of p t).told
+
   -- A run of the body has answered: of how the process stands, what was told of it and its variables alone have changed.
   pub record Ran (v : Standing) (a : PtState) (r : Remainder) (w : Standing) : Type 0 where
     pub left : List ℕ
@@ -98,13 +104,13 @@ module _ (program : Tree) (mote p : ℕ) (code : Code) (earlier : List Line) whe
   -- the body runs
   abbrev pub BodyRuns : Calls → Type 0
   BodyRuns calls =
-      (s : State) (r : Remainder) (vars : List ℕ) (e : Event) (next : Next) → IsAway program mote (standing_of p s) → (standing_of p s).vars ≡ Some vars → CanCome next e s.moment → ComesHere (standing_of p s).told next r vars
-      → IfGives (RanFrom (standing_of p s)) (calls.run s code r p e)
+      (s : State) (r : Remainder) (vars : List ℕ) (e : Event) (next : Next) → IsAway program mote (standing_of p s) → (standing_of p s).vars ≡ Some vars → CanCome next e s.moment → ComesHere (standing_of p s).told next r vars → Stopped s
+      → IfGives Stopped (RanFrom (standing_of p s)) (calls.run s code r p e)
 
   -- where the process is away, what its operations start leaves it as it stands, but for a print
   abbrev pub ActsAside : Calls → Type 0
   ActsAside calls =
-      (s : State) (o : Op) → IsNoPrint o → IsAway program mote (standing_of p s) → IfGoes (λ t. standing_of p t ≡ standing_of p s) (act_of calls s p o)
+      (s : State) (o : Op) → IsNoPrint o → IsAway program mote (standing_of p s) → Stopped s → IfGives Stopped (λ a t. standing_of p t ≡ standing_of p s) (act_of calls s p o)
 
   told_next : (told before lines more : List Line) → earlier ++ told ≡ before ++ lines → earlier ++ (told ++ more) ≡ before ++ (lines ++ more)
   told_next told before lines more e = sym (append_assoc earlier told more) ∙ ap (λ l. l ++ more) e ∙ append_assoc before lines more
@@ -115,7 +121,7 @@ module _ (program : Tree) (mote p : ℕ) (code : Code) (earlier : List Line) whe
       subst (λ l. Lives code (Own p) mote code.starts l (left_by out)) (ap (λ l. before ++ l) h.has_lines ∙ sym e)
       (subst (λ o. Lives code (Own p) mote code.starts (before ++ lines_of (Own p) h.life) (left_by o)) h.became_so (LivesAgain lived h.life))
 
-  module _ (calls : Calls) (s : State) (r : Remainder) (vars : List ℕ) (e : Event) (next : Next) (away : IsAway program mote (standing_of p s)) (has : (standing_of p s).vars ≡ Some vars) (can : CanCome next e s.moment) (here : ComesHere (standing_of p s).told next r vars) where
+  module _ (calls : Calls) (s : State) (r : Remainder) (vars : List ℕ) (e : Event) (next : Next) (away : IsAway program mote (standing_of p s)) (has : (standing_of p s).vars ≡ Some vars) (can : CanCome next e s.moment) (here : ComesHere (standing_of p s).told next r vars) (so_far : Stopped s) where
     -- what it is shown
     abbrev now : Sight
     now = record { answer = answer_in next; event = e; looks = looks_of s }
@@ -177,23 +183,26 @@ module _ (program : Tree) (mote p : ℕ) (code : Code) (earlier : List Line) whe
     module _ (runs : BodyRuns calls) where
       goes_on : (o : Op) (after : Remainder) (changed : List ℕ) (told : ℕ) → told < 2 → Takes (step.Op o) after changed
           → (t : State) → IsBehind o (answered_of after changed told).variables t
-          → IfGives (RanFrom (standing_of p s)) (calls.run t code (answered_of after changed told).remainder p e)
+          → IfGives Stopped (RanFrom (standing_of p s)) (calls.run t code (answered_of after changed told).remainder p e)
       goes_on o after changed told small takes t same =
-          gives_weaker _ _ _ _ (runs t (answered_of after changed told).remainder (answered_of after changed told).variables e (InCall told e s.moment) (still_away o _ t same) (ap (λ v. v.vars) same) (refl, ap (λ v. v.moment) same) (record {
+          gives_weaker _ Stopped _ _ _ (runs t (answered_of after changed told).remainder (answered_of after changed told).variables e (InCall told e s.moment) (still_away o _ t same) (ap (λ v. v.vars) same) (refl, ap (λ v. v.moment) same) (record {
             before = here.before;
             start = here.start;
             lived = here.lived;
             lines = here.lines ++ printed (Own p) now (operates o);
             comes = operates_on p code mote here.start here.lines next r after vars changed now can (is_answered next) away.of_mote here.comes told o small takes;
-            is_told = ap (λ v. earlier ++ v.told) same ∙ told_next (standing_of p s).told here.before here.lines (printed (Own p) now (operates o)) here.is_told;
-          })) (ran_on o _ t same)
+            is_told = now_told;
+          }) (Told (lived_more (standing_of p t).told here.before here.start (here.lines ++ printed (Own p) now (operates o)) (stands changed) here.lived (performs_there p code mote here.start here.lines next r after vars changed now can (is_answered next) away.of_mote here.comes o takes) now_told))) (ran_on o _ t same)
+        where
+          now_told : earlier ++ (standing_of p t).told ≡ here.before ++ (here.lines ++ printed (Own p) now (operates o))
+          now_told = ap (λ v. earlier ++ v.told) same ∙ told_next (standing_of p s).told here.before here.lines (printed (Own p) now (operates o)) here.is_told
 
       -- where the operation tells the thread no answer
       goes_untold : (o : Op) (after : Remainder) (changed : List ℕ) → Takes (step.Op o) after changed → after.mark ≡ UnderWay None
-          → (t : State) → IsBehind o changed t → IfGives (RanFrom (standing_of p s)) (calls.run t code after p e)
+          → (t : State) → IsBehind o changed t → IfGives Stopped (RanFrom (standing_of p s)) (calls.run t code after p e)
       goes_untold o after changed takes mark t same =
           let untold = answer_untold after changed 0 mark in
-          subst (λ x. IfGives (RanFrom (standing_of p s)) (calls.run t code x p e)) untold.0 (goes_on o after changed 0 (omega arith) takes t (subst (λ vs. IsBehind o vs t) (sym untold.1) same))
+          subst (λ x. IfGives Stopped (RanFrom (standing_of p s)) (calls.run t code x p e)) untold.0 (goes_on o after changed 0 (omega arith) takes t (subst (λ vs. IsBehind o vs t) (sym untold.1) same))
 
       -- the state behind a step
       abbrev stepped : (changed : List ℕ) → (left : ℕ) → State
@@ -205,6 +214,9 @@ module _ (program : Tree) (mote p : ℕ) (code : Code) (earlier : List Line) whe
       stepped_away : (changed : List ℕ) (left : ℕ) → IsAway program mote (standing_of p (stepped changed left))
       stepped_away changed left = subst (λ v. IsAway program mote v) (sym (stepped_stands changed left)) (record { of_program = away.of_program; of_mote = away.of_mote; not_running = away.not_running; busy = away.busy })
 
+      stepped_so_far : (changed : List ℕ) (left : ℕ) (t : State) → standing_of p t ≡ standing_of p (stepped changed left) → Stopped t
+      stepped_so_far changed left t same = subst (λ v. SoFar v.told) (sym (same ∙ stepped_stands changed left)) so_far
+
       -- it was told whether the queue was full
       abbrev IsTold : Remainder → List ℕ → Remainder → State → Type 0
       IsTold after changed r1 t =
@@ -214,28 +226,28 @@ module _ (program : Tree) (mote p : ℕ) (code : Code) (earlier : List Line) whe
       is_small true = omega arith
       is_small false = omega arith
 
-      answer_told : (after : Remainder) (changed : List ℕ) (u : State) (full : Bool) → standing_of p u ≡ record (standing_of p s) { vars = Some changed } → IfGives (IsTold after changed) (answer_of u after p full)
+      answer_told : (after : Remainder) (changed : List ℕ) (u : State) (full : Bool) → standing_of p u ≡ record (standing_of p s) { vars = Some changed } → IfGives Stopped (IsTold after changed) (answer_of u after p full)
       unfolding answer_of
       answer_told after changed u full same =
           let there : slice_get u.variables p ≡ Some changed = ap (λ v. v.vars) same in
           let n = if full then 1 else 0 in
-          subst (λ o. IfGives (IsTold after changed) (answered_with o u after p n)) (sym there)
+          subst (λ o. IfGives Stopped (IsTold after changed) (answered_with o u after p n)) (sym there)
           (n, is_small full, refl, ap (λ o. record (standing_of p u) { vars = o }) (get_set u.variables p (answered_of after changed n).variables changed there) ∙ ap {A = Standing} (λ v. record v { vars = Some (answered_of after changed n).variables }) same)
 
       posted_on : (after : Remainder) (changed : List ℕ) (left : ℕ) (t : Target) (number word : ℕ) → Takes (step.Op (op.Post t number word)) after changed
-          → IfGives (RanFrom (standing_of p s)) (perform_of calls (stepped changed left) after p (op.Post t number word) >>= λ r1 s1. calls.run s1 code r1 p e)
+          → IfGives Stopped (RanFrom (standing_of p s)) (perform_of calls (stepped changed left) after p (op.Post t number word) >>= λ r1 s1. calls.run s1 code r1 p e)
       unfolding perform_of
       posted_on after changed left t number word takes =
-          gives_bind _ _ (IsTold after changed) _ (perform_of calls (stepped changed left) after p (op.Post t number word)) _
-          (gives_bind _ _ (λ full u. standing_of p u ≡ standing_of p (stepped changed left)) _ (post_of (stepped changed left) t (posted number word)) _ (from_goes Bool (λ u. standing_of p u ≡ standing_of p (stepped changed left)) (post_of (stepped changed left) t (posted number word)) (post_quiet p (stepped changed left) t (posted number word)))
+          gives_bind _ _ Stopped (IsTold after changed) _ (perform_of calls (stepped changed left) after p (op.Post t number word)) _
+          (gives_bind _ _ Stopped (λ full u. standing_of p u ≡ standing_of p (stepped changed left)) _ (post_of (stepped changed left) t (posted number word)) _ (from_always Bool Stopped (λ u. standing_of p u ≡ standing_of p (stepped changed left)) (λ u. standing_of p u ≡ standing_of p (stepped changed left)) (post_of (stepped changed left) t (posted number word)) (post_quiet p (stepped changed left) t (posted number word)) (λ u same. stepped_so_far changed left u same) (λ u same. same))
           (λ full u same. answer_told after changed u full (same ∙ stepped_stands changed left)))
-          (λ r1 u h. subst (λ x. IfGives (RanFrom (standing_of p s)) (calls.run u code x p e)) (sym h.2) (goes_on (op.Post t number word) after changed h.0 h.1 takes u (h.3 ∙ ap (λ l. record (standing_of p s) { vars = Some (answered_of after changed h.0).variables; told = l }) (sym (append-nil (standing_of p s).told)))))
+          (λ r1 u h. subst (λ x. IfGives Stopped (RanFrom (standing_of p s)) (calls.run u code x p e)) (sym h.2) (goes_on (op.Post t number word) after changed h.0 h.1 takes u (h.3 ∙ ap (λ l. record (standing_of p s) { vars = Some (answered_of after changed h.0).variables; told = l }) (sym (append-nil (standing_of p s).told)))))
 
       same_own : is_told_of (Own p) (what.Print (Own p) zero) ≡ true
       same_own = grind (arith, nat_tests)
 
       printed_on : (after : Remainder) (changed : List ℕ) (left v : ℕ) → Takes (step.Op (op.Print v)) after changed → after.mark ≡ UnderWay None
-          → IfGives (RanFrom (standing_of p s)) (perform_of calls (stepped changed left) after p (op.Print v) >>= λ r1 s1. calls.run s1 code r1 p e)
+          → IfGives Stopped (RanFrom (standing_of p s)) (perform_of calls (stepped changed left) after p (op.Print v) >>= λ r1 s1. calls.run s1 code r1 p e)
       unfolding perform_of act_of write_of
       printed_on after changed left v takes mark =
           goes_untold (op.Print v) after changed takes mark (with_line (stepped changed left) (what.Print (Own p) v))
@@ -244,29 +256,29 @@ module _ (program : Tree) (mote p : ℕ) (code : Code) (earlier : List Line) whe
 
       module _ (acts : ActsAside calls) where
         acted_on : (after : Remainder) (changed : List ℕ) (left : ℕ) (o : Op) → IsNoPrint o → printed (Own p) now (operates o) ≡ [] → Takes (step.Op o) after changed → after.mark ≡ UnderWay None
-            → IfGives (RanFrom (standing_of p s)) ((act_of calls (stepped changed left) p o >>= λ _ s1. Goes after s1) >>= λ r1 s1. calls.run s1 code r1 p e)
+            → IfGives Stopped (RanFrom (standing_of p s)) ((act_of calls (stepped changed left) p o >>= λ _ s1. Goes after s1) >>= λ r1 s1. calls.run s1 code r1 p e)
         acted_on after changed left o aside nothing takes mark =
-            gives_bind _ _ (λ r1 u. (r1 ≡ after) × (standing_of p u ≡ standing_of p (stepped changed left))) _ (act_of calls (stepped changed left) p o >>= λ _ s1. Goes after s1) _
-            (gives_bind _ _ (λ a u. standing_of p u ≡ standing_of p (stepped changed left)) _ (act_of calls (stepped changed left) p o) _ (from_goes (Unit {0}) (λ u. standing_of p u ≡ standing_of p (stepped changed left)) (act_of calls (stepped changed left) p o) (acts (stepped changed left) o aside (stepped_away changed left))) (λ a u same. (refl, same)))
-            (λ r1 u h. subst (λ x. IfGives (RanFrom (standing_of p s)) (calls.run u code x p e)) (sym h.0) (goes_untold o after changed takes mark u
+            gives_bind _ _ Stopped (λ r1 u. (r1 ≡ after) × (standing_of p u ≡ standing_of p (stepped changed left))) _ (act_of calls (stepped changed left) p o >>= λ _ s1. Goes after s1) _
+            (gives_bind _ _ Stopped (λ a u. standing_of p u ≡ standing_of p (stepped changed left)) _ (act_of calls (stepped changed left) p o) _ (acts (stepped changed left) o aside (stepped_away changed left) (stepped_so_far changed left (stepped changed left) refl)) (λ a u same. (refl, same)))
+            (λ r1 u h. subst (λ x. IfGives Stopped (RanFrom (standing_of p s)) (calls.run u code x p e)) (sym h.0) (goes_untold o after changed takes mark u
             (h.1 ∙ stepped_stands changed left ∙ ap (λ l. record (standing_of p s) { vars = Some changed; told = l }) (sym (append-nil (standing_of p s).told) ∙ ap (λ l. (standing_of p s).told ++ l) (sym nothing)))))
 
         performed_on : (after : Remainder) (changed : List ℕ) (left : ℕ) (o : Op) → Takes (step.Op o) after changed → IsUntold o after.mark
-            → IfGives (RanFrom (standing_of p s)) (perform_of calls (stepped changed left) after p o >>= λ r1 s1. calls.run s1 code r1 p e)
+            → IfGives Stopped (RanFrom (standing_of p s)) (perform_of calls (stepped changed left) after p o >>= λ r1 s1. calls.run s1 code r1 p e)
         unfolding perform_of
         performed_on after changed left (op.Post t number word) takes mark = posted_on after changed left t number word takes
         performed_on after changed left (op.Print v) takes mark = printed_on after changed left v takes mark
         performed_on after changed left o takes mark = acted_on after changed left o tt refl takes mark
 
         stepped_on : (x : Step) (after : Remainder) (changed : List ℕ) (left : ℕ) → Takes x after changed → StepUntold x after.mark
-            → IfGives (RanFrom (standing_of p s)) (after_step calls code p e x after (stepped changed left))
+            → IfGives Stopped (RanFrom (standing_of p s)) (after_step calls code p e x after (stepped changed left))
         stepped_on (step.Op o) after changed left takes mark = performed_on after changed left o takes mark
         stepped_on (step.Done a) after changed left takes mark = done_so a after changed takes (standing_of p (stepped changed left)) (stepped_stands changed left)
-        stepped_on step.Runaway after changed left takes mark = tt
+        stepped_on step.Runaway after changed left takes mark = stepped_so_far changed left (halted_of (stepped changed left)) (halted_quiet p (stepped changed left))
 
-        pub runs_on : IfGives (RanFrom (standing_of p s)) (run_of calls s code r p e)
+        pub runs_on : IfGives Stopped (RanFrom (standing_of p s)) (run_of calls s code r p e)
         unfolding run_of stepped_of
         runs_on =
             let a = advanced_of code e (looks_of s) r vars s.units in
-            subst (λ o. IfGives (RanFrom (standing_of p s)) (let m = stepped_with o s code r p e in after_step calls code p e m.step m.remainder m.state)) (sym has)
+            subst (λ o. IfGives Stopped (RanFrom (standing_of p s)) (let m = stepped_with o s code r p e in after_step calls code p e m.step m.remainder m.state)) (sym has)
             (stepped_on a.step a.remainder a.variables a.units (s.units, a.units, refl) (step_untold code e (looks_of s) r vars s.units))

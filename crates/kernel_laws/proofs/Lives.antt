@@ -11,7 +11,7 @@ use Rattle.protothread.specs.State.{number_of}
 use Rattle.protothread.specs.Remainder.{Remainder, fresh_of}
 use Rattle.protothread.specs.Step.{answered_of}
 use Rattle.protothread.specs.Reading.{Sight, Happening, operates, gives_up, Outcome, done, exits, stands}
-use Rattle.protothread.specs.Runs.{Steps, Runs, operated, gave_up, gave_up_last, has_exited, has_ended}
+use Rattle.protothread.specs.Runs.{Steps, Runs, operated, operated_last, gave_up, gave_up_last, has_exited, has_ended}
 use Rattle.protothread.proofs.Splits.{reads_the_text}
 use Rattle.process_kernel.specs.declared.line.Line.{Line}
 use Rattle.process_kernel.specs.declared.line.What.TheVariants as what
@@ -50,6 +50,10 @@ module _ (p : ℕ) (code : Code) (mote : ℕ) (start : List ℕ) where
           (operated r after vars changed now resumed later o more out steps
           (subst (λ n. Runs code (answered_of after changed n).remainder (answered_of after changed n).variables resumed later more out) (sym answer) runs)));
     }
+
+    pub performs_there : (o : Op) → Steps code now r vars (step.Op o) after changed → HasLife (lines ++ printed (Own p) now (operates o)) (stands changed)
+    performs_there o steps =
+        subst (λ l. HasLife (lines ++ l) (stands changed)) (append-nil (printed (Own p) now (operates o))) (c.on now [] (operates o ∷ []) (stands changed) can answered of_mote (operated_last r after vars changed now o steps))
 
     -- an answer 0 or 1
     pub gives_up_on : (a : PtState) → Steps code now r vars (step.Done a) after changed → number_of a < 2 → ComesTo lines AtCall after changed

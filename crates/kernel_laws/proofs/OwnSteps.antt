@@ -16,9 +16,8 @@ use Rattle.process_kernel.specs.ProcessList.{put_remainder, with_fresh_body, enl
 use Rattle.process_kernel.specs.Writes.{with_line, write_of}
 use Rattle.kernel_laws.specs.Printed.{starts_and_prints}
 use Rattle.kernel_laws.specs.Telling.{Standing, standing_of}
-use Rattle.kernel_laws.proofs.Packets.{IfGoes}
 use Rattle.kernel_laws.proofs.Tables.{set_same, left_out}
-use Rattle.kernel_laws.proofs.Standing.{get_set, fresh_there, told_more, line_quiet}
+use Rattle.kernel_laws.proofs.Standing.{Always, get_set, fresh_there, told_more, line_quiet}
 
 below : (k n : ℕ) → nat_lt k n ≡ true → k < n
 below k n h = grind (arith, nat_tests)
@@ -51,7 +50,7 @@ module _ (p : ℕ) where
   unfolding unlisted_of
   unlisted_stands s = ap (λ b. record (standing_of p s) { listed = b }) (left_out s.members (Own p))
 
-  pub leave_stands : (s : State) → (standing_of p s).room ≡ true → IfGoes (λ t. standing_of p t ≡ record (standing_of p s) { exiting = false; listed = false }) (leave_of s (Own p))
+  pub leave_stands : (s : State) → (standing_of p s).room ≡ true → Always (λ t. standing_of p t ≡ record (standing_of p s) { exiting = false; listed = false }) (leave_of s (Own p))
   unfolding leave_of write_of
   leave_stands s room =
       line_quiet p (unlisted_of (with_exiting s (Own p) false) (Own p)) (what.Leave (Own p)) refl ∙ unlisted_stands (with_exiting s (Own p) false) ∙ ap {A = Standing} (λ v. record v { listed = false }) (exiting_set_stands s false room)
@@ -75,7 +74,7 @@ module _ (p : ℕ) where
       ap (λ l. record (standing_of p s) { told = l }) (told_more (Own p) s.lines (record { at = s.moment; what = what.Start (Own p) }) ∙ ap (λ b. starts_and_prints (Own p) s.lines ++ (if b then record { at = s.moment; what = what.Start (Own p) } ∷ [] else [])) (alike (place_of (Own p))))
 
   pub enlist_stands : (s : State) (code : Code) (r : Remainder) → slice_get s.program.codes p ≡ Some code → (standing_of p s).has ≡ true → (standing_of p s).rest ≡ Some r
-      → IfGoes (λ t. standing_of p t ≡ record (standing_of p s) { state = Running; listed = true; rest = Some (fresh_of code Body); told = (standing_of p s).told ++ record { at = s.moment; what = what.Start (Own p) } ∷ [] }) (enlist_of s (Own p))
+      → Always (λ t. standing_of p t ≡ record (standing_of p s) { state = Running; listed = true; rest = Some (fresh_of code Body); told = (standing_of p s).told ++ record { at = s.moment; what = what.Start (Own p) } ∷ [] }) (enlist_of s (Own p))
   unfolding enlist_of write_of with_state
   enlist_stands s code r is has rest =
       let s1 = record s { members = record { process = Own p; incarnation = s.started } ∷ s.members; started = s.started + 1 } in

@@ -19,14 +19,13 @@ use Rattle.process_kernel.specs.declared.process.ProcessState.{ProcessState}
 use Rattle.process_kernel.specs.declared.process.ProcessState.TheVariants.{Off, Running}
 use Rattle.process_kernel.specs.declared.process.Member.{Member}
 use Rattle.process_kernel.specs.Members.{place_of, is_same, stands_in}
-use Rattle.process_kernel.specs.State.{State}
+use Rattle.process_kernel.specs.State.{State, Outcome, Ends, Goes}
 use Rattle.process_kernel.specs.Processes.{is_alive, process_state, flag_at, with_state, with_exiting, with_mark}
 use Rattle.process_kernel.specs.ProcessList.{put_remainder, fresh_at, with_fresh_body, with_fresh_process, enlist_of, exiting_of, unlisted_of, leave_of}
 use Rattle.process_kernel.specs.Posts.{post_of, poll_of, send_of}
-use Rattle.process_kernel.specs.Writes.{with_line, write_of}
+use Rattle.process_kernel.specs.Writes.{with_line, write_of, halted_of}
 use Rattle.kernel_laws.specs.Printed.{is_told_of, starts_and_prints}
 use Rattle.kernel_laws.specs.Telling.{standing_of}
-use Rattle.kernel_laws.proofs.Packets.{IfGoes, goes_if}
 use Rattle.kernel_laws.proofs.Steps.{others_stay}
 use Rattle.kernel_laws.proofs.Tables.{set_other, is_equal}
 
@@ -97,6 +96,15 @@ which p Etimer = inr (etimer_other p)
 which p Ctimer = inr (ctimer_other p)
 which p Radio = inr (radio_other p)
 
+-- what is true where it goes on, and where it ends
+abbrev pub Always : {A : Type 0} → (State → Type 0) → Outcome A → Type 0
+Always P (Ends t) = P t
+Always P (Goes a t) = P t
+
+pub always_if : {A : Type 0} (P : State → Type 0) (b : Bool) (o q : Outcome A) → Always P o → Always P q → Always P (if b then o else q)
+always_if {A} P true o q h i = h
+always_if {A} P false o q h i = i
+
 module _ (p : ℕ) where
   -- to this process the later state is the same
   abbrev pub IsQuiet : State → State → Type 0
@@ -156,7 +164,7 @@ module _ (p : ℕ) where
       let e : is_same (Own p) q ≡ false = grind (arith, nat_tests, n) in
       rw e refl
 
-  pub enlist_quiet : (s : State) (q : Proc) → IsOther p q → IfGoes (λ t. IsQuiet s t) (enlist_of s q)
+  pub enlist_quiet : (s : State) (q : Proc) → IsOther p q → Always (λ t. IsQuiet s t) (enlist_of s q)
   unfolding enlist_of write_of
   enlist_quiet s q n =
       let s1 = record s { members = record { process = q; incarnation = s.started } ∷ s.members; started = s.started + 1 } in
@@ -167,17 +175,23 @@ module _ (p : ℕ) where
   unfolding unlisted_of
   unlisted_quiet s q n = ap (λ b. record (standing_of p s) { listed = b }) (others_filtered s.members q (Own p) (grind (arith, nat_tests, n)))
 
-  pub leave_quiet : (s : State) (q : Proc) → IsOther p q → IfGoes (λ t. IsQuiet s t) (leave_of s q)
+  pub leave_quiet : (s : State) (q : Proc) → IsOther p q → Always (λ t. IsQuiet s t) (leave_of s q)
   unfolding leave_of write_of
   leave_quiet s q n =
       line_quiet (unlisted_of (with_exiting s q false) q) (what.Leave q) refl ∙ unlisted_quiet (with_exiting s q false) q n ∙ exiting_set_quiet s q false n
 
-  pub post_quiet : (s : State) (t : Target) (e : Event) → IfGoes (λ u. IsQuiet s u) (post_of s t e)
+  pub halted_quiet : (s : State) → IsQuiet s (halted_of s)
+  unfolding halted_of
+  halted_quiet s = line_quiet s what.Halt refl
+
+  pub post_quiet : (s : State) (t : Target) (e : Event) → Always (λ u. IsQuiet s u) (post_of s t e)
   unfolding post_of write_of
   post_quiet s t e =
-      goes_if Bool (λ u. IsQuiet s u) (nat_le (2 ^ 62) s.queue.accepted) _ _ tt
-      (goes_if Bool (λ u. IsQuiet s u) (nat_le s.queue.capacity (length s.queue.events)) _ _ (line_quiet s _ refl) (line_quiet (record s { queue = with_posted s.queue t e }) _ refl))
+      always_if (λ u. IsQuiet s u) (nat_le (2 ^ 62) s.queue.accepted) _ _ (halted_quiet s)
+      (always_if (λ u. IsQuiet s u) (nat_le s.queue.capacity (length s.queue.events)) _ _ (line_quiet s _ refl) (line_quiet (record s { queue = with_posted s.queue t e }) _ refl))
 
-  pub send_quiet : (s : State) (v : ℕ) → IfGoes (λ t. IsQuiet s t) (send_of s v)
+  pub send_quiet : (s : State) (v : ℕ) → Always (λ t. IsQuiet s t) (send_of s v)
   unfolding send_of write_of
-  send_quiet s v = goes_if (Unit {0}) (λ t. IsQuiet s t) (nat_le (2 ^ 62) s.sent) _ _ tt (line_quiet (record s { sends = s.sends ++ record { at = s.moment; sender = s.mote; number = s.sent; value = v } ∷ []; sent = s.sent + 1 }) _ refl)
+  send_quiet s v =
+      always_if (λ t. IsQuiet s t) (nat_le (2 ^ 62) s.sent) _ _ (halted_quiet s)
+      (line_quiet (record s { sends = s.sends ++ record { at = s.moment; sender = s.mote; number = s.sent; value = v } ∷ []; sent = s.sent + 1 }) _ refl)

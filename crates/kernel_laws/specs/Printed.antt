@@ -122,6 +122,13 @@ pub data Lives (code : Code) (p : Proc) (mote : ℕ) (variables : List ℕ) : Li
       → Lives code p mote variables lines left → (life : Life code mote left)
       → Lives code p mote variables (lines ++ lines_of p life) (left_by life.became)
 
+-- What is told of a process at any time: its lives, of which the last may not be over; or these and one more start, behind which it has not
+-- done anything yet.
+pub data LivesSoFar (code : Code) (p : Proc) (mote : ℕ) (variables : List ℕ) : List Line → Type 0 where
+  Told : {lines : List Line} {left : List ℕ} → Lives code p mote variables lines left → LivesSoFar code p mote variables lines
+  HasStarted : {lines : List Line} {left : List ℕ} → Lives code p mote variables lines left → (moment : ℕ)
+      → LivesSoFar code p mote variables (lines ++ record { at = moment; what = what.Start p } ∷ [])
+
 -- the starts and the prints among these lines are those of lives of the process, in which it came to these variables
 abbrev pub TellsLives : Code → (p mote : ℕ) → List Line → (variables : Option (List ℕ)) → Type 0
 TellsLives code p mote lines variables = (left : List ℕ) × (variables ≡ Some left) × Lives code (Own p) mote code.starts (starts_and_prints (Own p) lines) left
@@ -133,3 +140,10 @@ PrintsAreTheReading =
     (program : Tree) (p : ℕ) (code : Code) (mote queue moment : ℕ) (calls : List KernelCall) → slice_get program.codes p ≡ Some code → IsQuietApart code →
     let t = after_calls (booted_at program mote queue moment) calls in
     t.mote.halted ≡ false → TellsLives code p mote t.lines (slice_get t.mote.state.variables p)
+
+-- and up to the line with which it halts, where it does: what it printed by then in its last life is what a reading does by then
+abbrev pub PrintsSoFarAreTheReading : Type 0
+PrintsSoFarAreTheReading =
+    (program : Tree) (p : ℕ) (code : Code) (mote queue moment : ℕ) (calls : List KernelCall) → slice_get program.codes p ≡ Some code → IsQuietApart code →
+    let t = after_calls (booted_at program mote queue moment) calls in
+    LivesSoFar code (Own p) mote code.starts (starts_and_prints (Own p) t.lines)

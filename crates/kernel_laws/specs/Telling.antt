@@ -20,7 +20,7 @@ use Rattle.process_kernel.specs.Calls.{told}
 use Rattle.process_kernel.specs.Mote.{Mote, unbooted, with_packet, with_poll}
 use Rattle.process_kernel.specs.Public.{boot_given, run_given}
 use Rattle.kernel_laws.specs.Going.{IsNote}
-use Rattle.kernel_laws.specs.Printed.{IsQuietApart, starts_and_prints, prints, AreShown, Life, lines_of, Lives, TellsLives}
+use Rattle.kernel_laws.specs.Printed.{IsQuietApart, starts_and_prints, prints, AreShown, Life, lines_of, Lives, LivesSoFar, TellsLives}
 
 -- what the process is shown next: INIT at its start, at this moment; the same event at the same moment, told this answer; or anything
 pub data Next : Type 0 where
@@ -111,9 +111,10 @@ pub record Stands (program : Tree) (mote p : ℕ) (code : Code) (told : List Lin
   pub lived : Lives code (Own p) mote code.starts told left
   pub where_it_is : IsOut v ⊎ IsIn p code mote told AtCall v still left
 
--- the lines so far of a mote that has not halted tell of the lives of the process, up to where it stands
-abbrev pub TellsSoFar : Tree → (mote p : ℕ) → Code → List Line → Mote → Type 0
-TellsSoFar program mote p code lines m = m.halted ≡ false → Stands program mote p code (starts_and_prints (Own p) lines) (standing_of p m.state)
+-- The lines so far of a mote tell of the lives of the process, up to where it stands; or up to where the mote has halted.
+pub record TellsSoFar (program : Tree) (mote p : ℕ) (code : Code) (lines : List Line) (m : Mote) : Type 0 where
+  pub going : m.halted ≡ false → Stands program mote p code (starts_and_prints (Own p) lines) (standing_of p m.state)
+  pub halted : m.halted ≡ true → LivesSoFar code (Own p) mote code.starts (starts_and_prints (Own p) lines)
 
 -- a process of this number, with this code, that is quiet apart from its body
 pub record IsProcess (program : Tree) (p : ℕ) (code : Code) : Type 0 where
@@ -125,6 +126,10 @@ pub record IsProcess (program : Tree) (p : ℕ) (code : Code) : Type 0 where
 abbrev pub TellingIsOfLives : Type 0
 TellingIsOfLives =
     (program : Tree) (mote p : ℕ) (code : Code) (lines : List Line) (m : Mote) → TellsSoFar program mote p code lines m → m.halted ≡ false → TellsLives code p mote lines (slice_get m.state.variables p)
+
+abbrev pub TellingIsOfLivesSoFar : Type 0
+TellingIsOfLivesSoFar =
+    (program : Tree) (mote p : ℕ) (code : Code) (lines : List Line) (m : Mote) → TellsSoFar program mote p code lines m → LivesSoFar code (Own p) mote code.starts (starts_and_prints (Own p) lines)
 
 -- A mote that was not booted has no lines, and each call of its kernel keeps that the lines so far tell, whatever was written before.
 
