@@ -21,6 +21,7 @@ use Rattle.process_kernel.specs.declared.line.What.TheVariants as what
 use Rattle.process_kernel.specs.declared.process.ProcessState.{ProcessState}
 use Rattle.process_kernel.specs.declared.process.ProcessState.TheVariants.{Off, Running, Called}
 use Rattle.process_kernel.specs.declared.process.Member.{Member}
+use Rattle.process_kernel.specs.declared.kernel.Ran.TheVariants as ran
 use Rattle.process_kernel.specs.declared.runs.TheConstants.{UNITS}
 use Rattle.process_kernel.specs.Members.{place_of}
 use Rattle.process_kernel.specs.State.{State, Outcome, Ends, Goes}
@@ -37,8 +38,8 @@ use Rattle.process_kernel.specs.Public.{given, begun, unless_halted, boot_given,
 use Rattle.kernel_laws.specs.Going.{IsNote}
 use Rattle.kernel_laws.specs.InStep.{AreInStep, state_at, exiting_at, listed_in}
 use Rattle.kernel_laws.specs.Traces.{KernelCall, RunAt, PollOf, Accepts, Notes, Traced, after_call, after_calls, booted_at}
-use Rattle.kernel_laws.specs.Printed.{IsQuietApart, is_told_of, starts_and_prints, Unborn, PrintsAreTheReading}
-use Rattle.kernel_laws.specs.Telling.{Standing, standing_of, Stands, TellsSoFar, IsProcess, TellingIsOfLives, NoLinesTellFirst, BootTells, RunTells, PollTells, PacketTells, NoteTells}
+use Rattle.kernel_laws.specs.Printed.{IsQuietApart, is_told_of, starts_and_prints, Unborn, LivesSoFar, Told, PrintsAreTheReading, PrintsSoFarAreTheReading}
+use Rattle.kernel_laws.specs.Telling.{Standing, standing_of, Stands, TellsSoFar, IsProcess, TellingIsOfLives, TellingIsOfLivesSoFar, NoLinesTellFirst, BootTells, RunTells, PollTells, PacketTells, NoteTells}
 use Rattle.kernel_laws.proofs.Resting.{numbered_listed, first_rests}
 use Rattle.kernel_laws.proofs.Standing.{told_more, line_quiet, mark_quiet, poll_quiet}
 use Rattle.kernel_laws.proofs.BodyCalls.{Leads, AreTold, from, bind, either, goes, still, start_led, calls_told}
@@ -126,34 +127,42 @@ module _ (program : Tree) (mote p : ℕ) (code : Code) where
   -- what a boot or a run that goes on adds
   given_told : (earlier : List Line) (m : Mote) (moment : ℕ) (before : List Line) (sends : List Sent) (o : Outcome ℕ) → Stands program mote p code (starts_and_prints (Own p) (earlier ++ before)) (standing_of p m.state)
       → Leads program mote p code (starts_and_prints (Own p) earlier) ℕ (begun m moment before sends) o → TellsSoFar program mote p code (earlier ++ (given o).lines) (given o).mote
-  given_told earlier m moment before sends (Ends t) h leads = λ halted. absurd (cc)
-  given_told earlier m moment before sends (Goes a t) h leads = λ on.
-      subst (λ l. Stands program mote p code l (record (standing_of p t) { told = [] })) (sym (told_twice earlier t.lines)) (retold _ (standing_of p t) t.moment [] (leads.leads.stands (begins earlier m moment before sends h)))
+  given_told earlier m moment before sends (Ends t) h leads = record {
+    going = λ on. absurd (cc);
+    halted = λ off. subst (λ l. LivesSoFar code (Own p) mote code.starts l) (sym (told_twice earlier t.lines)) (leads.leads.stands (begins earlier m moment before sends h));
+  }
+  given_told earlier m moment before sends (Goes a t) h leads = record {
+    going = λ on. subst (λ l. Stands program mote p code l (record (standing_of p t) { told = [] })) (sym (told_twice earlier t.lines)) (retold _ (standing_of p t) t.moment [] (leads.leads.stands (begins earlier m moment before sends h)));
+    halted = λ off. absurd (cc);
+  }
 
-  unless_told : (earlier : List Line) (m : Mote) (before : List Line) (sends : List Sent) (o : Outcome ℕ) (b : Bool) → m.halted ≡ b → (m.halted ≡ false → TellsSoFar program mote p code (earlier ++ (given o).lines) (given o).mote)
-      → let g = unless_halted m before sends (given o) in TellsSoFar program mote p code (earlier ++ g.lines) g.mote
-  unless_told earlier m before sends o true e h = rw e (λ on. absurd (cc))
-  unless_told earlier m before sends o false e h = rw e (h e)
+  unless_told : (earlier : List Line) (m : Mote) (before : List Line) (sends : List Sent) (o : Outcome ℕ) (b : Bool) → m.halted ≡ b → TellsSoFar program mote p code (earlier ++ before) m
+      → (m.halted ≡ false → TellsSoFar program mote p code (earlier ++ (given o).lines) (given o).mote) → let g = unless_halted m before sends (given o) in TellsSoFar program mote p code (earlier ++ g.lines) g.mote
+  unless_told earlier m before sends o true e h k = subst (λ b. let g = if b then record { ran = ran.Halted; mote = m; lines = before; sends = sends } else given o in TellsSoFar program mote p code (earlier ++ g.lines) g.mote) (sym e) h
+  unless_told earlier m before sends o false e h k = subst (λ b. let g = if b then record { ran = ran.Halted; mote = m; lines = before; sends = sends } else given o in TellsSoFar program mote p code (earlier ++ g.lines) g.mote) (sym e) (k e)
 
 pub run_tells : RunTells
 unfolding run_given
 run_tells program mote p code earlier m moment before sends is h =
     let told = starts_and_prints (Own p) earlier in
-    unless_told program mote p code earlier m before sends _ m.halted refl (λ on. given_told program mote p code earlier m moment before sends _ (h on) (kernel_led program mote p code is.is_code is.quiet told (calls_of (UNITS + 1)) (calls_told program mote p code told is.is_code is.quiet (UNITS + 1)) (begun m moment before sends)))
+    unless_told program mote p code earlier m before sends _ m.halted refl h (λ on. given_told program mote p code earlier m moment before sends _ (h.going on) (kernel_led program mote p code is.is_code is.quiet told (calls_of (UNITS + 1)) (calls_told program mote p code told is.is_code is.quiet (UNITS + 1)) (begun m moment before sends)))
 
 pub boot_tells : BootTells
 unfolding boot_given
 boot_tells program mote p code earlier m moment before sends is h =
     let told = starts_and_prints (Own p) earlier in
-    unless_told program mote p code earlier m before sends _ m.halted refl (λ on. given_told program mote p code earlier m moment before sends _ (h on) (boot_led program mote p code is.is_code is.quiet told (calls_of (UNITS + 1)) (calls_told program mote p code told is.is_code is.quiet (UNITS + 1)) (begun m moment before sends)))
+    unless_told program mote p code earlier m before sends _ m.halted refl h (λ on. given_told program mote p code earlier m moment before sends _ (h.going on) (boot_led program mote p code is.is_code is.quiet told (calls_of (UNITS + 1)) (calls_told program mote p code told is.is_code is.quiet (UNITS + 1)) (begun m moment before sends)))
 
 pub poll_tells : PollTells
 unfolding with_poll
-poll_tells program mote p code lines m q h = λ on. subst (λ v. Stands program mote p code (starts_and_prints (Own p) lines) v) (sym (poll_quiet p m.state q)) (h on)
+poll_tells program mote p code lines m q h = record {
+  going = λ on. subst (λ v. Stands program mote p code (starts_and_prints (Own p) lines) v) (sym (poll_quiet p m.state q)) (h.going on);
+  halted = h.halted;
+}
 
 pub packet_tells : PacketTells
 unfolding with_packet
-packet_tells program mote p code lines m a h = h
+packet_tells program mote p code lines m a h = record { going = h.going; halted = h.halted }
 
 note_apart : (p : ℕ) (w : What) → IsNote w → is_told_of (Own p) w ≡ false
 note_apart p (what.Recv f n v) h = refl
@@ -171,9 +180,14 @@ note_apart p what.Halt h = absurd h
 note_apart p (what.Send n v) h = absurd h
 note_apart p (what.Deaf f n) h = absurd h
 
+note_silent : (p : ℕ) (lines : List Line) (l : Line) → IsNote l.what → starts_and_prints (Own p) (lines ++ l ∷ []) ≡ starts_and_prints (Own p) lines
+note_silent p lines l n = told_more (Own p) lines l ∙ ap (λ b. starts_and_prints (Own p) lines ++ (if b then l ∷ [] else [])) (note_apart p l.what n) ∙ append-nil _
+
 pub note_tells : NoteTells
-note_tells program mote p code lines m l n h = λ on.
-    subst (λ told. Stands program mote p code told (standing_of p m.state)) (sym (told_more (Own p) lines l ∙ ap (λ b. starts_and_prints (Own p) lines ++ (if b then l ∷ [] else [])) (note_apart p l.what n) ∙ append-nil _)) (h on)
+note_tells program mote p code lines m l n h = record {
+  going = λ on. subst (λ told. Stands program mote p code told (standing_of p m.state)) (sym (note_silent p lines l n)) (h.going on);
+  halted = λ off. subst (λ told. LivesSoFar code (Own p) mote code.starts told) (sym (note_silent p lines l n)) (h.halted off);
+}
 
 -- before the boot
 
@@ -182,9 +196,9 @@ is_off Off e l h q = refl
 is_off Running e l h q = absurd (let f : true ≡ false = sym h.1 ∙ q in cc)
 is_off Called e l h q = absurd (let f : true ≡ false = sym h.1 ∙ q in cc)
 
-pub no_lines_tell_first : NoLinesTellFirst
+first_stands : (program : Tree) (mote p : ℕ) (code : Code) (queue : ℕ) → IsProcess program p code → Stands program mote p code [] (standing_of p (unbooted program mote queue).state)
 unfolding unbooted
-no_lines_tell_first program mote p code queue is = λ on.
+first_stands program mote p code queue is =
     let s = (unbooted program mote queue).state in
     let n = length program.processes + 3 in
     let r = first_rests program mote queue in
@@ -201,8 +215,19 @@ no_lines_tell_first program mote p code queue is = λ on.
       where_it_is = inl (record { state = is_off (state_at s k) (exiting_at s k) (listed_in s.members k) (r.step.each k) refl; listed = refl });
     }
 
+pub no_lines_tell_first : NoLinesTellFirst
+unfolding unbooted
+no_lines_tell_first program mote p code queue is = record { going = λ on. first_stands program mote p code queue is; halted = λ off. absurd (cc) }
+
 pub telling_is_of_lives : TellingIsOfLives
-telling_is_of_lives program mote p code lines m h on = let k = h on in (k.left, k.vars, k.lived)
+telling_is_of_lives program mote p code lines m h on = let k = h.going on in (k.left, k.vars, k.lived)
+
+pub telling_is_of_lives_so_far : TellingIsOfLivesSoFar
+telling_is_of_lives_so_far program mote p code lines m h = by m.halted refl
+  where
+    by : (b : Bool) → m.halted ≡ b → LivesSoFar code (Own p) mote code.starts (starts_and_prints (Own p) lines)
+    by true e = h.halted e
+    by false e = Told (h.going e).lived
 
 -- over any calls of a kernel
 
@@ -233,3 +258,10 @@ prints_are_the_reading program p code mote queue moment calls is_code quiet on =
     let first = booted_at program mote queue moment in
     let t = after_calls first calls in
     telling_is_of_lives program mote p code t.lines t.mote (calls_tell program mote p code is calls first (booted_tells program mote p code is queue moment)) on
+
+pub prints_so_far_are_the_reading : PrintsSoFarAreTheReading
+prints_so_far_are_the_reading program p code mote queue moment calls is_code quiet =
+    let is : IsProcess program p code = record { is_code = is_code; quiet = quiet } in
+    let first = booted_at program mote queue moment in
+    let t = after_calls first calls in
+    telling_is_of_lives_so_far program mote p code t.lines t.mote (calls_tell program mote p code is calls first (booted_tells program mote p code is queue moment))

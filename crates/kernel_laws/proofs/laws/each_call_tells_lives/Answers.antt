@@ -1,8 +1,11 @@
-use Rattle.kernel_laws.proofs.BodyMotes.{telling_is_of_lives, no_lines_tell_first, boot_tells, run_tells, poll_tells, packet_tells, note_tells}
+use Rattle.kernel_laws.proofs.BodyMotes.{telling_is_of_lives, telling_is_of_lives_so_far, no_lines_tell_first, boot_tells, run_tells, poll_tells, packet_tells, note_tells}
 use Rattle.kernel_laws.proofs.laws.each_call_tells_lives.Goals as goal
 
 pub returns-clause-lives : goal.returns-clause-lives
 returns-clause-lives c = telling_is_of_lives
+
+pub returns-clause-lives_so_far : goal.returns-clause-lives_so_far
+returns-clause-lives_so_far c = telling_is_of_lives_so_far
 
 pub returns-clause-first : goal.returns-clause-first
 returns-clause-first c = no_lines_tell_first
