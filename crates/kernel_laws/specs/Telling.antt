@@ -57,8 +57,9 @@ pub record ComesHere (p : ℕ) (code : Code) (mote : ℕ) (told : List Line) (ne
   pub comes : ComesTo p code mote start lines next r vars
   pub is_told : told ≡ before ++ lines
 
--- A process in the state of a mote: the program, the mote and the moment; whether the tables have room for it; its state, whether it is being exited, and whether it
--- is on the process list; what its body has still to do, its variables, and what the lines of the run under way tell of it.
+-- A process in the state of a mote: the program, the mote and the moment; whether the tables have room for it; its state, whether it is
+-- being exited, and whether it is on the process list; what its body has still to do, its variables, and what the lines of the run under
+-- way tell of it.
 pub record Standing : Type 0 where
   pub program : Tree
   pub mote : ℕ

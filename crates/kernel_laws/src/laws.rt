@@ -73,8 +73,10 @@ pub fn no_timer_is_forgotten()
 
 /// A process that is quiet apart from its body (its blocks at POLL and EXIT and those of its callback timers print nothing, set no
 /// variable and spawn no thread) prints, from each of its starts on, what a reading of its body does: of its block, read by its
-/// structure, over what it was shown; whatever the others do in between, and whatever calls of the kernel follow the boot. A next life
-/// begins with the variables that the one before left. Where the mote halts, the last life is told up to there.
+/// structure, over sights of its mote, whatever the others do in between, and whatever calls of the kernel follow the boot. INIT comes
+/// first, each call has one event and one moment, and each line is at the moment of its sight; what else is seen there (later events,
+/// timers, processes, semaphores) isn't told by the lines. A next life begins with the variables that the one before left. Where the mote
+/// halts, the last life is told up to there.
 pub fn prints_are_the_reading()
     ensures whole { PrintsAreTheReading }
     ensures so_far { PrintsSoFarAreTheReading }
