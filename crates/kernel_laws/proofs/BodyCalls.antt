@@ -333,21 +333,21 @@ module _ (program : Tree) (mote p : ℕ) (code : Code) (earlier : List Line) whe
 
       -- callbacks
 
-      abbrev Called_back : State → (q : ℕ) → Event → Option Code → Went
-      Called_back s q e c = elim c [ None ↦ Goes tt s | Some c ↦ calls.run s c (fresh_of c (Callback e.word)) q e >>= λ _ s1. Goes tt s1 ]
+      abbrev called_back : State → (q : ℕ) → Event → Option Code → Went
+      called_back s q e c = elim c [ None ↦ Goes tt s | Some c ↦ calls.run s c (fresh_of c (Callback e.word)) q e >>= λ _ s1. Goes tt s1 ]
 
-      own_callback : (s : State) (e : Event) (c : Option Code) → slice_get s.program.codes p ≡ c → (standing_of p s).program ≡ program → Leads (Unit {0}) s (Called_back s p e c)
+      own_callback : (s : State) (e : Event) (c : Option Code) → slice_get s.program.codes p ≡ c → (standing_of p s).program ≡ program → Leads (Unit {0}) s (called_back s p e c)
       own_callback s e None is of_program = still s tt
       own_callback s e (Some c) is of_program =
           let same : c ≡ code = some_is c code (sym is ∙ code_there s of_program) in
           bind s _ _ (subst (λ c. Leads Answer s (calls.run s c (fresh_of c (Callback e.word)) p e)) (sym same) (are.beside s _ e (fresh_quiet code (Callback e.word) (callback_quiet code e.word apart)))) (λ a t. still t tt)
 
-      other_callback : (s : State) (q : ℕ) (e : Event) (c : Option Code) → (q ≡ p → ⊥) → Leads (Unit {0}) s (Called_back s q e c)
+      other_callback : (s : State) (q : ℕ) (e : Event) (c : Option Code) → (q ≡ p → ⊥) → Leads (Unit {0}) s (called_back s q e c)
       other_callback s q e None n = still s tt
       other_callback s q e (Some c) n = bind s _ _ (are.run s c _ q e n) (λ a t. still t tt)
 
-      code_led : (s : State) (q : ℕ) (e : Event) → (q ≡ p) ⊎ (q ≡ p → ⊥) → Leads (Unit {0}) s (Called_back s q e (slice_get s.program.codes q))
-      code_led s q e (inl same) = subst (λ k. Leads (Unit {0}) s (Called_back s k e (slice_get s.program.codes k))) (sym same) (knowing s _ (own_callback s e _ refl))
+      code_led : (s : State) (q : ℕ) (e : Event) → (q ≡ p) ⊎ (q ≡ p → ⊥) → Leads (Unit {0}) s (called_back s q e (slice_get s.program.codes q))
+      code_led s q e (inl same) = subst (λ k. Leads (Unit {0}) s (called_back s k e (slice_get s.program.codes k))) (sym same) (knowing s _ (own_callback s e _ refl))
       code_led s q e (inr n) = other_callback s q e _ n
 
       callback_led : (s : State) (e : Event) → Leads (Unit {0}) s (callback_of calls s e)
@@ -431,13 +431,13 @@ module _ (program : Tree) (mote p : ℕ) (code : Code) (earlier : List Line) whe
           })
 
       -- while it is being exited
-      abbrev On_its_way : Standing → Standing
-      On_its_way v = record v { state = Off; exiting = true }
+      abbrev on_its_way : Standing → Standing
+      on_its_way v = record v { state = Off; exiting = true }
 
-      way_is_away : (v : Standing) → v.program ≡ program → v.mote ≡ mote → IsAway program mote (On_its_way v)
+      way_is_away : (v : Standing) → v.program ≡ program → v.mote ≡ mote → IsAway program mote (on_its_way v)
       way_is_away v e f = record { of_program = e; of_mote = f; not_running = refl; busy = refl }
 
-      walked : (s : State) (b : Bool) (e : Event) (ms : List Member) → IsLeaving (standing_of p s) b → IfGives Stopped (λ a t. At (On_its_way (standing_of p s)) t) (walk_of calls e (Own p) ms (exiting_of s (Own p)))
+      walked : (s : State) (b : Bool) (e : Event) (ms : List Member) → IsLeaving (standing_of p s) b → IfGives Stopped (λ a t. At (on_its_way (standing_of p s)) t) (walk_of calls e (Own p) ms (exiting_of s (Own p)))
       walked s b e ms h =
           let same = exiting_stands p s h.has h.room in
           subst (λ v. IfGives Stopped (λ a t. At v t) (walk_of calls e (Own p) ms (exiting_of s (Own p)))) same
@@ -457,15 +457,15 @@ module _ (program : Tree) (mote p : ℕ) (code : Code) (earlier : List Line) whe
         lived = r.lived;
       }
 
-      last_runs : (s t : State) → IsLeaving (standing_of p s) false → At (On_its_way (standing_of p s)) t → IfGives Stopped (λ a u. IsGone (standing_of p u)) (last_run_of calls t (Own p))
+      last_runs : (s t : State) → IsLeaving (standing_of p s) false → At (on_its_way (standing_of p s)) t → IfGives Stopped (λ a u. IsGone (standing_of p u)) (last_run_of calls t (Own p))
       unfolding last_run_of
       last_runs s t h same =
-          gives_bind (Unit {0}) (Unit {0}) Stopped (λ a u. At (On_its_way (standing_of p s)) u) (λ a u. IsGone (standing_of p u)) (spend_of t) _ (spent (On_its_way (standing_of p s)) t same (Told h.lived)) (λ a u there.
+          gives_bind (Unit {0}) (Unit {0}) Stopped (λ a u. At (on_its_way (standing_of p s)) u) (λ a u. IsGone (standing_of p u)) (spend_of t) _ (spent (on_its_way (standing_of p s)) t same (Told h.lived)) (λ a u there.
           gives_bind PtState (Unit {0}) Stopped (λ a w. Reacted (standing_of p u) a (standing_of p w)) (λ a w. IsGone (standing_of p w)) (react_of calls u (Own p) (told Exit 0)) _
           (reacts u h.now h.left (told Exit 0) AtCall (subst (λ v. IsAway program mote v) (sym there) (way_is_away (standing_of p s) h.of_program h.of_mote)) (ap (λ v. v.vars) there ∙ h.vars) (ap (λ v. v.rest) there ∙ h.rest) tt (subst (λ v. ComesHere program mote p code earlier v.told AtCall h.now h.left) (sym there) (h.comes refl)) (subst (λ v. SoFar program mote p code earlier v.told) (sym there) (Told h.lived)))
           (λ a w r. last_gone (standing_of p u) a (standing_of p w) (ap (λ v. v.program) there ∙ h.of_program) (ap (λ v. v.mote) there ∙ h.of_mote) (ap (λ v. v.has) there ∙ h.has) (ap (λ v. v.room) there ∙ h.room) (ap (λ v. v.state) there) r))
 
-      last : (s t : State) (b : Bool) → IsLeaving (standing_of p s) b → At (On_its_way (standing_of p s)) t → IfGives Stopped (λ a u. IsGone (standing_of p u)) (if b then Goes tt t else last_run_of calls t (Own p))
+      last : (s t : State) (b : Bool) → IsLeaving (standing_of p s) b → At (on_its_way (standing_of p s)) t → IfGives Stopped (λ a u. IsGone (standing_of p u)) (if b then Goes tt t else last_run_of calls t (Own p))
       last s t true h same = subst (λ v. IsGone v) (sym same) (record { of_program = h.of_program; of_mote = h.of_mote; has = h.has; room = h.room; state = refl; now = h.now; rest = h.rest; left = h.left; vars = h.vars; lived = h.lived })
       last s t false h same = last_runs s t h same
 
@@ -473,7 +473,7 @@ module _ (program : Tree) (mote p : ℕ) (code : Code) (earlier : List Line) whe
       unfolding exit_of
       exits s f h =
           subst (λ b. Settles (if b then (walk_of calls (told Exited (number_of (Own p))) (Own p) s.members (exiting_of s (Own p)) >>= λ _ s1. (if is_same (Own p) f then Goes tt s1 else last_run_of calls s1 (Own p)) >>= λ _ s2. leave_of s2 (Own p)) else Goes tt s)) (sym h.listed)
-          (gives_bind (Unit {0}) (Unit {0}) Stopped (λ a t. At (On_its_way (standing_of p s)) t) (λ a t. Stands (standing_of p t)) (walk_of calls (told Exited (number_of (Own p))) (Own p) s.members (exiting_of s (Own p))) _ (walked s _ _ s.members h) (λ a t same.
+          (gives_bind (Unit {0}) (Unit {0}) Stopped (λ a t. At (on_its_way (standing_of p s)) t) (λ a t. Stands (standing_of p t)) (walk_of calls (told Exited (number_of (Own p))) (Own p) s.members (exiting_of s (Own p))) _ (walked s _ _ s.members h) (λ a t same.
           gives_bind (Unit {0}) (Unit {0}) Stopped (λ a u. IsGone (standing_of p u)) (λ a u. Stands (standing_of p u)) (if is_same (Own p) f then Goes tt t else last_run_of calls t (Own p)) _ (last s t (is_same (Own p) f) h same) (λ b u g. gone u g)))
 
       -- it is called
