@@ -5,7 +5,9 @@ pub mod Laws
 pub mod Own
 pub mod Poll
 pub mod Polled
+pub mod Printed
 pub mod Ring
 pub mod Seen
 pub mod Stamps
+pub mod Telling
 pub mod Traces

@@ -2,6 +2,8 @@
 
 ghost use Rattle.kernel_laws.specs.Polled.{PacketsAreHanded, TimersAreTold};
 ghost use Rattle.kernel_laws.specs.Due.{CallsForgetNone, BootForgetsNone, RunForgetsNone, RunTellsDue, BootKeepsOwners, RunKeepsOwners};
+ghost use Rattle.kernel_laws.specs.Printed.{PrintsAreTheReading, PrintsSoFarAreTheReading};
+ghost use Rattle.kernel_laws.specs.Telling.{TellingIsOfLives, TellingIsOfLivesSoFar, NoLinesTellFirst, BootTells, RunTells, PollTells, PacketTells, NoteTells};
 ghost use Rattle.kernel_laws.specs.Ring.{CallsTellPackets, BootTellsPackets, RunTellsPackets, RunEmptiesRing};
 ghost use Rattle.kernel_laws.specs.Laws.{KernelsHandOn, GoingIsInOrder, NoLinesGoFirst, BootAddsItsLines, RunAddsItsLines, PollKeeps, PacketKeeps, NoteKeeps, OnlyTheRunningAreCalled, CallsKeepStep, ListedAreRunning, CallsStamp, BootStamps, RunStamps};
 
@@ -67,4 +69,28 @@ pub fn no_timer_is_forgotten()
     ensures told { RunTellsDue }
     ensures boot_owners { BootKeepsOwners }
     ensures run_owners { RunKeepsOwners }
+{}
+
+/// A process that is quiet apart from its body (its blocks at POLL and EXIT and those of its callback timers print nothing, set no
+/// variable and spawn no thread) prints, from each of its starts on, what a reading of its body does: of its block, read by its
+/// structure, over sights of its mote, whatever the others do in between, and whatever calls of the kernel follow the boot. INIT comes
+/// first, each call has one event and one moment, and each line is at the moment of its sight; what else is seen there (later events,
+/// timers, processes, semaphores) isn't told by the lines. A next life begins with the variables that the one before left. Where the mote
+/// halts, the last life is told up to there.
+pub fn prints_are_the_reading()
+    ensures whole { PrintsAreTheReading }
+    ensures so_far { PrintsSoFarAreTheReading }
+{}
+
+/// The lines so far of a kernel tell of the lives of such a process up to where it stands: a mote that was not booted has none, and each call of
+/// its kernel keeps this, whatever was written before the call.
+pub fn each_call_tells_lives()
+    ensures lives { TellingIsOfLives }
+    ensures lives_so_far { TellingIsOfLivesSoFar }
+    ensures first { NoLinesTellFirst }
+    ensures boot { BootTells }
+    ensures run { RunTells }
+    ensures poll { PollTells }
+    ensures packet { PacketTells }
+    ensures note { NoteTells }
 {}

@@ -39,7 +39,7 @@ fn command<'a>(alloc: Global) -> Result<Command<'a>, AllocError> {
         .value_parser(CUTS.as_slice())
         .default_value("block")
         .help(
-            "How the motes are cut among the workers: in blocks that follow one another, or dealt in turn",
+            "How the motes are cut among the workers: in blocks of motes that follow one another, or dealt in turn",
         );
     let file = Arg::new(alloc, "FILE").help("The scenario; without it, standard input is read");
     Command::new(alloc, "motesim")

@@ -1,5 +1,6 @@
 pub mod Boots
 pub mod Gathered
+pub mod Items
 pub mod Keys
 pub mod NewWakes
 pub mod Orders

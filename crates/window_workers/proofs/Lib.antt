@@ -7,6 +7,7 @@ pub mod GivenAll
 pub mod Handed
 pub mod Joined
 pub mod Kept
+pub mod OneWake
 pub mod Pairs
 pub mod Reached
 pub mod Reports

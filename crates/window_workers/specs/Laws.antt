@@ -1,6 +1,6 @@
 -- Laws of the run of a net.
-use Rattle.std.specs.Prelude.{◌≡◌, ℕ, suc, ◌<◌, List, length, map, None}
-use Rattle.std.specs.List.{filter}
+use Rattle.std.specs.Prelude.{◌≡◌, ℕ, suc, ◌<◌, List, [], ◌∷◌, length, map, None}
+use Rattle.std.specs.List.{AllByRecursion}
 use Rattle.std.specs.List.Sorted.{IsPermutation, IsSortedBy}
 use Rattle.process_kernel.specs.declared.line.Line.{Line}
 use Rattle.process_kernel.specs.declared.line.Sent.{Sent}
@@ -9,11 +9,13 @@ use Rattle.mote_node.specs.Node.{Node}
 use Rattle.radio_medium.specs.declared.copy.RadioCopy.{RadioCopy}
 use Rattle.radio_medium.specs.Medium.{medium_fault}
 use Rattle.net_scenario.specs.Net.{NetTold}
-use Rattle.window_law.specs.System.{IsSystem}
+use Rattle.window_law.specs.System.{System, IsSystem}
 use Rattle.window_law.specs.Order.{is_sooner}
-use Rattle.window_law.specs.Agenda.{Item, is_due, up_to}
+use Rattle.window_law.specs.Agenda.{Item, up_to}
+use Rattle.window_law.specs.NetStep.{NetState, Run, Done, Turn}
 use Rattle.window_law.specs.Windows.{LoneMote, first_mote, IsJoined, IsLeft, Windows}
-use Rattle.net_agenda.specs.Buckets.{Buckets, Holds, due_in, gathered}
+use Rattle.net_agenda.specs.Buckets.{Buckets, Holds}
+use Rattle.net_agenda.specs.Items.{AreSameItems, WakesDiffer, items_of}
 use Rattle.net_agenda.specs.NetSystem.{system_of}
 use Rattle.window_workers.specs.NetRun.{packet_of, IsReportOf}
 use Rattle.window_workers.specs.Report.{ReportTold}
@@ -59,7 +61,15 @@ WindowsCommute = (n : NetTold) → medium_fault n.radio ≡ None → length n.ra
 abbrev pub TracesHandOn : Type 0
 TracesHandOn = (n : NetTold) (r : ReportTold) (report : IsReportOf n r) (k : ℕ) → k < length n.motes → IsInOrder (report.last.traces k)
 
--- the items of the buckets are those of the agenda: a bucket has all items of its moment and mote, and where there are none
--- there is no bucket
-abbrev pub BucketsHoldItems : Type 0
-BucketsHoldItems = (buckets : Buckets) (items : List Item) → Holds buckets items → (moment mote : ℕ) → due_in buckets moment mote ≡ gathered (filter (is_due moment mote) items)
+-- the items that are in the buckets of an agenda are those of the list that they hold
+abbrev pub BucketsHoldItems : Buckets → Type 0
+BucketsHoldItems buckets = (items : List Item) → Holds buckets items → AreSameItems items (items_of buckets)
+
+-- what is to come before each turn of a run, and at its end
+abbrev pub agendas : {S L : Type 0} {system : System S L} {end : ℕ} {net last : NetState S L} → Run system end net last → List (List Item)
+agendas {net = net} (Done late) = net.agenda ∷ []
+agendas {net = net} (Turn moment mote least le rest) = net.agenda ∷ agendas rest
+
+-- in none of them a mote has two wakes at one moment
+abbrev pub WakesAlwaysDiffer : Type 0
+WakesAlwaysDiffer = (n : NetTold) (r : ReportTold) (report : IsReportOf n r) → AllByRecursion WakesDiffer (agendas report.run)

@@ -1,8 +1,10 @@
-//! Laws of the run of a net. Each is the contract of a function that does nothing.
+//! Laws of the run of a net. Each is the contract of a function that does nothing, or no more than to ask for a length.
 
 ghost use Rattle.window_workers.specs.Counted.{CopiesAreGiven, CopiesComeInTime, FatesTellLeft, LateCopiesStay, LeftIsCounted, TurnsAreGivenAll};
-ghost use Rattle.window_workers.specs.Laws.{BucketsHoldItems, NetsRunForward, ReportIsOne, ReportIsThere, TracesHandOn, WindowsCommute};
+ghost use Rattle.window_workers.specs.Laws.{BucketsHoldItems, NetsRunForward, ReportIsOne, ReportIsThere, TracesHandOn, WakesAlwaysDiffer, WindowsCommute};
 ghost use Rattle.window_workers.specs.Stamps.{LogCountsUp, TracesNeverGoBack};
+
+use net_agenda::Agenda;
 
 /// A net has at most one report.
 pub fn report_is_one()
@@ -28,10 +30,19 @@ pub fn traces_hand_on()
     ensures { TracesHandOn }
 {}
 
-/// The items of an agenda kept in buckets are those of the net's one list: each bucket has all that is due for its mote at its
-/// moment, the packets in the order of sender and number, and there is no empty bucket.
-pub fn buckets_hold_items()
-    ensures { BucketsHoldItems }
+/// The items that are in the buckets of an agenda, read back from one bucket after another, are those of the net's one list: the
+/// same packets, each as often, and a wake of a mote at a moment where the list has one; so they are a permutation of the list where
+/// no mote has two wakes at one moment. The map is asked for its length since it then says that its keys rise: no two
+/// buckets are of one mote and moment.
+pub fn buckets_hold_items(agenda: &Agenda)
+    ensures { BucketsHoldItems agenda.now.buckets }
+{
+    let _length = agenda.buckets.len();
+}
+
+/// Before each turn of a net's run, and at its end, no mote has two wakes at one moment.
+pub fn wakes_differ()
+    ensures { WakesAlwaysDiffer }
 {}
 
 /// At the end the agenda has those copies, of all packets of the log, that arrive after the end: none else, and in the order of

@@ -11,10 +11,10 @@ use std::mem;
 use worker_share::Ended;
 
 /// Takes the trace of a mote from its worker.
-fn take_trace(alloc: Global, ended: &mut [Ended], worker: usize, mote: usize) -> Vec<Line>
-    requires worker { worker < length ended.old }
-    requires mote { (d : EndedOfCode) → mote < length (slice_index_or ended.old worker d).traces.items }
-    ensures { TakesTrace worker mote ended.old ended.new result }
+fn take_trace(alloc: Global, ended: &mut Vec<Ended>, worker: usize, mote: usize) -> Vec<Line>
+    requires worker { worker < length ended.old.items }
+    requires mote { (d : EndedOfCode) → mote < length (slice_index_or ended.old.items worker d).traces.items }
+    ensures { TakesTrace worker mote ended.old.items ended.new.items result }
 {
     let one = &mut ended[worker];
     mem::replace(&mut one.traces[mote], Vec::new(alloc))

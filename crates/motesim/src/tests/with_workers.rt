@@ -124,7 +124,7 @@ fn failing_reader(rt: HostRuntime) {
     };
     let mut reader = Failing {
         rest: PRINT_THEN_YIELD.as_bytes(),
-        calls: 13,
+        calls: 3,
     };
     let mut output = Vec::new(rt.alloc());
     let answer = simulate(&rt, rt.alloc(), &mut reader, &mut output, &options, &NoGate);

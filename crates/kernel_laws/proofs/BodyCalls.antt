@@ -1,0 +1,765 @@
+-- Each call keeps that what is told of a process are its lives, however deep calls nest.
+use Rattle.std.proofs.Common.{ℕ, zero, suc, ◌≡◌, ◌⊎◌, inl, inr, not, ◌&&◌, ◌||◌, ◌==◌, nat_lt, Bool, true, false, if◌then◌else◌, List, [], ◌∷◌, ◌++◌, Option, Some, None, slice_get, unwrap_or, refl, sym, ap, ◌∙◌, subst, append_assoc}
+use Rattle.mote_program.specs.declared.event.Proc.{Proc}
+use Rattle.mote_program.specs.declared.event.Proc.TheVariants.{Own, Etimer, Ctimer, Radio}
+use Rattle.mote_program.specs.declared.event.Target.TheVariants.{One}
+use Rattle.mote_program.specs.declared.event.Event.{Event}
+use Rattle.mote_program.specs.declared.event.SystemEvent.TheVariants.{Poll, Exit, Exited, Timer, Init}
+use Rattle.mote_program.specs.declared.timer.Timer.{Timer as TimerOfProgram}
+use Rattle.mote_program.specs.Code.{Code, Tree}
+use Rattle.mote_timers.specs.Timer.{is_due}
+use Rattle.mote_timers.specs.TimerLists.{timer_at}
+use Rattle.protothread.specs.declared.part.Part.TheVariants.{Body, OnPoll, OnExit, Callback}
+use Rattle.protothread.specs.declared.state.PtState.{PtState}
+use Rattle.protothread.specs.declared.state.PtState.TheVariants.{Yielded, Ended}
+use Rattle.protothread.specs.declared.step.Op.{Op}
+use Rattle.protothread.specs.declared.step.Op.TheVariants as op
+use Rattle.protothread.specs.declared.step.Step.{Step}
+use Rattle.protothread.specs.declared.step.Step.TheVariants as step
+use Rattle.protothread.specs.Remainder.{Remainder, fresh_of}
+use Rattle.protothread.specs.Step.{advanced_of, answered_of}
+use Rattle.process_kernel.specs.declared.line.Line.{Line}
+use Rattle.process_kernel.specs.declared.line.What.{What}
+use Rattle.process_kernel.specs.declared.line.What.TheVariants as what
+use Rattle.process_kernel.specs.declared.process.ProcessState.TheVariants.{Off, Running, Called}
+use Rattle.process_kernel.specs.declared.process.Member.{Member}
+use Rattle.process_kernel.specs.Members.{place_of, is_same}
+use Rattle.process_kernel.specs.State.{State, Outcome, Went, Ends, Goes, ◌>>=◌}
+use Rattle.process_kernel.specs.Processes.{is_running_state, has_process, is_busy, is_listed, is_running, with_state}
+use Rattle.process_kernel.specs.ProcessList.{put_remainder, with_fresh_body, enlist_of, exiting_of, leave_of}
+use Rattle.process_kernel.specs.Posts.{post_of}
+use Rattle.process_kernel.specs.Semaphores.{take_of, signal_of}
+use Rattle.process_kernel.specs.TimerOperations.{has_timer, timer_is_set, set_of, reset_of, restart_of, stop_of}
+use Rattle.process_kernel.specs.Writes.{with_line, write_of, halted_of, spend_of}
+use Rattle.process_kernel.specs.Calls.{Calls, Answer, told, is_event, walk_of}
+use Rattle.process_kernel.specs.Etimer.{fired_of, purge_of, post_due, walk_timers, walks_of, pass_of, etimer_of}
+use Rattle.process_kernel.specs.Ctimer.{callback_of, waits_for, ctimer_of}
+use Rattle.process_kernel.specs.Radio.{radio_of}
+use Rattle.process_kernel.specs.Reaction.{remainder_at, handler_of, resume_of, own_of, react_of}
+use Rattle.process_kernel.specs.Exit.{number_of, last_run_of, exit_of}
+use Rattle.process_kernel.specs.Start.{start_of}
+use Rattle.process_kernel.specs.Kill.{kill_of}
+use Rattle.process_kernel.specs.Thread.{stepped_with, stepped_of}
+use Rattle.process_kernel.specs.Looks.{looks_of}
+use Rattle.process_kernel.specs.Operation.{posted, answered_with, answer_of, act_of, perform_of, after_step, run_of}
+use Rattle.process_kernel.specs.Call.{has_ended, answered, call_of, calls_of}
+use Rattle.kernel_laws.specs.Printed.{IsQuietApart, LivesSoFar, Told, HasStarted}
+use Rattle.kernel_laws.specs.Telling as telling
+use Rattle.kernel_laws.specs.Telling.{Standing, standing_of, IsOut, Next, AtStart, AtCall, CanCome}
+use Rattle.kernel_laws.proofs.EachStep.{Lead, AreJoined, lead_from, lead_bind, lead_if, lead_option, lead_goes, lead_still, bind_twice, empty_led}
+use Rattle.kernel_laws.proofs.Tables.{is_equal}
+use Rattle.kernel_laws.proofs.Lives.{at_first}
+use Rattle.kernel_laws.proofs.QuietThreads.{IsQuietRest, fresh_quiet, poll_quiet as on_poll_quiet, exit_quiet as on_exit_quiet, callback_quiet, IsNoPrintStep, advances_quietly, answered_quietly}
+use Rattle.kernel_laws.proofs.Standing.{Always, always_if, halted_quiet, get_set, IsOther, IsQuiet, which, other_own, line_quiet, print_quiet, state_quiet, exiting_quiet, quiet_if, poll_quiet, variables_quiet, remainder_quiet, body_quiet, enlist_quiet, leave_quiet, post_quiet, send_quiet}
+use Rattle.kernel_laws.proofs.OwnSteps.{alike, state_stands, exiting_stands, leave_stands, body_stands, put_stands, enlist_stands}
+use Rattle.kernel_laws.proofs.BodyRuns.{IfGives, gives_bind, from_always, IsAway, ComesHere, HasLived, SoFar, RanFrom, BodyRuns, IsNoPrint, runs_on}
+
+-- behind what was told of the process earlier
+module _ (program : Tree) (mote p : ℕ) (code : Code) (earlier : List Line) where
+  -- on the process list, in a life that came to here
+  abbrev pub IsIn : Next → Standing → Remainder → List ℕ → Type 0
+  IsIn next v r vars = telling.IsIn p code mote (earlier ++ v.told) next v r vars
+
+  -- The process is at rest, and what was told of it are its lives.
+  abbrev pub Stands : Standing → Type 0
+  Stands v = telling.Stands program mote p code (earlier ++ v.told) v
+
+  -- It can be called with this event: it is at rest, or has just started.
+  pub record IsReady (v : Standing) (e : Event) : Type 0 where
+    pub of_program : v.program ≡ program
+    pub of_mote : v.mote ≡ mote
+    pub tables : v.room ≡ v.has
+    pub free : v.exiting ≡ false
+    pub still : Remainder
+    pub rest : v.rest ≡ Some still
+    pub left : List ℕ
+    pub vars : v.vars ≡ Some left
+    pub coming : Next
+    pub can : CanCome coming e v.moment
+    pub is_in : IsIn coming v still left
+    pub so_far : SoFar program mote p code earlier v.told
+
+  -- a process that is away is left as it stands, and of one that is at rest lives are told
+  pub record Keeps (s t : State) : Type 0 where
+    pub away : IsAway program mote (standing_of p s) → IsQuiet p s t
+    pub stands : Stands (standing_of p s) → Stands (standing_of p t)
+
+  pub quiet_keeps : (s t : State) → IsQuiet p s t → Keeps s t
+  quiet_keeps s t e = record { away = λ a. e; stands = λ h. subst (λ x. Stands x) (sym e) h }
+
+  keeps_joined : (a b c : State) → Keeps a b → Keeps b c → Keeps a c
+  keeps_joined a b c h i = record {
+    away = λ x. i.away (subst (λ v. IsAway program mote v) (sym (h.away x)) x) ∙ h.away x;
+    stands = λ x. i.stands (h.stands x);
+  }
+
+  -- and where the mote halts, what was told are lives so far
+  abbrev pub Stopped : State → Type 0
+  Stopped t = SoFar program mote p code earlier (standing_of p t).told
+
+  pub record Stops (s t : State) : Type 0 where
+    pub away : IsAway program mote (standing_of p s) → Stopped s → Stopped t
+    pub stands : Stands (standing_of p s) → Stopped t
+
+  stands_so_far : (s : State) → Stands (standing_of p s) → Stopped s
+  stands_so_far s h = Told h.lived
+
+  quiet_stopped : (s t : State) → IsQuiet p s t → Stopped s → Stopped t
+  quiet_stopped s t e h = subst (λ v. SoFar program mote p code earlier v.told) (sym e) h
+
+  quiet_stops : (s t : State) → IsQuiet p s t → Stops s t
+  quiet_stops s t e = record { away = λ a h. quiet_stopped s t e h; stands = λ h. quiet_stopped s t e (stands_so_far s h) }
+
+  keeps_stops : (a b c : State) → Keeps a b → Stops b c → Stops a c
+  keeps_stops a b c h i = record {
+    away = λ x so. i.away (subst (λ v. IsAway program mote v) (sym (h.away x)) x) (quiet_stopped a b (h.away x) so);
+    stands = λ x. i.stands (h.stands x);
+  }
+
+  pub chain : AreJoined Keeps Stops
+  chain = record { same = λ s. quiet_keeps s s refl; joined = keeps_joined; ended = keeps_stops }
+
+  abbrev pub Leads : (A : Type 0) → State → Outcome A → Type 0
+  Leads A s o = Lead Keeps Stops A s o
+
+  -- chains of steps
+
+  pub from : {A : Type 0} (s t : State) (o : Outcome A) → IsQuiet p s t → Leads A t o → Leads A s o
+  from {A} s t o e h = lead_from Keeps Stops chain A s t o (quiet_keeps s t e) h
+
+  pub bind : {A B : Type 0} (s : State) (o : Outcome A) (f : A → State → Outcome B) → Leads A s o → ((a : A) (t : State) → Leads B t (f a t)) → Leads B s (o >>= f)
+  bind {A} {B} s o f h go = lead_bind Keeps Stops chain A B s o f h go
+
+  pub either : {A : Type 0} (s : State) (b : Bool) (o q : Outcome A) → Leads A s o → Leads A s q → Leads A s (if b then o else q)
+  either {A} s b o q h i = lead_if Keeps Stops chain A s b o q h i
+
+  pub goes : {A : Type 0} (s : State) (a : A) (t : State) → IsQuiet p s t → Leads A s (Goes a t)
+  goes {A} s a t e = lead_goes Keeps Stops chain A s a t (quiet_keeps s t e)
+
+  pub still : {A : Type 0} (s : State) (a : A) → Leads A s (Goes a s)
+  still {A} s a = lead_still Keeps Stops chain A s a
+
+  pub ends : {A : Type 0} (s t : State) → IsQuiet p s t → Leads A s (Ends t)
+  ends {A} s t e = record { leads = quiet_stops s t e }
+
+  pub halts : {A : Type 0} (s : State) → Leads A s (Ends (halted_of s))
+  halts {A} s = ends s (halted_of s) (halted_quiet p s)
+
+  pub quietly : {A : Type 0} (s : State) (o : Outcome A) → Always (λ t. IsQuiet p s t) o → Leads A s o
+  quietly {A} s (Ends t) h = ends s t h
+  quietly {A} s (Goes a t) h = goes s a t h
+
+  -- the process settles again, where the mote goes on
+  abbrev pub Settles : {A : Type 0} → Outcome A → Type 0
+  Settles {A} o = IfGives Stopped (λ a t. Stands (standing_of p t)) o
+
+  -- both sides of it
+  pub lead_of : {A : Type 0} (s : State) (o : Outcome A) → (IsAway program mote (standing_of p s) → Always (λ t. IsQuiet p s t) o) → (Stands (standing_of p s) → Settles o) → Leads A s o
+  lead_of {A} s (Ends t) h i = record { leads = record { away = λ a so. quiet_stopped s t (h a) so; stands = i } }
+  lead_of {A} s (Goes a t) h i = record { leads = record { away = h; stands = i } }
+
+  -- where the program is known
+  pub knowing : {A : Type 0} (s : State) (o : Outcome A) → ((standing_of p s).program ≡ program → Leads A s o) → Leads A s o
+  knowing {A} s (Ends t) h = record { leads = record { away = λ x. (h x.of_program).leads.away x; stands = λ x. (h x.of_program).leads.stands x } }
+  knowing {A} s (Goes a t) h = record { leads = record { away = λ x. (h x.of_program).leads.away x; stands = λ x. (h x.of_program).leads.stands x } }
+
+  pub lead_away : {A : Type 0} (s : State) (o : Outcome A) → Leads A s o → IsAway program mote (standing_of p s) → Stopped s → IfGives Stopped (λ a t. IsQuiet p s t) o
+  lead_away {A} s (Ends t) h a so = h.leads.away a so
+  lead_away {A} s (Goes x t) h a so = h.leads.away a
+
+  -- small steps that are quiet
+
+  pub spend_quiet : (s : State) → Always (λ t. IsQuiet p s t) (spend_of s)
+  unfolding spend_of
+  spend_quiet s = always_if (λ t. IsQuiet p s t) (s.units == 0) _ _ (halted_quiet p s) refl
+
+  -- a unit is spent by a process that stands like this
+  spent : (v : Standing) (s : State) → standing_of p s ≡ v → SoFar program mote p code earlier v.told → IfGives Stopped (λ a t. standing_of p t ≡ v) (spend_of s)
+  spent v s e so =
+      from_always (Unit {0}) Stopped (λ t. IsQuiet p s t) (λ t. standing_of p t ≡ v) (spend_of s) (spend_quiet s) (λ t same. subst (λ w. SoFar program mote p code earlier w.told) (sym (same ∙ e)) so) (λ t same. same ∙ e)
+
+  spends : (s : State) → Leads (Unit {0}) s (spend_of s)
+  spends s = quietly s _ (spend_quiet s)
+
+  set_quiet : (s : State) (t n q : ℕ) → IsQuiet p s (set_of s t n q)
+  unfolding set_of timer_is_set
+  set_quiet s t n q = quiet_if p s (has_timer s t) _ s (poll_quiet p _ Etimer) refl
+
+  reset_quiet : (s : State) (t q : ℕ) → IsQuiet p s (reset_of s t q)
+  unfolding reset_of timer_is_set
+  reset_quiet s t q = quiet_if p s (has_timer s t) _ s (poll_quiet p _ Etimer) refl
+
+  restart_quiet : (s : State) (t q : ℕ) → IsQuiet p s (restart_of s t q)
+  unfolding restart_of timer_is_set
+  restart_quiet s t q = quiet_if p s (has_timer s t) _ s (poll_quiet p _ Etimer) refl
+
+  stop_quiet : (s : State) (t : ℕ) → IsQuiet p s (stop_of s t)
+  unfolding stop_of
+  stop_quiet s t = quiet_if p s (has_timer s t) _ s refl refl
+
+  fired_quiet : (s : State) (t : ℕ) → IsQuiet p s (fired_of s t)
+  unfolding fired_of
+  fired_quiet s t = refl
+
+  purge_quiet : (s : State) (q : ℕ) → IsQuiet p s (purge_of s q)
+  unfolding purge_of
+  purge_quiet s q = quiet_if p s (nat_lt q 256) _ s refl refl
+
+  take_quiet : (s : State) (k : ℕ) → IsQuiet p s (take_of s k)
+  unfolding take_of
+  take_quiet s k = refl
+
+  signal_quiet : (s : State) (k : ℕ) → IsQuiet p s (signal_of s k)
+  unfolding signal_of
+  signal_quiet s k = refl
+
+  writes : (s : State) (w : What) → IsQuiet p s (with_line s w) → Leads (Unit {0}) s (write_of s w)
+  unfolding write_of
+  writes s w e = goes s tt _ e
+
+  stepped_as : (variables : Option (List ℕ)) (s : State) (c : Code) (r : Remainder) (q : ℕ) (e : Event) → (q ≡ p → ⊥) → IsQuiet p s (stepped_with variables s c r q e).state
+  stepped_as (Some variables) s c r q e n = variables_quiet p s q _ s.units n
+  stepped_as None s c r q e n = refl
+
+  answered_as : (variables : Option (List ℕ)) (s : State) (r : Remainder) (q answer : ℕ) → (q ≡ p → ⊥) → Leads Remainder s (answered_with variables s r q answer)
+  answered_as (Some variables) s r q answer n = goes s _ _ (variables_quiet p s q _ s.units n)
+  answered_as None s r q answer n = still s r
+
+  answers : (s : State) (r : Remainder) (q : ℕ) (full : Bool) → (q ≡ p → ⊥) → Leads Remainder s (answer_of s r q full)
+  unfolding answer_of
+  answers s r q full n = answered_as _ s r q _ n
+
+  -- the system processes
+
+  due_led : (again on : State → Went) → ((s : State) → Leads (Unit {0}) s (again s)) → ((s : State) → Leads (Unit {0}) s (on s)) → (s : State) (timer : ℕ) (owner : Option Proc) → Leads (Unit {0}) s (post_due again on s timer owner)
+  due_led again on h i s timer None = i s
+  due_led again on h i s timer (Some owner) =
+      bind s _ _ (quietly s _ (post_quiet p s (One owner) (told Timer timer))) (λ full t. either t full _ _ (from t _ _ (poll_quiet p t Etimer) (i _)) (from t _ _ (fired_quiet t timer) (h _)))
+
+  walk_timers_led : (again : State → Went) → ((s : State) → Leads (Unit {0}) s (again s)) → (ts : List ℕ) (s : State) → Leads (Unit {0}) s (walk_timers again ts s)
+  walk_timers_led again h [] s = still s tt
+  walk_timers_led again h (t ∷ ts) s =
+      either s (is_due s.moment (timer_at s.timers.timers t)) _ _ (due_led again (walk_timers again ts) h (walk_timers_led again h ts) s t _) (walk_timers_led again h ts s)
+
+  walks_led : (k : ℕ) (s : State) → Leads (Unit {0}) s (walks_of k s)
+  walks_led zero s = still s tt
+  walks_led (suc k) s = walk_timers_led (walks_of k) (walks_led k) s.timers.listed s
+
+  etimer_led : (s : State) (e : Event) → Leads (Unit {0}) s (etimer_of s e)
+  unfolding etimer_of pass_of
+  etimer_led s e =
+      either s (is_event Poll e) _ _ (walks_led _ s) (either s (is_event Exited e) _ _ (goes s tt _ (purge_quiet s e.word)) (still s tt))
+
+  radio_led : (s : State) (e : Event) → Leads (Unit {0}) s (radio_of s e)
+  unfolding radio_of
+  radio_led s e =
+      either s (is_event Poll e) _ _ (empty_led Keeps Stops chain (λ t packets. quiet_keeps t _ refl) (λ t target event fits. quietly t _ (post_quiet p t target event)) (λ t sender number. quiet_keeps t _ (line_quiet p t (what.Deaf sender number) refl)) s.program.receiver s.ring s) (still s tt)
+
+  -- what the calls of a process keep, and the runs of a thread: those of others, of its body, and of its blocks beside
+  pub record AreTold (calls : Calls) : Type 0 where
+    pub call : (s : State) (q : Proc) (e : Event) → Leads (Unit {0}) s (calls.call s q e)
+    pub ready : (s : State) (e : Event) → IsReady (standing_of p s) e → Settles (calls.call s (Own p) e)
+    pub run : (s : State) (c : Code) (r : Remainder) (q : ℕ) (e : Event) → (q ≡ p → ⊥) → Leads Answer s (calls.run s c r q e)
+    pub body : BodyRuns program mote p code earlier calls
+    pub beside : (s : State) (r : Remainder) (e : Event) → IsQuietRest code r → Leads Answer s (calls.run s code r p e)
+
+  -- the body has run, or what runs before it alone
+  record Reacted (v : Standing) (a : PtState) (w : Standing) : Type 0 where
+    left : List ℕ
+    next : Remainder
+    same : w ≡ record v { rest = Some next; vars = Some left; told = w.told }
+    lived : HasLived program mote p code earlier w.told left
+    comes : has_ended a ≡ false → ComesHere program mote p code earlier w.told AtCall next left
+
+  -- it is about to leave the list, which it may do by itself, without a last run
+  record IsLeaving (v : Standing) (by_itself : Bool) : Type 0 where
+    of_program : v.program ≡ program
+    of_mote : v.mote ≡ mote
+    has : v.has ≡ true
+    room : v.room ≡ true
+    listed : v.listed ≡ true
+    now : Remainder
+    rest : v.rest ≡ Some now
+    left : List ℕ
+    vars : v.vars ≡ Some left
+    lived : HasLived program mote p code earlier v.told left
+    comes : by_itself ≡ false → ComesHere program mote p code earlier v.told AtCall now left
+
+  record IsGone (v : Standing) : Type 0 where
+    of_program : v.program ≡ program
+    of_mote : v.mote ≡ mote
+    has : v.has ≡ true
+    room : v.room ≡ true
+    state : v.state ≡ Off
+    now : Remainder
+    rest : v.rest ≡ Some now
+    left : List ℕ
+    vars : v.vars ≡ Some left
+    lived : HasLived program mote p code earlier v.told left
+
+  some_is : {X : Type 0} (x y : X) → Some x ≡ Some y → x ≡ y
+  some_is x y e = ap (λ o. unwrap_or o x) e
+
+  -- the same standing, known to be so in every field
+  abbrev At : Standing → State → Type 0
+  At v t = standing_of p t ≡ v
+
+  module _ (is_code : slice_get program.codes p ≡ Some code) (apart : IsQuietApart code) where
+    code_there : (s : State) → (standing_of p s).program ≡ program → slice_get s.program.codes p ≡ Some code
+    code_there s e = ap (λ t. slice_get t.codes p) e ∙ is_code
+
+    module _ (calls : Calls) (are : AreTold calls) where
+      walk_led : (e : Event) (q : Proc) (ms : List Member) (s : State) → Leads (Unit {0}) s (walk_of calls e q ms s)
+      walk_led e q [] s = still s tt
+      walk_led e q (m ∷ ms) s = bind s _ _ (either s _ _ _ (are.call s m.process e) (still s tt)) (λ a t. walk_led e q ms t)
+
+      -- another process
+
+      handler_led : (s : State) (c : Code) (q : ℕ) (e : Event) → (q ≡ p → ⊥) → Leads (Unit {0}) s (handler_of calls s c q e)
+      unfolding handler_of
+      handler_led s c q e n =
+          either s (is_event Poll e) _ _ (bind s _ _ (are.run s c (fresh_of c OnPoll) q e n) (λ a t. still t tt))
+          (either s (is_event Exit e) _ _ (bind s _ _ (are.run s c (fresh_of c OnExit) q e n) (λ a t. still t tt)) (still s tt))
+
+      resume_led : (s : State) (c : Code) (q : ℕ) (e : Event) → (q ≡ p → ⊥) → Leads PtState s (resume_of calls s c q e)
+      unfolding resume_of
+      resume_led s c q e n =
+          bind s _ _ (from s (with_fresh_body s q) _ (body_quiet p s q n) (are.run _ c _ q e n)) (λ a t. goes t _ _ (remainder_quiet p t q _ n))
+
+      own_led : (s : State) (q : ℕ) (e : Event) → (q ≡ p → ⊥) → Leads PtState s (own_of calls s q e)
+      unfolding own_of
+      own_led s q e n =
+          lead_option Keeps Stops chain PtState Code s (slice_get s.program.codes q) (Goes Ended s) (λ c. handler_of calls s c q e >>= λ u t. resume_of calls t c q e) (still s Ended) (λ c. bind s _ _ (handler_led s c q e n) (λ u t. resume_led t c q e n))
+
+      -- callbacks
+
+      abbrev called_back : State → (q : ℕ) → Event → Option Code → Went
+      called_back s q e c = elim c [ None ↦ Goes tt s | Some c ↦ calls.run s c (fresh_of c (Callback e.word)) q e >>= λ _ s1. Goes tt s1 ]
+
+      own_callback : (s : State) (e : Event) (c : Option Code) → slice_get s.program.codes p ≡ c → (standing_of p s).program ≡ program → Leads (Unit {0}) s (called_back s p e c)
+      own_callback s e None is of_program = still s tt
+      own_callback s e (Some c) is of_program =
+          let same : c ≡ code = some_is c code (sym is ∙ code_there s of_program) in
+          bind s _ _ (subst (λ c. Leads Answer s (calls.run s c (fresh_of c (Callback e.word)) p e)) (sym same) (are.beside s _ e (fresh_quiet code (Callback e.word) (callback_quiet code e.word apart)))) (λ a t. still t tt)
+
+      other_callback : (s : State) (q : ℕ) (e : Event) (c : Option Code) → (q ≡ p → ⊥) → Leads (Unit {0}) s (called_back s q e c)
+      other_callback s q e None n = still s tt
+      other_callback s q e (Some c) n = bind s _ _ (are.run s c _ q e n) (λ a t. still t tt)
+
+      code_led : (s : State) (q : ℕ) (e : Event) → (q ≡ p) ⊎ (q ≡ p → ⊥) → Leads (Unit {0}) s (called_back s q e (slice_get s.program.codes q))
+      code_led s q e (inl same) = subst (λ k. Leads (Unit {0}) s (called_back s k e (slice_get s.program.codes k))) (sym same) (knowing s _ (own_callback s e _ refl))
+      code_led s q e (inr n) = other_callback s q e _ n
+
+      callback_led : (s : State) (e : Event) → Leads (Unit {0}) s (callback_of calls s e)
+      unfolding callback_of
+      callback_led s e =
+          lead_option Keeps Stops chain (Unit {0}) TimerOfProgram s (slice_get s.program.timers e.word) (Goes tt s) _ (still s tt) (λ t. code_led s t.process e (is_equal t.process p))
+
+      ctimer_led : (s : State) (e : Event) → Leads (Unit {0}) s (ctimer_of calls s e)
+      unfolding ctimer_of
+      ctimer_led s e = either s (is_event Timer e && waits_for s e.word) _ _ (from s _ _ refl (callback_led _ e)) (still s tt)
+
+      react_led : (s : State) (q : Proc) (e : Event) → IsOther p q → Leads PtState s (react_of calls s q e)
+      unfolding react_of
+      react_led s (Own q) e n = own_led s q e (λ k. other_own p q n (sym k))
+      react_led s Etimer e n = bind s _ _ (etimer_led s e) (λ u t. still t Yielded)
+      react_led s Ctimer e n = bind s _ _ (ctimer_led s e) (λ u t. still t Yielded)
+      react_led s Radio e n = bind s _ _ (radio_led s e) (λ u t. still t Yielded)
+
+      last_run_led : (s : State) (q : Proc) → IsOther p q → Leads (Unit {0}) s (last_run_of calls s q)
+      unfolding last_run_of
+      last_run_led s q n = bind s _ _ (spends s) (λ u t. bind t _ _ (react_led t q _ n) (λ a v. still v tt))
+
+      other_exit : (s : State) (q f : Proc) → IsOther p q → Leads (Unit {0}) s (exit_of calls s q f)
+      unfolding exit_of
+      other_exit s q f n =
+          either s (is_listed s q) _ _ (bind s _ _ (from s _ _ (exiting_quiet p s q n) (walk_led (told Exited (number_of q)) q s.members _)) (λ a t.
+          bind t _ _ (either t (is_same q f) _ _ (still t tt) (last_run_led t q n)) (λ b u. quietly u _ (leave_quiet p u q n)))) (still s tt)
+
+      -- the process itself
+
+      handled : (s : State) (e : Event) → Leads (Unit {0}) s (handler_of calls s code p e)
+      unfolding handler_of
+      handled s e =
+          either s (is_event Poll e) _ _ (bind s _ _ (are.beside s _ e (fresh_quiet code OnPoll (on_poll_quiet code apart))) (λ a t. still t tt))
+          (either s (is_event Exit e) _ _ (bind s _ _ (are.beside s _ e (fresh_quiet code OnExit (on_exit_quiet code apart))) (λ a t. still t tt)) (still s tt))
+
+      resumed : (s : State) (r : Remainder) (vars : List ℕ) (e : Event) (coming : Next) → IsAway program mote (standing_of p s) → (standing_of p s).vars ≡ Some vars → (standing_of p s).rest ≡ Some r → CanCome coming e s.moment → ComesHere program mote p code earlier (standing_of p s).told coming r vars → Stopped s
+          → IfGives Stopped (λ a t. Reacted (standing_of p s) a (standing_of p t)) (resume_of calls s code p e)
+      unfolding resume_of put_remainder
+      resumed s r vars e coming away has rest can here so =
+          let s1 = with_fresh_body s p in
+          let same1 : standing_of p s1 ≡ record (standing_of p s) { rest = Some (fresh_of code Body) } = body_stands p s code r (code_there s away.of_program) rest in
+          let away1 : IsAway program mote (standing_of p s1) = record { of_program = away.of_program; of_mote = away.of_mote; not_running = away.not_running; busy = away.busy } in
+          gives_bind Answer PtState Stopped (RanFrom program mote p code earlier (standing_of p s1)) (λ a t. Reacted (standing_of p s) a (standing_of p t)) (calls.run s1 code (remainder_at s code p) p e) _
+          (subst (λ x. IfGives Stopped (RanFrom program mote p code earlier (standing_of p s1)) (calls.run s1 code x p e)) (ap (λ o. unwrap_or o (fresh_of code Body)) (sym rest)) (are.body s1 r vars e coming away1 has can here so))
+          (λ a t ran. record {
+            left = ran.left;
+            next = a.1;
+            same = put_stands p t a.1 (fresh_of code Body) (ap (λ v. v.rest) ran.same ∙ ap (λ v. v.rest) same1) ∙ ap {A = Standing} (λ v. record v { rest = Some a.1 }) ran.same ∙ ap {A = Standing} (λ v. record v { rest = Some a.1; vars = Some ran.left; told = (standing_of p t).told }) same1;
+            lived = ran.lived;
+            comes = ran.comes;
+          })
+
+      reacts : (s : State) (r : Remainder) (vars : List ℕ) (e : Event) (coming : Next) → IsAway program mote (standing_of p s) → (standing_of p s).vars ≡ Some vars → (standing_of p s).rest ≡ Some r → CanCome coming e s.moment → ComesHere program mote p code earlier (standing_of p s).told coming r vars → Stopped s
+          → IfGives Stopped (λ a t. Reacted (standing_of p s) a (standing_of p t)) (react_of calls s (Own p) e)
+      unfolding react_of own_of
+      reacts s r vars e coming away has rest can here so =
+          subst (λ o. IfGives Stopped (λ a t. Reacted (standing_of p s) a (standing_of p t)) (elim o [ None ↦ Goes Ended s | Some c ↦ handler_of calls s c p e >>= λ _ s1. resume_of calls s1 c p e ])) (sym (code_there s away.of_program))
+          (gives_bind (Unit {0}) PtState Stopped (λ u t. IsQuiet p s t) (λ a t. Reacted (standing_of p s) a (standing_of p t)) (handler_of calls s code p e) _ (lead_away s _ (handled s e) away so) (λ u t same.
+          subst (λ v. IfGives Stopped (λ a w. Reacted v a (standing_of p w)) (resume_of calls t code p e)) same
+          (resumed t r vars e coming (subst (λ v. IsAway program mote v) (sym same) away) (ap (λ v. v.vars) same ∙ has) (ap (λ v. v.rest) same ∙ rest) (subst (λ v. CanCome coming e v.moment) (sym same) can) (subst (λ v. ComesHere program mote p code earlier v.told coming r vars) (sym same) here) (quiet_stopped s t same so))))
+
+      -- it leaves
+
+      gone : (s : State) → IsGone (standing_of p s) → Settles (leave_of s (Own p))
+      gone s h =
+          from_always (Unit {0}) Stopped (λ t. At (record (standing_of p s) { exiting = false; listed = false }) t) (λ t. Stands (standing_of p t)) (leave_of s (Own p)) (leave_stands p s h.room) (λ t same. stands_so_far t (left_list t same)) left_list
+        where
+          left_list : (t : State) → At (record (standing_of p s) { exiting = false; listed = false }) t → Stands (standing_of p t)
+          left_list t same = subst (λ x. Stands x) (sym same) (record {
+            of_program = h.of_program;
+            of_mote = h.of_mote;
+            tables = h.room ∙ sym h.has;
+            free = refl;
+            still = h.now;
+            rest = h.rest;
+            left = h.left;
+            vars = h.vars;
+            lived = h.lived;
+            where_it_is = inl (record { state = h.state; listed = refl });
+          })
+
+      -- while it is being exited
+      abbrev on_its_way : Standing → Standing
+      on_its_way v = record v { state = Off; exiting = true }
+
+      way_is_away : (v : Standing) → v.program ≡ program → v.mote ≡ mote → IsAway program mote (on_its_way v)
+      way_is_away v e f = record { of_program = e; of_mote = f; not_running = refl; busy = refl }
+
+      walked : (s : State) (b : Bool) (e : Event) (ms : List Member) → IsLeaving (standing_of p s) b → IfGives Stopped (λ a t. At (on_its_way (standing_of p s)) t) (walk_of calls e (Own p) ms (exiting_of s (Own p)))
+      walked s b e ms h =
+          let same = exiting_stands p s h.has h.room in
+          subst (λ v. IfGives Stopped (λ a t. At v t) (walk_of calls e (Own p) ms (exiting_of s (Own p)))) same
+          (lead_away (exiting_of s (Own p)) _ (walk_led e (Own p) ms (exiting_of s (Own p))) (subst (λ v. IsAway program mote v) (sym same) (way_is_away (standing_of p s) h.of_program h.of_mote)) (subst (λ v. SoFar program mote p code earlier v.told) (sym same) (Told h.lived)))
+
+      last_gone : (v : Standing) (a : PtState) (w : Standing) → v.program ≡ program → v.mote ≡ mote → v.has ≡ true → v.room ≡ true → v.state ≡ Off → Reacted v a w → IsGone w
+      last_gone v a w of_program of_mote has room state r = record {
+        of_program = ap (λ x. x.program) r.same ∙ of_program;
+        of_mote = ap (λ x. x.mote) r.same ∙ of_mote;
+        has = ap (λ x. x.has) r.same ∙ has;
+        room = ap (λ x. x.room) r.same ∙ room;
+        state = ap (λ x. x.state) r.same ∙ state;
+        now = r.next;
+        rest = ap (λ x. x.rest) r.same;
+        left = r.left;
+        vars = ap (λ x. x.vars) r.same;
+        lived = r.lived;
+      }
+
+      last_runs : (s t : State) → IsLeaving (standing_of p s) false → At (on_its_way (standing_of p s)) t → IfGives Stopped (λ a u. IsGone (standing_of p u)) (last_run_of calls t (Own p))
+      unfolding last_run_of
+      last_runs s t h same =
+          gives_bind (Unit {0}) (Unit {0}) Stopped (λ a u. At (on_its_way (standing_of p s)) u) (λ a u. IsGone (standing_of p u)) (spend_of t) _ (spent (on_its_way (standing_of p s)) t same (Told h.lived)) (λ a u there.
+          gives_bind PtState (Unit {0}) Stopped (λ a w. Reacted (standing_of p u) a (standing_of p w)) (λ a w. IsGone (standing_of p w)) (react_of calls u (Own p) (told Exit 0)) _
+          (reacts u h.now h.left (told Exit 0) AtCall (subst (λ v. IsAway program mote v) (sym there) (way_is_away (standing_of p s) h.of_program h.of_mote)) (ap (λ v. v.vars) there ∙ h.vars) (ap (λ v. v.rest) there ∙ h.rest) tt (subst (λ v. ComesHere program mote p code earlier v.told AtCall h.now h.left) (sym there) (h.comes refl)) (subst (λ v. SoFar program mote p code earlier v.told) (sym there) (Told h.lived)))
+          (λ a w r. last_gone (standing_of p u) a (standing_of p w) (ap (λ v. v.program) there ∙ h.of_program) (ap (λ v. v.mote) there ∙ h.of_mote) (ap (λ v. v.has) there ∙ h.has) (ap (λ v. v.room) there ∙ h.room) (ap (λ v. v.state) there) r))
+
+      last : (s t : State) (b : Bool) → IsLeaving (standing_of p s) b → At (on_its_way (standing_of p s)) t → IfGives Stopped (λ a u. IsGone (standing_of p u)) (if b then Goes tt t else last_run_of calls t (Own p))
+      last s t true h same = subst (λ v. IsGone v) (sym same) (record { of_program = h.of_program; of_mote = h.of_mote; has = h.has; room = h.room; state = refl; now = h.now; rest = h.rest; left = h.left; vars = h.vars; lived = h.lived })
+      last s t false h same = last_runs s t h same
+
+      exits : (s : State) (f : Proc) → IsLeaving (standing_of p s) (is_same (Own p) f) → Settles (exit_of calls s (Own p) f)
+      unfolding exit_of
+      exits s f h =
+          subst (λ b. Settles (if b then (walk_of calls (told Exited (number_of (Own p))) (Own p) s.members (exiting_of s (Own p)) >>= λ _ s1. (if is_same (Own p) f then Goes tt s1 else last_run_of calls s1 (Own p)) >>= λ _ s2. leave_of s2 (Own p)) else Goes tt s)) (sym h.listed)
+          (gives_bind (Unit {0}) (Unit {0}) Stopped (λ a t. At (on_its_way (standing_of p s)) t) (λ a t. Stands (standing_of p t)) (walk_of calls (told Exited (number_of (Own p))) (Own p) s.members (exiting_of s (Own p))) _ (walked s _ _ s.members h) (λ a t same.
+          gives_bind (Unit {0}) (Unit {0}) Stopped (λ a u. IsGone (standing_of p u)) (λ a u. Stands (standing_of p u)) (if is_same (Own p) f then Goes tt t else last_run_of calls t (Own p)) _ (last s t (is_same (Own p) f) h same) (λ b u g. gone u g)))
+
+      -- it is called
+
+      answers_so : (s : State) (v : Standing) (e : Event) (a : PtState) (exit : Bool) → IsReady v e → Reacted (record v { state = Called }) a (standing_of p s) → Settles (answered calls s (Own p) (has_ended a || exit))
+      unfolding answered
+      answers_so s v e a exit h r = by (has_ended a || exit) refl
+        where
+          not_ended : (b c : Bool) → (b || c) ≡ false → b ≡ false
+          not_ended true c e = e
+          not_ended false c e = refl
+
+          by : (b : Bool) → (has_ended a || exit) ≡ b → Settles {A = Unit {0}} (if b then exit_of calls s (Own p) (Own p) else Goes tt (with_state s (Own p) Running))
+          by true e = exits s (Own p) (record {
+            of_program = ap (λ x. x.program) r.same ∙ h.of_program;
+            of_mote = ap (λ x. x.mote) r.same ∙ h.of_mote;
+            has = ap (λ x. x.has) r.same ∙ h.is_in.has;
+            room = ap (λ x. x.room) r.same ∙ h.tables ∙ h.is_in.has;
+            listed = ap (λ x. x.listed) r.same ∙ h.is_in.listed;
+            now = r.next;
+            rest = ap (λ x. x.rest) r.same;
+            left = r.left;
+            vars = ap (λ x. x.vars) r.same;
+            lived = r.lived;
+            comes = λ q. absurd (let f : true ≡ false = sym (alike (place_of (Own p))) ∙ q in cc);
+          })
+          by false e =
+              let has : (standing_of p s).has ≡ true = ap (λ x. x.has) r.same ∙ h.is_in.has in
+              subst (λ x. Stands x) (sym (state_stands p s Running has)) (record {
+                of_program = ap (λ x. x.program) r.same ∙ h.of_program;
+                of_mote = ap (λ x. x.mote) r.same ∙ h.of_mote;
+                tables = ap (λ x. x.room) r.same ∙ h.tables ∙ sym (ap (λ x. x.has) r.same);
+                free = ap (λ x. x.exiting) r.same ∙ h.free;
+                still = r.next;
+                rest = ap (λ x. x.rest) r.same;
+                left = r.left;
+                vars = ap (λ x. x.vars) r.same;
+                lived = r.lived;
+                where_it_is = inr (record { has = has; state = refl; listed = ap (λ x. x.listed) r.same ∙ h.is_in.listed; comes = r.comes (not_ended (has_ended a) exit e) });
+              })
+
+      is_called : (s : State) (e : Event) → IsReady (standing_of p s) e → Settles (call_of calls s (Own p) e)
+      unfolding call_of
+      is_called s e h =
+          let runs : is_running s (Own p) ≡ true = ap is_running_state h.is_in.state in
+          subst (λ b. Settles (if b then (spend_of s >>= λ _ s1. react_of calls (with_state s1 (Own p) Called) (Own p) e >>= λ answer s2. answered calls s2 (Own p) (has_ended answer || is_event Exit e)) else Goes tt s)) (sym runs)
+          (gives_bind (Unit {0}) (Unit {0}) Stopped (λ a t. IsQuiet p s t) (λ a t. Stands (standing_of p t)) (spend_of s) _ (spent (standing_of p s) s refl h.so_far) (λ u t same.
+          let s2 = with_state t (Own p) Called in
+          let same2 : standing_of p s2 ≡ record (standing_of p s) { state = Called } = state_stands p t Called (ap (λ v. v.has) same ∙ h.is_in.has) ∙ ap {A = Standing} (λ v. record v { state = Called }) same in
+          let away : IsAway program mote (standing_of p s2) = subst (λ v. IsAway program mote v) (sym same2) (record { of_program = h.of_program; of_mote = h.of_mote; not_running = refl; busy = refl }) in
+          gives_bind PtState (Unit {0}) Stopped (λ a w. Reacted (record (standing_of p s) { state = Called }) a (standing_of p w)) (λ a w. Stands (standing_of p w)) (react_of calls s2 (Own p) e) _
+          (subst (λ v. IfGives Stopped (λ a w. Reacted v a (standing_of p w)) (react_of calls s2 (Own p) e)) same2
+          (reacts s2 h.still h.left e h.coming away (ap (λ v. v.vars) same2 ∙ h.vars) (ap (λ v. v.rest) same2 ∙ h.rest) (subst (λ v. CanCome h.coming e v.moment) (sym same2) h.can) (subst (λ v. ComesHere program mote p code earlier v.told h.coming h.still h.left) (sym same2) h.is_in.comes) (subst (λ v. SoFar program mote p code earlier v.told) (sym same2) h.so_far)))
+          (λ a w r. answers_so w (standing_of p s) e a (is_event Exit e) h r)))
+
+      -- starts and kills
+
+      ready_first : (v w : Standing) (h : Stands v) → v.has ≡ true → w ≡ record v { state = Running; listed = true; rest = Some (fresh_of code Body); told = v.told ++ record { at = v.moment; what = what.Start (Own p) } ∷ [] } → IsReady w (told Init 0)
+      ready_first v w h has same = subst (λ x. IsReady x (told Init 0)) (sym same) (record {
+        of_program = h.of_program;
+        of_mote = h.of_mote;
+        tables = h.tables;
+        free = h.free;
+        still = fresh_of code Body;
+        rest = refl;
+        left = h.left;
+        vars = h.vars;
+        coming = AtStart v.moment;
+        can = (refl, refl);
+        is_in = record {
+          has = has;
+          state = refl;
+          listed = refl;
+          comes = record {
+            before = earlier ++ v.told;
+            start = h.left;
+            lived = h.lived;
+            lines = record { at = v.moment; what = what.Start (Own p) } ∷ [];
+            comes = at_first p code mote h.left v.moment;
+            is_told = sym (append_assoc earlier v.told (record { at = v.moment; what = what.Start (Own p) } ∷ []));
+          };
+        };
+        so_far = subst (λ l. LivesSoFar code (Own p) mote code.starts l) (append_assoc earlier v.told (record { at = v.moment; what = what.Start (Own p) } ∷ [])) (HasStarted h.lived v.moment);
+      })
+
+      starts_up : (s : State) → Stands (standing_of p s) → has_process s (Own p) ≡ true → Settles (enlist_of s (Own p) >>= λ _ s1. calls.call s1 (Own p) (told Init 0))
+      starts_up s h has =
+          gives_bind (Unit {0}) (Unit {0}) Stopped (λ a t. IsReady (standing_of p t) (told Init 0)) (λ a t. Stands (standing_of p t)) (enlist_of s (Own p)) _
+          (from_always (Unit {0}) Stopped _ (λ t. IsReady (standing_of p t) (told Init 0)) (enlist_of s (Own p)) (enlist_stands p s code h.still (code_there s h.of_program) has h.rest) (λ t same. (ready_first (standing_of p s) (standing_of p t) h has same).so_far) (λ t same. ready_first (standing_of p s) (standing_of p t) h has same))
+          (λ a t ready. are.ready t (told Init 0) ready)
+
+      own_start_if : (s : State) (b : Bool) → Stands (standing_of p s) → (has_process s (Own p) && not (is_listed s (Own p))) ≡ b
+          → Settles (if b then (enlist_of s (Own p) >>= λ _ s1. calls.call s1 (Own p) (told Init 0)) else Goes tt s)
+      own_start_if s true h e = starts_up s h (has (has_process s (Own p)) _ e)
+        where
+          has : (b c : Bool) → (b && c) ≡ true → b ≡ true
+          has true c e = refl
+          has false c e = absurd (cc)
+      own_start_if s false h e = h
+
+      busy_away : (s : State) → IsAway program mote (standing_of p s) → is_busy s (Own p) ≡ false → ⊥
+      busy_away s a e = let f : true ≡ false = sym a.busy ∙ e in cc
+
+      own_start : (s : State) → Leads (Unit {0}) s (start_of calls s (Own p))
+      unfolding start_of
+      own_start s = by (is_busy s (Own p)) refl
+        where
+          by : (b : Bool) → is_busy s (Own p) ≡ b → Leads (Unit {0}) s (if b then write_of s (what.Busy (Own p)) else (if has_process s (Own p) && not (is_listed s (Own p)) then (enlist_of s (Own p) >>= λ _ s1. calls.call s1 (Own p) (told Init 0)) else Goes tt s))
+          by true e = writes s _ (line_quiet p s (what.Busy (Own p)) refl)
+          by false e = lead_of s _ (λ a. absurd (busy_away s a e)) (λ h. own_start_if s _ h refl)
+
+      unlisted_exit : (s : State) (f : Proc) → Stands (standing_of p s) → is_listed s (Own p) ≡ false → Settles (exit_of calls s (Own p) f)
+      unfolding exit_of
+      unlisted_exit s f h e = rw e h
+
+      own_exit : (s : State) (f : Proc) → Stands (standing_of p s) → Settles (exit_of calls s (Own p) f)
+      own_exit s f h = by h.where_it_is
+        where
+          by : IsOut (standing_of p s) ⊎ IsIn AtCall (standing_of p s) h.still h.left → Settles (exit_of calls s (Own p) f)
+          by (inl out) = unlisted_exit s f h out.listed
+          by (inr is_in) = exits s f (record {
+            of_program = h.of_program;
+            of_mote = h.of_mote;
+            has = is_in.has;
+            room = h.tables ∙ is_in.has;
+            listed = is_in.listed;
+            now = h.still;
+            rest = h.rest;
+            left = h.left;
+            vars = h.vars;
+            lived = h.lived;
+            comes = λ q. is_in.comes;
+          })
+
+      own_kill : (s : State) (current : ℕ) → Leads (Unit {0}) s (kill_of calls s (Own p) current)
+      unfolding kill_of
+      own_kill s current = by (is_busy s (Own p)) refl
+        where
+          by : (b : Bool) → is_busy s (Own p) ≡ b → Leads (Unit {0}) s (if b then write_of s (what.Busy (Own p)) else exit_of calls s (Own p) (Own current))
+          by true e = writes s _ (line_quiet p s (what.Busy (Own p)) refl)
+          by false e = lead_of s _ (λ a. absurd (busy_away s a e)) (λ h. own_exit s (Own current) h)
+
+      other_start : (s : State) (q : Proc) → IsOther p q → Leads (Unit {0}) s (start_of calls s q)
+      unfolding start_of
+      other_start s q n =
+          either s (is_busy s q) _ _ (writes s _ (line_quiet p s (what.Busy q) refl)) (either s (has_process s q && not (is_listed s q)) _ _ (bind s _ _ (quietly s _ (enlist_quiet p s q n)) (λ a t. are.call t q _)) (still s tt))
+
+      other_kill : (s : State) (q : Proc) (current : ℕ) → IsOther p q → Leads (Unit {0}) s (kill_of calls s q current)
+      unfolding kill_of
+      other_kill s q current n = either s (is_busy s q) _ _ (writes s _ (line_quiet p s (what.Busy q) refl)) (other_exit s q (Own current) n)
+
+      pub start_led : (s : State) (q : Proc) → Leads (Unit {0}) s (start_of calls s q)
+      start_led s q = by (which p q)
+        where
+          by : (q ≡ Own p) ⊎ IsOther p q → Leads (Unit {0}) s (start_of calls s q)
+          by (inl e) = subst (λ k. Leads (Unit {0}) s (start_of calls s k)) (sym e) (own_start s)
+          by (inr n) = other_start s q n
+
+      kill_led : (s : State) (q : Proc) (current : ℕ) → Leads (Unit {0}) s (kill_of calls s q current)
+      kill_led s q current = by (which p q)
+        where
+          by : (q ≡ Own p) ⊎ IsOther p q → Leads (Unit {0}) s (kill_of calls s q current)
+          by (inl e) = subst (λ k. Leads (Unit {0}) s (kill_of calls s k current)) (sym e) (own_kill s current)
+          by (inr n) = other_kill s q current n
+
+      -- operations, but for prints
+
+      act_led : (s : State) (current : ℕ) (o : Op) → IsNoPrint o → Leads (Unit {0}) s (act_of calls s current o)
+      unfolding act_of
+      act_led s current (op.Post t e w) f = still s tt
+      act_led s current (op.Synch q e w) f = are.call s q _
+      act_led s current (op.Poll q) f = goes s tt _ (poll_quiet p s q)
+      act_led s current (op.Start q) f = start_led s q
+      act_led s current (op.Kill q) f = kill_led s q current
+      act_led s current (op.Set t n) f = goes s tt _ (set_quiet s t n current)
+      act_led s current (op.Reset t) f = goes s tt _ (reset_quiet s t current)
+      act_led s current (op.RestartTimer t) f = goes s tt _ (restart_quiet s t current)
+      act_led s current (op.Stop t) f = goes s tt _ (stop_quiet s t)
+      act_led s current (op.Send v) f = quietly s _ (send_quiet p s v)
+      act_led s current (op.Print v) f = absurd f
+      act_led s current (op.Take k) f = goes s tt _ (take_quiet s k)
+      act_led s current (op.Signal k) f = goes s tt _ (signal_quiet s k)
+
+      print_led : (s : State) (q v : ℕ) → (q ≡ p → ⊥) → Leads (Unit {0}) s (act_of calls s q (op.Print v))
+      unfolding act_of
+      print_led s q v n = writes s _ (print_quiet p s q v n)
+
+      perform_led : (s : State) (r : Remainder) (q : ℕ) (o : Op) → (q ≡ p → ⊥) → Leads Remainder s (perform_of calls s r q o)
+      unfolding perform_of
+      perform_led s r q (op.Post to e w) n = bind s _ _ (quietly s _ (post_quiet p s to _)) (λ full t. answers t r q full n)
+      perform_led s r q (op.Print v) n = bind s _ _ (print_led s q v n) (λ a t. still t r)
+      perform_led s r q o n = bind s _ _ (act_led s q o tt) (λ a t. still t r)
+
+      step_led : (c : Code) (q : ℕ) (e : Event) (x : Step) (r : Remainder) (s : State) → (q ≡ p → ⊥) → Leads Answer s (after_step calls c q e x r s)
+      step_led c q e (step.Op o) r s n = bind s _ _ (perform_led s r q o n) (λ r1 t. are.run t c r1 q e n)
+      step_led c q e (step.Done a) r s n = still s _
+      step_led c q e step.Runaway r s n = halts s
+
+      run_led : (s : State) (c : Code) (r : Remainder) (q : ℕ) (e : Event) → (q ≡ p → ⊥) → Leads Answer s (run_of calls s c r q e)
+      unfolding run_of stepped_of
+      run_led s c r q e n = from s _ _ (stepped_as _ s c r q e n) (step_led c q e _ _ _ n)
+
+      body_runs : (s : State) (r : Remainder) (vars : List ℕ) (e : Event) (coming : Next) → IsAway program mote (standing_of p s) → (standing_of p s).vars ≡ Some vars → CanCome coming e s.moment → ComesHere program mote p code earlier (standing_of p s).told coming r vars → Stopped s
+          → IfGives Stopped (RanFrom program mote p code earlier (standing_of p s)) (run_of calls s code r p e)
+      body_runs s r vars e coming away has can here so =
+          runs_on program mote p code earlier calls s r vars e coming away has can here so are.body (λ t o f a so. lead_away t _ (act_led t p o f) a so)
+
+      -- a block beside the body
+
+      answered_beside : (u : State) (r : Remainder) (e : Event) (answer : ℕ) (variables : Option (List ℕ)) → slice_get u.variables p ≡ variables → IsQuietRest code r
+          → Leads Answer u (answered_with variables u r p answer >>= λ r1 s1. calls.run s1 code r1 p e)
+      answered_beside u r e answer None there h = are.beside u r e h
+      answered_beside u r e answer (Some vs) there h =
+          let a = answered_quietly code r vs answer h in
+          from u _ _ (ap (λ o. record (standing_of p u) { vars = o }) (get_set u.variables p (answered_of r vs answer).variables vs there ∙ ap Some a.1 ∙ sym there)) (are.beside _ _ e a.0)
+
+      told_beside : (u : State) (r : Remainder) (e : Event) (full : Bool) → IsQuietRest code r → Leads Answer u (answer_of u r p full >>= λ r1 s1. calls.run s1 code r1 p e)
+      unfolding answer_of
+      told_beside u r e full h = answered_beside u r e _ (slice_get u.variables p) refl h
+
+      performed_beside : (s : State) (r : Remainder) (e : Event) (o : Op) → IsNoPrint o → IsQuietRest code r → Leads Answer s (perform_of calls s r p o >>= λ r1 s1. calls.run s1 code r1 p e)
+      unfolding perform_of
+      performed_beside s r e (op.Post t number word) f h =
+          bind_twice Keeps Stops chain _ _ _ s (post_of s t (posted number word)) _ _ (bind s _ _ (quietly s _ (post_quiet p s t (posted number word))) (λ full u. told_beside u r e full h))
+      performed_beside s r e o f h = bind_twice Keeps Stops chain _ _ _ s (act_of calls s p o) _ _ (bind s _ _ (act_led s p o f) (λ a u. are.beside u r e h))
+
+      after_beside : (s : State) (r : Remainder) (e : Event) (x : Step) → IsNoPrintStep x → IsQuietRest code r → Leads Answer s (after_step calls code p e x r s)
+      after_beside s r e (step.Op o) f h = performed_beside s r e o f h
+      after_beside s r e (step.Done a) f h = still s _
+      after_beside s r e step.Runaway f h = halts s
+
+      stepped_beside : (s : State) (r : Remainder) (e : Event) (variables : Option (List ℕ)) → slice_get s.variables p ≡ variables → IsQuietRest code r
+          → Leads Answer s (let m = stepped_with variables s code r p e in after_step calls code p e m.step m.remainder m.state)
+      stepped_beside s r e None there h = still s _
+      stepped_beside s r e (Some vs) there h =
+          let a = advances_quietly code e (looks_of s) r vs s.units h in
+          let next = advanced_of code e (looks_of s) r vs s.units in
+          from s _ _ (ap (λ o. record (standing_of p s) { vars = o }) (get_set s.variables p next.variables vs there ∙ ap Some a.variables ∙ sym there)) (after_beside _ next.remainder e next.step a.step a.rest)
+
+      runs_beside : (s : State) (r : Remainder) (e : Event) → IsQuietRest code r → Leads Answer s (run_of calls s code r p e)
+      unfolding run_of stepped_of
+      runs_beside s r e h = stepped_beside s r e (slice_get s.variables p) refl h
+
+      -- a call
+
+      other_answered : (s : State) (q : Proc) (b : Bool) → IsOther p q → Leads (Unit {0}) s (answered calls s q b)
+      unfolding answered
+      other_answered s q true n = other_exit s q q n
+      other_answered s q false n = goes s tt _ (state_quiet p s q Running n)
+
+      other_called : (s : State) (q : Proc) (e : Event) → IsOther p q → Leads (Unit {0}) s (call_of calls s q e)
+      unfolding call_of
+      other_called s q e n =
+          either s (is_running s q) _ _ (bind s _ _ (spends s) (λ a t. from t _ _ (state_quiet p t q Called n) (bind _ _ _ (react_led _ q e n) (λ answer u. other_answered u q _ n)))) (still s tt)
+
+      lost : (s : State) (e : Event) → is_running s (Own p) ≡ false → call_of calls s (Own p) e ≡ Goes tt s
+      unfolding call_of
+      lost s e r = rw r refl
+
+      own_called : (s : State) (e : Event) → Leads (Unit {0}) s (call_of calls s (Own p) e)
+      own_called s e = lead_of s _ (λ a. subst (λ o. Always (λ t. IsQuiet p s t) o) (sym (lost s e a.not_running)) refl) (λ h. by h h.where_it_is)
+        where
+          by : (h : Stands (standing_of p s)) → IsOut (standing_of p s) ⊎ IsIn AtCall (standing_of p s) h.still h.left → Settles (call_of calls s (Own p) e)
+          by h (inl out) = subst (λ o. Settles o) (sym (lost s e (ap is_running_state out.state))) h
+          by h (inr is_in) = is_called s e (record { of_program = h.of_program; of_mote = h.of_mote; tables = h.tables; free = h.free; still = h.still; rest = h.rest; left = h.left; vars = h.vars; coming = AtCall; can = tt; is_in = is_in; so_far = Told h.lived })
+
+      call_led : (s : State) (q : Proc) (e : Event) → Leads (Unit {0}) s (call_of calls s q e)
+      call_led s q e = by (which p q)
+        where
+          by : (q ≡ Own p) ⊎ IsOther p q → Leads (Unit {0}) s (call_of calls s q e)
+          by (inl i) = subst (λ k. Leads (Unit {0}) s (call_of calls s k e)) (sym i) (own_called s e)
+          by (inr n) = other_called s q e n
+
+    pub calls_told : (k : ℕ) → AreTold (calls_of k)
+    unfolding calls_of
+    calls_told zero = record {
+      call = λ s q e. halts s;
+      ready = λ s e h. quiet_stopped s (halted_of s) (halted_quiet p s) h.so_far;
+      run = λ s c r q e n. halts s;
+      body = λ s r vars e coming away has can here so. quiet_stopped s (halted_of s) (halted_quiet p s) so;
+      beside = λ s r e h. halts s;
+    }
+    calls_told (suc k) = record {
+      call = call_led (calls_of k) (calls_told k);
+      ready = is_called (calls_of k) (calls_told k);
+      run = run_led (calls_of k) (calls_told k);
+      body = body_runs (calls_of k) (calls_told k);
+      beside = runs_beside (calls_of k) (calls_told k);
+    }

@@ -1,0 +1,267 @@
+-- Boots and kernel runs keep that what is told of a process are its lives, and so do the calls of a kernel.
+use Rattle.std.proofs.Common.{ℕ, ◌≡◌, ◌+◌, Bool, true, false, nat_lt, if◌then◌else◌, List, [], ◌∷◌, ◌++◌, inl, inr, Some, length, slice_get, refl, sym, ap, ◌∙◌, subst, map, append-nil}
+use Rattle.std.specs.Prelude.{option_map}
+use Rattle.std.proofs.lemmas.List.{length-replicate}
+use Rattle.std.proofs.lemmas.List.Elements.{filter-append}
+use Rattle.std.proofs.lemmas.Option.{slice_get-map}
+use Rattle.mote_program.specs.declared.event.Proc.{Proc}
+use Rattle.mote_program.specs.declared.event.Proc.TheVariants.{Own, Etimer, Ctimer, Radio}
+use Rattle.mote_program.specs.declared.event.Target.{Target}
+use Rattle.mote_program.specs.declared.event.Target.TheVariants.{One, All}
+use Rattle.mote_program.specs.declared.event.SystemEvent.TheVariants.{Poll}
+use Rattle.mote_program.specs.Code.{Code, Tree}
+use Rattle.event_queue.specs.declared.queue.Posted.{Posted}
+use Rattle.event_queue.specs.Queue.{without_front}
+use Rattle.protothread.specs.declared.part.Part.TheVariants.{Body}
+use Rattle.protothread.specs.Remainder.{fresh_of}
+use Rattle.process_kernel.specs.declared.line.Line.{Line}
+use Rattle.process_kernel.specs.declared.line.Sent.{Sent}
+use Rattle.process_kernel.specs.declared.line.What.{What}
+use Rattle.process_kernel.specs.declared.line.What.TheVariants as what
+use Rattle.process_kernel.specs.declared.process.ProcessState.{ProcessState}
+use Rattle.process_kernel.specs.declared.process.ProcessState.TheVariants.{Off, Running, Called}
+use Rattle.process_kernel.specs.declared.process.Member.{Member}
+use Rattle.process_kernel.specs.declared.kernel.Ran.TheVariants as ran
+use Rattle.process_kernel.specs.declared.runs.TheConstants.{UNITS}
+use Rattle.process_kernel.specs.Members.{place_of}
+use Rattle.process_kernel.specs.State.{State, Outcome, Ends, Goes}
+use Rattle.process_kernel.specs.Processes.{is_listed, is_on_list}
+use Rattle.process_kernel.specs.Writes.{write_of}
+use Rattle.process_kernel.specs.Calls.{Calls, told}
+use Rattle.process_kernel.specs.Call.{calls_of}
+use Rattle.process_kernel.specs.Polls.{walk_polls, polls_of, polls_due_of, poll_turn_of}
+use Rattle.process_kernel.specs.Delivery.{give_of, turn_of, walk_event, deliver_to, deliver_of}
+use Rattle.process_kernel.specs.Run.{begun_of, left_of, deliver_front, kernel_of}
+use Rattle.process_kernel.specs.Boot.{starts_of, boot_of}
+use Rattle.process_kernel.specs.Mote.{Mote, unbooted, with_poll, with_packet}
+use Rattle.process_kernel.specs.Public.{given, begun, unless_halted, boot_given, run_given}
+use Rattle.kernel_laws.specs.Going.{IsNote}
+use Rattle.kernel_laws.specs.InStep.{AreInStep, state_at, exiting_at, listed_in}
+use Rattle.kernel_laws.specs.Traces.{KernelCall, RunAt, PollOf, Accepts, Notes, Traced, after_call, after_calls, booted_at}
+use Rattle.kernel_laws.specs.Printed.{IsQuietApart, is_told_of, starts_and_prints, Unborn, LivesSoFar, Told, PrintsAreTheReading, PrintsSoFarAreTheReading}
+use Rattle.kernel_laws.specs.Telling.{Standing, standing_of, Stands, TellsSoFar, IsProcess, TellingIsOfLives, TellingIsOfLivesSoFar, NoLinesTellFirst, BootTells, RunTells, PollTells, PacketTells, NoteTells}
+use Rattle.kernel_laws.proofs.Resting.{numbered_listed, first_rests}
+use Rattle.kernel_laws.proofs.Standing.{told_more, line_quiet, mark_quiet, poll_quiet}
+use Rattle.kernel_laws.proofs.BodyCalls.{Leads, AreTold, from, bind, either, goes, still, start_led, calls_told}
+
+module _ (program : Tree) (mote p : ℕ) (code : Code) (is_code : slice_get program.codes p ≡ Some code) (apart : IsQuietApart code) where
+  -- boots and kernel runs
+  module _ (earlier : List Line) (calls : Calls) (are : AreTold program mote p code earlier calls) where
+    abbrev L : (A : Type 0) → State → Outcome A → Type 0
+    L A s o = Leads program mote p code earlier A s o
+
+    polls_led : (ms : List Member) (s : State) → L (Unit {0}) s (walk_polls calls ms s)
+    unfolding poll_turn_of
+    polls_led [] s = still program mote p code earlier s tt
+    polls_led (m ∷ ms) s =
+        bind program mote p code earlier s _ _ (either program mote p code earlier s _ _ _ (from program mote p code earlier s _ _ (mark_quiet p s m.process false) (are.call _ m.process (told Poll 0))) (still program mote p code earlier s tt)) (λ a t. polls_led ms t)
+
+    polls_due_led : (s : State) → L (Unit {0}) s (polls_due_of calls s)
+    unfolding polls_due_of polls_of
+    polls_due_led s = either program mote p code earlier s s.flag _ _ (from program mote p code earlier s _ _ refl (polls_led s.members _)) (still program mote p code earlier s tt)
+
+    give_led : (s : State) (x : Posted) (q : Proc) (there : Bool) → L (Unit {0}) s (give_of calls s x q there)
+    unfolding give_of write_of
+    give_led s x q there =
+        either program mote p code earlier s there _ _ (from program mote p code earlier s _ _ (line_quiet p s (what.Take x.serial q) refl) (are.call _ q x.event)) (goes program mote p code earlier s tt _ (line_quiet p s (what.Drop x.serial q) refl))
+
+    walk_event_led : (x : Posted) (ms : List Member) (s : State) → L (Unit {0}) s (walk_event calls x ms s)
+    unfolding turn_of
+    walk_event_led x [] s = still program mote p code earlier s tt
+    walk_event_led x (m ∷ ms) s =
+        bind program mote p code earlier s _ _ (bind program mote p code earlier s _ _ (polls_due_led s) (λ a t. give_led t x m.process (is_on_list t m))) (λ a t. walk_event_led x ms t)
+
+    target_led : (target : Target) (s : State) (x : Posted) → L (Unit {0}) s (deliver_to target calls s x)
+    target_led (One q) s x = give_led s x q (is_listed s q)
+    target_led All s x = walk_event_led x s.members s
+
+    front_led : (q : List Posted) (s : State) → L (Unit {0}) s (deliver_front calls q s)
+    unfolding deliver_of
+    front_led [] s = still program mote p code earlier s tt
+    front_led (x ∷ q) s = from program mote p code earlier s (record s { queue = without_front s.queue }) _ refl (target_led x.target _ x)
+
+    kernel_led : (s : State) → L ℕ s (kernel_of calls s)
+    unfolding kernel_of
+    kernel_led s =
+        bind program mote p code earlier s _ _ (polls_due_led s) (λ a t. bind program mote p code earlier t _ _ (front_led t.queue.events t) (λ b u. still program mote p code earlier u _))
+
+    starts_led : (ps : List Proc) (s : State) → L (Unit {0}) s (starts_of calls ps s)
+    starts_led [] s = still program mote p code earlier s tt
+    starts_led (q ∷ ps) s = bind program mote p code earlier s _ _ (start_led program mote p code earlier is_code apart calls are s q) (λ a t. starts_led ps t)
+
+    boot_led : (s : State) → L ℕ s (boot_of calls s)
+    unfolding boot_of
+    boot_led s = bind program mote p code earlier s _ _ (starts_led (Etimer ∷ Ctimer ∷ Radio ∷ map Own s.program.autostart) s) (λ a t. still program mote p code earlier t (left_of t))
+
+-- between the calls of a kernel
+
+module _ (program : Tree) (mote p : ℕ) (code : Code) where
+  told_twice : (xs ys : List Line) → starts_and_prints (Own p) (xs ++ ys) ≡ starts_and_prints (Own p) xs ++ starts_and_prints (Own p) ys
+  told_twice xs ys = filter-append (λ l. is_told_of (Own p) l.what) xs ys
+
+  -- whatever the lines of the run under way tell
+  retold : (told : List Line) (v : Standing) (moment : ℕ) (now : List Line) → Stands program mote p code told v → Stands program mote p code told (record v { moment = moment; told = now })
+  retold told v moment now h = record {
+    of_program = h.of_program;
+    of_mote = h.of_mote;
+    tables = h.tables;
+    free = h.free;
+    still = h.still;
+    rest = h.rest;
+    left = h.left;
+    vars = h.vars;
+    lived = h.lived;
+    where_it_is = elim h.where_it_is [ inl out ↦ inl (record { state = out.state; listed = out.listed }) | inr here ↦ inr (record { has = here.has; state = here.state; listed = here.listed; comes = here.comes }) ];
+  }
+
+  begun_stands : (m : Mote) (moment : ℕ) (before : List Line) (sends : List Sent) → standing_of p (begun m moment before sends) ≡ record (standing_of p m.state) { moment = moment; told = starts_and_prints (Own p) before }
+  unfolding begun_of
+  begun_stands m moment before sends = ap (λ b. record (standing_of p m.state) { moment = moment; listed = b; told = starts_and_prints (Own p) before }) (numbered_listed 0 m.state.members (place_of (Own p)))
+
+  begins : (earlier : List Line) (m : Mote) (moment : ℕ) (before : List Line) (sends : List Sent) → Stands program mote p code (starts_and_prints (Own p) (earlier ++ before)) (standing_of p m.state)
+      → let s = begun m moment before sends in Stands program mote p code (starts_and_prints (Own p) earlier ++ (standing_of p s).told) (standing_of p s)
+  begins earlier m moment before sends h =
+      subst (λ v. Stands program mote p code (starts_and_prints (Own p) earlier ++ v.told) v) (sym (begun_stands m moment before sends))
+      (subst (λ l. Stands program mote p code l (record (standing_of p m.state) { moment = moment; told = starts_and_prints (Own p) before })) (told_twice earlier before) (retold _ (standing_of p m.state) moment _ h))
+
+  -- what a boot or a run that goes on adds
+  given_told : (earlier : List Line) (m : Mote) (moment : ℕ) (before : List Line) (sends : List Sent) (o : Outcome ℕ) → Stands program mote p code (starts_and_prints (Own p) (earlier ++ before)) (standing_of p m.state)
+      → Leads program mote p code (starts_and_prints (Own p) earlier) ℕ (begun m moment before sends) o → TellsSoFar program mote p code (earlier ++ (given o).lines) (given o).mote
+  given_told earlier m moment before sends (Ends t) h leads = record {
+    going = λ on. absurd (cc);
+    halted = λ off. subst (λ l. LivesSoFar code (Own p) mote code.starts l) (sym (told_twice earlier t.lines)) (leads.leads.stands (begins earlier m moment before sends h));
+  }
+  given_told earlier m moment before sends (Goes a t) h leads = record {
+    going = λ on. subst (λ l. Stands program mote p code l (record (standing_of p t) { told = [] })) (sym (told_twice earlier t.lines)) (retold _ (standing_of p t) t.moment [] (leads.leads.stands (begins earlier m moment before sends h)));
+    halted = λ off. absurd (cc);
+  }
+
+  unless_told : (earlier : List Line) (m : Mote) (before : List Line) (sends : List Sent) (o : Outcome ℕ) (b : Bool) → m.halted ≡ b → TellsSoFar program mote p code (earlier ++ before) m
+      → (m.halted ≡ false → TellsSoFar program mote p code (earlier ++ (given o).lines) (given o).mote) → let g = unless_halted m before sends (given o) in TellsSoFar program mote p code (earlier ++ g.lines) g.mote
+  unless_told earlier m before sends o true e h k = subst (λ b. let g = if b then record { ran = ran.Halted; mote = m; lines = before; sends = sends } else given o in TellsSoFar program mote p code (earlier ++ g.lines) g.mote) (sym e) h
+  unless_told earlier m before sends o false e h k = subst (λ b. let g = if b then record { ran = ran.Halted; mote = m; lines = before; sends = sends } else given o in TellsSoFar program mote p code (earlier ++ g.lines) g.mote) (sym e) (k e)
+
+pub run_tells : RunTells
+unfolding run_given
+run_tells program mote p code earlier m moment before sends is h =
+    let told = starts_and_prints (Own p) earlier in
+    unless_told program mote p code earlier m before sends _ m.halted refl h (λ on. given_told program mote p code earlier m moment before sends _ (h.going on) (kernel_led program mote p code is.is_code is.quiet told (calls_of (UNITS + 1)) (calls_told program mote p code told is.is_code is.quiet (UNITS + 1)) (begun m moment before sends)))
+
+pub boot_tells : BootTells
+unfolding boot_given
+boot_tells program mote p code earlier m moment before sends is h =
+    let told = starts_and_prints (Own p) earlier in
+    unless_told program mote p code earlier m before sends _ m.halted refl h (λ on. given_told program mote p code earlier m moment before sends _ (h.going on) (boot_led program mote p code is.is_code is.quiet told (calls_of (UNITS + 1)) (calls_told program mote p code told is.is_code is.quiet (UNITS + 1)) (begun m moment before sends)))
+
+pub poll_tells : PollTells
+unfolding with_poll
+poll_tells program mote p code lines m q h = record {
+  going = λ on. subst (λ v. Stands program mote p code (starts_and_prints (Own p) lines) v) (sym (poll_quiet p m.state q)) (h.going on);
+  halted = h.halted;
+}
+
+pub packet_tells : PacketTells
+unfolding with_packet
+packet_tells program mote p code lines m a h = record { going = h.going; halted = h.halted }
+
+note_apart : (p : ℕ) (w : What) → IsNote w → is_told_of (Own p) w ≡ false
+note_apart p (what.Recv f n v) h = refl
+note_apart p (what.Lost f n) h = refl
+note_apart p (what.Collide f n) h = refl
+note_apart p (what.Start q) h = absurd h
+note_apart p (what.Leave q) h = absurd h
+note_apart p (what.Post n t e w) h = absurd h
+note_apart p (what.Full t e w) h = absurd h
+note_apart p (what.Take n q) h = absurd h
+note_apart p (what.Drop n q) h = absurd h
+note_apart p (what.Print q v) h = absurd h
+note_apart p (what.Busy q) h = absurd h
+note_apart p what.Halt h = absurd h
+note_apart p (what.Send n v) h = absurd h
+note_apart p (what.Deaf f n) h = absurd h
+
+note_silent : (p : ℕ) (lines : List Line) (l : Line) → IsNote l.what → starts_and_prints (Own p) (lines ++ l ∷ []) ≡ starts_and_prints (Own p) lines
+note_silent p lines l n = told_more (Own p) lines l ∙ ap (λ b. starts_and_prints (Own p) lines ++ (if b then l ∷ [] else [])) (note_apart p l.what n) ∙ append-nil _
+
+pub note_tells : NoteTells
+note_tells program mote p code lines m l n h = record {
+  going = λ on. subst (λ told. Stands program mote p code told (standing_of p m.state)) (sym (note_silent p lines l n)) (h.going on);
+  halted = λ off. subst (λ told. LivesSoFar code (Own p) mote code.starts told) (sym (note_silent p lines l n)) (h.halted off);
+}
+
+-- before the boot
+
+is_off : (x : ProcessState) (e l : Bool) → AreInStep x e l → l ≡ false → x ≡ Off
+is_off Off e l h q = refl
+is_off Running e l h q = absurd (let f : true ≡ false = sym h.1 ∙ q in cc)
+is_off Called e l h q = absurd (let f : true ≡ false = sym h.1 ∙ q in cc)
+
+first_stands : (program : Tree) (mote p : ℕ) (code : Code) (queue : ℕ) → IsProcess program p code → Stands program mote p code [] (standing_of p (unbooted program mote queue).state)
+unfolding unbooted
+first_stands program mote p code queue is =
+    let s = (unbooted program mote queue).state in
+    let n = length program.processes + 3 in
+    let r = first_rests program mote queue in
+    let k = place_of (Own p) in record {
+      of_program = refl;
+      of_mote = refl;
+      tables = ap (nat_lt k) (length-replicate n false ∙ sym (length-replicate n Off));
+      free = r.idle.exiting k;
+      still = fresh_of code Body;
+      rest = slice_get-map (λ c. fresh_of c Body) program.codes p ∙ ap (λ o. option_map (λ c. fresh_of c Body) o) is.is_code;
+      left = code.starts;
+      vars = slice_get-map (λ c. c.starts) program.codes p ∙ ap (λ o. option_map (λ c. c.starts) o) is.is_code;
+      lived = Unborn;
+      where_it_is = inl (record { state = is_off (state_at s k) (exiting_at s k) (listed_in s.members k) (r.step.each k) refl; listed = refl });
+    }
+
+pub no_lines_tell_first : NoLinesTellFirst
+unfolding unbooted
+no_lines_tell_first program mote p code queue is = record { going = λ on. first_stands program mote p code queue is; halted = λ off. absurd (cc) }
+
+pub telling_is_of_lives : TellingIsOfLives
+telling_is_of_lives program mote p code lines m h on = let k = h.going on in (k.left, k.vars, k.lived)
+
+pub telling_is_of_lives_so_far : TellingIsOfLivesSoFar
+telling_is_of_lives_so_far program mote p code lines m h = by m.halted refl
+  where
+    by : (b : Bool) → m.halted ≡ b → LivesSoFar code (Own p) mote code.starts (starts_and_prints (Own p) lines)
+    by true e = h.halted e
+    by false e = Told (h.going e).lived
+
+-- over any calls of a kernel
+
+module _ (program : Tree) (mote p : ℕ) (code : Code) (is : IsProcess program p code) where
+  abbrev Tells : Traced → Type 0
+  Tells t = TellsSoFar program mote p code t.lines t.mote
+
+  call_tells : (t : Traced) (c : KernelCall) → Tells t → Tells (after_call t c)
+  call_tells t (RunAt moment) h = run_tells program mote p code t.lines t.mote moment [] [] is (subst (λ l. TellsSoFar program mote p code l t.mote) (sym (append-nil t.lines)) h)
+  call_tells t (PollOf q) h = poll_tells program mote p code t.lines t.mote q h
+  call_tells t (Accepts a) h = packet_tells program mote p code t.lines t.mote a h
+  call_tells t (Notes l n) h = noted t.mote.halted
+    where
+      noted : (b : Bool) → Tells (if b then t else record t { lines = t.lines ++ l ∷ [] })
+      noted true = h
+      noted false = note_tells program mote p code t.lines t.mote l n h
+
+  calls_tell : (cs : List KernelCall) (t : Traced) → Tells t → Tells (after_calls t cs)
+  calls_tell [] t h = h
+  calls_tell (c ∷ cs) t h = calls_tell cs (after_call t c) (call_tells t c h)
+
+  booted_tells : (queue moment : ℕ) → Tells (booted_at program mote queue moment)
+  booted_tells queue moment = boot_tells program mote p code [] (unbooted program mote queue) moment [] [] is (no_lines_tell_first program mote p code queue is)
+
+pub prints_are_the_reading : PrintsAreTheReading
+prints_are_the_reading program p code mote queue moment calls is_code quiet on =
+    let is : IsProcess program p code = record { is_code = is_code; quiet = quiet } in
+    let first = booted_at program mote queue moment in
+    let t = after_calls first calls in
+    telling_is_of_lives program mote p code t.lines t.mote (calls_tell program mote p code is calls first (booted_tells program mote p code is queue moment)) on
+
+pub prints_so_far_are_the_reading : PrintsSoFarAreTheReading
+prints_so_far_are_the_reading program p code mote queue moment calls is_code quiet =
+    let is : IsProcess program p code = record { is_code = is_code; quiet = quiet } in
+    let first = booted_at program mote queue moment in
+    let t = after_calls first calls in
+    telling_is_of_lives_so_far program mote p code t.lines t.mote (calls_tell program mote p code is calls first (booted_tells program mote p code is queue moment))

@@ -1,0 +1,76 @@
+-- The life so far of a process, from which it goes on.
+use Rattle.std.proofs.Common.{ℕ, ◌≡◌, ◌<◌, List, [], ◌∷◌, ◌++◌, refl, sym, ap, subst, append_assoc, append-nil}
+use Rattle.mote_program.specs.declared.event.Proc.TheVariants.{Own}
+use Rattle.mote_program.specs.Code.{Code}
+use Rattle.protothread.specs.declared.part.Part.TheVariants.{Body}
+use Rattle.protothread.specs.declared.state.PtState.{PtState}
+use Rattle.protothread.specs.declared.state.PtState.TheVariants.{Exited, Ended}
+use Rattle.protothread.specs.declared.step.Op.{Op}
+use Rattle.protothread.specs.declared.step.Step.TheVariants as step
+use Rattle.protothread.specs.State.{number_of}
+use Rattle.protothread.specs.Remainder.{Remainder, fresh_of}
+use Rattle.protothread.specs.Step.{answered_of}
+use Rattle.protothread.specs.Reading.{Sight, Happening, operates, gives_up, Outcome, done, exits, stands}
+use Rattle.protothread.specs.Runs.{Steps, Runs, operated, operated_last, gave_up, gave_up_last, has_exited, has_ended}
+use Rattle.protothread.proofs.Splits.{reads_the_text}
+use Rattle.process_kernel.specs.declared.line.Line.{Line}
+use Rattle.process_kernel.specs.declared.line.What.TheVariants as what
+use Rattle.kernel_laws.specs.Printed.{printed, prints}
+use Rattle.kernel_laws.specs.Telling.{Next, AtStart, InCall, AtCall, CanCome, IsAnswered}
+use Rattle.kernel_laws.specs.Telling as telling
+
+module _ (p : ℕ) (code : Code) (mote : ℕ) (start : List ℕ) where
+  abbrev HasLife : List Line → Outcome → Type 0
+  HasLife lines out = telling.HasLife p code mote start lines out
+
+  abbrev ComesTo : List Line → Next → Remainder → List ℕ → Type 0
+  ComesTo lines next r vars = telling.ComesTo p code mote start lines next r vars
+
+  pub at_first : (moment : ℕ) → ComesTo (record { at = moment; what = what.Start (Own p) } ∷ []) (AtStart moment) (fresh_of code Body) start
+  at_first moment = record {
+    on = λ now later more out can answered shown runs. record {
+      life = record { now = now; later = later; did = more; became = out; init = can.0; shown = shown; reads = reads_the_text code Body start now later more out runs };
+      became_so = refl;
+      has_lines = ap (λ m. record { at = m; what = what.Start (Own p) } ∷ prints (Own p) (now ∷ later) more) can.1;
+    };
+  }
+
+  then_more : (lines more : List Line) (now : Sight) (h : Happening) (out : Outcome) → HasLife (lines ++ (printed (Own p) now h ++ more)) out → HasLife ((lines ++ printed (Own p) now h) ++ more) out
+  then_more lines more now h out life = subst (λ l. HasLife l out) (sym (append_assoc lines (printed (Own p) now h) more)) life
+
+  -- in a sight that can come
+  module _ (lines : List Line) (next : Next) (r after : Remainder) (vars changed : List ℕ) (now : Sight) (can : CanCome next now.event now.looks.moment) (answered : IsAnswered next now.answer) (of_mote : now.looks.mote ≡ mote) (c : ComesTo lines next r vars) where
+    -- an operation, whose answer it is told next
+    pub operates_on : (told : ℕ) (o : Op) → told < 2 → Steps code now r vars (step.Op o) after changed
+        → ComesTo (lines ++ printed (Own p) now (operates o)) (InCall told now.event now.looks.moment) (answered_of after changed told).remainder (answered_of after changed told).variables
+    operates_on told o small steps = record {
+      on = λ resumed later more out same answer shown runs.
+          then_more lines (prints (Own p) (resumed ∷ later) more) now (operates o) out
+          (c.on now (resumed ∷ later) (operates o ∷ more) out can answered (of_mote, record { event = same.0; moment = same.1; answer = subst (λ n. n < 2) (sym answer) small }, shown)
+          (operated r after vars changed now resumed later o more out steps
+          (subst (λ n. Runs code (answered_of after changed n).remainder (answered_of after changed n).variables resumed later more out) (sym answer) runs)));
+    }
+
+    pub performs_there : (o : Op) → Steps code now r vars (step.Op o) after changed → HasLife (lines ++ printed (Own p) now (operates o)) (stands changed)
+    performs_there o steps =
+        subst (λ l. HasLife (lines ++ l) (stands changed)) (append-nil (printed (Own p) now (operates o))) (c.on now [] (operates o ∷ []) (stands changed) can answered of_mote (operated_last r after vars changed now o steps))
+
+    -- an answer 0 or 1
+    pub gives_up_on : (a : PtState) → Steps code now r vars (step.Done a) after changed → number_of a < 2 → ComesTo lines AtCall after changed
+    gives_up_on a steps small = record {
+      on = λ resumed later more out coming answer shown runs.
+          c.on now (resumed ∷ later) (gives_up a ∷ more) out can answered (of_mote, tt, shown) (gave_up r after vars changed now resumed later a more out steps small runs);
+    }
+
+    pub stands_there : (a : PtState) → Steps code now r vars (step.Done a) after changed → number_of a < 2 → HasLife lines (stands changed)
+    stands_there a steps small =
+        subst (λ l. HasLife l (stands changed)) (append-nil lines) (c.on now [] (gives_up a ∷ []) (stands changed) can answered of_mote (gave_up_last r after vars changed now a steps small))
+
+    -- an answer 2 or 3
+    pub exits_there : Steps code now r vars (step.Done Exited) after changed → HasLife lines (exits now [] changed)
+    exits_there steps =
+        subst (λ l. HasLife l (exits now [] changed)) (append-nil lines) (c.on now [] [] (exits now [] changed) can answered of_mote (has_exited r after vars changed now [] steps))
+
+    pub ends_there : Steps code now r vars (step.Done Ended) after changed → HasLife lines (done now [] changed)
+    ends_there steps =
+        subst (λ l. HasLife l (done now [] changed)) (append-nil lines) (c.on now [] [] (done now [] changed) can answered of_mote (has_ended r after vars changed now [] steps))

@@ -1,0 +1,131 @@
+-- A thread that is told no answer: what its last operation answered changes it only behind a post.
+use Rattle.std.proofs.Common.{ℕ, zero, suc, ◌≡◌, ◌-◌, Bool, true, false, ◌&&◌, if◌then◌else◌, List, None, refl, sym, subst}
+use Rattle.std.specs.Prelude.{nat_lt, not, slice_index, ◌==◌}
+use Rattle.mote_program.specs.declared.event.Event.{Event}
+use Rattle.mote_program.specs.Tree.{Action, assign, print, send, wait_until, wait_while, yield, yield_until, spawn, restart, exit, pause, acquire, signal, post, broadcast, synch, poll, start, kill, set, reset, restart_timer, stop, Statement, does, branch, while}
+use Rattle.mote_program.specs.Code.{Code}
+use Rattle.protothread.specs.declared.part.Part.{Part}
+use Rattle.protothread.specs.declared.thread.Mark.{Mark}
+use Rattle.protothread.specs.declared.thread.Mark.TheVariants.{AtRest, UnderWay, Pausing, RunAway}
+use Rattle.protothread.specs.declared.step.Op.{Op}
+use Rattle.protothread.specs.declared.step.Op.TheVariants.{Post}
+use Rattle.protothread.specs.declared.step.Step.{Step}
+use Rattle.protothread.specs.declared.step.Step.TheVariants as step
+use Rattle.protothread.specs.declared.state.PtState.TheVariants.{Waiting, Yielded, Exited, Ended}
+use Rattle.protothread.specs.Looks.{Looks}
+use Rattle.protothread.specs.Value.{value, holds}
+use Rattle.protothread.specs.Remainder.{Place, ended, at, within, settled, Remainder, thread_block, whole_of}
+use Rattle.protothread.specs.Step.{Reached, goes_on, operates, answers, deed_of, performed, spawner_reached, reached, Advanced, continued, passed, advanced_of, answered_of}
+use Rattle.protothread.proofs.Units.{called, follows, stepped}
+
+-- a thread that is marked so behind this operation
+abbrev pub IsUntold : Op → Mark → Type 0
+IsUntold (Post t e w) m = Unit {0}
+IsUntold o m = m ≡ UnderWay None
+
+abbrev pub StepUntold : Step → Mark → Type 0
+StepUntold (step.Op o) m = IsUntold o m
+StepUntold s m = Unit {0}
+
+abbrev pub AdvancedUntold : Advanced → Type 0
+AdvancedUntold a = StepUntold a.step a.remainder.mark
+
+abbrev ReachedUntold : Reached → Type 0
+ReachedUntold (operates o mark p) = IsUntold o mark
+ReachedUntold r = Unit {0}
+
+either_untold : (D : Type 0) (f : D → Reached) (b : Bool) (c d : D) → ReachedUntold (f c) → ReachedUntold (f d) → ReachedUntold (f (if b then c else d))
+either_untold D f true c d h k = h
+either_untold D f false c d h k = k
+
+module _ (code : Code) (whole : List (Statement ℕ)) (y : Bool) (vars : List ℕ) (event : Event) (looks : Looks) (rest : List (Statement ℕ)) where
+  untold_does : (a : Action ℕ) → ReachedUntold (performed code whole vars (does a) rest (deed_of code.number y vars event looks a))
+  untold_does (assign i e) = tt
+  untold_does (print e) = refl
+  untold_does (send e) = refl
+  untold_does (wait_until c) = either_untold _ (performed code whole vars (does (wait_until c)) rest) (holds (value vars event looks c)) _ _ tt tt
+  untold_does (wait_while c) = either_untold _ (performed code whole vars (does (wait_while c)) rest) (not (holds (value vars event looks c))) _ _ tt tt
+  untold_does yield = either_untold _ (performed code whole vars (does yield) rest) y _ _ tt tt
+  untold_does (yield_until c) = either_untold _ (performed code whole vars (does (yield_until c)) rest) (y && holds (value vars event looks c)) _ _ tt tt
+  untold_does (spawn t) = tt
+  untold_does restart = tt
+  untold_does exit = tt
+  untold_does pause =
+      either_untold _ (performed code whole vars (does pause) rest) y _ _ (either_untold _ (performed code whole vars (does pause) rest) (event.number == 0x85) _ _ tt tt) tt
+  untold_does (acquire s) = either_untold _ (performed code whole vars (does (acquire s)) rest) (slice_index looks.counts s == 0) _ _ tt refl
+  untold_does (signal s) = refl
+  untold_does (post p e w into) = tt
+  untold_does (broadcast e w into) = tt
+  untold_does (synch p e w) = refl
+  untold_does (poll p) = refl
+  untold_does (start p) = refl
+  untold_does (kill p) = refl
+  untold_does (set t e) = refl
+  untold_does (reset t) = refl
+  untold_does (restart_timer t) = refl
+  untold_does (stop t) = refl
+
+untold_spawner : (t : ℕ) (rest : List (Statement ℕ)) (vars : List ℕ) (r : Reached) → ReachedUntold r → ReachedUntold (spawner_reached t rest vars r)
+untold_spawner t rest vars (goes_on changed p) h = tt
+untold_spawner t rest vars (operates o mark p) h = h
+untold_spawner t rest vars (answers Waiting p) h = tt
+untold_spawner t rest vars (answers Yielded p) h = tt
+untold_spawner t rest vars (answers Exited p) h = tt
+untold_spawner t rest vars (answers Ended p) h = tt
+
+untold_reached : (code : Code) (whole : List (Statement ℕ)) (vars : List ℕ) (event : Event) (looks : Looks) (p : Place) → ReachedUntold (reached code whole vars event looks p)
+untold_reached code whole vars event looks ended = tt
+untold_reached code whole vars event looks (at y (does a) rest) =
+    untold_does code whole y vars event looks rest a
+untold_reached code whole vars event looks (at y (branch c a o) rest) = tt
+untold_reached code whole vars event looks (at y (while c a) rest) = tt
+untold_reached code whole vars event looks (within t p rest) =
+    untold_spawner t rest vars (reached code (thread_block code t) vars event looks p) (untold_reached code (thread_block code t) vars event looks p)
+
+module _ (code : Code) (part : Part) (event : Event) (looks : Looks) where
+  untold_step : (units : ℕ) (p : Place) (vars : List ℕ) → AdvancedUntold (continued code part event looks p vars units)
+  untold_step zero p vars =
+      elim (settled p) as (λ q. AdvancedUntold (stepped code part event looks vars 0 q)) [
+        | ended ↦ tt
+        | at y s rest ↦ tt
+        | within t q rest ↦ tt
+      ]
+  untold_step (suc units) p vars =
+      let after : (r : Reached) → ReachedUntold r → AdvancedUntold (follows code part event looks vars units r) =
+      λ r. elim r as (λ r. ReachedUntold r → AdvancedUntold (follows code part event looks vars units r)) [
+        | goes_on changed q ↦ λ h. untold_step units q changed
+        | operates o mark q ↦ λ h. h
+        | answers a q ↦ λ h. tt
+      ] in
+      elim (settled p) as (λ q. AdvancedUntold (stepped code part event looks vars (suc units) q)) [
+        | ended ↦ tt
+        | at y s rest ↦ after (reached code (whole_of code part) vars event looks (at y s rest)) (untold_reached code (whole_of code part) vars event looks (at y s rest))
+        | within t q rest ↦ after (reached code (whole_of code part) vars event looks (within t q rest)) (untold_reached code (whole_of code part) vars event looks (within t q rest))
+      ]
+
+untold_from : (m : Mark) (code : Code) (event : Event) (looks : Looks) (r : Remainder) (vars : List ℕ) (units : ℕ)
+    → AdvancedUntold (advanced_of code event looks (record r { mark = m }) vars units)
+unfolding advanced_of
+untold_from AtRest code event looks r vars units =
+    elim (nat_lt units (passed r.place)) as (λ b. AdvancedUntold (called code event looks r vars units b)) [
+      | true ↦ tt
+      | false ↦ untold_step code r.part event looks (units - passed r.place) r.place vars
+    ]
+untold_from (UnderWay into) code event looks r vars units = untold_step code r.part event looks units r.place vars
+untold_from Pausing code event looks r vars units = tt
+untold_from RunAway code event looks r vars units = tt
+
+-- an operation but a post tells the thread nothing
+pub step_untold : (code : Code) (event : Event) (looks : Looks) (r : Remainder) (vars : List ℕ) (units : ℕ)
+    → AdvancedUntold (advanced_of code event looks r vars units)
+step_untold code event looks r vars units = untold_from r.mark code event looks r vars units
+
+abbrev IsSame : (answer : ℕ) → Remainder → List ℕ → Type 0
+IsSame answer r vars = ((answered_of r vars answer).remainder ≡ r) × ((answered_of r vars answer).variables ≡ vars)
+
+-- an answer that nobody hears
+pub answer_untold : (r : Remainder) (vars : List ℕ) (answer : ℕ) → r.mark ≡ UnderWay None → IsSame answer r vars
+answer_untold r vars answer e = by r.mark e
+  where
+    by : (m : Mark) → m ≡ UnderWay None → IsSame answer (record r { mark = m }) vars
+    by m e = subst (λ m. IsSame answer (record r { mark = m }) vars) (sym e) (refl, refl)

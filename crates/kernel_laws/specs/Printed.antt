@@ -1,0 +1,149 @@
+-- What a process prints, and what its body says.
+use Rattle.std.specs.Prelude.{ℕ, ◌≡◌, ◌&&◌, ◌<◌, Bool, true, false, List, [], ◌∷◌, ◌++◌, Option, None, Some, slice_get}
+use Rattle.std.specs.List.{filter}
+use Rattle.mote_program.specs.declared.event.Proc.{Proc}
+use Rattle.mote_program.specs.declared.event.Proc.TheVariants.{Own}
+use Rattle.mote_program.specs.declared.event.SystemEvent.TheVariants.{Init}
+use Rattle.mote_program.specs.Tree.{Action, assign, print, spawn, post, broadcast, Statement, does, branch, while, Body, end, next, Otherwise, nothing, otherwise, listed}
+use Rattle.mote_program.specs.Code.{Code, Tree}
+use Rattle.protothread.specs.declared.state.PtState.TheVariants.{Yielded}
+use Rattle.protothread.specs.declared.step.Op.TheVariants as op
+use Rattle.protothread.specs.Reading.{Sight, Happening, operates, gives_up, Outcome, done, restarts, exits, stands, ReadsThread}
+use Rattle.process_kernel.specs.declared.line.Line.{Line}
+use Rattle.process_kernel.specs.declared.line.What.{What}
+use Rattle.process_kernel.specs.declared.line.What.TheVariants as what
+use Rattle.process_kernel.specs.Members.{is_same}
+use Rattle.process_kernel.specs.Calls.{told}
+use Rattle.kernel_laws.specs.Traces.{KernelCall, after_calls, booted_at}
+
+-- A statement, or a block, that is quiet: it prints nothing, sets no variable and spawns no thread.
+
+abbrev pub is_quiet_action : Action ℕ → Bool
+is_quiet_action (print e) = false
+is_quiet_action (assign i e) = false
+is_quiet_action (spawn t) = false
+is_quiet_action (post q e w (Some i)) = false
+is_quiet_action (broadcast e w (Some i)) = false
+is_quiet_action a = true
+
+abbrev mutual
+  pub is_quiet : Body ℕ → Bool
+  is_quiet end = true
+  is_quiet (next s b) = is_quiet_statement s && is_quiet b
+
+  pub is_quiet_statement : Statement ℕ → Bool
+  is_quiet_statement (does a) = is_quiet_action a
+  is_quiet_statement (branch c a o) = is_quiet a && is_quiet_other o
+  is_quiet_statement (while c a) = is_quiet a
+
+  pub is_quiet_other : Otherwise ℕ → Bool
+  is_quiet_other nothing = true
+  is_quiet_other (otherwise b) = is_quiet b
+
+abbrev pub are_quiet : List (Body ℕ) → Bool
+are_quiet [] = true
+are_quiet (b ∷ bs) = is_quiet b && are_quiet bs
+
+abbrev pub is_quiet_block : Option (Body ℕ) → Bool
+is_quiet_block None = true
+is_quiet_block (Some b) = is_quiet b
+
+-- Apart from its body a process is quiet, in the blocks that are run at POLL and at EXIT, and in those of its callback timers. Else these would
+-- print in its name too, and change its variables between the calls of its body.
+pub record IsQuietApart (code : Code) : Type 0 where
+  pub at_poll : is_quiet_block code.on_poll ≡ true
+  pub at_exit : is_quiet_block code.on_exit ≡ true
+  pub in_callbacks : are_quiet code.callbacks ≡ true
+
+-- it tells that this process starts, or what it prints
+abbrev pub is_told_of : Proc → What → Bool
+is_told_of p (what.Start q) = is_same q p
+is_told_of p (what.Print q v) = is_same q p
+is_told_of p w = false
+
+-- the lines of the starts and the prints of a process
+abbrev pub starts_and_prints : Proc → List Line → List Line
+starts_and_prints p lines = filter (λ l. is_told_of p l.what) lines
+
+-- what a process prints where it is shown these sights, and does this: a line for each print, at the moment at which it is seen
+abbrev pub printed : Proc → Sight → Happening → List Line
+printed p now (operates (op.Print v)) = record { at = now.looks.moment; what = what.Print p v } ∷ []
+printed p now h = []
+
+abbrev pub prints : Proc → List Sight → List Happening → List Line
+prints p [] did = []
+prints p (now ∷ later) [] = []
+prints p (now ∷ later) (h ∷ did) = printed p now h ++ prints p later did
+
+-- Behind an operation a process is shown the same event at the same moment, since it is still in the same call, and it is told 0, or 1 for a
+-- full queue.
+pub record IsSameCall (now then : Sight) : Type 0 where
+  pub event : then.event ≡ now.event
+  pub moment : then.looks.moment ≡ now.looks.moment
+  pub answer : then.answer < 2
+
+abbrev pub IsShownThen : Happening → Sight → Sight → Type 0
+IsShownThen (operates o) now then = IsSameCall now then
+IsShownThen (gives_up a) now then = Unit {0}
+
+-- such sights, one behind another, of this mote
+abbrev pub AreShown : (mote : ℕ) → List Sight → List Happening → Type 0
+AreShown mote [] did = Unit {0}
+AreShown mote (now ∷ []) did = now.looks.mote ≡ mote
+AreShown mote (now ∷ then ∷ later) [] = ⊥
+AreShown mote (now ∷ then ∷ later) (h ∷ did) = (now.looks.mote ≡ mote) × IsShownThen h now then × AreShown mote (then ∷ later) did
+
+-- the variables that a reading leaves
+abbrev pub left_by : Outcome → List ℕ
+left_by (done now later variables) = variables
+left_by (restarts now later variables) = variables
+left_by (exits now later variables) = variables
+left_by (stands variables) = variables
+
+-- One life of a process that starts with these variables: it is shown these sights, INIT first, and does what its body says, read by its
+-- structure.
+pub record Life (code : Code) (mote : ℕ) (variables : List ℕ) : Type 0 where
+  pub now : Sight
+  pub later : List Sight
+  pub did : List Happening
+  pub became : Outcome
+  pub init : now.event ≡ told Init 0
+  pub shown : AreShown mote (now ∷ later) did
+  pub reads : ReadsThread code Yielded (listed code.body) now later variables did became
+
+-- its lines: it starts, and prints what it does
+abbrev pub lines_of : {code : Code} {mote : ℕ} {variables : List ℕ} → Proc → Life code mote variables → List Line
+lines_of p life = record { at = life.now.looks.moment; what = what.Start p } ∷ prints p (life.now ∷ life.later) life.did
+
+-- Its lives, one after another, and their lines: the next one has the variables that the one before left.
+pub data Lives (code : Code) (p : Proc) (mote : ℕ) (variables : List ℕ) : List Line → (left : List ℕ) → Type 0 where
+  Unborn : Lives code p mote variables [] variables
+  LivesAgain : {lines : List Line} {left : List ℕ}
+      → Lives code p mote variables lines left → (life : Life code mote left)
+      → Lives code p mote variables (lines ++ lines_of p life) (left_by life.became)
+
+-- What is told of a process at any time: its lives, of which the last may not be over; or these and one more start, behind which it has not
+-- done anything yet.
+pub data LivesSoFar (code : Code) (p : Proc) (mote : ℕ) (variables : List ℕ) : List Line → Type 0 where
+  Told : {lines : List Line} {left : List ℕ} → Lives code p mote variables lines left → LivesSoFar code p mote variables lines
+  HasStarted : {lines : List Line} {left : List ℕ} → Lives code p mote variables lines left → (moment : ℕ)
+      → LivesSoFar code p mote variables (lines ++ record { at = moment; what = what.Start p } ∷ [])
+
+-- the starts and the prints among these lines are those of lives of the process, in which it came to these variables
+abbrev pub TellsLives : Code → (p mote : ℕ) → List Line → (variables : Option (List ℕ)) → Type 0
+TellsLives code p mote lines variables = (left : List ℕ) × (variables ≡ Some left) × Lives code (Own p) mote code.starts (starts_and_prints (Own p) lines) left
+
+-- A process that is quiet apart from its body prints, from each start on, what a reading of its body does, whatever the others do, and whatever calls
+-- follow the boot, as long as the mote doesn't halt.
+abbrev pub PrintsAreTheReading : Type 0
+PrintsAreTheReading =
+    (program : Tree) (p : ℕ) (code : Code) (mote queue moment : ℕ) (calls : List KernelCall) → slice_get program.codes p ≡ Some code → IsQuietApart code →
+    let t = after_calls (booted_at program mote queue moment) calls in
+    t.mote.halted ≡ false → TellsLives code p mote t.lines (slice_get t.mote.state.variables p)
+
+-- and up to the line with which it halts, where it does: what it printed by then in its last life is what a reading does by then
+abbrev pub PrintsSoFarAreTheReading : Type 0
+PrintsSoFarAreTheReading =
+    (program : Tree) (p : ℕ) (code : Code) (mote queue moment : ℕ) (calls : List KernelCall) → slice_get program.codes p ≡ Some code → IsQuietApart code →
+    let t = after_calls (booted_at program mote queue moment) calls in
+    LivesSoFar code (Own p) mote code.starts (starts_and_prints (Own p) t.lines)

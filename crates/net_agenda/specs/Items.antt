@@ -1,0 +1,36 @@
+-- The items that are in buckets, read back from them.
+use Rattle.std.specs.Prelude.{ℕ, ◌≡◌, ◌≤◌, Bool, ◌&&◌, if◌then◌else◌, List, [], ◌∷◌, ◌++◌, length, map}
+use Rattle.std.specs.List.{filter, list_any, flat_map}
+use Rattle.std.specs.List.Sorted.{IsPermutation}
+use Rattle.process_kernel.specs.declared.line.Arrival.{Arrival}
+use Rattle.radio_medium.specs.declared.copy.RadioCopy.{RadioCopy}
+use Rattle.net_agenda.specs.declared.bucket.Bucket.{Bucket}
+use Rattle.window_law.specs.Agenda.{Item, Wake, Packet, is_due, packets}
+use Rattle.net_agenda.specs.Buckets.{Buckets, is_wake}
+
+-- the copy of which a mote is given this at a moment
+abbrev pub copy_at : (moment mote : ℕ) → Arrival → RadioCopy
+copy_at moment mote a = record { at = moment; to = mote; sender = a.sender; number = a.number; value = a.value }
+
+-- the items of one bucket: the mote's wake, if it wakes, then its packets
+abbrev pub bucket_items : (moment mote : ℕ) → Bucket → List Item
+bucket_items moment mote bucket = (if bucket.wakes then Wake moment mote ∷ [] else []) ++ map Packet (map (copy_at moment mote) bucket.copies.items)
+
+-- the items of all buckets, one bucket after another, in the order of the keys: a key has the moment, then the mote
+abbrev pub items_of : Buckets → List Item
+items_of buckets = flat_map (λ entry. bucket_items entry.0.0 entry.0.1 entry.1) buckets.entries
+
+-- a wake of this mote at this moment
+abbrev pub is_wake_at : (moment mote : ℕ) → Item → Bool
+is_wake_at moment mote item = is_due moment mote item && is_wake item
+
+-- no mote has two wakes at one moment
+abbrev pub WakesDiffer : List Item → Type 0
+WakesDiffer items = (moment mote : ℕ) → length (filter (is_wake_at moment mote) items) ≤ 1
+
+-- The same items: each packet as often, and a wake of a mote at a moment in the one list where there is one in the other. Where no
+-- mote has two wakes at one moment, ys is a permutation of xs.
+pub record AreSameItems (xs ys : List Item) : Type 0 where
+  pub same_packets : IsPermutation (packets xs) (packets ys)
+  pub same_wakes : (moment mote : ℕ) → list_any (is_wake_at moment mote) xs ≡ list_any (is_wake_at moment mote) ys
+  pub permuted : WakesDiffer xs → IsPermutation xs ys
