@@ -30,7 +30,7 @@ impl Model for Page {
     ghost view = { λ p. take p.len p.bytes.items };
 }
 
-/// Copies bytes one by one, since most words are short.
+/// Copies bytes into room for as many.
 #[inline(always)]
 fn copy_bytes(room: &mut [u8], bytes: &[u8])
     requires { length room.old ≡ length bytes.now }
