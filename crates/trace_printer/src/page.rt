@@ -30,6 +30,17 @@ impl Model for Page {
     ghost view = { λ p. take p.len p.bytes.items };
 }
 
+/// Copies bytes into room for as many.
+#[inline(always)]
+fn copy_bytes(room: &mut [u8], bytes: &[u8])
+    requires { length room.old ≡ length bytes.now }
+    ensures { room.new ≡ bytes.now }
+{
+    for (at, byte) in bytes.iter().enumerate() {
+        room[at] = *byte;
+    }
+}
+
 impl Page {
     pub fn new(alloc: Global) -> Result<Page, AllocError>
         ensures { IfOk result (λ page. page ≡ []) }
@@ -66,13 +77,26 @@ impl Page {
         Ok(())
     }
 
-    #[inline(always)]
-    pub fn put_text(&mut self, text: &str) -> Result<(), AllocError>
+    /// A text for which there may be no room.
+    fn put_growing(&mut self, text: &str) -> Result<(), AllocError>
         ensures { OnOk result (self.new ≡ self.old ++ text.now) }
     {
         for byte in text.as_bytes() {
             self.put_byte(*byte)?;
         }
+        Ok(())
+    }
+
+    #[inline(always)]
+    pub fn put_text(&mut self, text: &str) -> Result<(), AllocError>
+        ensures { OnOk result (self.new ≡ self.old ++ text.now) }
+    {
+        let end = self.len + text.len();
+        if end > self.bytes.len() {
+            return self.put_growing(text);
+        }
+        copy_bytes(&mut self.bytes[self.len..end], text.as_bytes());
+        self.len = end;
         Ok(())
     }
 
@@ -85,5 +109,23 @@ impl Page {
         }
         let mut digits = Buffer::new();
         self.put_text(digits.format(number))
+    }
+
+    /// A text behind a space.
+    #[inline(always)]
+    pub fn put_spaced(&mut self, text: &str) -> Result<(), AllocError>
+        ensures { OnOk result (self.new ≡ self.old ++ 32 ∷ text.now) }
+    {
+        self.put_byte(b' ')?;
+        self.put_text(text)
+    }
+
+    /// A number behind a space.
+    #[inline(always)]
+    pub fn put_spaced_number(&mut self, number: u64) -> Result<(), AllocError>
+        ensures { OnOk result (self.new ≡ self.old ++ 32 ∷ decimal number) }
+    {
+        self.put_byte(b' ')?;
+        self.put_number(number)
     }
 }

@@ -10,11 +10,9 @@ ghost use Rattle.trace_printer.specs.ReportText.{line_text, motes_text, packet_t
 ghost use Rattle.trace_printer.specs.Words.{line_of};
 
 use crate::error::PrintError;
-use crate::lines::{put_packet, put_trace_line};
+use crate::lines::{put_head, put_left, put_medium, put_packet, put_trace_line};
 use crate::output::WriteFault;
 use crate::page::Page;
-use crate::words::Word::{Number, Text};
-use crate::words::put_line;
 use mote_program::Program;
 use net_scenario::Net;
 use process_kernel::Line;
@@ -40,7 +38,7 @@ fn print_head<W: Write>(
 ) -> Result<(), PrintError>
     ensures { Prints (W.contents writer.old) (W.contents writer.new) page.old page.new result (line_of (codes "mote") (decimal mote ∷ name.now ∷ [])) }
 {
-    put_line(page, Text("mote"), &[Number(u64::from(mote)), Text(name)])?;
+    put_head(page, mote, name)?;
     Ok(write_if_full(writer, page)?)
 }
 
@@ -117,7 +115,7 @@ fn print_medium<W: Write>(
 ) -> Result<(), PrintError>
     ensures { Prints (W.contents writer.old) (W.contents writer.new) page.old page.new result (medium_text (map told_line log.now)) }
 {
-    put_line(page, Text("medium"), &[])?;
+    put_medium(page)?;
     print_packets(writer, page, log)
 }
 
@@ -125,7 +123,7 @@ fn print_medium<W: Write>(
 fn write_end<W: Write>(writer: &mut W, page: &mut Page, left: u64) -> Result<(), PrintError>
     ensures { Writes (W.contents writer.old) (W.contents writer.new) result (page.old ++ left_text left) }
 {
-    put_line(page, Text("left"), &[Number(left)])?;
+    put_left(page, left)?;
     Ok(page.write_to(writer)?)
 }
 

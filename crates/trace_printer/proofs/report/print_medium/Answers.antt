@@ -2,7 +2,7 @@ use Rattle.std.proofs.lemmas.Result.{err_from_is_err_and}
 use Rattle.trace_printer.proofs.Written.{written_none}
 use Rattle.trace_printer.proofs.report.print_medium.Goals as goal
 
-pub returns-in_err-put_line : goal.returns-in_err-put_line
-returns-in_err-put_line g c =
+pub returns-in_err-put_medium : goal.returns-in_err-put_medium
+returns-in_err-put_medium g c =
     let p = err_from_is_err_and c.from_residual.result c.from_residual.ensures.1 in
     rw p.1 (_, written_none _ _)

@@ -1,5 +1,5 @@
 use Rattle.std.proofs.Common.{◌≡◌, ◌++◌, drop}
-use Rattle.trace_printer.proofs.page.Page.put_text.Given as goal
+use Rattle.trace_printer.proofs.page.Page.put_growing.Given as goal
 
 -- with the bytes to come, the page is what it will be
 abbrev pub invariant-loop-byte : goal.invariant-loop-byte
