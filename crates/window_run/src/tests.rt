@@ -14,9 +14,8 @@ use mote_program::{Program, read};
 use net_scenario::{Net, read_scenario};
 use process_kernel::{Line, Sent};
 use radio_medium::RadioCopy;
-use std::alloc::{AllocError, AllocGlobal, Global};
+use std::alloc::{AllocError, Global};
 use std::process::Abort;
-use std::random::RandomSource;
 use std::sync::atomic::AtomicU64;
 use std::sync::atomic::Ordering::SeqCst;
 use std::test::Fail;
@@ -90,6 +89,14 @@ fn polled(
     }
 }
 
+/// The error with which a window is ready at the next poll, if it is.
+fn error_of(task: &MockTask, window: &mut MoteWindow<'_, NoGate>) -> Option<MoteError> {
+    match polled(task, window) {
+        Some(answer) => answer.err(),
+        None => None,
+    }
+}
+
 /// Polls a window to its end: how often it is pending, and the lines that it gives then.
 fn to_its_end(
     alloc: Global,
@@ -104,18 +111,26 @@ fn to_its_end(
     Err("pending")?
 }
 
+/// The same of a new mote.
+fn alone(
+    alloc: Global,
+    task: &MockTask,
+    program: &Program,
+    until: u64,
+) -> Result<(u32, String), Fail>
+    requires { until ≤ 2 ^ 40 }
+{
+    let mut window = new_window(alloc, program, until)?;
+    to_its_end(alloc, task, &mut window)
+}
+
 #[test]
 fn a_window_of_one_turn(rt: HostRuntime) -> Result<(), Fail> {
     let program = read(rt.alloc(), PRINT_THEN_YIELD)?;
-    let mut window = new_window(rt.alloc(), &program, 6)?;
     let task = MockTask::new(&rt)?;
-    assert!(rt; polled(&task, &mut window).is_none());
-    let out = polled(&task, &mut window).ok_or("pending")??;
-    assert_eq!(rt;
-        told(rt.alloc(), &out.lines)?.as_str(),
-        PRINT_THEN_YIELD_LINES
-    );
-    assert_eq!(rt; (out.sends.len(), out.wake), (0, None));
+    let (pending, lines) = alone(rt.alloc(), &task, &program, 6)?;
+    assert_eq!(rt; pending, 1);
+    assert_eq!(rt; lines.as_str(), PRINT_THEN_YIELD_LINES);
     Ok(())
 }
 
@@ -134,45 +149,86 @@ fn pending_in_turn(
     pending
 }
 
-/// A window with turns at 0 and 4 and one with turns at 0, 1 and 2, polled in turn for some rounds, and then each to its end.
-fn two_windows<R: RandomSource + AllocGlobal + Abort>(rt: &R, rounds: u32) -> Result<(), Fail>
+/// Two windows, polled in turn for some rounds, and then each to its end: how often they are pending, and their lines.
+fn both_to_their_end(
+    alloc: Global,
+    task: &MockTask,
+    first: &mut MoteWindow<'_, NoGate>,
+    second: &mut MoteWindow<'_, NoGate>,
+    rounds: u32,
+) -> Result<([u32; 3], String, String), Fail> {
+    let pending = pending_in_turn(task, first, second, rounds);
+    let (more, first) = to_its_end(alloc, task, first)?;
+    let (still_more, second) = to_its_end(alloc, task, second)?;
+    Ok(([pending, more, still_more], first, second))
+}
+
+/// The same of the windows of a mote of each program, which have turns at 0 and 4 and at 0, 1 and 2.
+fn two_windows(
+    alloc: Global,
+    task: &MockTask,
+    timers: &Program,
+    polls: &Program,
+    rounds: u32,
+) -> Result<([u32; 3], String, String), Fail> {
+    let mut first = new_window(alloc, timers, 5)?;
+    let mut second = new_window(alloc, polls, 3)?;
+    both_to_their_end(alloc, task, &mut first, &mut second, rounds)
+}
+
+/// After so many rounds the windows were pending twice in each, and are pending 2 and 3 times in all; their lines are the same.
+fn same_after_rounds<R: Abort>(
+    rt: &R,
+    alloc: Global,
+    task: &MockTask,
+    timers: &Program,
+    rounds: u32,
+) -> Result<(), Fail>
     requires { rounds ≤ 2 }
 {
-    let alloc = rt.alloc();
-    let timers = read(alloc, THREE_TIMERS)?;
     let polls = read(alloc, POLLS)?;
-    let mut first = new_window(alloc, &timers, 5)?;
-    let mut second = new_window(alloc, &polls, 3)?;
-    let task = MockTask::new(rt)?;
-    let pending = pending_in_turn(&task, &mut first, &mut second, rounds);
-    let (more, lines) = to_its_end(alloc, &task, &mut first)?;
-    assert_eq!(rt; lines.as_str(), THREE_TIMERS_LINES);
-    let (still_more, lines) = to_its_end(alloc, &task, &mut second)?;
-    assert_eq!(rt; lines.as_str(), POLLS_LINES);
-    assert_eq!(rt;
-        [pending, more, still_more],
-        [2 * rounds, 2 - rounds, 3 - rounds]
-    );
+    let (pending, first, second) = two_windows(alloc, task, timers, &polls, rounds)?;
+    assert_eq!(rt; pending, [2 * rounds, 2 - rounds, 3 - rounds]);
+    assert_eq!(rt; first.as_str(), THREE_TIMERS_LINES);
+    assert_eq!(rt; second.as_str(), POLLS_LINES);
     Ok(())
 }
 
 #[test]
-fn one_window_after_the_other(rt: HostRuntime) -> Result<(), Fail> {
-    two_windows(&rt, 0)
+fn windows_polled_alternately(rt: HostRuntime) -> Result<(), Fail> {
+    let timers = read(rt.alloc(), THREE_TIMERS)?;
+    let task = MockTask::new(&rt)?;
+    same_after_rounds(&rt, rt.alloc(), &task, &timers, 0)?;
+    same_after_rounds(&rt, rt.alloc(), &task, &timers, 1)?;
+    same_after_rounds(&rt, rt.alloc(), &task, &timers, 2)
 }
 
-#[test]
-fn two_windows_in_turn(rt: HostRuntime) -> Result<(), Fail> {
-    two_windows(&rt, 2)
+/// The errors with which a mote's window is ready at three polls.
+fn three_errors(
+    task: &MockTask,
+    alloc: Global,
+    mote: Mote,
+    program: &Program,
+    copies: Vec<RadioCopy>,
+) -> [Option<MoteError>; 3]
+    requires { is_rising copies.items ≡ true }
+{
+    let mut window = MoteWindow::new(alloc, mote, program, copies, 6, 0, &NoGate);
+    let first = error_of(task, &mut window);
+    let second = error_of(task, &mut window);
+    [first, second, error_of(task, &mut window)]
+}
+
+/// A mote that had a turn at 5.
+fn turned_mote(alloc: Global, program: &Program) -> Result<Mote, MoteError> {
+    let mut mote = Mote::new(alloc, 0, program, 32)?;
+    let _out = mote.turn(program, 5, &[])?;
+    Ok(mote)
 }
 
 /// A copy comes before the mote's last turn, so the turn is refused, and the window is given up.
 #[test]
 fn a_turn_in_the_past(rt: HostRuntime) -> Result<(), Fail> {
-    let alloc = rt.alloc();
-    let program = read(alloc, PRINT_THEN_YIELD)?;
-    let mut mote = Mote::new(alloc, 0, &program, 32)?;
-    mote.turn(&program, 5, &[])?;
     let copy = RadioCopy {
         at: 3,
         to: 0,
@@ -180,27 +236,27 @@ fn a_turn_in_the_past(rt: HostRuntime) -> Result<(), Fail> {
         number: 0,
         value: 9,
     };
-    let copies = vec![in alloc; copy]?;
-    let mut window = MoteWindow::new(alloc, mote, &program, copies, 6, 0, &NoGate);
+    let copies = vec![in rt.alloc(); copy]?;
+    let program = read(rt.alloc(), PRINT_THEN_YIELD)?;
+    let mote = turned_mote(rt.alloc(), &program)?;
     let task = MockTask::new(&rt)?;
-    for error in [MoteError::Past, MoteError::Failed, MoteError::Failed] {
-        let answer = polled(&task, &mut window).ok_or("pending")?;
-        assert_eq!(rt; answer.err(), Some(error));
-    }
+    let errors = three_errors(&task, rt.alloc(), mote, &program, copies);
+    let failed = Some(MoteError::Failed);
+    assert_eq!(rt; errors, [Some(MoteError::Past), failed, failed]);
     Ok(())
 }
 
 /// A window whose turn found no memory is given up. With each allocation refused in turn this is looked at; with ample memory
-/// the window goes on.
+/// the window goes on, and has no error.
 #[test]
 fn a_refused_turn(rt: HostRuntime) -> Result<(), Fail> {
     let program = read(rt.alloc(), PRINT_THEN_YIELD)?;
-    let mut window = new_window(rt.alloc(), &program, 6)?;
+    let mote = Mote::new(rt.alloc(), 0, &program, 32)?;
     let task = MockTask::new(&rt)?;
-    if let Some(answer) = polled(&task, &mut window) {
-        assert_eq!(rt; answer.err(), Some(MoteError::Memory));
-        let again = polled(&task, &mut window).ok_or("pending")?;
-        assert_eq!(rt; again.err(), Some(MoteError::Failed));
+    let errors = three_errors(&task, rt.alloc(), mote, &program, Vec::new(rt.alloc()));
+    if errors[0].is_some() {
+        let failed = Some(MoteError::Failed);
+        assert_eq!(rt; errors, [Some(MoteError::Memory), failed, failed]);
     }
     Ok(())
 }

@@ -388,12 +388,21 @@ fn a_copy_left_in_its_inbox(rt: HostRuntime) -> Result<(), Fail> {
 fn thousand_motes(alloc: Global) -> Result<String, AllocError> {
     let mut text = String::new(alloc);
     text.push_str(THOUSAND_HEAD)?;
-    for place in 0..1000i32 {
-        let x = 20 * place - 10_000;
+    for place in 0..1000u16 {
+        let x = 20 * i32::from(place) - 10_000;
         let mote = format!(in alloc; "[[mote]]\nx = {x}\ny = 0\nprogram = \"s\"\n")?;
         text.push_str(&mote)?;
     }
     Ok(text)
+}
+
+/// How many lines all motes wrote.
+fn lines_in(report: &Report) -> usize {
+    let mut lines = 0usize;
+    for trace in &report.traces {
+        lines = lines.wrapping_add(trace.len());
+    }
+    lines
 }
 
 #[test]
@@ -404,9 +413,8 @@ fn a_thousand_motes(rt: HostRuntime) -> Result<(), Fail> {
     let cut = Cut::stripe(alloc, 1000, 16)?;
     let report = run_workers(&rt, alloc, &net, 16, &cut, &NoGate)?;
     assert_eq!(rt; told(alloc, &report)?, told_by_one(alloc, &net)?);
-    // Each packet goes to the two neighbours, or to the one of a mote at an end of the row, which don't receive any.
+    // Each packet reaches both neighbours, or the one of a mote at an end of the row, and nobody receives it: two lines each.
     assert_eq!(rt; (report.medium.len(), report.left), (1000, 0));
-    let lines = report.traces.iter().map(|trace| trace.len()).sum::<usize>();
-    assert_eq!(rt; lines, 1000 * 6 + 1998 * 2);
+    assert_eq!(rt; lines_in(&report), 1000 * 6 + 1998 * 2);
     Ok(())
 }
