@@ -17,3 +17,6 @@ pub use out::WindowOut;
 pub use own::OwnWindow;
 pub use share::{Resident, Share, ShareError};
 pub use worker::{Worker, run_share};
+
+#[cfg(test)]
+mod tests;
