@@ -123,6 +123,18 @@ fn copies_of_two_workers_collide(rt: HostRuntime) -> Result<(), Fail> {
     Ok(())
 }
 
+/// Five motes and two workers.
+#[test]
+fn small_cuts(rt: HostRuntime) -> Result<(), Fail> {
+    let alloc = rt.alloc();
+    let block = Cut::block(alloc, 5, 2)?;
+    let stripe = Cut::stripe(alloc, 5, 2)?;
+    let of = format!(in alloc; "{:?} {:?}", block.of.as_slice(), stripe.of.as_slice())?;
+    assert_eq!(rt; of.as_str(), "[0, 0, 0, 1, 1] [0, 1, 0, 1, 0]");
+    assert_eq!(rt; (block.longest, stripe.longest), (0, 0));
+    Ok(())
+}
+
 /// No window is longer than is wished.
 #[test]
 fn longest_windows(rt: HostRuntime) -> Result<(), Fail> {
