@@ -131,6 +131,16 @@ impl Thread {
         self.position = frame.position;
     }
 
+    /// Is fresh again, where the thread stands in its part's own block.
+    fn begin_again(&mut self)
+        requires { self.old.frames.items ≡ [] }
+        ensures { (code : Code) → remainder_of code self.new ≡ fresh_of code self.old.part }
+    {
+        self.mark = Mark::AtRest;
+        self.is_yielded = false;
+        self.position = 0;
+    }
+
     /// Gives up control at the statement, which has yielded or not.
     fn give_up(&mut self, is_yielded: bool)
         ensures { self.new ≡ record self.old { mark = Mark.AtRest; is_yielded = is_yielded } }
@@ -311,7 +321,7 @@ impl Thread {
             match block.get(usize::from(self.position)) {
                 None => match self.frames.pop() {
                     None => {
-                        *self = Thread::fresh(self.part);
+                        self.begin_again();
                         return Step::Done(PtState::Ended);
                     }
                     Some(frame) => {

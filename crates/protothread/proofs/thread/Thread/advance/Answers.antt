@@ -33,7 +33,7 @@ returns-in-None-pop-clause-exact g c =
     c.loop-self.invariant.goes_on
     ∙ ends code c.args.self.now.part c.args.event.now (g.L.Look.looks c.args.look.now) whole t c.loop-self.vars c.loop-self.fuel past none
     ∙ ap (λ r. record { step = step.Done Ended; remainder = r; variables = c.loop-self.vars; units = c.loop-self.fuel })
-    (sym (c.fresh.ensures code ∙ ap (λ p. fresh_of code p) c.loop-self.invariant.part))
+    (sym (c.begin_again.ensures code ∙ ap (λ p. fresh_of code p) c.loop-self.invariant.part))
 
 pub loop-self-preserved-in-Some-pop : goal.loop-self-preserved-in-Some-pop
 loop-self-preserved-in-Some-pop g c =
