@@ -1,8 +1,10 @@
+pub mod Absent
 pub mod Depth
 pub mod First
 pub mod Given
 pub mod Left
 pub mod Lists
+pub mod Marks
 pub mod Places
 pub mod Remainders
 pub mod Starts

@@ -188,8 +188,29 @@ impl Machine {
 
     /// Runs a handler or a callback of a process from its beginning.
     #[cycle(kernel)]
-    #[inline(never)]
     fn run_part(
+        &mut self,
+        program: &Program,
+        text: &ProcessText,
+        part: Part,
+        process: u8,
+        event: &Event,
+    ) -> Result<(), Stop>
+        requires { HasRoom 0 self.old }
+        ensures exact { (k : ℕ) → self.old.fuel < k → Tells result (state_of (tree_of program.now) self.new) (part_of (calls_of k) (state_of (tree_of program.now) self.old) (code_of text.now) part process event.now) }
+        ensures spends { OnOk result (Spends 0 self.old self.new) }
+        ensures grows { Grows self.old.out self.new.out }
+    {
+        if part.is_empty(text) {
+            return Ok(());
+        }
+        self.run_fresh(program, text, part, process, event)
+    }
+
+    /// Runs a fresh thread of a part. A call of it makes room for the thread, so it stands apart.
+    #[cycle(kernel)]
+    #[inline(never)]
+    fn run_fresh(
         &mut self,
         program: &Program,
         text: &ProcessText,

@@ -1,6 +1,6 @@
 //! How the process list grows and shrinks.
 
-ghost use Rattle.std.specs.Prelude.{◌≡◌, ◌<◌, ◌≤◌, ◌+◌, ◌^◌, ◌∷◌, false, not, OnOk, IfOk, IfErr, Some, filter, length, slice_get};
+ghost use Rattle.std.specs.Prelude.{◌≡◌, ◌<◌, ◌≤◌, ◌+◌, ◌^◌, ◌∷◌, false, not, OnOk, IfOk, IfErr, Some, drop, filter, length, slice_get};
 ghost use Rattle.mote_program.specs.Code.{Tree, Code};
 ghost use Rattle.protothread.specs.Frames.{remainder_of};
 ghost use Rattle.process_kernel.specs.Members.{is_same as are_same, place_of, stands_in};
@@ -38,6 +38,19 @@ impl Machine {
         let mut members = ArrayVec::new();
         members
             .try_extend_from_slice(self.members.as_slice())
+            .unwrap();
+        members
+    }
+
+    /// The process list as it stands now, from a place on.
+    pub fn snapshot_from<const ROOM: usize>(&self, place: usize) -> ArrayVec<Member, ROOM>
+        requires inside { place ≤ length self.now.members.items }
+        requires room { length self.now.members.items ≤ place + ROOM }
+        ensures { result.items ≡ drop place self.now.members.items }
+    {
+        let mut members = ArrayVec::new();
+        members
+            .try_extend_from_slice(&self.members.as_slice()[place..])
             .unwrap();
         members
     }

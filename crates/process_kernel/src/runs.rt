@@ -1,9 +1,10 @@
 //! Kernel runs: polls, and the delivery of events.
 
-ghost use Rattle.std.specs.Prelude.{◌≡◌, ◌<◌, ◌≤◌, ◌+◌, ◌^◌, ℕ, OnOk, if◌then◌else◌, length};
+ghost use Rattle.std.specs.Prelude.{◌≡◌, ◌<◌, ◌≤◌, ◌+◌, ◌^◌, ℕ, OnOk, if◌then◌else◌, drop, length, position};
 ghost use Rattle.mote_program.specs.Code.{Tree};
 ghost use Rattle.mote_program.specs.Program.{tree_of};
 ghost use Rattle.process_kernel.specs.Call.{calls_of};
+ghost use Rattle.process_kernel.specs.Processes.{flag_at};
 ghost use Rattle.process_kernel.specs.ProcessList.{numbered_from};
 ghost use Rattle.process_kernel.specs.Polls.{poll_turn_of, walk_polls, polls_of, polls_due_of};
 ghost use Rattle.process_kernel.specs.Delivery.{give_of, turn_of, walk_event, deliver_of};
@@ -14,9 +15,16 @@ use crate::event::told;
 use crate::line::What;
 use crate::machine::{Machine, Stop};
 use crate::process::Member;
+use arrayvec::ArrayVec;
 use event_queue::Posted;
 use mote_program::{Proc, Program, SystemEvent, Target};
 use protothread::Fuel;
+
+/// How many processes are few, and some: a walk over so many makes a short copy of the list, since a call pays for all the room
+/// that its copy has.
+const FEW: usize = 4;
+
+const SOME: usize = 16;
 
 /// The units of work that a boot has, and each kernel run.
 pub const UNITS: u32 = 10_000;
@@ -61,10 +69,10 @@ impl Machine {
         ensures spends { OnOk result (Spends 0 self.old self.new) }
         ensures grows { Grows self.old.out self.new.out }
     {
-        if !self.is_on_list(member) {
+        if !self.is_marked(member.process) {
             return Ok(());
         }
-        if !self.is_marked(member.process) {
+        if !self.is_on_list(member) {
             return Ok(());
         }
         self.set_mark(member.process, false);
@@ -99,8 +107,30 @@ impl Machine {
         self.poll_all(program)
     }
 
-    /// The polls: each member of the process list as it stands now has its turn.
-    fn poll_all(&mut self, program: &Program) -> Result<(), Stop>
+    /// The place of the first process on the list that has a mark.
+    fn first_marked(&self) -> Option<usize>
+        ensures { result ≡ position (λ m. flag_at self.now.marks.items m.process) self.now.members.items }
+    {
+        self.members
+            .iter()
+            .position(|member| self.is_marked(member.process))
+    }
+
+    /// The polls of the few processes that the list has from a place on.
+    fn poll_few(&mut self, program: &Program, place: usize) -> Result<(), Stop>
+        requires units { HasRoom 0 self.old }
+        requires inside { place ≤ length self.old.members.items }
+        requires few { length self.old.members.items ≤ place + 4 }
+        ensures exact { (k : ℕ) → self.old.fuel < k → Tells result (state_of (tree_of program.now) self.new) (walk_polls (calls_of k) (drop place self.old.members.items) (state_of (tree_of program.now) self.old)) }
+        ensures spends { OnOk result (Spends 0 self.old self.new) }
+        ensures grows { Grows self.old.out self.new.out }
+    {
+        let members: ArrayVec<Member, FEW> = self.snapshot_from(place);
+        self.walk_polls(program, members.as_slice())
+    }
+
+    /// The polls of all processes on the list.
+    fn poll_many(&mut self, program: &Program) -> Result<(), Stop>
         requires { HasRoom 0 self.old }
         ensures exact { (k : ℕ) → self.old.fuel < k → Tells result (state_of (tree_of program.now) self.new) (walk_polls (calls_of k) self.old.members.items (state_of (tree_of program.now) self.old)) }
         ensures spends { OnOk result (Spends 0 self.old self.new) }
@@ -108,6 +138,24 @@ impl Machine {
     {
         let members = self.snapshot();
         self.walk_polls(program, members.as_slice())
+    }
+
+    /// The polls: each member of the process list as it stands now has its turn.
+    fn poll_all(&mut self, program: &Program) -> Result<(), Stop>
+        requires { HasRoom 0 self.old }
+        ensures exact { (k : ℕ) → self.old.fuel < k → Tells result (state_of (tree_of program.now) self.new) (walk_polls (calls_of k) self.old.members.items (state_of (tree_of program.now) self.old)) }
+        ensures spends { OnOk result (Spends 0 self.old self.new) }
+        ensures grows { Grows self.old.out self.new.out }
+    {
+        let Some(place) = self.first_marked() else {
+            return Ok(());
+        };
+        let count = self.members.len() - place;
+        if count <= FEW {
+            self.poll_few(program, place)
+        } else {
+            self.poll_many(program)
+        }
     }
 
     /// Gives an event to a process, or drops it where the process isn't there.
@@ -184,8 +232,20 @@ impl Machine {
         }
     }
 
-    /// Delivers an event that goes to all.
-    fn deliver_to_all(&mut self, program: &Program, posted: &Posted) -> Result<(), Stop>
+    /// Delivers an event that goes to all of at most 16 processes.
+    fn deliver_to_some(&mut self, program: &Program, posted: &Posted) -> Result<(), Stop>
+        requires units { HasRoom 0 self.old }
+        requires some { length self.old.members.items ≤ 16 }
+        ensures exact { (k : ℕ) → self.old.fuel < k → Tells result (state_of (tree_of program.now) self.new) (walk_event (calls_of k) posted.now self.old.members.items (state_of (tree_of program.now) self.old)) }
+        ensures spends { OnOk result (Spends 0 self.old self.new) }
+        ensures grows { Grows self.old.out self.new.out }
+    {
+        let members: ArrayVec<Member, SOME> = self.snapshot_from(0);
+        self.walk_event(program, posted, members.as_slice())
+    }
+
+    /// Delivers an event that goes to all of any number of processes.
+    fn deliver_to_many(&mut self, program: &Program, posted: &Posted) -> Result<(), Stop>
         requires { HasRoom 0 self.old }
         ensures exact { (k : ℕ) → self.old.fuel < k → Tells result (state_of (tree_of program.now) self.new) (walk_event (calls_of k) posted.now self.old.members.items (state_of (tree_of program.now) self.old)) }
         ensures spends { OnOk result (Spends 0 self.old self.new) }
@@ -193,6 +253,20 @@ impl Machine {
     {
         let members = self.snapshot();
         self.walk_event(program, posted, members.as_slice())
+    }
+
+    /// Delivers an event that goes to all.
+    fn deliver_to_all(&mut self, program: &Program, posted: &Posted) -> Result<(), Stop>
+        requires { HasRoom 0 self.old }
+        ensures exact { (k : ℕ) → self.old.fuel < k → Tells result (state_of (tree_of program.now) self.new) (walk_event (calls_of k) posted.now self.old.members.items (state_of (tree_of program.now) self.old)) }
+        ensures spends { OnOk result (Spends 0 self.old self.new) }
+        ensures grows { Grows self.old.out self.new.out }
+    {
+        if self.members.len() <= SOME {
+            self.deliver_to_some(program, posted)
+        } else {
+            self.deliver_to_many(program, posted)
+        }
     }
 
     /// Takes the event at the front of the queue, if there is one, and delivers it (`do_event` of `process.c`).

@@ -1,5 +1,5 @@
 //! The parts of a process's text that a thread can run.
-ghost use Rattle.std.specs.Prelude.{◌≡◌, map, option_map};
+ghost use Rattle.std.specs.Prelude.{◌≡◌, ◌↔◌, IsTrue, [], map, option_map};
 ghost use Rattle.mote_program.specs.Tree.{statement_of, block_of, body_of, IsWithinLimits};
 ghost use Rattle.mote_program.specs.Program.{code_of};
 ghost use Rattle.protothread.specs.Remainder.{statements_of as listed_if_any};
@@ -40,5 +40,12 @@ impl Part {
             Part::OnExit => statements_of(text.on_exit()),
             Part::Callback(timer) => statements_of(text.callback(timer)),
         }
+    }
+
+    /// Whether the part has no statement.
+    pub fn is_empty(self, text: &ProcessText) -> bool
+        ensures { IsTrue result ↔ (whole_of (code_of text.now) self ≡ []) }
+    {
+        self.statements(text).is_empty()
     }
 }

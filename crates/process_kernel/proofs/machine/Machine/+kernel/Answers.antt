@@ -1,5 +1,7 @@
-use Rattle.std.proofs.Common.{rules, arith, ◌<◌, ◌-◌, ◌∙◌, Ok, Err, length, refl}
+use Rattle.std.proofs.Common.{rules, arith, ◌≡◌, ◌<◌, ◌-◌, ◌∙◌, [], Ok, Err, length, refl}
 use Rattle.mote_program.specs.Program.{tree_of, code_of}
+use Rattle.protothread.specs.Remainder.{whole_of}
+use Rattle.process_kernel.proofs.Absent.{nothing_runs}
 use Rattle.process_kernel.proofs.Depth.{deeper_call, deeper_run, run_opens, halt_tells}
 use Rattle.process_kernel.proofs.Starts.{on_ok_both, enlisted_runs}
 use Rattle.process_kernel.specs.Members.{place_of}
@@ -171,3 +173,8 @@ start-returns-in_ok-enlist-clause-paid t c =
     let runs = enlisted_runs (state_of T c.args.self.now) (state_of T c.enlist.new.self) c.args.process within (c.in_ok-enlist.ensures.exact T) in
     let counts = c.in_ok-enlist.ensures.counts in
     on_ok_both c.call.result _ _ _ c.call.ensures.spends c.call.ensures.pays (λ spends pays. let cost = pays runs in (omega (arith, counts, spends), omega (arith, counts, cost)))
+
+pub run_part-returns-then-is_empty-clause-exact : goal.run_part-returns-then-is_empty-clause-exact
+run_part-returns-then-is_empty-clause-exact t c = λ k enough.
+    let none : whole_of (code_of c.args.text.now) c.args.part ≡ [] = search rules in
+    nothing_runs (code_of c.args.text.now) c.args.part none k (state_of (tree_of c.args.program.now) c.args.self.now) c.args.process c.args.event.now (omega (arith, enough))

@@ -9,52 +9,55 @@ use Rattle.process_kernel.proofs.machine.Machine.+kernel.Given as goal
 -- Each call of a running process and each step of a thread spends a unit of work. What calls it at once, and spends
 -- nothing, ranks higher.
 abbrev pub decreases-call : goal.decreases-call
-decreases-call l = 6 * l.self.now.fuel + 0
+decreases-call l = 7 * l.self.now.fuel + 0
 
 abbrev pub decreases-react : goal.decreases-react
-decreases-react l = 6 * l.self.now.fuel + 4
+decreases-react l = 7 * l.self.now.fuel + 5
 
 abbrev pub decreases-react_as_own : goal.decreases-react_as_own
-decreases-react_as_own l = 6 * l.self.now.fuel + 3
+decreases-react_as_own l = 7 * l.self.now.fuel + 4
 
 abbrev pub decreases-handle : goal.decreases-handle
-decreases-handle l = 6 * l.self.now.fuel + 2
+decreases-handle l = 7 * l.self.now.fuel + 3
 
 abbrev pub decreases-resume : goal.decreases-resume
-decreases-resume l = 6 * l.self.now.fuel + 1
+decreases-resume l = 7 * l.self.now.fuel + 1
 
 abbrev pub decreases-react_as_ctimer : goal.decreases-react_as_ctimer
-decreases-react_as_ctimer l = 6 * l.self.now.fuel + 3
+decreases-react_as_ctimer l = 7 * l.self.now.fuel + 4
 
 abbrev pub decreases-call_back : goal.decreases-call_back
-decreases-call_back l = 6 * l.self.now.fuel + 2
+decreases-call_back l = 7 * l.self.now.fuel + 3
 
 abbrev pub decreases-run_part : goal.decreases-run_part
-decreases-run_part l = 6 * l.self.now.fuel + 1
+decreases-run_part l = 7 * l.self.now.fuel + 2
+
+abbrev pub decreases-run_fresh : goal.decreases-run_fresh
+decreases-run_fresh l = 7 * l.self.now.fuel + 1
 
 abbrev pub decreases-run : goal.decreases-run
-decreases-run l = 6 * l.self.now.fuel + 0
+decreases-run l = 7 * l.self.now.fuel + 0
 
 abbrev pub decreases-perform : goal.decreases-perform
-decreases-perform l = 6 * l.self.now.fuel + 5
+decreases-perform l = 7 * l.self.now.fuel + 6
 
 abbrev pub decreases-act : goal.decreases-act
-decreases-act l = 6 * l.self.now.fuel + 4
+decreases-act l = 7 * l.self.now.fuel + 5
 
 abbrev pub decreases-start : goal.decreases-start
-decreases-start l = 6 * l.self.now.fuel + 1
+decreases-start l = 7 * l.self.now.fuel + 1
 
 abbrev pub decreases-kill : goal.decreases-kill
-decreases-kill l = 6 * l.self.now.fuel + 3
+decreases-kill l = 7 * l.self.now.fuel + 3
 
 abbrev pub decreases-exit : goal.decreases-exit
-decreases-exit l = 6 * l.self.now.fuel + 2
+decreases-exit l = 7 * l.self.now.fuel + 2
 
 abbrev pub decreases-run_last : goal.decreases-run_last
-decreases-run_last l = 6 * l.self.now.fuel + 0
+decreases-run_last l = 7 * l.self.now.fuel + 0
 
 abbrev pub decreases-walk : goal.decreases-walk
-decreases-walk l = 6 * l.self.now.fuel + 1
+decreases-walk l = 7 * l.self.now.fuel + 1
 
 -- the run of the thread as it stood, from the start, is its run as it stands now
 abbrev pub invariant-run-loop-op : goal.invariant-run-loop-op
