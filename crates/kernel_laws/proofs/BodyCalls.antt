@@ -36,7 +36,7 @@ use Rattle.process_kernel.specs.Etimer.{fired_of, purge_of, post_due, walk_timer
 use Rattle.process_kernel.specs.Ctimer.{callback_of, waits_for, ctimer_of}
 use Rattle.process_kernel.specs.Radio.{radio_of}
 use Rattle.process_kernel.specs.Reaction.{remainder_at, handler_of, resume_of, own_of, react_of}
-use Rattle.process_kernel.specs.Exit.{number_of, last_run_of, exit_of}
+use Rattle.process_kernel.specs.Exit.{process_number, last_run_of, exit_of}
 use Rattle.process_kernel.specs.Start.{start_of}
 use Rattle.process_kernel.specs.Kill.{kill_of}
 use Rattle.process_kernel.specs.Thread.{stepped_with, stepped_of}
@@ -373,7 +373,7 @@ module _ (program : Tree) (mote p : ℕ) (code : Code) (earlier : List Line) whe
       other_exit : (s : State) (q f : Proc) → IsOther p q → Leads (Unit {0}) s (exit_of calls s q f)
       unfolding exit_of
       other_exit s q f n =
-          either s (is_listed s q) _ _ (bind s _ _ (from s _ _ (exiting_quiet p s q n) (walk_led (told Exited (number_of q)) q s.members _)) (λ a t.
+          either s (is_listed s q) _ _ (bind s _ _ (from s _ _ (exiting_quiet p s q n) (walk_led (told Exited (process_number q)) q s.members _)) (λ a t.
           bind t _ _ (either t (is_same q f) _ _ (still t tt) (last_run_led t q n)) (λ b u. quietly u _ (leave_quiet p u q n)))) (still s tt)
 
       -- the process itself
@@ -472,8 +472,8 @@ module _ (program : Tree) (mote p : ℕ) (code : Code) (earlier : List Line) whe
       exits : (s : State) (f : Proc) → IsLeaving (standing_of p s) (is_same (Own p) f) → Settles (exit_of calls s (Own p) f)
       unfolding exit_of
       exits s f h =
-          subst (λ b. Settles (if b then (walk_of calls (told Exited (number_of (Own p))) (Own p) s.members (exiting_of s (Own p)) >>= λ _ s1. (if is_same (Own p) f then Goes tt s1 else last_run_of calls s1 (Own p)) >>= λ _ s2. leave_of s2 (Own p)) else Goes tt s)) (sym h.listed)
-          (gives_bind (Unit {0}) (Unit {0}) Stopped (λ a t. At (on_its_way (standing_of p s)) t) (λ a t. Stands (standing_of p t)) (walk_of calls (told Exited (number_of (Own p))) (Own p) s.members (exiting_of s (Own p))) _ (walked s _ _ s.members h) (λ a t same.
+          subst (λ b. Settles (if b then (walk_of calls (told Exited (process_number (Own p))) (Own p) s.members (exiting_of s (Own p)) >>= λ _ s1. (if is_same (Own p) f then Goes tt s1 else last_run_of calls s1 (Own p)) >>= λ _ s2. leave_of s2 (Own p)) else Goes tt s)) (sym h.listed)
+          (gives_bind (Unit {0}) (Unit {0}) Stopped (λ a t. At (on_its_way (standing_of p s)) t) (λ a t. Stands (standing_of p t)) (walk_of calls (told Exited (process_number (Own p))) (Own p) s.members (exiting_of s (Own p))) _ (walked s _ _ s.members h) (λ a t same.
           gives_bind (Unit {0}) (Unit {0}) Stopped (λ a u. IsGone (standing_of p u)) (λ a u. Stands (standing_of p u)) (if is_same (Own p) f then Goes tt t else last_run_of calls t (Own p)) _ (last s t (is_same (Own p) f) h same) (λ b u g. gone u g)))
 
       -- it is called

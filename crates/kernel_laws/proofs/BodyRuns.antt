@@ -12,10 +12,10 @@ use Rattle.protothread.specs.declared.step.Op.{Op}
 use Rattle.protothread.specs.declared.step.Op.TheVariants as op
 use Rattle.protothread.specs.declared.step.Step.{Step}
 use Rattle.protothread.specs.declared.step.Step.TheVariants as step
-use Rattle.protothread.specs.State.{number_of}
+use Rattle.protothread.specs.State.{state_number}
 use Rattle.protothread.specs.Remainder.{Remainder}
 use Rattle.protothread.specs.Step.{advanced_of, answered_of}
-use Rattle.protothread.specs.Reading.{Sight, operates, Outcome as Became, stands}
+use Rattle.protothread.specs.Reading.{Sight, operates, Completion, stands}
 use Rattle.protothread.specs.Runs.{Steps}
 use Rattle.process_kernel.specs.declared.line.Line.{Line}
 use Rattle.process_kernel.specs.declared.line.What.TheVariants as what
@@ -115,7 +115,7 @@ module _ (program : Tree) (mote p : ℕ) (code : Code) (earlier : List Line) whe
   told_next : (told before lines more : List Line) → earlier ++ told ≡ before ++ lines → earlier ++ (told ++ more) ≡ before ++ (lines ++ more)
   told_next told before lines more e = sym (append_assoc earlier told more) ∙ ap (λ l. l ++ more) e ∙ append_assoc before lines more
 
-  lived_more : (told before : List Line) (start : List ℕ) (lines : List Line) (out : Became) → Lives code (Own p) mote code.starts before start → HasLife p code mote start lines out → earlier ++ told ≡ before ++ lines
+  lived_more : (told before : List Line) (start : List ℕ) (lines : List Line) (out : Completion) → Lives code (Own p) mote code.starts before start → HasLife p code mote start lines out → earlier ++ told ≡ before ++ lines
       → HasLived told (left_by out)
   lived_more told before start lines out lived h e =
       subst (λ l. Lives code (Own p) mote code.starts l (left_by out)) (ap (λ l. before ++ l) h.has_lines ∙ sym e)
@@ -131,7 +131,7 @@ module _ (program : Tree) (mote p : ℕ) (code : Code) (earlier : List Line) whe
     Takes x after changed = Steps code now r vars x after changed
 
     -- it gives up control, or has come to an end
-    rests : (a : PtState) (after : Remainder) (changed : List ℕ) → Takes (step.Done a) after changed → number_of a < 2 → (w : Standing) → w ≡ record (standing_of p s) { vars = Some changed } → Ran (standing_of p s) a after w
+    rests : (a : PtState) (after : Remainder) (changed : List ℕ) → Takes (step.Done a) after changed → state_number a < 2 → (w : Standing) → w ≡ record (standing_of p s) { vars = Some changed } → Ran (standing_of p s) a after w
     rests a after changed takes small w same = record {
       left = changed;
       same = same ∙ ap (λ l. record (standing_of p s) { vars = Some changed; told = l }) (sym (ap (λ v. v.told) same));
@@ -149,7 +149,7 @@ module _ (program : Tree) (mote p : ℕ) (code : Code) (earlier : List Line) whe
         now_told : earlier ++ w.told ≡ here.before ++ here.lines
         now_told = ap (λ v. earlier ++ v.told) same ∙ here.is_told
 
-    ends : (a : PtState) (after : Remainder) (changed : List ℕ) (out : Became) → HasLife p code mote here.start here.lines out → left_by out ≡ changed → has_ended a ≡ true → (w : Standing) → w ≡ record (standing_of p s) { vars = Some changed } → Ran (standing_of p s) a after w
+    ends : (a : PtState) (after : Remainder) (changed : List ℕ) (out : Completion) → HasLife p code mote here.start here.lines out → left_by out ≡ changed → has_ended a ≡ true → (w : Standing) → w ≡ record (standing_of p s) { vars = Some changed } → Ran (standing_of p s) a after w
     ends a after changed out life is ended w same = record {
       left = changed;
       same = same ∙ ap (λ l. record (standing_of p s) { vars = Some changed; told = l }) (sym (ap (λ v. v.told) same));

@@ -39,7 +39,7 @@ use Rattle.process_kernel.specs.Etimer.{fired_of, purge_of, post_due, walk_timer
 use Rattle.process_kernel.specs.Ctimer.{callback_of, waits_for, ctimer_of}
 use Rattle.process_kernel.specs.Radio.{packet_of, hand_to, empty_ring, radio_of}
 use Rattle.process_kernel.specs.Reaction.{handler_of, resume_of, own_of, react_of}
-use Rattle.process_kernel.specs.Exit.{number_of, last_run_of, exit_of}
+use Rattle.process_kernel.specs.Exit.{process_number, last_run_of, exit_of}
 use Rattle.process_kernel.specs.Start.{start_of}
 use Rattle.process_kernel.specs.Kill.{kill_of}
 use Rattle.process_kernel.specs.Operation.{answered_with, answer_of, act_of, perform_of, after_step, run_of}
@@ -47,7 +47,7 @@ use Rattle.process_kernel.specs.Call.{has_ended, answered, call_of, calls_of}
 use Rattle.process_kernel.specs.Thread.{stepped_with, stepped_of}
 use Rattle.process_kernel.specs.Looks.{looks_of}
 use Rattle.process_kernel.specs.Polls.{walk_polls, polls_of, polls_due_of, poll_turn_of}
-use Rattle.process_kernel.specs.Delivery.{give_of, turn_of, walk_event, deliver_to, deliver_of}
+use Rattle.process_kernel.specs.Delivery.{give_of, visit_of, walk_event, deliver_to, deliver_of}
 use Rattle.process_kernel.specs.Run.{left_of, deliver_front, kernel_of}
 use Rattle.process_kernel.specs.Boot.{starts_of, boot_of}
 use Rattle.kernel_laws.specs.Own.{IsOwn, FitsTarget}
@@ -322,7 +322,7 @@ module _ (Keeps Stops : State → State → Type 0) where
           exit_led : (s : State) (p f : Proc) → Leaves p → Lead (Unit {0}) s (exit_of calls s p f)
           unfolding exit_of
           exit_led s p f l =
-              lead_if _ s (is_listed s p) _ _ (lead_bind _ _ s _ _ (lead_from _ s _ _ (steps.exiting s p l) (walk_led (told Exited (number_of p)) refl p s.members _)) (λ a t.
+              lead_if _ s (is_listed s p) _ _ (lead_bind _ _ s _ _ (lead_from _ s _ _ (steps.exiting s p l) (walk_led (told Exited (process_number p)) refl p s.members _)) (λ a t.
               lead_bind _ _ t _ _ (lead_if _ t (is_same p f) _ _ (lead_still _ t tt) (last_run_led t p)) (λ b u. steps.leaves u p l))) (lead_still _ s tt)
 
           unlisted : (b c : Bool) → (b && not c) ≡ true → c ≡ false
@@ -434,7 +434,7 @@ module _ (Keeps Stops : State → State → Type 0) where
             lead_if _ s there _ _ (lead_from _ s _ _ (run_steps.takes s x.serial p) (call_any _ p x.event)) (lead_goes _ s tt _ (run_steps.drops s x.serial p))
 
         walk_event_led : (x : Posted) (ms : List Member) (s : State) → Lead (Unit {0}) s (walk_event calls x ms s)
-        unfolding turn_of
+        unfolding visit_of
         walk_event_led x [] s = lead_still _ s tt
         walk_event_led x (m ∷ ms) s =
             lead_bind _ _ s _ _ (lead_bind _ _ s _ _ (polls_due_led s) (λ a t. give_led t x m.process (is_on_list t m))) (λ a t. walk_event_led x ms t)

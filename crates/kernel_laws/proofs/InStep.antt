@@ -34,7 +34,7 @@ use Rattle.process_kernel.specs.Etimer.{fired_of, purge_of, post_due, walk_timer
 use Rattle.process_kernel.specs.Ctimer.{callback_of, waits_for, ctimer_of}
 use Rattle.process_kernel.specs.Radio.{packet_of, hand_to, empty_ring, radio_of}
 use Rattle.process_kernel.specs.Reaction.{handler_of, resume_of, own_of, react_of}
-use Rattle.process_kernel.specs.Exit.{number_of, last_run_of, exit_of}
+use Rattle.process_kernel.specs.Exit.{process_number, last_run_of, exit_of}
 use Rattle.process_kernel.specs.Start.{start_of}
 use Rattle.process_kernel.specs.Kill.{kill_of}
 use Rattle.process_kernel.specs.Operation.{answered_with, answer_of, act_of, perform_of, after_step, run_of}
@@ -509,7 +509,7 @@ module _ (calls : Calls) (are : AreKept calls) where
   exits s p f i e =
       leaves_cases (Unit {0}) (ExitsTo (place_of p) s) (is_listed s p) _ _ (λ l.
       let way = on_its_way s p i e l in
-      leaves_bind (Keeps (exiting_of s p)) (ExitsTo (place_of p) s) _ _ (walk_calls_kept (told Exited (number_of p)) p s.members (exiting_of s p) way.step) (λ a t k.
+      leaves_bind (Keeps (exiting_of s p)) (ExitsTo (place_of p) s) _ _ (walk_calls_kept (told Exited (process_number p)) p s.members (exiting_of s p) way.step) (λ a t k.
       let way1 = goes_its_way (place_of p) s (exiting_of s p) t way k in
       leaves_bind (Keeps t) (ExitsTo (place_of p) s) _ _ (kept_if t (is_same p f) _ _ (kept_goes t tt t (still t)) (last_run_kept t p) way1.step) (λ b u k1.
       leaves_at_last s u p (goes_its_way (place_of p) s t u way1 k1)))) (λ l. record {

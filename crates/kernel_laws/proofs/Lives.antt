@@ -7,10 +7,10 @@ use Rattle.protothread.specs.declared.state.PtState.{PtState}
 use Rattle.protothread.specs.declared.state.PtState.TheVariants.{Exited, Ended}
 use Rattle.protothread.specs.declared.step.Op.{Op}
 use Rattle.protothread.specs.declared.step.Step.TheVariants as step
-use Rattle.protothread.specs.State.{number_of}
+use Rattle.protothread.specs.State.{state_number}
 use Rattle.protothread.specs.Remainder.{Remainder, fresh_of}
 use Rattle.protothread.specs.Step.{answered_of}
-use Rattle.protothread.specs.Reading.{Sight, Happening, operates, gives_up, Outcome, done, exits, stands}
+use Rattle.protothread.specs.Reading.{Sight, Happening, operates, gives_up, Completion, done, exits, stands}
 use Rattle.protothread.specs.Runs.{Steps, Runs, operated, operated_last, gave_up, gave_up_last, has_exited, has_ended}
 use Rattle.protothread.proofs.Splits.{reads_the_text}
 use Rattle.process_kernel.specs.declared.line.Line.{Line}
@@ -20,7 +20,7 @@ use Rattle.kernel_laws.specs.Telling.{Next, AtStart, InCall, AtCall, CanCome, Is
 use Rattle.kernel_laws.specs.Telling as telling
 
 module _ (p : ℕ) (code : Code) (mote : ℕ) (start : List ℕ) where
-  abbrev HasLife : List Line → Outcome → Type 0
+  abbrev HasLife : List Line → Completion → Type 0
   HasLife lines out = telling.HasLife p code mote start lines out
 
   abbrev ComesTo : List Line → Next → Remainder → List ℕ → Type 0
@@ -35,7 +35,7 @@ module _ (p : ℕ) (code : Code) (mote : ℕ) (start : List ℕ) where
     };
   }
 
-  then_more : (lines more : List Line) (now : Sight) (h : Happening) (out : Outcome) → HasLife (lines ++ (printed (Own p) now h ++ more)) out → HasLife ((lines ++ printed (Own p) now h) ++ more) out
+  then_more : (lines more : List Line) (now : Sight) (h : Happening) (out : Completion) → HasLife (lines ++ (printed (Own p) now h ++ more)) out → HasLife ((lines ++ printed (Own p) now h) ++ more) out
   then_more lines more now h out life = subst (λ l. HasLife l out) (sym (append_assoc lines (printed (Own p) now h) more)) life
 
   -- in a sight that can come
@@ -56,13 +56,13 @@ module _ (p : ℕ) (code : Code) (mote : ℕ) (start : List ℕ) where
         subst (λ l. HasLife (lines ++ l) (stands changed)) (append-nil (printed (Own p) now (operates o))) (c.on now [] (operates o ∷ []) (stands changed) can answered of_mote (operated_last r after vars changed now o steps))
 
     -- an answer 0 or 1
-    pub gives_up_on : (a : PtState) → Steps code now r vars (step.Done a) after changed → number_of a < 2 → ComesTo lines AtCall after changed
+    pub gives_up_on : (a : PtState) → Steps code now r vars (step.Done a) after changed → state_number a < 2 → ComesTo lines AtCall after changed
     gives_up_on a steps small = record {
       on = λ resumed later more out coming answer shown runs.
           c.on now (resumed ∷ later) (gives_up a ∷ more) out can answered (of_mote, tt, shown) (gave_up r after vars changed now resumed later a more out steps small runs);
     }
 
-    pub stands_there : (a : PtState) → Steps code now r vars (step.Done a) after changed → number_of a < 2 → HasLife lines (stands changed)
+    pub stands_there : (a : PtState) → Steps code now r vars (step.Done a) after changed → state_number a < 2 → HasLife lines (stands changed)
     stands_there a steps small =
         subst (λ l. HasLife l (stands changed)) (append-nil lines) (c.on now [] (gives_up a ∷ []) (stands changed) can answered of_mote (gave_up_last r after vars changed now a steps small))
 

@@ -20,7 +20,7 @@ use Rattle.process_kernel.specs.Processes.{is_alive, is_running, is_running_stat
 use Rattle.process_kernel.specs.Writes.{write_of}
 use Rattle.process_kernel.specs.Calls.{Calls, told}
 use Rattle.process_kernel.specs.Polls.{walk_polls, polls_of, polls_due_of, poll_turn_of}
-use Rattle.process_kernel.specs.Delivery.{give_of, turn_of, walk_event, deliver_to, deliver_of}
+use Rattle.process_kernel.specs.Delivery.{give_of, visit_of, walk_event, deliver_to, deliver_of}
 use Rattle.process_kernel.specs.Run.{deliver_front, kernel_of}
 use Rattle.kernel_laws.specs.Own.{IsOwn, FitsTarget}
 use Rattle.kernel_laws.specs.Going.{IsSound}
@@ -226,10 +226,10 @@ module _ (calls : Calls) (are : AreWatched calls) where
   give_good r moment s x p there f g = good_leads _ r moment s _ g (give_led s x p there f) (resting.give_kept calls are.kept s x p there g.stands.step)
 
   walk_event_good : (r : Bool) (moment : ℕ) (x : Posted) (ms : List Member) (s : State) → (x.event.number ≡ system_number Exit → ⊥) → Good r moment s → IfGoes (Good r moment) (walk_event calls x ms s)
-  unfolding turn_of
+  unfolding visit_of
   walk_event_good r moment x [] s f g = g
   walk_event_good r moment x (m ∷ ms) s f g =
-      goes_bind _ _ (Good r moment) (Good r moment) (turn_of calls s x m) _
+      goes_bind _ _ (Good r moment) (Good r moment) (visit_of calls s x m) _
       (goes_bind _ _ (Good r moment) (Good r moment) (polls_due_of calls s) _ (polls_due_good r moment s g) (λ a t h. give_good r moment t x m.process (is_on_list t m) (λ q. absurd (f q)) h))
       (λ a t h. walk_event_good r moment x ms t f h)
 

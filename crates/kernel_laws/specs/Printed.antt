@@ -8,7 +8,7 @@ use Rattle.mote_program.specs.Tree.{Action, assign, print, spawn, post, broadcas
 use Rattle.mote_program.specs.Code.{Code, Tree}
 use Rattle.protothread.specs.declared.state.PtState.TheVariants.{Yielded}
 use Rattle.protothread.specs.declared.step.Op.TheVariants as op
-use Rattle.protothread.specs.Reading.{Sight, Happening, operates, gives_up, Outcome, done, restarts, exits, stands, ReadsThread}
+use Rattle.protothread.specs.Reading.{Sight, Happening, operates, gives_up, Completion, done, restarts, exits, stands, ReadsThread}
 use Rattle.process_kernel.specs.declared.line.Line.{Line}
 use Rattle.process_kernel.specs.declared.line.What.{What}
 use Rattle.process_kernel.specs.declared.line.What.TheVariants as what
@@ -94,7 +94,7 @@ AreShown mote (now ∷ then ∷ later) [] = ⊥
 AreShown mote (now ∷ then ∷ later) (h ∷ did) = (now.looks.mote ≡ mote) × IsShownThen h now then × AreShown mote (then ∷ later) did
 
 -- the variables that a reading leaves
-abbrev pub left_by : Outcome → List ℕ
+abbrev pub left_by : Completion → List ℕ
 left_by (done now later variables) = variables
 left_by (restarts now later variables) = variables
 left_by (exits now later variables) = variables
@@ -106,7 +106,7 @@ pub record Life (code : Code) (mote : ℕ) (variables : List ℕ) : Type 0 where
   pub now : Sight
   pub later : List Sight
   pub did : List Happening
-  pub became : Outcome
+  pub became : Completion
   pub init : now.event ≡ told Init 0
   pub shown : AreShown mote (now ∷ later) did
   pub reads : ReadsThread code Yielded (listed code.body) now later variables did became

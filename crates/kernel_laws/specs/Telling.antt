@@ -6,7 +6,7 @@ use Rattle.mote_program.specs.declared.event.Event.{Event}
 use Rattle.mote_program.specs.declared.event.SystemEvent.TheVariants.{Init}
 use Rattle.mote_program.specs.Code.{Code, Tree}
 use Rattle.protothread.specs.Remainder.{Remainder}
-use Rattle.protothread.specs.Reading.{Sight, Happening, Outcome}
+use Rattle.protothread.specs.Reading.{Sight, Happening, Completion}
 use Rattle.protothread.specs.Runs.{Runs}
 use Rattle.process_kernel.specs.declared.line.Arrival.{Arrival}
 use Rattle.process_kernel.specs.declared.line.Line.{Line}
@@ -38,14 +38,14 @@ IsAnswered (InCall a e m) answer = answer ≡ a
 IsAnswered next answer = Unit {0}
 
 -- a life with these lines
-pub record HasLife (p : ℕ) (code : Code) (mote : ℕ) (start : List ℕ) (lines : List Line) (became : Outcome) : Type 0 where
+pub record HasLife (p : ℕ) (code : Code) (mote : ℕ) (start : List ℕ) (lines : List Line) (became : Completion) : Type 0 where
   pub life : Life code mote start
   pub became_so : life.became ≡ became
   pub has_lines : lines_of (Own p) life ≡ lines
 
 -- These are its lines so far, and whatever it does from here on, in a sight that can come, belongs to the same life.
 pub record ComesTo (p : ℕ) (code : Code) (mote : ℕ) (start : List ℕ) (lines : List Line) (next : Next) (r : Remainder) (vars : List ℕ) : Type 0 where
-  pub on : (now : Sight) (later : List Sight) (more : List Happening) (out : Outcome) → CanCome next now.event now.looks.moment → IsAnswered next now.answer → AreShown mote (now ∷ later) more
+  pub on : (now : Sight) (later : List Sight) (more : List Happening) (out : Completion) → CanCome next now.event now.looks.moment → IsAnswered next now.answer → AreShown mote (now ∷ later) more
       → Runs code r vars now later more out → HasLife p code mote start (lines ++ prints (Own p) (now ∷ later) more) out
 
 -- In the life that its last start began the process came to here.

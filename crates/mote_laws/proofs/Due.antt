@@ -243,7 +243,7 @@ pub either_stands : (program : Tree) (number queue : ℕ) (n : Node) → Stands 
 either_stands program number queue n (inl h) = inl h.0
 either_stands program number queue n (inr h) = inr h.0
 
-pub turn_stands : (program : Tree) (number queue : ℕ) (n : Node) (x : turns.Given) → Stands program number queue n → Stands program number queue (turn_of x.moment x.arrivals n).node
+pub turn_stands : (program : Tree) (number queue : ℕ) (n : Node) (x : turns.TurnInput) → Stands program number queue n → Stands program number queue (turn_of x.moment x.arrivals n).node
 turn_stands program number queue n x s =
     let w = turn_watched program number queue x.moment x.arrivals n (either_stands program number queue n s) in
     inr (w.rested, λ m e. let same : x.moment ≡ m = same_some x.moment m (sym (now_last x.moment x.arrivals n) ∙ e) in subst (λ k. Watched k (turn_of x.moment x.arrivals n).node.mote) same w)
@@ -251,7 +251,7 @@ turn_stands program number queue n x s =
     same_some : (a b : ℕ) → Some a ≡ Some b → a ≡ b
     same_some a b e = cc
 
-turns_stand : (program : Tree) (number queue : ℕ) (n last : Node) (given : List turns.Given) (lines : List Line) → Turns n given lines last → Stands program number queue n → Stands program number queue last
+turns_stand : (program : Tree) (number queue : ℕ) (n last : Node) (given : List turns.TurnInput) (lines : List Line) → Turns n given lines last → Stands program number queue n → Stands program number queue last
 turns_stand program number queue n last given lines Rests s = s
 turns_stand program number queue n last given lines (Takes {given = x} past t) s = turns_stand program number queue _ last _ _ t (turn_stands program number queue n x s)
 
@@ -259,7 +259,7 @@ pub first_stands : (program : Tree) (number queue : ℕ) (collides : Bool) → S
 unfolding new_node
 first_stands program number queue collides = inl (refl, refl)
 
-all_stand : (program : Tree) (number queue : ℕ) (collides : Bool) (given : List turns.Given) (lines : List Line) (last : Node) → Turns (first_node program number queue collides) given lines last → Stands program number queue last
+all_stand : (program : Tree) (number queue : ℕ) (collides : Bool) (given : List turns.TurnInput) (lines : List Line) (last : Node) → Turns (first_node program number queue collides) given lines last → Stands program number queue last
 all_stand program number queue collides given lines last t = turns_stand program number queue _ last given lines t (first_stands program number queue collides)
 
 -- where a poll of etimer waits, the mote wakes at the next moment

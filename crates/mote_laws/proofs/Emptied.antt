@@ -139,11 +139,11 @@ net_emptied : (program : Tree) (number queue moment : ℕ) (packets : List Arriv
 net_emptied program number queue moment packets u true s k = mote_turn_emptied program number queue moment [] (with_collisions moment packets u) u.mote.halted refl s k
 net_emptied program number queue moment packets u false s k = mote_turn_emptied program number queue moment packets u u.mote.halted refl s k
 
-turn_emptied : (program : Tree) (number queue : ℕ) (n : Node) (x : turns.Given) → Stands program number queue n → Emptied n.mote → Emptied (turn_of x.moment x.arrivals n).node.mote
+turn_emptied : (program : Tree) (number queue : ℕ) (n : Node) (x : turns.TurnInput) → Stands program number queue n → Emptied n.mote → Emptied (turn_of x.moment x.arrivals n).node.mote
 unfolding turn_of net_turn
 turn_emptied program number queue n x s k = net_emptied program number queue x.moment x.arrivals (record { mote = n.mote; lines = []; sends = [] }) (n.collides && is_collision n.mote x.arrivals) (either_stands program number queue n s) k
 
-turns_emptied : (program : Tree) (number queue : ℕ) (n last : Node) (given : List turns.Given) (lines : List Line) → Turns n given lines last → Stands program number queue n → Emptied n.mote → Emptied last.mote
+turns_emptied : (program : Tree) (number queue : ℕ) (n last : Node) (given : List turns.TurnInput) (lines : List Line) → Turns n given lines last → Stands program number queue n → Emptied n.mote → Emptied last.mote
 turns_emptied program number queue n last given lines Rests s k = k
 turns_emptied program number queue n last given lines (Takes {given = x} past t) s k = turns_emptied program number queue _ last _ _ t (turn_stands program number queue n x s) (turn_emptied program number queue n x s k)
 

@@ -73,7 +73,7 @@ turn_owned moment packets n h =
     let u : Underway = record { mote = n.mote; lines = []; sends = [] } in
     owned_if (n.collides && is_collision n.mote packets) (mote_turn moment [] (with_collisions moment packets u)) (mote_turn moment packets u) (mote_turn_owned moment [] (with_collisions moment packets u) h) (mote_turn_owned moment packets u h)
 
-turns_owned : (n last : Node) (given : List turns.Given) (lines : List Line) → Turns n given lines last → Owned n.mote → Owned last.mote
+turns_owned : (n last : Node) (given : List turns.TurnInput) (lines : List Line) → Turns n given lines last → Owned n.mote → Owned last.mote
 turns_owned n last given lines Rests h = h
 turns_owned n last given lines (Takes {given = x} past t) h = turns_owned _ last _ _ t (turn_owned x.moment x.arrivals n h)
 

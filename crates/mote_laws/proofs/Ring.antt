@@ -204,7 +204,7 @@ turn_goes program before moment packets n h =
     let k = net_turn_goes program before n.collides moment packets _ first in
     record { ring = record { left = k.ring.left; runs = k.ring.runs; holds = k.ring.holds }; program_is = k.program_is }
 
-turns_go : (program : Tree) (n last : Node) (given : List turns.Given) (lines : List Line) → Turns n given lines last → (before : List Line) → NodeGoes program before n → NodeGoes program (before ++ lines) last
+turns_go : (program : Tree) (n last : Node) (given : List turns.TurnInput) (lines : List Line) → Turns n given lines last → (before : List Line) → NodeGoes program before n → NodeGoes program (before ++ lines) last
 turns_go program n last given lines Rests before h = rw append-nil h
 turns_go program n last given lines (Takes {given = x} {lines = more} past t) before h =
     let k = turns_go program _ last _ more t (before ++ (turn_of x.moment x.arrivals n).lines) (turn_goes program before x.moment x.arrivals n h) in

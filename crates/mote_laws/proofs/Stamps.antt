@@ -19,7 +19,7 @@ use Rattle.mote_node.specs.Node.{Node, new_node, is_past}
 use Rattle.mote_node.specs.Underway.{Underway, with_mote, with_lines, after}
 use Rattle.mote_node.specs.Arrivals.{received_line, lost_line, collision_line, hear, hear_each, took_some, hear_all, is_collision, with_collisions}
 use Rattle.mote_node.specs.Turn.{most_runs, boot_due, is_due, poll_due, follow, runs_of, work_of, mote_turn, net_turn, turn_of}
-use Rattle.mote_node.specs.Laws.{Given, Turns, Rests, Takes}
+use Rattle.mote_node.specs.Laws.{TurnInput, Turns, Rests, Takes}
 use Rattle.kernel_laws.specs.Stamps.{LinesBear, PacketsBear, AreNumberedFrom, Stamped, written}
 use Rattle.kernel_laws.proofs.Stamps.{numbered_on, stamped_twice, stamped_still, poll_still}
 use Rattle.kernel_laws.proofs.StampedCalls.{boot_stamps, run_stamps}
@@ -161,21 +161,21 @@ turns_stamp moment arrivals n =
 
 -- the packets of turns
 
-packets_numbered : (given : List Given) (n : Node) → AreNumberedFrom n.mote.state.sent (packets_of n given)
+packets_numbered : (given : List TurnInput) (n : Node) → AreNumberedFrom n.mote.state.sent (packets_of n given)
 packets_numbered [] n = refl
 packets_numbered (g ∷ later) n =
     let t = turn_of g.moment g.arrivals n in
     let h = turns_stamp g.moment g.arrivals n in
     numbered_on n.mote.state.sent t.sends (packets_of t.node later) h.numbered (subst (λ k. AreNumberedFrom k (packets_of t.node later)) h.counted (packets_numbered later t.node))
 
-packets_named : (mote : ℕ) (given : List Given) (n : Node) → n.mote.state.mote ≡ mote → All (λ x. x.sender ≡ mote) (packets_of n given)
+packets_named : (mote : ℕ) (given : List TurnInput) (n : Node) → n.mote.state.mote ≡ mote → All (λ x. x.sender ≡ mote) (packets_of n given)
 packets_named mote [] n e = All-nil (λ (x : Sent). x.sender ≡ mote)
 packets_named mote (g ∷ later) n e =
     let t = turn_of g.moment g.arrivals n in
     let h = turns_stamp g.moment g.arrivals n in
     All-append (λ x. x.sender ≡ mote) t.sends (packets_of t.node later) (All-weaker (λ x. (x.at ≡ g.moment) × (x.sender ≡ n.mote.state.mote)) (λ x. x.sender ≡ mote) (λ x k. k.1 ∙ e) t.sends h.packets) (packets_named mote later t.node (h.mote ∙ e))
 
-new_sent : (n : Node) (given : List Given) → n.mote.state.sent ≡ 0 → AreNumberedFrom 0 (packets_of n given)
+new_sent : (n : Node) (given : List TurnInput) → n.mote.state.sent ≡ 0 → AreNumberedFrom 0 (packets_of n given)
 new_sent n given e = subst (λ k. AreNumberedFrom k (packets_of n given)) e (packets_numbered given n)
 
 pub new_is : (program : Tree) (number queue : ℕ) → ((new_node program number queue).mote.state.mote ≡ number) × ((new_node program number queue).mote.state.sent ≡ 0)
@@ -199,7 +199,7 @@ unfolding turn_of
 now_last moment arrivals n = refl
 
 -- the lines of turns after this moment are not below it
-lines_above : (n last : Node) (given : List Given) (lines : List Line) (m : ℕ) → n.last ≡ Some m → Turns n given lines last → All (λ l. m ≤ l.at) lines
+lines_above : (n last : Node) (given : List TurnInput) (lines : List Line) (m : ℕ) → n.last ≡ Some m → Turns n given lines last → All (λ l. m ≤ l.at) lines
 lines_above n last given lines m is Rests = All-nil (λ (l : Line). m ≤ l.at)
 lines_above n last given lines m is (Takes {given = g} {lines = more} past t) =
     let turn = turn_of g.moment g.arrivals n in

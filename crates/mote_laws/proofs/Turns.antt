@@ -150,7 +150,7 @@ pub new_goes : NewGoesWithNoLines
 unfolding new_node
 new_goes program number queue = no_lines_first program number queue
 
-turns_go : (n last : Node) (given : List turns.Given) (lines : List Line) → Turns n given lines last → (before : List Line) → GoesWith before n.mote → GoesWith (before ++ lines) last.mote
+turns_go : (n last : Node) (given : List turns.TurnInput) (lines : List Line) → Turns n given lines last → (before : List Line) → GoesWith before n.mote → GoesWith (before ++ lines) last.mote
 turns_go n last given lines Rests before g = rw append-nil g
 turns_go n last given lines (Takes {given = x} {lines = more} past t) before g =
     let k = turns_go _ last _ more t (before ++ (turn_of x.moment x.arrivals n).lines) (turn_keeps before x.moment x.arrivals n g) in

@@ -19,7 +19,7 @@ use Rattle.mote_node.specs.Underway.{Underway, with_mote}
 use Rattle.mote_node.specs.Arrivals.{hear_all, is_collision, with_collisions}
 use Rattle.mote_node.specs.Turn.{boot_due, poll_due, turn_of}
 use Rattle.mote_node.specs.Wake.{wake_of}
-use Rattle.mote_node.specs.Laws.{Given, Turns}
+use Rattle.mote_node.specs.Laws.{TurnInput, Turns}
 use Rattle.mote_laws.specs.Ring.{first_node}
 
 -- a poll of etimer waits, and the mote wakes at the next moment
@@ -31,13 +31,13 @@ pub record WakesForEtimer (moment : ℕ) (n : Node) : Type 0 where
 -- waits, and the mote wakes at the next moment.
 abbrev pub TurnsForgetNone : Type 0
 TurnsForgetNone =
-    (program : Tree) (number queue : ℕ) (collides : Bool) (given : List Given) (lines : List Line) (last : Node) (moment : ℕ) → Turns (first_node program number queue collides) given lines last
+    (program : Tree) (number queue : ℕ) (collides : Bool) (given : List TurnInput) (lines : List Line) (last : Node) (moment : ℕ) → Turns (first_node program number queue collides) given lines last
     → last.last ≡ Some moment → last.mote.halted ≡ false → NoneIsDue moment last.mote.state.timers ⊎ WakesForEtimer moment last
 
 -- and each timer on its list has an owner, whatever turns a mote takes
 abbrev pub TurnsKeepOwners : Type 0
 TurnsKeepOwners =
-    (program : Tree) (number queue : ℕ) (collides : Bool) (given : List Given) (lines : List Line) (last : Node) → Turns (first_node program number queue collides) given lines last
+    (program : Tree) (number queue : ℕ) (collides : Bool) (given : List TurnInput) (lines : List Line) (last : Node) → Turns (first_node program number queue collides) given lines last
     → HaveOwners last.mote.state.timers
 
 -- a turn as its kernel runs begin: the mote was booted, the packets that arrive were heard, and etimer is to be polled where a timer
@@ -65,6 +65,6 @@ pub record ServesTimers (moment : ℕ) (arrivals : List Arrival) (n : Node) : Ty
 -- a turn at which a timer is due serves its timers, unless the mote halts in it
 abbrev pub TurnsServeTimers : Type 0
 TurnsServeTimers =
-    (program : Tree) (number queue : ℕ) (collides : Bool) (given : List Given) (lines : List Line) (n : Node) → Turns (first_node program number queue collides) given lines n
+    (program : Tree) (number queue : ℕ) (collides : Bool) (given : List TurnInput) (lines : List Line) (n : Node) → Turns (first_node program number queue collides) given lines n
     → (moment : ℕ) (arrivals : List Arrival) (timer : ℕ) (owner : Proc) → IsDueFor moment n.mote.state.timers timer owner → (turn_of moment arrivals n).node.mote.halted ≡ false
     → ServesTimers moment arrivals n

@@ -6,7 +6,7 @@ use Rattle.process_kernel.specs.declared.line.Line.{Line}
 use Rattle.kernel_laws.specs.Going.{GoesWith, IsInOrder}
 use Rattle.mote_node.specs.Node.{Node, new_node}
 use Rattle.mote_node.specs.Turn.{turn_of}
-use Rattle.mote_node.specs.Laws.{Given, Turns}
+use Rattle.mote_node.specs.Laws.{TurnInput, Turns}
 
 -- the lines of a mote so far, with those of a turn behind them, go with the mote after the turn
 abbrev pub TurnKeeps : Type 0
@@ -20,4 +20,4 @@ NewGoesWithNoLines = (program : Tree) (number queue : ℕ) → GoesWith [] (new_
 -- whatever its program is, and whatever turns it takes
 abbrev pub MotesHandOn : Type 0
 MotesHandOn =
-    (program : Tree) (number queue : ℕ) (given : List Given) (lines : List Line) (last : Node) → Turns (new_node program number queue) given lines last → IsInOrder lines
+    (program : Tree) (number queue : ℕ) (given : List TurnInput) (lines : List Line) (last : Node) → Turns (new_node program number queue) given lines last → IsInOrder lines

@@ -12,7 +12,7 @@ use Rattle.mote_node.specs.Node.{Node, new_node}
 use Rattle.mote_node.specs.Public.{with_collide}
 use Rattle.mote_node.specs.Arrivals.{is_collision}
 use Rattle.mote_node.specs.Turn.{turn_of}
-use Rattle.mote_node.specs.Laws.{Given, Turns}
+use Rattle.mote_node.specs.Laws.{TurnInput, Turns}
 
 -- a node before its first turn, whether packets that arrive together collide or not
 abbrev pub first_node : Tree → (number queue : ℕ) → (collides : Bool) → Node
@@ -50,7 +50,7 @@ pub record GoesWithRing (receiver : Option ℕ) (lines : List Line) (m : Mote) :
 -- whatever turns a mote takes, up to any of them
 abbrev pub RingGoesWithLines : Type 0
 RingGoesWithLines =
-    (program : Tree) (number queue : ℕ) (collides : Bool) (given : List Given) (lines : List Line) (last : Node) → Turns (first_node program number queue collides) given lines last
+    (program : Tree) (number queue : ℕ) (collides : Bool) (given : List TurnInput) (lines : List Line) (last : Node) → Turns (first_node program number queue collides) given lines last
     → GoesWithRing program.receiver lines last.mote
 
 -- the packets that were received, in order
@@ -71,7 +71,7 @@ pub data AreAmong : List What → List Line → Type 0 where
 -- after a turn of a mote that has not halted its ring is empty
 abbrev pub TurnsEmptyRing : Type 0
 TurnsEmptyRing =
-    (program : Tree) (number queue : ℕ) (collides : Bool) (given : List Given) (lines : List Line) (last : Node) → Turns (first_node program number queue collides) given lines last
+    (program : Tree) (number queue : ℕ) (collides : Bool) (given : List TurnInput) (lines : List Line) (last : Node) → Turns (first_node program number queue collides) given lines last
     → last.mote.halted ≡ false → last.mote.state.ring ≡ []
 
 -- The packets that were received are, in order, those that lines tell of, each with a line of its own in the same order. Only where
@@ -87,5 +87,5 @@ pub record AccountsForPackets (receiver : Option ℕ) (lines : List Line) (m : M
 
 abbrev pub PacketsAreAccountedFor : Type 0
 PacketsAreAccountedFor =
-    (program : Tree) (number queue : ℕ) (collides : Bool) (given : List Given) (lines : List Line) (last : Node) → Turns (first_node program number queue collides) given lines last
+    (program : Tree) (number queue : ℕ) (collides : Bool) (given : List TurnInput) (lines : List Line) (last : Node) → Turns (first_node program number queue collides) given lines last
     → AccountsForPackets program.receiver lines last.mote

@@ -8,7 +8,7 @@ use Rattle.process_kernel.specs.declared.line.Sent.{Sent}
 use Rattle.kernel_laws.specs.Stamps.{LinesBear, PacketsBear, AreNumberedFrom}
 use Rattle.mote_node.specs.Node.{Node, new_node}
 use Rattle.mote_node.specs.Turn.{Turned, turn_of}
-use Rattle.mote_node.specs.Laws.{Given, Turns}
+use Rattle.mote_node.specs.Laws.{TurnInput, Turns}
 
 -- The lines of a turn bear its moment, and so do its packets, which bear the mote too and are numbered on from how many the mote
 -- sent before; these are counted, and the mote keeps its number.
@@ -23,14 +23,14 @@ abbrev pub TurnsStamp : Type 0
 TurnsStamp = (moment : ℕ) (arrivals : List Arrival) (n : Node) → IsStamped moment n (turn_of moment arrivals n)
 
 -- the packets of these turns, one after another
-abbrev pub packets_of : Node → List Given → List Sent
+abbrev pub packets_of : Node → List TurnInput → List Sent
 packets_of n [] = []
 packets_of n (g ∷ later) = let t = turn_of g.moment g.arrivals n in t.sends ++ packets_of t.node later
 
 -- whatever turns a new node takes, its packets bear its number, and are numbered 0, 1, 2 and so on, in order
 abbrev pub PacketsCountUp : Type 0
 PacketsCountUp =
-    (program : Tree) (number queue : ℕ) (given : List Given) → let sends = packets_of (new_node program number queue) given in
+    (program : Tree) (number queue : ℕ) (given : List TurnInput) → let sends = packets_of (new_node program number queue) given in
     All (λ x. x.sender ≡ number) sends × AreNumberedFrom 0 sends
 
 -- no line is of an earlier moment than one before it
@@ -38,4 +38,4 @@ abbrev pub NeverGoBack : List Line → Type 0
 NeverGoBack lines = IsNonDecreasingBy (λ l. l.at) lines
 
 abbrev pub TurnsNeverGoBack : Type 0
-TurnsNeverGoBack = (n last : Node) (given : List Given) (lines : List Line) → Turns n given lines last → NeverGoBack lines
+TurnsNeverGoBack = (n last : Node) (given : List TurnInput) (lines : List Line) → Turns n given lines last → NeverGoBack lines

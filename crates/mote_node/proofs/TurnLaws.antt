@@ -11,7 +11,7 @@ use Rattle.mote_node.specs.Arrivals.{is_collision}
 use Rattle.mote_node.specs.Turn.{boot_due, work_of, mote_turn, net_turn, node_after, turned_to, turn_of}
 use Rattle.mote_node.specs.Wake.{wake_after}
 use Rattle.mote_node.proofs.StepLemmas.{if_true, if_false}
-use Rattle.mote_node.specs.Laws.{Given, Turns, Rests, Takes, TurnsRise, HaltedRests}
+use Rattle.mote_node.specs.Laws.{TurnInput, Turns, Rests, Takes, TurnsRise, HaltedRests}
 
 increasing_one : (m : ℕ) → IsStrictlyIncreasing (m ∷ [])
 increasing_one m k h = absurd (omega arith)
@@ -25,7 +25,7 @@ above : (moment : ℕ) (last : Option ℕ) (m : ℕ) → last ≡ Some m → is_
 above moment None m is past = cc
 above moment (Some l) m is past = let same : l ≡ m = cc in grind (arith, nat_tests)
 
-rises_from : (given : List Given) (n last : Node) (m : ℕ) (lines : List Line) → n.last ≡ Some m → Turns n given lines last → IsStrictlyIncreasing (m ∷ map (λ g. g.moment) given)
+rises_from : (given : List TurnInput) (n last : Node) (m : ℕ) (lines : List Line) → n.last ≡ Some m → Turns n given lines last → IsStrictlyIncreasing (m ∷ map (λ g. g.moment) given)
 unfolding turn_of
 rises_from [] n last m lines is Rests = increasing_one m
 rises_from (g ∷ later) n last m lines is (Takes past rest) =

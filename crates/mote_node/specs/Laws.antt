@@ -26,20 +26,20 @@ WakesInTime =
     after.mote.halted ≡ false → next_expiration_of after.mote.state.timers ≡ Some due → WakesBy (max (moment + 1) due) (turn_of moment arrivals n).wake
 
 -- a turn that a node is to take
-pub record Given : Type 0 where
+pub record TurnInput : Type 0 where
   pub moment : ℕ
   pub arrivals : List Arrival
 
 -- turns one after another, each at a moment that isn't past, lead from a node to a node, and write these lines
-pub data Turns : Node → List Given → List Line → Node → Type 0 where
+pub data Turns : Node → List TurnInput → List Line → Node → Type 0 where
   Rests : {n : Node} → Turns n [] [] n
-  Takes : {n last : Node} {given : Given} {later : List Given} {lines : List Line}
+  Takes : {n last : Node} {given : TurnInput} {later : List TurnInput} {lines : List Line}
       → is_past given.moment n.last ≡ false → Turns (turn_of given.moment given.arrivals n).node later lines last
       → Turns n (given ∷ later) ((turn_of given.moment given.arrivals n).lines ++ lines) last
 
 -- turns happen at rising moments alone
 abbrev pub TurnsRise : Type 0
-TurnsRise = (n last : Node) (given : List Given) (lines : List Line) → Turns n given lines last → IsStrictlyIncreasing (map (λ g. g.moment) given)
+TurnsRise = (n last : Node) (given : List TurnInput) (lines : List Line) → Turns n given lines last → IsStrictlyIncreasing (map (λ g. g.moment) given)
 
 -- a turn of a node that has halted changes its clock alone, writes and sends nothing, and gives no wake
 abbrev pub HaltedRests : Type 0

@@ -3,12 +3,14 @@ use Rattle.std.proofs.Common.{◌≡◌, ℕ, ◌+◌, ◌≤◌, ◌<◌, min, 
 use Rattle.std.specs.Prelude.{nat_le}
 use Rattle.std.specs.List.{IsDistinct, find}
 use Rattle.std.specs.Option.{IsSomeAnd, is_some, option_map_or}
-use Rattle.std.proofs.lemmas.Bool.{cond_both, leb-true, leb-false, eqb-true, ne_eqb, false_from_ne_true, not_from_false, false≢true}
+use Rattle.std.proofs.lemmas.Bool.{cond_both, leb-true, leb-false, ne_eqb, false_from_ne_true, not_from_false, false≢true}
+use Rattle.std.proofs.lemmas.Bool.Decides.{nat_tests}
 use Rattle.std.proofs.lemmas.List.{get_or-set_other, get_or-set_same, length-set}
 use Rattle.mote_program.specs.declared.event.Proc.{Proc}
 use Rattle.mote_program.specs.declared.event.Proc.TheVariants.{Own, Etimer, Ctimer, Radio}
 use Rattle.mote_timers.specs.Numbers.{is_member}
-use Rattle.mote_timers.specs.Timer.{expiration, is_same}
+use Rattle.mote_timers.specs.Processes.{is_same}
+use Rattle.mote_timers.specs.Timer.{expiration}
 use Rattle.mote_timers.specs.TimerLists.{TimerLists, timer_at, new_timers, set_timer, reset_timer, restart_timer, stop_timer, purge_timers, first_due, next_expiration_of, least}
 use Rattle.mote_timers.specs.TimerCalls.{TimerCall, Set, Reset, Restart, Stop, Fire, Purge, after_call, after_calls, TakesOff, Starts, NoneTakesOff, NoneStarts, ListedOnce, KeepsTimers, DueFromExpiration, DueFromSet, DueFromNextExpiration}
 use Rattle.mote_timers.proofs.NumberLists.{IsDistinct-with, IsDistinct-filter, is_member-with, is_member-kept, is_member-filter}
@@ -50,9 +52,15 @@ timers_stay s (call ∷ calls) = timers_stay (after_call s call) calls ∙ timer
 -- ---- due from the expiration on
 
 same_proc : (p q : Proc) → is_same p q ≡ true → q ≡ p
-same_proc (Own a) (Own b) same = ap Own (sym (eqb-true a b same))
+same_proc (Own a) (Own b) same = let is : b ≡ a = grind (arith, nat_tests) in ap Own is
+same_proc (Own a) Etimer same = absurd (grind (arith, nat_tests))
+same_proc (Own a) Ctimer same = absurd (grind (arith, nat_tests))
+same_proc (Own a) Radio same = absurd (grind (arith, nat_tests))
+same_proc Etimer (Own b) same = absurd (grind (arith, nat_tests))
 same_proc Etimer Etimer same = refl
+same_proc Ctimer (Own b) same = absurd (grind (arith, nat_tests))
 same_proc Ctimer Ctimer same = refl
+same_proc Radio (Own b) same = absurd (grind (arith, nat_tests))
 same_proc Radio Radio same = refl
 same_proc _ _ same = absurd (false≢true same)
 

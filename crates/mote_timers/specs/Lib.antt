@@ -1,4 +1,5 @@
 pub mod Numbers
+pub mod Processes
 pub mod Timer
 pub mod TimerCalls
 pub mod TimerLists

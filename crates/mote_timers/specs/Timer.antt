@@ -1,9 +1,9 @@
 -- Timers, and what each call makes of them.
-use Rattle.std.specs.Prelude.{ℕ, ◌+◌, ◌==◌, nat_le, Bool, true, false, None}
+use Rattle.std.specs.Prelude.{ℕ, ◌+◌, nat_le, Bool, false, None}
 use Rattle.std.specs.Option.{option_map_or}
 use Rattle.mote_program.specs.declared.event.Proc.{Proc}
-use Rattle.mote_program.specs.declared.event.Proc.TheVariants.{Own, Etimer, Ctimer, Radio}
 use Rattle.mote_timers.specs.declared.timer.Timer.{Timer}
+use Rattle.mote_timers.specs.Processes.{is_same}
 
 -- a timer before it is first set
 abbrev pub unset : Timer
@@ -15,13 +15,6 @@ expiration t = t.start + t.interval
 
 abbrev pub is_due : ℕ → Timer → Bool
 is_due now t = nat_le (expiration t) now
-
-abbrev pub is_same : Proc → Proc → Bool
-is_same (Own a) (Own b) = a == b
-is_same Etimer Etimer = true
-is_same Ctimer Ctimer = true
-is_same Radio Radio = true
-is_same _ _ = false
 
 -- whether the process owns the timer
 abbrev pub is_owned_by : Proc → Timer → Bool

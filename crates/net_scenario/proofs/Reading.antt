@@ -20,7 +20,7 @@ use Rattle.net_scenario.specs.declared.programs.NamedProgram.{NamedProgram}
 use Rattle.net_scenario.specs.Errors.{of_medium}
 use Rattle.net_scenario.specs.Document.{version_of, natural, integer_at, natural_at, flag_at, table_at, tables_at, document_fault}
 use Rattle.net_scenario.specs.Programs.{named_tree, texts_of, AllRead, ReadsPrograms}
-use Rattle.net_scenario.specs.Net.{MoteTold, mote_of, mote_told, place_of, radio_told}
+use Rattle.net_scenario.specs.Net.{MoteTold, mote_of, mote_told, place_told, radio_told}
 use Rattle.net_scenario.specs.Reading.{document_of, HasTrees, IsNetOf, MakesRadio, MakesNet, Answers}
 
 -- a document makes what its text tells
@@ -105,4 +105,4 @@ some_motes top f = tables_asked fewest_motes most_motes (codes "mote") top (keep
 
 -- as many places as motes
 pub place_count : (top : Members) (radio : Radio) → MakesRadio (radio_told top) (Ok radio) → length radio.places ≡ length (tables_at (codes "mote") top)
-place_count top radio made = ap (λ (r : Radio). length r.places) made.0 ∙ length-map (tables_at (codes "mote") top) place_of
+place_count top radio made = ap (λ (r : Radio). length r.places) made.0 ∙ length-map (tables_at (codes "mote") top) place_told

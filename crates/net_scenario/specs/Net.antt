@@ -51,8 +51,8 @@ mote_of queue trees ms = record {
   queue = queue_of queue (text_at (codes "program") ms);
 }
 
-abbrev pub place_of : Members → Place
-place_of ms = record { x = number_at (codes "x") ms; y = number_at (codes "y") ms }
+abbrev pub place_told : Members → Place
+place_told ms = record { x = number_at (codes "x") ms; y = number_at (codes "y") ms }
 
 abbrev pub loss_of : Members → Loss
 loss_of ms = record { sender = natural_at (codes "from") ms; to = natural_at (codes "to") ms; every = natural_at (codes "every") ms }
@@ -60,7 +60,7 @@ loss_of ms = record { sender = natural_at (codes "from") ms; to = natural_at (co
 -- the medium of a document: its numbers, the places of its motes, and its losses
 abbrev pub radio_told : Members → Radio
 radio_told top = record {
-  places = map place_of (tables_at (codes "mote") top);
+  places = map place_told (tables_at (codes "mote") top);
   range = natural_at (codes "range") (table_at (codes "medium") top);
   base = natural_at (codes "base") (table_at (codes "medium") top);
   per = natural_at (codes "per") (table_at (codes "medium") top);

@@ -18,13 +18,13 @@ give_of calls s x p is_there =
     if is_there then (write_of s (what.Take x.serial p) >>= λ _ s1. calls.call s1 p x.event) else write_of s (what.Drop x.serial p)
 
 -- the turn of an incarnation in the walk of an event that goes to all: the polls come first, where the flag is set
-unfoldable pub turn_of : Calls → State → Posted → Member → Went
-turn_of calls s x m = polls_due_of calls s >>= λ _ s1. give_of calls s1 x m.process (is_on_list s1 m)
+unfoldable pub visit_of : Calls → State → Posted → Member → Went
+visit_of calls s x m = polls_due_of calls s >>= λ _ s1. give_of calls s1 x m.process (is_on_list s1 m)
 
 -- the walk of an event that goes to all, which skips none
 abbrev pub walk_event : Calls → Posted → List Member → State → Went
 walk_event calls x [] s = Goes tt s
-walk_event calls x (m ∷ ms) s = turn_of calls s x m >>= λ _ s1. walk_event calls x ms s1
+walk_event calls x (m ∷ ms) s = visit_of calls s x m >>= λ _ s1. walk_event calls x ms s1
 
 abbrev pub deliver_to : Target → Calls → State → Posted → Went
 deliver_to (One p) calls s x = give_of calls s x p (is_listed s p)

@@ -12,11 +12,11 @@ use Rattle.process_kernel.specs.Calls.{Calls, told, walk_of}
 use Rattle.process_kernel.specs.Reaction.{react_of}
 
 -- the number by which EXITED names a process; the system processes, which never leave, come behind those of any program
-abbrev pub number_of : Proc → ℕ
-number_of (Own p) = p
-number_of Etimer = 256
-number_of Ctimer = 257
-number_of Radio = 258
+abbrev pub process_number : Proc → ℕ
+process_number (Own p) = p
+process_number Etimer = 256
+process_number Ctimer = 257
+process_number Radio = 258
 
 -- The last run of a process that another one exits: it is run with EXIT as in a call, whatever it answers.
 unfoldable pub last_run_of : Calls → State → Proc → Went
@@ -26,6 +26,6 @@ last_run_of calls s p = spend_of s >>= λ _ s1. react_of calls s1 p (told Exit 0
 -- unless it asked for the exit itself, and then it leaves.
 unfoldable pub exit_of : Calls → State → Proc → (behalf : Proc) → Went
 exit_of calls s p behalf =
-    if is_listed s p then (walk_of calls (told Exited (number_of p)) p s.members (exiting_of s p) >>= λ _ s1.
+    if is_listed s p then (walk_of calls (told Exited (process_number p)) p s.members (exiting_of s p) >>= λ _ s1.
     (if is_same p behalf then Goes tt s1 else last_run_of calls s1 p) >>= λ _ s2. leave_of s2 p)
     else Goes tt s

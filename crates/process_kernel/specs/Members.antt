@@ -1,19 +1,9 @@
--- Processes by their places in the tables of a mote, and what holds of every process list.
-use Rattle.std.specs.Prelude.{ℕ, ◌+◌, ◌<◌, ◌==◌, Bool, true, not, ◌&&◌, IsTrue, List, [], ◌∷◌, All}
+-- What holds of every process list.
+use Rattle.std.specs.Prelude.{ℕ, ◌<◌, ◌==◌, Bool, true, not, ◌&&◌, IsTrue, List, [], ◌∷◌, All}
 use Rattle.std.specs.List.{list_any}
 use Rattle.mote_program.specs.declared.event.Proc.{Proc}
-use Rattle.mote_program.specs.declared.event.Proc.TheVariants.{Own, Etimer, Ctimer, Radio}
+pub use Rattle.mote_timers.specs.Processes.{place_of, is_same}
 use Rattle.process_kernel.specs.declared.process.Member.{Member}
-
--- the system processes come first, then those of the program in their order
-abbrev pub place_of : Proc → ℕ
-place_of Etimer = 0
-place_of Ctimer = 1
-place_of Radio = 2
-place_of (Own p) = p + 3
-
-abbrev pub is_same : Proc → Proc → Bool
-is_same p q = place_of p == place_of q
 
 -- some incarnation of the process is on the list
 abbrev pub stands_in : List Member → Proc → Bool

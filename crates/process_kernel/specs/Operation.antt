@@ -24,7 +24,8 @@ use Rattle.process_kernel.specs.Kill.{kill_of}
 abbrev pub posted : ℕ → ℕ → Event
 posted number word = record { number = number; word = word; sender = 0 }
 
--- An operation that has no answer, for the current process: the one whose body, handler or callback is being executed.
+-- An operation that has no answer, for the current process: the one whose body, handler or callback is being executed. A post, which
+-- has one, is left to `perform_of`; its line here is never reached, and only makes this a definition for each `Op`.
 unfoldable pub act_of : Calls → State → (current : ℕ) → Op → Went
 act_of calls s current (op.Post t e w) = Goes tt s
 act_of calls s current (op.Synch p e w) = calls.call s p (posted e w)

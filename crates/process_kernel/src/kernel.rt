@@ -46,7 +46,8 @@ impl fmt::Display for KernelError {
 impl Error for KernelError {}
 
 /// The process kernel of a mote (`process.c`, `etimer.c` and `ctimer.c` of Contiki). It is booted once and then run, always with
-/// the same program. All its memory is taken by `new`, but for the lines and packets of its runs.
+/// the same program. All its memory is taken by `new`, but for the lines and packets of its runs, and for the thread of a body that
+/// begins anew while it runs. Where that is refused, what `out` had stays, perhaps with more behind it, and the kernel fails from then on.
 #[derive(Drop)]
 pub struct Kernel {
     machine: Machine,

@@ -20,7 +20,7 @@ pub const MOST_PROCESSES: usize = 67;
 pub enum Stop {
     /// The mote has halted.
     Halted,
-    /// No memory was found for a line or a packet.
+    /// No memory was found for a line, a packet, or the thread of a body that begins anew while it runs.
     Memory,
 }
 

@@ -5,7 +5,7 @@ ghost use Rattle.mote_program.specs.Program.{tree_of, code_of};
 ghost use Rattle.protothread.specs.Frames.{remainder_of};
 ghost use Rattle.process_kernel.specs.Call.{calls_of};
 ghost use Rattle.process_kernel.specs.Calls.{walk_of};
-ghost use Rattle.process_kernel.specs.Exit.{number_of as number_told, last_run_of, exit_of};
+ghost use Rattle.process_kernel.specs.Exit.{process_number as number_told, last_run_of, exit_of};
 ghost use Rattle.process_kernel.specs.Start.{start_of};
 ghost use Rattle.process_kernel.specs.Kill.{kill_of};
 ghost use Rattle.process_kernel.specs.Operation.{posted, act_of, perform_of};
@@ -31,7 +31,7 @@ fn posted(number: u8, word: u16) -> Event
 }
 
 /// The number by which EXITED names a process.
-fn number_of(process: Proc) -> u16
+fn process_number(process: Proc) -> u16
     ensures { result ≡ number_told process }
 {
     match process {
@@ -149,7 +149,7 @@ impl Machine {
         }
         let members = self.snapshot();
         self.begin_exit(process);
-        let exited = told(SystemEvent::Exited, number_of(process));
+        let exited = told(SystemEvent::Exited, process_number(process));
         self.walk(program, &exited, process, members.as_slice())?;
         if !is_same(process, behalf) {
             self.run_last(program, process)?;

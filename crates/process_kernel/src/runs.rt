@@ -7,7 +7,7 @@ ghost use Rattle.process_kernel.specs.Call.{calls_of};
 ghost use Rattle.process_kernel.specs.Processes.{flag_at};
 ghost use Rattle.process_kernel.specs.ProcessList.{numbered_from};
 ghost use Rattle.process_kernel.specs.Polls.{poll_turn_of, walk_polls, polls_of, polls_due_of};
-ghost use Rattle.process_kernel.specs.Delivery.{give_of, turn_of, walk_event, deliver_of};
+ghost use Rattle.process_kernel.specs.Delivery.{give_of, visit_of, walk_event, deliver_of};
 ghost use Rattle.process_kernel.specs.Run.{begun_of, deliver_front, kernel_of};
 ghost use Rattle.process_kernel.specs.Views.{state_of, Tells, Grows, HasRoom, Spends};
 
@@ -180,7 +180,7 @@ impl Machine {
     }
 
     /// The turn of an incarnation in the walk of an event that goes to all.
-    #[tactic(auto, unfolding(crate::specs::Delivery::turn_of))]
+    #[tactic(auto, unfolding(crate::specs::Delivery::visit_of))]
     fn give_in_turn(
         &mut self,
         program: &Program,
@@ -188,7 +188,7 @@ impl Machine {
         member: Member,
     ) -> Result<(), Stop>
         requires { HasRoom 0 self.old }
-        ensures exact { (k : ℕ) → self.old.fuel < k → Tells result (state_of (tree_of program.now) self.new) (turn_of (calls_of k) (state_of (tree_of program.now) self.old) posted.now member) }
+        ensures exact { (k : ℕ) → self.old.fuel < k → Tells result (state_of (tree_of program.now) self.new) (visit_of (calls_of k) (state_of (tree_of program.now) self.old) posted.now member) }
         ensures spends { OnOk result (Spends 0 self.old self.new) }
         ensures grows { Grows self.old.out self.new.out }
     {

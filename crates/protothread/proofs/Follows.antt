@@ -15,16 +15,16 @@ use Rattle.protothread.specs.declared.deed.Deed.TheVariants.{Yields}
 use Rattle.protothread.specs.declared.step.Op.{Op}
 use Rattle.protothread.specs.declared.step.Op.TheVariants.{Post}
 use Rattle.protothread.specs.declared.step.Step.TheVariants as step
-use Rattle.protothread.specs.State.{number_of}
+use Rattle.protothread.specs.State.{state_number}
 use Rattle.protothread.specs.Value.{holds, truth}
 use Rattle.protothread.specs.Remainder.{Place, ended, at, within, before, spawner_place, settled, Remainder, thread_block, whole_of, fresh_of}
 use Rattle.protothread.specs.Step.{Advanced, goes_on, operates as stops, answers, passes_where, performed, other_block, spawner_reached, reached, continued, passed, yield_answer, advanced_of, variables_answered}
 use Rattle.protothread.proofs.Units.{follows, stepped, settles}
-use Rattle.protothread.specs.Reading.{Sight, Happening, operates, gives_up, Outcome, done, restarts, exits, stands, IsDone, Restarts, told, resumed, meaning, Awaits, met, again, never, Reads, passes, assigns, performs, waits, waits_last, yields, yields_until, yields_until_last, pauses, pauses_last, posts_last, spawn_ends, spawn_exits, spawn_stands, restarted, restarted_last, exited, chooses, repeats, leaves, ReadsAll, nothing_left, in_turn, breaks_off, ReadsThread, once, anew}
+use Rattle.protothread.specs.Reading.{Sight, Happening, operates, gives_up, Completion, done, restarts, exits, stands, IsDone, Restarts, with_answer, resumed, meaning, Awaits, met, again, never, Reads, passes, assigns, performs, waits, waits_last, yields, yields_until, yields_until_last, pauses, pauses_last, posts_last, spawn_ends, spawn_exits, spawn_stands, restarted, restarted_last, exited, chooses, repeats, leaves, ReadsAll, nothing_left, in_turn, breaks_off, ReadsThread, once, anew}
 use Rattle.protothread.specs.Runs.{Runs, operated, operated_last, gave_up, gave_up_last, has_exited, has_ended}
 
 -- a run from a remainder whose next step, with so many more units, is the same
-later_run : (code : Code) (more : ℕ) (r next : Remainder) (vars changed : List ℕ) (now : Sight) (later : List Sight) (h : List Happening) (out : Outcome)
+later_run : (code : Code) (more : ℕ) (r next : Remainder) (vars changed : List ℕ) (now : Sight) (later : List Sight) (h : List Happening) (out : Completion)
     → ((units : ℕ) → advanced_of code now.event now.looks r vars (units + more) ≡ advanced_of code now.event now.looks next changed units)
     → Runs code next changed now later h out → Runs code r vars now later h out
 later_run code more r _ vars _ _ _ _ _ same (operated next left old new now call later o h out s run) =
@@ -81,7 +81,7 @@ pub is_false : (b : Bool) → holds (truth b) ≡ false → b ≡ false
 is_false true h = absurd (cc)
 is_false false h = refl
 
-pub heard : (into : Option ℕ) (vars : List ℕ) (answer : ℕ) → told into vars answer ≡ variables_answered (UnderWay into) vars answer
+pub heard : (into : Option ℕ) (vars : List ℕ) (answer : ℕ) → with_answer into vars answer ≡ variables_answered (UnderWay into) vars answer
 heard None vars answer = refl
 heard (Some i) vars answer = refl
 
@@ -90,7 +90,7 @@ module _ (code : Code) (part : Part) where
   whole = whole_of code part
 
   -- a run from this place on, in a call that has come there
-  abbrev From : Place → (now : Sight) → (later : List Sight) → List ℕ → List Happening → Outcome → Type 0
+  abbrev From : Place → (now : Sight) → (later : List Sight) → List ℕ → List Happening → Completion → Type 0
   From p now later vars h out = Runs code (record { part = part; mark = UnderWay None; place = p }) vars now later h out
 
   steps : (p : Place) (now : Sight) (vars : List ℕ) (units : ℕ) → IsLive p
@@ -106,7 +106,7 @@ module _ (code : Code) (part : Part) where
       at_live (within t r rest) l = refl
 
   -- a statement after which the thread goes on
-  goes : (p q : Place) (now : Sight) (later : List Sight) (vars changed : List ℕ) (h : List Happening) (out : Outcome)
+  goes : (p q : Place) (now : Sight) (later : List Sight) (vars changed : List ℕ) (h : List Happening) (out : Completion)
       → IsLive p → reached code whole vars now.event now.looks p ≡ goes_on changed q
       → From q now later changed h out → From p now later vars h out
   unfolding advanced_of
@@ -116,7 +116,7 @@ module _ (code : Code) (part : Part) where
       run
 
   -- two places that are one
-  same_place : (p q : Place) (now : Sight) (later : List Sight) (vars : List ℕ) (h : List Happening) (out : Outcome)
+  same_place : (p q : Place) (now : Sight) (later : List Sight) (vars : List ℕ) (h : List Happening) (out : Completion)
       → settled p ≡ settled q → From q now later vars h out → From p now later vars h out
   unfolding advanced_of
   same_place p q now later vars h out same run =
@@ -129,7 +129,7 @@ module _ (code : Code) (part : Part) where
       run
 
   -- a call that comes back to a place
-  called_again : (p : Place) (now : Sight) (later : List Sight) (vars : List ℕ) (h : List Happening) (out : Outcome)
+  called_again : (p : Place) (now : Sight) (later : List Sight) (vars : List ℕ) (h : List Happening) (out : Completion)
       → From p now later vars h out → Runs code (record { part = part; mark = AtRest; place = p }) vars now later h out
   unfolding advanced_of
   called_again p now later vars h out run =
@@ -141,8 +141,8 @@ module _ (code : Code) (part : Part) where
       run
 
   -- control is given up
-  gives : (p q : Place) (a : PtState) (now next : Sight) (later : List Sight) (vars : List ℕ) (h : List Happening) (out : Outcome)
-      → IsLive p → number_of a < 2 → reached code whole vars now.event now.looks p ≡ answers a q
+  gives : (p q : Place) (a : PtState) (now next : Sight) (later : List Sight) (vars : List ℕ) (h : List Happening) (out : Completion)
+      → IsLive p → state_number a < 2 → reached code whole vars now.event now.looks p ≡ answers a q
       → From q next later vars h out → From p now (next ∷ later) vars (gives_up a ∷ h) out
   unfolding advanced_of
   gives p q a now next later vars h out live low does_so run =
@@ -150,18 +150,18 @@ module _ (code : Code) (part : Part) where
       (1, 0, steps p now vars 0 live ∙ ap (λ r. follows code part now.event now.looks vars 0 r) does_so) low
       (called_again q next later vars h out run)
 
-  gives_last : (p q : Place) (a : PtState) (now : Sight) (vars : List ℕ) (h : List Happening) (out : Outcome)
-      → IsLive p → number_of a < 2 → reached code whole vars now.event now.looks p ≡ answers a q
+  gives_last : (p q : Place) (a : PtState) (now : Sight) (vars : List ℕ) (h : List Happening) (out : Completion)
+      → IsLive p → state_number a < 2 → reached code whole vars now.event now.looks p ≡ answers a q
       → h ≡ [] → out ≡ stands vars → From p now [] vars (gives_up a ∷ h) out
   unfolding advanced_of
   gives_last p q a now vars h out live low does_so none standing =
       subst (λ (x : List Happening). From p now [] vars (gives_up a ∷ x) out) (sym none)
-      (subst (λ (o : Outcome). From p now [] vars (gives_up a ∷ []) o) (sym standing)
+      (subst (λ (o : Completion). From p now [] vars (gives_up a ∷ []) o) (sym standing)
       (gave_up_last _ (record { part = part; mark = AtRest; place = q }) vars vars now a
       (1, 0, steps p now vars 0 live ∙ ap (λ r. follows code part now.event now.looks vars 0 r) does_so) low))
 
   -- what a run does behind an `exit`: the whole thread's ends so, and a spawned one's goes on behind its spawn
-  abbrev Left : Option Place → (now : Sight) → (later : List Sight) → List ℕ → List Happening → Outcome → Type 0
+  abbrev Left : Option Place → (now : Sight) → (later : List Sight) → List ℕ → List Happening → Completion → Type 0
   Left None now later vars h out = (h ≡ []) × (out ≡ exits now later vars)
   Left (Some p) now later vars h out = From p now later vars h out
 
@@ -169,7 +169,7 @@ module _ (code : Code) (part : Part) where
   record Context (home : List (Statement ℕ)) (yields : PtState) : Type 0 where
     place : Place → Place
     behind : Option Place
-    low : number_of yields < 2
+    low : state_number yields < 2
     live : (p : Place) → IsLive p → IsLive (place p)
     settles_so : (p q : Place) → settled p ≡ settled q → settled (place p) ≡ settled (place q)
     onward : (vars : List ℕ) (now : Sight) (p q : Place) (changed : List ℕ) → reached code home vars now.event now.looks p ≡ goes_on changed q → reached code whole vars now.event now.looks (place p) ≡ goes_on changed (place q)
@@ -179,15 +179,15 @@ module _ (code : Code) (part : Part) where
     yielding : (vars : List ℕ) (now : Sight) (p q : Place) → reached code home vars now.event now.looks p ≡ answers Yielded q → reached code whole vars now.event now.looks (place p) ≡ answers yields (place q)
     answers_at : (y : Bool) (s : Statement ℕ) (rest : List (Statement ℕ)) → yield_answer (place (at y s rest)) ≡ yields
     answers_within : (t : ℕ) (p : Place) (rest : List (Statement ℕ)) → yield_answer (place (within t p rest)) ≡ Waiting
-    leaving : (vars : List ℕ) (now : Sight) (later : List Sight) (p q : Place) (h : List Happening) (out : Outcome) → IsLive p → reached code home vars now.event now.looks p ≡ answers Exited q
+    leaving : (vars : List ℕ) (now : Sight) (later : List Sight) (p q : Place) (h : List Happening) (out : Completion) → IsLive p → reached code home vars now.event now.looks p ≡ answers Exited q
         → Left behind now later vars h out → From (place p) now later vars h out
 
-  exits_so : (vars : List ℕ) (now : Sight) (later : List Sight) (p q : Place) (h : List Happening) (out : Outcome)
+  exits_so : (vars : List ℕ) (now : Sight) (later : List Sight) (p q : Place) (h : List Happening) (out : Completion)
       → IsLive p → reached code whole vars now.event now.looks p ≡ answers Exited q → Left None now later vars h out → From p now later vars h out
   unfolding advanced_of
   exits_so vars now later p q h out live e f =
       subst (λ (x : List Happening). From p now later vars x out) (sym f.0)
-      (subst (λ (o : Outcome). From p now later vars [] o) (sym f.1)
+      (subst (λ (o : Completion). From p now later vars [] o) (sym f.1)
       (has_exited _ (record { part = part; mark = AtRest; place = q }) vars vars now later
       (1, 0, steps p now vars 0 live ∙ ap (λ r. follows code part now.event now.looks vars 0 r) e)))
 
@@ -229,14 +229,14 @@ module _ (code : Code) (part : Part) where
   }
 
   -- what a run does behind statements of which this became
-  abbrev Next : (home : List (Statement ℕ)) (y : PtState) → Context home y → (rest : List (Statement ℕ)) → Outcome → List Happening → Outcome → Type 0
+  abbrev Next : (home : List (Statement ℕ)) (y : PtState) → Context home y → (rest : List (Statement ℕ)) → Completion → List Happening → Completion → Type 0
   Next home y c rest (done now later vars) h out = From (c.place (before false rest)) now later vars h out
   Next home y c rest (restarts now later vars) h out = From (c.place (before false home)) now later vars h out
   Next home y c rest (exits now later vars) h out = Left c.behind now later vars h out
   Next home y c rest (stands vars) h out = (h ≡ []) × (out ≡ stands vars)
 
   -- a statement that isn't done
-  elsewhere : (home : List (Statement ℕ)) (y : PtState) (c : Context home y) (rest others : List (Statement ℕ)) (became : Outcome) (h : List Happening) (out : Outcome)
+  elsewhere : (home : List (Statement ℕ)) (y : PtState) (c : Context home y) (rest others : List (Statement ℕ)) (became : Completion) (h : List Happening) (out : Completion)
       → (IsDone became → ⊥) → Next home y c rest became h out → Next home y c others became h out
   elsewhere home y c rest others (done now later vars) h out over f = absurd (over tt)
   elsewhere home y c rest others (restarts now later vars) h out over f = f
@@ -244,13 +244,13 @@ module _ (code : Code) (part : Part) where
   elsewhere home y c rest others (stands vars) h out over f = f
 
   -- an operation
-  does_op : (home : List (Statement ℕ)) (y : PtState) (c : Context home y) (p : Place) (rest : List (Statement ℕ)) (o : Op) (into : Option ℕ) (now : Sight) (later : List Sight) (vars : List ℕ) (h : List Happening) (out : Outcome)
+  does_op : (home : List (Statement ℕ)) (y : PtState) (c : Context home y) (p : Place) (rest : List (Statement ℕ)) (o : Op) (into : Option ℕ) (now : Sight) (later : List Sight) (vars : List ℕ) (h : List Happening) (out : Completion)
       → IsLive p → reached code home vars now.event now.looks p ≡ stops o (UnderWay into) (before false rest)
       → Next home y c rest (resumed into later vars) h out → From (c.place p) now later vars (operates o ∷ h) out
   unfolding advanced_of
   does_op home y c p rest o into now [] vars h out live e f =
       subst (λ (x : List Happening). From (c.place p) now [] vars (operates o ∷ x) out) (sym f.0)
-      (subst (λ (z : Outcome). From (c.place p) now [] vars (operates o ∷ []) z) (sym f.1)
+      (subst (λ (z : Completion). From (c.place p) now [] vars (operates o ∷ []) z) (sym f.1)
       (operated_last _ (record { part = part; mark = UnderWay into; place = c.place (before false rest) }) vars vars now o
       (1, 0, steps (c.place p) now vars 0 (c.live p live) ∙ ap (λ r. follows code part now.event now.looks vars 0 r) (c.operating vars now p (before false rest) o into e))))
   does_op home y c p rest o into now (next ∷ later) vars h out live e f =
@@ -259,38 +259,38 @@ module _ (code : Code) (part : Part) where
       (subst (λ (v : List ℕ). From (c.place (before false rest)) next later v h out) (heard into vars next.answer) f)
 
   -- a statement after which the thread goes on, where it gives up control, and where no sight is left
-  past : (home : List (Statement ℕ)) (y : PtState) (c : Context home y) (p q : Place) (now : Sight) (later : List Sight) (vars changed : List ℕ) (h : List Happening) (out : Outcome)
+  past : (home : List (Statement ℕ)) (y : PtState) (c : Context home y) (p q : Place) (now : Sight) (later : List Sight) (vars changed : List ℕ) (h : List Happening) (out : Completion)
       → IsLive p → reached code home vars now.event now.looks p ≡ goes_on changed q
       → From (c.place q) now later changed h out → From (c.place p) now later vars h out
   past home y c p q now later vars changed h out live e run =
       goes (c.place p) (c.place q) now later vars changed h out (c.live p live) (c.onward vars now p q changed e) run
 
-  yields_at : (home : List (Statement ℕ)) (y : PtState) (c : Context home y) (p q : Place) (now next : Sight) (later : List Sight) (vars : List ℕ) (h : List Happening) (out : Outcome)
+  yields_at : (home : List (Statement ℕ)) (y : PtState) (c : Context home y) (p q : Place) (now next : Sight) (later : List Sight) (vars : List ℕ) (h : List Happening) (out : Completion)
       → IsLive p → reached code home vars now.event now.looks p ≡ answers Yielded q
       → From (c.place q) next later vars h out → From (c.place p) now (next ∷ later) vars (gives_up y ∷ h) out
   yields_at home y c p q now next later vars h out live e run =
       gives (c.place p) (c.place q) y now next later vars h out (c.live p live) c.low (c.yielding vars now p q e) run
 
-  yields_at_last : (home : List (Statement ℕ)) (y : PtState) (c : Context home y) (p q : Place) (now : Sight) (vars : List ℕ) (h : List Happening) (out : Outcome)
+  yields_at_last : (home : List (Statement ℕ)) (y : PtState) (c : Context home y) (p q : Place) (now : Sight) (vars : List ℕ) (h : List Happening) (out : Completion)
       → IsLive p → reached code home vars now.event now.looks p ≡ answers Yielded q
       → (h ≡ []) × (out ≡ stands vars) → From (c.place p) now [] vars (gives_up y ∷ h) out
   yields_at_last home y c p q now vars h out live e f =
       gives_last (c.place p) (c.place q) y now vars h out (c.live p live) c.low (c.yielding vars now p q e) f.0 f.1
 
-  waits_at : (home : List (Statement ℕ)) (y : PtState) (c : Context home y) (p q : Place) (now next : Sight) (later : List Sight) (vars : List ℕ) (h : List Happening) (out : Outcome)
+  waits_at : (home : List (Statement ℕ)) (y : PtState) (c : Context home y) (p q : Place) (now next : Sight) (later : List Sight) (vars : List ℕ) (h : List Happening) (out : Completion)
       → IsLive p → reached code home vars now.event now.looks p ≡ answers Waiting q
       → From (c.place q) next later vars h out → From (c.place p) now (next ∷ later) vars (gives_up Waiting ∷ h) out
   waits_at home y c p q now next later vars h out live e run =
       gives (c.place p) (c.place q) Waiting now next later vars h out (c.live p live) (omega arith) (c.waiting vars now p q e) run
 
-  waits_at_last : (home : List (Statement ℕ)) (y : PtState) (c : Context home y) (p q : Place) (now : Sight) (vars : List ℕ) (h : List Happening) (out : Outcome)
+  waits_at_last : (home : List (Statement ℕ)) (y : PtState) (c : Context home y) (p q : Place) (now : Sight) (vars : List ℕ) (h : List Happening) (out : Completion)
       → IsLive p → reached code home vars now.event now.looks p ≡ answers Waiting q
       → (h ≡ []) × (out ≡ stands vars) → From (c.place p) now [] vars (gives_up Waiting ∷ h) out
   waits_at_last home y c p q now vars h out live e f =
       gives_last (c.place p) (c.place q) Waiting now vars h out (c.live p live) (omega arith) (c.waiting vars now p q e) f.0 f.1
 
   -- a `yield`
-  yields_once : (home : List (Statement ℕ)) (y : PtState) (c : Context home y) (rest : List (Statement ℕ)) (now : Sight) (later : List Sight) (vars : List ℕ) (h : List Happening) (out : Outcome)
+  yields_once : (home : List (Statement ℕ)) (y : PtState) (c : Context home y) (rest : List (Statement ℕ)) (now : Sight) (later : List Sight) (vars : List ℕ) (h : List Happening) (out : Completion)
       → Next home y c rest (resumed None later vars) h out → From (c.place (at false (does yield) rest)) now later vars (gives_up y ∷ h) out
   yields_once home y c rest now [] vars h out f =
       yields_at_last home y c (at false (does yield) rest) (at true (does yield) rest) now vars h out tt refl f
@@ -302,16 +302,16 @@ module _ (code : Code) (part : Part) where
   module _ (home : List (Statement ℕ)) (y : PtState) (c : Context home y) (s : Statement ℕ) (e : Expression ℕ) (rest : List (Statement ℕ))
       (passing : (now : Sight) (vars : List ℕ) → holds (meaning e now vars) ≡ true → reached code home vars now.event now.looks (at true s rest) ≡ goes_on vars (before false rest))
       (failing : (now : Sight) (vars : List ℕ) → holds (meaning e now vars) ≡ false → reached code home vars now.event now.looks (at true s rest) ≡ answers Yielded (at true s rest)) where
-    awaits : {now : Sight} {later : List Sight} {vars : List ℕ} {h : List Happening} {out : Outcome}
-        → Awaits y e now later vars h out → (k : List Happening) (o : Outcome) → Next home y c rest out k o → From (c.place (at true s rest)) now later vars (h ++ k) o
+    awaits : {now : Sight} {later : List Sight} {vars : List ℕ} {h : List Happening} {out : Completion}
+        → Awaits y e now later vars h out → (k : List Happening) (o : Completion) → Next home y c rest out k o → From (c.place (at true s rest)) now later vars (h ++ k) o
     awaits (met now later vars m) = λ k o f. past home y c (at true s rest) (before false rest) now later vars vars k o tt (passing now vars m) f
     awaits (again now next later vars h out m more) =
         λ k o f. yields_at home y c (at true s rest) (at true s rest) now next later vars (h ++ k) o tt (failing now vars m) (awaits more k o f)
     awaits (never now vars m) = λ k o f. yields_at_last home y c (at true s rest) (at true s rest) now vars k o tt (failing now vars m) f
 
   -- a `yield_until` that has yielded
-  awaits_condition : (home : List (Statement ℕ)) (y : PtState) (c : Context home y) (e : Expression ℕ) (rest : List (Statement ℕ)) (now : Sight) (later : List Sight) (vars : List ℕ) (h : List Happening) (out : Outcome)
-      → Awaits y e now later vars h out → (k : List Happening) (o : Outcome) → Next home y c rest out k o → From (c.place (at true (does (yield_until e)) rest)) now later vars (h ++ k) o
+  awaits_condition : (home : List (Statement ℕ)) (y : PtState) (c : Context home y) (e : Expression ℕ) (rest : List (Statement ℕ)) (now : Sight) (later : List Sight) (vars : List ℕ) (h : List Happening) (out : Completion)
+      → Awaits y e now later vars h out → (k : List Happening) (o : Completion) → Next home y c rest out k o → From (c.place (at true (does (yield_until e)) rest)) now later vars (h ++ k) o
   awaits_condition home y c e rest now later vars h out a =
       awaits home y c (does (yield_until e)) e rest
       (λ now vars m. ap (λ b. performed code home vars (does (yield_until e)) rest (passes_where b Yields)) m)
@@ -319,8 +319,8 @@ module _ (code : Code) (part : Part) where
       a
 
   -- a `pause` that has yielded
-  awaits_continue : (home : List (Statement ℕ)) (y : PtState) (c : Context home y) (rest : List (Statement ℕ)) (now : Sight) (later : List Sight) (vars : List ℕ) (h : List Happening) (out : Outcome)
-      → Awaits y (is (sent (cast continue))) now later vars h out → (k : List Happening) (o : Outcome) → Next home y c rest out k o → From (c.place (at true (does pause) rest)) now later vars (h ++ k) o
+  awaits_continue : (home : List (Statement ℕ)) (y : PtState) (c : Context home y) (rest : List (Statement ℕ)) (now : Sight) (later : List Sight) (vars : List ℕ) (h : List Happening) (out : Completion)
+      → Awaits y (is (sent (cast continue))) now later vars h out → (k : List Happening) (o : Completion) → Next home y c rest out k o → From (c.place (at true (does pause) rest)) now later vars (h ++ k) o
   awaits_continue home y c rest now later vars h out a =
       awaits home y c (does pause) (is (sent (cast continue))) rest
       (λ now vars m. ap (λ b. performed code home vars (does pause) rest (passes_where b Yields)) (is_true (now.event.number == 0x85) m))
@@ -328,7 +328,7 @@ module _ (code : Code) (part : Part) where
       a
 
   -- the post of a `pause`, and what follows it at once
-  paused : (home : List (Statement ℕ)) (y : PtState) (c : Context home y) (rest : List (Statement ℕ)) (now next second : Sight) (later : List Sight) (vars : List ℕ) (h : List Happening) (out : Outcome)
+  paused : (home : List (Statement ℕ)) (y : PtState) (c : Context home y) (rest : List (Statement ℕ)) (now next second : Sight) (later : List Sight) (vars : List ℕ) (h : List Happening) (out : Completion)
       → From (c.place (at true (does pause) rest)) second later vars h out
       → From (c.place (at false (does pause) rest)) now (next ∷ second ∷ later) vars (operates (Post (One (Own code.number)) 0x85 0) ∷ gives_up y ∷ h) out
   unfolding advanced_of
@@ -341,7 +341,7 @@ module _ (code : Code) (part : Part) where
       (0, 0, ap (λ a. record { step = step.Done a; remainder = resting; variables = vars; units = 0 }) (c.answers_at true (does pause) rest)) c.low
       (called_again (c.place (at true (does pause) rest)) second later vars h out run))
 
-  paused_last : (home : List (Statement ℕ)) (y : PtState) (c : Context home y) (rest : List (Statement ℕ)) (now next : Sight) (vars : List ℕ) (h : List Happening) (out : Outcome)
+  paused_last : (home : List (Statement ℕ)) (y : PtState) (c : Context home y) (rest : List (Statement ℕ)) (now next : Sight) (vars : List ℕ) (h : List Happening) (out : Completion)
       → (h ≡ []) × (out ≡ stands vars)
       → From (c.place (at false (does pause) rest)) now (next ∷ []) vars (operates (Post (One (Own code.number)) 0x85 0) ∷ gives_up y ∷ h) out
   unfolding advanced_of
@@ -349,26 +349,26 @@ module _ (code : Code) (part : Part) where
       let held : Remainder = record { part = part; mark = Pausing; place = c.place (at true (does pause) rest) } in
       let resting : Remainder = record { part = part; mark = AtRest; place = c.place (at true (does pause) rest) } in
       subst (λ (x : List Happening). From (c.place (at false (does pause) rest)) now (next ∷ []) vars (operates (Post (One (Own code.number)) 0x85 0) ∷ gives_up y ∷ x) out) (sym f.0)
-      (subst (λ (z : Outcome). From (c.place (at false (does pause) rest)) now (next ∷ []) vars (operates (Post (One (Own code.number)) 0x85 0) ∷ gives_up y ∷ []) z) (sym f.1)
+      (subst (λ (z : Completion). From (c.place (at false (does pause) rest)) now (next ∷ []) vars (operates (Post (One (Own code.number)) 0x85 0) ∷ gives_up y ∷ []) z) (sym f.1)
       (operated _ held vars vars now next [] (Post (One (Own code.number)) 0x85 0) (gives_up y ∷ []) (stands vars)
       (1, 0, steps (c.place (at false (does pause) rest)) now vars 0 (c.live (at false (does pause) rest) tt) ∙ ap (λ r. follows code part now.event now.looks vars 0 r) (c.pausing vars now (at false (does pause) rest) (at true (does pause) rest) (Post (One (Own code.number)) 0x85 0) refl))
       (gave_up_last held resting vars vars next y
       (0, 0, ap (λ a. record { step = step.Done a; remainder = resting; variables = vars; units = 0 }) (c.answers_at true (does pause) rest)) c.low)))
 
-  posted_last : (home : List (Statement ℕ)) (y : PtState) (c : Context home y) (rest : List (Statement ℕ)) (now : Sight) (vars : List ℕ) (h : List Happening) (out : Outcome)
+  posted_last : (home : List (Statement ℕ)) (y : PtState) (c : Context home y) (rest : List (Statement ℕ)) (now : Sight) (vars : List ℕ) (h : List Happening) (out : Completion)
       → (h ≡ []) × (out ≡ stands vars)
       → From (c.place (at false (does pause) rest)) now [] vars (operates (Post (One (Own code.number)) 0x85 0) ∷ h) out
   unfolding advanced_of
   posted_last home y c rest now vars h out f =
       subst (λ (x : List Happening). From (c.place (at false (does pause) rest)) now [] vars (operates (Post (One (Own code.number)) 0x85 0) ∷ x) out) (sym f.0)
-      (subst (λ (z : Outcome). From (c.place (at false (does pause) rest)) now [] vars (operates (Post (One (Own code.number)) 0x85 0) ∷ []) z) (sym f.1)
+      (subst (λ (z : Completion). From (c.place (at false (does pause) rest)) now [] vars (operates (Post (One (Own code.number)) 0x85 0) ∷ []) z) (sym f.1)
       (operated_last _ (record { part = part; mark = Pausing; place = c.place (at true (does pause) rest) }) vars vars now (Post (One (Own code.number)) 0x85 0)
       (1, 0, steps (c.place (at false (does pause) rest)) now vars 0 (c.live (at false (does pause) rest) tt) ∙ ap (λ r. follows code part now.event now.looks vars 0 r) (c.pausing vars now (at false (does pause) rest) (at true (does pause) rest) (Post (One (Own code.number)) 0x85 0) refl))))
 
   mutual
     -- what one statement leads to, in any place of that thread
-    leads : {y : PtState} {s : Statement ℕ} {now : Sight} {later : List Sight} {vars : List ℕ} {h : List Happening} {out : Outcome}
-        → Reads code y s now later vars h out → (home : List (Statement ℕ)) (c : Context home y) (rest : List (Statement ℕ)) (k : List Happening) (o : Outcome)
+    leads : {y : PtState} {s : Statement ℕ} {now : Sight} {later : List Sight} {vars : List ℕ} {h : List Happening} {out : Completion}
+        → Reads code y s now later vars h out → (home : List (Statement ℕ)) (c : Context home y) (rest : List (Statement ℕ)) (k : List Happening) (o : Completion)
         → Next home y c rest out k o → From (c.place (at false s rest)) now later vars (h ++ k) o
     leads (passes y a now later vars e) =
         λ home c rest k o f. past home y c (at false (does a) rest) (before false rest) now later vars vars k o tt (ap (λ d. performed code home vars (does a) rest d) e) f
@@ -427,8 +427,8 @@ module _ (code : Code) (part : Part) where
         past home y c (at false (while e a) rest) (before false rest) now later vars vars k o tt
         (ap (λ b. goes_on vars (before false (if b then listed a ++ while e a ∷ rest else rest))) m) f
 
-    leads_all : {y : PtState} {ss : List (Statement ℕ)} {now : Sight} {later : List Sight} {vars : List ℕ} {h : List Happening} {out : Outcome}
-        → ReadsAll code y ss now later vars h out → (home : List (Statement ℕ)) (c : Context home y) (rest : List (Statement ℕ)) (k : List Happening) (o : Outcome)
+    leads_all : {y : PtState} {ss : List (Statement ℕ)} {now : Sight} {later : List Sight} {vars : List ℕ} {h : List Happening} {out : Completion}
+        → ReadsAll code y ss now later vars h out → (home : List (Statement ℕ)) (c : Context home y) (rest : List (Statement ℕ)) (k : List Happening) (o : Completion)
         → Next home y c rest out k o → From (c.place (before false (ss ++ rest))) now later vars (h ++ k) o
     leads_all (nothing_left y now later vars) = λ home c rest k o f. f
     leads_all (in_turn y s ss now later vars h j call calls changed out first others) =
@@ -438,8 +438,8 @@ module _ (code : Code) (part : Part) where
     leads_all (breaks_off y s ss now later vars h out left first) =
         λ home c rest k o f. leads first home c (ss ++ rest) k o (elsewhere home y c rest (ss ++ rest) out k o left f)
 
-    leads_thread : {y : PtState} {block : List (Statement ℕ)} {now : Sight} {later : List Sight} {vars : List ℕ} {h : List Happening} {out : Outcome}
-        → ReadsThread code y block now later vars h out → (c : Context block y) (k : List Happening) (o : Outcome)
+    leads_thread : {y : PtState} {block : List (Statement ℕ)} {now : Sight} {later : List Sight} {vars : List ℕ} {h : List Happening} {out : Completion}
+        → ReadsThread code y block now later vars h out → (c : Context block y) (k : List Happening) (o : Completion)
         → Next block y c [] out k o → From (c.place (before false block)) now later vars (h ++ k) o
     leads_thread (once y block now later vars h out never_anew all) =
         λ c k o f. subst (λ (l : List (Statement ℕ)). From (c.place (before false l)) now later vars (h ++ k) o) (append-nil block) (leads_all all block c [] k o f)
@@ -450,19 +450,19 @@ module _ (code : Code) (part : Part) where
         (leads_all all block c [] (j ++ k) o (leads_thread more c k o f)))
 
   -- a thread comes to an end, or stands
-  pub comes_to_an_end : {y : PtState} {block : List (Statement ℕ)} {now : Sight} {later : List Sight} {vars : List ℕ} {h : List Happening} {out : Outcome}
+  pub comes_to_an_end : {y : PtState} {block : List (Statement ℕ)} {now : Sight} {later : List Sight} {vars : List ℕ} {h : List Happening} {out : Completion}
       → ReadsThread code y block now later vars h out → Restarts out → ⊥
   comes_to_an_end (once y block now later vars h out never_anew all) = never_anew
   comes_to_an_end (anew y block now later vars h j call calls changed out all more) = comes_to_an_end more
 
-  at_last : (out : Outcome) → (Restarts out → ⊥) → Next whole Yielded top [] out [] out
+  at_last : (out : Completion) → (Restarts out → ⊥) → Next whole Yielded top [] out [] out
   unfolding advanced_of
   at_last (done now later vars) over = has_ended _ (fresh_of code part) vars vars now later (0, 0, refl)
   at_last (restarts now later vars) over = absurd (over tt)
   at_last (exits now later vars) over = (refl, refl)
   at_last (stands vars) over = (refl, refl)
 
-pub text_runs : (code : Code) (part : Part) (vars : List ℕ) (now : Sight) (later : List Sight) (h : List Happening) (out : Outcome)
+pub text_runs : (code : Code) (part : Part) (vars : List ℕ) (now : Sight) (later : List Sight) (h : List Happening) (out : Completion)
     → ReadsThread code Yielded (whole_of code part) now later vars h out → Runs code (fresh_of code part) vars now later h out
 text_runs code part vars now later h out reads =
     called_again code part (before false (whole_of code part)) now later vars h out

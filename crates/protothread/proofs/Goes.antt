@@ -9,28 +9,28 @@ use Rattle.protothread.specs.declared.thread.Mark.TheVariants.{AtRest, UnderWay,
 use Rattle.protothread.specs.declared.step.Op.{Op}
 use Rattle.protothread.specs.declared.step.Step.{Step}
 use Rattle.protothread.specs.declared.step.Step.TheVariants as step
-use Rattle.protothread.specs.State.{number_of}
+use Rattle.protothread.specs.State.{state_number}
 use Rattle.protothread.specs.Remainder.{Place, ended, at, within, settled, Remainder, whole_of}
 use Rattle.protothread.specs.Step.{Advanced, Reached, goes_on, operates as stops, answers, reached, continued, passed, yield_answer, advanced_of, marked_answered, variables_answered}
-use Rattle.protothread.specs.Reading.{Sight, Happening, operates, gives_up, Outcome, done, exits, stands}
+use Rattle.protothread.specs.Reading.{Sight, Happening, operates, gives_up, Completion, done, exits, stands}
 use Rattle.protothread.specs.Runs.{Runs, operated, operated_last, gave_up, gave_up_last, has_exited, has_ended}
 use Rattle.protothread.proofs.Units.{follows, stepped, called}
 use Rattle.protothread.proofs.Follows.{IsLive, still}
 
 -- what goes on behind an answer that gives up control
-abbrev pub Again : (G : Place → Sight → List Sight → List ℕ → List Happening → Outcome → Type 0) → PtState → Place → (later : List Sight) → List ℕ → List Happening → Outcome → Type 0
+abbrev pub Again : (G : Place → Sight → List Sight → List ℕ → List Happening → Completion → Type 0) → PtState → Place → (later : List Sight) → List ℕ → List Happening → Completion → Type 0
 Again G a q [] vars h out = (h ≡ gives_up a ∷ []) × (out ≡ stands vars)
 Again G a q (next ∷ later) vars h out = (k : List Happening) × (h ≡ gives_up a ∷ k) × G q next later vars k out
 
 -- what goes on at a place, by the mark
-abbrev pub Held : (G : Place → Sight → List Sight → List ℕ → List Happening → Outcome → Type 0) → Mark → Place → (now : Sight) → (later : List Sight) → List ℕ → List Happening → Outcome → Type 0
+abbrev pub Held : (G : Place → Sight → List Sight → List ℕ → List Happening → Completion → Type 0) → Mark → Place → (now : Sight) → (later : List Sight) → List ℕ → List Happening → Completion → Type 0
 Held G AtRest q now later vars h out = G q now later vars h out
 Held G (UnderWay into) q now later vars h out = G q now later vars h out
 Held G Pausing q now later vars h out = Again G (yield_answer q) q later vars h out
 Held G RunAway q now later vars h out = ⊥
 
 -- what goes on behind a statement
-abbrev pub Behind : (G : Place → Sight → List Sight → List ℕ → List Happening → Outcome → Type 0) → Reached → (now : Sight) → (later : List Sight) → List ℕ → List Happening → Outcome → Type 0
+abbrev pub Behind : (G : Place → Sight → List Sight → List ℕ → List Happening → Completion → Type 0) → Reached → (now : Sight) → (later : List Sight) → List ℕ → List Happening → Completion → Type 0
 Behind G (goes_on changed q) now later vars h out = G q now later changed h out
 Behind G (stops o mark q) now [] vars h out = (h ≡ operates o ∷ []) × (out ≡ stands vars)
 Behind G (stops o mark q) now (next ∷ later) vars h out =
@@ -41,17 +41,17 @@ Behind G (answers Exited q) now later vars h out = (h ≡ []) × (out ≡ exits 
 Behind G (answers Ended q) now later vars h out = (h ≡ []) × (out ≡ done now later vars)
 
 module _ (code : Code) (part : Part) where
-  abbrev pub StepOf : (G : Place → Sight → List Sight → List ℕ → List Happening → Outcome → Type 0) → Place → (now : Sight) → (later : List Sight) → List ℕ → List Happening → Outcome → Type 0
+  abbrev pub StepOf : (G : Place → Sight → List Sight → List ℕ → List Happening → Completion → Type 0) → Place → (now : Sight) → (later : List Sight) → List ℕ → List Happening → Completion → Type 0
   StepOf G ended now later vars h out = (h ≡ []) × (out ≡ done now later vars)
   StepOf G (at y s rest) now later vars h out = Behind G (reached code (whole_of code part) vars now.event now.looks (at y s rest)) now later vars h out
   StepOf G (within t p rest) now later vars h out = Behind G (reached code (whole_of code part) vars now.event now.looks (within t p rest)) now later vars h out
 
   -- a run goes so from there, within n statements
-  abbrev pub Goes : (n : ℕ) → Place → (now : Sight) → (later : List Sight) → List ℕ → List Happening → Outcome → Type 0
+  abbrev pub Goes : (n : ℕ) → Place → (now : Sight) → (later : List Sight) → List ℕ → List Happening → Completion → Type 0
   Goes zero p now later vars h out = ⊥
   Goes (suc n) p now later vars h out = StepOf (λ q call calls v k o. Goes n q call calls v k o) (settled p) now later vars h out
 
-  pub entering : (n : ℕ) (p : Place) (r : Reached) (now : Sight) (later : List Sight) (vars : List ℕ) (h : List Happening) (out : Outcome)
+  pub entering : (n : ℕ) (p : Place) (r : Reached) (now : Sight) (later : List Sight) (vars : List ℕ) (h : List Happening) (out : Completion)
       → IsLive p → reached code (whole_of code part) vars now.event now.looks p ≡ r
       → Goes (suc n) p now later vars h out → Behind (λ q call calls v k o. Goes n q call calls v k o) r now later vars h out
   entering n p r now later vars h out live e g =
@@ -66,7 +66,7 @@ module _ (code : Code) (part : Part) where
       at_live (within t u rest) l f = f
 
   -- what goes on behind a step
-  abbrev BehindStep : Step → Mark → Place → List ℕ → (now : Sight) → (later : List Sight) → List Happening → Outcome → Type 0
+  abbrev BehindStep : Step → Mark → Place → List ℕ → (now : Sight) → (later : List Sight) → List Happening → Completion → Type 0
   BehindStep (step.Op o) mark q vars now [] h out = (h ≡ operates o ∷ []) × (out ≡ stands vars)
   BehindStep (step.Op o) mark q vars now (next ∷ later) h out =
       (k : List Happening) × (h ≡ operates o ∷ k) × ((n : ℕ) × Held (λ q call calls v k o. Goes n q call calls v k o) mark q next later (variables_answered mark vars next.answer) k out)
@@ -80,12 +80,12 @@ module _ (code : Code) (part : Part) where
   BehindStep (step.Done Ended) mark q vars now later h out = (h ≡ []) × (out ≡ done now later vars)
   BehindStep step.Runaway mark q vars now later h out = ⊥
 
-  far_op : (o : Op) (mark : Mark) (q : Place) (now : Sight) (later : List Sight) (vars : List ℕ) (h : List Happening) (out : Outcome)
+  far_op : (o : Op) (mark : Mark) (q : Place) (now : Sight) (later : List Sight) (vars : List ℕ) (h : List Happening) (out : Completion)
       → BehindStep (step.Op o) mark q vars now later h out → (n : ℕ) × Behind (λ q call calls v k o. Goes n q call calls v k o) (stops o mark q) now later vars h out
   far_op o mark q now [] vars h out f = (0, f)
   far_op o mark q now (next ∷ later) vars h out f = (f.2.0, (f.0, f.1, f.2.1))
 
-  far_answer : (a : PtState) (q : Place) (now : Sight) (later : List Sight) (vars : List ℕ) (h : List Happening) (out : Outcome)
+  far_answer : (a : PtState) (q : Place) (now : Sight) (later : List Sight) (vars : List ℕ) (h : List Happening) (out : Completion)
       → BehindStep (step.Done a) AtRest q vars now later h out → (n : ℕ) × Behind (λ q call calls v k o. Goes n q call calls v k o) (answers a q) now later vars h out
   far_answer Waiting q now [] vars h out f = (0, f)
   far_answer Waiting q now (next ∷ later) vars h out f = (f.2.0, (f.0, f.1, f.2.1))
@@ -95,7 +95,7 @@ module _ (code : Code) (part : Part) where
   far_answer Ended q now later vars h out f = (0, f)
 
   -- behind the post of a `pause`
-  far_pause : (q : Place) (now : Sight) (later : List Sight) (vars : List ℕ) (h : List Happening) (out : Outcome)
+  far_pause : (q : Place) (now : Sight) (later : List Sight) (vars : List ℕ) (h : List Happening) (out : Completion)
       → BehindStep (step.Done (yield_answer q)) AtRest q vars now later h out → (n : ℕ) × Again (λ q call calls v k o. Goes n q call calls v k o) (yield_answer q) q later vars h out
   far_pause ended now [] vars h out f = (0, f)
   far_pause ended now (next ∷ later) vars h out f = (f.2.0, (f.0, f.1, f.2.1))
@@ -104,11 +104,11 @@ module _ (code : Code) (part : Part) where
   far_pause (within t p rest) now [] vars h out f = (0, f)
   far_pause (within t p rest) now (next ∷ later) vars h out f = (f.2.0, (f.0, f.1, f.2.1))
 
-  abbrev BehindAll : Advanced → (now : Sight) → (later : List Sight) → List Happening → Outcome → Type 0
+  abbrev BehindAll : Advanced → (now : Sight) → (later : List Sight) → List Happening → Completion → Type 0
   BehindAll a now later h out = BehindStep a.step a.remainder.mark a.remainder.place a.variables now later h out
 
   -- the statements of one step
-  step_goes : (units : ℕ) (p : Place) (now : Sight) (later : List Sight) (vars : List ℕ) (h : List Happening) (out : Outcome)
+  step_goes : (units : ℕ) (p : Place) (now : Sight) (later : List Sight) (vars : List ℕ) (h : List Happening) (out : Completion)
       → BehindAll (continued code part now.event now.looks p vars units) now later h out → (n : ℕ) × Goes n p now later vars h out
   step_goes zero p now later vars h out g =
       let found : (n : ℕ) × StepOf (λ q call calls v k o. Goes n q call calls v k o) (settled p) now later vars h out =
@@ -136,7 +136,7 @@ module _ (code : Code) (part : Part) where
       (suc found.0, found.1)
 
 -- the same from a remainder
-advanced_goes : (m : Mark) (code : Code) (r : Remainder) (now : Sight) (later : List Sight) (vars : List ℕ) (units : ℕ) (h : List Happening) (out : Outcome)
+advanced_goes : (m : Mark) (code : Code) (r : Remainder) (now : Sight) (later : List Sight) (vars : List ℕ) (units : ℕ) (h : List Happening) (out : Completion)
     → BehindAll code r.part (advanced_of code now.event now.looks (record r { mark = m }) vars units) now later h out
     → (n : ℕ) × Held (λ q call calls v k o. Goes code r.part n q call calls v k o) m r.place now later vars h out
 unfolding advanced_of
@@ -181,7 +181,7 @@ same_part (UnderWay into) code r now vars units = continued_part code r.part now
 same_part Pausing code r now vars units = refl
 same_part RunAway code r now vars units = refl
 
-from_step : (code : Code) (r : Remainder) (now : Sight) (later : List Sight) (vars : List ℕ) (units : ℕ) (a : Advanced) (h : List Happening) (out : Outcome)
+from_step : (code : Code) (r : Remainder) (now : Sight) (later : List Sight) (vars : List ℕ) (units : ℕ) (a : Advanced) (h : List Happening) (out : Completion)
     → advanced_of code now.event now.looks r vars units ≡ a
     → BehindAll code a.remainder.part a now later h out
     → (n : ℕ) × Held (λ q call calls v k o. Goes code r.part n q call calls v k o) r.mark r.place now later vars h out
@@ -191,15 +191,15 @@ from_step code r now later vars units a h out e g =
     advanced_goes r.mark code r now later vars units h out (subst Q (same_part r.mark code r now vars units) (subst P (sym e) g))
 
 -- a thread that was told an answer
-unmarked : (G : Place → Sight → List Sight → List ℕ → List Happening → Outcome → Type 0) (m : Mark) (q : Place) (now : Sight) (later : List Sight) (vars : List ℕ) (h : List Happening) (out : Outcome)
+unmarked : (G : Place → Sight → List Sight → List ℕ → List Happening → Completion → Type 0) (m : Mark) (q : Place) (now : Sight) (later : List Sight) (vars : List ℕ) (h : List Happening) (out : Completion)
     → Held G (marked_answered m) q now later vars h out → Held G m q now later vars h out
 unmarked G AtRest q now later vars h out f = f
 unmarked G (UnderWay into) q now later vars h out f = f
 unmarked G Pausing q now later vars h out f = f
 unmarked G RunAway q now later vars h out f = f
 
-behind_gave_up : (code : Code) (part : Part) (answer : PtState) (m : Mark) (q : Place) (now next : Sight) (later : List Sight) (vars : List ℕ) (h : List Happening) (out : Outcome)
-    → number_of answer < 2 → ((n : ℕ) × Held (λ q call calls v k o. Goes code part n q call calls v k o) m q next later vars h out)
+behind_gave_up : (code : Code) (part : Part) (answer : PtState) (m : Mark) (q : Place) (now next : Sight) (later : List Sight) (vars : List ℕ) (h : List Happening) (out : Completion)
+    → state_number answer < 2 → ((n : ℕ) × Held (λ q call calls v k o. Goes code part n q call calls v k o) m q next later vars h out)
     → BehindStep code part (step.Done answer) m q vars now (next ∷ later) (gives_up answer ∷ h) out
 behind_gave_up code part Waiting m q now next later vars h out low g = (h, refl, g)
 behind_gave_up code part Yielded m q now next later vars h out low g = (h, refl, g)
@@ -207,14 +207,14 @@ behind_gave_up code part Exited m q now next later vars h out low g = absurd (om
 behind_gave_up code part Ended m q now next later vars h out low g = absurd (omega arith)
 
 behind_last : (code : Code) (part : Part) (answer : PtState) (m : Mark) (q : Place) (now : Sight) (vars : List ℕ)
-    → number_of answer < 2 → BehindStep code part (step.Done answer) m q vars now [] (gives_up answer ∷ []) (stands vars)
+    → state_number answer < 2 → BehindStep code part (step.Done answer) m q vars now [] (gives_up answer ∷ []) (stands vars)
 behind_last code part Waiting m q now vars low = (refl, refl)
 behind_last code part Yielded m q now vars low = (refl, refl)
 behind_last code part Exited m q now vars low = absurd (omega arith)
 behind_last code part Ended m q now vars low = absurd (omega arith)
 
 -- every run goes so
-pub runs_go : (code : Code) {r : Remainder} {vars : List ℕ} {now : Sight} {later : List Sight} {h : List Happening} {out : Outcome}
+pub runs_go : (code : Code) {r : Remainder} {vars : List ℕ} {now : Sight} {later : List Sight} {h : List Happening} {out : Completion}
     → Runs code r vars now later h out → (n : ℕ) × Held (λ q call calls v k o. Goes code r.part n q call calls v k o) r.mark r.place now later vars h out
 runs_go code (operated r next vars changed now call later o h out s run) =
     let g = runs_go code run in

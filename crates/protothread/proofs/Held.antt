@@ -12,7 +12,7 @@ use Rattle.protothread.specs.declared.step.Op.{Op}
 use Rattle.protothread.specs.declared.step.Step.TheVariants as step
 use Rattle.protothread.specs.declared.state.PtState.{PtState}
 use Rattle.protothread.specs.declared.state.PtState.TheVariants.{Waiting, Yielded, Exited, Ended}
-use Rattle.protothread.specs.State.{number_of}
+use Rattle.protothread.specs.State.{state_number}
 use Rattle.protothread.specs.Looks.{Looks}
 use Rattle.protothread.specs.Value.{value, holds}
 use Rattle.protothread.specs.Remainder.{Place, ended, at, within, before, settled, Remainder, thread_block, whole_of}
@@ -93,7 +93,7 @@ held code whole vars event looks (at y (while c a) rest) = tt
 held code whole vars event looks (within t p rest) =
     held_spawner code whole vars t rest (reached code (thread_block code t) vars event looks p) (held code (thread_block code t) vars event looks p)
 
-ended_high : (answer : PtState) → Ended ≡ answer → number_of answer < 2 → ⊥
+ended_high : (answer : PtState) → Ended ≡ answer → state_number answer < 2 → ⊥
 ended_high Waiting e h = cc
 ended_high Yielded e h = cc
 ended_high Exited e h = absurd (omega arith)
@@ -110,7 +110,7 @@ module _ (code : Code) (part : Part) (event : Event) (looks : Looks) where
   answered Yielded p vars units h = record { gives_up = λ answer k low. (refl, h); stays_sound = λ k. absurd (cc) }
   answered Exited p vars units h = record { gives_up = λ answer k low. absurd (not_low answer (let l : step.Done Exited ≡ step.Done answer = k in cc) low); stays_sound = λ k. absurd (cc) }
     where
-      not_low : (answer : PtState) → Exited ≡ answer → number_of answer < 2 → ⊥
+      not_low : (answer : PtState) → Exited ≡ answer → state_number answer < 2 → ⊥
       not_low Waiting e l = cc
       not_low Yielded e l = cc
       not_low Exited e l = absurd (omega arith)

@@ -16,9 +16,9 @@ use Rattle.protothread.specs.declared.state.PtState.TheVariants.{Waiting, Yielde
 use Rattle.protothread.specs.Looks.{Looks}
 use Rattle.protothread.specs.Remainder.{Place, at, within, before, thread_block}
 use Rattle.protothread.specs.Step.{goes_on, operates, answers, spawner_reached, statement_reached, reached}
-use Rattle.protothread.specs.Frames.{branch_block, statement_place, statement_at, inner_block, block_at, is_thread, spawns, yielding, rest_of, Caller, thread_of, callers_in, callers_of, nested, place_of}
+use Rattle.protothread.specs.Frames.{branch_block, statement_place, statement_at, inner_block, block_at, is_thread, spawns, yielding, rest_of, Caller, thread_of, callers_in, callers_of, nested, thread_place}
 use Rattle.protothread.specs.Reach.{home_of, made_of, behind_of, reached_at, GoesOnAt, IsAtHome, in_the_part, in_a_thread, LeavesBlocks}
-use Rattle.protothread.proofs.FrameLaws.{block_at-push, rest_of-push, callers_in-block, callers_in-thread, caller_at, callers_in-blocks, length-callers_in, nested-snoc, home_block, home_rest, drop_at, place_of-at}
+use Rattle.protothread.proofs.FrameLaws.{block_at-push, rest_of-push, callers_in-block, callers_in-thread, caller_at, callers_in-blocks, length-callers_in, nested-snoc, home_block, home_rest, drop_at, thread_place-at}
 
 -- the statement of the innermost thread
 pub reached-nested : (code : Code) (whole : List (Statement ℕ)) (vars : List ℕ) (event : Event) (looks : Looks) (cs : List Caller) (p : Place)
@@ -61,25 +61,25 @@ module _ (code : Code) (whole block : List (Statement ℕ)) (old : Thread) (s : 
 
   -- going on behind the statement
   pub passes_so : (mark : Mark) (new : Thread) → new ≡ record old { mark = mark; is_yielded = false; position = old.position + 1 }
-      → place_of code whole new ≡ nested (callers_of code whole old) (before false (behind_of code whole old))
-  passes_so mark new moved = ap (λ t. place_of code whole t) moved
+      → thread_place code whole new ≡ nested (callers_of code whole old) (before false (behind_of code whole old))
+  passes_so mark new moved = ap (λ t. thread_place code whole t) moved
 
   -- staying at it
   pub stays_so : (mark : Mark) (y : Bool) (new : Thread) → new ≡ record old { mark = mark; is_yielded = y }
-      → place_of code whole new ≡ nested (callers_of code whole old) (at y s (behind_of code whole old))
+      → thread_place code whole new ≡ nested (callers_of code whole old) (at y s (behind_of code whole old))
   stays_so mark y new moved =
-      ap (λ t. place_of code whole t) moved ∙ place_of-at code whole (record old { mark = mark; is_yielded = y }) s stands
+      ap (λ t. thread_place code whole t) moved ∙ thread_place-at code whole (record old { mark = mark; is_yielded = y }) s stands
 
   -- going on in a block of the statement
   pub enters_block : (which : Branch) (p : ℕ) (new : Thread)
       → new ≡ record old { is_yielded = false; position = 0; frames = record { items = old.frames.items ++ record { branch = which; position = p } ∷ [] } }
       → is_thread which ≡ false
       → (let f : Frame = record { branch = which; position = p } in
-      place_of code whole new ≡ nested (callers_of code whole old) (before false (inner_block code block f ++ (drop p (block_at code whole old.frames.items) ++ rest_of code whole old.frames.items []))))
+      thread_place code whole new ≡ nested (callers_of code whole old) (before false (inner_block code block f ++ (drop p (block_at code whole old.frames.items) ++ rest_of code whole old.frames.items []))))
   enters_block which p new moved no_thread =
       let f : Frame = record { branch = which; position = p } in
       let fs : List Frame = old.frames.items in
-      ap (λ t. place_of code whole t) moved
+      ap (λ t. thread_place code whole t) moved
       ∙ ap (λ cs. nested cs (before false (block_at code whole (fs ++ f ∷ []) ++ rest_of code whole (fs ++ f ∷ []) []))) (callers_in-block code whole fs f [] no_thread)
       ∙ ap (λ b. nested (callers_of code whole old) (before false (b ++ rest_of code whole (fs ++ f ∷ []) []))) (block_at-push code whole fs f ∙ ap (λ b. inner_block code b f) inside)
       ∙ ap (λ r. nested (callers_of code whole old) (before false (inner_block code block f ++ r)))
@@ -103,12 +103,12 @@ module _ (code : Code) (whole block : List (Statement ℕ)) (old : Thread) (s : 
   -- going on in it
   pub enters_thread : (thread : ℕ) (new : Thread) → s ≡ does (spawn thread)
       → new ≡ record old { is_yielded = false; position = 0; frames = record { items = old.frames.items ++ record { branch = Spawned; position = old.position + 1 } ∷ [] } }
-      → place_of code whole new ≡ nested (callers_of code whole old) (within thread (before false (thread_block code thread)) (behind_of code whole old))
+      → thread_place code whole new ≡ nested (callers_of code whole old) (within thread (before false (thread_block code thread)) (behind_of code whole old))
   enters_thread thread new is moved =
       let f : Frame = record { branch = Spawned; position = old.position + 1 } in
       let fs : List Frame = old.frames.items in
       let c : Caller = caller_at code whole fs f [] in
-      ap (λ t. place_of code whole t) moved
+      ap (λ t. thread_place code whole t) moved
       ∙ ap (λ cs. nested cs (before false (block_at code whole (fs ++ f ∷ []) ++ rest_of code whole (fs ++ f ∷ []) []))) (callers_in-thread code whole fs f [] refl)
       ∙ ap (λ b. nested (callers_of code whole old ++ c ∷ []) (before false (b ++ rest_of code whole (fs ++ f ∷ []) []))) (block_at-push code whole fs f)
       ∙ ap (λ r. nested (callers_of code whole old ++ c ∷ []) (before false (thread_block code c.thread ++ r))) (rest_of-push code whole fs f [])
@@ -189,10 +189,10 @@ module _ (code : Code) (whole : List (Statement ℕ)) (old mid : Thread) (left :
 
   -- the innermost thread is fresh again
   pub restarts_so : (new : Thread) → new ≡ record mid { mark = AtRest }
-      → place_of code whole new ≡ nested (callers_of code whole old) (before false (home_of code whole (callers_of code whole old)))
+      → thread_place code whole new ≡ nested (callers_of code whole old) (before false (home_of code whole (callers_of code whole old)))
   restarts_so new moved =
       let fs : List Frame = mid.frames.items in
-      ap (λ t. place_of code whole t) moved
+      ap (λ t. thread_place code whole t) moved
       ∙ ap (λ y. nested (callers_of code whole mid) (before y (drop mid.position (block_at code whole fs) ++ rest_of code whole fs []))) left.unyielded
       ∙ ap (λ k. nested (callers_of code whole mid) (before false (drop k (block_at code whole fs) ++ rest_of code whole fs []))) left.start
       ∙ ap (λ r. nested (callers_of code whole mid) (before false (block_at code whole fs ++ r))) (home_rest code whole fs left.home)
@@ -202,7 +202,7 @@ module _ (code : Code) (whole : List (Statement ℕ)) (old mid : Thread) (left :
   -- the thread that was spawned has exited, and its spawner goes on
   pub exits_so : (rest : List Frame) (f : Frame) (new : Thread) (vars : List ℕ) → mid.frames.items ≡ rest ++ f ∷ []
       → new ≡ record mid { position = f.position; frames = record { items = rest } }
-      → made_of (callers_of code whole old) vars (answers Exited (before false (home_of code whole (callers_of code whole old)))) ≡ goes_on vars (place_of code whole new)
+      → made_of (callers_of code whole old) vars (answers Exited (before false (home_of code whole (callers_of code whole old)))) ≡ goes_on vars (thread_place code whole new)
   exits_so rest f new vars popped moved =
       let c : Caller = caller_at code whole rest f [] in
       let callers : callers_of code whole old ≡ callers_in code whole rest [] ++ c ∷ [] =
@@ -210,11 +210,11 @@ module _ (code : Code) (whole : List (Statement ℕ)) (old mid : Thread) (left :
       ap (λ cs. made_of cs vars (answers Exited (before false (home_of code whole cs)))) callers
       ∙ made_of-exits (callers_in code whole rest []) c vars (before false (home_of code whole (callers_in code whole rest [] ++ c ∷ [])))
       ∙ ap (λ y. goes_on vars (nested (callers_in code whole rest []) (before y c.rest))) (sym left.unyielded)
-      ∙ ap (λ t. goes_on vars (place_of code whole t)) (sym moved)
+      ∙ ap (λ t. goes_on vars (thread_place code whole t)) (sym moved)
 
   -- the part has exited
   pub exits_last : (new : Thread) (vars : List ℕ) → mid.frames.items ≡ [] → new ≡ record mid { mark = AtRest }
-      → made_of (callers_of code whole old) vars (answers Exited (before false (home_of code whole (callers_of code whole old)))) ≡ answers Exited (place_of code whole new)
+      → made_of (callers_of code whole old) vars (answers Exited (before false (home_of code whole (callers_of code whole old)))) ≡ answers Exited (thread_place code whole new)
   exits_last new vars none moved =
       let callers : callers_of code whole old ≡ [] = same_callers ∙ ap (λ fs. callers_in code whole fs []) none in
       ap (λ cs. made_of cs vars (answers Exited (before false (home_of code whole cs)))) callers

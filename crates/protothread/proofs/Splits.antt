@@ -14,18 +14,18 @@ use Rattle.protothread.specs.declared.deed.Deed.{Deed}
 use Rattle.protothread.specs.declared.deed.Deed.TheVariants.{Passes, Assigns, Operates, Waits, Yields}
 use Rattle.protothread.specs.declared.step.Op.{Op}
 use Rattle.protothread.specs.declared.step.Op.TheVariants.{Post, Take}
-use Rattle.protothread.specs.State.{number_of}
+use Rattle.protothread.specs.State.{state_number}
 use Rattle.protothread.specs.Value.{holds}
 use Rattle.protothread.specs.Remainder.{Place, ended, at, within, before, spawner_place, settled, thread_block, whole_of, fresh_of}
 use Rattle.protothread.specs.Step.{goes_on, operates as stops, answers, passes_where, performed, other_block, spawner_reached, reached, yield_answer}
-use Rattle.protothread.specs.Reading.{Sight, Happening, operates, gives_up, Outcome, done, restarts, exits, stands, Restarts, told, deed, meaning, Awaits, met, again, never, Reads, passes, assigns, performs, waits, waits_last, yields, yields_until, yields_until_last, pauses, pauses_last, posts_last, spawn_ends, spawn_exits, spawn_stands, restarted, restarted_last, exited, chooses, repeats, leaves, ReadsAll, nothing_left, in_turn, breaks_off, ReadsThread, once, anew}
+use Rattle.protothread.specs.Reading.{Sight, Happening, operates, gives_up, Completion, done, restarts, exits, stands, Restarts, with_answer, deed, meaning, Awaits, met, again, never, Reads, passes, assigns, performs, waits, waits_last, yields, yields_until, yields_until_last, pauses, pauses_last, posts_last, spawn_ends, spawn_exits, spawn_stands, restarted, restarted_last, exited, chooses, repeats, leaves, ReadsAll, nothing_left, in_turn, breaks_off, ReadsThread, once, anew}
 use Rattle.protothread.proofs.Follows.{IsLive, behind_end, is_true, is_false, heard, comes_to_an_end}
 use Rattle.protothread.proofs.Goes.{Again, Behind, StepOf, Goes, entering, runs_go}
 use Rattle.protothread.specs.Runs.{Runs}
 
 -- a run in two parts: statements of which this became, and what goes on behind them within m statements
-record Split (R : List Happening → Outcome → Type 0) (N : ℕ → Outcome → List Happening → Outcome → Type 0) (n : ℕ) (h : List Happening) (out : Outcome) : Type 0 where
-  became : Outcome
+record Split (R : List Happening → Completion → Type 0) (N : ℕ → Completion → List Happening → Completion → Type 0) (n : ℕ) (h : List Happening) (out : Completion) : Type 0 where
+  became : Completion
   m : ℕ
   few : m ≤ n
   first : List Happening
@@ -35,13 +35,13 @@ record Split (R : List Happening → Outcome → Type 0) (N : ℕ → Outcome �
   goes : N m became next out
 
 -- the same, where it takes statements to restart
-record SplitAll (R : List Happening → Outcome → Type 0) (N : ℕ → Outcome → List Happening → Outcome → Type 0) (n : ℕ) (h : List Happening) (out : Outcome) : Type 0 where
+record SplitAll (R : List Happening → Completion → Type 0) (N : ℕ → Completion → List Happening → Completion → Type 0) (n : ℕ) (h : List Happening) (out : Completion) : Type 0 where
   split : Split R N n h out
   fewer : Restarts split.became → split.m < n
 
 -- the same of another statement, in which this happened first
-mapped : (R Q : List Happening → Outcome → Type 0) (N : ℕ → Outcome → List Happening → Outcome → Type 0) (n l : ℕ) (h k : List Happening) (out : Outcome) (a : List Happening)
-    → l ≤ n → h ≡ a ++ k → ((x : List Happening) (o : Outcome) → R x o → Q (a ++ x) o) → Split R N l k out → Split Q N n h out
+mapped : (R Q : List Happening → Completion → Type 0) (N : ℕ → Completion → List Happening → Completion → Type 0) (n l : ℕ) (h k : List Happening) (out : Completion) (a : List Happening)
+    → l ≤ n → h ≡ a ++ k → ((x : List Happening) (o : Completion) → R x o → Q (a ++ x) o) → Split R N l k out → Split Q N n h out
 mapped R Q N n l h k out a low same f s = record {
   became = s.became;
   m = s.m;
@@ -73,7 +73,7 @@ module _ (code : Code) (part : Part) where
   abbrev whole : List (Statement ℕ)
   whole = whole_of code part
 
-  abbrev To : ℕ → Place → Sight → List Sight → List ℕ → List Happening → Outcome → Type 0
+  abbrev To : ℕ → Place → Sight → List Sight → List ℕ → List Happening → Completion → Type 0
   To n q now later vars h out = Goes code part n q now later vars h out
 
   abbrev LeavesTo : Option Place → (vars : List ℕ) → (now : Sight) → Place → Type 0
@@ -84,7 +84,7 @@ module _ (code : Code) (part : Part) where
   record Inside (home : List (Statement ℕ)) (yields : PtState) : Type 0 where
     place : Place → Place
     behind : Option Place
-    low : number_of yields < 2
+    low : state_number yields < 2
     live : (p : Place) → IsLive p → IsLive (place p)
     settles_so : (p q : Place) → settled p ≡ settled q → settled (place p) ≡ settled (place q)
     onward : (vars : List ℕ) (now : Sight) (p q : Place) (changed : List ℕ) → reached code home vars now.event now.looks p ≡ goes_on changed q → reached code whole vars now.event now.looks (place p) ≡ goes_on changed (place q)
@@ -130,56 +130,56 @@ module _ (code : Code) (part : Part) where
     leaving = λ vars now p q e. c.onward vars now (within t p rest) (before false rest) vars (ap (λ r. spawner_reached t rest vars r) e);
   }
 
-  abbrev LeftTo : ℕ → Option Place → (now : Sight) → (later : List Sight) → List ℕ → List Happening → Outcome → Type 0
+  abbrev LeftTo : ℕ → Option Place → (now : Sight) → (later : List Sight) → List ℕ → List Happening → Completion → Type 0
   LeftTo m None now later vars h out = (h ≡ []) × (out ≡ exits now later vars)
   LeftTo m (Some p) now later vars h out = To m p now later vars h out
 
-  abbrev NextTo : (home : List (Statement ℕ)) (y : PtState) → Inside home y → (rest : List (Statement ℕ)) → ℕ → Outcome → List Happening → Outcome → Type 0
+  abbrev NextTo : (home : List (Statement ℕ)) (y : PtState) → Inside home y → (rest : List (Statement ℕ)) → ℕ → Completion → List Happening → Completion → Type 0
   NextTo home y c rest m (done now later vars) h out = To m (c.place (before false rest)) now later vars h out
   NextTo home y c rest m (restarts now later vars) h out = To m (c.place (before false home)) now later vars h out
   NextTo home y c rest m (exits now later vars) h out = LeftTo m c.behind now later vars h out
   NextTo home y c rest m (stands vars) h out = (h ≡ []) × (out ≡ stands vars)
 
-  abbrev One_split : (home : List (Statement ℕ)) (y : PtState) → Inside home y → (s : Statement ℕ) (rest : List (Statement ℕ)) → ℕ → (now : Sight) (later : List Sight) (vars : List ℕ) (h : List Happening) (out : Outcome) → Type 0
+  abbrev One_split : (home : List (Statement ℕ)) (y : PtState) → Inside home y → (s : Statement ℕ) (rest : List (Statement ℕ)) → ℕ → (now : Sight) (later : List Sight) (vars : List ℕ) (h : List Happening) (out : Completion) → Type 0
   One_split home y c s rest n now later vars h out = Split (λ a b. Reads code y s now later vars a b) (λ m b x o. NextTo home y c rest m b x o) n h out
 
-  abbrev All_split : (home : List (Statement ℕ)) (y : PtState) → Inside home y → (ss rest : List (Statement ℕ)) → ℕ → (now : Sight) (later : List Sight) (vars : List ℕ) (h : List Happening) (out : Outcome) → Type 0
+  abbrev All_split : (home : List (Statement ℕ)) (y : PtState) → Inside home y → (ss rest : List (Statement ℕ)) → ℕ → (now : Sight) (later : List Sight) (vars : List ℕ) (h : List Happening) (out : Completion) → Type 0
   All_split home y c ss rest n now later vars h out = SplitAll (λ a b. ReadsAll code y ss now later vars a b) (λ m b x o. NextTo home y c rest m b x o) n h out
 
   abbrev AllAt : ℕ → Type 0
-  AllAt k = (n : ℕ) → n ≤ k → (home : List (Statement ℕ)) (y : PtState) (c : Inside home y) (ss rest : List (Statement ℕ)) (now : Sight) (later : List Sight) (vars : List ℕ) (h : List Happening) (out : Outcome)
+  AllAt k = (n : ℕ) → n ≤ k → (home : List (Statement ℕ)) (y : PtState) (c : Inside home y) (ss rest : List (Statement ℕ)) (now : Sight) (later : List Sight) (vars : List ℕ) (h : List Happening) (out : Completion)
       → To n (c.place (before false (ss ++ rest))) now later vars h out → All_split home y c ss rest n now later vars h out
 
   abbrev OneAt : ℕ → Type 0
-  OneAt k = (n : ℕ) → n < k → (home : List (Statement ℕ)) (y : PtState) (c : Inside home y) (s : Statement ℕ) (rest : List (Statement ℕ)) (now : Sight) (later : List Sight) (vars : List ℕ) (h : List Happening) (out : Outcome)
+  OneAt k = (n : ℕ) → n < k → (home : List (Statement ℕ)) (y : PtState) (c : Inside home y) (s : Statement ℕ) (rest : List (Statement ℕ)) (now : Sight) (later : List Sight) (vars : List ℕ) (h : List Happening) (out : Completion)
       → To (suc n) (c.place (at false s rest)) now later vars h out → One_split home y c s rest n now later vars h out
 
-  again_of : (G : Place → Sight → List Sight → List ℕ → List Happening → Outcome → Type 0) (y : PtState) (q : Place) (now : Sight) (later : List Sight) (vars : List ℕ) (h : List Happening) (out : Outcome)
-      → number_of y < 2 → Behind G (answers y q) now later vars h out → Again G y q later vars h out
+  again_of : (G : Place → Sight → List Sight → List ℕ → List Happening → Completion → Type 0) (y : PtState) (q : Place) (now : Sight) (later : List Sight) (vars : List ℕ) (h : List Happening) (out : Completion)
+      → state_number y < 2 → Behind G (answers y q) now later vars h out → Again G y q later vars h out
   again_of G Waiting q now later vars h out low f = f
   again_of G Yielded q now later vars h out low f = f
   again_of G Exited q now later vars h out low f = absurd (omega arith)
   again_of G Ended q now later vars h out low f = absurd (omega arith)
 
-  left_of : (b : Option Place) (n : ℕ) (p : Place) (now : Sight) (later : List Sight) (vars : List ℕ) (h : List Happening) (out : Outcome)
+  left_of : (b : Option Place) (n : ℕ) (p : Place) (now : Sight) (later : List Sight) (vars : List ℕ) (h : List Happening) (out : Completion)
       → IsLive p → LeavesTo b vars now p → To (suc n) p now later vars h out → LeftTo n b now later vars h out
   left_of None n p now later vars h out live e g = entering code part n p (answers Exited e.0) now later vars h out live e.1 g
   left_of (Some q) n p now later vars h out live e g = entering code part n p (goes_on vars q) now later vars h out live e g
 
   module _ (home : List (Statement ℕ)) (y : PtState) (c : Inside home y) (rest : List (Statement ℕ)) where
     -- a statement that is done, or stands, at once
-    simple : (Q : List Happening → Outcome → Type 0) (n m : ℕ) (h a k : List Happening) (became out : Outcome)
+    simple : (Q : List Happening → Completion → Type 0) (n m : ℕ) (h a k : List Happening) (became out : Completion)
         → m ≤ n → h ≡ a ++ k → Q a became → NextTo home y c rest m became k out → Split Q (λ m b x o. NextTo home y c rest m b x o) n h out
     simple Q n m h a k became out low same r g = record { became = became; m = m; few = low; first = a; next = k; parts = same; reads = r; goes = g }
 
-    standing : (Q : List Happening → Outcome → Type 0) (n : ℕ) (h a : List Happening) (vars : List ℕ) (out : Outcome)
+    standing : (Q : List Happening → Completion → Type 0) (n : ℕ) (h a : List Happening) (vars : List ℕ) (out : Completion)
         → h ≡ a → out ≡ stands vars → Q a (stands vars) → Split Q (λ m b x o. NextTo home y c rest m b x o) n h out
     standing Q n h a vars out same o r = simple Q n n h a [] (stands vars) out (omega arith) (same ∙ sym (append-nil a)) r (refl, o)
 
     module _ (s : Statement ℕ) (e : Expression ℕ)
         (passing : (now : Sight) (vars : List ℕ) → holds (meaning e now vars) ≡ true → reached code home vars now.event now.looks (at true s rest) ≡ goes_on vars (before false rest))
         (failing : (now : Sight) (vars : List ℕ) → holds (meaning e now vars) ≡ false → reached code home vars now.event now.looks (at true s rest) ≡ answers Yielded (at true s rest)) where
-      not_yet : (n : ℕ) (now : Sight) (later : List Sight) (vars : List ℕ) (h : List Happening) (out : Outcome) → holds (meaning e now vars) ≡ false
+      not_yet : (n : ℕ) (now : Sight) (later : List Sight) (vars : List ℕ) (h : List Happening) (out : Completion) → holds (meaning e now vars) ≡ false
           → ((next : Sight) (others : List Sight) (k : List Happening) → To n (c.place (at true s rest)) next others vars k out → Split (λ a b. Awaits y e next others vars a b) (λ m b x o. NextTo home y c rest m b x o) n k out)
           → Again (λ q call calls v k o. To n q call calls v k o) y (c.place (at true s rest)) later vars h out
           → Split (λ a b. Awaits y e now later vars a b) (λ m b x o. NextTo home y c rest m b x o) (suc n) h out
@@ -189,7 +189,7 @@ module _ (code : Code) (part : Part) where
           (λ x o r. again now next later vars x o t r)
           (further next later f.0 f.2)
 
-      awaiting : (n : ℕ) (now : Sight) (later : List Sight) (vars : List ℕ) (h : List Happening) (out : Outcome)
+      awaiting : (n : ℕ) (now : Sight) (later : List Sight) (vars : List ℕ) (h : List Happening) (out : Completion)
           → To n (c.place (at true s rest)) now later vars h out → Split (λ a b. Awaits y e now later vars a b) (λ m b x o. NextTo home y c rest m b x o) n h out
       awaiting zero now later vars h out g = absurd g
       awaiting (suc n) now later vars h out g =
@@ -205,17 +205,17 @@ module _ (code : Code) (part : Part) where
 
   -- what an action of an ordinary deed does
   module _ (home : List (Statement ℕ)) (y : PtState) (c : Inside home y) (rest : List (Statement ℕ)) (k : ℕ) (one : OneAt k) (a : Action ℕ) where
-    operates_so : (o : Op) (into : Option ℕ) (n : ℕ) (now : Sight) (later : List Sight) (vars : List ℕ) (h : List Happening) (out : Outcome)
+    operates_so : (o : Op) (into : Option ℕ) (n : ℕ) (now : Sight) (later : List Sight) (vars : List ℕ) (h : List Happening) (out : Completion)
         → deed code a now vars ≡ Operates o into
         → Behind (λ q call calls v k o. To n q call calls v k o) (stops o (UnderWay into) (c.place (before false rest))) now later vars h out
         → One_split home y c (does a) rest n now later vars h out
     operates_so o into n now [] vars h out e f =
         standing home y c rest (λ a' b. Reads code y (does a) now [] vars a' b) n h (operates o ∷ []) vars out f.0 f.1 (performs y a o into now [] vars e)
     operates_so o into n now (next ∷ later) vars h out e f =
-        simple home y c rest (λ a' b. Reads code y (does a) now (next ∷ later) vars a' b) n n h (operates o ∷ []) f.0 (done next later (told into vars next.answer)) out (omega arith) f.1 (performs y a o into now (next ∷ later) vars e)
+        simple home y c rest (λ a' b. Reads code y (does a) now (next ∷ later) vars a' b) n n h (operates o ∷ []) f.0 (done next later (with_answer into vars next.answer)) out (omega arith) f.1 (performs y a o into now (next ∷ later) vars e)
         (subst (λ (v : List ℕ). To n (c.place (before false rest)) next later v f.0 out) (sym (heard into vars next.answer)) f.2)
 
-    waits_so : (n : ℕ) → n ≤ k → (now : Sight) (later : List Sight) (vars : List ℕ) (h : List Happening) (out : Outcome)
+    waits_so : (n : ℕ) → n ≤ k → (now : Sight) (later : List Sight) (vars : List ℕ) (h : List Happening) (out : Completion)
         → deed code a now vars ≡ Waits
         → Again (λ q call calls v k o. To n q call calls v k o) Waiting (c.place (at false (does a) rest)) later vars h out
         → One_split home y c (does a) rest n now later vars h out
@@ -227,7 +227,7 @@ module _ (code : Code) (part : Part) where
         (λ x o r. waits y a now next later vars x o e r)
         (one n (omega arith) home y c (does a) rest next later vars f.0 out f.2)
 
-    ordinary : (d : Deed) (n : ℕ) → n ≤ k → (now : Sight) (later : List Sight) (vars : List ℕ) (h : List Happening) (out : Outcome)
+    ordinary : (d : Deed) (n : ℕ) → n ≤ k → (now : Sight) (later : List Sight) (vars : List ℕ) (h : List Happening) (out : Completion)
         → deed code a now vars ≡ d → IsOrdinary d
         → To (suc n) (c.place (at false (does a) rest)) now later vars h out → One_split home y c (does a) rest n now later vars h out
     ordinary Passes n low now later vars h out e i g =
@@ -250,7 +250,7 @@ module _ (code : Code) (part : Part) where
 
   -- the statements that yield
   module _ (home : List (Statement ℕ)) (y : PtState) (c : Inside home y) (rest : List (Statement ℕ)) where
-    yields_so : (n : ℕ) (now : Sight) (later : List Sight) (vars : List ℕ) (h : List Happening) (out : Outcome)
+    yields_so : (n : ℕ) (now : Sight) (later : List Sight) (vars : List ℕ) (h : List Happening) (out : Completion)
         → Again (λ q call calls v k o. To n q call calls v k o) y (c.place (at true (does yield) rest)) later vars h out
         → One_split home y c (does yield) rest n now later vars h out
     yields_so n now [] vars h out f =
@@ -261,7 +261,7 @@ module _ (code : Code) (part : Part) where
         (entering code part n (c.place (at true (does yield) rest)) (goes_on vars (c.place (before false rest))) next later vars f.0 out (c.live (at true (does yield) rest) tt)
         (c.onward vars next (at true (does yield) rest) (before false rest) vars refl) f.2)
 
-    yields_until_so : (e : Expression ℕ) (n : ℕ) (now : Sight) (later : List Sight) (vars : List ℕ) (h : List Happening) (out : Outcome)
+    yields_until_so : (e : Expression ℕ) (n : ℕ) (now : Sight) (later : List Sight) (vars : List ℕ) (h : List Happening) (out : Completion)
         → Again (λ q call calls v k o. To n q call calls v k o) y (c.place (at true (does (yield_until e)) rest)) later vars h out
         → One_split home y c (does (yield_until e)) rest n now later vars h out
     yields_until_so e n now [] vars h out f =
@@ -274,7 +274,7 @@ module _ (code : Code) (part : Part) where
         (λ now vars m. ap (λ b. performed code home vars (does (yield_until e)) rest (passes_where b Yields)) m)
         n next later vars f.0 out f.2)
 
-    pauses_on : (n : ℕ) (now next : Sight) (later : List Sight) (vars : List ℕ) (h j : List Happening) (out : Outcome)
+    pauses_on : (n : ℕ) (now next : Sight) (later : List Sight) (vars : List ℕ) (h j : List Happening) (out : Completion)
         → h ≡ operates (Post (One (Own code.number)) 0x85 0) ∷ j
         → Again (λ q call calls v k o. To n q call calls v k o) y (c.place (at true (does pause) rest)) later vars j out
         → One_split home y c (does pause) rest n now (next ∷ later) vars h out
@@ -290,7 +290,7 @@ module _ (code : Code) (part : Part) where
         (λ now vars m. ap (λ b. performed code home vars (does pause) rest (passes_where b Yields)) (is_false (now.event.number == 0x85) m))
         n second later vars f.0 out f.2)
 
-    pauses_so : (n : ℕ) (now : Sight) (later : List Sight) (vars : List ℕ) (h : List Happening) (out : Outcome)
+    pauses_so : (n : ℕ) (now : Sight) (later : List Sight) (vars : List ℕ) (h : List Happening) (out : Completion)
         → Behind (λ q call calls v k o. To n q call calls v k o) (stops (Post (One (Own code.number)) 0x85 0) Pausing (c.place (at true (does pause) rest))) now later vars h out
         → One_split home y c (does pause) rest n now later vars h out
     pauses_so n now [] vars h out f =
@@ -299,7 +299,7 @@ module _ (code : Code) (part : Part) where
         pauses_on n now next later vars h f.0 out f.1
         (subst (λ (a : PtState). Again (λ q call calls v k o. To n q call calls v k o) a (c.place (at true (does pause) rest)) later vars f.0 out) (c.answers_at true (does pause) rest) f.2)
 
-    restarts_so : (n : ℕ) (now : Sight) (later : List Sight) (vars : List ℕ) (h : List Happening) (out : Outcome)
+    restarts_so : (n : ℕ) (now : Sight) (later : List Sight) (vars : List ℕ) (h : List Happening) (out : Completion)
         → Again (λ q call calls v k o. To n q call calls v k o) Waiting (c.place (before false home)) later vars h out
         → One_split home y c (does restart) rest n now later vars h out
     restarts_so n now [] vars h out f =
@@ -307,7 +307,7 @@ module _ (code : Code) (part : Part) where
     restarts_so n now (next ∷ later) vars h out f =
         simple home y c rest (λ a b. Reads code y (does restart) now (next ∷ later) vars a b) n n h (gives_up Waiting ∷ []) f.0 (restarts next later vars) out (omega arith) f.1 (restarted y now next later vars) f.2
 
-    spawn_so : (t n m : ℕ) (now : Sight) (later : List Sight) (vars : List ℕ) (h a b : List Happening) (became out : Outcome)
+    spawn_so : (t n m : ℕ) (now : Sight) (later : List Sight) (vars : List ℕ) (h a b : List Happening) (became out : Completion)
         → m ≤ n → h ≡ a ++ b → ReadsThread code Waiting (thread_block code t) now later vars a became
         → NextTo (thread_block code t) Waiting (spawned c t rest) [] m became b out
         → One_split home y c (does (spawn t)) rest n now later vars h out
@@ -322,7 +322,7 @@ module _ (code : Code) (part : Part) where
         simple home y c rest (λ a b. Reads code y (does (spawn t)) now later vars a b) n m h a b (stands changed) out low same (spawn_stands y t now later vars a changed r) g
 
   -- a whole thread
-  thread_so : (n : ℕ) (block : List (Statement ℕ)) (y : PtState) (c : Inside block y) (now : Sight) (later : List Sight) (vars : List ℕ) (h a b : List Happening) (became out : Outcome) (m : ℕ)
+  thread_so : (n : ℕ) (block : List (Statement ℕ)) (y : PtState) (c : Inside block y) (now : Sight) (later : List Sight) (vars : List ℕ) (h a b : List Happening) (became out : Completion) (m : ℕ)
       → m ≤ n → (Restarts became → m < n) → h ≡ a ++ b → ReadsAll code y block now later vars a became → NextTo block y c [] m became b out
       → ((call : Sight) (calls : List Sight) (changed : List ℕ) → m < n → To m (c.place (before false block)) call calls changed b out → Split (λ a b. ReadsThread code y block call calls changed a b) (λ m b x o. NextTo block y c [] m b x o) m b out)
       → Split (λ a b. ReadsThread code y block now later vars a b) (λ m b x o. NextTo block y c [] m b x o) n h out
@@ -337,7 +337,7 @@ module _ (code : Code) (part : Part) where
   thread_so n block y c now later vars h a b (stands changed) out m low fewer same r g deeper =
       simple block y c [] (λ a b. ReadsThread code y block now later vars a b) n m h a b (stands changed) out low same (once y block now later vars a (stands changed) (λ x. x) r) g
 
-  threads : (k : ℕ) → AllAt k → (j n : ℕ) → n ≤ j → n ≤ k → (block : List (Statement ℕ)) (y : PtState) (c : Inside block y) (now : Sight) (later : List Sight) (vars : List ℕ) (h : List Happening) (out : Outcome)
+  threads : (k : ℕ) → AllAt k → (j n : ℕ) → n ≤ j → n ≤ k → (block : List (Statement ℕ)) (y : PtState) (c : Inside block y) (now : Sight) (later : List Sight) (vars : List ℕ) (h : List Happening) (out : Completion)
       → To n (c.place (before false block)) now later vars h out
       → Split (λ a b. ReadsThread code y block now later vars a b) (λ m b x o. NextTo block y c [] m b x o) n h out
   threads k all zero n low few block y c now later vars h out g =
@@ -350,7 +350,7 @@ module _ (code : Code) (part : Part) where
       (λ call calls changed less g. threads k all j f.split.m (omega (arith, less, low)) (omega (arith, less, few)) block y c call calls changed f.split.next out g)
 
   -- one statement
-  module _ (k : ℕ) (all : AllAt k) (one : OneAt k) (n : ℕ) (low : n ≤ k) (home : List (Statement ℕ)) (y : PtState) (c : Inside home y) (rest : List (Statement ℕ)) (now : Sight) (later : List Sight) (vars : List ℕ) (h : List Happening) (out : Outcome) where
+  module _ (k : ℕ) (all : AllAt k) (one : OneAt k) (n : ℕ) (low : n ≤ k) (home : List (Statement ℕ)) (y : PtState) (c : Inside home y) (rest : List (Statement ℕ)) (now : Sight) (later : List Sight) (vars : List ℕ) (h : List Happening) (out : Completion) where
     by_action : (a : Action ℕ) → To (suc n) (c.place (at false (does a) rest)) now later vars h out → One_split home y c (does a) rest n now later vars h out
     by_action (wait_until e) g = ordinary home y c rest k one (wait_until e) (deed code (wait_until e) now vars) n low now later vars h out refl (ordinary_test (holds (meaning e now vars))) g
     by_action (wait_while e) g = ordinary home y c rest k one (wait_while e) (deed code (wait_while e) now vars) n low now later vars h out refl (ordinary_test (not (holds (meaning e now vars)))) g
@@ -410,8 +410,8 @@ module _ (code : Code) (part : Part) where
         ]) refl
 
   -- statements
-  joined : (k : ℕ) → AllAt k → (n : ℕ) → n ≤ k → (home : List (Statement ℕ)) (y : PtState) (c : Inside home y) (s : Statement ℕ) (ss rest : List (Statement ℕ)) (now : Sight) (later : List Sight) (vars : List ℕ) (h : List Happening) (out : Outcome)
-      → (became : Outcome) (m : ℕ) → m ≤ n → (a b : List Happening) → h ≡ a ++ b → Reads code y s now later vars a became → NextTo home y c (ss ++ rest) m became b out
+  joined : (k : ℕ) → AllAt k → (n : ℕ) → n ≤ k → (home : List (Statement ℕ)) (y : PtState) (c : Inside home y) (s : Statement ℕ) (ss rest : List (Statement ℕ)) (now : Sight) (later : List Sight) (vars : List ℕ) (h : List Happening) (out : Completion)
+      → (became : Completion) (m : ℕ) → m ≤ n → (a b : List Happening) → h ≡ a ++ b → Reads code y s now later vars a became → NextTo home y c (ss ++ rest) m became b out
       → All_split home y c (s ∷ ss) rest (suc n) now later vars h out
   joined k all n low home y c s ss rest now later vars h out (done call calls changed) m few a b same r g =
       let f : All_split home y c ss rest m call calls changed b out = all m (omega arith) home y c ss rest call calls changed b out g in
@@ -441,14 +441,14 @@ module _ (code : Code) (part : Part) where
     fewer = λ x. absurd x;
   }
 
-  none_left : (n : ℕ) (home : List (Statement ℕ)) (y : PtState) (c : Inside home y) (rest : List (Statement ℕ)) (now : Sight) (later : List Sight) (vars : List ℕ) (h : List Happening) (out : Outcome)
+  none_left : (n : ℕ) (home : List (Statement ℕ)) (y : PtState) (c : Inside home y) (rest : List (Statement ℕ)) (now : Sight) (later : List Sight) (vars : List ℕ) (h : List Happening) (out : Completion)
       → To n (c.place (before false rest)) now later vars h out → All_split home y c [] rest n now later vars h out
   none_left n home y c rest now later vars h out g = record {
     split = record { became = done now later vars; m = n; few = omega arith; first = []; next = h; parts = refl; reads = nothing_left y now later vars; goes = g };
     fewer = λ x. absurd x;
   }
 
-  all_of : (k : ℕ) → AllAt k → OneAt (suc k) → (n : ℕ) → n ≤ suc k → (home : List (Statement ℕ)) (y : PtState) (c : Inside home y) (ss rest : List (Statement ℕ)) (now : Sight) (later : List Sight) (vars : List ℕ) (h : List Happening) (out : Outcome)
+  all_of : (k : ℕ) → AllAt k → OneAt (suc k) → (n : ℕ) → n ≤ suc k → (home : List (Statement ℕ)) (y : PtState) (c : Inside home y) (ss rest : List (Statement ℕ)) (now : Sight) (later : List Sight) (vars : List ℕ) (h : List Happening) (out : Completion)
       → To n (c.place (before false (ss ++ rest))) now later vars h out → All_split home y c ss rest n now later vars h out
   all_of k all one n low home y c [] rest now later vars h out g = none_left n home y c rest now later vars h out g
   all_of k all one zero low home y c (s ∷ ss) rest now later vars h out g = absurd g
@@ -456,7 +456,7 @@ module _ (code : Code) (part : Part) where
       let f : One_split home y c s (ss ++ rest) n now later vars h out = one n (omega arith) home y c s (ss ++ rest) now later vars h out g in
       joined k all n (omega arith) home y c s ss rest now later vars h out f.became f.m f.few f.first f.next f.parts f.reads f.goes
 
-  all_at_none : (n : ℕ) → n ≤ 0 → (home : List (Statement ℕ)) (y : PtState) (c : Inside home y) (ss rest : List (Statement ℕ)) (now : Sight) (later : List Sight) (vars : List ℕ) (h : List Happening) (out : Outcome)
+  all_at_none : (n : ℕ) → n ≤ 0 → (home : List (Statement ℕ)) (y : PtState) (c : Inside home y) (ss rest : List (Statement ℕ)) (now : Sight) (later : List Sight) (vars : List ℕ) (h : List Happening) (out : Completion)
       → To n (c.place (before false (ss ++ rest))) now later vars h out → All_split home y c ss rest n now later vars h out
   all_at_none n low home y c [] rest now later vars h out g = none_left n home y c rest now later vars h out g
   all_at_none zero low home y c (s ∷ ss) rest now later vars h out g = absurd g
@@ -470,14 +470,14 @@ module _ (code : Code) (part : Part) where
       (all_of k before_that.0 one, one)
 
   -- a run of a whole part
-  at_its_end : (now : Sight) (later : List Sight) (vars : List ℕ) (h a b : List Happening) (became out : Outcome)
+  at_its_end : (now : Sight) (later : List Sight) (vars : List ℕ) (h a b : List Happening) (became out : Completion)
       → h ≡ a ++ b → ReadsThread code Yielded whole now later vars a became → b ≡ [] → out ≡ became
       → ReadsThread code Yielded whole now later vars h out
   at_its_end now later vars h a b became out same r none over =
       subst (λ (x : List Happening). ReadsThread code Yielded whole now later vars x out) (sym (same ∙ ap (λ x. a ++ x) none ∙ append-nil a))
-      (subst (λ (o : Outcome). ReadsThread code Yielded whole now later vars a o) (sym over) r)
+      (subst (λ (o : Completion). ReadsThread code Yielded whole now later vars a o) (sym over) r)
 
-  whole_read : (m : ℕ) (now : Sight) (later : List Sight) (vars : List ℕ) (h a b : List Happening) (became out : Outcome)
+  whole_read : (m : ℕ) (now : Sight) (later : List Sight) (vars : List ℕ) (h a b : List Happening) (became out : Completion)
       → h ≡ a ++ b → ReadsThread code Yielded whole now later vars a became → NextTo whole Yielded outermost [] m became b out
       → ReadsThread code Yielded whole now later vars h out
   whole_read zero now later vars h a b (done call calls changed) out same r g = absurd g
@@ -486,7 +486,7 @@ module _ (code : Code) (part : Part) where
   whole_read m now later vars h a b (exits call calls changed) out same r g = at_its_end now later vars h a b (exits call calls changed) out same r g.0 g.1
   whole_read m now later vars h a b (stands changed) out same r g = at_its_end now later vars h a b (stands changed) out same r g.0 g.1
 
-pub reads_the_text : (code : Code) (part : Part) (vars : List ℕ) (now : Sight) (later : List Sight) (h : List Happening) (out : Outcome)
+pub reads_the_text : (code : Code) (part : Part) (vars : List ℕ) (now : Sight) (later : List Sight) (h : List Happening) (out : Completion)
     → Runs code (fresh_of code part) vars now later h out → ReadsThread code Yielded (whole_of code part) now later vars h out
 reads_the_text code part vars now later h out run =
     let g : (n : ℕ) × Goes code part n (before false (whole_of code part)) now later vars h out = runs_go code run in

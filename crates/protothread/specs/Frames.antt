@@ -81,10 +81,10 @@ abbrev pub callers_of : Code → (whole : List (Statement ℕ)) → Thread → L
 callers_of code whole t = callers_in code whole t.frames.items []
 
 -- where a thread stands, by its frames and its position in the innermost block
-abbrev pub place_of : Code → (whole : List (Statement ℕ)) → Thread → Place
-place_of code whole t =
+abbrev pub thread_place : Code → (whole : List (Statement ℕ)) → Thread → Place
+thread_place code whole t =
     nested (callers_of code whole t) (before t.is_yielded (drop t.position (block_at code whole t.frames.items) ++ rest_of code whole t.frames.items []))
 
 -- the remainder of a thread over a code
 abbrev pub remainder_of : Code → Thread → Remainder
-remainder_of code t = record { part = t.part; mark = t.mark; place = place_of code (whole_of code t.part) t }
+remainder_of code t = record { part = t.part; mark = t.mark; place = thread_place code (whole_of code t.part) t }

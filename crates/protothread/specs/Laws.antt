@@ -6,7 +6,7 @@ use Rattle.mote_program.specs.Tree.{Statement, does, wait_until, wait_while, yie
 use Rattle.protothread.specs.declared.step.Step.TheVariants.{Runaway, Done}
 use Rattle.protothread.specs.declared.state.PtState.{PtState}
 use Rattle.protothread.specs.declared.thread.Mark.TheVariants.{AtRest, Pausing}
-use Rattle.protothread.specs.State.{number_of}
+use Rattle.protothread.specs.State.{state_number}
 use Rattle.protothread.specs.Looks.{Looks}
 use Rattle.protothread.specs.Remainder.{Place, ended, at, within, before, Remainder, thread_block, whole_of}
 use Rattle.protothread.specs.Step.{Advanced, advanced_of, PaysFor}
@@ -57,7 +57,7 @@ IsSound code r = r.mark ≡ Pausing → IsHeld code (whole_of code r.part) r.pla
 
 -- A step that gives up control leaves the thread at rest, held in such a place, from which the next call goes on.
 pub record GivesUpAtAWait (code : Code) (a : Advanced) : Type 0 where
-  pub gives_up : (answer : PtState) → a.step ≡ Done answer → number_of answer < 2
+  pub gives_up : (answer : PtState) → a.step ≡ Done answer → state_number answer < 2
       → (a.remainder.mark ≡ AtRest) × IsHeld code (whole_of code a.remainder.part) a.remainder.place
   pub stays_sound : IsSound code a.remainder
 

@@ -16,7 +16,7 @@ use Rattle.protothread.specs.declared.frame.Frame.{Frame}
 use Rattle.protothread.specs.Looks.{Looks}
 use Rattle.protothread.specs.Remainder.{at, thread_block, whole_of}
 use Rattle.protothread.specs.Step.{Reached, goes_on, operates, answers, spawner_reached, performed, reached, advanced_of, continued, PaysFor}
-use Rattle.protothread.specs.Frames.{Caller, block_at, rest_of, is_thread, spawns, nested, callers_of, place_of, remainder_of}
+use Rattle.protothread.specs.Frames.{Caller, block_at, rest_of, is_thread, spawns, nested, callers_of, thread_place, remainder_of}
 
 -- the block of the innermost of the threads
 abbrev pub home_of : Code → (whole : List (Statement ℕ)) → List Caller → List (Statement ℕ)
@@ -67,20 +67,20 @@ pub record LeavesBlocks (old new : Thread) : Type 0 where
 pub record GoesOnAt (code : Code) (whole block : List (Statement ℕ)) (made : Reached) (old new : Thread) (after : List ℕ) : Type 0 where
   pub part : new.part ≡ old.part
   pub innermost : block_at code whole new.frames.items ≡ block
-  pub made_so : made ≡ goes_on after (place_of code whole new)
+  pub made_so : made ≡ goes_on after (thread_place code whole new)
 
 -- it stops with an operation
 pub record OperatesSo (code : Code) (whole : List (Statement ℕ)) (made : Reached) (o : Op) (old new : Thread) (vars after : List ℕ) : Type 0 where
   pub part : new.part ≡ old.part
   pub variables : after ≡ vars
-  pub made_so : made ≡ operates o new.mark (place_of code whole new)
+  pub made_so : made ≡ operates o new.mark (thread_place code whole new)
 
 -- it gives up control
 pub record AnswersSo (code : Code) (whole : List (Statement ℕ)) (made : Reached) (answer : PtState) (old new : Thread) (vars after : List ℕ) : Type 0 where
   pub part : new.part ≡ old.part
   pub mark : new.mark ≡ AtRest
   pub variables : after ≡ vars
-  pub made_so : made ≡ answers answer (place_of code whole new)
+  pub made_so : made ≡ answers answer (thread_place code whole new)
 
 -- what became of the statement that a thread stands at
 abbrev pub Reaches : Code → (whole : List (Statement ℕ)) → (made : Reached) → Reach → (old new : Thread) → (vars after : List ℕ) → Type 0
@@ -93,7 +93,7 @@ pub record GoesOnFrom (old new : Thread) (units left : ℕ) : Type 0 where
   pub same : new ≡ old
   pub none_made : left ≤ units
   pub goes_on_so : (code : Code) (event : Event) (looks : Looks) (vars : List ℕ)
-      → advanced_of code event looks (remainder_of code old) vars units ≡ continued code old.part event looks (place_of code (whole_of code old.part) old) vars left
+      → advanced_of code event looks (remainder_of code old) vars units ≡ continued code old.part event looks (thread_place code (whole_of code old.part) old) vars left
 
 -- a thread that stops before it comes there
 pub record StopsAtOnce (answer : Step) (old new : Thread) (units left : ℕ) : Type 0 where

@@ -3,7 +3,9 @@
 use Rattle.std.specs.Prelude.{ℕ, ◌≡◌, true, false, List, [], ◌∷◌, ◌++◌, slice_set, Option, None, Some, if◌then◌else◌}
 use Rattle.mote_program.specs.declared.event.Event.{Event}
 use Rattle.mote_program.specs.declared.event.Proc.TheVariants.{Own}
+use Rattle.mote_program.specs.declared.event.SystemEvent.TheVariants.{Continue}
 use Rattle.mote_program.specs.declared.event.Target.TheVariants.{One}
+use Rattle.mote_program.specs.Events.{system_number}
 use Rattle.mote_program.specs.EventNames.{sent, cast, continue}
 use Rattle.mote_program.specs.Tree.{Expression, is, Action, yield, yield_until, spawn, restart, exit, pause, Statement, does, branch, while, Body, Otherwise, listed}
 use Rattle.mote_program.specs.Code.{Code}
@@ -32,29 +34,29 @@ pub data Happening : Type 0 where
 
 -- What became of statements: they were done; or they were left, since the thread restarts or exits. The thread goes on in
 -- the sight `now`, before the later ones. Or it stands in them, and no sight is left.
-pub data Outcome : Type 0 where
-  done : (now : Sight) → (later : List Sight) → (variables : List ℕ) → Outcome
-  restarts : (now : Sight) → (later : List Sight) → (variables : List ℕ) → Outcome
-  exits : (now : Sight) → (later : List Sight) → (variables : List ℕ) → Outcome
-  stands : (variables : List ℕ) → Outcome
+pub data Completion : Type 0 where
+  done : (now : Sight) → (later : List Sight) → (variables : List ℕ) → Completion
+  restarts : (now : Sight) → (later : List Sight) → (variables : List ℕ) → Completion
+  exits : (now : Sight) → (later : List Sight) → (variables : List ℕ) → Completion
+  stands : (variables : List ℕ) → Completion
 
-abbrev pub IsDone : Outcome → Type 0
+abbrev pub IsDone : Completion → Type 0
 IsDone (done now later vars) = Unit {0}
 IsDone out = ⊥
 
-abbrev pub Restarts : Outcome → Type 0
+abbrev pub Restarts : Completion → Type 0
 Restarts (restarts now later vars) = Unit {0}
 Restarts out = ⊥
 
 -- the variable behind `into` gets the answer
-abbrev pub told : (into : Option ℕ) → (variables : List ℕ) → (answer : ℕ) → List ℕ
-told None vars answer = vars
-told (Some i) vars answer = slice_set vars i answer
+abbrev pub with_answer : (into : Option ℕ) → (variables : List ℕ) → (answer : ℕ) → List ℕ
+with_answer None vars answer = vars
+with_answer (Some i) vars answer = slice_set vars i answer
 
 -- a statement that goes on in the next sight
-abbrev pub resumed : (into : Option ℕ) → (later : List Sight) → (variables : List ℕ) → Outcome
+abbrev pub resumed : (into : Option ℕ) → (later : List Sight) → (variables : List ℕ) → Completion
 resumed into [] vars = stands vars
-resumed into (next ∷ later) vars = done next later (told into vars next.answer)
+resumed into (next ∷ later) vars = done next later (with_answer into vars next.answer)
 
 -- what a statement that is reached does at once
 abbrev pub deed : Code → Action ℕ → Sight → (variables : List ℕ) → Deed
@@ -64,10 +66,10 @@ abbrev pub meaning : Expression ℕ → Sight → (variables : List ℕ) → ℕ
 meaning e now vars = value vars now.event now.looks e
 
 -- once it has yielded, a thread goes on in the first sight in which the condition holds, and yields in each before
-pub data Awaits (yields : PtState) (c : Expression ℕ) : (now : Sight) → (later : List Sight) → (variables : List ℕ) → List Happening → Outcome → Type 0 where
+pub data Awaits (yields : PtState) (c : Expression ℕ) : (now : Sight) → (later : List Sight) → (variables : List ℕ) → List Happening → Completion → Type 0 where
   met : (now : Sight) (later : List Sight) (vars : List ℕ) → holds (meaning c now vars) ≡ true
       → Awaits yields c now later vars [] (done now later vars)
-  again : (now next : Sight) (later : List Sight) (vars : List ℕ) (h : List Happening) (out : Outcome)
+  again : (now next : Sight) (later : List Sight) (vars : List ℕ) (h : List Happening) (out : Completion)
       → holds (meaning c now vars) ≡ false → Awaits yields c next later vars h out
       → Awaits yields c now (next ∷ later) vars (gives_up yields ∷ h) out
   never : (now : Sight) (vars : List ℕ) → holds (meaning c now vars) ≡ false
@@ -76,7 +78,7 @@ pub data Awaits (yields : PtState) (c : Expression ℕ) : (now : Sight) → (lat
 mutual
   -- What one statement does. `yields` is what the part's caller is answered where the thread yields: YIELDED, and from a
   -- spawned thread WAITING.
-  pub data Reads (code : Code) : (yields : PtState) → Statement ℕ → (now : Sight) → (later : List Sight) → (variables : List ℕ) → List Happening → Outcome → Type 0 where
+  pub data Reads (code : Code) : (yields : PtState) → Statement ℕ → (now : Sight) → (later : List Sight) → (variables : List ℕ) → List Happening → Completion → Type 0 where
     passes : (y : PtState) (a : Action ℕ) (now : Sight) (later : List Sight) (vars : List ℕ)
         → deed code a now vars ≡ Passes → Reads code y (does a) now later vars [] (done now later vars)
     assigns : (y : PtState) (a : Action ℕ) (i v : ℕ) (now : Sight) (later : List Sight) (vars : List ℕ)
@@ -84,7 +86,7 @@ mutual
     performs : (y : PtState) (a : Action ℕ) (o : Op) (into : Option ℕ) (now : Sight) (later : List Sight) (vars : List ℕ)
         → deed code a now vars ≡ Operates o into → Reads code y (does a) now later vars (operates o ∷ []) (resumed into later vars)
     -- WAITING, and then the statement again in the next sight: `wait_until`, `wait_while` and `acquire`
-    waits : (y : PtState) (a : Action ℕ) (now next : Sight) (later : List Sight) (vars : List ℕ) (h : List Happening) (out : Outcome)
+    waits : (y : PtState) (a : Action ℕ) (now next : Sight) (later : List Sight) (vars : List ℕ) (h : List Happening) (out : Completion)
         → deed code a now vars ≡ Waits → Reads code y (does a) next later vars h out
         → Reads code y (does a) now (next ∷ later) vars (gives_up Waiting ∷ h) out
     waits_last : (y : PtState) (a : Action ℕ) (now : Sight) (vars : List ℕ)
@@ -92,19 +94,19 @@ mutual
     -- control is given up once
     yields : (y : PtState) (now : Sight) (later : List Sight) (vars : List ℕ)
         → Reads code y (does yield) now later vars (gives_up y ∷ []) (resumed None later vars)
-    yields_until : (y : PtState) (c : Expression ℕ) (now next : Sight) (later : List Sight) (vars : List ℕ) (h : List Happening) (out : Outcome)
+    yields_until : (y : PtState) (c : Expression ℕ) (now next : Sight) (later : List Sight) (vars : List ℕ) (h : List Happening) (out : Completion)
         → Awaits y c next later vars h out
         → Reads code y (does (yield_until c)) now (next ∷ later) vars (gives_up y ∷ h) out
     yields_until_last : (y : PtState) (c : Expression ℕ) (now : Sight) (vars : List ℕ)
         → Reads code y (does (yield_until c)) now [] vars (gives_up y ∷ []) (stands vars)
     -- CONTINUE to its own process, and then as `yield_until is(continue)`
-    pauses : (y : PtState) (now next second : Sight) (later : List Sight) (vars : List ℕ) (h : List Happening) (out : Outcome)
+    pauses : (y : PtState) (now next second : Sight) (later : List Sight) (vars : List ℕ) (h : List Happening) (out : Completion)
         → Awaits y (is (sent (cast continue))) second later vars h out
-        → Reads code y (does pause) now (next ∷ second ∷ later) vars (operates (Post (One (Own code.number)) 0x85 0) ∷ gives_up y ∷ h) out
+        → Reads code y (does pause) now (next ∷ second ∷ later) vars (operates (Post (One (Own code.number)) (system_number Continue) 0) ∷ gives_up y ∷ h) out
     pauses_last : (y : PtState) (now next : Sight) (vars : List ℕ)
-        → Reads code y (does pause) now (next ∷ []) vars (operates (Post (One (Own code.number)) 0x85 0) ∷ gives_up y ∷ []) (stands vars)
+        → Reads code y (does pause) now (next ∷ []) vars (operates (Post (One (Own code.number)) (system_number Continue) 0) ∷ gives_up y ∷ []) (stands vars)
     posts_last : (y : PtState) (now : Sight) (vars : List ℕ)
-        → Reads code y (does pause) now [] vars (operates (Post (One (Own code.number)) 0x85 0) ∷ []) (stands vars)
+        → Reads code y (does pause) now [] vars (operates (Post (One (Own code.number)) (system_number Continue) 0) ∷ []) (stands vars)
     -- the block of the thread, in the same call; it goes on behind the spawn where that ends or exits
     spawn_ends : (y : PtState) (t : ℕ) (now : Sight) (later : List Sight) (vars : List ℕ) (h : List Happening) (call : Sight) (calls : List Sight) (changed : List ℕ)
         → ReadsThread code Waiting (thread_block code t) now later vars h (done call calls changed)
@@ -122,31 +124,31 @@ mutual
     exited : (y : PtState) (now : Sight) (later : List Sight) (vars : List ℕ)
         → Reads code y (does exit) now later vars [] (exits now later vars)
     -- the block that the condition chooses
-    chooses : (y : PtState) (c : Expression ℕ) (a : Body ℕ) (o : Otherwise ℕ) (now : Sight) (later : List Sight) (vars : List ℕ) (h : List Happening) (out : Outcome)
+    chooses : (y : PtState) (c : Expression ℕ) (a : Body ℕ) (o : Otherwise ℕ) (now : Sight) (later : List Sight) (vars : List ℕ) (h : List Happening) (out : Completion)
         → ReadsAll code y (if holds (meaning c now vars) then listed a else other_block o) now later vars h out
         → Reads code y (branch c a o) now later vars h out
     -- the body, and then the loop again
-    repeats : (y : PtState) (c : Expression ℕ) (a : Body ℕ) (now : Sight) (later : List Sight) (vars : List ℕ) (h : List Happening) (out : Outcome)
+    repeats : (y : PtState) (c : Expression ℕ) (a : Body ℕ) (now : Sight) (later : List Sight) (vars : List ℕ) (h : List Happening) (out : Completion)
         → holds (meaning c now vars) ≡ true → ReadsAll code y (listed a ++ while c a ∷ []) now later vars h out
         → Reads code y (while c a) now later vars h out
     leaves : (y : PtState) (c : Expression ℕ) (a : Body ℕ) (now : Sight) (later : List Sight) (vars : List ℕ)
         → holds (meaning c now vars) ≡ false → Reads code y (while c a) now later vars [] (done now later vars)
 
   -- what statements do, one after another, up to one that isn't done
-  pub data ReadsAll (code : Code) : (yields : PtState) → List (Statement ℕ) → (now : Sight) → (later : List Sight) → (variables : List ℕ) → List Happening → Outcome → Type 0 where
+  pub data ReadsAll (code : Code) : (yields : PtState) → List (Statement ℕ) → (now : Sight) → (later : List Sight) → (variables : List ℕ) → List Happening → Completion → Type 0 where
     nothing_left : (y : PtState) (now : Sight) (later : List Sight) (vars : List ℕ) → ReadsAll code y [] now later vars [] (done now later vars)
     in_turn : (y : PtState) (s : Statement ℕ) (ss : List (Statement ℕ)) (now : Sight) (later : List Sight) (vars : List ℕ) (h k : List Happening)
-        (call : Sight) (calls : List Sight) (changed : List ℕ) (out : Outcome)
+        (call : Sight) (calls : List Sight) (changed : List ℕ) (out : Completion)
         → Reads code y s now later vars h (done call calls changed) → ReadsAll code y ss call calls changed k out
         → ReadsAll code y (s ∷ ss) now later vars (h ++ k) out
-    breaks_off : (y : PtState) (s : Statement ℕ) (ss : List (Statement ℕ)) (now : Sight) (later : List Sight) (vars : List ℕ) (h : List Happening) (out : Outcome)
+    breaks_off : (y : PtState) (s : Statement ℕ) (ss : List (Statement ℕ)) (now : Sight) (later : List Sight) (vars : List ℕ) (h : List Happening) (out : Completion)
         → (IsDone out → ⊥) → Reads code y s now later vars h out → ReadsAll code y (s ∷ ss) now later vars h out
 
   -- what a thread does whose block this is: after a `restart` the whole block again
-  pub data ReadsThread (code : Code) : (yields : PtState) → List (Statement ℕ) → (now : Sight) → (later : List Sight) → (variables : List ℕ) → List Happening → Outcome → Type 0 where
-    once : (y : PtState) (block : List (Statement ℕ)) (now : Sight) (later : List Sight) (vars : List ℕ) (h : List Happening) (out : Outcome)
+  pub data ReadsThread (code : Code) : (yields : PtState) → List (Statement ℕ) → (now : Sight) → (later : List Sight) → (variables : List ℕ) → List Happening → Completion → Type 0 where
+    once : (y : PtState) (block : List (Statement ℕ)) (now : Sight) (later : List Sight) (vars : List ℕ) (h : List Happening) (out : Completion)
         → (Restarts out → ⊥) → ReadsAll code y block now later vars h out → ReadsThread code y block now later vars h out
     anew : (y : PtState) (block : List (Statement ℕ)) (now : Sight) (later : List Sight) (vars : List ℕ) (h k : List Happening)
-        (call : Sight) (calls : List Sight) (changed : List ℕ) (out : Outcome)
+        (call : Sight) (calls : List Sight) (changed : List ℕ) (out : Completion)
         → ReadsAll code y block now later vars h (restarts call calls changed) → ReadsThread code y block call calls changed k out
         → ReadsThread code y block now later vars (h ++ k) out

@@ -3,8 +3,8 @@ use Rattle.std.specs.Prelude.{ℕ}
 use Rattle.protothread.specs.declared.state.PtState.{PtState}
 use Rattle.protothread.specs.declared.state.PtState.TheVariants.{Waiting, Yielded, Exited, Ended}
 
-abbrev pub number_of : PtState → ℕ
-number_of Waiting = 0
-number_of Yielded = 1
-number_of Exited = 2
-number_of Ended = 3
+abbrev pub state_number : PtState → ℕ
+state_number Waiting = 0
+state_number Yielded = 1
+state_number Exited = 2
+state_number Ended = 3

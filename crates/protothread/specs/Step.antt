@@ -2,9 +2,11 @@
 use Rattle.std.specs.Prelude.{ℕ, zero, suc, ◌-◌, ◌==◌, nat_lt, Bool, true, false, not, ◌&&◌, if◌then◌else◌, List, [], ◌∷◌, ◌++◌, None, Some, slice_set, slice_index, ◌<◌, ◌≤◌}
 use Rattle.mote_program.specs.declared.event.Event.{Event}
 use Rattle.mote_program.specs.declared.event.Proc.TheVariants.{Own}
+use Rattle.mote_program.specs.declared.event.SystemEvent.TheVariants.{Continue}
 use Rattle.mote_program.specs.declared.event.Target.TheVariants.{One, All}
 use Rattle.mote_program.specs.Tree.{Action, assign, print, send, wait_until, wait_while, yield, yield_until, spawn, restart, exit, pause, acquire, signal, post, broadcast, synch, poll, start, kill, set, reset, restart_timer, stop, Statement, does, branch, while, Otherwise, nothing, otherwise, listed}
 use Rattle.mote_program.specs.Code.{Code}
+use Rattle.mote_program.specs.Events.{system_number}
 use Rattle.mote_program.specs.EventNames.{cast_number, sent_number}
 use Rattle.protothread.specs.declared.state.PtState.{PtState}
 use Rattle.protothread.specs.declared.state.PtState.TheVariants.{Waiting, Yielded, Exited, Ended}
@@ -46,7 +48,7 @@ deed_of process yielded vars event looks (spawn t) = Spawns t
 deed_of process yielded vars event looks restart = Restarts
 deed_of process yielded vars event looks exit = Exits
 deed_of process yielded vars event looks pause =
-    if yielded then passes_where (event.number == 0x85) Yields else Pauses (op.Post (One (Own process)) 0x85 0)
+    if yielded then passes_where (event.number == system_number Continue) Yields else Pauses (op.Post (One (Own process)) (system_number Continue) 0)
 deed_of process yielded vars event looks (acquire s) =
     if slice_index looks.counts s == 0 then Waits else Operates (op.Take s) None
 deed_of process yielded vars event looks (signal s) = Operates (op.Signal s) None

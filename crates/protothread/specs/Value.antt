@@ -1,9 +1,11 @@
 -- The value of an expression, a number of 16 bits.
 use Rattle.std.specs.Prelude.{ℕ, ◌+◌, ◌-◌, ◌*◌, ◌/◌, ◌%◌, ◌^◌, ◌==◌, nat_lt, nat_le, Bool, not, ◌&&◌, ◌||◌, if◌then◌else◌, List, slice_index}
 use Rattle.std.specs.List.{list_any}
+use Rattle.mote_program.specs.declared.event.SystemEvent.TheVariants as system
 use Rattle.mote_program.specs.declared.event.Event.{Event}
 use Rattle.mote_program.specs.declared.tree.Operator.{Operator}
 use Rattle.mote_program.specs.declared.tree.Operator.TheVariants.{Add, Subtract, Multiply, Divide, Remainder, Equal, Unequal, Less, AtMost, Greater, AtLeast, And, Or}
+use Rattle.mote_program.specs.Events.{system_number}
 use Rattle.mote_program.specs.EventNames.{any_number}
 use Rattle.mote_program.specs.Tree.{Expression, number, variable, word, sender, moment, mote, is, fired, expired, gone, running, count, negation, binary}
 use Rattle.protothread.specs.Looks.{Looks}
@@ -46,8 +48,8 @@ value variables event looks moment = looks.moment % 2 ^ 16
 value variables event looks mote = looks.mote
 value variables event looks (is e) = truth (event.number == any_number e)
 -- TIMER of the timer, and EXITED of the process
-value variables event looks (fired t) = truth (is_event event 0x88 t)
-value variables event looks (gone p) = truth (is_event event 0x87 p)
+value variables event looks (fired t) = truth (is_event event (system_number system.Timer) t)
+value variables event looks (gone p) = truth (is_event event (system_number system.Exited) p)
 value variables event looks (expired t) = truth (list_any (λ u. t == u) looks.expired)
 value variables event looks (running p) = truth (list_any (λ q. p == q) looks.running)
 value variables event looks (count s) = slice_index looks.counts s

@@ -1,6 +1,6 @@
 //! What a protothread answers.
 ghost use Rattle.std.specs.Prelude.{◌≡◌, ◌<◌, ◌↔◌, IsTrue};
-ghost use Rattle.protothread.specs.State.{number_of};
+ghost use Rattle.protothread.specs.State.{state_number};
 
 /// What a protothread answers where it gives up control, as `pt.h` of Contiki has it.
 #[derive(Clone, Copy, Debug, PartialEq, Eq)]
@@ -18,7 +18,7 @@ pub enum PtState {
 impl PtState {
     /// The number of the state in `pt.h`, 0 to 3.
     pub fn number(self) -> u8
-        ensures { result ≡ number_of self }
+        ensures { result ≡ state_number self }
     {
         match self {
             PtState::Waiting => 0,
@@ -30,7 +30,7 @@ impl PtState {
 
     /// Whether the protothread is to be called again (`PT_SCHEDULE` of `pt.h`).
     pub fn scheduled(self) -> bool
-        ensures { IsTrue result ↔ (number_of self < 2) }
+        ensures { IsTrue result ↔ (state_number self < 2) }
     {
         self.number() < 2
     }

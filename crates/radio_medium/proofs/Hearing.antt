@@ -1,11 +1,11 @@
 -- Who hears whom, by tests on numbers.
 use Rattle.std.proofs.Common.{◌≡◌, ℕ, ◌<◌, true, not, ◌&&◌, ◌==◌, nat_le, length, refl}
 use Rattle.std.proofs.lemmas.Bool.{lt-ltb, ltb-true, and_parts}
-use Rattle.radio_medium.specs.Medium.{Radio, hears, square_distance, square, place_of}
+use Rattle.radio_medium.specs.Medium.{Radio, hears, square_distance, square, place_at}
 
 -- between two motes that are there
 pub hears_between : (radio : Radio) (r s : ℕ) → r < length radio.places → s < length radio.places
-    → hears radio r s ≡ (not (r == s) && nat_le (square_distance (place_of radio s) (place_of radio r)) (square radio.range))
+    → hears radio r s ≡ (not (r == s) && nat_le (square_distance (place_at radio s) (place_at radio r)) (square radio.range))
 unfolding hears
 hears_between radio r s receiver sender = rw (lt-ltb r _ receiver, lt-ltb s _ sender) refl
 

@@ -15,7 +15,7 @@ use Rattle.radio_medium.specs.declared.link.Link.{Link}
 use Rattle.radio_medium.specs.declared.place.Loss.{Loss}
 use Rattle.radio_medium.specs.declared.place.Place.{Place}
 use Rattle.radio_medium.specs.declared.reach.Reach.{Reach}
-use Rattle.radio_medium.specs.Medium.{Radio, IsWithinLimits, square_distance, square, motes, hears, delay, delays, receivers, loses, place_of, every_of, fate, fates, has_bad_loss, medium_fault}
+use Rattle.radio_medium.specs.Medium.{Radio, IsWithinLimits, square_distance, square, motes, hears, delay, delays, receivers, loses, place_at, every_of, fate, fates, has_bad_loss, medium_fault}
 use Rattle.radio_medium.specs.Links.{IsMedium, radio_from, link_of, links_of, fate_by, IsFit, with_least}
 use Rattle.radio_medium.proofs.Faults.{losses_good, no_fault}
 use Rattle.radio_medium.proofs.LossLemmas.{every_above_good}
@@ -73,7 +73,7 @@ record IsNear (p : Place) : Type 0 where
   x : unsigned_abs p.x ≤ 30000
   y : unsigned_abs p.y ≤ 30000
 
-near : (radio : Radio) → IsWithinLimits radio → (k : ℕ) → IsNear (place_of radio k)
+near : (radio : Radio) → IsWithinLimits radio → (k : ℕ) → IsNear (place_at radio k)
 near radio limits k =
     elim (cases_lt k (length radio.places)) [
       | inl there ↦ record { x = (limits.places k _ there).0; y = (limits.places k _ there).1 }
@@ -98,8 +98,8 @@ distance_bound a b p q =
 delay_bound : (radio : Radio) → IsWithinLimits radio → (s r : ℕ) → delay radio s r < 2 ^ 34
 unfolding delay
 delay_bound radio limits s r =
-    let d : square_distance (place_of radio s) (place_of radio r) < 2 ^ 33 = distance_bound (place_of radio s) (place_of radio r) (near radio limits s) (near radio limits r) in
-    let part : square_distance (place_of radio s) (place_of radio r) / radio.per ≤ square_distance (place_of radio s) (place_of radio r) = div-le_self (square_distance (place_of radio s) (place_of radio r)) radio.per in
+    let d : square_distance (place_at radio s) (place_at radio r) < 2 ^ 33 = distance_bound (place_at radio s) (place_at radio r) (near radio limits s) (near radio limits r) in
+    let part : square_distance (place_at radio s) (place_at radio r) / radio.per ≤ square_distance (place_at radio s) (place_at radio r) = div-le_self (square_distance (place_at radio s) (place_at radio r)) radio.per in
     let base : radio.base ≤ 1000000 = limits.base in
     omega arith
 

@@ -41,16 +41,16 @@ motes radio = range_with_len 0 (length radio.places)
 abbrev pub is_mote : Radio → ℕ → Bool
 is_mote radio k = nat_lt k (length radio.places)
 
-abbrev pub place_of : Radio → ℕ → Place
-place_of radio k = slice_index_or radio.places k (record { x = pos 0; y = pos 0 })
+abbrev pub place_at : Radio → ℕ → Place
+place_at radio k = slice_index_or radio.places k (record { x = pos 0; y = pos 0 })
 
 -- mote r hears mote s: they are two motes, and r stands within the range of s
 unfoldable pub hears : Radio → (r s : ℕ) → Bool
-hears radio r s = is_mote radio r && (is_mote radio s && (not (r == s) && nat_le (square_distance (place_of radio s) (place_of radio r)) (square radio.range)))
+hears radio r s = is_mote radio r && (is_mote radio s && (not (r == s) && nat_le (square_distance (place_at radio s) (place_at radio r)) (square radio.range)))
 
 -- how long a packet of mote s takes to mote r
 unfoldable pub delay : Radio → (s r : ℕ) → ℕ
-delay radio s r = radio.base + square_distance (place_of radio s) (place_of radio r) / radio.per
+delay radio s r = radio.base + square_distance (place_at radio s) (place_at radio r) / radio.per
 
 -- the motes that hear mote s, in rising order
 unfoldable pub receivers : Radio → (s : ℕ) → List ℕ

@@ -1,7 +1,7 @@
 //! The medium of a net.
 
 ghost use Rattle.std.specs.Prelude.{◌≡◌, ℕ, ◌+◌, ◌^◌, ◌<◌, ◌≤◌, None, length, All, IfOk};
-ghost use Rattle.radio_medium.specs.Medium.{IsWithinLimits, MakesMedium, square_distance, place_of, every_of, hears, delay, lookahead, fates, copies, medium_fault};
+ghost use Rattle.radio_medium.specs.Medium.{IsWithinLimits, MakesMedium, square_distance, place_at, every_of, hears, delay, lookahead, fates, copies, medium_fault};
 ghost use Rattle.radio_medium.specs.Links.{links_of, IsFit};
 
 use crate::copy::RadioCopy;
@@ -135,7 +135,7 @@ impl Medium {
     fn square_distance(&self, s: u16, r: u16) -> u64
         requires sender { s < length self.now.places }
         requires receiver { r < length self.now.places }
-        ensures value { result ≡ square_distance (place_of self.now s) (place_of self.now r) }
+        ensures value { result ≡ square_distance (place_at self.now s) (place_at self.now r) }
         ensures bound { result < 2 ^ 33 }
     {
         self.places[usize::from(s)].square_distance(self.places[usize::from(r)])

@@ -23,13 +23,13 @@ abbrev pub IsLater : (moment : ℕ) → (wake : Option ℕ) → Type 0
 IsLater moment None = Unit {0}
 IsLater moment (Some wake) = moment < wake
 
--- a copy of this packet for another mote of the net, which arrives no sooner than the lookahead
+-- a copy of this packet for a mote of the net; from the packet's moment it takes the lookahead at least
 pub record IsCopyOf {S L : Type 0} (system : System S L) (sent : Sent) (copy : RadioCopy) : Type 0 where
   pub sender : copy.sender ≡ sent.sender
   pub to : copy.to < system.motes
   pub later : sent.at + system.lookahead ≤ copy.at
 
--- what makes a net run forward: wakes and copies come later than the turn that makes them
+-- A net runs forward: each wake comes later than the turn that makes it, and each copy by the lookahead at least, which isn't 0.
 pub record IsSystem {S L : Type 0} (system : System S L) : Type 0 where
   pub some_lookahead : 0 < system.lookahead
   pub wakes_later : (mote : ℕ) (state : S) (moment : ℕ) (given : List RadioCopy) → IsLater moment (system.turn mote state moment given).wake

@@ -2,12 +2,12 @@ use Rattle.std.proofs.Common.{◌≡◌, ◌++◌, None, drop, map}
 use Rattle.toml.specs.View.{items_view}
 use Rattle.net_scenario.specs.Document.{first_some, tables_in}
 use Rattle.net_scenario.specs.Rules.{keys_fault, mote_rules}
-use Rattle.net_scenario.specs.Net.{place_of}
+use Rattle.net_scenario.specs.Net.{place_told}
 use Rattle.net_scenario.proofs.places.places_of.Given as goal
 
 -- no fault is to come, and those so far and those to come are all of them
 abbrev pub invariant-loop-item : goal.invariant-loop-item
 invariant-loop-item l = record {
   ruled : first_some (keys_fault mote_rules) (tables_in (items_view (drop l.item-index l.items))) ≡ None;
-  value : map place_of (tables_in (items_view l.items)) ≡ l.places.items ++ map place_of (tables_in (items_view (drop l.item-index l.items)));
+  value : map place_told (tables_in (items_view l.items)) ≡ l.places.items ++ map place_told (tables_in (items_view (drop l.item-index l.items)));
 }

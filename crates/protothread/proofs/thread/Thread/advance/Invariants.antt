@@ -1,7 +1,7 @@
 use Rattle.std.proofs.Common.{◌≡◌, ◌+◌, ◌*◌, ◌≤◌, length, map}
 use Rattle.mote_program.specs.Tree.{statement_of}
 use Rattle.mote_program.specs.Program.{code_of}
-use Rattle.protothread.specs.Frames.{block_at, place_of, remainder_of}
+use Rattle.protothread.specs.Frames.{block_at, thread_place, remainder_of}
 use Rattle.protothread.specs.Step.{advanced_of, continued}
 use Rattle.protothread.proofs.thread.Thread.advance.Given as goal
 
@@ -14,7 +14,7 @@ invariant-loop-self g l =
       kept : length l.vars ≡ length l.fn.vars;
       goes_on :
           advanced_of (code_of l.fn.text) l.fn.event (g.L.Look.looks l.fn.look) (remainder_of (code_of l.fn.text) l.fn.self) l.fn.vars l.fn.fuel
-          ≡ continued (code_of l.fn.text) l.fn.self.part l.fn.event (g.L.Look.looks l.fn.look) (place_of (code_of l.fn.text) (map statement_of l.whole) l.self) l.vars l.fuel;
+          ≡ continued (code_of l.fn.text) l.fn.self.part l.fn.event (g.L.Look.looks l.fn.look) (thread_place (code_of l.fn.text) (map statement_of l.whole) l.self) l.vars l.fuel;
     }
 
 abbrev pub decreases-loop-self : goal.decreases-loop-self

@@ -4,7 +4,7 @@ use Rattle.protothread.specs.declared.thread.Mark.TheVariants.{AtRest, RunAway}
 use Rattle.protothread.specs.declared.step.Step.TheVariants as step
 use Rattle.protothread.specs.Remainder.{whole_of}
 use Rattle.protothread.specs.Step.{continued}
-use Rattle.protothread.specs.Frames.{spawns, place_of, remainder_of}
+use Rattle.protothread.specs.Frames.{spawns, thread_place, remainder_of}
 use Rattle.protothread.proofs.Advance.{resumes_at_rest, cannot_resume, gives_up_now}
 use Rattle.protothread.proofs.thread.Thread.resume.Goals as goal
 
@@ -19,7 +19,7 @@ returns-then-pay c =
       goes_on_so =
           λ code event looks vars.
           resumes_at_rest code event looks t vars c.args.fuel.now c.in-AtRest.is enough
-          ∙ ap (λ u. continued code t.part event looks (place_of code (whole_of code t.part) t) vars u) left;
+          ∙ ap (λ u. continued code t.part event looks (thread_place code (whole_of code t.part) t) vars u) left;
     }
 
 pub returns-else-pay : goal.returns-else-pay

@@ -3,7 +3,7 @@ use Rattle.std.proofs.lemmas.Int.{ints}
 use Rattle.net_scenario.specs.declared.version.Version.TheVariants.{First}
 use Rattle.net_scenario.specs.Rules.{mote_rules}
 use Rattle.net_scenario.proofs.Keeps.{keeps_all, signed_kept}
-use Rattle.net_scenario.proofs.places.place_of.Goals as goal
+use Rattle.net_scenario.proofs.places.place_told.Goals as goal
 
 pub integer_at-requires : goal.integer_at-requires
 integer_at-requires c = signed_kept (negsuc 29999) (pos 30000) _ _ (omega (arith, ints)) (omega (arith, ints)) (keeps_all First mote_rules _ c.requires 0 (lit< tt) refl)

@@ -1,0 +1,14 @@
+-- Processes by their places in the tables of a mote.
+use Rattle.std.specs.Prelude.{ℕ, ◌+◌, ◌==◌, Bool}
+use Rattle.mote_program.specs.declared.event.Proc.{Proc}
+use Rattle.mote_program.specs.declared.event.Proc.TheVariants.{Own, Etimer, Ctimer, Radio}
+
+-- the system processes come first, then those of the program in their order
+abbrev pub place_of : Proc → ℕ
+place_of Etimer = 0
+place_of Ctimer = 1
+place_of Radio = 2
+place_of (Own p) = p + 3
+
+abbrev pub is_same : Proc → Proc → Bool
+is_same p q = place_of p == place_of q
