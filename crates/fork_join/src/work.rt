@@ -1,5 +1,7 @@
 //! What a worker does in its thread.
 
+ghost use Rattle.std.specs.Prelude.{◌≡◌};
+
 use std::alloc::{AllocError, AllocFailed};
 
 /// Why a worker gave up, or wasn't started.
@@ -12,12 +14,20 @@ pub enum Refused {
 }
 
 impl From<AllocError> for Refused {
+    ghost use Rattle.fork_join.specs.declared.work.Refused.{Refused};
+
+    ghost from_gives = { λ _ e. e ≡ Refused.Memory };
+
     fn from(_: AllocError) -> Refused {
         Refused::Memory
     }
 }
 
 impl<T: Drop> From<AllocFailed<T>> for Refused {
+    ghost use Rattle.fork_join.specs.declared.work.Refused.{Refused};
+
+    ghost from_gives = { λ _ e. e ≡ Refused.Memory };
+
     fn from(_: AllocFailed<T>) -> Refused {
         Refused::Memory
     }

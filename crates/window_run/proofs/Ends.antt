@@ -21,7 +21,7 @@ any_copy k m (x ∷ xs) g h =
     ]
 
 -- a turn is not before a moment before which all is quiet
-not_before : (k m : ℕ) (wake : Option ℕ) (xs : List RadioCopy) → IsQuiet k wake xs → (wakes_at m wake || list_any (is_at m) xs) ≡ true → k ≤ m
+pub not_before : (k m : ℕ) (wake : Option ℕ) (xs : List RadioCopy) → IsQuiet k wake xs → (wakes_at m wake || list_any (is_at m) xs) ≡ true → k ≤ m
 not_before k m None xs quiet comes = any_copy k m xs quiet.no_copies comes
 not_before k m (Some wake) xs quiet comes =
     elim (cases_Bool (eqb wake m)) [

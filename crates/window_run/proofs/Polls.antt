@@ -1,6 +1,6 @@
 -- What a window may give, at its end and before a turn.
-use Rattle.std.proofs.Common.{◌≡◌, ℕ, not, List, map, Option, Some, None, Result, Ok, Err, sym, subst}
-use Rattle.std.specs.Prelude.{IfSome}
+use Rattle.std.proofs.Common.{◌≡◌, ℕ, not, List, map, Option, Some, None, Result, Ok, Err, refl, sym, subst}
+use Rattle.std.specs.Prelude.{IfSome, MatchOption}
 use Rattle.std.specs.List.{filter}
 use Rattle.process_kernel.specs.declared.line.Line.{Line}
 use Rattle.mote_node.specs.declared.mote.MoteError.{MoteError}
@@ -15,16 +15,17 @@ use Rattle.window_run.specs.declared.out.WindowOut.{WindowOut}
 use Rattle.window_run.specs.Window.{Window, Standing, HasTurn, IsOver, turn_at, EndsAs, arrival_of, number_of}
 use Rattle.window_run.specs.Out.{shown, Gives}
 use Rattle.window_run.specs.declared.own.OwnWindow.{OwnWindow}
-use Rattle.window_run.specs.Own.{window_in}
+use Rattle.window_run.specs.Own.{window_in, course_in, IsSpent, IsLeft, GivesNoMore}
 use Rattle.window_run.specs.Turns.{MayGive, MayAnswer, TurnsTo}
 
-pub at_rest : (old : Option OwnWindow) (own : OwnWindow) (out : WindowOut) → Some own ≡ old
-    → IfSome (window_in own) IsOver → IfSome (window_in own) (λ w. shown w.program out ≡ Some w.mote) → MayGive old out
-at_rest old own out is over made = rw (← is) (given (window_in own) over made)
+pub at_rest : (old : Option OwnWindow) (own : OwnWindow) (out : WindowOut) → Some own ≡ old → IsSpent (course_in own)
+    → IfSome (window_in own) IsOver → IfSome (window_in own) (λ w. shown w.program out ≡ Some w.mote) → (window_in own ≡ None → IsLeft (course_in own) out) → MayGive old out
+at_rest old own out is spent over made left = rw (← is) (given (window_in own) over made left)
   where
-    given : (window : Option Window) → IfSome window IsOver → IfSome window (λ w. shown w.program out ≡ Some w.mote) → IfSome window (λ w. Gives w out)
-    given None over made = tt
-    given (Some w) over made = record { last = w.mote; run = λ system turns. Rests over; given = made }
+    given : (window : Option Window) → IfSome window IsOver → IfSome window (λ w. shown w.program out ≡ Some w.mote) → (window ≡ None → IsLeft (course_in own) out)
+        → MatchOption window (GivesNoMore (course_in own) out) (λ w. Gives w out)
+    given None over made left = record { spent = spent; left = left refl }
+    given (Some w) over made left = record { last = w.mote; run = λ system turns. Rests over; given = made }
 
 -- a run goes on from a turn before it
 turn_before : (w v : Window) (moment : ℕ) (last : Standing) → HasTurn moment w → v ≡ turn_at moment w → EndsAs v last → EndsAs w last
@@ -48,13 +49,13 @@ gives_before w v moment out left made g = record {
   given = subst (λ u. shown u.program out ≡ Some g.last) made g.given;
 }
 
-given_before : (window new : Option Window) (moment : ℕ) (out : WindowOut) → IfSome window (HasTurn moment) → TurnsTo moment window new
-    → IfSome new (λ w. Gives w out) → IfSome window (λ w. Gives w out)
-given_before None new moment out left turned h = tt
-given_before (Some w) None moment out left turned h = absurd turned
-given_before (Some w) (Some v) moment out left turned h = gives_before w v moment out left turned h
+given_before : (window new : Option Window) (moment : ℕ) (out : WindowOut) (P Q : Type 0) → IfSome window (HasTurn moment) → TurnsTo moment window new
+    → MatchOption new P (λ w. Gives w out) → MatchOption window Q (λ w. Gives w out)
+given_before None new moment out P Q left turned h = absurd turned
+given_before (Some w) None moment out P Q left turned h = absurd turned
+given_before (Some w) (Some v) moment out P Q left turned h = gives_before w v moment out left turned h
 
 pub before_turn : (old : Option OwnWindow) (own new : OwnWindow) (moment : ℕ) → Some own ≡ old
     → IfSome (window_in own) (HasTurn moment) → TurnsTo moment (window_in own) (window_in new) → (r : Result WindowOut MoteError) → MayAnswer (Some new) r → MayAnswer old r
-before_turn old own new moment is left turned (Ok out) h = rw (← is) (given_before (window_in own) (window_in new) moment out left turned h)
+before_turn old own new moment is left turned (Ok out) h = rw (← is) (given_before (window_in own) (window_in new) moment out (GivesNoMore (course_in new) out) (GivesNoMore (course_in own) out) left turned h)
 before_turn old own new moment is left turned (Err e) h = tt

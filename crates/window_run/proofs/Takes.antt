@@ -66,3 +66,12 @@ over_after w m next late = over (node_in (tree_of w.program.now) w.mote)
     over : (o : Option Node) → IfSome (option_map (window_over (tree_of w.program.now) w.until (drop w.next w.copies.items) w.wake w.lines.items w.sends.items) o) IsOver
     over None = tt
     over (Some n) = quiet_before m w.until w.wake (drop w.next w.copies.items) next late
+
+-- there is no window where the mote has failed
+pub no_node : (w : OwnWindow) → window_in w ≡ None → node_in (tree_of w.program.now) w.mote ≡ None
+unfolding window_in
+no_node w e = none (node_in (tree_of w.program.now) w.mote) e
+  where
+    none : (o : Option Node) → option_map (window_over (tree_of w.program.now) w.until (drop w.next w.copies.items) w.wake w.lines.items w.sends.items) o ≡ None → o ≡ None
+    none None e = refl
+    none (Some n) e = cc

@@ -1,9 +1,10 @@
 -- Laws of windows.
-use Rattle.std.specs.Prelude.{◌≡◌, List, ◌++◌}
+use Rattle.std.specs.Prelude.{◌≡◌, ℕ, false, List, ◌++◌}
 use Rattle.process_kernel.specs.declared.line.Line.{Line}
 use Rattle.process_kernel.specs.declared.line.Sent.{Sent}
+use Rattle.mote_node.specs.Node.{is_past}
 use Rattle.mote_node.specs.Wake.{wake_of}
-use Rattle.window_run.specs.Window.{Standing, Window, WindowRun, EndsAs, number_of}
+use Rattle.window_run.specs.Window.{Standing, Window, WindowRun, EndsAs, HasTurn, IsNext, number_of, turn_at}
 
 -- a window has one end
 abbrev pub EndIsOne : Type 0
@@ -21,3 +22,11 @@ EarlierStaysInFront = (window : Window) (last : Standing) → EndsAs window last
 -- a window that begins with the wake of its mote ends with the wake of its mote
 abbrev pub EndsWithItsWake : Type 0
 EndsWithItsWake = (window : Window) (last : Standing) → window.mote.wake ≡ wake_of window.mote.state → EndsAs window last → last.wake ≡ wake_of last.state
+
+-- what comes next comes after the mote's last turn
+abbrev pub IsAhead : Window → Type 0
+IsAhead window = (moment : ℕ) → IsNext moment window → is_past moment window.mote.state.last ≡ false
+
+-- it does so after each turn of a window
+abbrev pub NoTurnIsPast : Type 0
+NoTurnIsPast = (window : Window) (moment : ℕ) → HasTurn moment window → IsAhead (turn_at moment window)

@@ -1,7 +1,9 @@
 -- What the motes of a worker give.
-use Rattle.std.specs.Prelude.{ℕ, ◌<◌, List, length, Option, IfSome, slice_get}
+use Rattle.std.specs.Prelude.{◌≡◌, ℕ, ◌<◌, ◌≤◌, List, [], length, Option, None, IfSome, MatchOption, slice_get}
 use Rattle.std.specs.List.{AllZip, AllByRecursion}
+use Rattle.mote_program.specs.Code.{Tree}
 use Rattle.mote_node.specs.Public.{node_in}
+use Rattle.radio_medium.specs.declared.copy.RadioCopy.{RadioCopy}
 use Rattle.net_scenario.specs.Net.{MoteTold, NetTold}
 use Rattle.window_run.specs.declared.out.WindowOut.{WindowOut}
 use Rattle.window_run.specs.declared.share.Resident.{Resident}
@@ -12,9 +14,17 @@ use Rattle.window_run.specs.Out.{Gives}
 abbrev pub window_of : (until : ℕ) → MoteTold → Resident → Option Window
 window_of until m resident = opened m.tree until resident.copies.items (node_in m.tree resident.mote)
 
+-- a mote that had failed, to which these copies come, gives nothing, and none of them came in the window
+pub record GivesNothing (program : Tree) (until : ℕ) (copies : List RadioCopy) (out : WindowOut) : Type 0 where
+  pub no_copies : AllByRecursion (λ copy. until ≤ copy.at) copies
+  pub failed : node_in program out.mote ≡ None
+  pub no_wake : out.wake ≡ None
+  pub no_lines : out.lines.items ≡ []
+  pub no_sends : out.sends.items ≡ []
+
 -- a resident, which is this mote of the net, gives what its window's run says
 abbrev pub ResidentGives : NetTold → (until : ℕ) → Resident → WindowOut → Type 0
-ResidentGives n until resident out = IfSome (slice_get n.motes resident.number) (λ m. IfSome (window_of until m resident) (λ w. Gives w out))
+ResidentGives n until resident out = IfSome (slice_get n.motes resident.number) (λ m. MatchOption (window_of until m resident) (GivesNothing m.tree until resident.copies.items out) (λ w. Gives w out))
 
 -- so do all, place by place
 abbrev pub GivesList : NetTold → (until : ℕ) → List Resident → List WindowOut → Type 0

@@ -1,18 +1,18 @@
--- What a poll does to a mote's window. Nothing is said of a mote that had failed before.
-use Rattle.std.specs.Prelude.{◌≡◌, ◌⊎◌, ℕ, true, Option, Some, None, Result, IfOk, IfSome}
+-- What a poll does to a mote's window, also to that of a mote that had failed before.
+use Rattle.std.specs.Prelude.{◌≡◌, ◌⊎◌, ℕ, true, Option, Some, None, Result, IfOk, IfSome, MatchOption}
 use Rattle.mote_node.specs.declared.mote.MoteError.{MoteError}
 use Rattle.mote_node.specs.declared.mote.MoteError.TheVariants.{Failed, Memory, Past}
 use Rattle.mote_node.specs.Node.{is_past}
 use Rattle.window_run.specs.declared.out.WindowOut.{WindowOut}
 use Rattle.window_run.specs.declared.own.OwnWindow.{OwnWindow}
-use Rattle.window_run.specs.Own.{window_in}
+use Rattle.window_run.specs.Own.{window_in, Course, course_in, Awaits, GivesNoMore}
 use Rattle.window_run.specs.Window.{Window, HasTurn, IsOver, turn_at}
 use Rattle.window_run.specs.Out.{shown, Gives}
 
 -- what a window that is not given up may give
 abbrev pub MayGive : Option OwnWindow → WindowOut → Type 0
 MayGive None out = ⊥
-MayGive (Some own) out = IfSome (window_in own) (λ w. Gives w out)
+MayGive (Some own) out = MatchOption (window_in own) (GivesNoMore (course_in own) out) (λ w. Gives w out)
 
 -- where there is no error, it is what the window gives
 abbrev pub MayAnswer : Option OwnWindow → Result WindowOut MoteError → Type 0
@@ -37,16 +37,22 @@ TakesTurn _ _ = ⊥
 abbrev pub IsErrorAt : (moment : ℕ) → MoteError → Window → Type 0
 IsErrorAt moment e window = (e ≡ Memory) ⊎ ((e ≡ Past) × (is_past moment window.mote.state.last ≡ true))
 
--- the error of the window's first turn
-pub record IsFirstError (window : Option Window) (e : MoteError) : Type 0 where
+-- the mote had failed before, or no memory was found for what came to it
+abbrev pub IsRefusal : MoteError → Type 0
+IsRefusal e = (e ≡ Failed) ⊎ (e ≡ Memory)
+
+-- the error of the window's first turn; where the mote had failed, of the first that it was to take
+pub record IsFirstError (course : Course) (window : Option Window) (e : MoteError) : Type 0 where
   pub moment : ℕ
+  pub awaited : Awaits moment course
   pub left : IfSome window (HasTurn moment)
   pub error : IfSome window (IsErrorAt moment e)
+  pub refusal : window ≡ None → IsRefusal e
 
 -- an error is that of the first turn, or tells that the window was given up
 abbrev pub ErrsAs : Option OwnWindow → MoteError → Type 0
 ErrsAs None e = e ≡ Failed
-ErrsAs (Some own) e = IsFirstError (window_in own) e
+ErrsAs (Some own) e = IsFirstError (course_in own) (window_in own) e
 
 -- no turn is left, and this is what was made
 pub record IsMade (window : Option Window) (out : WindowOut) : Type 0 where

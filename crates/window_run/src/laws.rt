@@ -1,6 +1,6 @@
 //! Laws of windows. Each is the contract of a function that does nothing.
 
-ghost use Rattle.window_run.specs.Laws.{EarlierStaysInFront, EndIsOne, EndsWithItsWake};
+ghost use Rattle.window_run.specs.Laws.{EarlierStaysInFront, EndIsOne, EndsWithItsWake, NoTurnIsPast};
 
 /// A window's run has one end, however the turns of motes alternate.
 pub fn one_window_run()
@@ -15,4 +15,10 @@ pub fn earlier_stays_in_front()
 /// A window that begins with the wake of its mote ends with the wake of its mote.
 pub fn ends_with_its_wake()
     ensures { EndsWithItsWake }
+{}
+
+/// After a turn of a window, what comes next comes later. So `Past` is answered at most by a window's first turn, where that isn't
+/// above the mote's last turn before the window.
+pub fn no_turn_is_past()
+    ensures { NoTurnIsPast }
 {}

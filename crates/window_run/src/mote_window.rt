@@ -5,7 +5,7 @@ ghost use Rattle.futures.specs.Poll.{IfReady, OnPending};
 ghost use Rattle.futures.specs.Task.{Covers, Keeps};
 ghost use Rattle.mote_program.specs.Program.{tree_of};
 ghost use Rattle.mote_node.specs.Public.{node_in};
-ghost use Rattle.window_run.specs.Own.{window_in};
+ghost use Rattle.window_run.specs.Own.{window_in, course_in, course_of};
 ghost use Rattle.window_run.specs.Window.{is_rising, opened};
 ghost use Rattle.window_run.specs.Turns.{MayAnswer, TakesTurn, RestsAs, ErrsAs};
 
@@ -53,6 +53,7 @@ impl<'a, G: Gate> MoteWindow<'a, G> {
         requires rising { is_rising copies.items ≡ true }
         ensures worker { result.worker ≡ worker }
         ensures window { let p = tree_of program.now in IsSomeAnd result.own (λ own. window_in own ≡ opened p until copies.items (node_in p mote)) }
+        ensures course { let p = tree_of program.now in IsSomeAnd result.own (λ own. course_in own ≡ course_of p until copies.items (node_in p mote)) }
     {
         let own = OwnWindow::new(alloc, mote, program, copies, until);
         MoteWindow {
@@ -68,10 +69,12 @@ impl<G: Gate> Future for MoteWindow<'_, G> {
 
     ghost gives = { λ w r. MayAnswer w.own r };
 
-    /// Takes one turn and yields, or is ready.
+    /// Takes one turn and yields, or is ready. A mote that had failed takes none: it is ready with what it had, where nothing comes to
+    /// it in the window.
     ///
     /// # Errors
-    /// That of the turn, and then the mote is given up; `Failed` at a poll after that.
+    /// That of the turn, and then the mote is given up; `Failed` at a poll after that, and where something comes to a mote that had
+    /// failed before.
     fn poll(&mut self, cx: &mut Context<'_>) -> Poll<Self::Output>
         ensures value { IfReady result (MayAnswer self.old.own) }
         ensures again { OnPending result ⊤ }

@@ -48,12 +48,12 @@ impl Drop for OwnWindow<'_> {
 
 impl<'a> OwnWindow<'a> {
     ghost use Rattle.window_run.specs.Out.{shown};
-    ghost use Rattle.window_run.specs.Own.{window_in};
-    ghost use Rattle.window_run.specs.Turns.{TurnsTo, IsErrorAt};
+    ghost use Rattle.window_run.specs.Own.{window_in, course_in, course_of, IsSpent, Awaits, IsLeft};
+    ghost use Rattle.window_run.specs.Turns.{TurnsTo, IsErrorAt, IsRefusal};
 
     /// The mote, with this program, before its first turn in the window. The copies are the mote's, each below `until`, in the
     /// order of moment, sender and number. `until` is at most 2^40. This takes no memory.
-    #[tactic(auto, unfolding(crate::specs::Own::window_in))]
+    #[tactic(auto, unfolding(crate::specs::Own::window_in, crate::specs::Own::course_in))]
     pub fn new(
         alloc: Global,
         mote: Mote,
@@ -63,7 +63,8 @@ impl<'a> OwnWindow<'a> {
     ) -> OwnWindow<'a>
         requires until { until ≤ 2 ^ 40 }
         requires rising { is_rising copies.items ≡ true }
-        ensures { let p = tree_of program.now in window_in result ≡ opened p until copies.items (node_in p mote) }
+        ensures window { let p = tree_of program.now in window_in result ≡ opened p until copies.items (node_in p mote) }
+        ensures course { let p = tree_of program.now in course_in result ≡ course_of p until copies.items (node_in p mote) }
     {
         let wake = mote.wake();
         OwnWindow {
@@ -88,8 +89,9 @@ impl<'a> OwnWindow<'a> {
     }
 
     /// The moment of the next turn, where one is left in the window.
-    #[tactic(auto, unfolding(crate::specs::Own::window_in))]
+    #[tactic(auto, unfolding(crate::specs::Own::window_in, crate::specs::Own::course_in))]
     pub fn next_moment(&self) -> Option<u64>
+        ensures comes { let c = course_in self.now in MatchOption result (IsSpent c) (λ moment. Awaits moment c) }
         ensures next { IfSome (window_in self.now) (λ w. MatchOption result (IsOver w) (λ moment. HasTurn moment w)) }
         ensures early { IfSome result (λ moment. moment ≤ 2 ^ 40) }
     {
@@ -104,13 +106,14 @@ impl<'a> OwnWindow<'a> {
     /// Takes the turn at that moment.
     ///
     /// # Errors
-    /// That of `Mote::turn`; `Memory` also where the copies, lines or packets found none.
+    /// That of `Mote::turn`, so `Failed` where the mote had failed; `Memory` also where the copies, lines or packets found none.
     #[tactic(auto, unfolding(crate::specs::Own::window_in))]
     pub fn turn(&mut self, moment: u64) -> Result<(), MoteError>
         requires early { moment ≤ 2 ^ 40 }
         requires left { IfSome (window_in self.old) (HasTurn moment) }
         ensures ok { OnOk result (TurnsTo moment (window_in self.old) (window_in self.new)) }
         ensures err { IfErr result (λ e. IfSome (window_in self.old) (IsErrorAt moment e)) }
+        ensures refusal { IfErr result (λ e. window_in self.old ≡ None → IsRefusal e) }
     {
         let arrivals = arrivals_at(self.alloc, &self.copies[self.next..], moment)?;
         self.next += arrivals.len();
@@ -127,9 +130,10 @@ impl<'a> OwnWindow<'a> {
     }
 
     /// What the window gives, once no turn is left.
-    #[tactic(auto, unfolding(crate::specs::Own::window_in))]
+    #[tactic(auto, unfolding(crate::specs::Own::window_in, crate::specs::Own::course_in))]
     pub fn finish(self) -> WindowOut
-        ensures { IfSome (window_in self.entry) (λ w. shown w.program result ≡ Some w.mote) }
+        ensures made { IfSome (window_in self.entry) (λ w. shown w.program result ≡ Some w.mote) }
+        ensures left { window_in self.entry ≡ None → IsLeft (course_in self.entry) result }
     {
         let OwnWindow {
             alloc: _,

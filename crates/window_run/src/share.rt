@@ -46,12 +46,20 @@ impl fmt::Display for ShareError {
 impl Error for ShareError {}
 
 impl From<AllocError> for ShareError {
+    ghost use Rattle.window_run.specs.declared.share.ShareError.{ShareError};
+
+    ghost from_gives = { λ _ e. e ≡ ShareError.Memory };
+
     fn from(_: AllocError) -> ShareError {
         ShareError::Memory
     }
 }
 
 impl From<MoteError> for ShareError {
+    ghost use Rattle.window_run.specs.declared.share.ShareError.{ShareError};
+
+    ghost from_gives = { λ _ e. e ≡ ShareError.Memory };
+
     fn from(_: MoteError) -> ShareError {
         ShareError::Memory
     }

@@ -2,7 +2,7 @@ use Rattle.window_run.proofs.Polls.{at_rest, before_turn}
 use Rattle.window_run.proofs.mote_window.MoteWindowFuture.poll.Goals as goal
 
 pub returns-in_default-next_moment-clause-value : goal.returns-in_default-next_moment-clause-value
-returns-in_default-next_moment-clause-value g c = at_rest c.args.self.now.own c.in-Some.own c.finish.result c.in-Some.ensures.value c.in_default-next_moment.ensures.next c.finish.ensures
+returns-in_default-next_moment-clause-value g c = at_rest c.args.self.now.own c.in-Some.own c.finish.result c.in-Some.ensures.value c.in_default-next_moment.ensures.comes c.in_default-next_moment.ensures.next c.finish.ensures.made c.finish.ensures.left
 
 pub returns-clause-same : goal.returns-clause-same
 returns-clause-same g c = rw c.yield_now.ensures.pending (before_turn c.args.self.now.own c.in-Some.own c.turn.new.self c.in-Some-next_moment.moment c.in-Some.ensures.value c.in-Some-next_moment.ensures.next c.in_default-turn.ensures.ok)

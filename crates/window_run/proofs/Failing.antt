@@ -1,0 +1,37 @@
+-- A window over a mote that had failed.
+use Rattle.std.proofs.Common.{◌≡◌, ℕ, List, [], Option, Some, None, refl, ◌∙◌, ap, subst}
+use Rattle.std.specs.Prelude.{MatchOption, IsSomeAnd}
+use Rattle.mote_program.specs.Code.{Tree}
+use Rattle.process_kernel.specs.declared.line.Line.{Line}
+use Rattle.process_kernel.specs.declared.line.Sent.{Sent}
+use Rattle.mote_node.specs.Node.{Node}
+use Rattle.mote_node.specs.Public.{node_in}
+use Rattle.radio_medium.specs.declared.copy.RadioCopy.{RadioCopy}
+use Rattle.window_run.specs.declared.out.WindowOut.{WindowOut}
+use Rattle.window_run.specs.declared.own.OwnWindow.{OwnWindow}
+use Rattle.window_run.specs.Window.{Window, opened}
+use Rattle.window_run.specs.Own.{Course, window_in, course_in, course_of, GivesNoMore}
+use Rattle.window_run.specs.Out.{Gives}
+use Rattle.window_run.specs.Shares.{GivesNothing}
+use Rattle.window_run.specs.Turns.{MayGive}
+
+module _ (program : Tree) (until : ℕ) (copies : List RadioCopy) (out : WindowOut) where
+  gives_nothing : (c : Course) → c ≡ course_of program until copies None → GivesNoMore c out → GivesNothing program until copies out
+  gives_nothing c e h =
+      let g : GivesNoMore (course_of program until copies None) out = subst (λ (d : Course). GivesNoMore d out) e h in record {
+        no_copies = g.spent.no_copies;
+        failed = g.left.failed;
+        no_wake = g.left.wake;
+        no_lines = g.left.lines;
+        no_sends = g.left.sends;
+      }
+
+  -- what a window may give before its first poll
+  pub opened_gives : (own : Option OwnWindow) (mote : Option Node) → IsSomeAnd own (λ o. window_in o ≡ opened program until copies mote) → IsSomeAnd own (λ o. course_in o ≡ course_of program until copies mote)
+      → MayGive own out → MatchOption (opened program until copies mote) (GivesNothing program until copies out) (λ w. Gives w out)
+  opened_gives None mote window course h = absurd h
+  opened_gives (Some o) None window course h =
+      let P : Option Window → Type 0 = λ w. MatchOption w (GivesNoMore (course_in o) out) (λ w. Gives w out) in
+      gives_nothing (course_in o) course (subst P window h)
+  opened_gives (Some o) (Some n) window course h =
+      let P : Option Window → Type 0 = λ w. MatchOption w (GivesNoMore (course_in o) out) (λ w. Gives w out) in subst P window h
