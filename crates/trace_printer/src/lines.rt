@@ -2,17 +2,17 @@
 ghost use Rattle.std.specs.Prelude.{◌≡◌, [], ◌++◌, ◌∷◌, map, codes, decimal, OnOk};
 ghost use Rattle.std.specs.List.{flat_map};
 ghost use Rattle.mote_program.specs.Program.{tree_of};
-ghost use Rattle.window_workers.specs.Report.{told_line};
+ghost use Rattle.net_report.specs.Report.{told_line};
 ghost use Rattle.trace_printer.specs.ReportText.{left_text, line_text, packet_text};
 ghost use Rattle.trace_printer.specs.Words.{fate_word, line_of};
 
 use crate::names::{event_word, process_word, target_word};
 use crate::page::Page;
 use mote_program::Program;
+use net_report::LogLine;
 use process_kernel::{Line, What};
 use radio_medium::Fate;
 use std::alloc::AllocError;
-use window_workers::LogLine;
 
 /// Puts the line that begins the trace of a mote with this number and the name of its program.
 pub fn put_head(page: &mut Page, mote: u16, name: &str) -> Result<(), AllocError>
