@@ -5,10 +5,10 @@ use Rattle.net_scenario.specs.Net.{NetTold}
 use Rattle.net_scenario.specs.Reading.{TellsNet, Answers}
 use Rattle.net_scenario.specs.declared.error.ScenarioError.{ScenarioError}
 use Rattle.net_scenario.specs.declared.error.ScenarioError.TheVariants as scenario
+use Rattle.net_report.specs.Report.{ReportTold}
 use Rattle.trace_printer.specs.ReportText.{report_text}
 use Rattle.window_workers.specs.Laws.{ReportIsOne}
 use Rattle.window_workers.specs.NetRun.{IsReportOf}
-use Rattle.window_workers.specs.Report.{ReportTold}
 use Rattle.motesim.specs.Input.{IsText}
 use Rattle.motesim.specs.Laws.{OneReport}
 use Rattle.motesim.specs.declared.simulate.SimError.{SimError}

@@ -7,13 +7,13 @@ use Rattle.net_scenario.specs.Net.{NetTold}
 use Rattle.net_scenario.specs.Reading.{TellsNet, TellsFault}
 use Rattle.net_scenario.specs.declared.error.ScenarioError.{ScenarioError}
 use Rattle.net_scenario.specs.declared.error.ScenarioError.TheVariants as scenario
+use Rattle.net_report.specs.Report.{ReportTold, report_of}
+use Rattle.net_report.specs.declared.Report.{Report}
 use Rattle.trace_printer.specs.Output.{AppendsFront}
 use Rattle.trace_printer.specs.ReportText.{report_text}
 use Rattle.window_workers.specs.NetRun.{IsReportOf}
-use Rattle.window_workers.specs.Report.{ReportTold, report_of}
 use Rattle.window_workers.specs.declared.error.RunError.{RunError}
 use Rattle.window_workers.specs.declared.error.RunError.TheVariants as run
-use Rattle.window_workers.specs.declared.report.Report.{Report}
 use Rattle.motesim.specs.Input.{IsText}
 use Rattle.motesim.specs.declared.input.InputError.{InputError}
 use Rattle.motesim.specs.declared.input.InputError.TheVariants as input

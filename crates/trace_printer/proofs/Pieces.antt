@@ -4,7 +4,7 @@ use Rattle.std.specs.List.{flat_map}
 use Rattle.mote_program.specs.Code.{Tree}
 use Rattle.process_kernel.specs.declared.line.Line.{Line}
 use Rattle.net_scenario.specs.Net.{MoteTold}
-use Rattle.window_workers.specs.Report.{lines_in}
+use Rattle.net_report.specs.Report.{lines_in}
 use Rattle.trace_printer.specs.ReportText.{line_text, mote_text, motes_text}
 use Rattle.trace_printer.specs.Words.{line_of}
 

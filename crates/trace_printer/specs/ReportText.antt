@@ -5,7 +5,7 @@ use Rattle.std.specs.List.{flat_map}
 use Rattle.mote_program.specs.Code.{Tree}
 use Rattle.process_kernel.specs.declared.line.Line.{Line}
 use Rattle.net_scenario.specs.Net.{MoteTold, NetTold}
-use Rattle.window_workers.specs.Report.{Packet, ReportTold}
+use Rattle.net_report.specs.Report.{Packet, ReportTold}
 use Rattle.trace_printer.specs.Words.{line_of, words_of, fate_word}
 
 -- a line of a trace: the moment, and the words of what happened in a mote with this program

@@ -7,6 +7,7 @@ mod names;
 mod output;
 mod page;
 mod report;
+mod words;
 
 pub use error::PrintError;
 pub use report::write_report;

@@ -2,56 +2,75 @@
 ghost use Rattle.std.specs.Prelude.{◌≡◌, [], ◌++◌, ◌∷◌, map, codes, decimal, OnOk};
 ghost use Rattle.std.specs.List.{flat_map};
 ghost use Rattle.mote_program.specs.Program.{tree_of};
-ghost use Rattle.window_workers.specs.Report.{told_line};
+ghost use Rattle.net_report.specs.Report.{told_line};
 ghost use Rattle.trace_printer.specs.ReportText.{left_text, line_text, packet_text};
 ghost use Rattle.trace_printer.specs.Words.{fate_word, line_of};
 
 use crate::names::{event_word, process_word, target_word};
-use crate::page::Page;
+use crate::page::{Page, make_room};
+use crate::words::{put_arrival, put_byte, put_number, put_spaced, put_spaced_number, put_text};
 use mote_program::Program;
-use process_kernel::{Line, What};
+use net_report::LogLine;
+use process_kernel::{Line, Sent, What};
 use radio_medium::Fate;
 use std::alloc::AllocError;
-use window_workers::LogLine;
+
+/// Room for all of a line but its keyword, its names and its fates.
+const LINE: usize = 128;
 
 /// Puts the line that begins the trace of a mote with this number and the name of its program.
 pub fn put_head(page: &mut Page, mote: u16, name: &str) -> Result<(), AllocError>
     ensures { OnOk result (page.new ≡ page.old ++ line_of (codes "mote") (decimal mote ∷ name.now ∷ [])) }
 {
-    page.put_text("mote")?;
-    page.put_spaced_number(u64::from(mote))?;
-    page.put_spaced(name)?;
-    page.put_byte(b'\n')
+    make_room(&mut page.bytes, page.len, LINE.saturating_add(name.len()))?;
+    let room = page.bytes.as_mut_slice();
+    let end = put_text(room, page.len, "mote");
+    let end = put_spaced_number(room, end, u64::from(mote));
+    let end = put_spaced(room, end, name);
+    page.len = put_byte(room, end, b'\n');
+    Ok(())
 }
 
 /// Puts the line that begins the log of the medium.
 pub fn put_medium(page: &mut Page) -> Result<(), AllocError>
     ensures { OnOk result (page.new ≡ page.old ++ line_of (codes "medium") []) }
 {
-    page.put_text("medium")?;
-    page.put_byte(b'\n')
+    make_room(&mut page.bytes, page.len, LINE)?;
+    let room = page.bytes.as_mut_slice();
+    let end = put_text(room, page.len, "medium");
+    page.len = put_byte(room, end, b'\n');
+    Ok(())
 }
 
 /// Puts the last line.
 pub fn put_left(page: &mut Page, left: u64) -> Result<(), AllocError>
     ensures { OnOk result (page.new ≡ page.old ++ left_text left) }
 {
-    page.put_text("left")?;
-    page.put_spaced_number(left)?;
-    page.put_byte(b'\n')
+    make_room(&mut page.bytes, page.len, LINE)?;
+    let room = page.bytes.as_mut_slice();
+    let end = put_text(room, page.len, "left");
+    let end = put_spaced_number(room, end, left);
+    page.len = put_byte(room, end, b'\n');
+    Ok(())
 }
 
 /// Puts a line of a keyword and a name.
+#[inline(always)]
 fn put_named(page: &mut Page, at: u64, keyword: &str, name: &str) -> Result<(), AllocError>
     ensures { OnOk result (page.new ≡ page.old ++ line_of (decimal at) (keyword.now ∷ name.now ∷ [])) }
 {
-    page.put_number(at)?;
-    page.put_spaced(keyword)?;
-    page.put_spaced(name)?;
-    page.put_byte(b'\n')
+    let names = keyword.len().saturating_add(name.len());
+    make_room(&mut page.bytes, page.len, LINE.saturating_add(names))?;
+    let room = page.bytes.as_mut_slice();
+    let end = put_number(room, page.len, at);
+    let end = put_spaced(room, end, keyword);
+    let end = put_spaced(room, end, name);
+    page.len = put_byte(room, end, b'\n');
+    Ok(())
 }
 
 /// Puts a line of a keyword, an event's number and a name.
+#[inline(always)]
 fn put_event(
     page: &mut Page,
     at: u64,
@@ -61,14 +80,19 @@ fn put_event(
 ) -> Result<(), AllocError>
     ensures { OnOk result (page.new ≡ page.old ++ line_of (decimal at) (keyword.now ∷ decimal serial ∷ name.now ∷ [])) }
 {
-    page.put_number(at)?;
-    page.put_spaced(keyword)?;
-    page.put_spaced_number(serial)?;
-    page.put_spaced(name)?;
-    page.put_byte(b'\n')
+    let names = keyword.len().saturating_add(name.len());
+    make_room(&mut page.bytes, page.len, LINE.saturating_add(names))?;
+    let room = page.bytes.as_mut_slice();
+    let end = put_number(room, page.len, at);
+    let end = put_spaced(room, end, keyword);
+    let end = put_spaced_number(room, end, serial);
+    let end = put_spaced(room, end, name);
+    page.len = put_byte(room, end, b'\n');
+    Ok(())
 }
 
 /// Puts a line of a keyword and two numbers.
+#[inline(always)]
 fn put_numbers(
     page: &mut Page,
     at: u64,
@@ -78,11 +102,18 @@ fn put_numbers(
 ) -> Result<(), AllocError>
     ensures { OnOk result (page.new ≡ page.old ++ line_of (decimal at) (keyword.now ∷ decimal first ∷ decimal second ∷ [])) }
 {
-    page.put_number(at)?;
-    page.put_spaced(keyword)?;
-    page.put_spaced_number(first)?;
-    page.put_spaced_number(second)?;
-    page.put_byte(b'\n')
+    make_room(
+        &mut page.bytes,
+        page.len,
+        LINE.saturating_add(keyword.len()),
+    )?;
+    let room = page.bytes.as_mut_slice();
+    let end = put_number(room, page.len, at);
+    let end = put_spaced(room, end, keyword);
+    let end = put_spaced_number(room, end, first);
+    let end = put_spaced_number(room, end, second);
+    page.len = put_byte(room, end, b'\n');
+    Ok(())
 }
 
 fn put_post(
@@ -95,13 +126,17 @@ fn put_post(
 ) -> Result<(), AllocError>
     ensures { OnOk result (page.new ≡ page.old ++ line_of (decimal at) (codes "post" ∷ decimal serial ∷ target.now ∷ event.now ∷ decimal word ∷ [])) }
 {
-    page.put_number(at)?;
-    page.put_spaced("post")?;
-    page.put_spaced_number(serial)?;
-    page.put_spaced(target)?;
-    page.put_spaced(event)?;
-    page.put_spaced_number(u64::from(word))?;
-    page.put_byte(b'\n')
+    let names = target.len().saturating_add(event.len());
+    make_room(&mut page.bytes, page.len, LINE.saturating_add(names))?;
+    let room = page.bytes.as_mut_slice();
+    let end = put_number(room, page.len, at);
+    let end = put_spaced(room, end, "post");
+    let end = put_spaced_number(room, end, serial);
+    let end = put_spaced(room, end, target);
+    let end = put_spaced(room, end, event);
+    let end = put_spaced_number(room, end, u64::from(word));
+    page.len = put_byte(room, end, b'\n');
+    Ok(())
 }
 
 fn put_full(
@@ -113,41 +148,58 @@ fn put_full(
 ) -> Result<(), AllocError>
     ensures { OnOk result (page.new ≡ page.old ++ line_of (decimal at) (codes "full" ∷ target.now ∷ event.now ∷ decimal word ∷ [])) }
 {
-    page.put_number(at)?;
-    page.put_spaced("full")?;
-    page.put_spaced(target)?;
-    page.put_spaced(event)?;
-    page.put_spaced_number(u64::from(word))?;
-    page.put_byte(b'\n')
+    let names = target.len().saturating_add(event.len());
+    make_room(&mut page.bytes, page.len, LINE.saturating_add(names))?;
+    let room = page.bytes.as_mut_slice();
+    let end = put_number(room, page.len, at);
+    let end = put_spaced(room, end, "full");
+    let end = put_spaced(room, end, target);
+    let end = put_spaced(room, end, event);
+    let end = put_spaced_number(room, end, u64::from(word));
+    page.len = put_byte(room, end, b'\n');
+    Ok(())
 }
 
 fn put_print(page: &mut Page, at: u64, process: &str, value: u16) -> Result<(), AllocError>
     ensures { OnOk result (page.new ≡ page.old ++ line_of (decimal at) (codes "print" ∷ process.now ∷ decimal value ∷ [])) }
 {
-    page.put_number(at)?;
-    page.put_spaced("print")?;
-    page.put_spaced(process)?;
-    page.put_spaced_number(u64::from(value))?;
-    page.put_byte(b'\n')
+    make_room(
+        &mut page.bytes,
+        page.len,
+        LINE.saturating_add(process.len()),
+    )?;
+    let room = page.bytes.as_mut_slice();
+    let end = put_number(room, page.len, at);
+    let end = put_spaced(room, end, "print");
+    let end = put_spaced(room, end, process);
+    let end = put_spaced_number(room, end, u64::from(value));
+    page.len = put_byte(room, end, b'\n');
+    Ok(())
 }
 
 fn put_halt(page: &mut Page, at: u64) -> Result<(), AllocError>
     ensures { OnOk result (page.new ≡ page.old ++ line_of (decimal at) (codes "halt" ∷ [])) }
 {
-    page.put_number(at)?;
-    page.put_spaced("halt")?;
-    page.put_byte(b'\n')
+    make_room(&mut page.bytes, page.len, LINE)?;
+    let room = page.bytes.as_mut_slice();
+    let end = put_number(room, page.len, at);
+    let end = put_spaced(room, end, "halt");
+    page.len = put_byte(room, end, b'\n');
+    Ok(())
 }
 
 fn put_recv(page: &mut Page, at: u64, from: u16, number: u64, value: u16) -> Result<(), AllocError>
     ensures { OnOk result (page.new ≡ page.old ++ line_of (decimal at) (codes "recv" ∷ decimal from ∷ decimal number ∷ decimal value ∷ [])) }
 {
-    page.put_number(at)?;
-    page.put_spaced("recv")?;
-    page.put_spaced_number(u64::from(from))?;
-    page.put_spaced_number(number)?;
-    page.put_spaced_number(u64::from(value))?;
-    page.put_byte(b'\n')
+    make_room(&mut page.bytes, page.len, LINE)?;
+    let room = page.bytes.as_mut_slice();
+    let end = put_number(room, page.len, at);
+    let end = put_spaced(room, end, "recv");
+    let end = put_spaced_number(room, end, u64::from(from));
+    let end = put_spaced_number(room, end, number);
+    let end = put_spaced_number(room, end, u64::from(value));
+    page.len = put_byte(room, end, b'\n');
+    Ok(())
 }
 
 /// Puts a line of the trace of a mote with this program.
@@ -189,12 +241,12 @@ pub fn put_trace_line(page: &mut Page, program: &Program, line: Line) -> Result<
 fn put_fate(page: &mut Page, fate: Fate) -> Result<(), AllocError>
     ensures { OnOk result (page.new ≡ page.old ++ 32 ∷ fate_word fate) }
 {
-    page.put_spaced_number(u64::from(fate.to))?;
-    page.put_byte(b'@')?;
-    match fate.at {
-        Some(at) => page.put_number(at),
-        None => page.put_text("lost"),
-    }
+    make_room(&mut page.bytes, page.len, LINE)?;
+    let room = page.bytes.as_mut_slice();
+    let end = put_spaced_number(room, page.len, u64::from(fate.to));
+    let end = put_byte(room, end, b'@');
+    page.len = put_arrival(room, end, fate.at);
+    Ok(())
 }
 
 fn put_fates(page: &mut Page, fates: &[Fate]) -> Result<(), AllocError>
@@ -206,15 +258,32 @@ fn put_fates(page: &mut Page, fates: &[Fate]) -> Result<(), AllocError>
     Ok(())
 }
 
+/// Puts the words of a packet before the fates of its copies: when it was sent, by whom, its number and its value.
+fn put_sent(page: &mut Page, sent: Sent) -> Result<(), AllocError>
+    ensures { OnOk result (page.new ≡ page.old ++ decimal sent.at ++ flat_map (λ w. 32 ∷ w) (decimal sent.sender ∷ decimal sent.number ∷ decimal sent.value ∷ [])) }
+{
+    make_room(&mut page.bytes, page.len, LINE)?;
+    let room = page.bytes.as_mut_slice();
+    let end = put_number(room, page.len, sent.at);
+    let end = put_spaced_number(room, end, u64::from(sent.sender));
+    let end = put_spaced_number(room, end, sent.number);
+    page.len = put_spaced_number(room, end, u64::from(sent.value));
+    Ok(())
+}
+
+fn put_line_feed(page: &mut Page) -> Result<(), AllocError>
+    ensures { OnOk result (page.new ≡ page.old ++ 10 ∷ []) }
+{
+    make_room(&mut page.bytes, page.len, LINE)?;
+    page.len = put_byte(page.bytes.as_mut_slice(), page.len, b'\n');
+    Ok(())
+}
+
 /// Puts a line of the medium.
 pub fn put_packet(page: &mut Page, line: &LogLine) -> Result<(), AllocError>
     ensures { OnOk result (page.new ≡ page.old ++ packet_text (told_line line.now)) }
 {
-    let sent = line.sent;
-    page.put_number(sent.at)?;
-    page.put_spaced_number(u64::from(sent.sender))?;
-    page.put_spaced_number(sent.number)?;
-    page.put_spaced_number(u64::from(sent.value))?;
+    put_sent(page, line.sent)?;
     put_fates(page, &line.fates)?;
-    page.put_byte(b'\n')
+    put_line_feed(page)
 }

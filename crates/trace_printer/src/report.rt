@@ -3,7 +3,7 @@ ghost use Rattle.std.specs.Prelude.{◌≡◌, ◌++◌, ◌∷◌, [], length, 
 ghost use Rattle.std.specs.List.{flat_map};
 ghost use Rattle.mote_program.specs.Program.{tree_of};
 ghost use Rattle.net_scenario.specs.Net.{net_of};
-ghost use Rattle.window_workers.specs.Report.{lines_in, told_line, report_of};
+ghost use Rattle.net_report.specs.Report.{lines_in, told_line, report_of};
 ghost use Rattle.trace_printer.specs.Output.{Writes};
 ghost use Rattle.trace_printer.specs.Page.{Prints};
 ghost use Rattle.trace_printer.specs.ReportText.{line_text, motes_text, packet_text, medium_text, left_text, report_text};
@@ -14,11 +14,11 @@ use crate::lines::{put_head, put_left, put_medium, put_packet, put_trace_line};
 use crate::output::WriteFault;
 use crate::page::Page;
 use mote_program::Program;
+use net_report::{LogLine, Report};
 use net_scenario::Net;
 use process_kernel::Line;
 use std::alloc::Global;
 use std::io::Write;
-use window_workers::{LogLine, Report};
 
 /// Writes the page where it is full.
 fn write_if_full<W: Write>(writer: &mut W, page: &mut Page) -> Result<(), WriteFault>

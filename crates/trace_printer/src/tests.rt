@@ -7,6 +7,7 @@ mod long;
 
 use crate::{PrintError, write_report};
 use mote_program::Proc;
+use net_report::{LogLine, Report};
 use net_scenario::{Net, read_scenario};
 use process_kernel::{Line, Sent, What};
 use radio_medium::Fate;
@@ -14,7 +15,6 @@ use std::alloc::{AllocError, Global};
 use std::io;
 use std::io::Write;
 use std::test::Fail;
-use window_workers::{LogLine, Report};
 
 /// One mote, whose process prints and then yields for ever.
 pub(crate) const PRINT_THEN_YIELD: &str =

@@ -16,8 +16,8 @@ use Rattle.window_law.proofs.Commute.{log_is_in_order, run_is_there, windows_rep
 use Rattle.window_law.proofs.Lists.{every_weaker}
 use Rattle.window_law.proofs.Order.{sorted_permutes}
 use Rattle.net_agenda.specs.NetSystem.{system_of}
+use Rattle.net_report.specs.Report.{Packet, ReportTold}
 use Rattle.window_workers.specs.NetRun.{packet_of, told_at}
-use Rattle.window_workers.specs.Report.{Packet, ReportTold}
 use Rattle.window_workers.specs.Laws.{NetsRunForward, ReportIsThere, WindowsCommute}
 use Rattle.window_workers.specs.Stamps.{sent_by}
 use Rattle.net_agenda.proofs.Systems.{system_is}

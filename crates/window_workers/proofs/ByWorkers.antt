@@ -26,11 +26,11 @@ use Rattle.worker_share.specs.declared.share.Ended.{Ended}
 use Rattle.worker_crew.specs.declared.crew.Crew.{Crew}
 use Rattle.worker_crew.specs.Crew.{IsAt, IsWorkerAt}
 use Rattle.worker_crew.proofs.Lookups.{there, read, zip_inside, zip_long}
-use Rattle.window_workers.specs.declared.report.Report.{Report}
+use Rattle.net_report.specs.declared.Report.{Report}
+use Rattle.net_report.specs.Report.{Packet, ReportTold, lines_in, told_line, report_of}
 use Rattle.window_workers.specs.Carried.{Pair, packets_told, HasCarried, AllCarried}
 use Rattle.window_workers.specs.NetRun.{packet_of, IsReportOf}
 use Rattle.window_workers.specs.Over.{EndsAs, logs_of, IsLogOf, AreTracesOf}
-use Rattle.window_workers.specs.Report.{Packet, ReportTold, lines_in, told_line, report_of}
 use Rattle.window_workers.proofs.ByWindows.{windows_commute}
 use Rattle.window_workers.proofs.Handed.{traces_hand_on}
 use Rattle.window_workers.proofs.Joined.{is_joined, is_report, left_is, takers_long, traces_are}

@@ -16,10 +16,10 @@ use Rattle.window_law.specs.System.{System}
 use Rattle.window_law.specs.Agenda.{Item, Wake, Packet, moment_of, is_due, is_left, packets, wake_items, up_to}
 use Rattle.window_law.proofs.Agenda.{packets_append, packets_map, packets_wakes}
 use Rattle.net_agenda.specs.NetSystem.{system_of}
+use Rattle.net_report.specs.Report.{ReportTold}
 use Rattle.window_workers.specs.NetRun.{packet_of, IsReportOf}
 use Rattle.window_law.specs.NetStep.{NetState, Run, Done, Turn, sends_of, turned_at, turn_at, boot}
 use Rattle.window_workers.specs.Counted.{is_after, is_late, LateCopiesStay, LeftIsCounted, FatesTellLeft}
-use Rattle.window_workers.specs.Report.{ReportTold}
 
 -- a turn adds a wake, and the copies of what it sent
 packets-added : (m : ℕ) (wake : Option ℕ) (cs : List RadioCopy) → packets (wake_items m wake ++ map Packet cs) ≡ cs

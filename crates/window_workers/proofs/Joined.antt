@@ -29,9 +29,9 @@ use Rattle.worker_crew.specs.declared.crew.Crew.{Crew}
 use Rattle.worker_crew.specs.Crew.{IsAt, IsWorkerAt}
 use Rattle.worker_crew.proofs.Lookups.{there, inside, read, beside, as_long, none_of, one_of}
 use Rattle.worker_crew.proofs.Step.{own_by, some_worker}
+use Rattle.net_report.specs.Report.{lines_in}
 use Rattle.window_workers.specs.Carried.{Pair}
 use Rattle.window_workers.specs.Over.{EndsAs, logs_of, HasFates, AreTracesOf}
-use Rattle.window_workers.specs.Report.{lines_in}
 use Rattle.window_workers.proofs.Pairs.{beyond, each_permutes, same_found}
 use Rattle.window_workers.proofs.Reports.{family}
 use Rattle.window_workers.proofs.Sums.{two_sums}

@@ -7,11 +7,11 @@ use Rattle.std.proofs.Math.Seq.{take-suc, take-length}
 use Rattle.std.proofs.lemmas.List.{map-append}
 use Rattle.process_kernel.specs.declared.line.Line.{Line}
 use Rattle.net_scenario.specs.Net.{NetTold}
+use Rattle.net_report.specs.declared.Report.{Report}
+use Rattle.net_report.specs.Report.{Packet, ReportTold, lines_in, told_line, report_of}
 use Rattle.window_workers.specs.declared.engine.Engine.{Engine}
-use Rattle.window_workers.specs.declared.report.Report.{Report}
 use Rattle.window_law.specs.Agenda.{packets, up_to}
 use Rattle.window_workers.specs.NetRun.{packet_of, told_at, IsReportOf}
-use Rattle.window_workers.specs.Report.{Packet, ReportTold, lines_in, told_line, report_of}
 use Rattle.window_workers.specs.Stands.{IsWhole}
 use Rattle.window_workers.specs.Ended.{HasEnded}
 use Rattle.window_workers.proofs.Handed.{traces_hand_on}

@@ -19,9 +19,9 @@ use Rattle.net_scenario.specs.Net.{NetTold}
 use Rattle.window_law.specs.System.{Turned, IsLater}
 use Rattle.window_law.specs.Agenda.{Item, Packet, moment_of, mote_of, is_due, is_left, is_from, wake_items, IsLeast, up_to}
 use Rattle.net_agenda.specs.NetSystem.{system_of, mote_at}
+use Rattle.net_report.specs.Report.{ReportTold, Packet as OfReport}
 use Rattle.window_workers.specs.NetRun.{packet_of}
 use Rattle.window_law.specs.NetStep.{NetState, Run, Done, Turn, boot, put, stamped, turned_at, turn_at}
-use Rattle.window_workers.specs.Report.{ReportTold, Packet as OfReport}
 use Rattle.window_workers.specs.Stamps.{TracesNeverGoBack, sent_by, LogCountsUp}
 use Rattle.window_law.proofs.Lists.{every_append, every_filter, every_map, every_weaker, any_every}
 

@@ -18,13 +18,13 @@ use Rattle.mote_node.specs.Turn.{turn_of}
 use Rattle.mote_node.specs.Wake.{wake_of}
 use Rattle.radio_medium.specs.Medium.{copies}
 use Rattle.net_scenario.specs.Net.{NetTold}
+use Rattle.net_report.specs.Report.{told_line}
 use Rattle.window_workers.specs.declared.engine.Engine.{Engine}
 use Rattle.window_law.specs.Agenda.{Item, Packet, is_due, is_wake_of, is_left, wake_items}
 use Rattle.net_agenda.specs.Buckets.{Holds, arrivals_at, wake_but_at}
 use Rattle.net_agenda.specs.NetSystem.{system_of, tree_at}
 use Rattle.window_workers.specs.NetRun.{packet_of}
 use Rattle.window_law.specs.NetStep.{NetState, stamped, turn_at}
-use Rattle.window_workers.specs.Report.{told_line}
 use Rattle.window_workers.specs.Stands.{Stands, IsKept, TakesTurn, AddsLines}
 use Rattle.window_law.proofs.Lists.{filter_filter, filter_both}
 use Rattle.window_workers.proofs.Kept.{wake_later}

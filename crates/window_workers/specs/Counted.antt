@@ -10,8 +10,8 @@ use Rattle.window_law.specs.System.{System}
 use Rattle.window_law.specs.Order.{in_order}
 use Rattle.window_law.specs.Agenda.{is_due, packets}
 use Rattle.window_law.specs.NetStep.{NetState, Run, Done, Turn}
+use Rattle.net_report.specs.Report.{ReportTold}
 use Rattle.window_workers.specs.NetRun.{IsReportOf}
-use Rattle.window_workers.specs.Report.{ReportTold}
 
 abbrev pub is_after : (end : ℕ) → RadioCopy → Bool
 is_after end copy = nat_lt end copy.at

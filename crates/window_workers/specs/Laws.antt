@@ -17,8 +17,8 @@ use Rattle.window_law.specs.Windows.{LoneMote, first_mote, IsJoined, IsLeft, Win
 use Rattle.net_agenda.specs.Buckets.{Buckets, Holds}
 use Rattle.net_agenda.specs.Items.{AreSameItems, WakesDiffer, items_of}
 use Rattle.net_agenda.specs.NetSystem.{system_of}
+use Rattle.net_report.specs.Report.{ReportTold}
 use Rattle.window_workers.specs.NetRun.{packet_of, IsReportOf}
-use Rattle.window_workers.specs.Report.{ReportTold}
 
 -- a net has at most one report
 abbrev pub ReportIsOne : Type 0

@@ -5,6 +5,5 @@ pub mod Fits
 pub mod Laws
 pub mod NetRun
 pub mod Over
-pub mod Report
 pub mod Stamps
 pub mod Stands

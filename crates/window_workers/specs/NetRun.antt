@@ -8,7 +8,7 @@ use Rattle.net_scenario.specs.Net.{NetTold}
 use Rattle.window_law.specs.Agenda.{packets, up_to}
 use Rattle.window_law.specs.NetStep.{NetState, Run, boot}
 use Rattle.net_agenda.specs.NetSystem.{system_of}
-use Rattle.window_workers.specs.Report.{Packet, ReportTold}
+use Rattle.net_report.specs.Report.{Packet, ReportTold}
 
 abbrev pub packet_of : Radio → Sent → Packet
 packet_of radio sent = record { sent = sent; fates = fates radio sent }

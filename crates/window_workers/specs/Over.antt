@@ -12,8 +12,8 @@ use Rattle.worker_share.specs.declared.share.Share.{Share}
 use Rattle.worker_share.specs.declared.share.Ended.{Ended}
 use Rattle.worker_share.specs.Share.{Motes, Keeps}
 use Rattle.worker_share.specs.Ended.{Tells}
+use Rattle.net_report.specs.Report.{Packet}
 use Rattle.window_workers.specs.NetRun.{packet_of}
-use Rattle.window_workers.specs.Report.{Packet}
 
 -- a share that is taken apart tells what it kept
 abbrev pub EndsAs : Share → Ended → Type 0

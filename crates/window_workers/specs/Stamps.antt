@@ -5,8 +5,8 @@ use Rattle.process_kernel.specs.declared.line.Sent.{Sent}
 use Rattle.kernel_laws.specs.Stamps.{AreNumberedFrom}
 use Rattle.mote_laws.specs.Stamps.{NeverGoBack}
 use Rattle.net_scenario.specs.Net.{NetTold}
+use Rattle.net_report.specs.Report.{ReportTold}
 use Rattle.window_workers.specs.NetRun.{IsReportOf}
-use Rattle.window_workers.specs.Report.{ReportTold}
 
 -- no line of a trace is of an earlier moment than one before it
 abbrev pub TracesNeverGoBack : Type 0

@@ -11,13 +11,13 @@ use Rattle.mote_node.specs.Public.{node_in, told}
 use Rattle.mote_node.specs.Turn.{turn_of}
 use Rattle.mote_node.specs.Wake.{wake_of}
 use Rattle.net_scenario.specs.Net.{NetTold}
+use Rattle.net_report.specs.Report.{told_line}
 use Rattle.window_workers.specs.declared.engine.Engine.{Engine}
 use Rattle.window_law.specs.Agenda.{mote_of, is_wake_of, wake_items}
 use Rattle.net_agenda.specs.Buckets.{Holds}
 use Rattle.net_agenda.specs.NetSystem.{tree_at}
 use Rattle.window_workers.specs.NetRun.{packet_of}
 use Rattle.window_law.specs.NetStep.{NetState}
-use Rattle.window_workers.specs.Report.{told_line}
 use Rattle.mote_program.specs.Code as code
 
 abbrev pub OneNode : NetTold → List Mote → NetState Node Line → (mote : ℕ) → Type 0

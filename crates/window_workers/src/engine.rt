@@ -13,11 +13,11 @@ ghost use Rattle.net_agenda.specs.NetSystem.{system_of, first_node, tree_at};
 ghost use Rattle.window_law.specs.NetStep.{NetState, turn_at, boot};
 ghost use Rattle.window_workers.specs.Stands.{Stands, IsWhole, IsKept, TakesTurn, AddsLines};
 
-use crate::report::LogLine;
 use crate::sends::send_all;
 use mote_node::{Mote, TurnOut};
 use mote_program::Program;
 use net_agenda::{Agenda, new_mote};
+use net_report::LogLine;
 use net_scenario::Net;
 use process_kernel::{Arrival, Line};
 use std::alloc::{AllocError, Global};

@@ -7,14 +7,13 @@ mod error;
 mod fits;
 pub mod laws;
 mod medium_log;
-mod report;
 mod sends;
 mod serial;
 mod traces;
 mod workers;
 
 pub use error::RunError;
-pub use report::{LogLine, Report};
+pub use net_report::{LogLine, Report};
 pub use serial::run_serial;
 pub use window_run::{Gate, MoteWindow, NoGate, WindowOut};
 pub use worker_cut::Cut;

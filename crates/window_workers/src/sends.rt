@@ -5,12 +5,12 @@ ghost use Rattle.std.specs.List.{flat_map};
 ghost use Rattle.radio_medium.specs.Medium.{copies};
 ghost use Rattle.window_law.specs.Agenda.{Item, Packet};
 ghost use Rattle.net_agenda.specs.Buckets.{Holds};
+ghost use Rattle.net_report.specs.Report.{told_line};
 ghost use Rattle.window_workers.specs.NetRun.{packet_of};
 ghost use Rattle.window_law.specs.NetStep.{stamped};
-ghost use Rattle.window_workers.specs.Report.{told_line};
 
-use crate::report::LogLine;
 use net_agenda::Agenda;
+use net_report::LogLine;
 use process_kernel::Sent;
 use radio_medium::Medium;
 use std::alloc::AllocError;

@@ -4,15 +4,15 @@ ghost use Rattle.std.specs.Prelude.{◌≡◌, ◌<◌, length, vec_len, All, If
 ghost use Rattle.kernel_laws.specs.Going.{IsInOrder};
 ghost use Rattle.net_scenario.specs.Net.{net_of};
 ghost use Rattle.net_agenda.specs.NetSystem.{system_of};
+ghost use Rattle.net_report.specs.Report.{report_of};
 ghost use Rattle.window_workers.specs.NetRun.{IsReportOf};
 ghost use Rattle.window_law.specs.NetStep.{boot};
-ghost use Rattle.window_workers.specs.Report.{report_of};
 ghost use Rattle.window_workers.specs.Stands.{Stands, IsWhole};
 ghost use Rattle.window_workers.specs.Ended.{HasEnded};
 
 use crate::engine::Engine;
 use crate::error::RunError;
-use crate::report::Report;
+use net_report::Report;
 use net_scenario::Net;
 use std::alloc::{AllocError, Global};
 

@@ -3,13 +3,13 @@ ghost use Rattle.std.specs.Prelude.{◌≡◌, IfOk, vec_len};
 
 use crate::tests::PRINT_THEN_YIELD;
 use crate::{PrintError, write_report};
+use net_report::Report;
 use net_scenario::read_scenario;
 use process_kernel::{Line, What};
 use std::alloc::{AllocError, Global};
 use std::io;
 use std::io::Write;
 use std::test::Fail;
-use window_workers::Report;
 
 /// How many lines the trace has.
 const LINES: u64 = 12_345;

@@ -1,7 +1,7 @@
 use Rattle.std.proofs.Common.{◌++◌, drop, map}
 use Rattle.net_scenario.specs.Net.{net_of}
+use Rattle.net_report.specs.Report.{lines_in}
 use Rattle.trace_printer.specs.Page.{Written}
-use Rattle.window_workers.specs.Report.{lines_in}
 use Rattle.trace_printer.specs.ReportText.{motes_text}
 use Rattle.trace_printer.proofs.report.print_motes.Given as goal
 

@@ -1,8 +1,8 @@
 use Rattle.std.proofs.Common.{◌∙◌, ◌++◌, ap, arith}
 use Rattle.std.proofs.lemmas.Result.{err_from_is_err_and}
-use Rattle.window_workers.specs.Report.{told_line}
+use Rattle.net_report.specs.Report.{told_line}
+use Rattle.net_report.specs.declared.LogLine.{LogLine}
 use Rattle.trace_printer.specs.ReportText.{packet_text}
-use Rattle.window_workers.specs.declared.report.LogLine.{LogLine}
 use Rattle.trace_printer.proofs.Pieces.{mapped-drop}
 use Rattle.trace_printer.proofs.Written.{put_printed, put_stopped, printed_next, stopped_next}
 use Rattle.trace_printer.proofs.report.print_packets.Goals as goal

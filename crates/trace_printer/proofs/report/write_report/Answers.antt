@@ -2,9 +2,9 @@ use Rattle.std.proofs.Common.{◌≡◌, ◌++◌, ap, sym, List, map, Vec, Glob
 use Rattle.std.proofs.lemmas.Result.{err_from_is_err_and}
 use Rattle.process_kernel.specs.declared.line.Line.{Line}
 use Rattle.net_scenario.specs.Net.{NetTold, net_of}
-use Rattle.window_workers.specs.Report.{lines_in, told_line, report_of}
-use Rattle.window_workers.specs.declared.report.LogLine.{LogLine}
-use Rattle.window_workers.specs.declared.report.Report.{Report}
+use Rattle.net_report.specs.Report.{lines_in, told_line, report_of}
+use Rattle.net_report.specs.declared.LogLine.{LogLine}
+use Rattle.net_report.specs.declared.Report.{Report}
 use Rattle.trace_printer.specs.ReportText.{motes_text, medium_text, left_text, report_text}
 use Rattle.trace_printer.proofs.Written.{written_none, written_start, written_front, written_then, printed_next, stopped_before}
 use Rattle.trace_printer.proofs.report.write_report.Goals as goal

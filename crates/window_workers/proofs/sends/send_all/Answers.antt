@@ -2,9 +2,9 @@ use Rattle.std.proofs.Common.{subst, map}
 use Rattle.radio_medium.specs.Medium.{copies}
 use Rattle.window_law.specs.Agenda.{Packet}
 use Rattle.net_agenda.specs.Buckets.{Holds}
+use Rattle.net_report.specs.Report.{told_line}
 use Rattle.window_workers.specs.NetRun.{packet_of}
 use Rattle.window_law.specs.NetStep.{stamped}
-use Rattle.window_workers.specs.Report.{told_line}
 use Rattle.window_workers.proofs.SentOut.{sends_more, log_step}
 use Rattle.window_workers.proofs.sends.send_all.Goals as goal
 

@@ -3,9 +3,9 @@ use Rattle.std.specs.List.{flat_map}
 use Rattle.radio_medium.specs.Medium.{copies}
 use Rattle.window_law.specs.Agenda.{Item, Packet}
 use Rattle.net_agenda.specs.Buckets.{Holds}
+use Rattle.net_report.specs.Report.{told_line}
 use Rattle.window_workers.specs.NetRun.{packet_of}
 use Rattle.window_law.specs.NetStep.{stamped}
-use Rattle.window_workers.specs.Report.{told_line}
 use Rattle.window_workers.proofs.sends.send_all.Given as goal
 
 abbrev pub invariant-loop-sent : goal.invariant-loop-sent

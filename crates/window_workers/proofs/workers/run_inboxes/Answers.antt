@@ -8,11 +8,11 @@ use Rattle.kernel_laws.specs.Going.{IsInOrder}
 use Rattle.net_scenario.specs.Net.{net_of}
 use Rattle.copy_exchange.specs.Inboxes.{IsFresh}
 use Rattle.worker_crew.specs.Worker.{IsCut}
-use Rattle.window_workers.specs.declared.report.Report.{Report}
+use Rattle.net_report.specs.declared.Report.{Report}
+use Rattle.net_report.specs.Report.{report_of}
 use Rattle.window_workers.specs.Carried.{Pair, AllCarried}
 use Rattle.window_workers.specs.Fits.{cut_fault}
 use Rattle.window_workers.specs.NetRun.{IsReportOf}
-use Rattle.window_workers.specs.Report.{report_of}
 use Rattle.window_workers.proofs.ByWorkers.{one_trace_each, all_hand_on}
 use Rattle.window_workers.proofs.Fitting.{fits_is}
 use Rattle.window_workers.proofs.Pairs.{zip_each, if_ok}

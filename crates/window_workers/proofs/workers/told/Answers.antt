@@ -6,10 +6,10 @@ use Rattle.radio_medium.specs.Medium.{Radio, medium_fault}
 use Rattle.copy_exchange.specs.Desks.{taken_by, gathered_by}
 use Rattle.copy_exchange.specs.Inboxes.{IsSettled}
 use Rattle.worker_share.specs.declared.share.Ended.{Ended}
-use Rattle.window_workers.specs.declared.report.Report.{Report}
+use Rattle.net_report.specs.declared.Report.{Report}
+use Rattle.net_report.specs.Report.{told_line, report_of}
 use Rattle.window_workers.specs.Carried.{Pair, AllCarried}
 use Rattle.window_workers.specs.Over.{logs_of, HasFates, IsLogOf}
-use Rattle.window_workers.specs.Report.{told_line, report_of}
 use Rattle.window_workers.proofs.ByWorkers.{told_is, all_carried}
 use Rattle.window_workers.proofs.Joined.{have_fates, all_places, workers_there}
 use Rattle.window_workers.proofs.Pairs.{each_zip, firsts}

@@ -6,8 +6,8 @@ use Rattle.net_scenario.specs.Net.{net_of}
 use Rattle.window_law.specs.Agenda.{Wake, up_to}
 use Rattle.net_agenda.specs.Buckets.{Holds}
 use Rattle.net_agenda.specs.NetSystem.{system_of, first_node, tree_at}
-use Rattle.window_workers.specs.Report.{told_line}
 use Rattle.net_agenda.proofs.Boots.{pushed, wakes_more}
+use Rattle.net_report.specs.Report.{told_line}
 use Rattle.window_workers.proofs.engine.Engine.boot.Goals as goal
 
 pub loop-number-preserved : goal.loop-number-preserved

@@ -9,9 +9,9 @@ use Rattle.radio_medium.specs.Medium.{Radio, copies}
 use Rattle.process_kernel.specs.declared.line.Sent.{Sent}
 use Rattle.window_law.specs.Agenda.{Item, Packet, is_due, is_wake_of, wake_items}
 use Rattle.net_agenda.specs.Buckets.{Holds}
+use Rattle.net_report.specs.Report.{told_line}
 use Rattle.window_workers.specs.NetRun.{packet_of}
 use Rattle.window_law.specs.NetStep.{stamped}
-use Rattle.window_workers.specs.Report.{told_line}
 use Rattle.net_agenda.proofs.Systems.{tree_is}
 use Rattle.window_workers.proofs.Steps.{stands_turn, wake_to_drop, sent_of}
 use Rattle.window_workers.proofs.engine.Engine.turn.Goals as goal

@@ -4,8 +4,8 @@ use Rattle.std.specs.declared.alloc.Global.{Global}
 use Rattle.process_kernel.specs.declared.line.Line.{Line}
 use Rattle.process_kernel.specs.declared.line.Sent.{Sent}
 use Rattle.radio_medium.specs.declared.fate.Fate.{Fate}
-use Rattle.window_workers.specs.declared.report.LogLine.{LogLine}
-use Rattle.window_workers.specs.declared.report.Report.{Report}
+use Rattle.net_report.specs.declared.LogLine.{LogLine}
+use Rattle.net_report.specs.declared.Report.{Report}
 
 -- a packet that was sent, and the fate of each of its copies
 pub record Packet : Type 0 where

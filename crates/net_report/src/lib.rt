@@ -1,4 +1,5 @@
 //! What a run of a net has to tell.
+#![tactic(auto)]
 
 use process_kernel::{Line, Sent};
 use radio_medium::Fate;

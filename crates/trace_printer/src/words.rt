@@ -1,0 +1,106 @@
+//! Words put into room that is there, from a place on. Each call gives the place behind its word.
+ghost use Rattle.std.specs.Prelude.{◌≡◌, ◌≤◌, ◌+◌, [], ◌∷◌, ◌++◌, length, take, decimal};
+ghost use Rattle.trace_printer.specs.Words.{arrival_word};
+
+use itoa::write_digits;
+
+#[inline(always)]
+pub fn put_byte(room: &mut [u8], at: usize, byte: u8) -> usize
+    requires { at + 1 ≤ length room.old }
+    ensures put { take result room.new ≡ take at room.old ++ byte ∷ [] }
+    ensures end { result ≡ at + 1 }
+{
+    room[at] = byte;
+    at + 1
+}
+
+#[inline(always)]
+pub fn put_text(room: &mut [u8], at: usize, text: &str) -> usize
+    requires { at + length text.now ≤ length room.old }
+    ensures put { take result room.new ≡ take at room.old ++ text.now }
+    ensures end { result ≡ at + length text.now }
+{
+    let end = at + text.len();
+    room[at..end].copy_from_slice(text.as_bytes());
+    end
+}
+
+/// How many digits a number has.
+fn digits(number: u64) -> usize
+    ensures value { result ≡ length (decimal number) }
+    ensures few { result ≤ 20 }
+{
+    let mut left = number;
+    let mut count = 1;
+    while left >= 10 {
+        left /= 10;
+        count += 1;
+    }
+    count
+}
+
+/// Puts a number of so many digits.
+#[inline(always)]
+fn put_digits(room: &mut [u8], at: usize, number: u64, count: usize) -> usize
+    requires count { count ≡ length (decimal number) }
+    requires room { at + count ≤ length room.old }
+    ensures put { take result room.new ≡ take at room.old ++ decimal number }
+    ensures end { result ≡ at + count }
+{
+    let end = at + count;
+    let _ = write_digits(number, room, end);
+    end
+}
+
+/// Puts a number. Most are small, so their digits are counted by comparing.
+pub fn put_number(room: &mut [u8], at: usize, number: u64) -> usize
+    requires { at + 20 ≤ length room.old }
+    ensures put { take result room.new ≡ take at room.old ++ decimal number }
+    ensures end { result ≤ at + 20 }
+{
+    if number < 10 {
+        put_digits(room, at, number, 1)
+    } else if number < 100 {
+        put_digits(room, at, number, 2)
+    } else if number < 1_000 {
+        put_digits(room, at, number, 3)
+    } else if number < 10_000 {
+        put_digits(room, at, number, 4)
+    } else {
+        put_digits(room, at, number, digits(number))
+    }
+}
+
+/// When a copy arrives, if it does.
+pub fn put_arrival(room: &mut [u8], at: usize, arrival: Option<u64>) -> usize
+    requires { at + 20 ≤ length room.old }
+    ensures put { take result room.new ≡ take at room.old ++ arrival_word arrival }
+    ensures end { result ≤ at + 20 }
+{
+    match arrival {
+        Some(moment) => put_number(room, at, moment),
+        None => put_text(room, at, "lost"),
+    }
+}
+
+/// A text behind a space.
+#[inline(always)]
+pub fn put_spaced(room: &mut [u8], at: usize, text: &str) -> usize
+    requires { at + 1 + length text.now ≤ length room.old }
+    ensures put { take result room.new ≡ take at room.old ++ 32 ∷ text.now }
+    ensures end { result ≡ at + 1 + length text.now }
+{
+    let at = put_byte(room, at, b' ');
+    put_text(room, at, text)
+}
+
+/// A number behind a space.
+#[inline(always)]
+pub fn put_spaced_number(room: &mut [u8], at: usize, number: u64) -> usize
+    requires { at + 21 ≤ length room.old }
+    ensures put { take result room.new ≡ take at room.old ++ 32 ∷ decimal number }
+    ensures end { result ≤ at + 21 }
+{
+    let at = put_byte(room, at, b' ');
+    put_number(room, at, number)
+}
