@@ -14,7 +14,7 @@ node_over last collides m = record { mote = m; last = last; collides = collides 
 
 -- The node that a `Mote` is, where its program is this; one that found no memory is none.
 unfoldable pub node_in : Tree → MoteOfCode → Option Node
-node_in t m = if m.failed then None else option_map (node_over m.last m.collide) (mote_in t m.kernel)
+node_in t m = if m.failed then None else option_map (node_over m.last m.collide) (mote_in t m.kernel.value)
 
 -- what failed wakes no more
 abbrev pub wake_in : Option Node → Option ℕ

@@ -56,16 +56,17 @@ pub struct TurnOut {
     pub wake: Option<u64>,
 }
 
-/// A mote of a net. Its turns come at rising moments, always with the same program.
+/// A mote of a net. Its turns come at rising moments, always with the same program. The kernel stands behind a pointer, so a mote
+/// is moved at little cost.
 #[derive(Drop)]
 pub struct Mote {
     alloc: Global,
-    kernel: Kernel,
+    kernel: Box<Kernel>,
     last: Option<u64>,
     collide: bool,
     failed: bool,
     ghost early: { IfSome last (λ moment. moment ≤ 2 ^ 40) } by { Prim.hlevel props },
-    ghost running: { (t : Tree) → failed ≡ false → IsSome (mote_in t kernel) } by { Prim.hlevel props },
+    ghost running: { (t : Tree) → failed ≡ false → IsSome (mote_in t kernel.value) } by { Prim.hlevel props },
 }
 
 /// When a mote wakes after its turn at this moment, where it has not halted.
@@ -109,16 +110,19 @@ impl Mote {
         ensures new { let t = tree_of program.now in IfOk result (λ mote. node_in t mote ≡ Some (new_node t number queue)) }
         ensures err { IfErr result (λ error. error ≡ MoteError.Memory) }
     {
-        match Kernel::new(alloc, program, number, queue) {
-            Ok(kernel) => Ok(Mote {
-                alloc,
-                kernel,
-                last: None,
-                collide: false,
-                failed: false,
-            }),
-            Err(_) => Err(MoteError::Memory),
-        }
+        let Ok(kernel) = Kernel::new(alloc, program, number, queue) else {
+            return Err(MoteError::Memory);
+        };
+        let Ok(kernel) = Box::new(alloc, kernel) else {
+            return Err(MoteError::Memory);
+        };
+        Ok(Mote {
+            alloc,
+            kernel,
+            last: None,
+            collide: false,
+            failed: false,
+        })
     }
 
     /// The number of the mote.
@@ -146,7 +150,7 @@ impl Mote {
             return None;
         }
         match self.last {
-            Some(last) => wake_after(&self.kernel, last),
+            Some(last) => wake_after(&*self.kernel, last),
             None => Some(0),
         }
     }
@@ -185,7 +189,7 @@ impl Mote {
             sends: Vec::new(self.alloc),
         };
         let turned = turn_in_net(
-            &mut self.kernel,
+            &mut *self.kernel,
             program,
             self.collide,
             moment,

@@ -1,6 +1,6 @@
 //! The engine of one mote's window.
 
-ghost use Rattle.std.specs.Prelude.{◌≡◌, ◌≤◌, ◌^◌, true, Some, map, vec_len, IfOk, IfErr, IfSome, MatchOption, OnOk, None, []};
+ghost use Rattle.std.specs.Prelude.{◌≡◌, ◌≤◌, ◌^◌, ◌++◌, true, Some, map, vec_len, IfOk, IfErr, IfSome, MatchOption, OnOk, None, []};
 ghost use Rattle.std.specs.List.{take_while};
 ghost use Rattle.mote_program.specs.Program.{tree_of};
 ghost use Rattle.mote_node.specs.Public.{node_in};
@@ -118,14 +118,10 @@ impl<'a> OwnWindow<'a> {
         let arrivals = arrivals_at(self.alloc, &self.copies[self.next..], moment)?;
         self.next += arrivals.len();
         let out = self.mote.turn(self.program, moment, &arrivals)?;
-        let TurnOut {
-            mut lines,
-            mut sends,
-            wake,
-        } = out;
+        let TurnOut { lines, sends, wake } = out;
         self.wake = wake;
-        self.lines.append(&mut lines)?;
-        self.sends.append(&mut sends)?;
+        put_behind(&mut self.lines, lines)?;
+        put_behind(&mut self.sends, sends)?;
         Ok(())
     }
 
@@ -153,6 +149,19 @@ impl<'a> OwnWindow<'a> {
             wake,
         }
     }
+}
+
+/// Puts a turn's lines or packets behind those that are there. Where there are none, nothing is copied.
+fn put_behind<T: Drop>(all: &mut Vec<T>, more: Vec<T>) -> Result<(), AllocError>
+    ensures { OnOk result (all.new.items ≡ all.old.items ++ more.items) }
+{
+    if all.is_empty() {
+        *all = more;
+        return Ok(());
+    }
+    let mut more = more;
+    all.append(&mut more)?;
+    Ok(())
 }
 
 /// The lesser of the wake and the first copy's moment.

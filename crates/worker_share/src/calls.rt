@@ -30,26 +30,13 @@ impl Calls {
         }
     }
 
-    /// Takes out the copies of a mote, or none.
-    fn take(&mut self, mote: u16) -> Vec<RadioCopy>
-        ensures copies { result.items ≡ unwrap_or (copies_for self.old.copies mote) [] }
-        ensures others { (k : ℕ) → copies_for self.new.copies k ≡ (if mote == k then None else copies_for self.old.copies k) }
-    {
-        match self.copies.remove(&mote) {
-            Some(copies) => copies,
-            None => Vec::new(self.alloc),
-        }
-    }
-
     /// A mote is called at a moment, with the copies that arrive.
-    fn add(&mut self, moment: u64, mote: u16, arrivals: Vec<Arrival>) -> Result<(), AllocError>
-        ensures { OnOk result ((k : ℕ) → copies_for self.new.copies k ≡ (if mote == k then Some (unwrap_or (copies_for self.old.copies mote) [] ++ map (copy_at moment mote) arrivals.items) else copies_for self.old.copies k)) }
+    fn add(&mut self, moment: u64, mote: u16, arrivals: &[Arrival]) -> Result<(), AllocError>
+        ensures { OnOk result ((k : ℕ) → copies_for self.new.copies k ≡ (if mote == k then Some (unwrap_or (copies_for self.old.copies mote) [] ++ map (copy_at moment mote) arrivals.now) else copies_for self.old.copies k)) }
     {
-        let mut copies = self.take(mote);
-        for arrival in &arrivals {
-            copies.push(copy_at(moment, mote, arrival))?;
-        }
-        self.copies.insert(mote, copies)?;
+        let none = Vec::new(self.alloc);
+        let copies = self.copies.entry(mote)?.or_insert(none);
+        add_copies(copies, moment, mote, arrivals)?;
         Ok(())
     }
 }
@@ -67,6 +54,21 @@ fn copy_at(moment: u64, mote: u16, arrival: &Arrival) -> RadioCopy
     }
 }
 
+/// The copies of packets that arrive together, behind those that are there.
+fn add_copies(
+    copies: &mut Vec<RadioCopy>,
+    moment: u64,
+    mote: u16,
+    arrivals: &[Arrival],
+) -> Result<(), AllocError>
+    ensures { OnOk result (copies.new.items ≡ copies.old.items ++ map (copy_at moment mote) arrivals.now) }
+{
+    for arrival in arrivals {
+        copies.push(copy_at(moment, mote, arrival))?;
+    }
+    Ok(())
+}
+
 /// Takes all that is to come before a moment out of the agenda, mote by mote.
 pub fn gather(alloc: Global, agenda: &mut Agenda, until: u64) -> Result<Calls, AllocError>
     requires { HasItems agenda.old.buckets }
@@ -78,7 +80,7 @@ pub fn gather(alloc: Global, agenda: &mut Agenda, until: u64) -> Result<Calls, A
         if moment >= until {
             break;
         }
-        calls.add(moment, mote, agenda.take_due(moment, mote))?;
+        calls.add(moment, mote, &agenda.take_due(moment, mote))?;
     }
     Ok(calls)
 }

@@ -63,7 +63,7 @@ pub(crate) fn leave(
     requires rising { (k : ℕ) (copies : List RadioCopy) → copies_for calls.copies k ≡ Some copies → is_rising copies ≡ true }
     ensures { IfOk result (λ residents. Leaves until calls.copies motes.old.items motes.new.items agenda.old.buckets agenda.new.buckets residents.items) }
 {
-    let mut residents = Vec::new(calls.alloc);
+    let mut residents = Vec::with_capacity(calls.alloc, calls.copies.len())?;
     let mut copies = calls.copies;
     while let Some((number, copies)) = copies.pop_first() {
         let mote = take_mote(motes, number);

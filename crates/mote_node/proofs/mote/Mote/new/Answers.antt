@@ -6,5 +6,6 @@ use Rattle.mote_node.proofs.mote.Mote.new.Goals as goal
 
 pub invariant_of-result-clause-running : goal.invariant_of-result-clause-running
 invariant_of-result-clause-running c =
-    let some : IsSome (mote_in (tree_of c.args.program.now) c.in-Ok.kernel) = rw c.in-Ok.ensures.ok refl in
-    λ t e. some_anyhow (tree_of c.args.program.now) t c.in-Ok.kernel some
+    let kernel = c.in-Ok-new.kernel.value in
+    let some : IsSome (mote_in (tree_of c.args.program.now) kernel) = rw (c.in-Ok-new.ensures.ok, c.in-Ok.ensures.ok) refl in
+    λ t e. some_anyhow (tree_of c.args.program.now) t kernel some

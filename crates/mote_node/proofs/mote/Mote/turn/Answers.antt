@@ -1,10 +1,12 @@
+use Rattle.std.proofs.Common.{IsSome}
 use Rattle.mote_program.specs.Program.{tree_of}
+use Rattle.process_kernel.specs.Public.{mote_in}
 use Rattle.mote_node.proofs.TurnLemmas.{some_after, some_anyhow}
 use Rattle.mote_node.proofs.mote.Mote.turn.Goals as goal
 
 pub invariant_of-self : goal.invariant_of-self
 invariant_of-self c =
     let program = tree_of c.args.program.now in
-    let before = c.args.self.now.running program c.if-self.false in
+    let before : IsSome (mote_in program c.deref_mut.result.now) = rw c.deref_mut.ensures.value (c.args.self.now.running program c.if-self.false) in
     let some = some_after _ _ _ _ _ c.in-Ok.ensures before in
     record { early = c.requires; running = λ t e. some_anyhow program t c.turn_in_net-turned.new.kernel some }
