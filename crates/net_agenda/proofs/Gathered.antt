@@ -8,7 +8,6 @@ use Rattle.std.proofs.lemmas.List.{map-append}
 use Rattle.std.proofs.Math.Seq.{take-suc}
 use Rattle.process_kernel.specs.declared.line.Arrival.{Arrival}
 use Rattle.radio_medium.specs.declared.copy.RadioCopy.{RadioCopy}
-use Rattle.window_law.specs.Order.{is_before, insert_by, sorted_by, in_order}
 use Rattle.window_law.specs.Agenda.{Item, Wake, Packet, IsLeast, is_due, is_wake_of, moment_of, mote_of, packets}
 use Rattle.window_law.proofs.Agenda.{packets_append, packets_map}
 use Rattle.net_agenda.specs.Buckets.{arrival_of, Due, nothing_due, is_wake, due_all, gathered, due_of, is_here, with_copy, with_wake, without_wake, is_none_left, Buckets, Holds, due_in, told_bucket, key_cmp}
@@ -18,7 +17,6 @@ use Rattle.std.specs.Ordering.{is_eq, is_gt}
 use Rattle.std.specs.BTreeMap.{get, is_at}
 use Rattle.std.specs.Map.{lookup}
 use Rattle.window_law.proofs.Lists.{is_filled, filter_filter, filter_stronger, filter_none, filter_not, every_weaker, every_passes, filled_any}
-use Rattle.net_agenda.proofs.Orders.{in_order_more, in_order_none, none_left}
 
 any_append : (xs : List Item) (x : Item) → list_any is_wake (xs ++ x ∷ []) ≡ (list_any is_wake xs || is_wake x)
 any_append [] x = or_false (is_wake x)
@@ -47,11 +45,8 @@ some_more (y ∷ xs) x = refl
 abbrev pub due_with : Bool → List Arrival → Due
 due_with w k = record { wakes = w; copies = k }
 
-none_due : due_all [] ≡ nothing_due
-none_due = ap (λ l. due_with false l) in_order_none
-
 pub unwrapped : (xs : List Item) → unwrap_or (gathered xs) nothing_due ≡ due_all xs
-unwrapped [] = sym none_due
+unwrapped [] = refl
 unwrapped (x ∷ xs) = refl
 
 pub two : (w v : Bool) (k l : List Arrival) → w ≡ v → k ≡ l → due_with w k ≡ due_with v l
@@ -60,13 +55,13 @@ two w v k l e f = ap (λ x. due_with x k) e ∙ ap (λ x. due_with v x) f
 copy_more : (xs : List Item) (c : RadioCopy) → gathered (xs ++ Packet c ∷ []) ≡ Some (with_copy (arrival_of c) (unwrap_or (gathered xs) nothing_due))
 copy_more xs c =
     let w = any_append xs (Packet c) ∙ or_false (list_any is_wake xs) in
-    let k = ap (λ l. map arrival_of (in_order l)) (packets_append xs (Packet c ∷ [])) ∙ in_order_more (packets xs) c in
+    let k = ap (map arrival_of) (packets_append xs (Packet c ∷ [])) ∙ map-append arrival_of (packets xs) (c ∷ []) in
     some_more xs (Packet c) ∙ (ap Some (two _ _ _ _ w k) ∙ ap (λ d. Some (with_copy (arrival_of c) d)) (sym (unwrapped xs)))
 
 wake_more : (xs : List Item) (t m : ℕ) → gathered (xs ++ Wake t m ∷ []) ≡ Some (with_wake (unwrap_or (gathered xs) nothing_due))
 wake_more xs t m =
     let w = any_append xs (Wake t m) ∙ or_true (list_any is_wake xs) in
-    let k = ap (λ l. map arrival_of (in_order l)) (packets_append xs (Wake t m ∷ []) ∙ append-nil (packets xs)) in
+    let k = ap (map arrival_of) (packets_append xs (Wake t m ∷ []) ∙ append-nil (packets xs)) in
     some_more xs (Wake t m) ∙ (ap Some (two _ _ _ _ w k) ∙ ap (λ d. Some (with_wake d)) (sym (unwrapped xs)))
 
 -- an item more, there or elsewhere
@@ -139,9 +134,9 @@ gathered_packets : (xs : List Item) → gathered (map Packet (packets xs)) ≡ w
 gathered_packets [] = refl
 gathered_packets (x ∷ xs) = of_copies (packets (x ∷ xs)) ∙ refl
   where
-    of_copies : (cs : List RadioCopy) → gathered (map Packet cs) ≡ (if is_none_left (map arrival_of (in_order cs)) then None else Some (record { wakes = false; copies = map arrival_of (in_order cs) }))
-    of_copies [] = rw (none_left []) refl
-    of_copies (c ∷ cs) = rw (none_left (c ∷ cs)) (ap Some (two _ _ _ _ (no_wake (c ∷ cs)) (ap (λ l. map arrival_of (in_order l)) (packets_map (c ∷ cs)))))
+    of_copies : (cs : List RadioCopy) → gathered (map Packet cs) ≡ (if is_none_left (map arrival_of cs) then None else Some (record { wakes = false; copies = map arrival_of cs }))
+    of_copies [] = refl
+    of_copies (c ∷ cs) = ap Some (two _ _ _ _ (no_wake (c ∷ cs)) (ap (map arrival_of) (packets_map (c ∷ cs))))
 
 due_at_mote : (t k : ℕ) (items : List Item) → AllByRecursion (λ item. mote_of item ≡ k) (filter (is_due t k) items)
 due_at_mote t k items = every_weaker _ _ (λ item h. eqb-true (mote_of item) k (and_parts (eqb (moment_of item) t) (eqb (mote_of item) k) h).1) _ (every_passes (is_due t k) items)
@@ -291,24 +286,11 @@ none_of buckets (x ∷ xs) holds e =
     let none : get key_cmp buckets (moment_of x, mote_of x) ≡ None = ap (λ es. lookup (is_at (key_cmp (moment_of x, mote_of x))) es) e in
     absurd (false≢true (subst IsSome none some))
 
--- how many packets there are, in the order of a turn and otherwise
+-- how many packets there are
 
-insert_longer : (d : RadioCopy) (ys : List RadioCopy) → length (insert_by (λ copy. copy.sender) (λ copy. copy.number) d ys) ≡ suc (length ys)
-insert_longer d [] = refl
-insert_longer d (y ∷ ys) =
-    elim (cases_Bool (is_before {X = RadioCopy} (λ copy. copy.sender) (λ copy. copy.number) d y)) [ inl e ↦ rw e refl | inr e ↦ rw e (ap suc (insert_longer d ys)) ]
-
-in_order_length : (cs : List RadioCopy) → length (map arrival_of (in_order cs)) ≡ length cs
-unfolding sorted_by
-in_order_length cs = length_mapped (in_order cs) ∙ sorted cs
-  where
-    length_mapped : (ys : List RadioCopy) → length (map arrival_of ys) ≡ length ys
-    length_mapped [] = refl
-    length_mapped (y ∷ ys) = ap suc (length_mapped ys)
-
-    sorted : (cs : List RadioCopy) → length (in_order cs) ≡ length cs
-    sorted [] = refl
-    sorted (c ∷ cs) = insert_longer c (in_order cs) ∙ ap suc (sorted cs)
+length_given : (cs : List RadioCopy) → length (map arrival_of cs) ≡ length cs
+length_given [] = refl
+length_given (c ∷ cs) = ap suc (length_given cs)
 
 split_length : (p : Item → Bool) (items : List Item) → length (packets (filter p items)) + length (packets (filter (λ item. not (p item)) items)) ≡ length (packets items)
 split_length p [] = refl
@@ -344,13 +326,13 @@ part_next old new t m b counted items part e updates = record {
       let split = split_length (is_due t m) part.rest in
       let due : Some (told_bucket b) ≡ gathered (filter (is_due t m) part.rest) = sym (ap (option_map told_bucket) e) ∙ part.holds t m in
       let n = ap length (of_some (filter (is_due t m) part.rest) (told_bucket b) (sym due)) in
-      let k = in_order_length (packets (filter (is_due t m) part.rest)) in
+      let k = length_given (packets (filter (is_due t m) part.rest)) in
       let s = part.sum in
       added _ _ _ _ _ _ n k split _ s
       );
 }
   where
-    of_some : (xs : List Item) (d : Due) → gathered xs ≡ Some d → d.copies ≡ map arrival_of (in_order (packets xs))
+    of_some : (xs : List Item) (d : Due) → gathered xs ≡ Some d → d.copies ≡ map arrival_of (packets xs)
     of_some xs d f = ap (λ o. (unwrap_or o nothing_due).copies) (sym f) ∙ ap (λ x. x.copies) (unwrapped xs)
 
     added : (counted b m i r n : ℕ) → b ≡ m → m ≡ i → i + r ≡ n → (total : ℕ) → counted + n ≡ total → (counted + b) + r ≡ total

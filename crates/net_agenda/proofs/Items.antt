@@ -11,15 +11,13 @@ use Rattle.std.proofs.lemmas.Bool.Decides.{nat_tests}
 use Rattle.std.proofs.lemmas.List.Folds.{list_any-append}
 use Rattle.std.proofs.lemmas.List.{nil_from_length}
 use Rattle.std.proofs.lemmas.List.Filters.{length-filter_both}
-use Rattle.std.proofs.lemmas.List.Sorted.{IsPermutation-refl, IsPermutation-trans, IsPermutation-map, IsPermutation-append, IsPermutation-append_right, IsPermutation-filter_both}
+use Rattle.std.proofs.lemmas.List.Sorted.{IsPermutation-refl, IsPermutation-trans, IsPermutation-append, IsPermutation-filter_both}
 use Rattle.std.proofs.lemmas.Map.Keys.{sorted_head, sorted_tail}
 use Rattle.process_kernel.specs.declared.line.Arrival.{Arrival}
 use Rattle.radio_medium.specs.declared.copy.RadioCopy.{RadioCopy}
-use Rattle.window_law.specs.Order.{in_order}
 use Rattle.window_law.specs.Agenda.{Item, Wake, Packet, is_due, moment_of, mote_of, packets}
 use Rattle.window_law.proofs.Agenda.{packets_append, packets_filter, packets_map}
 use Rattle.window_law.proofs.Lists.{every_passes, filter_both, filter_filter}
-use Rattle.window_law.proofs.Order.{sorted_permutes}
 use Rattle.net_agenda.specs.declared.bucket.Bucket.{Bucket}
 use Rattle.net_agenda.specs.Buckets.{arrival_of, Due, nothing_due, is_wake, gathered, due_of, told_bucket, key_cmp, is_here, Buckets, Holds}
 use Rattle.net_agenda.specs.Items.{copy_at, bucket_items, items_of, is_wake_at, AreSameItems, WakesDiffer}
@@ -68,18 +66,13 @@ put_back t m (Packet c ∷ xs) h = ap (λ l. copy_at t m (arrival_of c) ∷ l) (
     same = let there = and_parts (eqb c.at t) (eqb c.to m) h.0 in
         ap (λ x. copy_at x m (arrival_of c)) (sym (eqb-true c.at t there.0)) ∙ ap (λ x. copy_at c.at x (arrival_of c)) (sym (eqb-true c.to m there.1))
 
-gathered_copies : (xs : List Item) (d : Due) → gathered xs ≡ Some d → d.copies ≡ map arrival_of (in_order (packets xs))
+gathered_copies : (xs : List Item) (d : Due) → gathered xs ≡ Some d → d.copies ≡ map arrival_of (packets xs)
 gathered_copies xs d f = ap (λ o. (unwrap_or o nothing_due).copies) (sym f) ∙ ap (λ x. x.copies) (unwrapped xs)
 
 -- the packets of one bucket
-of_bucket : (t m : ℕ) (copies : List Arrival) (xs : List Item) → AllByRecursion (λ item. is_due t m item ≡ true) xs → copies ≡ map arrival_of (in_order (packets xs))
-    → IsPermutation (packets xs) (map (copy_at t m) copies)
-of_bucket t m copies xs due e =
-    let ordered = sorted_permutes (λ copy. copy.sender) (λ copy. copy.number) (packets xs) in
-    let given = IsPermutation-map arrival_of _ _ ordered in
-    let back = IsPermutation-map (copy_at t m) _ _ given in
-    subst (λ l. IsPermutation (packets xs) (map (copy_at t m) l)) (sym e)
-    (subst (λ l. IsPermutation l (map (copy_at t m) (map arrival_of (in_order (packets xs))))) (put_back t m xs due) back)
+of_bucket : (t m : ℕ) (copies : List Arrival) (xs : List Item) → AllByRecursion (λ item. is_due t m item ≡ true) xs → copies ≡ map arrival_of (packets xs)
+    → packets xs ≡ map (copy_at t m) copies
+of_bucket t m copies xs due e = sym (ap (map (copy_at t m)) e ∙ put_back t m xs due)
 
 bucket_packets : (t m : ℕ) (b : Bucket) → packets (bucket_items t m b) ≡ map (copy_at t m) b.copies.items
 bucket_packets t m b = packets_append (if b.wakes then Wake t m ∷ [] else []) (map Packet copies) ∙ (ap (λ l. l ++ packets (map Packet copies)) (no_packet b.wakes) ∙ packets_map copies)
@@ -133,7 +126,8 @@ packets_among (e ∷ es) items sorted is =
     p = is_due e.0.0 e.0.1
 
     here : IsPermutation (packets (filter p items)) (map (copy_at e.0.0 e.0.1) e.1.copies.items)
-    here = of_bucket e.0.0 e.0.1 e.1.copies.items (filter p items) (every_passes p items) (gathered_copies (filter p items) (told_bucket e.1) (found e es items is))
+    here = subst (IsPermutation (packets (filter p items))) (of_bucket e.0.0 e.0.1 e.1.copies.items (filter p items) (every_passes p items) (gathered_copies (filter p items) (told_bucket e.1) (found e es items is)))
+        (IsPermutation-refl (packets (filter p items)))
 
 -- wakes
 
@@ -207,9 +201,8 @@ not_wakes (Packet c ∷ xs) = ap (λ l. Packet c ∷ l) (not_wakes xs)
 bucket_permutes : (t m : ℕ) (b : Bucket) (xs : List Item) → AllByRecursion (λ item. is_due t m item ≡ true) xs → gathered xs ≡ Some (told_bucket b) → length (filter is_wake xs) ≤ 1
     → IsPermutation xs (bucket_items t m b)
 bucket_permutes t m b xs due e one =
-    IsPermutation-trans _ _ _
+    subst (λ l. IsPermutation xs (wakes ++ map Packet l)) (of_bucket t m b.copies.items xs due (gathered_copies xs (told_bucket b) e))
     (subst (λ l. IsPermutation xs (wakes ++ l)) (not_wakes xs) (subst (λ l. IsPermutation xs (l ++ filter (λ item. not (is_wake item)) xs)) woken (IsPermutation-filter_both is_wake (λ item. not (is_wake item)) (λ item. refl) xs)))
-    (IsPermutation-append_right wakes _ _ (IsPermutation-map Packet _ _ (of_bucket t m b.copies.items xs due (gathered_copies xs (told_bucket b) e))))
   where
     wakes : List Item
     wakes = if b.wakes then Wake t m ∷ [] else []

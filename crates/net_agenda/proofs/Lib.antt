@@ -4,7 +4,6 @@ pub mod Items
 pub mod Keys
 pub mod NewWakes
 pub mod Orders
-pub mod Places
 pub mod Ranks
 pub mod Systems
 pub mod Woken

@@ -1,5 +1,5 @@
 -- What an agenda has for one mote at one moment, gathered in a bucket.
-use Rattle.std.specs.Prelude.{ℕ, ◌≡◌, Bool, true, false, ◌&&◌, ◌==◌, if◌then◌else◌, List, [], ◌∷◌, map, Option, Some, None, option_map, slice_get}
+use Rattle.std.specs.Prelude.{ℕ, ◌≡◌, Bool, true, false, ◌&&◌, ◌==◌, if◌then◌else◌, List, [], ◌∷◌, ◌++◌, map, Option, Some, None, option_map, slice_get}
 use Rattle.std.specs.List.{list_any, filter}
 use Rattle.std.specs.Ordering.{nat_cmp, ordering_then}
 use Rattle.std.specs.declared.cmp.Ordering.{Ordering}
@@ -7,15 +7,18 @@ use Rattle.std.specs.BTreeMap.{BTreeMap, get}
 use Rattle.process_kernel.specs.declared.line.Arrival.{Arrival}
 use Rattle.radio_medium.specs.declared.copy.RadioCopy.{RadioCopy}
 use Rattle.net_agenda.specs.declared.bucket.Bucket.{Bucket}
-use Rattle.window_law.specs.Order.{in_order}
+use Rattle.window_law.specs.Order.{sorted_by, in_order}
 use Rattle.window_law.specs.Agenda.{Item, Wake, Packet, is_due, packets}
-use Rattle.net_agenda.specs.Arrivals.{put_in_order}
 
 -- what a mote is given of a copy
 abbrev pub arrival_of : RadioCopy → Arrival
 arrival_of copy = record { sender = copy.sender; number = copy.number; value = copy.value }
 
--- whether the mote wakes, and the copies for it, in order
+-- by sender, then by number; those with the same of both keep their order
+abbrev pub arrivals_in_order : List Arrival → List Arrival
+arrivals_in_order arrivals = sorted_by (λ arrival. arrival.sender) (λ arrival. arrival.number) arrivals
+
+-- whether the mote wakes, and the copies for it, as they came
 pub record Due : Type 0 where
   pub wakes : Bool
   pub copies : List Arrival
@@ -28,7 +31,7 @@ is_wake (Wake moment mote) = true
 is_wake (Packet copy) = false
 
 abbrev pub due_all : List Item → Due
-due_all items = record { wakes = list_any is_wake items; copies = map arrival_of (in_order (packets items)) }
+due_all items = record { wakes = list_any is_wake items; copies = map arrival_of (packets items) }
 
 -- what items for one mote at one moment come to, if there are any
 abbrev pub gathered : List Item → Option Due
@@ -62,7 +65,7 @@ Holds buckets items = (moment mote : ℕ) → due_in buckets moment mote ≡ due
 
 -- a packet more
 abbrev pub with_copy : Arrival → Due → Due
-with_copy a due = record due { copies = put_in_order a due.copies }
+with_copy a due = record due { copies = due.copies ++ a ∷ [] }
 
 abbrev pub with_wake : Due → Due
 with_wake due = record due { wakes = true }

@@ -1,4 +1,3 @@
-pub mod Arrivals
 pub mod Buckets
 pub mod Items
 pub mod NetSystem

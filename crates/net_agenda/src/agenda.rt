@@ -127,11 +127,11 @@ impl Agenda {
     }
 
     /// Takes out all that is to come to a mote at a moment: its packets, in order.
-    pub fn take_due(&mut self, moment: u64, mote: u16) -> Vec<Arrival>
-        ensures copies { (items : List Item) → Holds self.old.buckets items → result.items ≡ arrivals_at moment mote items }
+    pub fn take_due(&mut self, moment: u64, mote: u16) -> Result<Vec<Arrival>, AllocError>
+        ensures copies { IfOk result (λ arrivals. (items : List Item) → Holds self.old.buckets items → arrivals.items ≡ arrivals_at moment mote items) }
         ensures rest { (items : List Item) → Holds self.old.buckets items → Holds self.new.buckets (filter (λ item. not (is_due moment mote item)) items) }
     {
-        self.take(moment, mote).copies
+        self.take(moment, mote).into_arrivals()
     }
 
     /// The moment and the mote of what is to come first.

@@ -111,7 +111,7 @@ impl Engine {
         ensures stands { let n = net_of net.now in OnOk result ((state : NetState Node Line) → Stands n self.old state → IsKept n state → Stands n self.new (turn_at (system_of n) moment number state)) }
         ensures whole { OnOk result (IsWhole (net_of net.now) self.new) }
     {
-        let packets = self.agenda.take_due(moment, number);
+        let packets = self.agenda.take_due(moment, number)?;
         let wake = wake_but_at(moment, wake_at(&self.motes, number));
         let out = turn_mote(
             &mut self.motes,

@@ -80,7 +80,8 @@ pub fn gather(alloc: Global, agenda: &mut Agenda, until: u64) -> Result<Calls, A
         if moment >= until {
             break;
         }
-        calls.add(moment, mote, &agenda.take_due(moment, mote))?;
+        let arrivals = agenda.take_due(moment, mote)?;
+        calls.add(moment, mote, &arrivals)?;
     }
     Ok(calls)
 }
