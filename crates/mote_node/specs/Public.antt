@@ -30,5 +30,5 @@ abbrev pub with_collide : Bool → Node → Node
 with_collide collides n = record n { collides = collides }
 
 -- what a turn told, and the node that it left
-abbrev pub told : TurnOut → Node → Turned
-told out n = record { node = n; lines = out.lines.items; sends = out.sends.items; wake = out.wake }
+abbrev pub turn_told : TurnOut → Node → Turned
+turn_told out n = record { node = n; lines = out.lines.items; sends = out.sends.items; wake = out.wake }

@@ -97,7 +97,7 @@ fn is_past(moment: u64, last: Option<u64>) -> bool
 impl Mote {
     ghost use Rattle.mote_node.specs.Node.{new_node};
     ghost use Rattle.mote_node.specs.Turn.{turn_of};
-    ghost use Rattle.mote_node.specs.Public.{node_in, wake_in, is_past_in, with_collide, told};
+    ghost use Rattle.mote_node.specs.Public.{node_in, wake_in, is_past_in, with_collide, turn_told};
 
     /// The mote with this number and program, before its first turn. Its event queue has room for this many events, 1 to 128.
     ///
@@ -168,7 +168,7 @@ impl Mote {
         arrivals: &[Arrival],
     ) -> Result<TurnOut, MoteError>
         requires { moment ≤ 2 ^ 40 }
-        ensures ok { let t = tree_of program.now in IfOk result (λ out. option_map (told out) (node_in t self.new) ≡ option_map (turn_of moment arrivals.now) (node_in t self.old)) }
+        ensures ok { let t = tree_of program.now in IfOk result (λ out. option_map (turn_told out) (node_in t self.new) ≡ option_map (turn_of moment arrivals.now) (node_in t self.old)) }
 
         ensures failed { let t = tree_of program.now in (result ≡ Err MoteError.Failed) ↔ (node_in t self.old ≡ None) }
         ensures past { let t = tree_of program.now in (result ≡ Err MoteError.Past) ↔ IsTrue (is_past_in moment (node_in t self.old)) }

@@ -7,7 +7,7 @@ use Rattle.std.proofs.lemmas.Option.{slice_get-get_or}
 use Rattle.mote_program.specs.Code.{Tree}
 use Rattle.mote_program.specs.Faults.{nothing_yet, IsProgram, IsTold, IsToldAt}
 use Rattle.mote_program.specs.Grammar.{program_marks}
-use Rattle.mote_program.specs.Kinds.{number_of}
+use Rattle.mote_program.specs.Kinds.{kind_number}
 use Rattle.mote_program.specs.Machine.{Verdict, tell, whole, fault, from_events}
 use Rattle.mote_program.specs.Reading.{IsTreeOfTokens, IsTreeOf, IsToldOf, HasTreeOrFault}
 use Rattle.mote_program.specs.Numbers.{tree_of_shape}
@@ -96,7 +96,7 @@ tree_or_told text =
     record { one = by_verdict text l.0 l.1 (tell nothing_yet (from_events ∷ []) l.0) l.2 (judged l.0); apart = never_both text }
 
 -- one told fault
-same_kind : (j k : ReadErrorKind) → number_of j ≡ number_of k → j ≡ k
+same_kind : (j k : ReadErrorKind) → kind_number j ≡ kind_number k → j ≡ k
 same_kind BadToken BadToken e = refl
 same_kind Unexpected Unexpected e = refl
 same_kind UnknownName UnknownName e = refl
@@ -111,9 +111,9 @@ same_kind Memory Memory e = refl
 same_kind j k e = absurd cc
 
 same_here : (j k : ReadErrorKind) (before rest : List Token) → IsTold j before rest → IsTold k before rest → j ≡ k
-same_here j k before rest h i = go (nat_lt (number_of j) (number_of k)) (nat_lt (number_of k) (number_of j)) refl refl
+same_here j k before rest h i = go (nat_lt (kind_number j) (kind_number k)) (nat_lt (kind_number k) (kind_number j)) refl refl
   where
-    go : (b c : Bool) → nat_lt (number_of j) (number_of k) ≡ b → nat_lt (number_of k) (number_of j) ≡ c → j ≡ k
+    go : (b c : Bool) → nat_lt (kind_number j) (kind_number k) ≡ b → nat_lt (kind_number k) (kind_number j) ≡ c → j ≡ k
     go true c d e = absurd (i.least j (ltb-true _ _ d) h.here)
     go false true d e = absurd (h.least k (ltb-true _ _ e) i.here)
     go false false d e = same_kind j k (omega (arith, ltb-false _ _ d, ltb-false _ _ e))

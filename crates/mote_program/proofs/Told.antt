@@ -6,7 +6,7 @@ use Rattle.mote_program.specs.Grammar.{Mark, tokens, program_marks}
 use Rattle.mote_program.specs.Machine.{Symbol, Pending, Step, unfit, take, step, tell, after, end_kind, Verdict, whole, fault, from_events, from_semaphores, first_process, first_broken_of, rules_on_marks, first_broken, fault_or, unfit_kind, operand}
 use Rattle.mote_program.specs.Forms as form
 use Rattle.mote_program.specs.Shapes.{ProgramShape}
-use Rattle.mote_program.specs.Kinds.{number_of}
+use Rattle.mote_program.specs.Kinds.{kind_number}
 use Rattle.mote_program.specs.Faults.{Scope, nothing_yet, scope_after, scope_from, scope_of, breaks, CanFollow, LacksProcess, Breach, IsFault, IsToldAt, IsProgram}
 use Rattle.mote_program.proofs.Language.{Parts, spell_all, some_parts, some_program, Back, back, FromEvents}
 use Rattle.mote_program.proofs.Turns.{On, Forth, forth}
@@ -42,28 +42,28 @@ it_is_broken broken (j ∷ js) k e = go (broken j) refl e (it_is_broken broken j
 -- no rule of a lesser number is broken
 abbrev LeastIn : (ReadErrorKind → Bool) → ℕ → List ReadErrorKind → Type 0
 LeastIn broken n [] = Unit {0}
-LeastIn broken n (k ∷ ks) = (number_of k < n → broken k ≡ false) × LeastIn broken n ks
+LeastIn broken n (k ∷ ks) = (kind_number k < n → broken k ≡ false) × LeastIn broken n ks
 
 abbrev AllAbove : ℕ → List ReadErrorKind → Type 0
 AllAbove n [] = Unit {0}
-AllAbove n (k ∷ ks) = (n < number_of k) × AllAbove n ks
+AllAbove n (k ∷ ks) = (n < kind_number k) × AllAbove n ks
 
 abbrev Rising : List ReadErrorKind → Type 0
 Rising [] = Unit {0}
-Rising (k ∷ ks) = AllAbove (number_of k) ks × Rising ks
+Rising (k ∷ ks) = AllAbove (kind_number k) ks × Rising ks
 
 above_least : (broken : ReadErrorKind → Bool) (n : ℕ) (ks : List ReadErrorKind) → AllAbove n ks → LeastIn broken n ks
 above_least broken n [] h = tt
 above_least broken n (k ∷ ks) h = (λ l. absurd (omega (arith, h.0, l)), above_least broken n ks h.1)
 
-least_in : (broken : ReadErrorKind → Bool) (ks : List ReadErrorKind) (k : ReadErrorKind) → Rising ks → first_broken_of broken ks ≡ Some k → LeastIn broken (number_of k) ks
+least_in : (broken : ReadErrorKind → Bool) (ks : List ReadErrorKind) (k : ReadErrorKind) → Rising ks → first_broken_of broken ks ≡ Some k → LeastIn broken (kind_number k) ks
 least_in broken [] k r e = tt
 least_in broken (j ∷ js) k r e = go (broken j) refl e (least_in broken js k r.1)
   where
-    go : (b : Bool) → broken j ≡ b → (if b then Some j else first_broken_of broken js) ≡ Some k → (first_broken_of broken js ≡ Some k → LeastIn broken (number_of k) js) → LeastIn broken (number_of k) (j ∷ js)
+    go : (b : Bool) → broken j ≡ b → (if b then Some j else first_broken_of broken js) ≡ Some k → (first_broken_of broken js ≡ Some k → LeastIn broken (kind_number k) js) → LeastIn broken (kind_number k) (j ∷ js)
     go true is h ih =
         let same : j ≡ k = cc in
-        subst (λ z. LeastIn broken (number_of z) (j ∷ js)) same (λ l. absurd (omega (arith, l)), above_least broken (number_of j) js r.0)
+        subst (λ z. LeastIn broken (kind_number z) (j ∷ js)) same (λ l. absurd (omega (arith, l)), above_least broken (kind_number j) js r.0)
     go false is h ih = (λ l. is, ih h)
 
 rising : Rising rules_on_marks
@@ -86,10 +86,10 @@ no_rule s m e j h = go j (none_broken (λ k. breaks k s m) rules_on_marks e) h
     go BadTarget n h = not_broken _ n.1.1.1.1.1.1.0 h
     go _ n h = not_broken _ refl h
 
-no_lesser : (s : Scope) (m : Mark) (k : ReadErrorKind) → first_broken s m ≡ Some k → (j : ReadErrorKind) → number_of j < number_of k → IsTrue (breaks j s m) → ⊥
+no_lesser : (s : Scope) (m : Mark) (k : ReadErrorKind) → first_broken s m ≡ Some k → (j : ReadErrorKind) → kind_number j < kind_number k → IsTrue (breaks j s m) → ⊥
 no_lesser s m k e j l h = go j (least_in (λ i. breaks i s m) rules_on_marks k rising e) l h
   where
-    go : (j : ReadErrorKind) → LeastIn (λ i. breaks i s m) (number_of k) rules_on_marks → number_of j < number_of k → IsTrue (breaks j s m) → ⊥
+    go : (j : ReadErrorKind) → LeastIn (λ i. breaks i s m) (kind_number k) rules_on_marks → kind_number j < kind_number k → IsTrue (breaks j s m) → ⊥
     go UnknownName n l h = not_broken _ (n.0 l) h
     go NameTwice n l h = not_broken _ (n.1.0 l) h
     go NumberTooLarge n l h = not_broken _ (n.1.1.0 l) h
@@ -297,7 +297,7 @@ module _ (before ts : List Token) (ms : List Mark) (f : Pending) (s : Scope) (t 
     broken = subst (λ z. IsTrue (breaks k z m)) st.reached.scope b;
   }
 
-  lesser : (k : ReadErrorKind) → first_broken s m ≡ Some k → (j : ReadErrorKind) → number_of j < number_of k → IsFault j before (t ∷ ts) → ⊥
+  lesser : (k : ReadErrorKind) → first_broken s m ≡ Some k → (j : ReadErrorKind) → kind_number j < kind_number k → IsFault j before (t ∷ ts) → ⊥
   lesser k e BadToken l h = not_bad h.0 h.1
   lesser k e Unexpected l h = h (inl can)
   lesser k e NoProcess l h = h
@@ -326,7 +326,7 @@ module _ (before ts : List Token) (ms : List Mark) (f : Pending) (s : Scope) (t 
       )
 
 -- nothing that fits
-none_below_one : (j : ReadErrorKind) → number_of j < 1 → ⊥
+none_below_one : (j : ReadErrorKind) → kind_number j < 1 → ⊥
 none_below_one BadToken h = omega arith
 none_below_one Unexpected h = omega arith
 none_below_one UnknownName h = omega arith
@@ -349,7 +349,7 @@ no_breach k before (t ∷ ts) bad b = bad (
       ∙ ap (λ z. before ++ (z ∷ tokens b.later)) (let e : b.mark.token ≡ t = cc (b.at) in e),
 )
 
-below_two : (before rest : List Token) → ((after : List Token) → rest ≡ token.Bad ∷ after → ⊥) → (j : ReadErrorKind) → number_of j < 2 → IsFault j before rest → ⊥
+below_two : (before rest : List Token) → ((after : List Token) → rest ≡ token.Bad ∷ after → ⊥) → (j : ReadErrorKind) → kind_number j < 2 → IsFault j before rest → ⊥
 below_two before rest fine BadToken h i = fine i.0 i.1
 below_two before rest fine Unexpected h i = omega arith
 below_two before rest fine UnknownName h i = omega arith
@@ -372,7 +372,7 @@ told_bad before ts clean = (before, token.Bad ∷ ts, refl, refl, record { here 
 told_no_process : (before : List Token) → (CanFollow before [] → ⊥) → LacksProcess before [] → Clean before [] → Judged (fault NoProcess 0) (before ++ [])
 told_no_process before bad lacks clean = (before, [], refl, refl, record { here = lacks; least = least; earliest = clean })
   where
-    least : (j : ReadErrorKind) → number_of j < 9 → IsFault j before [] → ⊥
+    least : (j : ReadErrorKind) → kind_number j < 9 → IsFault j before [] → ⊥
     least BadToken h i = absurd (cc (i.1))
     least Unexpected h i = i (inr lacks)
     least NoProcess h i = omega arith

@@ -3,7 +3,7 @@ use Rattle.std.specs.Prelude.{◌≡◌, ℕ, ◌+◌, ◌<◌, nat_lt, nat_le, 
 use Rattle.std.specs.Str.{bytes_eq}
 use Rattle.mote_program.specs.InScope.{Names, no_names, with_new, outside, is_a, is_among, is_in_scope}
 use Rattle.mote_program.specs.Grammar.{Role, new, uses, spawns, starts, value, opens, leaves, Begun, none_begins, statement, wait, Mark, tokens, program_marks}
-use Rattle.mote_program.specs.Kinds.{number_of}
+use Rattle.mote_program.specs.Kinds.{kind_number}
 use Rattle.mote_program.specs.Shapes.{Name, ProgramShape}
 use Rattle.mote_program.specs.Tokens as token
 use Rattle.mote_program.specs.Tokens.{Token}
@@ -116,7 +116,7 @@ IsFault k before rest = Breach k before rest
 -- the fault at the earliest token, and the least of those there
 pub record IsTold (k : ReadErrorKind) (before rest : List Token) : Type 0 where
   pub here : IsFault k before rest
-  pub least : (j : ReadErrorKind) → number_of j < number_of k → IsFault j before rest → ⊥
+  pub least : (j : ReadErrorKind) → kind_number j < kind_number k → IsFault j before rest → ⊥
   pub earliest : (b r : List Token) (j : ReadErrorKind) → before ++ rest ≡ b ++ r → length b < length before → IsFault j b r → ⊥
 
 -- the tokens of a program, at which no rule is broken

@@ -1,7 +1,5 @@
--- Trees whose numbers all stand for something that is declared.
-use Rattle.std.specs.Prelude.{ℕ, ◌+◌, nat_lt, nat_le, Bool, true, ◌&&◌, List, [], ◌∷◌, Option, None, Some, length}
-use Rattle.std.specs.List.{list_all}
-use Rattle.mote_program.specs.Code.{Code, Tree}
+-- Trees whose numbers all stand for something, by what each class has.
+use Rattle.std.specs.Prelude.{ℕ, ◌+◌, nat_lt, Bool, true, ◌&&◌, List, [], ◌∷◌, Option, None, Some}
 use Rattle.mote_program.specs.EventNames as event
 use Rattle.mote_program.specs.EventNames.{CastEvent, SentEvent, AnyEvent}
 use Rattle.mote_program.specs.Tree.{Class, an_event, a_semaphore, a_process, a_variable, a_timer, a_thread, Expression, variable, is, fired, expired, gone, running, count, negation, binary, Action, assign, print, send, wait_until, wait_while, yield, yield_until, spawn, restart, exit, pause, acquire, signal, post, broadcast, synch, poll, start, kill, set, reset, restart_timer, stop, Statement, does, branch, while, Body, end, next, Otherwise, nothing, otherwise}
@@ -77,44 +75,12 @@ abbrev mutual
   other_fits w nothing = true
   other_fits w (otherwise b) = block_fits w b
 
--- what a code declares: so many variables, the timers from one number to below another, and the threads before this one
-abbrev pub own_names : (variables first_timer end_timer threads : ℕ) → Within
-own_names variables first last threads a_variable i = nat_lt i variables
-own_names variables first last threads a_timer i = nat_le first i && nat_lt i last
-own_names variables first last threads a_thread i = nat_lt i threads
-own_names variables first last threads c i = true
-
 -- the threads before this one, and whatever else
 abbrev pub earlier_threads : (thread : ℕ) → Within
 earlier_threads k a_thread i = nat_lt i k
 earlier_threads k c i = true
 
--- what a program declares
-abbrev pub program_names : (events semaphores processes : ℕ) → Within
-program_names events semaphores processes an_event i = nat_lt i events
-program_names events semaphores processes a_semaphore i = nat_lt i semaphores
-program_names events semaphores processes a_process i = nat_lt i processes
-program_names events semaphores processes c i = true
-
-abbrev pub optional_fits : Within → Option (Body ℕ) → Bool
-optional_fits w None = true
-optional_fits w (Some b) = block_fits w b
-
 -- each of them fits, thread k naming the threads before k alone
 abbrev pub threads_fit : (ℕ → Within) → (k : ℕ) → List (Body ℕ) → Bool
 threads_fit w k [] = true
 threads_fit w k (b ∷ bs) = block_fits (w k) b && threads_fit w (k + 1) bs
-
-abbrev pub code_fits : (ℕ → Within) → Code → Bool
-code_fits w c =
-    threads_fit w 0 c.thread_bodies && list_all (block_fits (w (length c.threads))) c.callbacks
-    && optional_fits (w (length c.threads)) c.on_poll && optional_fits (w (length c.threads)) c.on_exit && block_fits (w (length c.threads)) c.body
-
--- in what a code runs, each variable, timer and thread is one of its own
-abbrev pub names_its_own : Code → Bool
-names_its_own c =
-    code_fits (own_names (length c.variables) c.first_timer (c.first_timer + length c.etimers + length c.ctimers)) c
-
--- in what the processes run, each event, semaphore and process is one of the program's
-abbrev pub names_the_programs : Tree → Code → Bool
-names_the_programs t c = code_fits (λ k. program_names (length t.events) (length t.semaphores) (length t.processes)) c

@@ -29,8 +29,8 @@ abbrev pub any_token : AnyEvent Name → Token
 any_token e = (any_mark e).token
 
 -- a word that tells of something in parentheses
-abbrev pub told : KeywordRead → Token → List Token
-told k t = Keyword k ∷ Open ∷ t ∷ Close ∷ []
+abbrev pub telling : KeywordRead → Token → List Token
+telling k t = Keyword k ∷ Open ∷ t ∷ Close ∷ []
 
 abbrev pub expression_tokens : Expression Name → List Token
 expression_tokens (number n) = Number n ∷ []
@@ -39,12 +39,12 @@ expression_tokens tree.word = Keyword word.Data ∷ []
 expression_tokens sender = Keyword word.From ∷ []
 expression_tokens moment = Keyword word.Now ∷ []
 expression_tokens mote = Keyword word.Own ∷ []
-expression_tokens (is e) = told word.Is (any_token e)
-expression_tokens (fired t) = told word.Fired (AName t)
-expression_tokens (expired t) = told word.Expired (AName t)
-expression_tokens (gone p) = told word.Gone (AName p)
-expression_tokens (running p) = told word.Running (AName p)
-expression_tokens (count s) = told word.Count (AName s)
+expression_tokens (is e) = telling word.Is (any_token e)
+expression_tokens (fired t) = telling word.Fired (AName t)
+expression_tokens (expired t) = telling word.Expired (AName t)
+expression_tokens (gone p) = telling word.Gone (AName p)
+expression_tokens (running p) = telling word.Running (AName p)
+expression_tokens (count s) = telling word.Count (AName s)
 expression_tokens (negation e) = Bang ∷ expression_tokens e
 expression_tokens (binary o a b) = Open ∷ (expression_tokens a ++ (Op o ∷ (expression_tokens b ++ (Close ∷ []))))
 

@@ -33,11 +33,11 @@ pub enum ReadErrorKind {
 }
 
 impl ReadErrorKind {
-    ghost use Rattle.mote_program.specs.Kinds.{number_of};
+    ghost use Rattle.mote_program.specs.Kinds.{kind_number};
 
     /// The number that is printed.
     pub fn number(self) -> u8
-        ensures { result ≡ number_of self }
+        ensures { result ≡ kind_number self }
     {
         self as u8
     }

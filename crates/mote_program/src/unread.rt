@@ -2,7 +2,7 @@
 ghost use Rattle.std.specs.Prelude.{◌≡◌, ◌-◌, ◌∷◌, ◌++◌, [], map, OnOk, slice_index_or, option_map};
 ghost use Rattle.mote_program.specs.EventNames.{cast_of, sent_of, any_of, cast_map, sent_map, any_map};
 ghost use Rattle.mote_program.specs.InScope.{name_in};
-ghost use Rattle.mote_program.specs.Spelled.{names_in, cast_token, sent_token, any_token, told, expression_tokens, into_tokens, bare, about, valued, action_tokens, statement_tokens, block_tokens};
+ghost use Rattle.mote_program.specs.Spelled.{names_in, cast_token, sent_token, any_token, telling, expression_tokens, into_tokens, bare, about, valued, action_tokens, statement_tokens, block_tokens};
 ghost use Rattle.mote_program.specs.Steps.{class_of};
 ghost use Rattle.mote_program.specs.Tokens as token;
 ghost use Rattle.mote_program.specs.Tokens.{token_of};
@@ -115,12 +115,12 @@ pub(crate) fn add_all<'a>(out: &mut Vec<Token<'a>>, more: &[Token<'a>]) -> Resul
 }
 
 /// Adds a word that tells of something in parentheses.
-fn told<'a>(
+fn telling<'a>(
     out: &mut Vec<Token<'a>>,
     keyword: Keyword,
     operand: Token<'a>,
 ) -> Result<(), AllocError>
-    ensures { OnOk result (map token_of out.new.items ≡ map token_of out.old.items ++ told keyword (token_of operand.entry)) }
+    ensures { OnOk result (map token_of out.new.items ≡ map token_of out.old.items ++ telling keyword (token_of operand.entry)) }
 {
     add_all(
         out,
@@ -140,15 +140,15 @@ impl<'a> Scoped<'a> {
             Expr::Sender => add(out, Token::Keyword(Keyword::From)),
             Expr::Moment => add(out, Token::Keyword(Keyword::Now)),
             Expr::Mote => add(out, Token::Keyword(Keyword::Own)),
-            Expr::Is(event) => told(out, Keyword::Is, self.any(*event)),
-            Expr::Fired(timer) => told(out, Keyword::Fired, self.name(Class::Timer, *timer)),
-            Expr::Expired(timer) => told(out, Keyword::Expired, self.name(Class::Timer, *timer)),
-            Expr::Gone(process) => told(out, Keyword::Gone, self.name(Class::Process, *process)),
+            Expr::Is(event) => telling(out, Keyword::Is, self.any(*event)),
+            Expr::Fired(timer) => telling(out, Keyword::Fired, self.name(Class::Timer, *timer)),
+            Expr::Expired(timer) => telling(out, Keyword::Expired, self.name(Class::Timer, *timer)),
+            Expr::Gone(process) => telling(out, Keyword::Gone, self.name(Class::Process, *process)),
             Expr::Running(process) => {
-                told(out, Keyword::Running, self.name(Class::Process, *process))
+                telling(out, Keyword::Running, self.name(Class::Process, *process))
             }
             Expr::Count(semaphore) => {
-                told(out, Keyword::Count, self.name(Class::Semaphore, *semaphore))
+                telling(out, Keyword::Count, self.name(Class::Semaphore, *semaphore))
             }
             Expr::Not(operand) => {
                 add(out, Token::Bang)?;

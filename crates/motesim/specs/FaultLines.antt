@@ -1,6 +1,6 @@
 -- The line that tells a fault, behind the name of the program.
 use Rattle.std.specs.Prelude.{ℕ, List, ◌++◌, codes, decimal}
-use Rattle.mote_program.specs.Kinds.{number_of}
+use Rattle.mote_program.specs.Kinds.{kind_number}
 use Rattle.radio_medium.specs.Errors.{medium_fault_number}
 use Rattle.radio_medium.specs.declared.error.MediumError.TheVariants as medium
 use Rattle.net_scenario.specs.Errors.{scenario_fault_number}
@@ -17,7 +17,7 @@ memory_line = codes "out of memory"
 
 abbrev pub scenario_line : ScenarioError → List ℕ
 scenario_line scenario.Memory = memory_line
-scenario_line (scenario.Program name e) = codes "program " ++ name ++ codes " fault " ++ decimal (number_of e.kind) ++ codes " line " ++ decimal e.line
+scenario_line (scenario.Program name e) = codes "program " ++ name ++ codes " fault " ++ decimal (kind_number e.kind) ++ codes " line " ++ decimal e.line
 scenario_line (scenario.Medium medium.Memory) = memory_line
 scenario_line (scenario.Medium e) = codes "medium fault " ++ decimal (medium_fault_number e)
 scenario_line e = codes "scenario fault " ++ decimal (scenario_fault_number e)

@@ -10,12 +10,12 @@ use Rattle.radio_medium.specs.Medium.{medium_fault}
 use Rattle.radio_medium.proofs.Copies.{copies_later}
 use Rattle.radio_medium.proofs.Delays.{lookahead-above}
 use Rattle.net_scenario.specs.Net.{MoteTold, NetTold}
-use Rattle.window_law.specs.System.{IsSystem}
+use Rattle.window_law.specs.System.{RunsForward}
 use Rattle.window_law.proofs.Lists.{every_weaker}
 use Rattle.net_agenda.specs.Buckets.{arrival_of}
 use Rattle.net_agenda.specs.NetSystem.{no_mote, node_turn, system_of}
 
-pub system_is : (n : NetTold) → medium_fault n.radio ≡ None → length n.radio.places ≡ length n.motes → IsSystem (system_of n)
+pub system_is : (n : NetTold) → medium_fault n.radio ≡ None → length n.radio.places ≡ length n.motes → RunsForward (system_of n)
 unfolding system_of
 system_is n fault placed = record {
   some_lookahead = lookahead-above n.radio fault n.end;

@@ -6,6 +6,8 @@ use Rattle.mote_program.specs.declared.event.Proc.{Proc}
 use Rattle.mote_program.specs.declared.event.Proc.TheVariants.{Own, Etimer, Ctimer, Radio}
 use Rattle.mote_program.specs.declared.event.Target.{Target}
 use Rattle.mote_program.specs.declared.event.Target.TheVariants.{One, All}
+use Rattle.mote_program.specs.declared.event.SystemEvent.TheVariants as event
+use Rattle.mote_program.specs.Events.{system_number, system_word}
 use Rattle.process_kernel.specs.declared.line.What.{What}
 use Rattle.process_kernel.specs.declared.line.What.TheVariants.{Start, Leave, Post, Full, Take, Drop, Print, Busy, Halt, Send, Recv, Lost, Deaf, Collide}
 use Rattle.radio_medium.specs.declared.fate.Fate.{Fate}
@@ -30,15 +32,15 @@ target_word t All = codes "all"
 -- no trace shows, has the empty word.
 abbrev pub event_word : Tree → ℕ → List ℕ
 event_word t e =
-    if e == 0x81 then codes "init"
-    else if e == 0x82 then codes "poll"
-    else if e == 0x83 then codes "exit"
-    else if e == 0x85 then codes "continue"
-    else if e == 0x86 then codes "msg"
-    else if e == 0x87 then codes "exited"
-    else if e == 0x88 then codes "timer"
-    else if e == 0x89 then codes "com"
-    else if e == 0x8a then codes "packet"
+    if e == system_number event.Init then system_word event.Init
+    else if e == system_number event.Poll then system_word event.Poll
+    else if e == system_number event.Exit then system_word event.Exit
+    else if e == system_number event.Continue then system_word event.Continue
+    else if e == system_number event.Msg then system_word event.Msg
+    else if e == system_number event.Exited then system_word event.Exited
+    else if e == system_number event.Timer then system_word event.Timer
+    else if e == system_number event.Com then system_word event.Com
+    else if e == system_number event.Packet then system_word event.Packet
     else unwrap_or (declared_name t e) []
 
 -- the words of a trace's line behind its moment

@@ -5,7 +5,7 @@ use Rattle.std.proofs.lemmas.Bool.{false≢true}
 use Rattle.std.proofs.lemmas.Bool.Decides.{nat_tests}
 use Rattle.process_kernel.specs.declared.line.Sent.{Sent}
 use Rattle.radio_medium.specs.declared.copy.RadioCopy.{RadioCopy}
-use Rattle.window_law.specs.System.{System, Turned, IsSystem, IsLater}
+use Rattle.window_law.specs.System.{System, Turned, RunsForward, IsLater}
 use Rattle.window_law.specs.Agenda.{Item, Packet, moment_of, mote_of, is_due, is_wake_of, is_left, is_from, wake_items}
 use Rattle.window_law.specs.NetStep.{NetState, stamped, turned_at, turn_at}
 use Rattle.window_law.proofs.Lists.{every_append, every_filter, every_map, every_weaker}
@@ -20,7 +20,7 @@ pub left_not_due : (a b : Bool) → not (a || b) ≡ true → a ≡ false
 left_not_due true b h = absurd (false≢true h)
 left_not_due false b h = refl
 
-module _ {S L : Type 0} (system : System S L) (fine : IsSystem system) where
+module _ {S L : Type 0} (system : System S L) (fine : RunsForward system) where
   pub turn_ahead : (t m : ℕ) (net : NetState S L) → AllByRecursion (λ item. is_from t m item ≡ true) net.agenda
       → AllByRecursion (λ item. is_from t (suc m) item ≡ true) (turn_at system t m net).agenda
   turn_ahead t m net ahead =

@@ -7,7 +7,7 @@ use Rattle.std.proofs.lemmas.List.Elements.{filter-append}
 use Rattle.std.proofs.lemmas.List.Concat.{flat_map-append}
 use Rattle.process_kernel.specs.declared.line.Sent.{Sent}
 use Rattle.radio_medium.specs.declared.copy.RadioCopy.{RadioCopy}
-use Rattle.window_law.specs.System.{System, IsSystem, IsLater}
+use Rattle.window_law.specs.System.{System, RunsForward, IsLater}
 use Rattle.window_law.specs.Order.{insert_by, sorted_by, in_order, is_before}
 use Rattle.window_law.specs.NetStep.{stamped}
 use Rattle.window_law.specs.Agenda.{up_to}
@@ -114,7 +114,7 @@ at_start : (b : Bool) → WakesFrom 0 (cond b (Some 0) None)
 at_start true = zero-le
 at_start false = tt
 
-module _ {S L : Type 0} (system : System S L) (fine : IsSystem system) where
+module _ {S L : Type 0} (system : System S L) (fine : RunsForward system) where
   no_wake_now : (t number : ℕ) → is_busy system t (history system t) number ≡ false → wakes_at t (history system t number).wake ≡ false
   unfolding is_busy
   no_wake_now t number e = (or_parts _ _ e).0

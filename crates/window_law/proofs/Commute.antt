@@ -4,7 +4,7 @@ use Rattle.std.specs.List.{filter, AllByRecursion}
 use Rattle.window_law.proofs.Lists.{every_weaker}
 use Rattle.std.proofs.lemmas.Bool.Decides.{nat_tests}
 use Rattle.std.proofs.lemmas.List.Elements.{filter_agree}
-use Rattle.window_law.specs.System.{System, IsSystem}
+use Rattle.window_law.specs.System.{System, RunsForward}
 use Rattle.window_law.specs.NetStep.{NetState, boot}
 use Rattle.window_law.specs.Agenda.{packets, up_to}
 use Rattle.window_law.specs.Report.{LogIsInOrder, RunIsThere}
@@ -20,7 +20,7 @@ use Rattle.window_law.proofs.Agenda.{below_all}
 beyond : (end u k : ℕ) → (ltb (suc end) u || (eqb u (suc end) && not (ltb k 0))) ≡ ltb end u
 beyond end u k = grind (arith, nat_tests)
 
-module _ {S L : Type 0} (system : System S L) (fine : IsSystem system) where
+module _ {S L : Type 0} (system : System S L) (fine : RunsForward system) where
   same : (end : ℕ) (motes : ℕ → LoneMote S L) → ((k : ℕ) → k < system.motes → motes k ≡ history system (suc end) k)
       → (net : NetState S L) → Meets system fine (suc end) 0 net → IsSame system end net motes
   same end motes is net meets = record {

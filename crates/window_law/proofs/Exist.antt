@@ -3,7 +3,7 @@ use Rattle.std.proofs.Common.{◌≡◌, ℕ, suc, zero, ◌+◌, ◌<◌, ◌�
 use Rattle.std.specs.List.{filter, list_any, AllByRecursion}
 use Rattle.std.proofs.lemmas.Bool.{cases_Bool, eq-eqb, or_parts}
 use Rattle.std.proofs.lemmas.Bool.Decides.{nat_tests}
-use Rattle.window_law.specs.System.{System, IsSystem}
+use Rattle.window_law.specs.System.{System, RunsForward}
 use Rattle.radio_medium.specs.declared.copy.RadioCopy.{RadioCopy}
 use Rattle.window_law.specs.Order.{in_order}
 use Rattle.window_law.specs.Windows.{own_turn, wakes_at, WakesFrom, is_at, is_within, is_from_sender, IsQuiet, IsInbox, Alone, Rests, Turns, Windows, Last, Window, WindowsAreThere}
@@ -17,7 +17,7 @@ moment_is number t a c h = grind (arith, nat_tests)
 quiet_empty : (t : ℕ) (wake : Option ℕ) (inbox : List RadioCopy) → WakesFrom t wake → inbox ≡ [] → IsQuiet t wake inbox
 quiet_empty t wake inbox w e = record { no_wake = w; no_copies = subst (AllByRecursion (λ copy. t ≤ copy.at)) (sym e) tt }
 
-module _ {S L : Type 0} (system : System S L) (fine : IsSystem system) where
+module _ {S L : Type 0} (system : System S L) (fine : RunsForward system) where
   inbox_of : ℕ → ℕ → List RadioCopy
   inbox_of t k = filter (is_within k t (suc t)) (pool system (history system t))
 

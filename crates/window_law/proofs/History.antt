@@ -6,7 +6,7 @@ use Rattle.std.proofs.lemmas.List.Elements.{filter-append}
 use Rattle.std.proofs.lemmas.List.Concat.{flat_map-append}
 use Rattle.process_kernel.specs.declared.line.Sent.{Sent}
 use Rattle.radio_medium.specs.declared.copy.RadioCopy.{RadioCopy}
-use Rattle.window_law.specs.System.{System, IsSystem}
+use Rattle.window_law.specs.System.{System, RunsForward}
 use Rattle.window_law.specs.Order.{in_order}
 use Rattle.window_law.specs.NetStep.{stamped}
 use Rattle.window_law.specs.Agenda.{up_to}
@@ -48,7 +48,7 @@ module _ {S L : Type 0} (system : System S L) where
       (λ e. ([], ap (λ m. m.sends) (history_idle moment number e) ∙ sym (append-nil _)))
       (cases_Bool (is_busy moment (history moment) number))
 
-  module _ (fine : IsSystem system) where
+  module _ (fine : RunsForward system) where
     -- copies of what is sent at a moment come no sooner than the lookahead
     abbrev pub ComesLater : (number moment : ℕ) → RadioCopy → Type 0
     ComesLater number moment copy = (copy.sender ≡ number) × (copy.to < system.motes) × (moment + system.lookahead ≤ copy.at)

@@ -7,7 +7,7 @@ use Rattle.std.proofs.lemmas.List.Elements.{filter-append, filter_agree}
 use Rattle.std.proofs.lemmas.List.Concat.{flat_map-append}
 use Rattle.process_kernel.specs.declared.line.Sent.{Sent}
 use Rattle.radio_medium.specs.declared.copy.RadioCopy.{RadioCopy}
-use Rattle.window_law.specs.System.{Turned, System, IsSystem, IsLater}
+use Rattle.window_law.specs.System.{Turned, System, RunsForward, IsLater}
 use Rattle.window_law.specs.Agenda.{Item, Wake, Packet, is_due, is_left, is_wake_of, is_from, moment_of, mote_of, packets, wake_items, up_to}
 use Rattle.window_law.specs.NetStep.{NetState, Run, Done, Turn, put, after_turn, turn_at, boot, stamped, sends_of}
 use Rattle.window_law.specs.Order.{in_order}
@@ -65,7 +65,7 @@ le_self m = omega arith
 is_past : (t u k : ℕ) → (ltb (suc t) u || (eqb u (suc t) && not (ltb k 0))) ≡ true → t < u
 is_past t u k h = grind (arith, nat_tests)
 
-module _ {S L : Type 0} (system : System S L) (fine : IsSystem system) where
+module _ {S L : Type 0} (system : System S L) (fine : RunsForward system) where
   -- before the turn of mote m at moment t: the motes below m have had that moment
   pub mix : ℕ → ℕ → ℕ → LoneMote S L
   mix t m k = cond (ltb k m) (history system (suc t) k) (history system t k)

@@ -2,7 +2,7 @@
 use Rattle.std.specs.Prelude.{◌≡◌, ℕ, List, length, map}
 use Rattle.std.specs.List.Sorted.{IsSortedBy, IsPermutation}
 use Rattle.process_kernel.specs.declared.line.Sent.{Sent}
-use Rattle.window_law.specs.System.{System, IsSystem}
+use Rattle.window_law.specs.System.{System, RunsForward}
 use Rattle.window_law.specs.Order.{is_sooner, NumbersRise}
 use Rattle.window_law.specs.Agenda.{packets, up_to}
 use Rattle.window_law.specs.NetStep.{NetState, Run, boot}
@@ -21,9 +21,9 @@ RunIsOne {S} {L} system = (end : ℕ) (a b : NetState S L) → Run system end (b
 
 -- a net that runs forward has a run
 abbrev pub RunIsThere : {S L : Type 0} → System S L → Type 0
-RunIsThere {S} {L} system = IsSystem system → (end : ℕ) → (net : NetState S L) × Run system end (boot system) net
+RunIsThere {S} {L} system = RunsForward system → (end : ℕ) → (net : NetState S L) × Run system end (boot system) net
 
 -- where the numbers of each mote's packets rise, the packets of a run sorted by moment, sender and number are its log
 abbrev pub LogIsInOrder : {S L : Type 0} → System S L → Type 0
-LogIsInOrder {S} {L} system = IsSystem system → (end : ℕ) (net : NetState S L) → Run system end (boot system) net → NumbersRise net.log
+LogIsInOrder {S} {L} system = RunsForward system → (end : ℕ) (net : NetState S L) → Run system end (boot system) net → NumbersRise net.log
     → (log : List Sent) → IsPermutation net.log log → IsSortedBy is_sooner log → log ≡ net.log

@@ -30,7 +30,7 @@ pub record IsCopyOf {S L : Type 0} (system : System S L) (sent : Sent) (copy : R
   pub later : sent.at + system.lookahead ≤ copy.at
 
 -- A net runs forward: each wake comes later than the turn that makes it, and each copy by the lookahead at least, which isn't 0.
-pub record IsSystem {S L : Type 0} (system : System S L) : Type 0 where
+pub record RunsForward {S L : Type 0} (system : System S L) : Type 0 where
   pub some_lookahead : 0 < system.lookahead
   pub wakes_later : (mote : ℕ) (state : S) (moment : ℕ) (given : List RadioCopy) → IsLater moment (system.turn mote state moment given).wake
   pub copies_later : (sent : Sent) → AllByRecursion (IsCopyOf system sent) (system.copies sent)

@@ -3,7 +3,7 @@ use Rattle.std.specs.Prelude.{◌≡◌, ℕ, suc, ◌+◌, ◌<◌, ◌≤◌, 
 use Rattle.std.specs.List.{filter, flat_map, list_any, AllByRecursion}
 use Rattle.process_kernel.specs.declared.line.Sent.{Sent}
 use Rattle.radio_medium.specs.declared.copy.RadioCopy.{RadioCopy}
-use Rattle.window_law.specs.System.{System, Turned, IsSystem}
+use Rattle.window_law.specs.System.{System, Turned, RunsForward}
 use Rattle.window_law.specs.Order.{sorted_by, in_order}
 use Rattle.window_law.specs.Agenda.{packets, up_to}
 use Rattle.window_law.specs.NetStep.{NetState, Run, boot, sends_of}
@@ -118,16 +118,16 @@ pub record IsSame {S L : Type 0} (system : System S L) (end : ℕ) (net : NetSta
 
 -- Windows commute: whatever the windows from 0 to the end, the net has a run, and its end is the same.
 abbrev pub WindowsCommute : {S L : Type 0} → System S L → Type 0
-WindowsCommute {S} {L} system = IsSystem system → (end : ℕ) (motes : (number : ℕ) → LoneMote S L)
+WindowsCommute {S} {L} system = RunsForward system → (end : ℕ) (motes : (number : ℕ) → LoneMote S L)
     → Windows system 0 (suc end) (first_mote system) motes → (net : NetState S L) × Run system end (boot system) net × IsSame system end net motes
 
 -- so whoever ran the windows, and joined packets and copies in whatever way, has the report of the run
 abbrev pub WindowsReport : {S L : Type 0} → System S L → Type 0
-WindowsReport {S} {L} system = IsSystem system → (end : ℕ) (motes : (number : ℕ) → LoneMote S L)
+WindowsReport {S} {L} system = RunsForward system → (end : ℕ) (motes : (number : ℕ) → LoneMote S L)
     → Windows system 0 (suc end) (first_mote system) motes
     → (joined : List Sent) → IsJoined system motes joined → (rest : List RadioCopy) → IsLeft system end motes rest
     → IsReport system end (map (λ number. (motes number).lines) (up_to system.motes)) (as_log joined) (length rest)
 
 -- a net that runs forward has windows up to any end
 abbrev pub WindowsAreThere : {S L : Type 0} → System S L → Type 0
-WindowsAreThere {S} {L} system = IsSystem system → (end : ℕ) → (motes : (number : ℕ) → LoneMote S L) × Windows system 0 end (first_mote system) motes
+WindowsAreThere {S} {L} system = RunsForward system → (end : ℕ) → (motes : (number : ℕ) → LoneMote S L) × Windows system 0 end (first_mote system) motes

@@ -12,7 +12,7 @@ use Rattle.net_scenario.specs.Net.{NetTold}
 use Rattle.net_agenda.specs.NetSystem.{system_of}
 use Rattle.net_agenda.proofs.Systems.{system_is}
 use Rattle.window_law.specs.Agenda.{up_to}
-use Rattle.window_law.specs.System.{IsSystem}
+use Rattle.window_law.specs.System.{RunsForward}
 use Rattle.window_law.specs.Windows.{as_log}
 use Rattle.window_law.proofs.Agenda.{below_all}
 use Rattle.window_law.proofs.Lists.{every_map, every_weaker}
@@ -42,7 +42,7 @@ abbrev told_of : List (List Line) → List Packet → ℕ → ReportTold
 told_of traces log left = record { traces = traces; log = log; left = left }
 
 module _ (n : NetTold) (fault : medium_fault n.radio ≡ None) (placed : length n.radio.places ≡ length n.motes) (of : List ℕ) (crew : Crew) (at : IsAt n of (suc n.end) crew) (ended : List Ended) (ends : AllZip EndsAs crew.shares.items ended) where
-  fine : IsSystem (system_of n)
+  fine : RunsForward (system_of n)
   fine = system_is n fault placed
 
   -- the report that the windows leave

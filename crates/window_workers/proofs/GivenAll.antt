@@ -4,7 +4,7 @@ use Rattle.std.specs.List.{filter, flat_map, AllByRecursion}
 use Rattle.std.proofs.lemmas.Bool.Decides.{nat_tests}
 use Rattle.std.proofs.lemmas.List.Elements.{filter-append}
 use Rattle.radio_medium.specs.declared.copy.RadioCopy.{RadioCopy}
-use Rattle.window_law.specs.System.{System, IsSystem}
+use Rattle.window_law.specs.System.{System, RunsForward}
 use Rattle.window_law.specs.Agenda.{Item, Wake, Packet, moment_of, mote_of, is_due, is_left, is_from, packets, IsLeast, up_to}
 use Rattle.window_law.specs.Order.{in_order}
 use Rattle.net_agenda.specs.NetSystem.{system_of}
@@ -49,7 +49,7 @@ boot_from : (ks : List ℕ) → AllByRecursion (λ item. is_from 0 0 item ≡ tr
 boot_from [] = tt
 boot_from (k ∷ ks) = (from_first k, boot_from ks)
 
-module _ {S L : Type 0} (system : System S L) (fine : IsSystem system) where
+module _ {S L : Type 0} (system : System S L) (fine : RunsForward system) where
   -- all that is to come is at this moment and mote, or later
   abbrev IsFrom : (t m : ℕ) → NetState S L → Type 0
   IsFrom t m net = AllByRecursion (λ item. is_from t m item ≡ true) net.agenda

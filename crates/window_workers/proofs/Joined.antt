@@ -13,7 +13,7 @@ use Rattle.net_agenda.specs.NetSystem.{system_of}
 use Rattle.window_law.specs.Agenda.{up_to}
 use Rattle.window_law.specs.NetStep.{NetState, Run, Done, Turn, stamped, turned_at}
 use Rattle.window_law.specs.Report.{IsReport}
-use Rattle.window_law.specs.System.{System, IsSystem}
+use Rattle.window_law.specs.System.{System, RunsForward}
 use Rattle.window_law.specs.Windows.{is_sent_by, IsJoined, as_log, sends_by, copies_by}
 use Rattle.window_law.proofs.Lists.{every_append, every_both, every_filter, every_flat_map, every_passes, every_weaker}
 use Rattle.window_law.proofs.Order.{sorted_permutes}
@@ -62,7 +62,7 @@ nobody of s i h = ap (λ o. option_map_or (λ w. eqb w i) o false) (beyond of s 
 not_mine : (of : List ℕ) (s w i : ℕ) → slice_get of s ≡ Some w → (i ≡ w → ⊥) → is_own of i s ≡ false
 not_mine of s w i e ne = ap (λ o. option_map_or (λ w. eqb w i) o false) e ∙ ne_eqb w i (λ q. ne (sym q))
 
-module _ (n : NetTold) (fine : IsSystem (system_of n)) (of : List ℕ) (crew : Crew) (at : IsAt n of (suc n.end) crew) (ended : List Ended) (ends : AllZip EndsAs crew.shares.items ended) where
+module _ (n : NetTold) (fine : RunsForward (system_of n)) (of : List ℕ) (crew : Crew) (at : IsAt n of (suc n.end) crew) (ended : List Ended) (ends : AllZip EndsAs crew.shares.items ended) where
   abbrev workers : ℕ
   workers = length crew.inboxes.items
 

@@ -11,7 +11,7 @@ use Rattle.mote_node.specs.Node.{Node}
 use Rattle.mote_node.specs.Turn.{turn_of}
 use Rattle.mote_node.specs.Wake.{wake_of}
 use Rattle.net_scenario.specs.Net.{NetTold}
-use Rattle.window_law.specs.System.{Turned, IsSystem}
+use Rattle.window_law.specs.System.{Turned, RunsForward}
 use Rattle.window_law.specs.Agenda.{Item, Packet, mote_of, is_due, is_wake_of, is_left, wake_items}
 use Rattle.window_law.proofs.Agenda.{no_wake_in_packets, own_wake, other_wake}
 use Rattle.net_agenda.specs.Buckets.{wake_but_at}
@@ -53,7 +53,7 @@ module _ (n : NetTold) where
   unfolding system_of
   count = refl
 
-  pub kept_turn : (fine : IsSystem (system_of n)) (t m : ℕ) (net : NetState Node Line) → m < length n.motes → IsKept n net → IsKept n (turn_at (system_of n) t m net)
+  pub kept_turn : (fine : RunsForward (system_of n)) (t m : ℕ) (net : NetState Node Line) → m < length n.motes → IsKept n net → IsKept n (turn_at (system_of n) t m net)
   kept_turn fine t m net there kept = record {
     wakes = λ k h.
         filter-append (is_wake_of k) (filter (is_left t m) net.agenda) (wake_items m next.wake ++ more)

@@ -7,7 +7,7 @@ use Rattle.process_kernel.specs.declared.line.Line.{Line}
 use Rattle.mote_node.specs.Node.{Node}
 use Rattle.net_scenario.specs.Net.{NetTold}
 use Rattle.window_workers.specs.declared.engine.Engine.{Engine}
-use Rattle.window_law.specs.System.{IsSystem}
+use Rattle.window_law.specs.System.{RunsForward}
 use Rattle.window_law.specs.Agenda.{Wake, moment_of, mote_of, is_due, wake_items, IsLeast, up_to}
 use Rattle.window_law.proofs.Agenda.{first_wakes, below_all}
 use Rattle.net_agenda.specs.NetSystem.{system_of}
@@ -32,7 +32,7 @@ pub inside_least : (n : NetTold) (t m : ℕ) (state : NetState Node Line) → Is
 inside_least n t m state kept least =
     any_every _ (is_due t m) _ (λ item e g. let k = eqb-true (mote_of item) m (and_parts (eqb (moment_of item) t) (eqb (mote_of item) m) e).1 in omega arith) state.agenda least.is_there kept.inside
 
-pub reached_next : (n : NetTold) → IsSystem (system_of n) → (old new : Engine) (t m end : ℕ) → end ≡ n.end → (at : HasReached n old) → IsLeast t m at.state.agenda → t ≤ end
+pub reached_next : (n : NetTold) → RunsForward (system_of n) → (old new : Engine) (t m end : ℕ) → end ≡ n.end → (at : HasReached n old) → IsLeast t m at.state.agenda → t ≤ end
     → ((state : NetState Node Line) → Stands n old state → IsKept n state → Stands n new (turn_at (system_of n) t m state)) → HasReached n new
 reached_next n fine old new t m end e at least le turn = record {
   state = turn_at (system_of n) t m at.state;

@@ -12,7 +12,7 @@ use Rattle.process_kernel.specs.declared.line.Sent.{Sent}
 use Rattle.mote_node.specs.declared.mote.Mote.{Mote}
 use Rattle.mote_node.specs.declared.mote.TurnOut.{TurnOut}
 use Rattle.mote_node.specs.Node.{Node}
-use Rattle.mote_node.specs.Public.{node_in, told, wake_in}
+use Rattle.mote_node.specs.Public.{node_in, turn_told, wake_in}
 use Rattle.mote_node.specs.Turn as node
 use Rattle.mote_node.specs.Turn.{turn_of}
 use Rattle.mote_node.specs.Wake.{wake_of}
@@ -36,10 +36,10 @@ record Tells (o : Option Node) (out : TurnOut) (t : node.Turned) : Type 0 where
   sends : out.sends.items ≡ t.sends
   wake : out.wake ≡ t.wake
 
-tells : (o : Option Node) (out : TurnOut) (t : node.Turned) → option_map (told out) o ≡ Some t → Tells o out t
+tells : (o : Option Node) (out : TurnOut) (t : node.Turned) → option_map (turn_told out) o ≡ Some t → Tells o out t
 tells None out t e = cc
 tells (Some x) out t e =
-    let f : told out x ≡ t = cc in record {
+    let f : turn_told out x ≡ t = cc in record {
       node = ap (λ (u : node.Turned). Some u.node) f;
       lines = ap (λ (u : node.Turned). u.lines) f;
       sends = ap (λ (u : node.Turned). u.sends) f;
@@ -106,7 +106,7 @@ module _ (n : NetTold) (t m : ℕ) (state : NetState Node Line) where
 
       is : Tells (node_in (tree_at n m) takes.after) out turned
       is = tells _ out turned (
-          ap (λ x. option_map (told out) (node_in x takes.after)) (sym tree_is)
+          ap (λ x. option_map (turn_told out) (node_in x takes.after)) (sym tree_is)
           ∙ (takes.turned takes.after
           ∙ (ap (λ x. option_map (turn_of t packets) (node_in x (get_or old.motes.items m takes.after))) tree_is
           ∙ (ap (option_map (turn_of t packets)) (at.nodes m there takes.after) ∙ ap (λ p. Some (turn_of t p (state.states m))) packets_are))))

@@ -9,7 +9,7 @@ use Rattle.mote_node.specs.Node.{Node}
 use Rattle.radio_medium.specs.declared.copy.RadioCopy.{RadioCopy}
 use Rattle.radio_medium.specs.Medium.{medium_fault}
 use Rattle.net_scenario.specs.Net.{NetTold}
-use Rattle.window_law.specs.System.{System, IsSystem}
+use Rattle.window_law.specs.System.{System, RunsForward}
 use Rattle.window_law.specs.Order.{is_sooner}
 use Rattle.window_law.specs.Agenda.{Item, up_to}
 use Rattle.window_law.specs.NetStep.{NetState, Run, Done, Turn}
@@ -27,7 +27,7 @@ ReportIsOne = (n : NetTold) (a b : ReportTold) → IsReportOf n a → IsReportOf
 -- A net whose medium is without fault and has a place for each mote, as every `Net` has, runs forward: wakes come later than the
 -- turn, and copies no sooner than the lookahead, which is above 0.
 abbrev pub NetsRunForward : Type 0
-NetsRunForward = (n : NetTold) → medium_fault n.radio ≡ None → length n.radio.places ≡ length n.motes → IsSystem (system_of n)
+NetsRunForward = (n : NetTold) → medium_fault n.radio ≡ None → length n.radio.places ≡ length n.motes → RunsForward (system_of n)
 
 -- so it has a report
 abbrev pub ReportIsThere : Type 0

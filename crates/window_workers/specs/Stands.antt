@@ -7,7 +7,7 @@ use Rattle.process_kernel.specs.declared.line.Line.{Line}
 use Rattle.mote_node.specs.declared.mote.Mote.{Mote}
 use Rattle.mote_node.specs.declared.mote.TurnOut.{TurnOut}
 use Rattle.mote_node.specs.Node.{Node}
-use Rattle.mote_node.specs.Public.{node_in, told}
+use Rattle.mote_node.specs.Public.{node_in, turn_told}
 use Rattle.mote_node.specs.Turn.{turn_of}
 use Rattle.mote_node.specs.Wake.{wake_of}
 use Rattle.net_scenario.specs.Net.{NetTold}
@@ -47,7 +47,7 @@ pub record IsKept (n : NetTold) (net : NetState Node Line) : Type 0 where
 pub record TakesTurn (tree : code.Tree) (moment : ℕ) (packets : List Arrival) (k : ℕ) (old new : List Mote) (out : TurnOut) : Type 0 where
   pub after : Mote
   pub put : new ≡ slice_set old k after
-  pub turned : (d : Mote) → option_map (told out) (node_in tree after) ≡ option_map (turn_of moment packets) (node_in tree (slice_index_or old k d))
+  pub turned : (d : Mote) → option_map (turn_told out) (node_in tree after) ≡ option_map (turn_of moment packets) (node_in tree (slice_index_or old k d))
 
 -- one trace has lines more
 pub record AddsLines (k : ℕ) (lines : List Line) (old new : List (Vec Line Global)) : Type 0 where

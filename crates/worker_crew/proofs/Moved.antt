@@ -6,7 +6,7 @@ use Rattle.std.proofs.lemmas.Bool.{ne_eqb}
 use Rattle.std.proofs.lemmas.List.Elements.{filter-append}
 use Rattle.radio_medium.specs.declared.copy.RadioCopy.{RadioCopy}
 use Rattle.net_scenario.specs.Net.{NetTold}
-use Rattle.window_law.specs.System.{IsSystem}
+use Rattle.window_law.specs.System.{RunsForward}
 use Rattle.window_law.specs.Windows.{is_from_sender}
 use Rattle.window_law.proofs.Lists.{filter_filter, every_weaker}
 use Rattle.net_agenda.specs.NetSystem.{system_of}
@@ -39,7 +39,7 @@ record Told : Type 0 where
   gathered : List RadioCopy
   sent : List RadioCopy
 
-module _ (n : NetTold) (fine : IsSystem (system_of n)) (of : List ℕ) (from until : ℕ) (old new : Crew) (at : IsAt n of from old) (up : from < until) (short : until ≤ from + (system_of n).lookahead) (all : RunsAll n of until old new) where
+module _ (n : NetTold) (fine : RunsForward (system_of n)) (of : List ℕ) (from until : ℕ) (old new : Crew) (at : IsAt n of from old) (up : from < until) (short : until ≤ from + (system_of n).lookahead) (all : RunsAll n of until old new) where
   abbrev workers : ℕ
   workers = length old.inboxes.items
 

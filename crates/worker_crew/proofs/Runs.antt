@@ -2,7 +2,7 @@
 use Rattle.std.proofs.Common.{ℕ, ◌≡◌, ◌+◌, ◌≤◌, List, Option, Some, None, sym, subst, arith}
 use Rattle.std.proofs.Math.Nat.{le-min, min-le_left}
 use Rattle.net_scenario.specs.Net.{NetTold}
-use Rattle.window_law.specs.System.{IsSystem}
+use Rattle.window_law.specs.System.{RunsForward}
 use Rattle.window_law.specs.Windows.{WakesFrom}
 use Rattle.net_agenda.specs.NetSystem.{system_of}
 use Rattle.worker_crew.specs.declared.crew.Crew.{Crew}
@@ -22,7 +22,7 @@ module _ (n : NetTold) (of : List ℕ) (reached end : ℕ) (crew : Crew) (from :
   pub begins_later : reached ≤ from
   begins_later = subst (λ m. reached ≤ m) (sym begins.start) (no_sooner reached end begins.next (comes_no_sooner n of reached crew begins.next at begins.is) low)
 
-  pub stands_there : IsSystem (system_of n) → IsAt n of from crew
+  pub stands_there : RunsForward (system_of n) → IsAt n of from crew
   stands_there fine = stands n fine of reached from crew begins.next at begins.is begins_later (subst (λ m. WakesFrom m begins.next) (sym begins.start) (quiet end begins.next))
 
 pub short_enough : (from length lookahead told until : ℕ) → until ≤ from + length → length ≤ lookahead → lookahead ≡ told → until ≤ from + told

@@ -4,7 +4,7 @@ use Rattle.std.specs.List.{filter, slice_get, AllByRecursion as Each}
 use Rattle.std.proofs.lemmas.Bool.{cases_Bool, le-ltb}
 use Rattle.radio_medium.specs.declared.copy.RadioCopy.{RadioCopy}
 use Rattle.net_scenario.specs.Net.{NetTold}
-use Rattle.window_law.specs.System.{IsSystem}
+use Rattle.window_law.specs.System.{RunsForward}
 use Rattle.window_law.specs.Windows.{WakesFrom, copies_by}
 use Rattle.window_law.proofs.Lists.{every_append, every_weaker}
 use Rattle.net_agenda.specs.NetSystem.{system_of}
@@ -53,7 +53,7 @@ by_some : (workers : ℕ) (A : ℕ → RadioCopy → Type 0) (Q : RadioCopy → 
 by_some workers A Q [] h k = tt
 by_some workers A Q (x ∷ xs) h k = ((h k.0.0 k.0.1).0 k.0.2, by_some workers A Q xs (λ v l. (h v l).1) k.1)
 
-module _ (n : NetTold) (fine : IsSystem (system_of n)) (of : List ℕ) (from moment : ℕ) (crew : Crew) (next : Option ℕ) (at : IsAt n of from crew) (is : IsNext crew.first_out crew.shares.items next) (le : from ≤ moment) (wakes : WakesFrom moment next) where
+module _ (n : NetTold) (fine : RunsForward (system_of n)) (of : List ℕ) (from moment : ℕ) (crew : Crew) (next : Option ℕ) (at : IsAt n of from crew) (is : IsNext crew.first_out crew.shares.items next) (le : from ≤ moment) (wakes : WakesFrom moment next) where
   abbrev workers : ℕ
   workers = length crew.inboxes.items
 

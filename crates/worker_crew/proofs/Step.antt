@@ -6,7 +6,7 @@ use Rattle.std.proofs.lemmas.Bool.{cases_Bool, eqb-true, eq-eqb, false≢true, l
 use Rattle.std.proofs.lemmas.List.Elements.{filter-append}
 use Rattle.radio_medium.specs.declared.copy.RadioCopy.{RadioCopy}
 use Rattle.net_scenario.specs.Net.{NetTold}
-use Rattle.window_law.specs.System.{IsSystem}
+use Rattle.window_law.specs.System.{RunsForward}
 use Rattle.window_law.specs.Windows.{Alone, first_mote, Windows, RunsAlone, copies_by, is_from_sender}
 use Rattle.window_law.proofs.Lists.{filter_filter, filter_none, every_weaker}
 use Rattle.window_law.proofs.History.{history, unseen_since}
@@ -52,7 +52,7 @@ none_early until (x ∷ xs) e =
       | inr t ↦ (let f = rw t at e in (ltb-false x.at until t, none_early until xs f))
     ]
 
-module _ (n : NetTold) (fine : IsSystem (system_of n)) (of : List ℕ) (workers : ℕ) (cut : IsCut (length n.motes) workers of) (from until : ℕ) (motes : Motes) (up : from < until) (short : until ≤ from + (system_of n).lookahead)
+module _ (n : NetTold) (fine : RunsForward (system_of n)) (of : List ℕ) (workers : ℕ) (cut : IsCut (length n.motes) workers of) (from until : ℕ) (motes : Motes) (up : from < until) (short : until ≤ from + (system_of n).lookahead)
     (taken gathered : ℕ → List RadioCopy) (sent : ℕ → List RadioCopy) (nexts : ℕ → Motes)
     (told : (v : ℕ) → v < workers → HasGathered (system_of n) of motes v (gathered v))
     (took : (v : ℕ) → v < workers → (s : ℕ) → filter (is_from_sender s) (taken v) ≡ filter (is_from_sender s) (gathered v))

@@ -2,7 +2,7 @@
 use Rattle.std.specs.Prelude.{ℕ, ◌≡◌, ◌+◌, ◌<◌, ◌≤◌, List, map, Option, None}
 use Rattle.std.specs.List.{zip, AllZip}
 use Rattle.net_scenario.specs.Net.{NetTold}
-use Rattle.window_law.specs.System.{IsSystem}
+use Rattle.window_law.specs.System.{RunsForward}
 use Rattle.window_law.specs.Windows.{WakesFrom}
 use Rattle.net_agenda.specs.NetSystem.{system_of}
 use Rattle.copy_exchange.specs.declared.courier.Courier.{Courier}
@@ -33,10 +33,10 @@ pub record RunsAll (n : NetTold) (of : List ℕ) (until : ℕ) (old new : Crew) 
 
 -- a window that begins where the workers stand, and is no longer than the lookahead, leads to its end
 abbrev pub WindowMovesOn : Type 0
-WindowMovesOn = (n : NetTold) → IsSystem (system_of n) → (of : List ℕ) (from until : ℕ) (old new : Crew) → IsAt n of from old → from < until → until ≤ from + (system_of n).lookahead
+WindowMovesOn = (n : NetTold) → RunsForward (system_of n) → (of : List ℕ) (from until : ℕ) (old new : Crew) → IsAt n of from old → from < until → until ≤ from + (system_of n).lookahead
     → RunsAll n of until old new → IsAt n of until new
 
 -- the next moment at which something comes isn't sooner than where the workers stand, and until then they stand
 abbrev pub StandsUntilNext : Type 0
-StandsUntilNext = (n : NetTold) → IsSystem (system_of n) → (of : List ℕ) (from : ℕ) (crew : Crew) (next : Option ℕ) → IsAt n of from crew → IsNext crew.first_out crew.shares.items next
+StandsUntilNext = (n : NetTold) → RunsForward (system_of n) → (of : List ℕ) (from : ℕ) (crew : Crew) (next : Option ℕ) → IsAt n of from crew → IsNext crew.first_out crew.shares.items next
     → WakesFrom from next × ((moment : ℕ) → from ≤ moment → WakesFrom moment next → IsAt n of moment crew)

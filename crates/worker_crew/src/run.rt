@@ -4,7 +4,7 @@ ghost use Rattle.std.specs.Prelude.{◌≡◌, ◌+◌, ◌<◌, ◌≤◌, suc,
 ghost use Rattle.net_scenario.specs.Limits.{latest_end};
 ghost use Rattle.net_scenario.specs.Net.{net_of};
 ghost use Rattle.net_agenda.specs.NetSystem.{system_of};
-ghost use Rattle.window_law.specs.System.{IsSystem};
+ghost use Rattle.window_law.specs.System.{RunsForward};
 ghost use Rattle.worker_crew.specs.Crew.{IsAt};
 ghost use Rattle.worker_crew.specs.Run.{BeginsAt, end_of_window, length_of_window};
 
@@ -20,7 +20,7 @@ use window_run::Gate;
 /// The lookahead of a net. Every net runs forward: its wakes and copies come later than the turns that make them.
 fn lookahead_of(net: &Net) -> u64
     ensures value { result ≡ (system_of (net_of net.now)).lookahead }
-    ensures forward { IsSystem (system_of (net_of net.now)) }
+    ensures forward { RunsForward (system_of (net_of net.now)) }
 {
     net.medium().lookahead(net.end())
 }

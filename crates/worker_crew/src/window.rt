@@ -4,7 +4,7 @@ ghost use Rattle.std.specs.Prelude.{◌≡◌, ℕ, ◌+◌, ◌^◌, ◌<◌, �
 ghost use Rattle.std.specs.List.{AllByRecursion as Each, AllZip, zip};
 ghost use Rattle.net_scenario.specs.Net.{net_of};
 ghost use Rattle.net_agenda.specs.NetSystem.{system_of};
-ghost use Rattle.window_law.specs.System.{IsSystem};
+ghost use Rattle.window_law.specs.System.{RunsForward};
 ghost use Rattle.worker_crew.specs.Crew.{IsAt};
 ghost use Rattle.worker_crew.specs.Laws.{RunsAll, manned_by};
 ghost use Rattle.worker_crew.specs.Worker.{IsReady, RunsWorker};
@@ -141,7 +141,7 @@ impl Crew {
         requires early { until ≤ 2 ^ 40 }
         requires few { length self.inboxes.items ≤ 16 }
         requires stands { (from : ℕ) × IsAt (net_of net.now) of.now from self }
-        ensures moves { let n = net_of net.now in IsSystem (system_of n) → IfOk result (λ done. (from : ℕ) → IsAt n of.now from self → from < until → until ≤ from + (system_of n).lookahead → IsAt n of.now until done) }
+        ensures moves { let n = net_of net.now in RunsForward (system_of n) → IfOk result (λ done. (from : ℕ) → IsAt n of.now from self → from < until → until ≤ from + (system_of n).lookahead → IsAt n of.now until done) }
         ensures inboxes { IfOk result (λ done. done.inboxes.items ≡ self.inboxes.items) }
     {
         self.run_all(rt, alloc, net, of, until, gate)

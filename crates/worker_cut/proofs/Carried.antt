@@ -8,7 +8,7 @@ use Rattle.std.proofs.lemmas.List.Sorted.{IsPermutation-refl, IsPermutation-sym,
 use Rattle.process_kernel.specs.declared.line.Sent.{Sent}
 use Rattle.radio_medium.specs.declared.copy.RadioCopy.{RadioCopy}
 use Rattle.window_law.specs.Order.{is_before, insert_by, sorted_by}
-use Rattle.window_law.specs.System.{System, IsSystem}
+use Rattle.window_law.specs.System.{System, RunsForward}
 use Rattle.window_law.specs.Windows.{LoneMote, copies_by, is_from_sender, is_sent_by, IsJoined, as_log}
 use Rattle.window_law.proofs.Lists.{filter_filter, filter_every, filter_none, filter_never, every_weaker}
 use Rattle.window_law.proofs.Order.{in_order_same}
@@ -81,7 +81,7 @@ same_tests : (p q : RadioCopy → Bool) (xs : List RadioCopy) → AllByRecursion
 same_tests p q [] h = refl
 same_tests p q (x ∷ xs) h = let ih = same_tests p q xs h.1 in rw h.0 (ap (λ l. cond (q x) (x ∷ l) l) ih)
 
-module _ {S L : Type 0} (system : System S L) (fine : IsSystem system) where
+module _ {S L : Type 0} (system : System S L) (fine : RunsForward system) where
   -- of the copies of some packets, those of one sender
   from_sender : (s : ℕ) (sends : List Sent) → filter (is_from_sender s) (flat_map system.copies sends) ≡ flat_map system.copies (filter (is_sent_by s) sends)
   from_sender s [] = refl

@@ -4,7 +4,7 @@ use Rattle.std.specs.List.{filter, flat_map, AllByRecursion}
 use Rattle.std.proofs.lemmas.Bool.{cases_Bool, ltb-true, ltb-false, not-true}
 use Rattle.radio_medium.specs.declared.copy.RadioCopy.{RadioCopy}
 use Rattle.process_kernel.specs.declared.line.Sent.{Sent}
-use Rattle.window_law.specs.System.{System, IsSystem}
+use Rattle.window_law.specs.System.{System, RunsForward}
 use Rattle.window_law.specs.Agenda.{up_to}
 use Rattle.window_law.specs.Pending.{comes_from, IsPending}
 use Rattle.window_law.specs.Report.{IsReport}
@@ -20,7 +20,7 @@ pub windows_then : {S L : Type 0} {system : System S L} (from bound end : ℕ) (
 windows_then from bound end motes next last Last after = after
 windows_then from bound end motes next last (Window b n before short each rest) after = Window b n before short each (windows_then b bound end n next last rest after)
 
-module _ {S L : Type 0} (system : System S L) (fine : IsSystem system) where
+module _ {S L : Type 0} (system : System S L) (fine : RunsForward system) where
   -- the windows up to a moment led here
   abbrev pub LedTo : (from : ℕ) → (motes : ℕ → LoneMote S L) → Type 0
   LedTo from motes = Windows system 0 from (first_mote system) motes

@@ -3,7 +3,7 @@ use Rattle.std.specs.Prelude.{◌≡◌, ℕ, Bool, true, List}
 use Rattle.std.specs.List.{filter}
 use Rattle.process_kernel.specs.declared.line.Sent.{Sent}
 use Rattle.radio_medium.specs.declared.copy.RadioCopy.{RadioCopy}
-use Rattle.window_law.specs.System.{System, IsSystem}
+use Rattle.window_law.specs.System.{System, RunsForward}
 use Rattle.window_law.specs.Windows.{LoneMote, first_mote, Windows, is_at, is_from_sender, is_within, IsInbox, IsJoined, as_log}
 use Rattle.worker_cut.specs.Crossed.{is_own, crossed, copies_known}
 use Rattle.worker_cut.specs.Carried.{AreThoseTo}
@@ -27,6 +27,6 @@ InboxIsWhole {S} {L} system = (of : List ℕ) (motes : (number : ℕ) → LoneMo
     → (inbox : List RadioCopy) → IsFromSources system (is_own of worker) from bound motes taken number inbox → IsInbox system from bound motes number inbox
 
 abbrev pub CrossedOnce : {S L : Type 0} → System S L → Type 0
-CrossedOnce {S} {L} system = IsSystem system → (of : List ℕ) (from : ℕ) (motes : (number : ℕ) → LoneMote S L) → Windows system 0 from (first_mote system) motes
+CrossedOnce {S} {L} system = RunsForward system → (of : List ℕ) (from : ℕ) (motes : (number : ℕ) → LoneMote S L) → Windows system 0 from (first_mote system) motes
     → (worker : ℕ) (gathered : List RadioCopy) (joined : List Sent) → IsJoined system motes joined → HasGathered system of motes worker gathered
     → AreThoseTo system.copies of worker (as_log joined) gathered

@@ -15,6 +15,7 @@ use Rattle.window_law.specs.Agenda.{Item, is_wake_of, packets, wake_items}
 use Rattle.window_law.specs.Windows.{LoneMote, WakesFrom, copies_by, is_from_sender, is_sent_by}
 use Rattle.net_agenda.specs.Buckets.{Buckets, Holds}
 use Rattle.net_agenda.specs.NetSystem.{tree_at, system_of}
+pub use Rattle.window_run.specs.Window.{number_of}
 use Rattle.worker_share.specs.declared.share.Share.{Share}
 
 -- `of` tells the worker of each mote
@@ -24,10 +25,6 @@ is_own of worker mote = option_map_or (λ other. other == worker) (slice_get of 
 -- the motes of a net, by number
 abbrev pub Motes : Type 0
 Motes = (number : ℕ) → LoneMote Node Line
-
--- the mote's number in its own state
-abbrev pub number_of : Node → ℕ
-number_of n = n.mote.state.mote
 
 -- the node of a mote that is here
 abbrev pub node_at : Tree → Option Mote → Option Node

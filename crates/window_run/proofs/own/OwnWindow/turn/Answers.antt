@@ -2,7 +2,7 @@ use Rattle.std.proofs.Common.{rules, ◌≡◌, ◌+◌, drop, length, map, None
 use Rattle.std.specs.List.{take_while}
 use Rattle.std.proofs.lemmas.List.{drop-drop}
 use Rattle.mote_program.specs.Program.{tree_of}
-use Rattle.mote_node.specs.Public.{node_in, told}
+use Rattle.mote_node.specs.Public.{node_in, turn_told}
 use Rattle.mote_node.specs.Turn.{turn_of}
 use Rattle.window_law.specs.Windows.{is_at}
 use Rattle.window_run.specs.Own.{window_in}
@@ -24,7 +24,7 @@ returns-clause-ok c =
     let len : c.len.result ≡ length given = search rules in
     let cut : drop (s.next + c.len.result) s.copies.items ≡ drop (length given) (drop s.next s.copies.items) =
     ap (λ k. drop (s.next + k) s.copies.items) len ∙ sym (drop-drop (length given) s.next s.copies.items) in
-    let made : option_map (told out) (node_in t c.turn.new.self) ≡ option_map (turn_of c.args.moment given) (node_in t s.mote) =
+    let made : option_map (turn_told out) (node_in t c.turn.new.self) ≡ option_map (turn_of c.args.moment given) (node_in t s.mote) =
     c.in_ok-out.ensures.ok ∙ ap (λ l. option_map (turn_of c.args.moment l) (node_in t s.mote)) c.deref-2.ensures.value in
     let there : node_in t s.mote ≡ None → ⊥ = λ gone. let failed = c.in_ok-out.ensures.failed.1 gone in cc in
     rw (c.in_ok-put_behind.ensures, c.in_ok-put_behind-2.ensures)
