@@ -2,8 +2,8 @@
 use Rattle.std.proofs.Common.{◌≡◌, codes, length, None, sym, ap, ◌∙◌}
 use Rattle.std.proofs.lemmas.List.{length-map}
 use Rattle.radio_medium.specs.Medium.{medium_fault}
-use Rattle.net_scenario.specs.Document.{table_at, tables_at}
-use Rattle.net_scenario.specs.Net.{NetTold, place_of, mote_of}
+use Rattle.net_scenario.specs.Document.{tables_at}
+use Rattle.net_scenario.specs.Net.{NetTold}
 use Rattle.window_workers.specs.Laws.{ReportIsThere, ScenarioHasReport}
 
 pub scenario_has_report : ReportIsThere → ScenarioHasReport
@@ -14,5 +14,5 @@ scenario_has_report there text n tells =
     let motes = tables_at (codes "mote") top in
     let places : length n.radio.places ≡ length n.motes =
     ap (λ (x : NetTold). length x.radio.places) is.told
-    ∙ (length-map motes place_of ∙ (sym (length-map motes (mote_of (table_at (codes "queue") top) is.programs.trees)) ∙ sym (ap (λ (x : NetTold). length x.motes) is.told))) in
+    ∙ (length-map motes _ ∙ (sym (length-map motes _) ∙ sym (ap (λ (x : NetTold). length x.motes) is.told))) in
     there n fault places
