@@ -37,7 +37,7 @@ use Rattle.mote_node.specs.Turn.{most_runs, boot_due, is_due, poll_due, follow, 
 use Rattle.mote_node.specs.Wake.{wake_of, wake_after}
 use Rattle.mote_node.specs.Laws as turns
 use Rattle.mote_node.specs.Laws.{Turns, Rests, Takes}
-use Rattle.mote_laws.specs.Ring.{first_node}
+use Rattle.mote_laws.specs.Laws.{first_node}
 use Rattle.mote_laws.specs.Due.{WakesForEtimer, TurnsForgetNone, runs_begin, ServesTimers, TurnsServeTimers}
 use Rattle.mote_laws.proofs.Stamps as stamps
 use Rattle.mote_laws.proofs.Stamps.{now_last}

@@ -22,7 +22,8 @@ use Rattle.mote_node.specs.Arrivals.{hear_each, took_some, hear_all, is_collisio
 use Rattle.mote_node.specs.Turn.{boot_due, is_due, poll_due, follow, runs_of, work_of, mote_turn, net_turn, turn_of}
 use Rattle.mote_node.specs.Laws as turns
 use Rattle.mote_node.specs.Laws.{Turns, Rests, Takes}
-use Rattle.mote_laws.specs.Ring.{first_node, TurnsEmptyRing, PacketsAreAccountedFor}
+use Rattle.mote_laws.specs.Laws.{first_node}
+use Rattle.mote_laws.specs.Ring.{TurnsEmptyRing, PacketsAreAccountedFor}
 use Rattle.mote_laws.proofs.Ring.{run_stays, poll_same, accounts, ring_goes_with_lines}
 use Rattle.mote_laws.proofs.Due.{Rested, Watched, hear_each_rested, hear_all_rested, hear_each_timers, poll_due_watched, run_by, IsAsMade, Stands, boot_due_rested, either_stands, turn_stands, first_stands}
 

@@ -17,7 +17,7 @@ use Rattle.mote_node.specs.Arrivals.{hear_all, is_collision, with_collisions}
 use Rattle.mote_node.specs.Turn.{most_runs, boot_due, is_due, poll_due, follow, runs_of, work_of, mote_turn, net_turn, turn_of}
 use Rattle.mote_node.specs.Laws as turns
 use Rattle.mote_node.specs.Laws.{Turns, Rests, Takes}
-use Rattle.mote_laws.specs.Ring.{first_node}
+use Rattle.mote_laws.specs.Laws.{first_node}
 use Rattle.mote_laws.specs.Due.{TurnsKeepOwners}
 use Rattle.mote_laws.proofs.Due.{hear_all_timers}
 

@@ -25,7 +25,8 @@ use Rattle.mote_node.specs.Arrivals.{received_line, lost_line, collision_line, h
 use Rattle.mote_node.specs.Turn.{most_runs, boot_due, is_due, poll_due, follow, runs_of, work_of, mote_turn, net_turn, turn_of}
 use Rattle.mote_node.specs.Laws as turns
 use Rattle.mote_node.specs.Laws.{Turns, Rests, Takes}
-use Rattle.mote_laws.specs.Ring.{first_node, GoesWithRing, RingGoesWithLines, received_of, received_in, AreAmong, AllPassed, Another, ThisOne}
+use Rattle.mote_laws.specs.Laws.{first_node}
+use Rattle.mote_laws.specs.Ring.{GoesWithRing, RingGoesWithLines, received_of, received_in, AreAmong, AllPassed, Another, ThisOne}
 
 -- beside the lines before the turn and those of the turn so far, the ring goes to what the mote holds
 record Goes (program : Tree) (before : List Line) (u : Underway) : Type 0 where

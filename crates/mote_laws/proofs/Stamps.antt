@@ -23,6 +23,7 @@ use Rattle.mote_node.specs.Laws.{TurnInput, Turns, Rests, Takes}
 use Rattle.kernel_laws.specs.Stamps.{LinesBear, PacketsBear, AreNumberedFrom, Stamped, written}
 use Rattle.kernel_laws.proofs.Stamps.{numbered_on, stamped_twice, stamped_still, poll_still}
 use Rattle.kernel_laws.proofs.StampedCalls.{boot_stamps, run_stamps}
+use Rattle.mote_laws.specs.Laws.{first_node}
 use Rattle.mote_laws.specs.Stamps.{TurnsStamp, packets_of, PacketsCountUp, TurnsNeverGoBack}
 use Rattle.mote_laws.proofs.Rising.{rises_empty, rises_level, rises_joined}
 
@@ -183,8 +184,8 @@ unfolding new_node unbooted
 new_is program number queue = (refl, refl)
 
 pub packets_count_up : PacketsCountUp
-packets_count_up program number queue given =
-    let n = new_node program number queue in
+packets_count_up program number queue collides given =
+    let n = first_node program number queue collides in
     let is : (n.mote.state.mote ≡ number) × (n.mote.state.sent ≡ 0) = new_is program number queue in
     (packets_named number given n is.0, new_sent n given is.1)
 

@@ -157,4 +157,4 @@ turns_go n last given lines (Takes {given = x} {lines = more} past t) before g =
     subst (λ l. GoesWith l last.mote) (append_assoc before (turn_of x.moment x.arrivals n).lines more) k
 
 pub motes_hand_on : MotesHandOn
-motes_hand_on program number queue given lines last t = in_order lines last.mote (turns_go _ last given lines t [] (new_goes program number queue))
+motes_hand_on program number queue collides given lines last t = in_order lines last.mote (turns_go _ last given lines t [] (new_goes program number queue))

@@ -20,7 +20,7 @@ use Rattle.mote_node.specs.Arrivals.{hear_all, is_collision, with_collisions}
 use Rattle.mote_node.specs.Turn.{boot_due, poll_due, turn_of}
 use Rattle.mote_node.specs.Wake.{wake_of}
 use Rattle.mote_node.specs.Laws.{TurnInput, Turns}
-use Rattle.mote_laws.specs.Ring.{first_node}
+use Rattle.mote_laws.specs.Laws.{first_node}
 
 -- a poll of etimer waits, and the mote wakes at the next moment
 pub record WakesForEtimer (moment : ℕ) (n : Node) : Type 0 where

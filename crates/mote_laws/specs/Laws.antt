@@ -1,12 +1,17 @@
 -- The laws of a mote's lines, turn by turn.
-use Rattle.std.specs.Prelude.{ℕ, List, [], ◌++◌}
+use Rattle.std.specs.Prelude.{ℕ, Bool, List, [], ◌++◌}
 use Rattle.mote_program.specs.Code.{Tree}
 use Rattle.process_kernel.specs.declared.line.Arrival.{Arrival}
 use Rattle.process_kernel.specs.declared.line.Line.{Line}
 use Rattle.kernel_laws.specs.Going.{GoesWith, IsInOrder}
 use Rattle.mote_node.specs.Node.{Node, new_node}
+use Rattle.mote_node.specs.Public.{with_collide}
 use Rattle.mote_node.specs.Turn.{turn_of}
 use Rattle.mote_node.specs.Laws.{TurnInput, Turns}
+
+-- a node before its first turn, whether packets that arrive together collide or not
+abbrev pub first_node : Tree → (number queue : ℕ) → (collides : Bool) → Node
+first_node program number queue collides = with_collide collides (new_node program number queue)
 
 -- the lines of a mote so far, with those of a turn behind them, go with the mote after the turn
 abbrev pub TurnKeeps : Type 0
@@ -20,4 +25,5 @@ NewGoesWithNoLines = (program : Tree) (number queue : ℕ) → GoesWith [] (new_
 -- whatever its program is, and whatever turns it takes
 abbrev pub MotesHandOn : Type 0
 MotesHandOn =
-    (program : Tree) (number queue : ℕ) (given : List TurnInput) (lines : List Line) (last : Node) → Turns (new_node program number queue) given lines last → IsInOrder lines
+    (program : Tree) (number queue : ℕ) (collides : Bool) (given : List TurnInput) (lines : List Line) (last : Node) → Turns (first_node program number queue collides) given lines last
+    → IsInOrder lines

@@ -8,15 +8,11 @@ use Rattle.process_kernel.specs.declared.line.What.TheVariants as what
 use Rattle.process_kernel.specs.Mote.{Mote}
 use Rattle.kernel_laws.specs.Polled.{TellEach}
 use Rattle.kernel_laws.specs.Ring.{RingRuns}
-use Rattle.mote_node.specs.Node.{Node, new_node}
-use Rattle.mote_node.specs.Public.{with_collide}
+use Rattle.mote_node.specs.Node.{Node}
 use Rattle.mote_node.specs.Arrivals.{is_collision}
 use Rattle.mote_node.specs.Turn.{turn_of}
 use Rattle.mote_node.specs.Laws.{TurnInput, Turns}
-
--- a node before its first turn, whether packets that arrive together collide or not
-abbrev pub first_node : Tree → (number queue : ℕ) → (collides : Bool) → Node
-first_node program number queue collides = with_collide collides (new_node program number queue)
+use Rattle.mote_laws.specs.Laws.{first_node}
 
 -- the lines of packets that arrive
 abbrev pub note_of : What → List What

@@ -1,14 +1,15 @@
 -- What a turn writes bears its moment, and a mote's packets are numbered on from turn to turn.
-use Rattle.std.specs.Prelude.{ℕ, ◌≡◌, ◌+◌, List, [], ◌∷◌, ◌++◌, length, All}
+use Rattle.std.specs.Prelude.{ℕ, ◌≡◌, ◌+◌, Bool, List, [], ◌∷◌, ◌++◌, length, All}
 use Rattle.std.specs.List.Sorted.{IsNonDecreasingBy}
 use Rattle.mote_program.specs.Code.{Tree}
 use Rattle.process_kernel.specs.declared.line.Arrival.{Arrival}
 use Rattle.process_kernel.specs.declared.line.Line.{Line}
 use Rattle.process_kernel.specs.declared.line.Sent.{Sent}
 use Rattle.kernel_laws.specs.Stamps.{LinesBear, PacketsBear, AreNumberedFrom}
-use Rattle.mote_node.specs.Node.{Node, new_node}
+use Rattle.mote_node.specs.Node.{Node}
 use Rattle.mote_node.specs.Turn.{Turned, turn_of}
 use Rattle.mote_node.specs.Laws.{TurnInput, Turns}
+use Rattle.mote_laws.specs.Laws.{first_node}
 
 -- The lines of a turn bear its moment, and so do its packets, which bear the mote too and are numbered on from how many the mote
 -- sent before; these are counted, and the mote keeps its number.
@@ -30,7 +31,7 @@ packets_of n (g ∷ later) = let t = turn_of g.moment g.arrivals n in t.sends ++
 -- whatever turns a new node takes, its packets bear its number, and are numbered 0, 1, 2 and so on, in order
 abbrev pub PacketsCountUp : Type 0
 PacketsCountUp =
-    (program : Tree) (number queue : ℕ) (given : List TurnInput) → let sends = packets_of (new_node program number queue) given in
+    (program : Tree) (number queue : ℕ) (collides : Bool) (given : List TurnInput) → let sends = packets_of (first_node program number queue collides) given in
     All (λ x. x.sender ≡ number) sends × AreNumberedFrom 0 sends
 
 -- no line is of an earlier moment than one before it

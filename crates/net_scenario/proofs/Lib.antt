@@ -1,5 +1,6 @@
 pub mod ByName
 pub mod Each
+pub mod EachText
 pub mod Keeps
 pub mod Members
 pub mod NetMotes

@@ -1,5 +1,5 @@
--- What a text may tell: at most one net, at most one fault, and never both.
-use Rattle.std.specs.Prelude.{◌≡◌, ℕ, List}
+-- What a text tells: one net or one fault, and never both.
+use Rattle.std.specs.Prelude.{◌≡◌, ◌⊎◌, ℕ, List}
 use Rattle.mote_program.specs.Code.{Tree}
 use Rattle.mote_program.specs.Reading.{IsTreeOf, IsToldOf}
 use Rattle.mote_program.specs.declared.error.ReadErrorKind.{ReadErrorKind}
@@ -18,6 +18,10 @@ OneNet = (text : List ℕ) (m n : NetTold) → TellsNet text m → TellsNet text
 
 abbrev pub NeverBoth : Type 0
 NeverBoth = (text : List ℕ) (n : NetTold) (e : ScenarioError) → TellsNet text n → TellsFault text e → ⊥
+
+-- and each tells one of them
+abbrev pub NetOrFault : Type 0
+NetOrFault = (text : List ℕ) → ((n : NetTold) × TellsNet text n) ⊎ ((e : ScenarioError) × TellsFault text e)
 
 abbrev pub OneFault : Type 0
 OneFault = (text : List ℕ) (e f : ScenarioError) → TellsFault text e → TellsFault text f → e ≡ f

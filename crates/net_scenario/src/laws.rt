@@ -1,5 +1,5 @@
 //! Laws of what a text tells, each as the contract of a function that only cites the laws of programs' texts.
-ghost use Rattle.net_scenario.specs.Laws.{OneNet, OneFault, NeverBoth};
+ghost use Rattle.net_scenario.specs.Laws.{OneNet, OneFault, NeverBoth, NetOrFault};
 
 use mote_program::laws::{
     at_most_one_fault as at_most_one_program_fault, at_most_one_tree, tree_or_fault,
@@ -29,5 +29,12 @@ pub fn never_a_net_and_a_fault()
 {
     at_most_one_tree();
     at_most_one_program_fault();
+    tree_or_fault();
+}
+
+/// Each text tells a net or has a fault.
+pub fn a_net_or_a_fault()
+    ensures { NetOrFault }
+{
     tree_or_fault();
 }

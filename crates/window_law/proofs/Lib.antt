@@ -9,4 +9,5 @@ pub mod Numbered
 pub mod Order
 pub mod Pending
 pub mod Serial
+pub mod Sorts
 pub mod Unique

@@ -1,8 +1,14 @@
 //! Laws of nets, whatever a mote is. Each is the contract of a function that does nothing.
 
+ghost use Rattle.window_law.specs.Order.{InOrderSorts};
 ghost use Rattle.window_law.specs.System.{System};
 ghost use Rattle.window_law.specs.Report.{LogIsInOrder, RunIsOne, RunIsThere};
 ghost use Rattle.window_law.specs.Windows.{WindowsAreThere, WindowsCommute, WindowsReport};
+
+/// A turn's copies in order are those copies, sorted by sender and number; those with the same of both stay as they stood.
+pub fn in_order_sorts()
+    ensures { InOrderSorts }
+{}
 
 /// A net has at most one run.
 pub fn run_is_one<S, L>()

@@ -11,7 +11,9 @@ pub mod OneWake
 pub mod Pairs
 pub mod Reached
 pub mod Reports
+pub mod Scenarios
 pub mod SentOut
+pub mod Stamped
 pub mod Stamps
 pub mod Steps
 pub mod Sums

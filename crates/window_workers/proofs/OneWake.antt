@@ -9,14 +9,10 @@ use Rattle.window_law.specs.Agenda.{Item, Wake, Packet, is_due, is_left, is_wake
 use Rattle.window_law.specs.NetStep.{NetState, Run, Done, Turn, boot, turned_at, sends_of}
 use Rattle.window_law.specs.System.{System}
 use Rattle.window_law.proofs.Agenda.{first_wakes, no_wake_in_packets, other_wake}
-use Rattle.window_law.proofs.Lists.{filter_both, filter_filter, filter_never, filter_stronger}
+use Rattle.window_law.proofs.Lists.{filter_both, filter_filter, filter_never, filter_stronger, every_weaker}
 use Rattle.net_agenda.specs.NetSystem.{system_of}
 use Rattle.net_agenda.specs.Items.{is_wake_at, WakesDiffer}
-use Rattle.window_workers.specs.Laws.{agendas, WakesAlwaysDiffer}
-
--- of each mote
-abbrev OneWake : List Item → Type 0
-OneWake items = (mote : ℕ) → length (filter (is_wake_of mote) items) ≤ 1
+use Rattle.window_workers.specs.Laws.{agendas, OneWake, AlwaysOneWake, WakesAlwaysDiffer}
 
 no_more : {X : Type 0} (p : X → Bool) (xs : List X) → length (filter p xs) ≤ length xs
 no_more p xs = let both = length-filter_both p (λ x. not (p x)) (λ x. refl) xs in omega arith
@@ -63,13 +59,16 @@ turned t m wake cs items one k =
     ]
 
 module _ {S L : Type 0} (system : System S L) (end : ℕ) where
-  all_differ : {net last : NetState S L} (run : Run system end net last) → OneWake net.agenda → AllByRecursion WakesDiffer (agendas run)
-  all_differ {net} (Done late) one = (differ net.agenda one, tt)
-  all_differ {net} (Turn t m least le rest) one =
-      (differ net.agenda one, all_differ rest (turned t m (turned_at system t m net).wake (flat_map system.copies (sends_of t m (turned_at system t m net))) net.agenda one))
+  all_one : {net last : NetState S L} (run : Run system end net last) → OneWake net.agenda → AllByRecursion OneWake (agendas run)
+  all_one {net} (Done late) one = (one, tt)
+  all_one {net} (Turn t m least le rest) one =
+      (one, all_one rest (turned t m (turned_at system t m net).wake (flat_map system.copies (sends_of t m (turned_at system t m net))) net.agenda one))
 
   at_first : OneWake (boot system).agenda
   at_first k = let same = ap length (first_wakes system.motes k) in let h = at_most_one k (cond (ltb k system.motes) (Some 0) None) in omega arith
 
+pub one_wake : AlwaysOneWake
+one_wake n r report = all_one (system_of n) n.end report.run (at_first (system_of n) n.end)
+
 pub wakes_differ : WakesAlwaysDiffer
-wakes_differ n r report = all_differ (system_of n) n.end report.run (at_first (system_of n) n.end)
+wakes_differ n r report = every_weaker OneWake WakesDiffer differ (agendas report.run) (one_wake n r report)

@@ -1,6 +1,6 @@
 -- Laws of the run of a net.
-use Rattle.std.specs.Prelude.{◌≡◌, ℕ, suc, ◌<◌, List, [], ◌∷◌, length, map, None}
-use Rattle.std.specs.List.{AllByRecursion}
+use Rattle.std.specs.Prelude.{◌≡◌, ℕ, suc, ◌<◌, ◌≤◌, List, [], ◌∷◌, length, map, None}
+use Rattle.std.specs.List.{filter, AllByRecursion}
 use Rattle.std.specs.List.Sorted.{IsPermutation, IsSortedBy}
 use Rattle.process_kernel.specs.declared.line.Line.{Line}
 use Rattle.process_kernel.specs.declared.line.Sent.{Sent}
@@ -9,9 +9,10 @@ use Rattle.mote_node.specs.Node.{Node}
 use Rattle.radio_medium.specs.declared.copy.RadioCopy.{RadioCopy}
 use Rattle.radio_medium.specs.Medium.{medium_fault}
 use Rattle.net_scenario.specs.Net.{NetTold}
+use Rattle.net_scenario.specs.Reading.{TellsNet}
 use Rattle.window_law.specs.System.{System, RunsForward}
 use Rattle.window_law.specs.Order.{is_sooner}
-use Rattle.window_law.specs.Agenda.{Item, up_to}
+use Rattle.window_law.specs.Agenda.{Item, is_wake_of, up_to}
 use Rattle.window_law.specs.NetStep.{NetState, Run, Done, Turn}
 use Rattle.window_law.specs.Windows.{LoneMote, first_mote, IsJoined, IsLeft, Windows}
 use Rattle.net_agenda.specs.Buckets.{Buckets, Holds}
@@ -32,6 +33,10 @@ NetsRunForward = (n : NetTold) → medium_fault n.radio ≡ None → length n.ra
 -- so it has a report
 abbrev pub ReportIsThere : Type 0
 ReportIsThere = (n : NetTold) → medium_fault n.radio ≡ None → length n.radio.places ≡ length n.motes → (r : ReportTold) × IsReportOf n r
+
+-- and so has the net of each scenario's text
+abbrev pub ScenarioHasReport : Type 0
+ScenarioHasReport = (text : List ℕ) (n : NetTold) → TellsNet text n → (r : ReportTold) × IsReportOf n r
 
 -- the packets that the motes sent, sorted by moment, sender and number
 pub record IsMediumLog (n : NetTold) (motes : (number : ℕ) → LoneMote Node Line) (log : List Sent) : Type 0 where
@@ -70,6 +75,14 @@ abbrev pub agendas : {S L : Type 0} {system : System S L} {end : ℕ} {net last 
 agendas {net = net} (Done late) = net.agenda ∷ []
 agendas {net = net} (Turn moment mote least le rest) = net.agenda ∷ agendas rest
 
--- in none of them a mote has two wakes at one moment
+-- of each mote at most one wake
+abbrev pub OneWake : List Item → Type 0
+OneWake items = (mote : ℕ) → length (filter (is_wake_of mote) items) ≤ 1
+
+-- each of them has at most one wake of a mote
+abbrev pub AlwaysOneWake : Type 0
+AlwaysOneWake = (n : NetTold) (r : ReportTold) (report : IsReportOf n r) → AllByRecursion OneWake (agendas report.run)
+
+-- so in none of them a mote has two wakes at one moment
 abbrev pub WakesAlwaysDiffer : Type 0
 WakesAlwaysDiffer = (n : NetTold) (r : ReportTold) (report : IsReportOf n r) → AllByRecursion WakesDiffer (agendas report.run)

@@ -1,8 +1,8 @@
 //! Laws of the run of a net. Each is the contract of a function that does nothing, or no more than to ask for a length.
 
 ghost use Rattle.window_workers.specs.Counted.{CopiesAreGiven, CopiesComeInTime, FatesTellLeft, LateCopiesStay, LeftIsCounted, TurnsAreGivenAll};
-ghost use Rattle.window_workers.specs.Laws.{BucketsHoldItems, NetsRunForward, ReportIsOne, ReportIsThere, TracesHandOn, WakesAlwaysDiffer, WindowsCommute};
-ghost use Rattle.window_workers.specs.Stamps.{LogCountsUp, TracesNeverGoBack};
+ghost use Rattle.window_workers.specs.Laws.{AlwaysOneWake, BucketsHoldItems, NetsRunForward, ReportIsOne, ReportIsThere, ScenarioHasReport, TracesHandOn, WakesAlwaysDiffer, WindowsCommute};
+ghost use Rattle.window_workers.specs.Stamps.{LogCountsUp, SendsAreStamped, TracesNeverGoBack};
 
 use net_agenda::Agenda;
 
@@ -12,10 +12,11 @@ pub fn report_is_one()
 {}
 
 /// A net whose medium is without fault and has a place for each mote, as in every `Net`, has a report: its wakes and copies come
-/// later than the turns that make them.
+/// later than the turns that make them. So the net that a scenario's text tells has one.
 pub fn report_is_there()
     ensures forward { NetsRunForward }
     ensures there { ReportIsThere }
+    ensures scenario { ScenarioHasReport }
 {}
 
 /// Windows commute. Cut 0 to end + 1 at any rising bounds whose steps are at most the lookahead, and run each mote alone through
@@ -40,9 +41,10 @@ pub fn buckets_hold_items(agenda: &Agenda)
     let _length = agenda.buckets.len();
 }
 
-/// Before each turn of a net's run, and at its end, no mote has two wakes at one moment.
-pub fn wakes_differ()
-    ensures { WakesAlwaysDiffer }
+/// Before each turn of a net's run, and at its end, each mote has at most one wake; so none has two at one moment.
+pub fn at_most_one_wake()
+    ensures one { AlwaysOneWake }
+    ensures differ { WakesAlwaysDiffer }
 {}
 
 /// At the end the agenda has those copies, of all packets of the log, that arrive after the end: none else, and in the order of
@@ -82,4 +84,9 @@ pub fn turns_are_given_all()
 pub fn moments_and_numbers_rise()
     ensures traces { TracesNeverGoBack }
     ensures log { LogCountsUp }
+{}
+
+/// The packets that a mote sends in a turn of a net's run bear the turn's moment and the mote already: to stamp them changes nothing.
+pub fn sends_are_stamped()
+    ensures { SendsAreStamped }
 {}

@@ -1,0 +1,18 @@
+-- The net that a scenario's text tells has a report.
+use Rattle.std.proofs.Common.{◌≡◌, codes, length, None, sym, ap, ◌∙◌}
+use Rattle.std.proofs.lemmas.List.{length-map}
+use Rattle.radio_medium.specs.Medium.{medium_fault}
+use Rattle.net_scenario.specs.Document.{tables_at}
+use Rattle.net_scenario.specs.Net.{NetTold}
+use Rattle.window_workers.specs.Laws.{ReportIsThere, ScenarioHasReport}
+
+pub scenario_has_report : ReportIsThere → ScenarioHasReport
+scenario_has_report there text n tells =
+    let top = tells.0.top in
+    let is = tells.1 in
+    let fault : medium_fault n.radio ≡ None = ap (λ (x : NetTold). medium_fault x.radio) is.told ∙ is.medium in
+    let motes = tables_at (codes "mote") top in
+    let places : length n.radio.places ≡ length n.motes =
+    ap (λ (x : NetTold). length x.radio.places) is.told
+    ∙ (length-map motes _ ∙ (sym (length-map motes _) ∙ sym (ap (λ (x : NetTold). length x.motes) is.told))) in
+    there n fault places
