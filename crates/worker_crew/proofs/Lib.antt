@@ -1,6 +1,7 @@
 pub mod Choose
 pub mod Crossing
 pub mod Firsts
+pub mod Held
 pub mod Lookups
 pub mod Moved
 pub mod Moves
@@ -14,4 +15,5 @@ pub mod Same
 pub mod Stands
 pub mod Starts
 pub mod Step
+pub mod Waiting
 pub mod Working

@@ -1,4 +1,5 @@
 pub mod Crew
+pub mod Held
 pub mod Laws
 pub mod Run
 pub mod Start

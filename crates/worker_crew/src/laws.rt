@@ -1,5 +1,6 @@
 //! Laws of the workers. Each is the contract of a function that does nothing.
 
+ghost use Rattle.worker_crew.specs.Held.{AgendaIsHeld};
 ghost use Rattle.worker_crew.specs.Laws.{StandsUntilNext, WindowMovesOn};
 
 /// Where each worker took in what had been sent to it, ran its motes, and delivered what they sent, and where all senders were then
@@ -13,4 +14,11 @@ pub fn a_window_moves_on()
 /// at which they stand.
 pub fn workers_stand_until_next()
     ensures { StandsUntilNext }
+{}
+
+/// At the start of each window but the first, before which nothing was sent, the copies of the net's agenda are those that the
+/// workers hold together with those in the inboxes, each once. The agenda is that of the run of the net, one turn at a time, behind
+/// all turns before the window.
+pub fn agenda_is_held()
+    ensures { AgendaIsHeld }
 {}
