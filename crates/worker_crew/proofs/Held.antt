@@ -10,7 +10,7 @@ use Rattle.std.proofs.lemmas.List.Elements.{filter_agree}
 use Rattle.std.proofs.lemmas.List.Sorted.{IsPermutation-refl, IsPermutation-trans, IsPermutation-append_left, IsPermutation-filter_both}
 use Rattle.radio_medium.specs.declared.copy.RadioCopy.{RadioCopy}
 use Rattle.net_scenario.specs.Net.{NetTold}
-use Rattle.window_law.specs.System.{System, IsSystem}
+use Rattle.window_law.specs.System.{System, RunsForward}
 use Rattle.window_law.specs.Agenda.{packets, up_to}
 use Rattle.window_law.specs.NetStep.{NetState, Run, boot}
 use Rattle.window_law.specs.Pending.{comes_from}
@@ -34,7 +34,7 @@ beyond : (end u k : ℕ) → (ltb (suc end) u || (eqb u (suc end) && not (ltb k 
 beyond end u k = grind (arith, nat_tests)
 
 -- the agenda behind a run has of each sender what is on its way behind the windows
-module _ {S L : Type 0} (system : System S L) (fine : IsSystem system) (end : ℕ) (motes : ℕ → LoneMote S L) (led : LedTo system fine (suc end) motes) where
+module _ {S L : Type 0} (system : System S L) (fine : RunsForward system) (end : ℕ) (motes : ℕ → LoneMote S L) (led : LedTo system fine (suc end) motes) where
   as_history : (k : ℕ) → k < system.motes → mix system fine (suc end) 0 k ≡ motes k
   as_history k h = mix_from system fine (suc end) 0 k zero-le ∙ sym (is_history system fine (suc end) motes led k h)
 
@@ -103,7 +103,7 @@ module _ (of : List ℕ) where
       is_first : (copy : RadioCopy) → IsHad of workers copy.to → is_to_first workers copy ≡ true
       is_first copy h = ap (λ o. option_map_or (λ w. ltb w workers) o false) h.1 ∙ lt-ltb h.0 workers h.2
 
-module _ (n : NetTold) (fine : IsSystem (system_of n)) (of : List ℕ) (end : ℕ) (crew : Crew) (at : IsAt n of (suc end) crew) where
+module _ (n : NetTold) (fine : RunsForward (system_of n)) (of : List ℕ) (end : ℕ) (crew : Crew) (at : IsAt n of (suc end) crew) where
   abbrev workers : ℕ
   workers = length crew.inboxes.items
 

@@ -9,7 +9,7 @@ use Rattle.radio_medium.specs.declared.copy.RadioCopy.{RadioCopy}
 use Rattle.net_scenario.specs.Net.{NetTold}
 use Rattle.window_law.specs.Agenda.{up_to}
 use Rattle.window_law.specs.Pending.{comes_from}
-use Rattle.window_law.specs.System.{IsSystem}
+use Rattle.window_law.specs.System.{RunsForward}
 use Rattle.window_law.specs.Windows.{first_mote, Windows, WakesFrom, copies_by, is_from_sender}
 use Rattle.window_law.proofs.Alone.{from_pieces}
 use Rattle.window_law.proofs.Lists.{filter_filter, filter_both, filter_every, every_passes, every_weaker}
@@ -45,7 +45,7 @@ same_copies xs ys h =
     IsPermutation-trans _ _ _ (sorted_permutes (λ copy. copy.sender) (λ copy. copy.number) xs)
     (subst (λ l. IsPermutation l ys) (sym (in_order_same xs ys h)) (IsPermutation-sym _ _ (sorted_permutes (λ copy. copy.sender) (λ copy. copy.number) ys)))
 
-module _ (n : NetTold) (fine : IsSystem (system_of n)) (of : List ℕ) (from : ℕ) (motes : Motes) (led : Windows (system_of n) 0 from (first_mote (system_of n)) motes) (first : Option ℕ) (starts : WakesFrom from first)
+module _ (n : NetTold) (fine : RunsForward (system_of n)) (of : List ℕ) (from : ℕ) (motes : Motes) (led : Windows (system_of n) 0 from (first_mote (system_of n)) motes) (first : Option ℕ) (starts : WakesFrom from first)
     (v : ℕ) (share : Share) (taker : TakerView) (here : IsWorkerAt n of from motes first v share taker) where
   -- of one sender, what lies in the inbox
   abbrev rest_of : ℕ → List RadioCopy

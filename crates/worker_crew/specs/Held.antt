@@ -5,7 +5,7 @@ use Rattle.process_kernel.specs.declared.line.Line.{Line}
 use Rattle.mote_node.specs.Node.{Node}
 use Rattle.radio_medium.specs.declared.copy.RadioCopy.{RadioCopy}
 use Rattle.net_scenario.specs.Net.{NetTold}
-use Rattle.window_law.specs.System.{IsSystem}
+use Rattle.window_law.specs.System.{RunsForward}
 use Rattle.window_law.specs.Agenda.{Item, packets, up_to}
 use Rattle.window_law.specs.NetStep.{NetState, Run, boot}
 use Rattle.net_agenda.specs.Buckets.{Holds}
@@ -27,7 +27,7 @@ pub record AreWith (share : Share) (taker : TakerView) (copies : List RadioCopy)
 -- Where the workers stand before a moment, the copies of the net's agenda behind all turns before it are those that the workers hold
 -- together with those in the inboxes, each once.
 abbrev pub AgendaIsHeld : Type 0
-AgendaIsHeld = (n : NetTold) → IsSystem (system_of n) → (of : List ℕ) (end : ℕ) (crew : Crew) → IsAt n of (suc end) crew
+AgendaIsHeld = (n : NetTold) → RunsForward (system_of n) → (of : List ℕ) (end : ℕ) (crew : Crew) → IsAt n of (suc end) crew
     → (net : NetState Node Line) → Run (system_of n) end (boot (system_of n)) net
     → (parts : ℕ → List RadioCopy)
     × ((worker : ℕ) → worker < length crew.inboxes.items → (share : Share) (taker : TakerView)
