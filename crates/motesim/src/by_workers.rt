@@ -2,6 +2,7 @@
 ghost use Rattle.std.specs.Prelude.{◌≡◌, ◌<◌, length, vec_len, IfOk, Some, None};
 ghost use Rattle.net_scenario.specs.Net.{net_of};
 ghost use Rattle.window_workers.specs.Fits.{cut_fault};
+ghost use Rattle.motesim.specs.Cuts.{of_kind};
 ghost use Rattle.motesim.specs.Simulation.{MayRun, RunsWith};
 
 use crate::options::CutKind;
@@ -19,7 +20,8 @@ pub const MOST_WORKERS: u16 = 16;
 fn cut_of(alloc: Global, kind: CutKind, motes: u16, workers: u16) -> Result<Cut, AllocError>
     requires motes { 0 < motes }
     requires workers { MayRun (Some workers) }
-    ensures { IfOk result (λ cut. cut_fault motes workers cut.of.items ≡ None) }
+    ensures of { IfOk result (λ cut. cut.of.items ≡ of_kind kind motes workers) }
+    ensures fits { IfOk result (λ cut. cut_fault motes workers cut.of.items ≡ None) }
 {
     match kind {
         CutKind::Block => Cut::block(alloc, motes, workers),

@@ -1,4 +1,6 @@
 //! The words of the command line, as `clap` reads them.
+ghost use Rattle.std.specs.Prelude.{◌≡◌, codes};
+ghost use Rattle.motesim.specs.declared.options.CutKind.TheVariants as kind;
 
 use crate::by_workers::MOST_WORKERS;
 use crate::options::{CutKind, Options};
@@ -17,7 +19,10 @@ pub struct Asked<'a> {
 static CUTS: [&str; 2] = ["block", "stripe"];
 
 /// The cut of this name.
-fn cut_named(name: &str) -> CutKind {
+fn cut_named(name: &str) -> CutKind
+    ensures block { name.now ≡ codes "block" → result ≡ kind.Block }
+    ensures stripe { name.now ≡ codes "stripe" → result ≡ kind.Stripe }
+{
     match name {
         "stripe" => CutKind::Stripe,
         _ => CutKind::Block,

@@ -1,6 +1,7 @@
 //! Runs of whole scenarios, with values worked by hand.
 
 mod command_faults;
+mod cuts;
 mod fault_lines;
 mod motes;
 mod nets;

@@ -1,0 +1,99 @@
+//! Which worker runs which mote.
+
+use crate::command_line::asked_by;
+use crate::options::{CutKind, Options};
+use crate::simulate::simulate;
+use crate::tests::PRINT_THEN_YIELD;
+use std::process::Abort;
+use std::random::RandomSource;
+use std::sync::Wait;
+use std::sync::atomic::AtomicU64;
+use std::sync::atomic::Ordering::SeqCst;
+use std::test::Fail;
+use std::thread::Threads;
+use window_workers::Gate;
+
+/// Three more motes, which hear no other.
+const THREE_MOTES: &str =
+    "[[mote]]\nx = 20\ny = 0\nprogram = \"p\"\n[[mote]]\nx = 40\ny = 0\nprogram = \"p\"\n[[mote]]\nx = 60\ny = 0\nprogram = \"p\"\n";
+
+/// Counts the turns of four motes by two workers.
+#[derive(Drop)]
+struct Turns {
+    /// Those that worker w took of mote m, at 4 * w + m.
+    seen: [AtomicU64; 8],
+}
+
+impl Turns {
+    fn new() -> Turns {
+        Turns {
+            seen: [
+                AtomicU64::new(0),
+                AtomicU64::new(0),
+                AtomicU64::new(0),
+                AtomicU64::new(0),
+                AtomicU64::new(0),
+                AtomicU64::new(0),
+                AtomicU64::new(0),
+                AtomicU64::new(0),
+            ],
+        }
+    }
+}
+
+impl Gate for Turns {
+    fn inside(&self, worker: u16, _moment: u64, mote: u16) {
+        if worker < 2 && mote < 4 {
+            let place = 4 * usize::from(worker) + usize::from(mote);
+            self.seen[place].fetch_add(1, SeqCst);
+        }
+    }
+}
+
+/// Four motes with one turn each, by two workers: each of these turns was seen, and no other.
+fn expect_turns<T>(rt: &T, cut: CutKind, wanted: [u64; 8]) -> Result<(), Fail>
+where
+    T: AllocGlobal + Threads + Wait + RandomSource + Sync + Abort,
+{
+    let alloc = rt.alloc();
+    let scenario = format!(in alloc; "{PRINT_THEN_YIELD}{THREE_MOTES}")?;
+    let options = Options {
+        workers: Some(2),
+        cut,
+    };
+    let gate = Turns::new();
+    let mut input = scenario.as_bytes();
+    let mut output = Vec::new(alloc);
+    simulate(rt, alloc, &mut input, &mut output, &options, &gate)?;
+    for (turns, wanted) in gate.seen.iter().zip(wanted) {
+        assert_eq!(rt; turns.load(SeqCst), wanted, "{cut:?}");
+    }
+    Ok(())
+}
+
+#[test]
+fn turns_in_blocks(rt: HostRuntime) -> Result<(), Fail> {
+    expect_turns(&rt, CutKind::Block, [1, 1, 0, 0, 0, 0, 1, 1])
+}
+
+#[test]
+fn turns_in_stripes(rt: HostRuntime) -> Result<(), Fail> {
+    expect_turns(&rt, CutKind::Stripe, [1, 0, 1, 0, 0, 1, 0, 1])
+}
+
+#[test]
+fn cuts_of_the_words(rt: HostRuntime) -> Result<(), Fail> {
+    let cases: [(&[&str], CutKind); 4] = [
+        (&["motesim"], CutKind::Block),
+        (&["motesim", "--workers", "2"], CutKind::Block),
+        (&["motesim", "--cut", "block"], CutKind::Block),
+        (&["motesim", "--cut=stripe"], CutKind::Stripe),
+    ];
+    for (words, cut) in cases {
+        let Ok(asked) = asked_by(rt.alloc(), words) else {
+            return Err(Fail::from("the words have a fault"));
+        };
+        assert_eq!(rt; asked.options.cut, cut, "{words:?}");
+    }
+    Ok(())
+}
