@@ -19,7 +19,7 @@ pub loop-moment-preserved : goal.loop-moment-preserved
 loop-moment-preserved c = λ items holds.
     let part = c.loop-moment.invariant items holds in
     one_bucket c.args.until items c.loop-moment.calls.copies c.add.new.self.copies c.loop-moment.agenda.buckets c.take_due.new.self.buckets part c.in-Some.moment c.in-Some.mote
-    (c.in-Some.ensures.least part.rest part.holds) c.if-moment-until.false c.in_ok-arrivals.arrivals.items (c.in_ok-arrivals.ensures.copies part.rest part.holds) (c.take_due.ensures.rest part.rest part.holds) c.in_ok-add.ensures
+    (c.in-Some.ensures.least part.rest part.holds) c.if-moment-until.false c.in_ok-arrivals.arrivals.items (c.in_ok-arrivals.ensures.copies part.rest part.holds) (c.take_due.ensures.rest part.rest part.holds) (rw (sym c.deref.ensures.value) c.in_ok-add.ensures)
 
 pub returns-clause-gathered : goal.returns-clause-gathered
 returns-clause-gathered c = λ items holds.

@@ -10,7 +10,7 @@ use Rattle.worker_share.proofs.Left.{none_left, one_left, all_left}
 use Rattle.worker_share.proofs.window.leave.Goals as goal
 
 pub loop-number-init : goal.loop-number-init
-loop-number-init c = none_left c.args.until c.args.calls.copies c.args.calls.copies c.args.motes.now.items c.args.agenda.now.buckets c.new-residents.result.items c.new-residents.ensures.items (λ k. refl)
+loop-number-init c = none_left c.args.until c.args.calls.copies c.args.calls.copies c.args.motes.now.items c.args.agenda.now.buckets c.in_ok-residents.residents.items c.in_ok-residents.ensures.items (λ k. refl)
 
 pub loop-number-preserved : goal.loop-number-preserved
 loop-number-preserved c =
