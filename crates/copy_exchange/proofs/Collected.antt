@@ -7,11 +7,11 @@ use Rattle.copy_inbox.specs.declared.items.Item.{Item}
 use Rattle.copy_inbox.specs.declared.rule.Desk.{Desk}
 use Rattle.copy_inbox.specs.Views.{make_desk}
 use Rattle.copy_inbox.specs.Items.{copies_of, part}
-use Rattle.copy_inbox.specs.Gathered.{Begun, Whole, NoOthers}
+use Rattle.copy_inbox.specs.Gathered.{TookFronts, Whole, NoOthers}
 use Rattle.copy_inbox.specs.Handles.{InboxId, TakerView, TakesCopies, after_taking}
 use Rattle.copy_exchange.specs.declared.courier.Courier.{Courier}
 use Rattle.copy_exchange.specs.Couriers.{IsCourier, Collects}
-use Rattle.copy_exchange.specs.Desks.{SameOfEach, taken_by, gathered_by, IsRest, Stands}
+use Rattle.copy_exchange.specs.Desks.{SameOfEach, taken_by, gathered_by, IsRest, IsOrderly}
 use Rattle.copy_exchange.proofs.Parts.{from, copies-append}
 
 -- some of the rest is taken
@@ -20,7 +20,7 @@ rest_of_rest d items rest none r =
     let e : (d.taken ++ items) ++ rest ≡ d.taken ++ (items ++ rest) = append_assoc d.taken items rest in
     (subst (λ (l : List Item). Whole d.gathered l) e r.0, λ s unseen. ap (part s) (sym e) ∙ (r.1 s unseen ∙ none s unseen))
 
-stands_taking : (d : Desk) (items : List Item) → Stands d → NoOthers d.gathered d.taken (d.taken ++ items) → Begun d.gathered (d.taken ++ items) → Stands (make_desk d.made (d.taken ++ items) d.gathered)
+stands_taking : (d : Desk) (items : List Item) → IsOrderly d → NoOthers d.gathered d.taken (d.taken ++ items) → TookFronts d.gathered (d.taken ++ items) → IsOrderly (make_desk d.made (d.taken ++ items) d.gathered)
 stands_taking d items h none begun = record {
   in_order = λ rest r s.
       ap (λ l. from s (copies_of l)) (append_assoc d.taken items rest) ∙ h.in_order (items ++ rest) (rest_of_rest d items rest none r) s;
@@ -31,18 +31,18 @@ stands_taking d items h none begun = record {
   numbers = h.numbers;
 }
 
-pub stands_on : (old new : TakerView) (copies : List RadioCopy) → Stands old.desk → TakesCopies old new copies → NoOthers old.desk.gathered old.desk.taken new.desk.taken → Begun new.desk.gathered new.desk.taken → Stands new.desk
+pub stands_on : (old new : TakerView) (copies : List RadioCopy) → IsOrderly old.desk → TakesCopies old new copies → NoOthers old.desk.gathered old.desk.taken new.desk.taken → TookFronts new.desk.gathered new.desk.taken → IsOrderly new.desk
 stands_on old new copies h takes none begun =
     let items : List Item = takes.0 in
     let e : new ≡ after_taking old items = takes.2 in
     let none' : NoOthers old.desk.gathered old.desk.taken (old.desk.taken ++ items) = subst (λ (t : TakerView). NoOthers old.desk.gathered old.desk.taken t.desk.taken) e none in
-    let begun' : Begun old.desk.gathered (old.desk.taken ++ items) = subst (λ (t : TakerView). Begun t.desk.gathered t.desk.taken) e begun in
-    subst (λ (t : TakerView). Stands t.desk) (sym e) (stands_taking old.desk items h none' begun')
+    let begun' : TookFronts old.desk.gathered (old.desk.taken ++ items) = subst (λ (t : TakerView). TookFronts t.desk.gathered t.desk.taken) e begun in
+    subst (λ (t : TakerView). IsOrderly t.desk) (sym e) (stands_taking old.desk items h none' begun')
 
 pub adds : (old new : TakerView) (copies : List RadioCopy) → TakesCopies old new copies → taken_by new ≡ taken_by old ++ copies
 adds old new copies takes = ap taken_by takes.2 ∙ (copies-append old.desk.taken takes.0 ∙ ap (λ l. taken_by old ++ l) (sym takes.1))
 
-pub now_in_order : (old new : TakerView) (copies : List RadioCopy) → Stands old.desk → TakesCopies old new copies → NoOthers old.desk.gathered old.desk.taken new.desk.taken → Whole new.desk.gathered new.desk.taken
+pub now_in_order : (old new : TakerView) (copies : List RadioCopy) → IsOrderly old.desk → TakesCopies old new copies → NoOthers old.desk.gathered old.desk.taken new.desk.taken → Whole new.desk.gathered new.desk.taken
     → SameOfEach (taken_by new) (gathered_by old)
 now_in_order old new copies h takes none whole s =
     let items : List Item = takes.0 in
@@ -58,12 +58,12 @@ with_taker c t = record { worker = c.worker; taker = t; senders = c.senders }
 module _ (inboxes : List InboxId) (c : Courier) (t : TakerView) (r : Result (Vec RadioCopy Global) InboxError)
     (courier : IsCourier inboxes c)
     (takes : IfOk r (λ copies. TakesCopies c.taker t copies.items))
-    (begun : OnOk r (Begun t.desk.gathered t.desk.taken))
+    (begun : OnOk r (TookFronts t.desk.gathered t.desk.taken))
     (others : OnOk r (NoOthers c.taker.desk.gathered c.taker.desk.taken t.desk.taken)) where
   pub courier_on : OnOk r (IsCourier inboxes (with_taker c t))
   courier_on = cases r takes begun others
     where
-      cases : (q : Result (Vec RadioCopy Global) InboxError) → IfOk q (λ copies. TakesCopies c.taker t copies.items) → OnOk q (Begun t.desk.gathered t.desk.taken)
+      cases : (q : Result (Vec RadioCopy Global) InboxError) → IfOk q (λ copies. TakesCopies c.taker t copies.items) → OnOk q (TookFronts t.desk.gathered t.desk.taken)
           → OnOk q (NoOthers c.taker.desk.gathered c.taker.desk.taken t.desk.taken) → OnOk q (IsCourier inboxes (with_taker c t))
       cases (Ok copies) takes begun others = record {
         taker = courier.taker ∙ ap (λ (u : TakerView). Some u.inbox) (sym takes.2);

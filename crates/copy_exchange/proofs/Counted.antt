@@ -8,23 +8,23 @@ use Rattle.copy_inbox.specs.declared.items.Carried.{Carried}
 use Rattle.copy_inbox.specs.declared.items.Item.{Item}
 use Rattle.copy_inbox.specs.declared.rule.Gathered.{Gathered}
 use Rattle.copy_inbox.specs.declared.rule.Desk.{Desk}
-use Rattle.copy_inbox.specs.Items.{copies_of, packet_of, part}
-use Rattle.copy_inbox.specs.Gathered.{is_gathered, Apart, Begun, known_of, left_of}
+use Rattle.copy_inbox.specs.Items.{copies_of, carried_copy, part}
+use Rattle.copy_inbox.specs.Gathered.{is_gathered, Apart, TookFronts, known_of, untaken_of}
 use Rattle.copy_inbox.proofs.Parts.{part-not_nil, part-nil_right}
 use Rattle.copy_inbox.proofs.Counts.{tally, front_counts, tally-nil}
-use Rattle.copy_exchange.specs.Desks.{copies_in, copies_pushed, Stands}
+use Rattle.copy_exchange.specs.Desks.{copies_in, copies_pushed, IsOrderly}
 
-begun_length : (gs : List Gathered) (taken : List Item) → Begun gs taken → length (copies_in gs) ≡ tally gs taken + known_of gs taken
+begun_length : (gs : List Gathered) (taken : List Item) → TookFronts gs taken → length (copies_in gs) ≡ tally gs taken + known_of gs taken
 begun_length [] taken h = refl
 begun_length (g ∷ gs) taken h =
     let rest : List Carried = h.0.0 in
     let mine : List Carried = part g.number taken in
-    let left : left_of taken g ≡ rest = ap (drop (length mine)) h.0.1 ∙ drop-append_seam mine rest in
+    let left : untaken_of taken g ≡ rest = ap (drop (length mine)) h.0.1 ∙ drop-append_seam mine rest in
     let left_length = ap length left in
     let pushed : length g.pushed ≡ length mine + length rest = ap length h.0.1 ∙ length-append mine rest in
-    let copies : length (copies_in (g ∷ gs)) ≡ length (copies_in gs) + length g.pushed = length-append (copies_in gs) (copies_pushed g.pushed) ∙ ap (λ n. length (copies_in gs) + n) (length-map g.pushed packet_of) in
+    let copies : length (copies_in (g ∷ gs)) ≡ length (copies_in gs) + length g.pushed = length-append (copies_in gs) (copies_pushed g.pushed) ∙ ap (λ n. length (copies_in gs) + n) (length-map g.pushed carried_copy) in
     let r = begun_length gs taken h.1 in
-    omega (arith, sum_by-cons (λ (k : Gathered). length (left_of taken k)) g gs, sum_by-cons (λ (k : Gathered). length (part k.number taken)) g gs)
+    omega (arith, sum_by-cons (λ (k : Gathered). length (untaken_of taken k)) g gs, sum_by-cons (λ (k : Gathered). length (part k.number taken)) g gs)
 
 all_counted : (gs : List Gathered) (taken : List Item) → Apart gs → ((i : ℕ) → is_gathered gs i ≡ false → part i taken ≡ []) → tally gs taken ≡ length taken
 all_counted gs [] apart none = tally-nil gs
@@ -34,9 +34,9 @@ all_counted gs (x ∷ xs) apart none =
     let one : tally gs (x ∷ xs) ≡ 1 + tally gs xs = front_counts gs x xs apart ∙ ap (λ (b : Bool). cond b 1 0 + tally gs xs) yes in
     omega arith
 
-pub gathered_length : (d : Desk) → Stands d → length (copies_in d.gathered) ≡ length (copies_of d.taken) + known_of d.gathered d.taken
+pub gathered_length : (d : Desk) → IsOrderly d → length (copies_in d.gathered) ≡ length (copies_of d.taken) + known_of d.gathered d.taken
 gathered_length d h =
     let a = begun_length d.gathered d.taken h.begun in
     let b = all_counted d.gathered d.taken h.apart h.unseen in
-    let c = length-map d.taken (λ (x : Item). packet_of x.what) in
+    let c = length-map d.taken (λ (x : Item). carried_copy x.what) in
     omega arith

@@ -9,11 +9,11 @@ use Rattle.copy_inbox.specs.declared.items.Item.{Item}
 use Rattle.copy_inbox.specs.declared.rule.Gathered.{Gathered}
 use Rattle.copy_inbox.specs.declared.rule.Desk.{Desk}
 use Rattle.copy_inbox.specs.Items.{copies_of, part}
-use Rattle.copy_inbox.specs.Gathered.{is_gathered, Apart, Begun, Whole}
+use Rattle.copy_inbox.specs.Gathered.{is_gathered, Apart, TookFronts, Whole}
 use Rattle.copy_inbox.specs.Views.{make_desk, make_gathered}
 use Rattle.copy_inbox.specs.Handles.{TakerView, SenderView, after_gather, AllGathered}
 use Rattle.copy_inbox.proofs.Parts.{part-append}
-use Rattle.copy_exchange.specs.Desks.{SameOfEach, copies_pushed, copies_in, IsRest, Stands}
+use Rattle.copy_exchange.specs.Desks.{SameOfEach, copies_pushed, copies_in, IsRest, IsOrderly}
 use Rattle.copy_exchange.specs.Couriers.{AreOpen}
 use Rattle.copy_exchange.proofs.Parts.{from, from-append, copies-append, OnlyIn, of_one_sender, nothing_more}
 
@@ -85,7 +85,7 @@ numbers_of ss = map (λ (s : SenderView). s.post.number) ss
 record Gathering (ss : List SenderView) (d : Desk) : Type 0 where
   are_open : AreOpen ss d
   apart : Apart d.gathered
-  begun : Begun d.gathered d.taken
+  begun : TookFronts d.gathered d.taken
   unseen : (i : ℕ) → is_gathered d.gathered i ≡ false → part i d.taken ≡ []
   numbers : Each (λ (g : Gathered). (g.number < d.made) × (g.made ≤ d.made)) d.gathered
 
@@ -182,7 +182,7 @@ fresh_parts taken rest first (a ∷ as') e none h =
     (ap (λ l. l ++ part a.post.number rest) (sym empty) ∙ (sym (part-append a.post.number taken rest) ∙ h.0), fresh_parts taken rest (first + 1) as' heads'.1 (λ i le. none i (omega arith)) h.1)
 
 -- ---- the taker afterwards
-module _ (ss : List SenderView) (d : Desk) (stands : Stands d) (whole : Whole d.gathered d.taken) (are_open : AreOpen ss d) (one : (s : ℕ) → OneOf s ss) where
+module _ (ss : List SenderView) (d : Desk) (stands : IsOrderly d) (whole : Whole d.gathered d.taken) (are_open : AreOpen ss d) (one : (s : ℕ) → OneOf s ss) where
   start : Gathering ss d
   start = record { are_open = are_open; apart = stands.apart; begun = stands.begun; unseen = stands.unseen; numbers = stands.numbers }
 
@@ -237,7 +237,7 @@ module _ (ss : List SenderView) (d : Desk) (stands : Stands d) (whole : Whole d.
         ap (from s) (copies-append d.taken rest) ∙ (from-append s (copies_of d.taken) (copies_of rest)
         ∙ ((λ i. before i ++ now i) ∙ (sym (from-append s (copies_in d.gathered) (flat_map copies_by ss)) ∙ ap (from s) (sym (joined_copies d.made ss d.gathered)))))
 
-  pub stands_then : Stands (with_joined ss d)
+  pub stands_then : IsOrderly (with_joined ss d)
   stands_then = record {
     in_order = then_in_order;
     begun = end.begun;

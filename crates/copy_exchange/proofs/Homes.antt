@@ -11,7 +11,7 @@ use Rattle.copy_inbox.specs.Gathered.{is_gathered}
 use Rattle.copy_inbox.specs.Handles.{InboxId, TakerView, SenderView, after_gather}
 use Rattle.copy_exchange.specs.declared.courier.Courier.{Courier}
 use Rattle.copy_exchange.specs.Desks.{copies_in}
-use Rattle.copy_exchange.specs.Couriers.{IsCourier, IsCollected, IsOwn, Stays, AreOpen, Returns, AllReturn, ComesHome, IsSenderOn, sender_to, senders_to, seat_of}
+use Rattle.copy_exchange.specs.Couriers.{IsCourier, IsCollected, DeliversOwn, Stays, AreOpen, Returns, AllReturn, ComesHome, IsSenderOn, sender_to, senders_to, seat_of}
 use Rattle.copy_exchange.specs.Inboxes.{IsSettled, Settled}
 use Rattle.copy_exchange.specs.Steps.{AreTakersOf, AreSendersOn, GathersRow, gather_into, at_place}
 use Rattle.copy_exchange.proofs.Gathers.{gather_posts, gather_is, with_joined, numbers_of, joined_copies, all_gathered, stands_then, OneOf}
@@ -97,8 +97,8 @@ module _ (inboxes : List InboxId) (cs : List Courier) (back : AllReturn inboxes 
       (same_numbers inboxes back.worker_of before cs b.worker back.each ∙ ap (λ v. numbers_of (senders_to before v)) r.stays.worker) r.stays.made r.stays.gathered)
       before cs back.together.are_open back.each
 
-  pub owns : Each (IsOwn back.worker_of) cs
-  owns = each_back inboxes back.worker_of (IsOwn back.worker_of) (λ a b r. r.own) before cs back.each
+  pub owns : Each (DeliversOwn back.worker_of) cs
+  owns = each_back inboxes back.worker_of (DeliversOwn back.worker_of) (λ a b r. r.own) before cs back.each
 
   one : (s v : ℕ) → OneOf s (senders_to cs v)
   one s v = one_of back.worker_of s v 0 cs (workers ∙ ap (range_with_len 0) (sym count)) owns

@@ -6,7 +6,7 @@ use Rattle.std.proofs.lemmas.Bool.Decides.{eqb_tells}
 use Rattle.std.proofs.lemmas.List.Concat.{flat_map-cons}
 use Rattle.copy_inbox.specs.Handles.{SenderView}
 use Rattle.copy_exchange.specs.declared.courier.Courier.{Courier}
-use Rattle.copy_exchange.specs.Couriers.{IsOwn, sender_to, senders_to, delivered, delivered_to, pushed_by}
+use Rattle.copy_exchange.specs.Couriers.{DeliversOwn, sender_to, senders_to, delivered, delivered_to, pushed_by}
 use Rattle.copy_exchange.proofs.Parts.{from}
 use Rattle.copy_exchange.proofs.Gathers.{OneOf, copies_by}
 
@@ -32,7 +32,7 @@ module _ (worker_of : ℕ → ℕ) (s v : ℕ) where
   None' c = from s (delivered c v) ≡ []
 
   -- no courier from here on is that of the mote
-  pub none_of_them : (first : ℕ) (cs : List Courier) → workers_of cs ≡ range_with_len first (length cs) → worker_of s < first → Each (IsOwn worker_of) cs → Each None' cs
+  pub none_of_them : (first : ℕ) (cs : List Courier) → workers_of cs ≡ range_with_len first (length cs) → worker_of s < first → Each (DeliversOwn worker_of) cs → Each None' cs
   none_of_them first [] e lt own = tt
   none_of_them first (c ∷ cs) e lt own =
       let n = numbers c.worker first (workers_of cs) (range_with_len (first + 1) (length cs)) e in
@@ -53,7 +53,7 @@ module _ (worker_of : ℕ → ℕ) (s v : ℕ) where
   with_one None cs h = record { number = 0; each = none_each 0 cs h }
   with_one (Some a) cs h = record { number = a.post.number; each = (inl refl, none_each a.post.number cs h) }
 
-  one_more : (b : Bool) (c : Courier) (first : ℕ) (cs : List Courier) → (worker_of s == c.worker) ≡ b → c.worker ≡ first → workers_of cs ≡ range_with_len (first + 1) (length cs) → IsOwn worker_of c → Each (IsOwn worker_of) cs
+  one_more : (b : Bool) (c : Courier) (first : ℕ) (cs : List Courier) → (worker_of s == c.worker) ≡ b → c.worker ≡ first → workers_of cs ≡ range_with_len (first + 1) (length cs) → DeliversOwn worker_of c → Each (DeliversOwn worker_of) cs
       → OneOf s (senders_to cs v) → OneOf s (senders_to (c ∷ cs) v)
   one_more true c first cs t is e own owns one =
       let same : worker_of s ≡ c.worker = ⊎_elim
@@ -63,7 +63,7 @@ module _ (worker_of : ℕ → ℕ) (s v : ℕ) where
       with_one (sender_to c v) cs (none_of_them (first + 1) cs e (omega arith) owns)
   one_more false c first cs t is e own owns one = record { number = one.number; each = with_none one.number (sender_to c v) (senders_to cs v) (own s v t) one.each }
 
-  pub one_of : (first : ℕ) (cs : List Courier) → workers_of cs ≡ range_with_len first (length cs) → Each (IsOwn worker_of) cs → OneOf s (senders_to cs v)
+  pub one_of : (first : ℕ) (cs : List Courier) → workers_of cs ≡ range_with_len first (length cs) → Each (DeliversOwn worker_of) cs → OneOf s (senders_to cs v)
   one_of first [] e own = record { number = 0; each = tt }
   one_of first (c ∷ cs) e own =
       let n = numbers c.worker first (workers_of cs) (range_with_len (first + 1) (length cs)) e in

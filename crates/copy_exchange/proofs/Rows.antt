@@ -4,7 +4,7 @@ use Rattle.std.proofs.lemmas.Bool.{cases_lt}
 use Rattle.std.proofs.lemmas.Bool.Decides.{eqb_tells}
 use Rattle.std.proofs.lemmas.List.{get_or-set_same, get_or-set_other}
 use Rattle.copy_inbox.specs.Handles.{InboxId, TakerView, SenderView}
-use Rattle.copy_exchange.specs.Steps.{AreTakersOf, AreSendersOn, GathersRow, Opens, gather_into, at_place, opened, opening}
+use Rattle.copy_exchange.specs.Steps.{AreTakersOf, AreSendersOn, GathersRow, Opens, gather_into, at_place, opened_taker, opened_sender}
 
 pub same_read : {A : Type 0} (xs : List A) (i : ℕ) (d e : A) → i < length xs → get_or xs i d ≡ get_or xs i e
 same_read [] i d e lt = absurd (omega arith)
@@ -74,11 +74,11 @@ next_is (x ∷ xs) rest (suc k) sender e =
 pub record OpensTo (worker k : ℕ) (old new : List TakerView) (senders : List (Option SenderView)) : Type 0 where
   pub takers : length new ≡ length old
   pub count : length senders ≡ k
-  pub taker : (v : ℕ) (t : TakerView) → v < k → v < length old → slice_index_or new v t ≡ opened (v == worker) (slice_index_or old v t)
-  pub sender : (v : ℕ) (t : TakerView) → v < k → v < length old → at_place senders v ≡ opening (v == worker) (slice_index_or old v t)
+  pub taker : (v : ℕ) (t : TakerView) → v < k → v < length old → slice_index_or new v t ≡ opened_taker (v == worker) (slice_index_or old v t)
+  pub sender : (v : ℕ) (t : TakerView) → v < k → v < length old → at_place senders v ≡ opened_sender (v == worker) (slice_index_or old v t)
   pub left : (v : ℕ) (t : TakerView) → k ≤ v → v < length old → slice_index_or new v t ≡ slice_index_or old v t
 
-opened_inbox : (own : Bool) (t : TakerView) → (opened own t).inbox ≡ t.inbox
+opened_inbox : (own : Bool) (t : TakerView) → (opened_taker own t).inbox ≡ t.inbox
 opened_inbox true t = refl
 opened_inbox false t = refl
 

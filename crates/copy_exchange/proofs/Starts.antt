@@ -11,10 +11,10 @@ use Rattle.copy_inbox.specs.Gathered.{is_gathered}
 use Rattle.copy_inbox.specs.Views.{make_desk, make_post}
 use Rattle.copy_inbox.specs.Handles.{InboxId, TakerView, SenderView, AllGathered}
 use Rattle.copy_exchange.specs.declared.courier.Courier.{Courier}
-use Rattle.copy_exchange.specs.Desks.{Stands}
+use Rattle.copy_exchange.specs.Desks.{IsOrderly}
 use Rattle.copy_exchange.specs.Couriers.{IsCourier, IsSenderOn, AreOpen, Together, SetsOut, senders_to, pushed_by}
 use Rattle.copy_exchange.specs.Inboxes.{IsSettled, Settled}
-use Rattle.copy_exchange.specs.Steps.{AreTakersOf, Opens, at_place, opened, opening}
+use Rattle.copy_exchange.specs.Steps.{AreTakersOf, Opens, at_place, opened_taker, opened_sender}
 use Rattle.copy_exchange.proofs.Lists.{each_map}
 use Rattle.copy_exchange.proofs.Gathers.{numbers_of, gathered_more}
 use Rattle.copy_exchange.proofs.Owns.{workers_of}
@@ -29,7 +29,7 @@ below : (made : ℕ) (gs : List Gathered) → Each (λ (g : Gathered). (g.number
 below made [] h i le = refl
 below made (g ∷ gs) h i le = let number = h.0.0 in gathered_more g gs i (λ e. absurd (omega arith)) ∙ below made gs h.1 i le
 
-stands_more : (t : TakerView) (n : ℕ) → Stands t.desk → AllGathered t.desk → Stands (with_more t n).desk
+stands_more : (t : TakerView) (n : ℕ) → IsOrderly t.desk → AllGathered t.desk → IsOrderly (with_more t n).desk
 stands_more t n h all =
     let made : ℕ = t.desk.made in
     record {
@@ -90,11 +90,11 @@ past [] v le = refl
 past (x ∷ xs) zero le = absurd (omega arith)
 past (x ∷ xs) (suc v) le = past xs v (omega arith)
 
-opening_fits : (own : Bool) (t : TakerView) → IsSenderOn t.inbox own (opening own t)
+opening_fits : (own : Bool) (t : TakerView) → IsSenderOn t.inbox own (opened_sender own t)
 opening_fits true t = refl
 opening_fits false t = refl
 
-opening_nothing : (own : Bool) (t : TakerView) → pushed_by (opening own t) ≡ []
+opening_nothing : (own : Bool) (t : TakerView) → pushed_by (opened_sender own t) ≡ []
 opening_nothing true t = refl
 opening_nothing false t = refl
 
@@ -137,7 +137,7 @@ range_more : (a n : ℕ) → range_with_len a (n + 1) ≡ range_with_len a n ++ 
 range_more a n = sym (map-id (range_with_len a (n + 1))) ∙ (map-range_with_len_more (λ x. x) a n (a + n) refl ∙ ap (λ l. l ++ (a + n) ∷ []) (map-id (range_with_len a n)))
 
 -- one sender more of a taker
-opened_more : (own : Bool) (t : TakerView) (n : ℕ) (ss : List SenderView) → n ≡ length ss → opened own (with_more t n) ≡ with_more t (length (ss ++ cons_option (opening own (with_more t n)) []))
+opened_more : (own : Bool) (t : TakerView) (n : ℕ) (ss : List SenderView) → n ≡ length ss → opened_taker own (with_more t n) ≡ with_more t (length (ss ++ cons_option (opened_sender own (with_more t n)) []))
 opened_more true t n ss e = ap (with_more t) (e ∙ ap length (sym (append-nil ss)))
 opened_more false t n ss e =
     let s : SenderView = record { inbox = t.inbox; post = make_post (t.desk.made + n) [] } in
@@ -145,7 +145,7 @@ opened_more false t n ss e =
     λ i. record { inbox = t.inbox; desk = make_desk (more i) t.desk.taken t.desk.gathered }
 
 numbers_more : (own : Bool) (t : TakerView) (n : ℕ) (ss : List SenderView) → n ≡ length ss → numbers_of ss ≡ range_with_len t.desk.made (length ss)
-    → numbers_of (ss ++ cons_option (opening own (with_more t n)) []) ≡ range_with_len t.desk.made (length (ss ++ cons_option (opening own (with_more t n)) []))
+    → numbers_of (ss ++ cons_option (opened_sender own (with_more t n)) []) ≡ range_with_len t.desk.made (length (ss ++ cons_option (opened_sender own (with_more t n)) []))
 numbers_more true t n ss e h = let nil = append-nil ss in ap numbers_of nil ∙ (h ∙ ap (λ l. range_with_len t.desk.made (length l)) (sym nil))
 numbers_more false t n ss e h =
     let s : SenderView = record { inbox = t.inbox; post = make_post (t.desk.made + n) [] } in
@@ -155,16 +155,16 @@ numbers_more false t n ss e h =
 pub opens_more_rows : (inboxes : List InboxId) (u : ℕ) (old mid new : List TakerView) (rows : List Row) (row : Row) → OpensRows inboxes old mid rows → Opens u mid new row.items → length rows ≡ u → OpensRows inboxes old new (rows ++ row ∷ [])
 opens_more_rows inboxes u old mid new rows row h r e =
     let count = h.takers.count in
-    let same : (v : ℕ) (t : TakerView) → v < length inboxes → at_place row.items v ≡ opening (v == u) (with_more (get_or old v t) (length (row_senders rows v)))
-    = λ v t lt. r.sender v t (omega arith) ∙ ap (opening (v == u)) (h.taker v t lt) in
-    let joined : (v : ℕ) (t : TakerView) → v < length inboxes → row_senders (rows ++ row ∷ []) v ≡ row_senders rows v ++ cons_option (opening (v == u) (with_more (get_or old v t) (length (row_senders rows v)))) []
+    let same : (v : ℕ) (t : TakerView) → v < length inboxes → at_place row.items v ≡ opened_sender (v == u) (with_more (get_or old v t) (length (row_senders rows v)))
+    = λ v t lt. r.sender v t (omega arith) ∙ ap (opened_sender (v == u)) (h.taker v t lt) in
+    let joined : (v : ℕ) (t : TakerView) → v < length inboxes → row_senders (rows ++ row ∷ []) v ≡ row_senders rows v ++ cons_option (opened_sender (v == u) (with_more (get_or old v t) (length (row_senders rows v)))) []
     = λ v t lt. filter_map-append (λ (k : Row). at_place k.items v) rows (row ∷ []) ∙ ap (λ o. row_senders rows v ++ cons_option o []) (same v t lt) in
     let P : ℕ → Type 0 = λ k. IsRow inboxes k row in
     record {
       takers = opened_takers inboxes u mid new row.items h.takers r;
       are_rows = rows_more inboxes 0 rows row h.are_rows (subst P (let z : u ≡ 0 + length rows = omega arith in z) (opens_row inboxes u mid new row h.takers r));
       taker = λ v t lt.
-          r.taker v t (omega arith) ∙ (ap (opened (v == u)) (h.taker v t lt)
+          r.taker v t (omega arith) ∙ (ap (opened_taker (v == u)) (h.taker v t lt)
           ∙ (opened_more (v == u) (get_or old v t) (length (row_senders rows v)) (row_senders rows v) refl ∙ ap (λ l. with_more (get_or old v t) (length l)) (sym (joined v t lt))));
       numbered = λ v t lt.
           ap numbers_of (joined v t lt) ∙ (numbers_more (v == u) (get_or old v t) (length (row_senders rows v)) (row_senders rows v) refl (h.numbered v t lt)
@@ -264,7 +264,7 @@ module _ (inboxes : List InboxId) (olds ts : List TakerView) (rows : List Row) (
       let row = row_at inboxes 0 rows i r h.are_rows (omega arith) in
       let old = zip_at IsSettled inboxes olds settled i t.inbox t inside in
       let zero_ : 0 + i ≡ i = omega arith in
-      let P : TakerView → Type 0 = λ x. Stands x.desk in
+      let P : TakerView → Type 0 = λ x. IsOrderly x.desk in
       record {
         taker = ap (slice_get inboxes) zero_ ∙ (inbox_at i t.inbox inside ∙ ap Some (sym (h.takers.its i t.inbox t inside)));
         count = row.count;

@@ -11,8 +11,8 @@ use Rattle.copy_inbox.specs.Views.{make_desk}
 use Rattle.copy_inbox.specs.Handles.{InboxId, TakerView}
 use Rattle.copy_inbox.proofs.Parts.{part-not_nil}
 use Rattle.copy_exchange.specs.declared.courier.Courier.{Courier}
-use Rattle.copy_exchange.specs.Desks.{is_from_sender, Stands}
-use Rattle.copy_exchange.specs.Couriers.{IsCourier, IsOwn, Stays, Collects, Delivers, SetsOut, Returns, AllReturn, delivered, delivered_to, is_to}
+use Rattle.copy_exchange.specs.Desks.{is_from_sender, IsOrderly}
+use Rattle.copy_exchange.specs.Couriers.{IsCourier, DeliversOwn, Stays, Collects, Delivers, SetsOut, Returns, AllReturn, delivered, delivered_to, is_to}
 use Rattle.copy_exchange.specs.Inboxes.{IsFresh, IsSettled, Settled}
 use Rattle.copy_exchange.proofs.Delivered as step
 use Rattle.copy_exchange.proofs.Homes.{workers, count, owns}
@@ -24,7 +24,7 @@ none_left : (rest : List Item) → ((s : ℕ) → part s rest ≡ []) → rest �
 none_left [] h = refl
 none_left (x ∷ xs) h = absurd (part-not_nil x xs (h x.sender))
 
-stands_fresh : Stands (make_desk 0 [] [])
+stands_fresh : IsOrderly (make_desk 0 [] [])
 stands_fresh = record {
   in_order = λ rest r s. ap (λ l. from s (copies_of l)) (none_left rest (λ k. r.1 k refl));
   begun = tt;
@@ -36,7 +36,7 @@ stands_fresh = record {
 
 settled_fresh : (inbox : InboxId) (t : TakerView) → IsFresh inbox t → IsSettled inbox t
 settled_fresh inbox t h =
-    let P : Desk → Type 0 = λ d. Stands d in
+    let P : Desk → Type 0 = λ d. IsOrderly d in
     record {
       its = h.0;
       stands = subst P (sym h.1) stands_fresh;
@@ -92,7 +92,7 @@ module _ (worker_of : ℕ → ℕ) (s v : ℕ) where
   abbrev Alone : List Courier → Courier → Type 0
   Alone cs c = c.worker ≡ worker_of s → from s (delivered_to cs v) ≡ from s (delivered c v)
 
-  with_first : (first : ℕ) (c : Courier) (cs part_ : List Courier) → c.worker ≡ first → IsOwn worker_of c → (k : ℕ) → first < k → workers_of part_ ≡ range_with_len k (length part_) → Each (Alone cs) part_ → Each (Alone (c ∷ cs)) part_
+  with_first : (first : ℕ) (c : Courier) (cs part_ : List Courier) → c.worker ≡ first → DeliversOwn worker_of c → (k : ℕ) → first < k → workers_of part_ ≡ range_with_len k (length part_) → Each (Alone cs) part_ → Each (Alone (c ∷ cs)) part_
   with_first first c cs [] is own k lt e h = tt
   with_first first c cs (d ∷ ds) is own k lt e h =
       let n = numbers d.worker k (workers_of ds) (range_with_len (k + 1) (length ds)) e in
@@ -104,7 +104,7 @@ module _ (worker_of : ℕ → ℕ) (s v : ℕ) where
         with_first first c cs ds is own (k + 1) (omega arith) n.1 h.1,
       )
 
-  alone : (first : ℕ) (cs : List Courier) → workers_of cs ≡ range_with_len first (length cs) → Each (IsOwn worker_of) cs → Each (Alone cs) cs
+  alone : (first : ℕ) (cs : List Courier) → workers_of cs ≡ range_with_len first (length cs) → Each (DeliversOwn worker_of) cs → Each (Alone cs) cs
   alone first [] e own = tt
   alone first (c ∷ cs) e own =
       let n = numbers c.worker first (workers_of cs) (range_with_len (first + 1) (length cs)) e in

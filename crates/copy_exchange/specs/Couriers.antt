@@ -7,7 +7,7 @@ use Rattle.copy_inbox.specs.declared.rule.Desk.{Desk}
 use Rattle.copy_inbox.specs.Gathered.{is_gathered, Whole}
 use Rattle.copy_inbox.specs.Handles.{InboxId, TakerView, SenderView}
 use Rattle.copy_exchange.specs.declared.courier.Courier.{Courier}
-use Rattle.copy_exchange.specs.Desks.{is_from_sender, SameOfEach, copies_pushed, taken_by, gathered_by, Stands}
+use Rattle.copy_exchange.specs.Desks.{is_from_sender, SameOfEach, copies_pushed, taken_by, gathered_by, IsOrderly}
 
 -- its sender on the inbox of worker v
 abbrev pub sender_to : Courier → (v : ℕ) → Option SenderView
@@ -35,15 +35,15 @@ pub record IsCourier (inboxes : List InboxId) (c : Courier) : Type 0 where
   pub taker : slice_get inboxes c.worker ≡ Some c.taker.inbox
   pub count : length c.senders.items ≡ length inboxes
   pub each : (v : ℕ) (id : InboxId) → slice_get inboxes v ≡ Some id → IsSenderOn id (v == c.worker) (sender_to c v)
-  pub stands : Stands c.taker.desk
+  pub stands : IsOrderly c.taker.desk
 
 -- all that was gathered before this window is taken
 abbrev pub IsCollected : Courier → Type 0
 IsCollected c = Whole c.taker.desk.gathered c.taker.desk.taken
 
 -- of motes of other workers it delivered nothing
-abbrev pub IsOwn : (worker_of : ℕ → ℕ) → Courier → Type 0
-IsOwn worker_of c = (s v : ℕ) → (worker_of s == c.worker) ≡ false → filter (is_from_sender s) (delivered c v) ≡ []
+abbrev pub DeliversOwn : (worker_of : ℕ → ℕ) → Courier → Type 0
+DeliversOwn worker_of c = (s v : ℕ) → (worker_of s == c.worker) ≡ false → filter (is_from_sender s) (delivered c v) ≡ []
 
 -- ---- from the start of a window to its end
 -- which sender it is
@@ -113,7 +113,7 @@ pub record Returns (inboxes : List InboxId) (worker_of : ℕ → ℕ) (old new :
   pub stays : Stays old new
   pub courier : IsCourier inboxes new
   pub collected : IsCollected new
-  pub own : IsOwn worker_of new
+  pub own : DeliversOwn worker_of new
 
 -- the couriers that set out together are back
 pub record AllReturn (inboxes : List InboxId) (couriers : List Courier) : Type 0 where

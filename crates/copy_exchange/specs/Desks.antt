@@ -6,8 +6,8 @@ use Rattle.copy_inbox.specs.declared.items.Carried.{Carried}
 use Rattle.copy_inbox.specs.declared.items.Item.{Item}
 use Rattle.copy_inbox.specs.declared.rule.Gathered.{Gathered}
 use Rattle.copy_inbox.specs.declared.rule.Desk.{Desk}
-use Rattle.copy_inbox.specs.Items.{copies_of, packet_of, part}
-use Rattle.copy_inbox.specs.Gathered.{is_gathered, Apart, Begun, Whole, Later, NoOthers}
+use Rattle.copy_inbox.specs.Items.{copies_of, carried_copy, part}
+use Rattle.copy_inbox.specs.Gathered.{is_gathered, Apart, TookFronts, Whole, Later, NoOthers}
 use Rattle.copy_inbox.specs.Handles.{TakerView}
 
 abbrev pub is_from_sender : ℕ → RadioCopy → Bool
@@ -18,7 +18,7 @@ abbrev pub SameOfEach : List RadioCopy → List RadioCopy → Type 0
 SameOfEach xs ys = (s : ℕ) → filter (is_from_sender s) xs ≡ filter (is_from_sender s) ys
 
 abbrev pub copies_pushed : List Carried → List RadioCopy
-copies_pushed what = map packet_of what
+copies_pushed what = map carried_copy what
 
 -- the copies of all gathered lists, the oldest list first
 abbrev pub copies_in : List Gathered → List RadioCopy
@@ -38,10 +38,10 @@ abbrev pub IsRest : Desk → List Item → Type 0
 IsRest d rest = Whole d.gathered (d.taken ++ rest) × NoOthers d.gathered d.taken (d.taken ++ rest)
 
 -- What holds of each taker between windows and in them.
-pub record Stands (d : Desk) : Type 0 where
+pub record IsOrderly (d : Desk) : Type 0 where
   -- in whatever mixture the rest comes, each mote's copies are taken in the order in which they were gathered
   pub in_order : (rest : List Item) → IsRest d rest → SameOfEach (copies_of (d.taken ++ rest)) (copies_in d.gathered)
-  pub begun : Begun d.gathered d.taken
+  pub begun : TookFronts d.gathered d.taken
   pub unseen : (s : ℕ) → is_gathered d.gathered s ≡ false → part s d.taken ≡ []
   pub apart : Apart d.gathered
   pub later : Later d.made d.gathered

@@ -12,18 +12,18 @@ abbrev pub at_place : List (Option SenderView) → (v : ℕ) → Option SenderVi
 at_place senders v = slice_index_or senders v None
 
 -- ---- a worker's new senders
-abbrev pub opened : (own : Bool) → TakerView → TakerView
-opened own t = cond own t (after_sender t)
+abbrev pub opened_taker : (own : Bool) → TakerView → TakerView
+opened_taker own t = cond own t (after_sender t)
 
-abbrev pub opening : (own : Bool) → TakerView → Option SenderView
-opening own t = cond own None (Some (record { inbox = t.inbox; post = make_post t.desk.made [] }))
+abbrev pub opened_sender : (own : Bool) → TakerView → Option SenderView
+opened_sender own t = cond own None (Some (record { inbox = t.inbox; post = make_post t.desk.made [] }))
 
 -- on each inbox but its own the worker has a sender more
 pub record Opens (worker : ℕ) (old new : List TakerView) (senders : List (Option SenderView)) : Type 0 where
   pub takers : length new ≡ length old
   pub count : length senders ≡ length old
-  pub taker : (v : ℕ) (t : TakerView) → v < length old → slice_index_or new v t ≡ opened (v == worker) (slice_index_or old v t)
-  pub sender : (v : ℕ) (t : TakerView) → v < length old → at_place senders v ≡ opening (v == worker) (slice_index_or old v t)
+  pub taker : (v : ℕ) (t : TakerView) → v < length old → slice_index_or new v t ≡ opened_taker (v == worker) (slice_index_or old v t)
+  pub sender : (v : ℕ) (t : TakerView) → v < length old → at_place senders v ≡ opened_sender (v == worker) (slice_index_or old v t)
 
 -- ---- a worker's senders are gathered
 abbrev pub gather_into : TakerView → Option SenderView → TakerView

@@ -4,7 +4,7 @@ ghost use Rattle.std.specs.Prelude.{◌≡◌, ◌≤◌, ◌^◌, length, map, 
 ghost use Rattle.std.specs.List.{AllZip};
 ghost use Rattle.copy_exchange.specs.Couriers.{Together, SetsOut, AllReturn, ComesHome};
 ghost use Rattle.copy_exchange.specs.Inboxes.{Settled};
-ghost use Rattle.copy_exchange.specs.Steps.{AreTakersOf, Opens, opened, opening, AreSendersOn, gather_into, GathersRow};
+ghost use Rattle.copy_exchange.specs.Steps.{AreTakersOf, Opens, opened_taker, opened_sender, AreSendersOn, gather_into, GathersRow};
 
 use crate::courier::Courier;
 use copy_inbox::{Inbox, InboxError, Sender, Taker};
@@ -59,8 +59,8 @@ fn senders_of(
 // A new sender on an inbox; none on the worker's own.
 fn sender_on(inbox: &Inbox, taker: &mut Taker, own: bool) -> Result<Option<Sender>, InboxError>
     requires { taker.old.inbox ≡ inbox.now }
-    ensures sender { IfOk result (λ sender. sender ≡ opening own taker.old) }
-    ensures taker { OnOk result (taker.new ≡ opened own taker.old) }
+    ensures sender { IfOk result (λ sender. sender ≡ opened_sender own taker.old) }
+    ensures taker { OnOk result (taker.new ≡ opened_taker own taker.old) }
 {
     if own {
         return Ok(None);

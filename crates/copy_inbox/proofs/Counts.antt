@@ -9,7 +9,7 @@ use Rattle.copy_inbox.specs.declared.items.Item.{Item}
 use Rattle.copy_inbox.specs.declared.rule.Gathered.{Gathered}
 use Rattle.copy_inbox.specs.declared.rule.Desk.{Desk}
 use Rattle.copy_inbox.specs.Items.{part, OfMade}
-use Rattle.copy_inbox.specs.Gathered.{is_gathered, Apart, left_of, known_of, Later, Begun, Whole}
+use Rattle.copy_inbox.specs.Gathered.{is_gathered, Apart, untaken_of, known_of, Later, TookFronts, Whole}
 use Rattle.copy_inbox.specs.Rule.{Behind, Sound}
 use Rattle.copy_inbox.proofs.Parts.{part-append, part-here, part-else, part-nil_left}
 use Rattle.copy_inbox.proofs.Moves.{each_map}
@@ -22,8 +22,8 @@ each_zip (g ∷ gs) f h k = (f g h.0 k.0, each_zip gs f h.1 k.1)
 abbrev pub tally : List Gathered → List Item → ℕ
 tally gs items = sum_by (λ (g : Gathered). length (part g.number items)) gs
 
-known-cons : (g : Gathered) (gs : List Gathered) (taken : List Item) → known_of (g ∷ gs) taken ≡ length (left_of taken g) + known_of gs taken
-known-cons g gs taken = sum_by-cons (λ (k : Gathered). length (left_of taken k)) g gs
+known-cons : (g : Gathered) (gs : List Gathered) (taken : List Item) → known_of (g ∷ gs) taken ≡ length (untaken_of taken g) + known_of gs taken
+known-cons g gs taken = sum_by-cons (λ (k : Gathered). length (untaken_of taken k)) g gs
 
 tally-cons : (g : Gathered) (gs : List Gathered) (items : List Item) → tally (g ∷ gs) items ≡ length (part g.number items) + tally gs items
 tally-cons g gs items = sum_by-cons (λ (k : Gathered). length (part k.number items)) g gs
@@ -35,7 +35,7 @@ Adds taken items g = part g.number (taken ++ items) ≡ g.pushed
 pub adds_of : (d : Desk) (seat : ℕ → Option ℕ) (pushed : ℕ → List Carried) (items : List Item) → Sound d seat pushed items → Each (Adds d.taken items) d.gathered
 adds_of d seat pushed items s = each_map d.gathered (λ g j. s.parts g.number ∙ j.all) s.joined
 
-left_is : (g : Gathered) (taken items : List Item) → Adds taken items g → left_of taken g ≡ part g.number items
+left_is : (g : Gathered) (taken items : List Item) → Adds taken items g → untaken_of taken g ≡ part g.number items
 left_is g taken items h = ap (drop (length (part g.number taken))) (sym h ∙ part-append g.number taken items) ∙ drop-append_seam (part g.number taken) (part g.number items)
 
 pub known-is : (gs : List Gathered) (taken items : List Item) → Each (Adds taken items) gs → known_of gs taken ≡ tally gs items
@@ -43,7 +43,7 @@ known-is [] taken items h = refl
 known-is (g ∷ gs) taken items h = let e = ap length (left_is g taken items h.0) in let r = known-is gs taken items h.1 in
     omega (arith, e, r, known-cons g gs taken, tally-cons g gs items)
 
-pub begun_of : (gs : List Gathered) (taken items : List Item) → Each (Adds taken items) gs → Begun gs taken
+pub begun_of : (gs : List Gathered) (taken items : List Item) → Each (Adds taken items) gs → TookFronts gs taken
 begun_of gs taken items h = each_map gs (λ g k. (part g.number items, sym k ∙ part-append g.number taken items)) h
 
 pub made_of : (d : Desk) (seat : ℕ → Option ℕ) (pushed : ℕ → List Carried) (items : List Item) → Sound d seat pushed items → OfMade d.made d.taken
@@ -101,12 +101,12 @@ nil_of_length : (l : List Carried) → length l ≡ 0 → l ≡ []
 nil_of_length [] e = refl
 nil_of_length (x ∷ xs) e = absurd (omega arith)
 
-pub whole_of : (gs : List Gathered) (taken : List Item) → known_of gs taken ≡ 0 → Begun gs taken → Whole gs taken
+pub whole_of : (gs : List Gathered) (taken : List Item) → known_of gs taken ≡ 0 → TookFronts gs taken → Whole gs taken
 whole_of [] taken none b = tt
 whole_of (g ∷ gs) taken none b =
     let k = known-cons g gs taken in
     let rest : List Carried = b.0.0 in
-    let e : left_of taken g ≡ rest = ap (drop (length (part g.number taken))) b.0.1 ∙ drop-append_seam (part g.number taken) rest in
+    let e : untaken_of taken g ≡ rest = ap (drop (length (part g.number taken))) b.0.1 ∙ drop-append_seam (part g.number taken) rest in
     let l = ap length e in
     let z : rest ≡ [] = nil_of_length rest (omega arith) in
     (sym (b.0.1 ∙ (ap (λ r. part g.number taken ++ r) z ∙ append-nil (part g.number taken))), whole_of gs taken (omega arith) b.1)

@@ -16,7 +16,7 @@ use Rattle.copy_inbox.specs.declared.rule.View.TheVariants.{Taking, Sending, Spe
 use Rattle.copy_inbox.specs.Items.{part}
 use Rattle.copy_inbox.specs.Gathered.{is_gathered}
 use Rattle.copy_inbox.specs.Views.{make_desk, make_post, make_gathered, new_taker, with_one_more, next_sender, with_gathered, with_pushed}
-use Rattle.copy_inbox.specs.Rule.{Fits, Sound, InboxRule, SeenBy, Took, Pushed}
+use Rattle.copy_inbox.specs.Rule.{PassFits, Sound, InboxRule, SeenBy, Took, Pushed}
 use Rattle.copy_inbox.proofs.Parts.{part-snoc_here, part-snoc_else, part-moved, part-nil_right, behind-snoc, behind-fresh}
 
 -- ---- lists of views
@@ -66,7 +66,7 @@ one v w (suc pass) e = absurd (some-ne-none v (sym e))
 
 pub begins : InboxRule [] (new_taker ∷ [])
 begins =
-    let F : ℕ → View → Type 0 = Fits 0 (λ s. None) (make_desk 0 [] []) (λ s. []) in
+    let F : ℕ → View → Type 0 = PassFits 0 (λ s. None) (make_desk 0 [] []) (λ s. []) in
     record {
       taker = 0;
       seat = λ s. None;
@@ -84,7 +84,7 @@ one_seat : (seat : ℕ → Option ℕ) (s t i j : ℕ) → seat s ≡ Some i →
 one_seat seat s t i j a b n e = let k : seat t ≡ seat s = ap seat e in let m : Some j ≡ Some i = cc in n cc
 
 fits_push : (taker : ℕ) (seat : ℕ → Option ℕ) (d : Desk) (old now : ℕ → List Carried) (s pass j : ℕ) (u : View)
-    → seat s ≡ Some pass → j ≢ pass → ((t : ℕ) → t ≢ s → now t ≡ old t) → Fits taker seat d old j u → Fits taker seat d now j u
+    → seat s ≡ Some pass → j ≢ pass → ((t : ℕ) → t ≢ s → now t ≡ old t) → PassFits taker seat d old j u → PassFits taker seat d now j u
 fits_push taker seat d old now s pass j (Taking e) at n same f = f
 fits_push taker seat d old now s pass j (Sending q) at n same f = (f.0, f.1 ∙ sym (same q.number (one_seat seat s q.number pass j at f.0 n)))
 fits_push taker seat d old now s pass j Spent at n same f = f
@@ -131,7 +131,7 @@ pushes n pass p x of room items views _ h at =
         };
         taking = set_else views pass h.taker w (apart_views views h.taker pass d p h.taking at) ∙ h.taking;
         sending = λ s q e. sends_push views pass q s p w h.pushed now x at (h.sending s q e) (λ n k. n (let z : h.seat s ≡ h.seat p.number = ap h.seat k in let y = mine.0 in let m : Some q ≡ Some pass = cc in cc)) same more refl;
-        fits = all_set (Fits h.taker h.seat d now) views pass w (mine.0, sym more) (λ j u other e. fits_push h.taker h.seat d h.pushed now p.number pass j u mine.0 other same (h.fits j u e));
+        fits = all_set (PassFits h.taker h.seat d now) views pass w (mine.0, sym more) (λ j u other e. fits_push h.taker h.seat d h.pushed now p.number pass j u mine.0 other same (h.fits j u e));
       },
       refl,
     )
@@ -143,7 +143,7 @@ pushes_as n pass v p x is of room = subst (λ (u : View). Pushes InboxRule n pas
 sound_of : (d e : Desk) (seat : ℕ → Option ℕ) (pushed : ℕ → List Carried) (items : List Item) → e ≡ d → Sound d seat pushed items → Sound e seat pushed items
 sound_of d e seat pushed items is s = subst (λ (k : Desk). Sound k seat pushed items) (sym is) s
 
-fits_take : (taker : ℕ) (seat : ℕ → Option ℕ) (d e : Desk) (pushed : ℕ → List Carried) (j : ℕ) (u : View) → j ≢ taker → Fits taker seat d pushed j u → Fits taker seat e pushed j u
+fits_take : (taker : ℕ) (seat : ℕ → Option ℕ) (d e : Desk) (pushed : ℕ → List Carried) (j : ℕ) (u : View) → j ≢ taker → PassFits taker seat d pushed j u → PassFits taker seat e pushed j u
 fits_take taker seat d e pushed j (Taking k) n f = absurd (n f.0)
 fits_take taker seat d e pushed j (Sending q) n f = f
 fits_take taker seat d e pushed j Spent n f = f
@@ -169,7 +169,7 @@ takes pass d x items views h at =
         };
         taking = ap (get_elem? (set views pass (Taking w))) (sym mine.0) ∙ set_at views pass (Taking w) (Taking d) at;
         sending = λ t q e. let was = h.sending t q e in set_else views pass q (Taking w) (λ k. apart_views views pass q d (make_post t (h.pushed t)) at was (sym k)) ∙ was;
-        fits = all_set (Fits h.taker h.seat w h.pushed) views pass (Taking w) (mine.0, refl)
+        fits = all_set (PassFits h.taker h.seat w h.pushed) views pass (Taking w) (mine.0, refl)
             (λ j u other e. fits_take h.taker h.seat h.desk_of w h.pushed j u (λ k. other (k ∙ sym mine.0)) (h.fits j u e));
       },
       (refl, (items, (views, pass, h, at))),
@@ -203,7 +203,7 @@ seated : (seat : ℕ → Option ℕ) (s n pass : ℕ) → seat s ≡ Some pass �
 seated seat s n pass a b e = let k : seat s ≡ seat n = ap seat e in absurd cc
 
 fits_fork : (taker : ℕ) (seat : ℕ → Option ℕ) (d e : Desk) (pushed : ℕ → List Carried) (n : ℕ) (o : Option ℕ) (j : ℕ) (u : View)
-    → j ≢ taker → seat n ≡ None → Fits taker seat d pushed j u → Fits taker (λ s. cond (eqb s n) o (seat s)) e pushed j u
+    → j ≢ taker → seat n ≡ None → PassFits taker seat d pushed j u → PassFits taker (λ s. cond (eqb s n) o (seat s)) e pushed j u
 fits_fork taker seat d e pushed n o j (Taking k) apart none f = absurd (apart f.0)
 fits_fork taker seat d e pushed n o j (Sending q) apart none f = (at_other seat n o q.number (seated seat q.number n j f.0 none) ∙ f.0, f.1)
 fits_fork taker seat d e pushed n o j Spent apart none f = f
@@ -217,7 +217,7 @@ forks pass d items views h at =
     let vs : List View = set views pass (Taking w) in
     let seat : ℕ → Option ℕ = λ t. cond (eqb t d.made) (Some (length vs)) (h.seat t) in
     let free = s.unmade d.made (omega arith) in
-    let F : ℕ → View → Type 0 = Fits h.taker seat w h.pushed in
+    let F : ℕ → View → Type 0 = PassFits h.taker seat w h.pushed in
     let old : All F vs = all_set F views pass (Taking w) (mine.0, refl)
     (λ j u other e. fits_fork h.taker h.seat h.desk_of w h.pushed d.made (Some (length vs)) j u (λ k. other (k ∙ sym mine.0)) free.1 (h.fits j u e)) in
     let mine_new : F (length vs) (Sending new) = (at_this h.seat d.made (Some (length vs)) d.made refl, sym free.0) in
@@ -256,7 +256,7 @@ pub below : (m s : ℕ) → ((m ≤ s) → ⊥) → s < m
 below m s h = omega arith
 
 fits_join : (taker : ℕ) (seat : ℕ → Option ℕ) (d e : Desk) (pushed : ℕ → List Carried) (s other j : ℕ) (u : View)
-    → j ≢ taker → seat s ≡ Some other → j ≢ other → Fits taker seat d pushed j u → Fits taker (λ t. cond (eqb t s) None (seat t)) e pushed j u
+    → j ≢ taker → seat s ≡ Some other → j ≢ other → PassFits taker seat d pushed j u → PassFits taker (λ t. cond (eqb t s) None (seat t)) e pushed j u
 fits_join taker seat d e pushed s other j (Taking k) apart is n f = absurd (apart f.0)
 fits_join taker seat d e pushed s other j (Sending q) apart is n f = (at_other seat s None q.number (one_seat seat s q.number other j is f.0 n) ∙ f.0, f.1)
 fits_join taker seat d e pushed s other j Spent apart is n f = f
@@ -274,7 +274,7 @@ merges pass d other p items views h at two at' =
     let was = h_was views pass other p (Taking w) two at' in
     let theirs = h.fits other (Sending p) was in
     let seat : ℕ → Option ℕ = λ t. cond (eqb t p.number) None (h.seat t) in
-    let F : ℕ → View → Type 0 = Fits h.taker seat w h.pushed in
+    let F : ℕ → View → Type 0 = PassFits h.taker seat w h.pushed in
     let N : ℕ → View → Type 0 = λ j u. j ≢ other → F j u in
     let now : All N vs = all_set N views pass (Taking w) (λ _. (mine.0, refl))
     (λ j u apart e n. fits_join h.taker h.seat h.desk_of w h.pushed p.number other j u (λ k. apart (k ∙ sym mine.0)) theirs.0 n (h.fits j u e)) in

@@ -17,10 +17,10 @@ use Rattle.copy_inbox.specs.declared.rule.Post.{Post}
 use Rattle.copy_inbox.specs.declared.rule.View.{View}
 use Rattle.copy_inbox.specs.declared.rule.View.TheVariants.{Taking, Sending}
 use Rattle.copy_inbox.specs.Items.{part, BeginsWith}
-use Rattle.copy_inbox.specs.Gathered.{is_gathered, left_of, known_of}
+use Rattle.copy_inbox.specs.Gathered.{is_gathered, untaken_of, known_of}
 use Rattle.copy_inbox.specs.Views.{make_desk, make_gathered, with_one_more, with_gathered, with_taken}
 use Rattle.copy_inbox.specs.Rule.{Sound, SeenBy}
-use Rattle.copy_inbox.specs.Handles.{desk_in, post_in, IsTaker, IsSender, IsNext}
+use Rattle.copy_inbox.specs.Handles.{desk_in, post_in, IsTaker, IsSender, IsNextTaken}
 use Rattle.copy_inbox.proofs.Parts.{part-append, part-here, part-else, part-moved, part-not_nil, part-nil_left, part-nil_right}
 use Rattle.copy_inbox.proofs.Moves.{each_map, below, SoundWith, seen_sound}
 use Rattle.copy_inbox.proofs.Counts.{Adds, adds_of, known-is, begun_of, front_counts, tally-nil, tally-le, front_known}
@@ -75,7 +75,7 @@ counts_down d x rest seat pushed s =
     let f = front_counts d.gathered x rest s.apart in
     omega (arith, a, b, f)
 
-pub is_next : (d : Desk) (x : Item) (rest : List Item) (seat : ℕ → Option ℕ) (pushed : ℕ → List Carried) → Sound d seat pushed (x ∷ rest) → IsNext d x
+pub is_next : (d : Desk) (x : Item) (rest : List Item) (seat : ℕ → Option ℕ) (pushed : ℕ → List Carried) → Sound d seat pushed (x ∷ rest) → IsNextTaken d x
 is_next d x rest seat pushed s = (
   counts_down d x rest seat pushed s,
   λ later some. let h = known-is d.gathered d.taken (x ∷ rest) (adds_of d seat pushed (x ∷ rest) s) in
@@ -137,7 +137,7 @@ joined_is v u w a b e = e ∙ (λ i. with_gathered (a i) (b i))
 known_joined : (d : Desk) (p : Post) → known_of (joined_desk d p).gathered d.taken ≡ known_of d.gathered d.taken + (length p.pushed - length (part p.number d.taken))
 known_joined d p =
     let g = make_gathered p.number d.made p.pushed in
-    omega (arith, sum_by-cons (λ (k : Gathered). length (left_of d.taken k)) g d.gathered, length-drop (length (part p.number d.taken)) p.pushed)
+    omega (arith, sum_by-cons (λ (k : Gathered). length (untaken_of d.taken k)) g d.gathered, length-drop (length (part p.number d.taken)) p.pushed)
 
 -- there are at least as many items in the queue
 pub joined_few : (d : Desk) (p : Post) (items : List Item) → SoundWith (joined_desk d p) items → known_of d.gathered d.taken + (length p.pushed - length (part p.number d.taken)) ≤ length items
@@ -203,7 +203,7 @@ next_below v counts k x rest t seen =
     let b = t.made in
     omega arith
 
-pub next_known : (v : View) (x : Item) (rest : List Item) → v ≡ Taking (desk_in v) → SeenBy v (x ∷ rest) → IsNext (desk_in v) x
+pub next_known : (v : View) (x : Item) (rest : List Item) → v ≡ Taking (desk_in v) → SeenBy v (x ∷ rest) → IsNextTaken (desk_in v) x
 next_known v x rest is seen = let s = seen_sound v (desk_in v) (x ∷ rest) is seen in is_next (desk_in v) x rest s.0 s.1 s.2
 
 -- the queue is empty

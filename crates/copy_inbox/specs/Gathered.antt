@@ -15,20 +15,20 @@ Apart [] = Unit {0}
 Apart (g ∷ gs) = (is_gathered gs g.number ≡ false) × Apart gs
 
 -- what a gathered sender pushed and was not yet taken
-abbrev pub left_of : List Item → Gathered → List Carried
-left_of taken g = drop (length (part g.number taken)) g.pushed
+abbrev pub untaken_of : List Item → Gathered → List Carried
+untaken_of taken g = drop (length (part g.number taken)) g.pushed
 
 -- how many items of gathered senders were not yet taken
 abbrev pub known_of : List Gathered → List Item → ℕ
-known_of gathered taken = sum_by (λ g. length (left_of taken g)) gathered
+known_of gathered taken = sum_by (λ g. length (untaken_of taken g)) gathered
 
 -- each sender that isn't gathered was made after each gathered one was gathered
 abbrev pub Later : ℕ → List Gathered → Type 0
 Later made gathered = (u : ℕ) → u < made → is_gathered gathered u ≡ false → Each (λ (g : Gathered). g.made ≤ u) gathered
 
 -- what was taken of each gathered sender is the beginning of what it pushed
-abbrev pub Begun : List Gathered → List Item → Type 0
-Begun gathered taken = Each (λ (g : Gathered). BeginsWith g.pushed (part g.number taken)) gathered
+abbrev pub TookFronts : List Gathered → List Item → Type 0
+TookFronts gathered taken = Each (λ (g : Gathered). BeginsWith g.pushed (part g.number taken)) gathered
 
 -- what was taken of each gathered sender is all that it pushed
 abbrev pub Whole : List Gathered → List Item → Type 0

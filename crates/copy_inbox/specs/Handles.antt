@@ -12,7 +12,7 @@ use Rattle.copy_inbox.specs.declared.rule.Post.{Post}
 use Rattle.copy_inbox.specs.declared.rule.View.{View}
 use Rattle.copy_inbox.specs.declared.rule.View.TheVariants.{Taking, Sending, Spent}
 use Rattle.copy_inbox.specs.Items.{copies_of, part, OfMade}
-use Rattle.copy_inbox.specs.Gathered.{is_gathered, known_of, Begun, Whole, Later}
+use Rattle.copy_inbox.specs.Gathered.{is_gathered, known_of, TookFronts, Whole, Later}
 use Rattle.copy_inbox.specs.Views.{make_desk, make_post, make_gathered}
 
 -- which inbox it is
@@ -72,7 +72,7 @@ pub record IsTaker (v : View) (counts : List Count) (known : ℕ) : Type 0 where
   pub made : length counts ≡ (desk_in v).made
   pub counted : (s : ℕ) (c : Count) → s < (desk_in v).made → slice_index_or counts s c ≡ count_of (desk_in v) s
   pub known_is : known ≡ known_of (desk_in v).gathered (desk_in v).taken
-  pub begun : Begun (desk_in v).gathered (desk_in v).taken
+  pub begun : TookFronts (desk_in v).gathered (desk_in v).taken
   pub of_made : OfMade (desk_in v).made (desk_in v).taken
   pub numbers : Each (λ (g : Gathered). g.number < (desk_in v).made) (desk_in v).gathered
 
@@ -83,7 +83,7 @@ pub record IsSender (v : View) (count : ℕ) : Type 0 where
 
 -- x is the next item that the taker takes: one less is known where its sender was gathered, and it was gathered where
 -- something is known and no sender that isn't gathered can stand before that
-abbrev pub IsNext : Desk → Item → Type 0
-IsNext d x =
+abbrev pub IsNextTaken : Desk → Item → Type 0
+IsNextTaken d x =
     (known_of d.gathered d.taken ≡ cond (is_gathered d.gathered x.sender) 1 0 + known_of d.gathered (d.taken ++ x ∷ []))
     × (Later d.made d.gathered → 0 < known_of d.gathered d.taken → is_gathered d.gathered x.sender ≡ true)

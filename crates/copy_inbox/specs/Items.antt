@@ -9,12 +9,12 @@ use Rattle.copy_inbox.specs.declared.items.Item.{Item}
 abbrev pub what_of : Item → Carried
 what_of x = x.what
 
-abbrev pub packet_of : Carried → RadioCopy
-packet_of (Packet copy) = copy
+abbrev pub carried_copy : Carried → RadioCopy
+carried_copy (Packet copy) = copy
 
 -- the copies in these items, in order
 abbrev pub copies_of : List Item → List RadioCopy
-copies_of items = map (λ (x : Item). packet_of x.what) items
+copies_of items = map (λ (x : Item). carried_copy x.what) items
 
 -- what the sender numbered s pushed of these items, in order
 abbrev pub part : ℕ → List Item → List Carried

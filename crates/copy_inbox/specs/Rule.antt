@@ -19,10 +19,10 @@ Behind s made [] = Unit {0}
 Behind s made (x ∷ xs) = (made ≤ x.sender → part s (x ∷ xs) ≡ []) × Behind s made xs
 
 -- a pass that is the taker's is the one, and a pass that is a sender's is the one of its number
-abbrev pub Fits : ℕ → (ℕ → Option ℕ) → Desk → (ℕ → List Carried) → ℕ → View → Type 0
-Fits taker seat d pushed pass (Taking e) = (pass ≡ taker) × (e ≡ d)
-Fits taker seat d pushed pass (Sending p) = (seat p.number ≡ Some pass) × (p.pushed ≡ pushed p.number)
-Fits taker seat d pushed pass Spent = Unit {0}
+abbrev pub PassFits : ℕ → (ℕ → Option ℕ) → Desk → (ℕ → List Carried) → ℕ → View → Type 0
+PassFits taker seat d pushed pass (Taking e) = (pass ≡ taker) × (e ≡ d)
+PassFits taker seat d pushed pass (Sending p) = (seat p.number ≡ Some pass) × (p.pushed ≡ pushed p.number)
+PassFits taker seat d pushed pass Spent = Unit {0}
 
 -- of a gathered sender: it was made, its pass is spent, the taker knows all that it pushed, and in the queue no item of
 -- a sender that was made later stands before one of its own
@@ -52,7 +52,7 @@ pub record InboxRule (items : List Item) (views : List View) : Type 0 where
   pub sound : Sound desk_of seat pushed items
   pub taking : get_elem? views taker ≡ some (Taking desk_of)
   pub sending : (s pass : ℕ) → seat s ≡ Some pass → get_elem? views pass ≡ some (Sending (make_post s (pushed s)))
-  pub fits : (pass : ℕ) (v : View) → get_elem? views pass ≡ some v → Fits taker seat desk_of pushed pass v
+  pub fits : (pass : ℕ) (v : View) → get_elem? views pass ≡ some v → PassFits taker seat desk_of pushed pass v
 
 -- ---- what a step tells the pass that takes it
 -- the rule held while the queue had these items and a pass had this view

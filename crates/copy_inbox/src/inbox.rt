@@ -4,9 +4,9 @@ ghost use Rattle.std.specs.Prelude.{◌≡◌, ◌≤◌, [], ◌∷◌, ◌++�
 ghost use Rattle.copy_inbox.specs.declared.items.Carried.TheVariants.{Packet};
 ghost use Rattle.copy_inbox.specs.declared.inbox.InboxError.TheVariants.{Memory};
 ghost use Rattle.copy_inbox.specs.Items.{part, BeginsWith, OfMade};
-ghost use Rattle.copy_inbox.specs.Gathered.{known_of, Begun, Whole, Later, NoOthers};
+ghost use Rattle.copy_inbox.specs.Gathered.{known_of, TookFronts, Whole, Later, NoOthers};
 ghost use Rattle.copy_inbox.specs.Views.{make_desk, make_post};
-ghost use Rattle.copy_inbox.specs.Handles.{InboxId, TakerView, SenderView, after_sender, after_gather, after_taking, TakesCopies, Empties, AllGathered, desk_in, post_in, IsTaker, IsSender, IsNext};
+ghost use Rattle.copy_inbox.specs.Handles.{InboxId, TakerView, SenderView, after_sender, after_gather, after_taking, TakesCopies, Empties, AllGathered, desk_in, post_in, IsTaker, IsSender, IsNextTaken};
 
 use crate::count::Count;
 use crate::items::{Carried, Item};
@@ -195,7 +195,7 @@ impl Inbox {
     fn take_next<R: Wait>(&self, rt: &R, taker: &mut Taker) -> Option<Item>
         requires { taker.old.inbox ≡ self.now }
         ensures taken { IfSome result (λ x. taker.new ≡ after_taking taker.old (x ∷ [])) }
-        ensures next { IfSome result (λ x. IsNext taker.old.desk x) }
+        ensures next { IfSome result (λ x. IsNextTaken taker.old.desk x) }
         ensures same { IfNone result (taker.new ≡ taker.old) }
         ensures none { IfNone result (known_of taker.old.desk.gathered taker.old.desk.taken ≡ 0) }
     {
@@ -221,7 +221,7 @@ impl Inbox {
         requires known { n ≤ known_of taker.old.desk.gathered taker.old.desk.taken }
         ensures count { IfOk result (λ copies. length copies.items ≡ n) }
         ensures taken { IfOk result (λ copies. TakesCopies taker.old taker.new copies.items) }
-        ensures begun { OnOk result (Begun taker.new.desk.gathered taker.new.desk.taken) }
+        ensures begun { OnOk result (TookFronts taker.new.desk.gathered taker.new.desk.taken) }
         ensures made { OnOk result (OfMade taker.new.desk.made taker.new.desk.taken) }
 
         // All that is known, where no sender that isn't gathered can stand before it.

@@ -1,7 +1,7 @@
 //! What lies in the queue of an inbox.
 
 ghost use Rattle.std.specs.Prelude.{◌≡◌};
-ghost use Rattle.copy_inbox.specs.Items.{packet_of};
+ghost use Rattle.copy_inbox.specs.Items.{carried_copy};
 
 use radio_medium::RadioCopy;
 
@@ -22,7 +22,7 @@ pub struct Item {
 impl Item {
     /// The copy that it carries.
     pub fn copy(self) -> RadioCopy
-        ensures { result ≡ packet_of self.what }
+        ensures { result ≡ carried_copy self.what }
     {
         let Carried::Packet(copy) = self.what;
         copy

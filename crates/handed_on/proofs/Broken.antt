@@ -5,7 +5,7 @@ use Rattle.std.proofs.lemmas.List.Elements.{All-head, All-tail, Contains-append_
 use Rattle.std.proofs.lemmas.List.{length-append}
 use Rattle.std.proofs.Math.Seq.{take-append_seam, drop-append_seam}
 use Rattle.std.proofs.lemmas.Bool.Decides.{nat_tests}
-use Rattle.handed_on.specs.HandedOn.{Target, ToOne, ToAll, Line, Start, Leave, Post, Take, Drop, Halt, Other, Incarnation, Handing, is_listed, listed, posted, handings, handings_behind, of_serial, IsFor, IsGivenToAll, EndsInHalt, HandedOn}
+use Rattle.handed_on.specs.HandedOn.{Target, ToOne, ToAll, Line, Start, Leave, Post, Take, Drop, Halt, Other, Incarnation, Handing, is_listed, process_list, posted_serials, handings, handings_behind, of_serial, IsFor, IsGivenToAll, EndsInHalt, HandedOn}
 use Rattle.handed_on.proofs.Lines.{alone}
 use Rattle.handed_on.specs.Traces as traces
 use Rattle.handed_on.specs.Traces.{TracesThatDoNot}
@@ -27,7 +27,7 @@ goes_back h = let e : 1 ≤ 0 = h.never_back 0 1 (record { serial = 0; process =
 at_head : (x y : Line) (t : List Line) → Contains (x ∷ t) y → (x ≡ y) ⊎ Contains t y
 at_head x y t c = elim (Contains-append_cases (x ∷ []) t y c) [ inl d ↦ inl (alone x y d) | inr d ↦ inr d ]
 
-has_posted : (t : List Line) (s : ℕ) (g : Target) → Contains t (Post s g) → has s (posted t) ≡ true
+has_posted : (t : List Line) (s : ℕ) (g : Target) → Contains t (Post s g) → has s (posted_serials t) ≡ true
 has_posted [] s g c = absurd (omega (arith, c.1))
 has_posted (Post r f ∷ t) s g c = elim (at_head (Post r f) (Post s g) t c) [ inl e ↦ (let q : r ≡ s = cc in grind (arith, nat_tests)) | inr d ↦ (let q = has_posted t s g d in grind (arith, nat_tests)) ]
 has_posted (Start p ∷ t) s g c = elim (at_head (Start p) (Post s g) t c) [ inl e ↦ absurd (cc) | inr d ↦ has_posted t s g d ]
@@ -71,7 +71,7 @@ after_leaving h =
     let g = h.to_one 0 5 b (1, omega arith, refl) in
     let e : record { serial = 0; process = 5; taken = true; before = Start 5 ∷ Post 0 (ToOne 5) ∷ Leave 5 ∷ [] } ∷ [] ≡ g.line ∷ [] = g.alone in
     let f : record { serial = 0; process = 5; taken = true; before = Start 5 ∷ Post 0 (ToOne 5) ∷ Leave 5 ∷ [] } ≡ g.line = cc in
-    let q : true ≡ false = subst (λ (x : Handing). x.taken ≡ is_listed (listed x.before) 5) (sym f) g.taken in
+    let q : true ≡ false = subst (λ (x : Handing). x.taken ≡ is_listed (process_list x.before) 5) (sym f) g.taken in
     absurd (cc)
 
 though_listed : HandedOn traces.dropped_though_listed → ⊥
@@ -80,7 +80,7 @@ though_listed h =
     let g = h.to_one 0 5 b (1, omega arith, refl) in
     let e : record { serial = 0; process = 5; taken = false; before = Start 5 ∷ Post 0 (ToOne 5) ∷ [] } ∷ [] ≡ g.line ∷ [] = g.alone in
     let f : record { serial = 0; process = 5; taken = false; before = Start 5 ∷ Post 0 (ToOne 5) ∷ [] } ≡ g.line = cc in
-    let q : false ≡ true = subst (λ (x : Handing). x.taken ≡ is_listed (listed x.before) 5) (sym f) g.taken in
+    let q : false ≡ true = subst (λ (x : Handing). x.taken ≡ is_listed (process_list x.before) 5) (sym f) g.taken in
     absurd (cc)
 
 twice : HandedOn traces.taken_twice → ⊥
@@ -100,7 +100,7 @@ by_another h =
 -- Events posted to all. The place is one of as many as there are lines, and a test tells most of them away.
 
 abbrev is_place : ℕ → List Line → ℕ → Bool
-is_place s t k = has s (posted (take k t)) && not (has s (map (λ h. h.serial) (handings (take k t))))
+is_place s t k = has s (posted_serials (take k t)) && not (has s (map (λ h. h.serial) (handings (take k t))))
 
 none_has : (s : ℕ) (hs : List Handing) → All (λ h. h.serial ≡ s → ⊥) hs → has s (map (λ h. h.serial) hs) ≡ false
 none_has s [] a = refl
@@ -113,7 +113,7 @@ record IsAt (t : List Line) (s : ℕ) (lacking : List Incarnation) (k : ℕ) : T
   within : k ≤ length t
   passes : is_place s t k ≡ true
   reached : List Incarnation
-  whole : listed (take k t) ≡ reached ++ lacking
+  whole : process_list (take k t) ≡ reached ++ lacking
   in_turn : AllZip IsFor reached (of_serial s (handings_behind (take k t) (drop k t)))
 
 at_place : (t : List Line) (s : ℕ) (lacking : List Incarnation) → IsGivenToAll t s lacking → (k : ℕ) × IsAt t s lacking k

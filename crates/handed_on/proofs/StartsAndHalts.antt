@@ -2,9 +2,9 @@
 use Rattle.std.proofs.Common.{ℕ, ◌≡◌, ◌⊎◌, inl, inr, Bool, true, false, List, [], ◌∷◌, ◌++◌, refl, sym, ap, ◌∙◌, subst, append-nil, arith}
 use Rattle.std.specs.List.{Contains}
 use Rattle.std.proofs.lemmas.List.Elements.{Contains-append_right, Contains-append_cases}
-use Rattle.handed_on.specs.HandedOn.{Line, Start, Leave, Post, Halt, Other, is_on, is_listed, listed}
+use Rattle.handed_on.specs.HandedOn.{Line, Start, Leave, Post, Halt, Other, is_on, is_listed, process_list}
 use Rattle.handed_on.specs.StartsAndHalts.{HaltIsLast, StartsTheUnlisted}
-use Rattle.handed_on.specs.Delivery.{Machine, initial, given, Step, starts, leaves, posts, gives_one, begins_walk, walks_on, writes, renumbers, Runs, stays, goes_on}
+use Rattle.handed_on.specs.Delivery.{DeliveryMachine, initial, take_or_drop, DeliveryStep, starts, leaves, posts, gives_one, begins_walk, walks_on, writes, renumbers, DeliveryRuns, stays, goes_on}
 use Rattle.handed_on.specs.Laws.{DeliveryHaltsLast, DeliveryStartsTheUnlisted}
 use Rattle.handed_on.specs.Traces.{TracesThatBreakTheOthers}
 use Rattle.handed_on.proofs.Lines.{alone}
@@ -43,14 +43,14 @@ split_push (y ∷ t) (b ∷ before) x behind l e = let f : y ≡ b = cc in subst
 abbrev NoHalt : List Line → Type 0
 NoHalt t = Contains t Halt → ⊥
 
-no_halt_given : (there : Bool) (s p : ℕ) → given there s p ≡ Halt → ⊥
+no_halt_given : (there : Bool) (s p : ℕ) → take_or_drop there s p ≡ Halt → ⊥
 no_halt_given true s p e = cc
 no_halt_given false s p e = cc
 
 no_halt_one : (l : Line) → (l ≡ Halt → ⊥) → NoHalt (l ∷ [])
 no_halt_one l f c = f (alone l Halt c)
 
-no_halt_step : (m : Machine) (more : List Line) (m' : Machine) → Step m more m' → NoHalt more
+no_halt_step : (m : DeliveryMachine) (more : List Line) (m' : DeliveryMachine) → DeliveryStep m more m' → NoHalt more
 no_halt_step m more m' (starts n p u) = no_halt_one _ (λ e. (cc))
 no_halt_step m more m' (leaves n p) = no_halt_one _ (λ e. (cc))
 no_halt_step m more m' (posts n g) = no_halt_one _ (λ e. (cc))
@@ -60,7 +60,7 @@ no_halt_step m more m' (walks_on n i rest c) = no_halt_one _ (no_halt_given (is_
 no_halt_step m more m' (writes n) = no_halt_one _ (λ e. (cc))
 no_halt_step m more m' (renumbers n list k c e a) = λ c. omega (arith, c.1)
 
-no_halt_runs : (m : Machine) (t : List Line) (m' : Machine) → Runs m t m' → NoHalt t
+no_halt_runs : (m : DeliveryMachine) (t : List Line) (m' : DeliveryMachine) → DeliveryRuns m t m' → NoHalt t
 no_halt_runs m t m' stays c = omega (arith, c.1)
 no_halt_runs m t m' (goes_on ls n more n' r s) c = elim (Contains-append_cases ls more Halt c) [ inl d ↦ no_halt_runs m ls n r d | inr d ↦ no_halt_step n more n' s d ]
 
@@ -79,17 +79,17 @@ halt_is_last t (inr h) = rw h.ends (ends_with h.before (no_halt_runs initial h.b
 
 -- only what is not listed starts
 
-one_more : (t : List Line) (l : Line) → ((p : ℕ) → l ≡ Start p → is_listed (listed t) p ≡ false) → StartsTheUnlisted t → StartsTheUnlisted (t ++ l ∷ [])
-one_more t l f h before behind p e = elim (split_push t before (Start p) behind l e) [ inl s ↦ subst (λ u. is_listed (listed u) p ≡ false) (sym s.all) (f p (sym s.same)) | inr s ↦ h before s.rest p s.within ]
+one_more : (t : List Line) (l : Line) → ((p : ℕ) → l ≡ Start p → is_listed (process_list t) p ≡ false) → StartsTheUnlisted t → StartsTheUnlisted (t ++ l ∷ [])
+one_more t l f h before behind p e = elim (split_push t before (Start p) behind l e) [ inl s ↦ subst (λ u. is_listed (process_list u) p ≡ false) (sym s.all) (f p (sym s.same)) | inr s ↦ h before s.rest p s.within ]
 
-no_start_given : (there : Bool) (s p q : ℕ) → given there s p ≡ Start q → ⊥
+no_start_given : (there : Bool) (s p q : ℕ) → take_or_drop there s p ≡ Start q → ⊥
 no_start_given true s p q e = cc
 no_start_given false s p q e = cc
 
-started : (m : Machine) (t : List Line) (p : ℕ) → is_listed m.list p ≡ false → Stands m t → (q : ℕ) → Start p ≡ Start q → is_listed (listed t) q ≡ false
-started m t p u h q e = let f : p ≡ q = cc in sym (same_listed m.list (listed t) q h.lists.same) ∙ subst (λ r. is_listed m.list r ≡ false) f u
+started : (m : DeliveryMachine) (t : List Line) (p : ℕ) → is_listed m.list p ≡ false → Stands m t → (q : ℕ) → Start p ≡ Start q → is_listed (process_list t) q ≡ false
+started m t p u h q e = let f : p ≡ q = cc in sym (same_listed m.list (process_list t) q h.lists.same) ∙ subst (λ r. is_listed m.list r ≡ false) f u
 
-starts_step : (m : Machine) (more : List Line) (m' : Machine) (t : List Line) → Step m more m' → Stands m t → StartsTheUnlisted t → StartsTheUnlisted (t ++ more)
+starts_step : (m : DeliveryMachine) (more : List Line) (m' : DeliveryMachine) (t : List Line) → DeliveryStep m more m' → Stands m t → StartsTheUnlisted t → StartsTheUnlisted (t ++ more)
 starts_step m more m' t (starts n p u) h k = one_more t (Start p) (started n t p u h) k
 starts_step m more m' t (leaves n p) h k = one_more t (Leave p) (λ q e. absurd (cc)) k
 starts_step m more m' t (posts n g) h k = one_more t (Post n.accepted g) (λ q e. absurd (cc)) k
@@ -102,7 +102,7 @@ starts_step m more m' t (renumbers n list j c e a) h k = rw append-nil k
 nothing_starts : StartsTheUnlisted []
 nothing_starts before behind p e = absurd (none_is_some before (Start p) behind (sym e))
 
-starts_runs : (t : List Line) (m : Machine) → Runs initial t m → StartsTheUnlisted t
+starts_runs : (t : List Line) (m : DeliveryMachine) → DeliveryRuns initial t m → StartsTheUnlisted t
 starts_runs t m stays = nothing_starts
 starts_runs t m (goes_on ls n more n' r s) = starts_step n more n' ls s (stands_runs initial [] ls n r stands_at_first) (starts_runs ls n r)
 

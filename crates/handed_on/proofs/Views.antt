@@ -3,15 +3,15 @@ use Rattle.std.proofs.Common.{ℕ, ◌≡◌, ◌+◌, ◌<◌, Bool, false, Lis
 use Rattle.std.specs.List.{All}
 use Rattle.handed_on.specs.HandedOn.{Line, Target, ToOne, ToAll, Start, Leave, Post, Halt, Other, Incarnation, is_listed, is_on, without, HandedOn}
 use Rattle.handed_on.specs.StartsAndHalts.{HaltIsLast, StartsTheUnlisted}
-use Rattle.handed_on.specs.Delivery.{Waiting, given, Runs, stays, Halts, starts, leaves, posts, gives_one, begins_walk, walks_on, writes, renumbers}
-use Rattle.handed_on.specs.View.{View, machine_at, GoesWith, HasHalted}
+use Rattle.handed_on.specs.Delivery.{Waiting, take_or_drop, DeliveryRuns, stays, Halts, starts, leaves, posts, gives_one, begins_walk, walks_on, writes, renumbers}
+use Rattle.handed_on.specs.View.{View, machine_at, GoesWithView, HasHalted}
 use Rattle.handed_on.proofs.Joined.{one_step, runs_joined, halts_joined}
 use Rattle.handed_on.proofs.Ends.{delivery_hands_on}
 use Rattle.handed_on.proofs.StartsAndHalts.{halt_is_last, starts_the_unlisted}
 
 -- a kernel goes by these lines from one view to another, whatever walk is under way
 abbrev pub Moves : View → List Line → View → Type 0
-Moves v lines w = (walked : ℕ) (coming : List Incarnation) → Runs (machine_at v walked coming) lines (machine_at w walked coming)
+Moves v lines w = (walked : ℕ) (coming : List Incarnation) → DeliveryRuns (machine_at v walked coming) lines (machine_at w walked coming)
 
 -- it goes by these lines to a halt
 abbrev pub Stops : View → List Line → Type 0
@@ -43,41 +43,41 @@ halt_stops v walked coming = record { before = []; last = _; runs = stays; ends 
 
 -- the steps of the machine that only the delivery takes
 
-pub gives : (v : View) (walked s p : ℕ) (there : Bool) (queue : List Waiting) → v.queue ≡ record { serial = s; target = ToOne p } ∷ queue → there ≡ is_listed v.list p → Runs (machine_at v walked []) (given there s p ∷ []) (machine_at (record v { queue = queue }) walked [])
+pub gives : (v : View) (walked s p : ℕ) (there : Bool) (queue : List Waiting) → v.queue ≡ record { serial = s; target = ToOne p } ∷ queue → there ≡ is_listed v.list p → DeliveryRuns (machine_at v walked []) (take_or_drop there s p ∷ []) (machine_at (record v { queue = queue }) walked [])
 gives v walked s p there queue q e = rw e (one_step _ _ _ (gives_one (machine_at v walked []) s p queue refl q))
 
-pub begins : (v : View) (walked s : ℕ) (queue : List Waiting) → v.queue ≡ record { serial = s; target = ToAll } ∷ queue → (v.list ≡ [] → ⊥) → Runs (machine_at v walked []) [] (machine_at (record v { queue = queue }) s v.list)
+pub begins : (v : View) (walked s : ℕ) (queue : List Waiting) → v.queue ≡ record { serial = s; target = ToAll } ∷ queue → (v.list ≡ [] → ⊥) → DeliveryRuns (machine_at v walked []) [] (machine_at (record v { queue = queue }) s v.list)
 begins v walked s queue q f = one_step _ _ _ (begins_walk (machine_at v walked []) s queue refl q f)
 
-pub walks : (v : View) (walked : ℕ) (i : Incarnation) (coming : List Incarnation) (there : Bool) → there ≡ is_on v.list i → Runs (machine_at v walked (i ∷ coming)) (given there walked i.process ∷ []) (machine_at v walked coming)
+pub walks : (v : View) (walked : ℕ) (i : Incarnation) (coming : List Incarnation) (there : Bool) → there ≡ is_on v.list i → DeliveryRuns (machine_at v walked (i ∷ coming)) (take_or_drop there walked i.process ∷ []) (machine_at v walked coming)
 walks v walked i coming there e = rw e (one_step _ _ _ (walks_on (machine_at v walked (i ∷ coming)) i coming refl))
 
-pub numbers : (v : View) (walked : ℕ) (list : List Incarnation) (n : ℕ) → map (λ i. i.process) list ≡ map (λ i. i.process) v.list → All (λ i. i.number < n) list → Runs (machine_at v walked []) [] (machine_at (record v { list = list; numbered = n }) walked [])
+pub numbers : (v : View) (walked : ℕ) (list : List Incarnation) (n : ℕ) → map (λ i. i.process) list ≡ map (λ i. i.process) v.list → All (λ i. i.number < n) list → DeliveryRuns (machine_at v walked []) [] (machine_at (record v { list = list; numbered = n }) walked [])
 numbers v walked list n e a = one_step _ _ _ (renumbers (machine_at v walked []) list n refl e a)
 
 -- more lines of a kernel that goes with its lines so far
 
-pub goes_further : (ls more : List Line) (v w : View) (walked : ℕ) → (g : GoesWith ls v) → Runs (machine_at v g.walked []) more (machine_at w walked []) → GoesWith (ls ++ more) w
+pub goes_further : (ls more : List Line) (v w : View) (walked : ℕ) → (g : GoesWithView ls v) → DeliveryRuns (machine_at v g.walked []) more (machine_at w walked []) → GoesWithView (ls ++ more) w
 goes_further ls more v w walked g r = record { walked = walked; runs = runs_joined _ _ _ _ _ g.runs r }
 
-pub goes_to_halt : (ls more : List Line) (v : View) → (g : GoesWith ls v) → Halts (machine_at v g.walked []) more → HasHalted (ls ++ more)
+pub goes_to_halt : (ls more : List Line) (v : View) → (g : GoesWithView ls v) → Halts (machine_at v g.walked []) more → HasHalted (ls ++ more)
 goes_to_halt ls more v g h = halts_joined _ _ _ _ g.runs h
 
 -- lines that a kernel goes with, or that end in its halt, are a trace
 
-pub goes_with_hands_on : (lines : List Line) (v : View) → GoesWith lines v → HandedOn lines
+pub goes_with_hands_on : (lines : List Line) (v : View) → GoesWithView lines v → HandedOn lines
 goes_with_hands_on lines v g = delivery_hands_on lines (inl (_, g.runs, refl))
 
 pub halted_hands_on : (lines : List Line) → HasHalted lines → HandedOn lines
 halted_hands_on lines h = delivery_hands_on lines (inr h)
 
-pub goes_with_halts_last : (lines : List Line) (v : View) → GoesWith lines v → HaltIsLast lines
+pub goes_with_halts_last : (lines : List Line) (v : View) → GoesWithView lines v → HaltIsLast lines
 goes_with_halts_last lines v g = halt_is_last lines (inl (_, g.runs, refl))
 
 pub halted_halts_last : (lines : List Line) → HasHalted lines → HaltIsLast lines
 halted_halts_last lines h = halt_is_last lines (inr h)
 
-pub goes_with_starts : (lines : List Line) (v : View) → GoesWith lines v → StartsTheUnlisted lines
+pub goes_with_starts : (lines : List Line) (v : View) → GoesWithView lines v → StartsTheUnlisted lines
 goes_with_starts lines v g = starts_the_unlisted lines (inl (_, g.runs, refl))
 
 pub halted_starts : (lines : List Line) → HasHalted lines → StartsTheUnlisted lines

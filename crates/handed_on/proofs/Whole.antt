@@ -1,26 +1,26 @@
 -- Traces that hand on, as runs of the machine.
 use Rattle.std.proofs.Common.{arith, ◌≡◌, List, [], ◌∷◌, refl, inl, inr}
-use Rattle.handed_on.specs.HandedOn.{Line, ToOne, ToAll, Start, Leave, Post, Take, Drop, Incarnation, posted, handings, HandedOn}
-use Rattle.handed_on.specs.Delivery.{Machine, initial, starts, leaves, posts, gives_one, begins_walk, walks_on, writes, Runs, stays, goes_on}
+use Rattle.handed_on.specs.HandedOn.{Line, ToOne, ToAll, Start, Leave, Post, Take, Drop, Incarnation, posted_serials, handings, HandedOn}
+use Rattle.handed_on.specs.Delivery.{DeliveryMachine, initial, starts, leaves, posts, gives_one, begins_walk, walks_on, writes, DeliveryRuns, stays, goes_on}
 use Rattle.handed_on.specs.Traces.{TracesThatHandOn, TracesThatPass}
 use Rattle.handed_on.proofs.Ends.{delivery_hands_on}
 
 some_are_listed : (x : Incarnation) (list : List Incarnation) → x ∷ list ≡ [] → ⊥
 some_are_listed x list e = cc
 
-abbrev two_start : (m : Machine) × Runs initial (Start 5 ∷ Start 6 ∷ []) m
+abbrev two_start : (m : DeliveryMachine) × DeliveryRuns initial (Start 5 ∷ Start 6 ∷ []) m
 two_start = (_, goes_on _ _ _ _ (goes_on _ _ _ _ stays (starts initial 5 refl)) (starts _ 6 refl))
 
-abbrev walk_begins : (m : Machine) × Runs initial (Start 5 ∷ Start 6 ∷ Post 0 ToAll ∷ []) m
+abbrev walk_begins : (m : DeliveryMachine) × DeliveryRuns initial (Start 5 ∷ Start 6 ∷ Post 0 ToAll ∷ []) m
 walk_begins = (_, goes_on _ _ _ _ (goes_on _ _ _ _ two_start.1 (posts _ ToAll)) (begins_walk _ 0 [] refl refl (some_are_listed _ _)))
 
-abbrev first_reached : (m : Machine) × Runs initial (Start 5 ∷ Start 6 ∷ Post 0 ToAll ∷ Take 0 6 ∷ []) m
+abbrev first_reached : (m : DeliveryMachine) × DeliveryRuns initial (Start 5 ∷ Start 6 ∷ Post 0 ToAll ∷ Take 0 6 ∷ []) m
 first_reached = (_, goes_on _ _ _ _ walk_begins.1 (walks_on _ _ _ refl))
 
-abbrev one_left : (m : Machine) × Runs initial (Start 5 ∷ Start 6 ∷ Post 0 ToAll ∷ Take 0 6 ∷ Leave 5 ∷ []) m
+abbrev one_left : (m : DeliveryMachine) × DeliveryRuns initial (Start 5 ∷ Start 6 ∷ Post 0 ToAll ∷ Take 0 6 ∷ Leave 5 ∷ []) m
 one_left = (_, goes_on _ _ _ _ first_reached.1 (leaves _ 5))
 
-abbrev next_posted : (m : Machine) × Runs initial (Start 5 ∷ Post 0 (ToOne 5) ∷ Leave 5 ∷ Post 1 (ToOne 5) ∷ Drop 0 5 ∷ []) m
+abbrev next_posted : (m : DeliveryMachine) × DeliveryRuns initial (Start 5 ∷ Post 0 (ToOne 5) ∷ Leave 5 ∷ Post 1 (ToOne 5) ∷ Drop 0 5 ∷ []) m
 next_posted = (_, goes_on _ _ _ _ (goes_on _ _ _ _ (goes_on _ _ _ _ (goes_on _ _ _ _ (goes_on _ _ _ _ stays (starts initial 5 refl)) (posts _ (ToOne 5))) (leaves _ 5)) (posts _ (ToOne 5))) (gives_one _ 0 5 _ refl refl))
 
 pub whole : TracesThatHandOn
@@ -33,7 +33,7 @@ whole = record {
 }
 
 -- lines that tell of no event hand everything on
-no_events : (t : List Line) → posted t ≡ [] → handings t ≡ [] → HandedOn t
+no_events : (t : List Line) → posted_serials t ≡ [] → handings t ≡ [] → HandedOn t
 no_events t p h = record {
   posts_count_up = rw p refl;
   never_back = rw h (λ i j d a b. absurd (omega arith));

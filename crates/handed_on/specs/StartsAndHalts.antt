@@ -1,6 +1,6 @@
 -- Two properties of a trace beside the handing on of its events.
 use Rattle.std.specs.Prelude.{ℕ, false, ◌≡◌, List, [], ◌∷◌, ◌++◌}
-use Rattle.handed_on.specs.HandedOn.{Line, Start, Halt, is_listed, listed}
+use Rattle.handed_on.specs.HandedOn.{Line, Start, Halt, is_listed, process_list}
 
 -- nothing follows a `halt`
 abbrev pub HaltIsLast : List Line → Type 0
@@ -8,4 +8,4 @@ HaltIsLast lines = (before behind : List Line) → lines ≡ before ++ Halt ∷ 
 
 -- Only a process that is not listed starts: between two `start` lines of a process stands a `leave` of it.
 abbrev pub StartsTheUnlisted : List Line → Type 0
-StartsTheUnlisted lines = (before behind : List Line) (p : ℕ) → lines ≡ before ++ Start p ∷ behind → is_listed (listed before) p ≡ false
+StartsTheUnlisted lines = (before behind : List Line) (p : ℕ) → lines ≡ before ++ Start p ∷ behind → is_listed (process_list before) p ≡ false

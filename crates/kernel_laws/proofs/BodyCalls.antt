@@ -31,7 +31,7 @@ use Rattle.process_kernel.specs.Posts.{post_of}
 use Rattle.process_kernel.specs.Semaphores.{take_of, signal_of}
 use Rattle.process_kernel.specs.TimerOperations.{has_timer, timer_is_set, set_of, reset_of, restart_of, stop_of}
 use Rattle.process_kernel.specs.Writes.{with_line, write_of, halted_of, spend_of}
-use Rattle.process_kernel.specs.Calls.{Calls, Answer, told, is_event, walk_of}
+use Rattle.process_kernel.specs.Calls.{Calls, Answer, told, is_system_event, walk_of}
 use Rattle.process_kernel.specs.Etimer.{fired_of, purge_of, post_due, walk_timers, walks_of, pass_of, etimer_of}
 use Rattle.process_kernel.specs.Ctimer.{callback_of, waits_for, ctimer_of}
 use Rattle.process_kernel.specs.Radio.{radio_of}
@@ -62,7 +62,7 @@ module _ (program : Tree) (mote p : ℕ) (code : Code) (earlier : List Line) whe
 
   -- The process is at rest, and what was told of it are its lives.
   abbrev pub Stands : Standing → Type 0
-  Stands v = telling.Stands program mote p code (earlier ++ v.told) v
+  Stands v = telling.RestsAsTold program mote p code (earlier ++ v.told) v
 
   -- It can be called with this event: it is at rest, or has just started.
   pub record IsReady (v : Standing) (e : Event) : Type 0 where
@@ -248,12 +248,12 @@ module _ (program : Tree) (mote p : ℕ) (code : Code) (earlier : List Line) whe
   etimer_led : (s : State) (e : Event) → Leads (Unit {0}) s (etimer_of s e)
   unfolding etimer_of pass_of
   etimer_led s e =
-      either s (is_event Poll e) _ _ (walks_led _ s) (either s (is_event Exited e) _ _ (goes s tt _ (purge_quiet s e.word)) (still s tt))
+      either s (is_system_event Poll e) _ _ (walks_led _ s) (either s (is_system_event Exited e) _ _ (goes s tt _ (purge_quiet s e.word)) (still s tt))
 
   radio_led : (s : State) (e : Event) → Leads (Unit {0}) s (radio_of s e)
   unfolding radio_of
   radio_led s e =
-      either s (is_event Poll e) _ _ (empty_led Keeps Stops chain (λ t packets. quiet_keeps t _ refl) (λ t target event fits. quietly t _ (post_quiet p t target event)) (λ t sender number. quiet_keeps t _ (line_quiet p t (what.Deaf sender number) refl)) s.program.receiver s.ring s) (still s tt)
+      either s (is_system_event Poll e) _ _ (empty_led Keeps Stops chain (λ t packets. quiet_keeps t _ refl) (λ t target event fits. quietly t _ (post_quiet p t target event)) (λ t sender number. quiet_keeps t _ (line_quiet p t (what.Deaf sender number) refl)) s.program.receiver s.ring s) (still s tt)
 
   -- what the calls of a process keep, and the runs of a thread: those of others, of its body, and of its blocks beside
   pub record AreTold (calls : Calls) : Type 0 where
@@ -318,8 +318,8 @@ module _ (program : Tree) (mote p : ℕ) (code : Code) (earlier : List Line) whe
       handler_led : (s : State) (c : Code) (q : ℕ) (e : Event) → (q ≡ p → ⊥) → Leads (Unit {0}) s (handler_of calls s c q e)
       unfolding handler_of
       handler_led s c q e n =
-          either s (is_event Poll e) _ _ (bind s _ _ (are.run s c (fresh_of c OnPoll) q e n) (λ a t. still t tt))
-          (either s (is_event Exit e) _ _ (bind s _ _ (are.run s c (fresh_of c OnExit) q e n) (λ a t. still t tt)) (still s tt))
+          either s (is_system_event Poll e) _ _ (bind s _ _ (are.run s c (fresh_of c OnPoll) q e n) (λ a t. still t tt))
+          (either s (is_system_event Exit e) _ _ (bind s _ _ (are.run s c (fresh_of c OnExit) q e n) (λ a t. still t tt)) (still s tt))
 
       resume_led : (s : State) (c : Code) (q : ℕ) (e : Event) → (q ≡ p → ⊥) → Leads PtState s (resume_of calls s c q e)
       unfolding resume_of
@@ -357,7 +357,7 @@ module _ (program : Tree) (mote p : ℕ) (code : Code) (earlier : List Line) whe
 
       ctimer_led : (s : State) (e : Event) → Leads (Unit {0}) s (ctimer_of calls s e)
       unfolding ctimer_of
-      ctimer_led s e = either s (is_event Timer e && waits_for s e.word) _ _ (from s _ _ refl (callback_led _ e)) (still s tt)
+      ctimer_led s e = either s (is_system_event Timer e && waits_for s e.word) _ _ (from s _ _ refl (callback_led _ e)) (still s tt)
 
       react_led : (s : State) (q : Proc) (e : Event) → IsOther p q → Leads PtState s (react_of calls s q e)
       unfolding react_of
@@ -381,8 +381,8 @@ module _ (program : Tree) (mote p : ℕ) (code : Code) (earlier : List Line) whe
       handled : (s : State) (e : Event) → Leads (Unit {0}) s (handler_of calls s code p e)
       unfolding handler_of
       handled s e =
-          either s (is_event Poll e) _ _ (bind s _ _ (are.beside s _ e (fresh_quiet code OnPoll (on_poll_quiet code apart))) (λ a t. still t tt))
-          (either s (is_event Exit e) _ _ (bind s _ _ (are.beside s _ e (fresh_quiet code OnExit (on_exit_quiet code apart))) (λ a t. still t tt)) (still s tt))
+          either s (is_system_event Poll e) _ _ (bind s _ _ (are.beside s _ e (fresh_quiet code OnPoll (on_poll_quiet code apart))) (λ a t. still t tt))
+          (either s (is_system_event Exit e) _ _ (bind s _ _ (are.beside s _ e (fresh_quiet code OnExit (on_exit_quiet code apart))) (λ a t. still t tt)) (still s tt))
 
       resumed : (s : State) (r : Remainder) (vars : List ℕ) (e : Event) (coming : Next) → IsAway program mote (standing_of p s) → (standing_of p s).vars ≡ Some vars → (standing_of p s).rest ≡ Some r → CanCome coming e s.moment → ComesHere program mote p code earlier (standing_of p s).told coming r vars → Stopped s
           → IfGives Stopped (λ a t. Reacted (standing_of p s) a (standing_of p t)) (resume_of calls s code p e)
@@ -519,7 +519,7 @@ module _ (program : Tree) (mote p : ℕ) (code : Code) (earlier : List Line) whe
       unfolding call_of
       is_called s e h =
           let runs : is_running s (Own p) ≡ true = ap is_running_state h.is_in.state in
-          subst (λ b. Settles (if b then (spend_of s >>= λ _ s1. react_of calls (with_state s1 (Own p) Called) (Own p) e >>= λ answer s2. answered calls s2 (Own p) (has_ended answer || is_event Exit e)) else Goes tt s)) (sym runs)
+          subst (λ b. Settles (if b then (spend_of s >>= λ _ s1. react_of calls (with_state s1 (Own p) Called) (Own p) e >>= λ answer s2. answered calls s2 (Own p) (has_ended answer || is_system_event Exit e)) else Goes tt s)) (sym runs)
           (gives_bind (Unit {0}) (Unit {0}) Stopped (λ a t. IsQuiet p s t) (λ a t. Stands (standing_of p t)) (spend_of s) _ (spent (standing_of p s) s refl h.so_far) (λ u t same.
           let s2 = with_state t (Own p) Called in
           let same2 : standing_of p s2 ≡ record (standing_of p s) { state = Called } = state_stands p t Called (ap (λ v. v.has) same ∙ h.is_in.has) ∙ ap {A = Standing} (λ v. record v { state = Called }) same in
@@ -527,7 +527,7 @@ module _ (program : Tree) (mote p : ℕ) (code : Code) (earlier : List Line) whe
           gives_bind PtState (Unit {0}) Stopped (λ a w. Reacted (record (standing_of p s) { state = Called }) a (standing_of p w)) (λ a w. Stands (standing_of p w)) (react_of calls s2 (Own p) e) _
           (subst (λ v. IfGives Stopped (λ a w. Reacted v a (standing_of p w)) (react_of calls s2 (Own p) e)) same2
           (reacts s2 h.still h.left e h.coming away (ap (λ v. v.vars) same2 ∙ h.vars) (ap (λ v. v.rest) same2 ∙ h.rest) (subst (λ v. CanCome h.coming e v.moment) (sym same2) h.can) (subst (λ v. ComesHere program mote p code earlier v.told h.coming h.still h.left) (sym same2) h.is_in.comes) (subst (λ v. SoFar program mote p code earlier v.told) (sym same2) h.so_far)))
-          (λ a w r. answers_so w (standing_of p s) e a (is_event Exit e) h r)))
+          (λ a w r. answers_so w (standing_of p s) e a (is_system_event Exit e) h r)))
 
       -- starts and kills
 

@@ -36,10 +36,10 @@ use Rattle.process_kernel.specs.Boot.{starts_of, boot_of}
 use Rattle.process_kernel.specs.Mote.{Mote, unbooted, with_poll, with_packet}
 use Rattle.process_kernel.specs.Public.{given, begun, unless_halted, boot_given, run_given}
 use Rattle.kernel_laws.specs.Going.{IsNote}
-use Rattle.kernel_laws.specs.InStep.{AreInStep, state_at, exiting_at, listed_in}
+use Rattle.kernel_laws.specs.InStep.{AreInStep, state_at_place, exiting_at, listed_in}
 use Rattle.kernel_laws.specs.Traces.{KernelCall, RunAt, PollOf, Accepts, Notes, Traced, after_call, after_calls, booted_at}
 use Rattle.kernel_laws.specs.Printed.{IsQuietApart, is_told_of, starts_and_prints, Unborn, LivesSoFar, Told, PrintsAreTheReading, PrintsSoFarAreTheReading}
-use Rattle.kernel_laws.specs.Telling.{Standing, standing_of, Stands, TellsSoFar, IsProcess, TellingIsOfLives, TellingIsOfLivesSoFar, NoLinesTellFirst, BootTells, RunTells, PollTells, PacketTells, NoteTells}
+use Rattle.kernel_laws.specs.Telling.{Standing, standing_of, RestsAsTold, TellsSoFar, IsProcess, TellingIsOfLives, TellingIsOfLivesSoFar, NoLinesTellFirst, BootTells, RunTells, PollTells, PacketTells, NoteTells}
 use Rattle.kernel_laws.proofs.Resting.{numbered_listed, first_rests}
 use Rattle.kernel_laws.proofs.Standing.{told_more, line_quiet, mark_quiet, poll_quiet}
 use Rattle.kernel_laws.proofs.BodyCalls.{Leads, AreTold, from, bind, either, goes, still, start_led, calls_told}
@@ -100,7 +100,7 @@ module _ (program : Tree) (mote p : ℕ) (code : Code) where
   told_twice xs ys = filter-append (λ l. is_told_of (Own p) l.what) xs ys
 
   -- whatever the lines of the run under way tell
-  retold : (told : List Line) (v : Standing) (moment : ℕ) (now : List Line) → Stands program mote p code told v → Stands program mote p code told (record v { moment = moment; told = now })
+  retold : (told : List Line) (v : Standing) (moment : ℕ) (now : List Line) → RestsAsTold program mote p code told v → RestsAsTold program mote p code told (record v { moment = moment; told = now })
   retold told v moment now h = record {
     of_program = h.of_program;
     of_mote = h.of_mote;
@@ -118,21 +118,21 @@ module _ (program : Tree) (mote p : ℕ) (code : Code) where
   unfolding begun_of
   begun_stands m moment before sends = ap (λ b. record (standing_of p m.state) { moment = moment; listed = b; told = starts_and_prints (Own p) before }) (numbered_listed 0 m.state.members (place_of (Own p)))
 
-  begins : (earlier : List Line) (m : Mote) (moment : ℕ) (before : List Line) (sends : List Sent) → Stands program mote p code (starts_and_prints (Own p) (earlier ++ before)) (standing_of p m.state)
-      → let s = begun m moment before sends in Stands program mote p code (starts_and_prints (Own p) earlier ++ (standing_of p s).told) (standing_of p s)
+  begins : (earlier : List Line) (m : Mote) (moment : ℕ) (before : List Line) (sends : List Sent) → RestsAsTold program mote p code (starts_and_prints (Own p) (earlier ++ before)) (standing_of p m.state)
+      → let s = begun m moment before sends in RestsAsTold program mote p code (starts_and_prints (Own p) earlier ++ (standing_of p s).told) (standing_of p s)
   begins earlier m moment before sends h =
-      subst (λ v. Stands program mote p code (starts_and_prints (Own p) earlier ++ v.told) v) (sym (begun_stands m moment before sends))
-      (subst (λ l. Stands program mote p code l (record (standing_of p m.state) { moment = moment; told = starts_and_prints (Own p) before })) (told_twice earlier before) (retold _ (standing_of p m.state) moment _ h))
+      subst (λ v. RestsAsTold program mote p code (starts_and_prints (Own p) earlier ++ v.told) v) (sym (begun_stands m moment before sends))
+      (subst (λ l. RestsAsTold program mote p code l (record (standing_of p m.state) { moment = moment; told = starts_and_prints (Own p) before })) (told_twice earlier before) (retold _ (standing_of p m.state) moment _ h))
 
   -- what a boot or a run that goes on adds
-  given_told : (earlier : List Line) (m : Mote) (moment : ℕ) (before : List Line) (sends : List Sent) (o : Outcome ℕ) → Stands program mote p code (starts_and_prints (Own p) (earlier ++ before)) (standing_of p m.state)
+  given_told : (earlier : List Line) (m : Mote) (moment : ℕ) (before : List Line) (sends : List Sent) (o : Outcome ℕ) → RestsAsTold program mote p code (starts_and_prints (Own p) (earlier ++ before)) (standing_of p m.state)
       → Leads program mote p code (starts_and_prints (Own p) earlier) ℕ (begun m moment before sends) o → TellsSoFar program mote p code (earlier ++ (given o).lines) (given o).mote
   given_told earlier m moment before sends (Ends t) h leads = record {
     going = λ on. absurd (cc);
     halted = λ off. subst (λ l. LivesSoFar code (Own p) mote code.starts l) (sym (told_twice earlier t.lines)) (leads.leads.stands (begins earlier m moment before sends h));
   }
   given_told earlier m moment before sends (Goes a t) h leads = record {
-    going = λ on. subst (λ l. Stands program mote p code l (record (standing_of p t) { told = [] })) (sym (told_twice earlier t.lines)) (retold _ (standing_of p t) t.moment [] (leads.leads.stands (begins earlier m moment before sends h)));
+    going = λ on. subst (λ l. RestsAsTold program mote p code l (record (standing_of p t) { told = [] })) (sym (told_twice earlier t.lines)) (retold _ (standing_of p t) t.moment [] (leads.leads.stands (begins earlier m moment before sends h)));
     halted = λ off. absurd (cc);
   }
 
@@ -156,7 +156,7 @@ boot_tells program mote p code earlier m moment before sends is h =
 pub poll_tells : PollTells
 unfolding with_poll
 poll_tells program mote p code lines m q h = record {
-  going = λ on. subst (λ v. Stands program mote p code (starts_and_prints (Own p) lines) v) (sym (poll_quiet p m.state q)) (h.going on);
+  going = λ on. subst (λ v. RestsAsTold program mote p code (starts_and_prints (Own p) lines) v) (sym (poll_quiet p m.state q)) (h.going on);
   halted = h.halted;
 }
 
@@ -185,7 +185,7 @@ note_silent p lines l n = told_more (Own p) lines l ∙ ap (λ b. starts_and_pri
 
 pub note_tells : NoteTells
 note_tells program mote p code lines m l n h = record {
-  going = λ on. subst (λ told. Stands program mote p code told (standing_of p m.state)) (sym (note_silent p lines l n)) (h.going on);
+  going = λ on. subst (λ told. RestsAsTold program mote p code told (standing_of p m.state)) (sym (note_silent p lines l n)) (h.going on);
   halted = λ off. subst (λ told. LivesSoFar code (Own p) mote code.starts told) (sym (note_silent p lines l n)) (h.halted off);
 }
 
@@ -196,7 +196,7 @@ is_off Off e l h q = refl
 is_off Running e l h q = absurd (let f : true ≡ false = sym h.1 ∙ q in cc)
 is_off Called e l h q = absurd (let f : true ≡ false = sym h.1 ∙ q in cc)
 
-first_stands : (program : Tree) (mote p : ℕ) (code : Code) (queue : ℕ) → IsProcess program p code → Stands program mote p code [] (standing_of p (unbooted program mote queue).state)
+first_stands : (program : Tree) (mote p : ℕ) (code : Code) (queue : ℕ) → IsProcess program p code → RestsAsTold program mote p code [] (standing_of p (unbooted program mote queue).state)
 unfolding unbooted
 first_stands program mote p code queue is =
     let s = (unbooted program mote queue).state in
@@ -212,7 +212,7 @@ first_stands program mote p code queue is =
       left = code.starts;
       vars = slice_get-map (λ c. c.starts) program.codes p ∙ ap (λ o. option_map (λ c. c.starts) o) is.is_code;
       lived = Unborn;
-      where_it_is = inl (record { state = is_off (state_at s k) (exiting_at s k) (listed_in s.members k) (r.step.each k) refl; listed = refl });
+      where_it_is = inl (record { state = is_off (state_at_place s k) (exiting_at s k) (listed_in s.members k) (r.step.each k) refl; listed = refl });
     }
 
 pub no_lines_tell_first : NoLinesTellFirst

@@ -24,10 +24,10 @@ use Rattle.process_kernel.specs.Boot.{boot_of}
 use Rattle.process_kernel.specs.Mote.{Mote, unbooted}
 use Rattle.process_kernel.specs.Public.{Given, given, begun, unless_halted, boot_given, run_given}
 use Rattle.kernel_laws.specs.Own.{IsOwn}
-use Rattle.kernel_laws.specs.Going.{IsSound}
+use Rattle.kernel_laws.specs.Going.{SystemStays}
 use Rattle.kernel_laws.specs.InStep.{IsInStep, IsIdle}
 use Rattle.kernel_laws.specs.Polled.{TellsOfPost}
-use Rattle.kernel_laws.specs.Poll.{PollWaits, CanBePolled, before}
+use Rattle.kernel_laws.specs.Poll.{PollWaits, CanBePolled, members_before}
 use Rattle.kernel_laws.specs.Due.{IsDueFor, ForgetsNone, IsAtRest, HasTelling, TellsDue, PollsEtimer, BootForgetsNone, RunForgetsNone, RunTellsDue}
 use Rattle.kernel_laws.proofs.Packets.{IfGoes}
 use Rattle.kernel_laws.proofs.CallSteps.{calls_run}
@@ -106,7 +106,7 @@ module _ (m : Mote) (moment : ℕ) (lines : List Line) (sends : List Sent) where
   begun_good : IsAtRest m.state → ForgetsNone moment m.state → Good true moment (begun m moment lines sends)
   begun_good h f = record { now_is = begun_moment; stands = begun_stands h; forgets = begun_forgets f }
 
-  sound_now : IsSound m.state → IsSound (begun m moment lines sends)
+  sound_now : SystemStays m.state → SystemStays (begun m moment lines sends)
   sound_now h = begun_sound (record m.state { lines = lines; sends = sends }) moment (record { stays = h.stays; fits = h.fits })
 
 -- what a boot or a run leaves
@@ -228,11 +228,11 @@ telling_of moment u v lines more target number word same now wrote k = record {
 -- what the polls of a run come to
 record Polled (calls : Calls) (moment : ℕ) (s t : State) : Type 0 where
   at_turn : State
-  comes : walk_polls calls (before Etimer s.members) s ≡ Goes tt at_turn
+  comes : walk_polls calls (members_before Etimer s.members) s ≡ Goes tt at_turn
   tells : TellsDue moment at_turn s.lines t.lines
 
 module _ (calls : Calls) (are : AreWatched calls) (written : stamped.AreKept calls) where
-  still_marked : (s u : State) → walk_polls calls (before Etimer s.members) s ≡ Goes tt u → is_marked s Etimer ≡ true → is_marked u Etimer ≡ true
+  still_marked : (s u : State) → walk_polls calls (members_before Etimer s.members) s ≡ Goes tt u → is_marked s Etimer ≡ true → is_marked u Etimer ≡ true
   still_marked s u e m = let h : Lead (Watches Etimer) Whatever (Unit {0}) s (Goes tt u) = subst (λ o. Lead (Watches Etimer) Whatever (Unit {0}) s o) e (before_led Etimer calls are.led s.members s) in h.leads.marked m
 
   unmarked_lines : (u : State) → ((with_mark u Etimer false).lines ≡ u.lines) × ((with_mark u Etimer false).timers ≡ u.timers)
@@ -262,7 +262,7 @@ module _ (calls : Calls) (are : AreWatched calls) (written : stamped.AreKept cal
       record {
         at_turn = a.midst;
         comes = a.first;
-        tells = tells_within moment s a.midst b.midst t (adds_by _ s a.midst tt _ a.first (polls_led stamps.Keeps stamps.Keeps stamps.chain Whoever stamps.steps stamps.run_steps calls written (before Etimer s.members) s)) i
+        tells = tells_within moment s a.midst b.midst t (adds_by _ s a.midst tt _ a.first (polls_led stamps.Keeps stamps.Keeps stamps.chain Whoever stamps.steps stamps.run_steps calls written (members_before Etimer s.members) s)) i
             (adds_by _ b.midst t tt _ b.second (polls_led stamps.Keeps stamps.Keeps stamps.chain Whoever stamps.steps stamps.run_steps calls written k.after b.midst)) (served moment a.midst b.midst c.now_is c.stands call i);
       }
 

@@ -34,7 +34,7 @@ use Rattle.process_kernel.specs.Posts.{post_of, poll_of, send_of}
 use Rattle.process_kernel.specs.Semaphores.{take_of, signal_of}
 use Rattle.process_kernel.specs.TimerOperations.{has_timer, timer_is_set, set_of, reset_of, restart_of, stop_of}
 use Rattle.process_kernel.specs.Writes.{with_line, write_of, halted_of, spend_of}
-use Rattle.process_kernel.specs.Calls.{Calls, Answer, told, is_event, walk_of}
+use Rattle.process_kernel.specs.Calls.{Calls, Answer, told, is_system_event, walk_of}
 use Rattle.process_kernel.specs.Etimer.{fired_of, purge_of, post_due, walk_timers, walks_of, pass_of, etimer_of}
 use Rattle.process_kernel.specs.Ctimer.{callback_of, waits_for, ctimer_of}
 use Rattle.process_kernel.specs.Radio.{packet_of, hand_to, empty_ring, radio_of}
@@ -265,15 +265,15 @@ module _ (Keeps Stops : State → State → Type 0) where
         etimer_led : (s : State) (e : Event) → Lead (Unit {0}) s (etimer_of s e)
         unfolding etimer_of pass_of
         etimer_led s e =
-            lead_if _ s (is_event Poll e) _ _ (walks_led _ s) (lead_if _ s (is_event Exited e) _ _ (lead_goes _ s tt _ (purged_kept s e.word)) (lead_still _ s tt))
+            lead_if _ s (is_system_event Poll e) _ _ (walks_led _ s) (lead_if _ s (is_system_event Exited e) _ _ (lead_goes _ s tt _ (purged_kept s e.word)) (lead_still _ s tt))
 
         -- the radio process
         radio_led : (s : State) (e : Event) → Lead (Unit {0}) s (radio_of s e)
         unfolding radio_of
-        radio_led s e = lead_if _ s (is_event Poll e) _ _ (steps.empties s) (lead_still _ s tt)
+        radio_led s e = lead_if _ s (is_system_event Poll e) _ _ (steps.empties s) (lead_still _ s tt)
 
         module _ (calls : Calls) (are : AreLed calls) where
-          walk_led : (e : Event) → (is_event Exit e) ≡ false → (p : Proc) (ms : List Member) (s : State) → Lead (Unit {0}) s (walk_of calls e p ms s)
+          walk_led : (e : Event) → (is_system_event Exit e) ≡ false → (p : Proc) (ms : List Member) (s : State) → Lead (Unit {0}) s (walk_of calls e p ms s)
           walk_led e f p [] s = lead_still _ s tt
           walk_led e f p (m ∷ ms) s =
               lead_bind _ _ s _ _ (lead_if _ s _ _ _ (are.call s m.process e (fits_no_exit m.process e.number f)) (lead_still _ s tt)) (λ a t. walk_led e f p ms t)
@@ -281,8 +281,8 @@ module _ (Keeps Stops : State → State → Type 0) where
           handler_led : (s : State) (code : Code) (p : ℕ) (e : Event) → Lead (Unit {0}) s (handler_of calls s code p e)
           unfolding handler_of
           handler_led s code p e =
-              lead_if _ s (is_event Poll e) _ _ (lead_bind _ _ s _ _ (are.run s code (fresh_of code OnPoll) p e) (λ a t. lead_still _ t tt))
-              (lead_if _ s (is_event Exit e) _ _ (lead_bind _ _ s _ _ (are.run s code (fresh_of code OnExit) p e) (λ a t. lead_still _ t tt)) (lead_still _ s tt))
+              lead_if _ s (is_system_event Poll e) _ _ (lead_bind _ _ s _ _ (are.run s code (fresh_of code OnPoll) p e) (λ a t. lead_still _ t tt))
+              (lead_if _ s (is_system_event Exit e) _ _ (lead_bind _ _ s _ _ (are.run s code (fresh_of code OnExit) p e) (λ a t. lead_still _ t tt)) (lead_still _ s tt))
 
           resume_led : (s : State) (code : Code) (p : ℕ) (e : Event) → Lead PtState s (resume_of calls s code p e)
           unfolding resume_of
@@ -306,7 +306,7 @@ module _ (Keeps Stops : State → State → Type 0) where
           ctimer_led : (s : State) (e : Event) → Lead (Unit {0}) s (ctimer_of calls s e)
           unfolding ctimer_of
           ctimer_led s e =
-              lead_if _ s (is_event Timer e && waits_for s e.word) _ _ (lead_from _ s _ _ (steps.callbacks s _) (callback_led _ e)) (lead_still _ s tt)
+              lead_if _ s (is_system_event Timer e && waits_for s e.word) _ _ (lead_from _ s _ _ (steps.callbacks s _) (callback_led _ e)) (lead_still _ s tt)
 
           react_led : (s : State) (p : Proc) (e : Event) → Lead PtState s (react_of calls s p e)
           unfolding react_of
@@ -384,11 +384,11 @@ module _ (Keeps Stops : State → State → Type 0) where
 
           -- a system process has answered that it yields
           system_led : (s : State) (p : Proc) (e : Event) → Fits p e.number → (o : Went) → Lead (Unit {0}) s o →
-              Lead (Unit {0}) s ((o >>= λ _ s1. Goes Yielded s1) >>= λ answer s2. answered calls s2 p (has_ended answer || is_event Exit e))
-          system_led s p e f o h = bind_twice _ _ _ s o _ _ (lead_bind _ _ s o _ h (λ a t. answered_led t p (is_event Exit e) (λ q. f (grind (arith, nat_tests)))))
+              Lead (Unit {0}) s ((o >>= λ _ s1. Goes Yielded s1) >>= λ answer s2. answered calls s2 p (has_ended answer || is_system_event Exit e))
+          system_led s p e f o h = bind_twice _ _ _ s o _ _ (lead_bind _ _ s o _ h (λ a t. answered_led t p (is_system_event Exit e) (λ q. f (grind (arith, nat_tests)))))
 
           -- a process that is called reacts and is judged by its answer
-          reacted_led : (s : State) (p : Proc) (e : Event) → Fits p e.number → Lead (Unit {0}) s (react_of calls s p e >>= λ answer s2. answered calls s2 p (has_ended answer || is_event Exit e))
+          reacted_led : (s : State) (p : Proc) (e : Event) → Fits p e.number → Lead (Unit {0}) s (react_of calls s p e >>= λ answer s2. answered calls s2 p (has_ended answer || is_system_event Exit e))
           unfolding react_of
           reacted_led s (Own p) e f = lead_bind _ _ s _ _ (own_led s p e) (λ b t. answered_led t (Own p) _ (λ q. steps.own (Own p) tt))
           reacted_led s Etimer e f = system_led s Etimer e f _ (etimer_led s e)

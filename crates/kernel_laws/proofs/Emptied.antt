@@ -12,7 +12,7 @@ use Rattle.process_kernel.specs.declared.kernel.Ran.TheVariants as ran
 use Rattle.process_kernel.specs.declared.runs.TheConstants.{UNITS}
 use Rattle.process_kernel.specs.State.{State, Outcome, Went, Ends, Goes, ◌>>=◌}
 use Rattle.process_kernel.specs.Processes.{is_running, is_marked, process_state, with_state, with_mark}
-use Rattle.process_kernel.specs.Calls.{Calls, told, is_event}
+use Rattle.process_kernel.specs.Calls.{Calls, told, is_system_event}
 use Rattle.process_kernel.specs.Radio.{radio_of}
 use Rattle.process_kernel.specs.Reaction.{react_of}
 use Rattle.process_kernel.specs.Call.{has_ended, answered, call_of, calls_of}
@@ -23,7 +23,7 @@ use Rattle.process_kernel.specs.Mote.{Mote}
 use Rattle.process_kernel.specs.Public.{given, begun, run_given}
 use Rattle.kernel_laws.specs.Own.{IsOwn}
 use Rattle.kernel_laws.specs.Going.{IsNote}
-use Rattle.kernel_laws.specs.Poll.{PollWaits, before}
+use Rattle.kernel_laws.specs.Poll.{PollWaits, members_before}
 use Rattle.kernel_laws.specs.Due.{IsAtRest}
 use Rattle.kernel_laws.specs.Ring.{RingRuns, NoneMore, Receives, Loses, Hands, Passes, RingGoes, RingHalts, RunEmptiesRing}
 use Rattle.kernel_laws.proofs.InStep as tables
@@ -61,7 +61,7 @@ radio_empties : (s : State) → IfGoes (λ t. t.ring ≡ []) (radio_of s (told P
 unfolding radio_of
 radio_empties s = emptied_by s _ (ring_empties s.program.receiver s.ring s refl)
 
-answers_empty : (calls : Calls) (o : Went) → IfGoes (λ t. t.ring ≡ []) o → IfGoes (λ t. t.ring ≡ []) ((o >>= λ _ s1. Goes Yielded s1) >>= λ answer s2. answered calls s2 Radio (has_ended answer || is_event Exit (told Poll 0)))
+answers_empty : (calls : Calls) (o : Went) → IfGoes (λ t. t.ring ≡ []) o → IfGoes (λ t. t.ring ≡ []) ((o >>= λ _ s1. Goes Yielded s1) >>= λ answer s2. answered calls s2 Radio (has_ended answer || is_system_event Exit (told Poll 0)))
 unfolding answered with_state
 answers_empty calls (Ends t) h = tt
 answers_empty calls (Goes a t) h = h
@@ -70,7 +70,7 @@ call_empties : (calls : Calls) (s : State) → is_running s Radio ≡ true → I
 unfolding call_of spend_of react_of
 call_empties calls s running = rw running (by (s.units == 0))
   where
-    by : (b : Bool) → IfGoes (λ t. t.ring ≡ []) (spent s b >>= λ _ s1. react_of calls (with_state s1 Radio Called) Radio (told Poll 0) >>= λ answer s2. answered calls s2 Radio (has_ended answer || is_event Exit (told Poll 0)))
+    by : (b : Bool) → IfGoes (λ t. t.ring ≡ []) (spent s b >>= λ _ s1. react_of calls (with_state s1 Radio Called) Radio (told Poll 0) >>= λ answer s2. answered calls s2 Radio (has_ended answer || is_system_event Exit (told Poll 0)))
     by true = tt
     by false = let t = with_state (record s { units = s.units - 1 }) Radio Called in answers_empty calls (radio_of t (told Poll 0)) (radio_empties t)
 
@@ -96,11 +96,11 @@ all_heard = subst (λ n. AreHeard (calls_of n)) (omega arith) (are_heard UNITS)
 -- a kernel run
 
 module _ (calls : Calls) (are : AreHeard calls) where
-  comes : (s u : State) → walk_polls calls (before Radio s.members) s ≡ Goes tt u → Watches Radio s u
+  comes : (s u : State) → walk_polls calls (members_before Radio s.members) s ≡ Goes tt u → Watches Radio s u
   comes s u e = let h : Lead (Watches Radio) Whatever (Unit {0}) s (Goes tt u) = subst (λ (o : Went). Lead (Watches Radio) Whatever (Unit {0}) s o) e (before_led Radio calls are.led s.members s) in h.leads
 
-  kept : (s u : State) → walk_polls calls (before Radio s.members) s ≡ Goes tt u → Stands true s → tables.Keeps s u
-  kept s u e h = let k : tables.Leaves (Unit {0}) (tables.Keeps s) (Goes tt u) = subst (λ (o : Went). tables.Leaves (Unit {0}) (tables.Keeps s) o) e (resting.polls_kept calls are.kept (before Radio s.members) s h.step) in k.out
+  kept : (s u : State) → walk_polls calls (members_before Radio s.members) s ≡ Goes tt u → Stands true s → tables.Keeps s u
+  kept s u e h = let k : tables.Leaves (Unit {0}) (tables.Keeps s) (Goes tt u) = subst (λ (o : Went). tables.Leaves (Unit {0}) (tables.Keeps s) o) e (resting.polls_kept calls are.kept (members_before Radio s.members) s h.step) in k.out
 
   unmarked_runs : (u : State) → is_running u Radio ≡ true → is_running (with_mark u Radio false) Radio ≡ true
   unfolding with_mark

@@ -29,7 +29,7 @@ use Rattle.process_kernel.specs.Members.{place_of, is_same}
 use Rattle.process_kernel.specs.State.{State, Outcome, Went, Ends, Goes, ◌>>=◌}
 use Rattle.process_kernel.specs.Processes.{is_alive, process_state, has_process, is_busy, is_listed, is_running, is_running_state, is_called_state, flag_at, with_state, with_exiting, with_mark}
 use Rattle.process_kernel.specs.ProcessList.{put_remainder, with_fresh_body, with_fresh_process, enlist_of, exiting_of, unlisted_of, leave_of}
-use Rattle.process_kernel.specs.Calls.{Calls, told, is_event, walk_of}
+use Rattle.process_kernel.specs.Calls.{Calls, told, is_system_event, walk_of}
 use Rattle.process_kernel.specs.Etimer.{fired_of, purge_of, post_due, walk_timers, walks_of, pass_of, etimer_of}
 use Rattle.process_kernel.specs.Ctimer.{callback_of, waits_for, ctimer_of}
 use Rattle.process_kernel.specs.Radio.{packet_of, hand_to, empty_ring, radio_of}
@@ -44,7 +44,7 @@ use Rattle.process_kernel.specs.Semaphores.{take_of, signal_of}
 use Rattle.process_kernel.specs.TimerOperations.{has_timer, timer_is_set, set_of, reset_of, restart_of, stop_of}
 use Rattle.process_kernel.specs.Writes.{with_line, write_of, spend_of}
 use Rattle.process_kernel.specs.Thread.{stepped_with, stepped_of}
-use Rattle.kernel_laws.specs.InStep.{state_at, exiting_at, listed_in, AreInStep, IsInStep, IsAsBusy}
+use Rattle.kernel_laws.specs.InStep.{state_at_place, exiting_at, listed_in, AreInStep, IsInStep, IsAsBusy}
 use Rattle.kernel_laws.proofs.Tables.{set_same, set_other, is_entry, is_equal, left_out, left_in, first_listed, others_listed, DiffersAt, in_step_but, state_differs, exiting_differs, differs_twice, state_set, exiting_set}
 
 -- in step, and as busy as before
@@ -257,28 +257,28 @@ unlisted_is Called e l h q = absurd (let f : false ≡ true = sym q ∙ h.1 in c
 -- the exit of a process leaves it neither called nor being exited
 record ExitsTo (p : ℕ) (s t : State) : Type 0 where
   step : IsInStep t
-  called : is_called_state (state_at t p) ≡ false
+  called : is_called_state (state_at_place t p) ≡ false
   exiting : exiting_at t p ≡ false
-  calls : (k : ℕ) → (k ≡ p → ⊥) → is_called_state (state_at t k) ≡ is_called_state (state_at s k)
+  calls : (k : ℕ) → (k ≡ p → ⊥) → is_called_state (state_at_place t k) ≡ is_called_state (state_at_place s k)
   exits : (k : ℕ) → (k ≡ p → ⊥) → exiting_at t k ≡ exiting_at s k
 
 -- while it is being exited
 record IsOnItsWay (p : ℕ) (s t : State) : Type 0 where
   step : IsInStep t
   exiting : exiting_at t p ≡ true
-  calls : (k : ℕ) → (k ≡ p → ⊥) → is_called_state (state_at t k) ≡ is_called_state (state_at s k)
+  calls : (k : ℕ) → (k ≡ p → ⊥) → is_called_state (state_at_place t k) ≡ is_called_state (state_at_place s k)
   exits : (k : ℕ) → (k ≡ p → ⊥) → exiting_at t k ≡ exiting_at s k
 
 on_its_way : (s : State) (p : Proc) → IsInStep s → exiting_at s (place_of p) ≡ false → listed_in s.members (place_of p) ≡ true → IsOnItsWay (place_of p) s (exiting_of s p)
 unfolding exiting_of with_state with_exiting
 on_its_way s p i e l =
     let k = place_of p in
-    let within : k < length s.states = is_entry s.states k Off (listed_is (state_at s k) (exiting_at s k) (listed_in s.members k) (i.each k) e l) in
+    let within : k < length s.states = is_entry s.states k Off (listed_is (state_at_place s k) (exiting_at s k) (listed_in s.members k) (i.each k) e l) in
     let within' : k < length s.exiting = subst (λ n. k < n) (sym i.tables) within in
     let t = with_state s p Off in
     let d = differs_twice k s t (with_exiting t p true) (state_differs s p Off) (exiting_differs t p true) in
     let x : exiting_at (with_exiting t p true) k ≡ true = exiting_set t p true within' in
-    let y : state_at (with_exiting t p true) k ≡ Off = state_set s p Off within in
+    let y : state_at_place (with_exiting t p true) k ≡ Off = state_set s p Off within in
     record {
       step = in_step_but k s (with_exiting t p true) i d (rw (y, x) (sym l));
       exiting = x;
@@ -298,7 +298,7 @@ leaves_at_last : (s t : State) (p : Proc) → IsOnItsWay (place_of p) s t → Le
 unfolding leave_of write_of unlisted_of with_exiting
 leaves_at_last s t p h =
     let k = place_of p in
-    let is : (state_at t k ≡ Off) × (listed_in t.members k ≡ true) = exiting_is (state_at t k) (exiting_at t k) (listed_in t.members k) (h.step.each k) h.exiting in
+    let is : (state_at_place t k ≡ Off) × (listed_in t.members k ≡ true) = exiting_is (state_at_place t k) (exiting_at t k) (listed_in t.members k) (h.step.each k) h.exiting in
     let within : k < length t.exiting = is_entry t.exiting k false (λ q. let f : true ≡ false = sym h.exiting ∙ q in cc) in
     let u = with_line (unlisted_of (with_exiting t p false) p) (what.Leave p) in
     let d0 = exiting_differs t p false in
@@ -338,7 +338,7 @@ walks_kept (suc k) s = walk_kept (walks_of k) (walks_kept k) s.timers.listed s
 etimer_kept : (s : State) (e : Event) → Kept s (etimer_of s e)
 unfolding etimer_of pass_of
 etimer_kept s e =
-    kept_if s (is_event Poll e) _ _ (walks_kept _ s) (kept_if s (is_event Exited e) _ _ (kept_goes s tt _ (purged_still s e.word)) (kept_goes s tt s (still s)))
+    kept_if s (is_system_event Poll e) _ _ (walks_kept _ s) (kept_if s (is_system_event Exited e) _ _ (kept_goes s tt _ (purged_still s e.word)) (kept_goes s tt s (still s)))
 
 -- the radio process
 
@@ -354,11 +354,11 @@ ring_kept receiver (a ∷ later) s =
 
 radio_kept : (s : State) (e : Event) → Kept s (radio_of s e)
 unfolding radio_of
-radio_kept s e = kept_if s (is_event Poll e) _ _ (ring_kept s.program.receiver s.ring s) (kept_goes s tt s (still s))
+radio_kept s e = kept_if s (is_system_event Poll e) _ _ (ring_kept s.program.receiver s.ring s) (kept_goes s tt s (still s))
 
 -- a process starts
 started_keeps : (s u : State) (p : Proc) (m : Member) → IsInStep s → m.process ≡ p → u.states ≡ slice_set s.states (place_of p) Running → u.exiting ≡ s.exiting → u.members ≡ m ∷ s.members → place_of p < length s.states →
-    is_called_state (state_at s (place_of p)) ≡ false → exiting_at s (place_of p) ≡ false → Keeps s u
+    is_called_state (state_at_place s (place_of p)) ≡ false → exiting_at s (place_of p) ≡ false → Keeps s u
 started_keeps s u p m i w a b c h n e =
     let k = place_of p in
     let d : DiffersAt k s u = record {
@@ -367,7 +367,7 @@ started_keeps s u p m i w a b c h n e =
       listed = λ j f. rw c (others_listed m s.members j (λ q. f (q ∙ ap place_of w)));
       tables = λ x. rw (a, b) (x ∙ sym (length-set s.states k Running));
     } in
-    let now : state_at u k ≡ Running = rw a (set_same s.states k Running Off h) in
+    let now : state_at_place u k ≡ Running = rw a (set_same s.states k Running Off h) in
     let there : listed_in u.members k ≡ true = rw c (subst (λ q. listed_in (m ∷ s.members) (place_of q) ≡ true) w (first_listed m s.members)) in
     let free : exiting_at u k ≡ false = rw b e in
     record {
@@ -381,7 +381,7 @@ started_keeps s u p m i w a b c h n e =
 below_of : (j n : ℕ) → nat_lt j n ≡ true → j < n
 below_of j n h = grind (arith, nat_tests)
 
-enlist_kept : (s : State) (p : Proc) → has_process s p ≡ true → is_called_state (state_at s (place_of p)) ≡ false → exiting_at s (place_of p) ≡ false → Kept s (enlist_of s p)
+enlist_kept : (s : State) (p : Proc) → has_process s p ≡ true → is_called_state (state_at_place s (place_of p)) ≡ false → exiting_at s (place_of p) ≡ false → Kept s (enlist_of s p)
 unfolding enlist_of write_of with_state
 enlist_kept s p h n e i =
     let m : Member = record { process = p; incarnation = s.started } in
@@ -392,10 +392,10 @@ enlist_kept s p h n e i =
 -- a call
 
 -- a process that was running has settled again, and the others are as busy as they were
-settles : (k : ℕ) (s t : State) → IsInStep s → is_running_state (state_at s k) ≡ true → IsInStep t → is_called_state (state_at t k) ≡ false → exiting_at t k ≡ false →
-    ((j : ℕ) → (j ≡ k → ⊥) → is_called_state (state_at t j) ≡ is_called_state (state_at s j)) → ((j : ℕ) → (j ≡ k → ⊥) → exiting_at t j ≡ exiting_at s j) → Keeps s t
+settles : (k : ℕ) (s t : State) → IsInStep s → is_running_state (state_at_place s k) ≡ true → IsInStep t → is_called_state (state_at_place t k) ≡ false → exiting_at t k ≡ false →
+    ((j : ℕ) → (j ≡ k → ⊥) → is_called_state (state_at_place t j) ≡ is_called_state (state_at_place s j)) → ((j : ℕ) → (j ≡ k → ⊥) → exiting_at t j ≡ exiting_at s j) → Keeps s t
 settles k s t i r step c e f g =
-    let is : (state_at s k ≡ Running) × (exiting_at s k ≡ false) × (listed_in s.members k ≡ true) = running_is (state_at s k) (exiting_at s k) (listed_in s.members k) (i.each k) r in
+    let is : (state_at_place s k ≡ Running) × (exiting_at s k ≡ false) × (listed_in s.members k ≡ true) = running_is (state_at_place s k) (exiting_at s k) (listed_in s.members k) (i.each k) r in
     record {
       step = step;
       busy = record {
@@ -407,8 +407,8 @@ settles k s t i r step c e f g =
 -- a process that was running is called now
 record IsCalled (p : ℕ) (s t : State) : Type 0 where
   step : IsInStep t
-  called : is_called_state (state_at t p) ≡ true
-  calls : (k : ℕ) → (k ≡ p → ⊥) → is_called_state (state_at t k) ≡ is_called_state (state_at s k)
+  called : is_called_state (state_at_place t p) ≡ true
+  calls : (k : ℕ) → (k ≡ p → ⊥) → is_called_state (state_at_place t k) ≡ is_called_state (state_at_place s k)
   exits : (k : ℕ) → (k ≡ p → ⊥) → exiting_at t k ≡ exiting_at s k
 
 is_free : (s : State) (p : Proc) (x : ProcessState) → exiting_at s (place_of p) ≡ false → exiting_at (with_state s p x) (place_of p) ≡ false
@@ -419,13 +419,13 @@ is_there : (s : State) (p : Proc) (x : ProcessState) → listed_in s.members (pl
 unfolding with_state
 is_there s p x e = e
 
-now_called : (s : State) (p : Proc) → IsInStep s → is_running_state (state_at s (place_of p)) ≡ true → IsCalled (place_of p) s (with_state s p Called)
+now_called : (s : State) (p : Proc) → IsInStep s → is_running_state (state_at_place s (place_of p)) ≡ true → IsCalled (place_of p) s (with_state s p Called)
 now_called s p i r =
     let k = place_of p in
-    let is : (state_at s k ≡ Running) × (exiting_at s k ≡ false) × (listed_in s.members k ≡ true) = running_is (state_at s k) (exiting_at s k) (listed_in s.members k) (i.each k) r in
+    let is : (state_at_place s k ≡ Running) × (exiting_at s k ≡ false) × (listed_in s.members k ≡ true) = running_is (state_at_place s k) (exiting_at s k) (listed_in s.members k) (i.each k) r in
     let within : k < length s.states = is_entry s.states k Off (λ q. let f : Running ≡ Off = sym is.0 ∙ q in cc) in
     let d = state_differs s p Called in
-    let x : state_at (with_state s p Called) k ≡ Called = state_set s p Called within in
+    let x : state_at_place (with_state s p Called) k ≡ Called = state_set s p Called within in
     record {
       step = in_step_but k s (with_state s p Called) i d (rw x (is_free s p Called is.1, is_there s p Called is.2));
       called = rw x refl;
@@ -442,14 +442,14 @@ still_called p s t u h k = record {
 }
 
 -- it is running again
-runs_again : (s u : State) (p : Proc) → IsInStep s → is_running_state (state_at s (place_of p)) ≡ true → IsCalled (place_of p) s u → Keeps s (with_state u p Running)
+runs_again : (s u : State) (p : Proc) → IsInStep s → is_running_state (state_at_place s (place_of p)) ≡ true → IsCalled (place_of p) s u → Keeps s (with_state u p Running)
 unfolding with_state
 runs_again s u p i r h =
     let k = place_of p in
-    let is : (state_at u k ≡ Called) × (exiting_at u k ≡ false) × (listed_in u.members k ≡ true) = called_is (state_at u k) (exiting_at u k) (listed_in u.members k) (h.step.each k) h.called in
+    let is : (state_at_place u k ≡ Called) × (exiting_at u k ≡ false) × (listed_in u.members k ≡ true) = called_is (state_at_place u k) (exiting_at u k) (listed_in u.members k) (h.step.each k) h.called in
     let within : k < length u.states = is_entry u.states k Off (λ q. let f : Called ≡ Off = sym is.0 ∙ q in cc) in
     let d = state_differs u p Running in
-    let x : state_at (with_state u p Running) k ≡ Running = state_set u p Running within in
+    let x : state_at_place (with_state u p Running) k ≡ Running = state_set u p Running within in
     settles k s (with_state u p Running) i r (in_step_but k u (with_state u p Running) h.step d (rw x (is.1, is.2))) (rw x refl) is.1 (λ j n. ap is_called_state (d.states j n) ∙ h.calls j n) (λ j n. d.exiting j n ∙ h.exits j n)
 
 spend_still : (s : State) → Leaves (Unit {0}) (IsStill s) (spend_of s)
@@ -465,8 +465,8 @@ module _ (calls : Calls) (are : AreKept calls) where
   handler_kept : (s : State) (code : Code) (p : ℕ) (e : Event) → Kept s (handler_of calls s code p e)
   unfolding handler_of
   handler_kept s code p e =
-      kept_if s (is_event Poll e) _ _ (kept_bind s _ _ (are.run s code (fresh_of code OnPoll) p e) (λ a t. kept_goes t tt t (still t)))
-      (kept_if s (is_event Exit e) _ _ (kept_bind s _ _ (are.run s code (fresh_of code OnExit) p e) (λ a t. kept_goes t tt t (still t))) (kept_goes s tt s (still s)))
+      kept_if s (is_system_event Poll e) _ _ (kept_bind s _ _ (are.run s code (fresh_of code OnPoll) p e) (λ a t. kept_goes t tt t (still t)))
+      (kept_if s (is_system_event Exit e) _ _ (kept_bind s _ _ (are.run s code (fresh_of code OnExit) p e) (λ a t. kept_goes t tt t (still t))) (kept_goes s tt s (still s)))
 
   resume_kept : (s : State) (code : Code) (p : ℕ) (e : Event) → Kept s (resume_of calls s code p e)
   unfolding resume_of
@@ -490,7 +490,7 @@ module _ (calls : Calls) (are : AreKept calls) where
   ctimer_kept : (s : State) (e : Event) → Kept s (ctimer_of calls s e)
   unfolding ctimer_of
   ctimer_kept s e =
-      kept_if s (is_event Timer e && waits_for s e.word) _ _ (kept_from s _ _ (record { states = refl; exiting = refl; members = refl }) (callback_kept _ e)) (kept_goes s tt s (still s))
+      kept_if s (is_system_event Timer e && waits_for s e.word) _ _ (kept_from s _ _ (record { states = refl; exiting = refl; members = refl }) (callback_kept _ e)) (kept_goes s tt s (still s))
 
   react_kept : (s : State) (p : Proc) (e : Event) → Kept s (react_of calls s p e)
   unfolding react_of
@@ -515,7 +515,7 @@ module _ (calls : Calls) (are : AreKept calls) where
       leaves_at_last s u p (goes_its_way (place_of p) s t u way1 k1)))) (λ l. record {
         out = record {
           step = i;
-          called = unlisted_is (state_at s (place_of p)) (exiting_at s (place_of p)) (listed_in s.members (place_of p)) (i.each (place_of p)) l;
+          called = unlisted_is (state_at_place s (place_of p)) (exiting_at s (place_of p)) (listed_in s.members (place_of p)) (i.each (place_of p)) l;
           exiting = e;
           calls = λ k n. refl;
           exits = λ k n. refl;
@@ -523,7 +523,7 @@ module _ (calls : Calls) (are : AreKept calls) where
       })
 
   -- where it wasn't busy before, nothing is busier than it was
-  exit_kept : (s : State) (p f : Proc) → is_called_state (state_at s (place_of p)) ≡ false → exiting_at s (place_of p) ≡ false → Kept s (exit_of calls s p f)
+  exit_kept : (s : State) (p f : Proc) → is_called_state (state_at_place s (place_of p)) ≡ false → exiting_at s (place_of p) ≡ false → Kept s (exit_of calls s p f)
   exit_kept s p f c e i = leaves_weaker (ExitsTo (place_of p) s) (Keeps s) _ (exits s p f i e) (λ t x. record {
     step = x.step;
     busy = record {
@@ -581,11 +581,11 @@ module _ (calls : Calls) (are : AreKept calls) where
   unfolding run_of
   one_run_kept s code r p e = kept_from s _ _ (stepped_still s code r p e) (step_kept code p e _ _ _)
 
-  answered_kept : (s u : State) (p : Proc) (b : Bool) → IsInStep s → is_running_state (state_at s (place_of p)) ≡ true → IsCalled (place_of p) s u → Leaves (Unit {0}) (Keeps s) (answered calls u p b)
+  answered_kept : (s u : State) (p : Proc) (b : Bool) → IsInStep s → is_running_state (state_at_place s (place_of p)) ≡ true → IsCalled (place_of p) s u → Leaves (Unit {0}) (Keeps s) (answered calls u p b)
   unfolding answered
   answered_kept s u p true i r h =
       let k = place_of p in
-      let is : (state_at u k ≡ Called) × (exiting_at u k ≡ false) × (listed_in u.members k ≡ true) = called_is (state_at u k) (exiting_at u k) (listed_in u.members k) (h.step.each k) h.called in
+      let is : (state_at_place u k ≡ Called) × (exiting_at u k ≡ false) × (listed_in u.members k ≡ true) = called_is (state_at_place u k) (exiting_at u k) (listed_in u.members k) (h.step.each k) h.called in
       leaves_weaker (ExitsTo k u) (Keeps s) _ (exits u p p h.step is.1) (λ t x. settles k s t i r x.step x.called x.exiting (λ j n. x.calls j n ∙ h.calls j n) (λ j n. x.exits j n ∙ h.exits j n))
   answered_kept s u p false i r h = record { out = runs_again s u p i r h }
 
@@ -594,7 +594,7 @@ module _ (calls : Calls) (are : AreKept calls) where
   call_kept s p e i =
       leaves_cases (Unit {0}) (Keeps s) (is_running s p) _ _ (λ r. leaves_bind (IsStill s) (Keeps s) (spend_of s) _ (spend_still s) (λ a t q.
       let k = keeps_still s t q i in
-      let r' : is_running_state (state_at t (place_of p)) ≡ true = rw (q.states) r in
+      let r' : is_running_state (state_at_place t (place_of p)) ≡ true = rw (q.states) r in
       let now = now_called t p k.step r' in
       leaves_bind (Keeps (with_state t p Called)) (Keeps s) _ _ (react_kept (with_state t p Called) p e now.step) (λ answer u l.
       leaves_weaker (Keeps t) (Keeps s) _ (answered_kept t u p _ k.step r' (still_called (place_of p) t (with_state t p Called) u now l)) (λ v m. record { step = m.step; busy = as_busy_twice s t v k.busy m.busy })))) (λ r. kept_goes s tt s (still s) i)

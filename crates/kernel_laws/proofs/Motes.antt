@@ -21,13 +21,13 @@ use Rattle.process_kernel.specs.Boot.{boot_of}
 use Rattle.process_kernel.specs.Posts.{poll_of}
 use Rattle.process_kernel.specs.Public.{Given, given, begun, boot_given, run_given}
 use Rattle.kernel_laws.specs.Seen.{seen_what, seen_lines, view_of}
-use Rattle.kernel_laws.specs.Going.{IsSound, IsBlank, GoesWithAs, GoesWith, Adds, IsNote, IsInOrder}
+use Rattle.kernel_laws.specs.Going.{SystemStays, IsBlank, GoesWithAs, GoesWith, Adds, IsNote, IsInOrder}
 use Rattle.kernel_laws.proofs.Steps.{IsQuiet, quiet, view_quiet, poll_quiet}
 use Rattle.kernel_laws.proofs.CallSteps.{calls_run}
 use Rattle.kernel_laws.proofs.Delivers.{machine_of, RestsAt, rests_behind, begun_run, begun_lines, begun_sound, boot_run, kernel_run}
 
 -- more lines of a mote that stands
-told_more : (lines : List Line) (s : State) (before : List Line) (sends : List Sent) (g : view.GoesWith (seen_lines lines) (view_of s)) (o : Outcome ℕ) →
+told_more : (lines : List Line) (s : State) (before : List Line) (sends : List Sent) (g : view.GoesWithView (seen_lines lines) (view_of s)) (o : Outcome ℕ) →
     RestsAt (machine_of s g.walked []) (record s { lines = before; sends = sends }) o → Adds lines before (given o)
 told_more lines s before sends g (Ends t) r = record {
   added = r.added;
@@ -43,10 +43,10 @@ told_more lines s before sends g (Goes a t) r = record {
   };
 }
 
-pub run_rests : (m : Mote) (moment : ℕ) (before : List Line) (sends : List Sent) (walked : ℕ) → IsSound m.state → RestsAt (machine_of m.state walked []) (record (m.state) { lines = before; sends = sends }) (kernel_of (calls_of (UNITS + 1)) (begun m moment before sends))
+pub run_rests : (m : Mote) (moment : ℕ) (before : List Line) (sends : List Sent) (walked : ℕ) → SystemStays m.state → RestsAt (machine_of m.state walked []) (record (m.state) { lines = before; sends = sends }) (kernel_of (calls_of (UNITS + 1)) (begun m moment before sends))
 run_rests m moment before sends walked h =
     let s = record (m.state) { lines = before; sends = sends } in
-    let k : IsSound s = record { stays = h.stays; fits = h.fits } in
+    let k : SystemStays s = record { stays = h.stays; fits = h.fits } in
     rests_behind ℕ (machine_of s walked []) s (begun_of s moment) (machine_of (begun_of s moment) walked []) _ [] (begun_lines s moment) (begun_run s moment walked) (kernel_run (calls_of (UNITS + 1)) (calls_run (UNITS + 1)) (begun_of s moment) walked (begun_sound s moment k))
 
 -- nothing is added
@@ -90,8 +90,8 @@ blank_poll : (s : State) (p : Proc) → IsBlank s → IsBlank (poll_of s p)
 unfolding poll_of with_mark
 blank_poll s p k = elim (is_alive (process_state s p)) as (λ b. IsBlank (if b then record (with_mark s p true) { flag = true } else s)) [ true ↦ record { members = k.members; events = k.events; idle = k.idle; there = k.there } | false ↦ k ]
 
-told_quiet : (lines : List Line) (s t : State) → IsQuiet s t → view.GoesWith (seen_lines lines) (view_of s) → view.GoesWith (seen_lines lines) (view_of t)
-told_quiet lines s t q g = subst (λ v. view.GoesWith (seen_lines lines) v) (view_quiet s t q) g
+told_quiet : (lines : List Line) (s t : State) → IsQuiet s t → view.GoesWithView (seen_lines lines) (view_of s) → view.GoesWithView (seen_lines lines) (view_of t)
+told_quiet lines s t q g = subst (λ v. view.GoesWithView (seen_lines lines) v) (view_quiet s t q) g
 
 goes_quiet : (booted halted : Bool) (lines : List Line) (s t : State) → IsQuiet s t → (IsBlank s → IsBlank t) → GoesWithAs booted halted lines s → GoesWithAs booted halted lines t
 goes_quiet false false lines s t q f g = record { told = told_quiet lines s t q g.told; blank = f g.blank }
@@ -126,7 +126,7 @@ note_is_other what.Halt h = absurd h
 note_is_other (what.Send n v) h = absurd h
 note_is_other (what.Deaf f n) h = absurd h
 
-told_noted : (lines : List Line) (s : State) (l : Line) → IsNote l.what → view.GoesWith (seen_lines lines) (view_of s) → view.GoesWith (seen_lines (lines ++ l ∷ [])) (view_of s)
+told_noted : (lines : List Line) (s : State) (l : Line) → IsNote l.what → view.GoesWithView (seen_lines lines) (view_of s) → view.GoesWithView (seen_lines (lines ++ l ∷ [])) (view_of s)
 told_noted lines s l n g = rw (map-append, note_is_other l.what n) (goes_further (seen_lines lines) (handed.Other ∷ []) (view_of s) (view_of s) g.walked g (other_moves (view_of s) g.walked []))
 
 noted : (booted : Bool) (lines : List Line) (s : State) (l : Line) → IsNote l.what → GoesWithAs booted false lines s → GoesWithAs booted false (lines ++ l ∷ []) s
@@ -139,7 +139,7 @@ note_keeps lines m l h n g =
 
 -- what holds of lines that go with a mote
 
-told_in_order : (lines : List Line) (s : State) → view.GoesWith (seen_lines lines) (view_of s) → IsInOrder lines
+told_in_order : (lines : List Line) (s : State) → view.GoesWithView (seen_lines lines) (view_of s) → IsInOrder lines
 told_in_order lines s g = record { handed_on = goes_with_hands_on _ _ g; halt_is_last = goes_with_halts_last _ _ g; starts = goes_with_starts _ _ g }
 
 in_order_as : (booted halted : Bool) (lines : List Line) (s : State) → GoesWithAs booted halted lines s → IsInOrder lines

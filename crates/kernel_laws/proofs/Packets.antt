@@ -10,7 +10,7 @@ use Rattle.process_kernel.specs.declared.line.Arrival.{Arrival}
 use Rattle.process_kernel.specs.declared.line.What.{What}
 use Rattle.process_kernel.specs.declared.line.What.TheVariants as what
 use Rattle.process_kernel.specs.State.{State, Outcome, Went, Ends, Goes, ◌>>=◌}
-use Rattle.process_kernel.specs.Calls.{is_event}
+use Rattle.process_kernel.specs.Calls.{is_system_event}
 use Rattle.process_kernel.specs.Posts.{post_of}
 use Rattle.process_kernel.specs.Radio.{packet_of, hand_to, empty_ring, radio_of}
 use Rattle.process_kernel.specs.Writes.{write_of}
@@ -83,7 +83,7 @@ ring_empties receiver (a ∷ later) s r =
     goes_on receiver a later s t h (Ends u) e = tt
     goes_on receiver a later s t h (Goes x u) e = empties_next receiver a later s t u h e
 
-polled : (s t : State) (e : Event) → is_event Poll e ≡ true → radio_of s e ≡ Goes tt t → empty_ring s.program.receiver s.ring s ≡ Goes tt t
+polled : (s t : State) (e : Event) → is_system_event Poll e ≡ true → radio_of s e ≡ Goes tt t → empty_ring s.program.receiver s.ring s ≡ Goes tt t
 unfolding radio_of
 polled s t e poll goes = sym (rw poll refl) ∙ goes
 

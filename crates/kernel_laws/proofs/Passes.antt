@@ -18,7 +18,7 @@ use Rattle.process_kernel.specs.State.{State, Outcome, Went, Ends, Goes, ◌>>=�
 use Rattle.process_kernel.specs.Processes.{is_running, with_state}
 use Rattle.process_kernel.specs.Posts.{post_of, poll_of}
 use Rattle.process_kernel.specs.Writes.{write_of, spend_of, halted_of}
-use Rattle.process_kernel.specs.Calls.{Calls, told, is_event}
+use Rattle.process_kernel.specs.Calls.{Calls, told, is_system_event}
 use Rattle.process_kernel.specs.Etimer.{fired_of, post_due, walk_timers, walks_of, pass_of, etimer_of}
 use Rattle.process_kernel.specs.Reaction.{react_of}
 use Rattle.process_kernel.specs.Call.{has_ended, answered, call_of}
@@ -149,7 +149,7 @@ serves_like s s' t lines moment timers h = record {
     again (inr w) = inr (record { marked = w.marked; flag = w.flag })
 
 answers_serve : (calls : Calls) (s s' : State) (o : Went) → s'.lines ≡ s.lines → s'.moment ≡ s.moment → s'.timers ≡ s.timers → IfGoes (Serves s') o
-    → IfGoes (Serves s) ((o >>= λ _ s1. Goes Yielded s1) >>= λ answer s2. answered calls s2 Etimer (has_ended answer || is_event Exit (told Poll 0)))
+    → IfGoes (Serves s) ((o >>= λ _ s1. Goes Yielded s1) >>= λ answer s2. answered calls s2 Etimer (has_ended answer || is_system_event Exit (told Poll 0)))
 unfolding answered
 answers_serve calls s s' (Ends t) lines moment timers h = tt
 answers_serve calls s s' (Goes a t) lines moment timers h = serves_like s s' t lines moment timers h
@@ -162,7 +162,7 @@ pub call_serves : (calls : Calls) (s : State) → is_running s Etimer ≡ true �
 unfolding call_of spend_of react_of with_state
 call_serves calls s running can = rw running (by (s.units == 0))
   where
-    by : (b : Bool) → IfGoes (Serves s) (spent s b >>= λ _ s1. react_of calls (with_state s1 Etimer Called) Etimer (told Poll 0) >>= λ answer s2. answered calls s2 Etimer (has_ended answer || is_event Exit (told Poll 0)))
+    by : (b : Bool) → IfGoes (Serves s) (spent s b >>= λ _ s1. react_of calls (with_state s1 Etimer Called) Etimer (told Poll 0) >>= λ answer s2. answered calls s2 Etimer (has_ended answer || is_system_event Exit (told Poll 0)))
     by true = tt
     by false =
         let s' = with_state (record s { units = s.units - 1 }) Etimer Called in

@@ -11,7 +11,7 @@ use Rattle.process_kernel.specs.Processes.{is_marked, is_on_list, with_mark}
 use Rattle.process_kernel.specs.Calls.{Calls, told}
 use Rattle.process_kernel.specs.Polls.{walk_polls, polls_of, polls_due_of, poll_turn_of}
 use Rattle.kernel_laws.specs.Own.{IsOwn}
-use Rattle.kernel_laws.specs.Poll.{before}
+use Rattle.kernel_laws.specs.Poll.{members_before}
 use Rattle.kernel_laws.proofs.EachStep.{Lead, AreLed, fits_no_exit, lead_bind, lead_from, lead_if, lead_still}
 use Rattle.kernel_laws.proofs.Watch.{Watches, Whatever, chain, watches_unmarked}
 
@@ -61,7 +61,7 @@ module _ (p : Proc) where
   pub record Splits (ms : List Member) : Type 0 where
     pub member : Member
     pub after : List Member
-    pub split : ms ≡ before p ms ++ member ∷ after
+    pub split : ms ≡ members_before p ms ++ member ∷ after
     pub is_it : member.process ≡ p
     pub holds : holds_member ms member ≡ true
 
@@ -77,9 +77,9 @@ module _ (p : Proc) where
           record { member = k.member; after = k.after; split = rw e (ap (λ l. m ∷ l) k.split); is_it = k.is_it; holds = or_true _ (holds_member ms k.member) k.holds }
 
   -- the polls: those before it, its own, and those behind it
-  pub walk_splits : (calls : Calls) (ms : List Member) (x : Member) (after : List Member) (s : State) → ms ≡ before p ms ++ x ∷ after
-      → walk_polls calls ms s ≡ (walk_polls calls (before p ms) s >>= λ _ t. (poll_turn_of calls t x >>= λ _ u. walk_polls calls after u))
-  walk_splits calls ms x after s e = subst (λ l. walk_polls calls l s ≡ (walk_polls calls (before p ms) s >>= λ _ t. walk_polls calls (x ∷ after) t)) (sym e) (walk_joined calls (before p ms) (x ∷ after) s)
+  pub walk_splits : (calls : Calls) (ms : List Member) (x : Member) (after : List Member) (s : State) → ms ≡ members_before p ms ++ x ∷ after
+      → walk_polls calls ms s ≡ (walk_polls calls (members_before p ms) s >>= λ _ t. (poll_turn_of calls t x >>= λ _ u. walk_polls calls after u))
+  walk_splits calls ms x after s e = subst (λ l. walk_polls calls l s ≡ (walk_polls calls (members_before p ms) s >>= λ _ t. walk_polls calls (x ∷ after) t)) (sym e) (walk_joined calls (members_before p ms) (x ∷ after) s)
 
   -- where its turn comes, it is called, if it is there and marked
   pub turn_calls : (calls : Calls) (u : State) (x : Member) → x.process ≡ p → is_on_list u x ≡ true → is_marked u p ≡ true → poll_turn_of calls u x ≡ calls.call (with_mark u p false) p (told Poll 0)
@@ -96,10 +96,10 @@ module _ (p : Proc) where
     unfolding poll_turn_of
     turn_led s x e = lead_if (Watches p) Whatever (chain p) _ s _ _ _ (other_led s x.process (λ q. grind (arith, nat_tests))) (lead_still (Watches p) Whatever (chain p) _ s tt)
 
-    pub before_led : (ms : List Member) (s : State) → Lead (Watches p) Whatever (Unit {0}) s (walk_polls calls (before p ms) s)
+    pub before_led : (ms : List Member) (s : State) → Lead (Watches p) Whatever (Unit {0}) s (walk_polls calls (members_before p ms) s)
     before_led [] s = lead_still (Watches p) Whatever (chain p) _ s tt
     before_led (x ∷ ms) s = by (is_same x.process p) refl (before_led ms)
       where
-        by : (b : Bool) → is_same x.process p ≡ b → ((t : State) → Lead (Watches p) Whatever (Unit {0}) t (walk_polls calls (before p ms) t)) → Lead (Watches p) Whatever (Unit {0}) s (walk_polls calls (if b then [] else x ∷ before p ms) s)
+        by : (b : Bool) → is_same x.process p ≡ b → ((t : State) → Lead (Watches p) Whatever (Unit {0}) t (walk_polls calls (members_before p ms) t)) → Lead (Watches p) Whatever (Unit {0}) s (walk_polls calls (if b then [] else x ∷ members_before p ms) s)
         by true e later = lead_still (Watches p) Whatever (chain p) _ s tt
         by false e later = lead_bind (Watches p) Whatever (chain p) _ _ s _ _ (turn_led s x e) (λ a t. later t)

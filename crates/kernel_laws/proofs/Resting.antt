@@ -28,7 +28,7 @@ use Rattle.process_kernel.specs.Run.{begun_of, left_of, deliver_front, kernel_of
 use Rattle.process_kernel.specs.Boot.{starts_of, boot_of}
 use Rattle.process_kernel.specs.Mote.{Mote, at_rest, unbooted, with_packet, with_poll}
 use Rattle.process_kernel.specs.Public.{Given, given, begun, boot_given, run_given}
-use Rattle.kernel_laws.specs.InStep.{state_at, exiting_at, listed_in, AreInStep, IsInStep, IsIdle}
+use Rattle.kernel_laws.specs.InStep.{state_at_place, exiting_at, listed_in, AreInStep, IsInStep, IsIdle}
 use Rattle.kernel_laws.specs.Traces.{KernelCall, RunAt, PollOf, Accepts, Notes, Traced, after_call, after_calls, booted_at}
 use Rattle.kernel_laws.specs.Laws.{OnlyTheRunningAreCalled, CallsKeepStep, ListedAreRunning}
 use Rattle.kernel_laws.proofs.InStep.{Keeps, Leaves, Kept, IsStill, still, keeps_still, kept_goes, kept_bind, kept_from, kept_if, AreKept, mark_still, poll_still, write_kept, start_kept, calls_kept}
@@ -172,7 +172,7 @@ pub listed_are_running : ListedAreRunning
 listed_are_running program mote queue moment calls h p =
     let r = calls_rest calls _ (boot_rests program mote queue moment) h in
     let s = (after_calls (booted_at program mote queue moment) calls).mote.state in
-    idle_listed (state_at s (place_of p)) (exiting_at s (place_of p)) (listed_in s.members (place_of p)) (r.step.each (place_of p)) (r.idle.called (place_of p)) (r.idle.exiting (place_of p))
+    idle_listed (state_at_place s (place_of p)) (exiting_at s (place_of p)) (listed_in s.members (place_of p)) (r.step.each (place_of p)) (r.idle.called (place_of p)) (r.idle.exiting (place_of p))
 
 out_of : (s t : State) (o : Went) → o ≡ Goes tt t → Leaves (Unit {0}) (Keeps s) o → Keeps s t
 out_of s t o e k = let l : Leaves (Unit {0}) (Keeps s) (Goes tt t) = subst (λ x. Leaves (Unit {0}) (Keeps s) x) e k in l.out

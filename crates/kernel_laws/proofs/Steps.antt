@@ -29,7 +29,7 @@ use Rattle.process_kernel.specs.TimerOperations.{timer_is_set}
 use Rattle.process_kernel.specs.Writes.{with_line, write_of, halted_of}
 use Rattle.kernel_laws.specs.Own.{IsOwn, FitsTarget}
 use Rattle.kernel_laws.specs.Seen.{seen_what, seen_lines, seen_target, seen_member, seen_posted, view_of}
-use Rattle.kernel_laws.specs.Going.{IsSound}
+use Rattle.kernel_laws.specs.Going.{SystemStays}
 use Rattle.kernel_laws.proofs.EachStep.{Leads, Lead, AreJoined, lead_from, lead_bind, lead_if}
 
 -- the later state is reached by lines that are a run of the machine, whatever walk is under way
@@ -37,7 +37,7 @@ pub record GoesOn (s t : State) : Type 0 where
   pub added : List Line
   pub wrote : t.lines ≡ s.lines ++ added
   pub moves : Moves (view_of s) (seen_lines added) (view_of t)
-  pub sound : IsSound s → IsSound t
+  pub sound : SystemStays s → SystemStays t
 
 -- the same lines and then a halt
 pub record Stops (s t : State) : Type 0 where
@@ -125,7 +125,7 @@ goes_still A s a = goes_quiet A s a s (quiet_same s)
 -- lines
 
 -- one line more, which a step of the machine writes
-one_line : (s u : State) (w : What) → u.lines ≡ s.lines → Moves (view_of s) (seen_what w ∷ []) (view_of u) → (IsSound s → IsSound u) → GoesOn s (with_line u w)
+one_line : (s u : State) (w : What) → u.lines ≡ s.lines → Moves (view_of s) (seen_what w ∷ []) (view_of u) → (SystemStays s → SystemStays u) → GoesOn s (with_line u w)
 one_line s u w e m f = record {
   added = record { at = u.moment; what = w } ∷ [];
   wrote = ap (λ l. l ++ record { at = u.moment; what = w } ∷ []) e;
@@ -194,7 +194,7 @@ any_or false c e = e
 abbrev enlisted : State → Proc → State
 enlisted s p = record s { members = record { process = p; incarnation = s.started } ∷ s.members; started = s.started + 1 }
 
-enlisted_sound : (s u : State) (p : Proc) → IsQuiet (enlisted s p) u → IsSound s → IsSound u
+enlisted_sound : (s u : State) (p : Proc) → IsQuiet (enlisted s p) u → SystemStays s → SystemStays u
 enlisted_sound s u p q h = record {
   stays = rw (q.members) (any_or (is_same Etimer p) (is_listed s Etimer) h.stays);
   fits = rw (q.queue) h.fits;
@@ -208,13 +208,13 @@ enlists s p n =
     goes (Unit {0}) s tt _ (one_line s u (what.Start p) q.lines (subst (λ v. Moves (view_of s) (handed.Start (place_of p) ∷ []) v) (view_quiet (enlisted s p) u q) (start_moves (view_of s) (place_of p) (sym (listed_alike s.members p) ∙ n))) (enlisted_sound s u p q))
 
 -- where the etimer process has just started, with no event posted, the state is sound
-pub first_sound : (s : State) (a : Unit {0}) (t : State) → s.queue.events ≡ [] → enlist_of s Etimer ≡ Goes a t → IsSound t
+pub first_sound : (s : State) (a : Unit {0}) (t : State) → s.queue.events ≡ [] → enlist_of s Etimer ≡ Goes a t → SystemStays t
 unfolding enlist_of write_of with_state
 first_sound s a t f e =
     let u = with_line (with_fresh_process (with_state (enlisted s Etimer) Etimer Running) Etimer) (what.Start Etimer) in
     let q : u ≡ t = cc in
-    let h : IsSound u = record { stays = refl; fits = rw f (All-nil _) } in
-    subst IsSound q h
+    let h : SystemStays u = record { stays = refl; fits = rw f (All-nil _) } in
+    subst SystemStays q h
 
 -- a process leaves the list of members, and so the list of the machine
 left_members : (ms : List Member) (p : Proc) → map seen_member (filter (λ m. not (is_same m.process p)) ms) ≡ without (map seen_member ms) (place_of p)

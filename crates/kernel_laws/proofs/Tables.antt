@@ -11,7 +11,7 @@ use Rattle.process_kernel.specs.declared.process.Member.{Member}
 use Rattle.process_kernel.specs.Members.{place_of, is_same}
 use Rattle.process_kernel.specs.State.{State}
 use Rattle.process_kernel.specs.Processes.{with_state, with_exiting}
-use Rattle.kernel_laws.specs.InStep.{state_at, exiting_at, listed_in, AreInStep, IsInStep}
+use Rattle.kernel_laws.specs.InStep.{state_at_place, exiting_at, listed_in, AreInStep, IsInStep}
 
 pub set_same : {X : Type 0} (xs : List X) (i : ℕ) (v d : X) → i < length xs → unwrap_or (slice_get (slice_set xs i v) i) d ≡ v
 set_same xs i v d h = unwrap_or-slice_get (slice_set xs i v) i d ∙ get_or-set_same xs i v d h
@@ -49,12 +49,12 @@ others_listed m ms k h = grind (arith, nat_tests, h)
 
 -- the two states differ at this place alone
 pub record DiffersAt (p : ℕ) (s t : State) : Type 0 where
-  pub states : (k : ℕ) → (k ≡ p → ⊥) → state_at t k ≡ state_at s k
+  pub states : (k : ℕ) → (k ≡ p → ⊥) → state_at_place t k ≡ state_at_place s k
   pub exiting : (k : ℕ) → (k ≡ p → ⊥) → exiting_at t k ≡ exiting_at s k
   pub listed : (k : ℕ) → (k ≡ p → ⊥) → listed_in t.members k ≡ listed_in s.members k
   pub tables : length s.exiting ≡ length s.states → length t.exiting ≡ length t.states
 
-pub in_step_but : (p : ℕ) (s t : State) → IsInStep s → DiffersAt p s t → AreInStep (state_at t p) (exiting_at t p) (listed_in t.members p) → IsInStep t
+pub in_step_but : (p : ℕ) (s t : State) → IsInStep s → DiffersAt p s t → AreInStep (state_at_place t p) (exiting_at t p) (listed_in t.members p) → IsInStep t
 in_step_but p s t i d h = record {
   tables = d.tables i.tables;
   each = λ k. elim (is_equal k p) [ inl e ↦ rw e h | inr n ↦ rw (d.states k n, d.exiting k n, d.listed k n) (i.each k) ];
@@ -86,7 +86,7 @@ differs_twice p s t u d e = record {
   tables = λ x. e.tables (d.tables x);
 }
 
-pub state_set : (s : State) (p : Proc) (x : ProcessState) → place_of p < length s.states → state_at (with_state s p x) (place_of p) ≡ x
+pub state_set : (s : State) (p : Proc) (x : ProcessState) → place_of p < length s.states → state_at_place (with_state s p x) (place_of p) ≡ x
 unfolding with_state
 state_set s p x h = set_same s.states (place_of p) x Off h
 

@@ -15,7 +15,7 @@ use Rattle.mote_timers.specs.TimerLists.{TimerLists, timer_at, stop_timer}
 use Rattle.mote_timers.proofs.NumberLists.{is_member-filter}
 use Rattle.process_kernel.specs.declared.line.Line.{Line}
 use Rattle.process_kernel.specs.State.{State, Went, Ends, Goes}
-use Rattle.process_kernel.specs.Calls.{told, is_event}
+use Rattle.process_kernel.specs.Calls.{told, is_system_event}
 use Rattle.process_kernel.specs.Etimer.{fired_of, post_due, walk_timers, walks_of, pass_of, etimer_of}
 use Rattle.process_kernel.specs.Posts.{post_of, poll_of}
 use Rattle.process_kernel.specs.Processes.{is_alive, process_state, with_mark}
@@ -211,7 +211,7 @@ module _ (id : ℕ) (owner : Proc) where
   walks_tell zero s w = none_waits s w (walks_of 0 s)
   walks_tell (suc k) s w = walk_tells k (walks_of k) (walks_run k) (walks_tell k) s.timers.listed s w w.listed (λ j h. h)
 
-passed : (s t : State) (e : Event) → is_event Poll e ≡ true → etimer_of s e ≡ Goes tt t → walks_of (length s.timers.listed) s ≡ Goes tt t
+passed : (s t : State) (e : Event) → is_system_event Poll e ≡ true → etimer_of s e ≡ Goes tt t → walks_of (length s.timers.listed) s ≡ Goes tt t
 unfolding etimer_of pass_of
 passed s t e poll goes = sym (rw poll refl) ∙ goes
 

@@ -16,7 +16,7 @@ use Rattle.process_kernel.specs.Calls.{Calls, told}
 use Rattle.process_kernel.specs.Start.{start_of}
 use Rattle.process_kernel.specs.Boot.{starts_of, boot_of}
 use Rattle.kernel_laws.specs.Own.{IsOwn}
-use Rattle.kernel_laws.specs.InStep.{state_at, exiting_at, listed_in, AreInStep, IsInStep, IsIdle}
+use Rattle.kernel_laws.specs.InStep.{state_at_place, exiting_at, listed_in, AreInStep, IsInStep, IsIdle}
 use Rattle.kernel_laws.specs.Due.{NoneIsDue, ForgetsNone}
 use Rattle.kernel_laws.specs.Poll.{CanBePolled}
 use Rattle.kernel_laws.proofs.Delivers.{first_start}
@@ -142,7 +142,7 @@ module _ (calls : Calls) (are : AreWatched calls) where
           listed = h.listed;
           radio_state = h.radio_state;
           radio_mark = h.radio_mark;
-          radio = λ e. record { can = record { alive = alive_is (state_at t 2) (exiting_at t 2) (listed_in t.members 2) (h.step.each 2) (h.idle.exiting 2) l; has_mark = h.radio_mark }; listed = l };
+          radio = λ e. record { can = record { alive = alive_is (state_at_place t 2) (exiting_at t 2) (listed_in t.members 2) (h.step.each 2) (h.idle.exiting 2) l; has_mark = h.radio_mark }; listed = l };
         };
         forgets = g.forgets;
       }

@@ -23,10 +23,10 @@ use Rattle.process_kernel.specs.Polls.{walk_polls, polls_of, polls_due_of, poll_
 use Rattle.process_kernel.specs.Delivery.{give_of, visit_of, walk_event, deliver_to, deliver_of}
 use Rattle.process_kernel.specs.Run.{deliver_front, kernel_of}
 use Rattle.kernel_laws.specs.Own.{IsOwn, FitsTarget}
-use Rattle.kernel_laws.specs.Going.{IsSound}
+use Rattle.kernel_laws.specs.Going.{SystemStays}
 use Rattle.kernel_laws.specs.InStep.{IsInStep, IsIdle}
 use Rattle.kernel_laws.specs.Due.{NoneIsDue, ForgetsNone}
-use Rattle.kernel_laws.specs.Poll.{CanBePolled, before}
+use Rattle.kernel_laws.specs.Poll.{CanBePolled, members_before}
 use Rattle.kernel_laws.proofs.Steps.{Reach}
 use Rattle.kernel_laws.proofs.CallSteps.{AreRuns}
 use Rattle.kernel_laws.proofs.Delivers.{polls_due_run}
@@ -83,8 +83,8 @@ pub record Good (r : Bool) (moment : ℕ) (t : State) : Type 0 where
 good_on : (r : Bool) (moment : ℕ) (s t : State) → Good r moment s → Watches Etimer s t → tables.Keeps s t → Good r moment t
 good_on r moment s t g w k =
     let now : t.moment ≡ moment = w.moment ∙ g.now_is in
-    let before : ForgetsNone s.moment s = subst (λ n. ForgetsNone n s) (sym g.now_is) g.forgets in
-    record { now_is = now; stands = stands_on r s t g.stands w k; forgets = subst (λ n. ForgetsNone n t) now (forgets_on s t w g.stands.can before) }
+    let members_before : ForgetsNone s.moment s = subst (λ n. ForgetsNone n s) (sym g.now_is) g.forgets in
+    record { now_is = now; stands = stands_on r s t g.stands w k; forgets = subst (λ n. ForgetsNone n t) now (forgets_on s t w g.stands.can members_before) }
 
 pub good_leads : (A : Type 0) (r : Bool) (moment : ℕ) (s : State) (o : Outcome A) → Good r moment s → Lead (Watches Etimer) Whatever A s o → tables.Leaves A (tables.Keeps s) o → IfGoes (Good r moment) o
 good_leads A r moment s (Ends t) g w k = tt
@@ -183,9 +183,9 @@ module _ (calls : Calls) (are : AreWatched calls) where
       still (inl n) = on (w.leads.due refl h.can (subst (λ m. NoneIsDue m s.timers) (sym e) n))
       still (inr m) = inr (w.leads.marked m)
 
-  pub comes : (r : Bool) (moment : ℕ) (x : Member) (s : State) → s.moment ≡ moment → Stands r s → x.process ≡ Etimer → is_on_list s x ≡ true → NoneIsDue moment s.timers ⊎ (is_marked s Etimer ≡ true) → IfGoes (Comes r moment x) (walk_polls calls (before Etimer s.members) s)
+  pub comes : (r : Bool) (moment : ℕ) (x : Member) (s : State) → s.moment ≡ moment → Stands r s → x.process ≡ Etimer → is_on_list s x ≡ true → NoneIsDue moment s.timers ⊎ (is_marked s Etimer ≡ true) → IfGoes (Comes r moment x) (walk_polls calls (members_before Etimer s.members) s)
   comes r moment x s e h p there due =
-      comes_by r moment x s _ e h p there due (before_led Etimer calls are.led s.members s) (resting.polls_kept calls are.kept (before Etimer s.members) s h.step)
+      comes_by r moment x s _ e h p there due (before_led Etimer calls are.led s.members s) (resting.polls_kept calls are.kept (members_before Etimer s.members) s h.step)
 
   at_turn : (r : Bool) (moment : ℕ) (x : Member) (u : State) → x.process ≡ Etimer → Comes r moment x u → IfGoes (Good r moment) (poll_turn_of calls u x)
   unfolding poll_turn_of
@@ -203,7 +203,7 @@ module _ (calls : Calls) (are : AreWatched calls) where
   walk_good r moment s e h due =
       let k = splits Etimer s.members h.listed in
       rw (walk_splits Etimer calls s.members k.member k.after s k.split)
-      (goes_bind _ _ (Comes r moment k.member) (Good r moment) (walk_polls calls (before Etimer s.members) s) _ (comes r moment k.member s e h k.is_it k.holds due)
+      (goes_bind _ _ (Comes r moment k.member) (Good r moment) (walk_polls calls (members_before Etimer s.members) s) _ (comes r moment k.member s e h k.is_it k.holds due)
       (λ a u c. goes_bind _ _ (Good r moment) (Good r moment) (poll_turn_of calls u k.member) _ (at_turn r moment k.member u k.is_it c) (λ b v g. polls_good r moment k.after v g)))
 
   polls_due_good : (r : Bool) (moment : ℕ) (s : State) → Good r moment s → IfGoes (Good r moment) (polls_due_of calls s)
@@ -240,7 +240,7 @@ module _ (calls : Calls) (are : AreWatched calls) where
   untaken_good : (r : Bool) (moment : ℕ) (s : State) → Good r moment s → Good r moment (record s { queue = without_front s.queue })
   untaken_good r moment s g = good_on r moment s _ g (watches_still Etimer s _ (record { moment = refl; states = refl; marks = refl; flag = refl; members = refl; timers = refl })) (tables.keeps_still s _ (record { states = refl; exiting = refl; members = refl }) g.stands.step)
 
-  front_good : (r : Bool) (moment : ℕ) (q : List Posted) (s : State) → s.queue.events ≡ q → IsSound s → Good r moment s → IfGoes (Good r moment) (deliver_front calls q s)
+  front_good : (r : Bool) (moment : ℕ) (q : List Posted) (s : State) → s.queue.events ≡ q → SystemStays s → Good r moment s → IfGoes (Good r moment) (deliver_front calls q s)
   unfolding deliver_of
   front_good r moment [] s e h g = g
   front_good r moment (x ∷ q) s e h g =
@@ -249,12 +249,12 @@ module _ (calls : Calls) (are : AreWatched calls) where
 
   -- a kernel run
 
-  also_sound : (r : Bool) (moment : ℕ) (s : State) (o : Went) → IsSound s → Reach (Unit {0}) s o → IfGoes (Good r moment) o → IfGoes (λ t. Good r moment t × IsSound t) o
+  also_sound : (r : Bool) (moment : ℕ) (s : State) (o : Went) → SystemStays s → Reach (Unit {0}) s o → IfGoes (Good r moment) o → IfGoes (λ t. Good r moment t × SystemStays t) o
   also_sound r moment s (Ends t) h k g = tt
   also_sound r moment s (Goes a t) h k g = (g, k.leads.sound h)
 
-  pub kernel_good : (r : Bool) (moment : ℕ) (s : State) → IsSound s → Good r moment s → IfGoes (Good r moment) (kernel_of calls s)
+  pub kernel_good : (r : Bool) (moment : ℕ) (s : State) → SystemStays s → Good r moment s → IfGoes (Good r moment) (kernel_of calls s)
   unfolding kernel_of
   kernel_good r moment s h g =
-      goes_bind _ _ (λ t. Good r moment t × IsSound t) (Good r moment) (polls_due_of calls s) _ (also_sound r moment s _ h (polls_due_run calls are.reach s) (polls_due_good r moment s g))
+      goes_bind _ _ (λ t. Good r moment t × SystemStays t) (Good r moment) (polls_due_of calls s) _ (also_sound r moment s _ h (polls_due_run calls are.reach s) (polls_due_good r moment s g))
       (λ a t k. goes_bind _ _ (Good r moment) (Good r moment) (deliver_front calls t.queue.events t) _ (front_good r moment t.queue.events t refl k.1 k.0) (λ b u i. i))

@@ -20,7 +20,7 @@ use Rattle.process_kernel.specs.Processes.{is_listed}
 use Rattle.process_kernel.specs.Call.{calls_of}
 use Rattle.process_kernel.specs.Mote.{Mote, unbooted}
 use Rattle.process_kernel.specs.Public.{begun, boot_given, run_given}
-use Rattle.kernel_laws.specs.Going.{IsSound}
+use Rattle.kernel_laws.specs.Going.{SystemStays}
 use Rattle.kernel_laws.specs.InStep.{IsInStep, IsIdle}
 use Rattle.kernel_laws.specs.Own.{FitsTarget}
 use Rattle.kernel_laws.specs.Poll.{PollWaits, CanBePolled, polls_before}
@@ -45,7 +45,7 @@ ForgetsNone moment s = NoneIsDue moment s.timers ⊎ PollWaits Etimer s
 
 -- what holds of a kernel between its runs: etimer and the radio process can be polled and never leave, and no process is in a call
 pub record IsAtRest (s : State) : Type 0 where
-  pub sound : IsSound s
+  pub sound : SystemStays s
   pub step : IsInStep s
   pub idle : IsIdle s
   pub can : CanBePolled Etimer s

@@ -17,7 +17,7 @@ use Rattle.kernel_laws.specs.Own.{FitsTarget}
 use Rattle.kernel_laws.specs.Seen.{seen_lines, view_of}
 
 -- the etimer process is on the list, and no event that waits can make a system process leave
-pub record IsSound (s : State) : Type 0 where
+pub record SystemStays (s : State) : Type 0 where
   pub stays : is_listed s Etimer ≡ true
   pub fits : All (λ x. FitsTarget x.target x.event.number) s.queue.events
 
@@ -29,19 +29,19 @@ pub record IsBlank (s : State) : Type 0 where
   pub there : has_process s Etimer ≡ true
 
 -- the lines are a run of the delivery machine to where the mote stands, with no walk under way
-pub record Stands (lines : List Line) (s : State) : Type 0 where
-  pub told : view.GoesWith (seen_lines lines) (view_of s)
-  pub sound : IsSound s
+pub record StandsBooted (lines : List Line) (s : State) : Type 0 where
+  pub told : view.GoesWithView (seen_lines lines) (view_of s)
+  pub sound : SystemStays s
 
 -- and the mote was not booted
 pub record StandsFirst (lines : List Line) (s : State) : Type 0 where
-  pub told : view.GoesWith (seen_lines lines) (view_of s)
+  pub told : view.GoesWithView (seen_lines lines) (view_of s)
   pub blank : IsBlank s
 
 abbrev pub GoesWithAs : (booted halted : Bool) → List Line → State → Type 0
 GoesWithAs false false lines s = StandsFirst lines s
 GoesWithAs false true lines s = ⊥
-GoesWithAs true false lines s = Stands lines s
+GoesWithAs true false lines s = StandsBooted lines s
 GoesWithAs true true lines s = HasHalted (seen_lines lines)
 
 -- The lines of a mote are a run of the delivery machine: to where the mote stands, or to its halt. No mote halts before it

@@ -9,8 +9,8 @@ use Rattle.process_kernel.specs.State.{State}
 use Rattle.process_kernel.specs.Processes.{is_called_state}
 
 -- of the process at this place: its state, whether it is being exited, and whether it is on the process list
-abbrev pub state_at : State → (place : ℕ) → ProcessState
-state_at s k = unwrap_or (slice_get s.states k) Off
+abbrev pub state_at_place : State → (place : ℕ) → ProcessState
+state_at_place s k = unwrap_or (slice_get s.states k) Off
 
 abbrev pub exiting_at : State → (place : ℕ) → Bool
 exiting_at s k = unwrap_or (slice_get s.exiting k) false
@@ -27,14 +27,14 @@ AreInStep Called exiting listed = (exiting ≡ false) × (listed ≡ true)
 
 pub record IsInStep (s : State) : Type 0 where
   pub tables : length s.exiting ≡ length s.states
-  pub each : (k : ℕ) → AreInStep (state_at s k) (exiting_at s k) (listed_in s.members k)
+  pub each : (k : ℕ) → AreInStep (state_at_place s k) (exiting_at s k) (listed_in s.members k)
 
 -- a process is called, or being exited, exactly where it was
 pub record IsAsBusy (s t : State) : Type 0 where
-  pub called : (k : ℕ) → is_called_state (state_at t k) ≡ is_called_state (state_at s k)
+  pub called : (k : ℕ) → is_called_state (state_at_place t k) ≡ is_called_state (state_at_place s k)
   pub exiting : (k : ℕ) → exiting_at t k ≡ exiting_at s k
 
 -- no process is called or being exited
 pub record IsIdle (s : State) : Type 0 where
-  pub called : (k : ℕ) → is_called_state (state_at s k) ≡ false
+  pub called : (k : ℕ) → is_called_state (state_at_place s k) ≡ false
   pub exiting : (k : ℕ) → exiting_at s k ≡ false

@@ -19,10 +19,10 @@ pub record CanBePolled (p : Proc) (s : State) : Type 0 where
   pub has_mark : nat_lt (place_of p) (length s.marks) ≡ true
 
 -- the members of the process list that stand before the process
-abbrev pub before : Proc → List Member → List Member
-before p [] = []
-before p (m ∷ ms) = if is_same m.process p then [] else m ∷ before p ms
+abbrev pub members_before : Proc → List Member → List Member
+members_before p [] = []
+members_before p (m ∷ ms) = if is_same m.process p then [] else m ∷ members_before p ms
 
 -- the polls of a kernel run, up to the turn of the process
 abbrev pub polls_before : Proc → Calls → State → Went
-polls_before p calls s = walk_polls calls (before p s.members) (record s { flag = false })
+polls_before p calls s = walk_polls calls (members_before p s.members) (record s { flag = false })

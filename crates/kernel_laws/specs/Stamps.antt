@@ -39,9 +39,9 @@ state_after (Ends t) = t
 state_after (Goes a t) = t
 
 -- a mote with so many lines and packets written
-abbrev pub written : Mote → List Line → List Sent → State
-written m lines sends = record m.state { lines = lines; sends = sends }
+abbrev pub with_output : Mote → List Line → List Sent → State
+with_output m lines sends = record m.state { lines = lines; sends = sends }
 
 -- what a boot or a run at this moment gives, where so much was written before
 abbrev pub GivesStamped : (moment : ℕ) → Mote → List Line → List Sent → Given → Type 0
-GivesStamped moment m lines sends g = Stamped moment (written m lines sends) (written g.mote g.lines g.sends)
+GivesStamped moment m lines sends g = Stamped moment (with_output m lines sends) (with_output g.mote g.lines g.sends)

@@ -100,7 +100,7 @@ pub record IsIn (p : ℕ) (code : Code) (mote : ℕ) (told : List Line) (next : 
   pub comes : ComesHere p code mote told next r vars
 
 -- The process is at rest, and what was told of it are its lives, up to the variables that it has.
-pub record Stands (program : Tree) (mote p : ℕ) (code : Code) (told : List Line) (v : Standing) : Type 0 where
+pub record RestsAsTold (program : Tree) (mote p : ℕ) (code : Code) (told : List Line) (v : Standing) : Type 0 where
   pub of_program : v.program ≡ program
   pub of_mote : v.mote ≡ mote
   pub tables : v.room ≡ v.has
@@ -114,7 +114,7 @@ pub record Stands (program : Tree) (mote p : ℕ) (code : Code) (told : List Lin
 
 -- The lines so far of a mote tell of the lives of the process, up to where it stands; or up to where the mote has halted.
 pub record TellsSoFar (program : Tree) (mote p : ℕ) (code : Code) (lines : List Line) (m : Mote) : Type 0 where
-  pub going : m.halted ≡ false → Stands program mote p code (starts_and_prints (Own p) lines) (standing_of p m.state)
+  pub going : m.halted ≡ false → RestsAsTold program mote p code (starts_and_prints (Own p) lines) (standing_of p m.state)
   pub halted : m.halted ≡ true → LivesSoFar code (Own p) mote code.starts (starts_and_prints (Own p) lines)
 
 -- a process of this number, with this code, that is quiet apart from its body

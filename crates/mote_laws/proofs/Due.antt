@@ -9,7 +9,7 @@ use Rattle.mote_program.specs.declared.event.SystemEvent.TheVariants.{Timer}
 use Rattle.mote_program.specs.Events.{system_number}
 use Rattle.mote_program.specs.Code.{Tree}
 use Rattle.mote_timers.specs.Numbers.{is_member}
-use Rattle.mote_timers.specs.Timer.{expiration, is_due as is_timer_due}
+use Rattle.mote_timers.specs.Timer.{expiration, is_some_due as is_timer_due}
 use Rattle.mote_timers.specs.TimerLists.{TimerLists, timer_at, new_timers, least, next_expiration_of}
 use Rattle.process_kernel.specs.declared.kernel.Ran.{Ran}
 use Rattle.process_kernel.specs.declared.kernel.Ran.TheVariants as ran
@@ -33,7 +33,7 @@ use Rattle.kernel_laws.proofs.Traces.{boot_booted, run_booted, no_lines_first}
 use Rattle.mote_node.specs.Node.{Node, new_node}
 use Rattle.mote_node.specs.Underway.{Underway, with_mote, with_lines, after}
 use Rattle.mote_node.specs.Arrivals.{received_line, lost_line, hear, hear_each, took_some, hear_all, is_collision, with_collisions}
-use Rattle.mote_node.specs.Turn.{most_runs, boot_due, is_due, poll_due, follow, runs_of, work_of, mote_turn, net_turn, turn_of}
+use Rattle.mote_node.specs.Turn.{most_runs, boot_due, is_some_due, poll_due, follow, runs_of, work_of, mote_turn, net_turn, turn_of}
 use Rattle.mote_node.specs.Wake.{wake_of, wake_after}
 use Rattle.mote_node.specs.Laws as turns
 use Rattle.mote_node.specs.Laws.{Turns, Rests, Takes}
@@ -134,11 +134,11 @@ hear_all_timers moment packets u =
 
 -- where no expiration has come, no timer is due; where one has, etimer is to be polled
 
-above_least : (moment : ℕ) (f : ℕ → ℕ) (ks : List ℕ) (k : ℕ) → is_due moment (least (map f ks)) ≡ false → is_member k ks ≡ true → nat_le (f k) moment ≡ false
+above_least : (moment : ℕ) (f : ℕ → ℕ) (ks : List ℕ) (k : ℕ) → is_some_due moment (least (map f ks)) ≡ false → is_member k ks ≡ true → nat_le (f k) moment ≡ false
 above_least moment f [] k e h = absurd (cc)
 above_least moment f (j ∷ ks) k e h = by (least (map f ks)) e (above_least moment f ks k)
   where
-    by : (l : Option ℕ) → nat_le (option_map_or (min (f j)) l (f j)) moment ≡ false → (is_due moment l ≡ false → is_member k ks ≡ true → nat_le (f k) moment ≡ false) → nat_le (f k) moment ≡ false
+    by : (l : Option ℕ) → nat_le (option_map_or (min (f j)) l (f j)) moment ≡ false → (is_some_due moment l ≡ false → is_member k ks ≡ true → nat_le (f k) moment ≡ false) → nat_le (f k) moment ≡ false
     by None e later = cases (k == j) refl
       where
         cases : (b : Bool) → (k == j) ≡ b → nat_le (f k) moment ≡ false
@@ -150,19 +150,19 @@ above_least moment f (j ∷ ks) k e h = by (least (map f ks)) e (above_least mom
         cases true q = let same : k ≡ j = grind (arith, nat_tests) in rw same (grind (arith, nat_tests))
         cases false q = later (grind (arith, nat_tests)) (grind (arith, nat_tests))
 
-none_due : (moment : ℕ) (l : TimerLists) → is_due moment (next_expiration_of l) ≡ false → NoneIsDue moment l
+none_due : (moment : ℕ) (l : TimerLists) → is_some_due moment (next_expiration_of l) ≡ false → NoneIsDue moment l
 unfolding next_expiration_of
 none_due moment l e id owner d =
     let f : is_timer_due moment (timer_at l.timers id) ≡ false = above_least moment (λ k. expiration (timer_at l.timers k)) l.listed id e d.listed in let g = d.due in cc
 
 pub poll_due_watched : (moment : ℕ) (m : Mote) → Rested m → Watched moment (poll_due moment m)
 unfolding poll_due with_poll
-poll_due_watched moment m r = by (is_due moment (next_expiration_of m.state.timers)) refl
+poll_due_watched moment m r = by (is_some_due moment (next_expiration_of m.state.timers)) refl
   where
     waits : (m : Mote) → IsAtRest m.state → PollWaits Etimer (with_poll m Etimer).state
     waits m k = waits_now Etimer m.state k.can
 
-    by : (b : Bool) → is_due moment (next_expiration_of m.state.timers) ≡ b → Watched moment (if b then with_poll m Etimer else m)
+    by : (b : Bool) → is_some_due moment (next_expiration_of m.state.timers) ≡ b → Watched moment (if b then with_poll m Etimer else m)
     by true e = record { rested = poll_rested m Etimer r; forgets = λ h. inr (waits m (r.rest h)) }
     by false e = record { rested = r; forgets = λ h. inl (none_due moment m.state.timers e) }
 
@@ -335,10 +335,10 @@ runs_serve most moment u rest waits running h =
       split = f ∙ ap (λ l. l ++ more) (e ∙ ap (λ l. first ++ l) k.split ∙ sym (append_assoc first k.before _)) ∙ append_assoc (first ++ k.before) _ more;
     }
 
-due_comes : (moment : ℕ) (l : TimerLists) (timer : ℕ) (owner : Proc) → IsDueFor moment l timer owner → is_due moment (next_expiration_of l) ≡ true
-due_comes moment l timer owner d = by (is_due moment (next_expiration_of l)) refl
+due_comes : (moment : ℕ) (l : TimerLists) (timer : ℕ) (owner : Proc) → IsDueFor moment l timer owner → is_some_due moment (next_expiration_of l) ≡ true
+due_comes moment l timer owner d = by (is_some_due moment (next_expiration_of l)) refl
   where
-    by : (b : Bool) → is_due moment (next_expiration_of l) ≡ b → b ≡ true
+    by : (b : Bool) → is_some_due moment (next_expiration_of l) ≡ b → b ≡ true
     by true e = refl
     by false e = absurd (none_due moment l e timer owner d)
 
@@ -348,7 +348,7 @@ record Begins (moment : ℕ) (u : Underway) : Type 0 where
   waits : PollWaits Etimer u.mote.state
   running : u.mote.halted ≡ false
 
-polled_begins : (moment : ℕ) (u : Underway) → Rested u.mote → u.mote.halted ≡ false → is_due moment (next_expiration_of u.mote.state.timers) ≡ true → Begins moment (with_mote u (poll_due moment u.mote))
+polled_begins : (moment : ℕ) (u : Underway) → Rested u.mote → u.mote.halted ≡ false → is_some_due moment (next_expiration_of u.mote.state.timers) ≡ true → Begins moment (with_mote u (poll_due moment u.mote))
 unfolding poll_due with_poll
 polled_begins moment u r running e = rw e (record { rest = poll_rests u.mote.state Etimer (r.rest running); waits = waits_now Etimer u.mote.state (r.rest running).can; running = running })
 
@@ -357,7 +357,7 @@ heard_begins : (moment : ℕ) (packets : List Arrival) (u : Underway) (timer : �
 heard_begins moment packets u timer owner r running d =
     let h = hear_all_timers moment packets u in
     let v = hear_all moment packets u in
-    polled_begins moment v (hear_all_rested moment packets u r) (h.1 ∙ running) (subst (λ l. is_due moment (next_expiration_of l) ≡ true) (sym h.0) (due_comes moment u.mote.state.timers timer owner d))
+    polled_begins moment v (hear_all_rested moment packets u r) (h.1 ∙ running) (subst (λ l. is_some_due moment (next_expiration_of l) ≡ true) (sym h.0) (due_comes moment u.mote.state.timers timer owner d))
 
 boot_over : (moment : ℕ) (u : Underway) → u.mote.booted ≡ true → boot_due moment u ≡ u
 unfolding boot_due

@@ -19,7 +19,7 @@ use Rattle.kernel_laws.proofs.Watch.{watches_poll, still_waits, waits_now}
 use Rattle.mote_node.specs.Node.{Node, new_node}
 use Rattle.mote_node.specs.Underway.{Underway, with_mote, after}
 use Rattle.mote_node.specs.Arrivals.{hear_each, took_some, hear_all, is_collision, with_collisions}
-use Rattle.mote_node.specs.Turn.{boot_due, is_due, poll_due, follow, runs_of, work_of, mote_turn, net_turn, turn_of}
+use Rattle.mote_node.specs.Turn.{boot_due, is_some_due, poll_due, follow, runs_of, work_of, mote_turn, net_turn, turn_of}
 use Rattle.mote_node.specs.Laws as turns
 use Rattle.mote_node.specs.Laws.{Turns, Rests, Takes}
 use Rattle.mote_laws.specs.Laws.{first_node}
@@ -58,7 +58,7 @@ hear_all_ready moment packets u r running e =
 
 poll_due_ready : (moment : ℕ) (m : Mote) → Ready m → Ready (poll_due moment m)
 unfolding poll_due with_poll
-poll_due_ready moment m r = by (is_due moment (next_expiration_of m.state.timers))
+poll_due_ready moment m r = by (is_some_due moment (next_expiration_of m.state.timers))
   where
     again : (m.state.ring ≡ []) ⊎ PollWaits Radio m.state → ((poll_of m.state Etimer).ring ≡ []) ⊎ PollWaits Radio (poll_of m.state Etimer)
     again (inl e) = inl ((poll_same m.state Etimer).0 ∙ e)

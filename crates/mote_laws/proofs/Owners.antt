@@ -14,7 +14,7 @@ use Rattle.kernel_laws.proofs.Owners.{boot_keeps_owners, poll_timers, run_keeps_
 use Rattle.mote_node.specs.Node.{Node, new_node}
 use Rattle.mote_node.specs.Underway.{Underway, with_mote, after}
 use Rattle.mote_node.specs.Arrivals.{hear_all, is_collision, with_collisions}
-use Rattle.mote_node.specs.Turn.{most_runs, boot_due, is_due, poll_due, follow, runs_of, work_of, mote_turn, net_turn, turn_of}
+use Rattle.mote_node.specs.Turn.{most_runs, boot_due, is_some_due, poll_due, follow, runs_of, work_of, mote_turn, net_turn, turn_of}
 use Rattle.mote_node.specs.Laws as turns
 use Rattle.mote_node.specs.Laws.{Turns, Rests, Takes}
 use Rattle.mote_laws.specs.Laws.{first_node}
@@ -43,7 +43,7 @@ runs_owned (suc most) moment u h =
 
 poll_due_owned : (moment : ℕ) (m : Mote) → Owned m → Owned (poll_due moment m)
 unfolding poll_due with_poll
-poll_due_owned moment m h = by (is_due moment (next_expiration_of m.state.timers))
+poll_due_owned moment m h = by (is_some_due moment (next_expiration_of m.state.timers))
   where
     by : (b : Bool) → Owned (if b then with_poll m Etimer else m)
     by true = record { owned = subst HaveOwners (sym (poll_timers m.state Etimer)) h.owned }

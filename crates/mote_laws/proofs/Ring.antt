@@ -22,7 +22,7 @@ use Rattle.kernel_laws.proofs.Ring.{ring_runs_on, boot_tells_packets, run_tells_
 use Rattle.mote_node.specs.Node.{Node, new_node}
 use Rattle.mote_node.specs.Underway.{Underway, with_mote, with_lines, after}
 use Rattle.mote_node.specs.Arrivals.{received_line, lost_line, collision_line, hear, hear_each, took_some, hear_all, is_collision, with_collisions}
-use Rattle.mote_node.specs.Turn.{most_runs, boot_due, is_due, poll_due, follow, runs_of, work_of, mote_turn, net_turn, turn_of}
+use Rattle.mote_node.specs.Turn.{most_runs, boot_due, is_some_due, poll_due, follow, runs_of, work_of, mote_turn, net_turn, turn_of}
 use Rattle.mote_node.specs.Laws as turns
 use Rattle.mote_node.specs.Laws.{Turns, Rests, Takes}
 use Rattle.mote_laws.specs.Laws.{first_node}
@@ -137,7 +137,7 @@ due_if program before u false w = w
 
 poll_due_works : (program : Tree) (before : List Line) (moment : ℕ) (u : Underway) → Works program before u → Works program before (with_mote u (poll_due moment u.mote))
 unfolding poll_due
-poll_due_works program before moment u w = due_if program before u (is_due moment (next_expiration_of u.mote.state.timers)) w
+poll_due_works program before moment u w = due_if program before u (is_some_due moment (next_expiration_of u.mote.state.timers)) w
 
 -- turns
 

@@ -18,9 +18,9 @@ use Rattle.process_kernel.specs.Public.{boot_given, run_given}
 use Rattle.mote_node.specs.Node.{Node, new_node, is_past}
 use Rattle.mote_node.specs.Underway.{Underway, with_mote, with_lines, after}
 use Rattle.mote_node.specs.Arrivals.{received_line, lost_line, collision_line, hear, hear_each, took_some, hear_all, is_collision, with_collisions}
-use Rattle.mote_node.specs.Turn.{most_runs, boot_due, is_due, poll_due, follow, runs_of, work_of, mote_turn, net_turn, turn_of}
+use Rattle.mote_node.specs.Turn.{most_runs, boot_due, is_some_due, poll_due, follow, runs_of, work_of, mote_turn, net_turn, turn_of}
 use Rattle.mote_node.specs.Laws.{TurnInput, Turns, Rests, Takes}
-use Rattle.kernel_laws.specs.Stamps.{LinesBear, PacketsBear, AreNumberedFrom, Stamped, written}
+use Rattle.kernel_laws.specs.Stamps.{LinesBear, PacketsBear, AreNumberedFrom, Stamped, with_output}
 use Rattle.kernel_laws.proofs.Stamps.{numbered_on, stamped_twice, stamped_still, poll_still}
 use Rattle.kernel_laws.proofs.StampedCalls.{boot_stamps, run_stamps}
 use Rattle.mote_laws.specs.Laws.{first_node}
@@ -28,7 +28,7 @@ use Rattle.mote_laws.specs.Stamps.{TurnsStamp, packets_of, PacketsCountUp, Turns
 use Rattle.mote_laws.proofs.Rising.{rises_empty, rises_level, rises_joined}
 
 abbrev pub so_far : Underway → State
-so_far u = written u.mote u.lines u.sends
+so_far u = with_output u.mote u.lines u.sends
 
 -- what is written from one point of a turn to a later one bears its moment
 abbrev pub Goes : (moment : ℕ) → Underway → Underway → Type 0
@@ -103,7 +103,7 @@ due_if moment u false = goes_still moment u
 
 poll_due_goes : (moment : ℕ) (u : Underway) → Goes moment u (with_mote u (poll_due moment u.mote))
 unfolding poll_due
-poll_due_goes moment u = due_if moment u (is_due moment (next_expiration_of u.mote.state.timers))
+poll_due_goes moment u = due_if moment u (is_some_due moment (next_expiration_of u.mote.state.timers))
 
 -- kernel runs
 

@@ -11,7 +11,7 @@ use Rattle.process_kernel.specs.Public.{Given, boot_given, run_given}
 use Rattle.mote_node.specs.Node.{Node, new_node}
 use Rattle.mote_node.specs.Underway.{Underway, with_mote, with_lines, after}
 use Rattle.mote_node.specs.Arrivals.{received_line, lost_line, collision_line, hear, hear_each, hear_all, is_collision, with_collisions}
-use Rattle.mote_node.specs.Turn.{most_runs, boot_due, is_due, poll_due, follow, runs_of, work_of, mote_turn, net_turn, turn_of}
+use Rattle.mote_node.specs.Turn.{most_runs, boot_due, is_some_due, poll_due, follow, runs_of, work_of, mote_turn, net_turn, turn_of}
 use Rattle.mote_node.specs.Laws as turns
 use Rattle.mote_node.specs.Laws.{Turns, Rests, Takes}
 use Rattle.kernel_laws.specs.Going.{GoesWith, Adds, IsNote}
@@ -81,7 +81,7 @@ due_if before u false w = record { goes = w.goes; booted = w.booted }
 
 poll_due_goes : (moment : ℕ) (before : List Line) (u : Underway) → Works before u → IsBooted before (with_mote u (poll_due moment u.mote))
 unfolding poll_due
-poll_due_goes moment before u w = due_if before u (is_due moment (next_expiration_of u.mote.state.timers)) w
+poll_due_goes moment before u w = due_if before u (is_some_due moment (next_expiration_of u.mote.state.timers)) w
 
 -- kernel runs
 

@@ -7,13 +7,13 @@ use Rattle.process_kernel.specs.declared.line.Line.{Line}
 use Rattle.process_kernel.specs.declared.line.Sent.{Sent}
 use Rattle.kernel_laws.specs.Stamps.{LinesBear, PacketsBear, AreNumberedFrom}
 use Rattle.mote_node.specs.Node.{Node}
-use Rattle.mote_node.specs.Turn.{Turned, turn_of}
+use Rattle.mote_node.specs.Turn.{TurnGiven, turn_of}
 use Rattle.mote_node.specs.Laws.{TurnInput, Turns}
 use Rattle.mote_laws.specs.Laws.{first_node}
 
 -- The lines of a turn bear its moment, and so do its packets, which bear the mote too and are numbered on from how many the mote
 -- sent before; these are counted, and the mote keeps its number.
-pub record IsStamped (moment : ℕ) (n : Node) (t : Turned) : Type 0 where
+pub record IsStamped (moment : ℕ) (n : Node) (t : TurnGiven) : Type 0 where
   pub lines : LinesBear moment t.lines
   pub packets : PacketsBear moment n.mote.state.mote t.sends
   pub numbered : AreNumberedFrom n.mote.state.sent t.sends

@@ -6,7 +6,7 @@ use Rattle.process_kernel.specs.declared.line.Arrival.{Arrival}
 use Rattle.process_kernel.specs.declared.line.Line.{Line}
 use Rattle.process_kernel.specs.Public.{boot_given}
 use Rattle.mote_node.specs.Node.{Node, is_past}
-use Rattle.mote_node.specs.Underway.{Underway, unless_halted, after}
+use Rattle.mote_node.specs.Underway.{Underway, turn_goes_on, after}
 use Rattle.mote_node.specs.Arrivals.{is_collision}
 use Rattle.mote_node.specs.Turn.{boot_due, work_of, mote_turn, net_turn, node_after, turned_to, turn_of}
 use Rattle.mote_node.specs.Wake.{wake_after}
@@ -55,7 +55,7 @@ boot_halted moment u h = either u.mote.booted u _ (ap after (if_true u.mote.halt
 turn_halted : (moment : ℕ) (arrivals : List Arrival) (u : Underway) → true ≡ u.mote.halted → mote_turn moment arrivals u ≡ u
 unfolding mote_turn
 turn_halted moment arrivals u h =
-    let P : Underway → Type 0 = λ v. unless_halted v (work_of moment arrivals v) ≡ u in
+    let P : Underway → Type 0 = λ v. turn_goes_on v (work_of moment arrivals v) ≡ u in
     subst P (sym (boot_halted moment u h)) (if_true u.mote.halted u (work_of moment arrivals u) h)
 
 net_halted : (collides : Bool) (moment : ℕ) (arrivals : List Arrival) (u : Underway) → true ≡ u.mote.halted → net_turn collides moment arrivals u ≡ u

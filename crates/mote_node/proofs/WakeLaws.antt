@@ -1,21 +1,22 @@
 -- Laws of the next wake.
 use Rattle.std.proofs.Common.{ℕ, ◌≡◌, ◌+◌, max, Bool, true, false, Option, Some, None, option_map, refl, arith, if◌then◌else◌}
+use Rattle.std.specs.Prelude.{IfSome}
 use Rattle.mote_timers.specs.TimerLists.{next_expiration_of}
 use Rattle.process_kernel.specs.Mote.{Mote, is_pending}
 use Rattle.mote_node.specs.Wake.{wake_after}
 use Rattle.mote_node.specs.Turn.{turn_of}
-use Rattle.mote_node.specs.Laws.{IsLater, WakesLater, WakesBy, WakesInTime}
+use Rattle.mote_node.specs.Laws.{WakesLater, WakesBy, WakesInTime}
 
-later_choice : (pending : Bool) (moment : ℕ) (due : Option ℕ) → IsLater moment (if pending then Some (moment + 1) else option_map (λ d. max (moment + 1) d) due)
+later_choice : (pending : Bool) (moment : ℕ) (due : Option ℕ) → IfSome (if pending then Some (moment + 1) else option_map (λ d. max (moment + 1) d) due) (λ wake. moment < wake)
 later_choice true moment due = omega arith
 later_choice false moment None = tt
 later_choice false moment (Some d) = omega arith
 
-later_after : (moment : ℕ) (m : Mote) → IsLater moment (wake_after moment m)
+later_after : (moment : ℕ) (m : Mote) → IfSome (wake_after moment m) (λ wake. moment < wake)
 unfolding wake_after
 later_after moment m = later_choice (is_pending m) moment (next_expiration_of m.state.timers)
 
-later_unless : (halted : Bool) (moment : ℕ) (wake : Option ℕ) → IsLater moment wake → IsLater moment (if halted then None else wake)
+later_unless : (halted : Bool) (moment : ℕ) (wake : Option ℕ) → IfSome wake (λ w. moment < w) → IfSome (if halted then None else wake) (λ w. moment < w)
 later_unless true moment wake h = tt
 later_unless false moment wake h = h
 

@@ -1,19 +1,15 @@
 -- Laws of the turns of a node.
 use Rattle.std.specs.List.Sorted.{IsStrictlyIncreasing}
-use Rattle.std.specs.Prelude.{ℕ, ◌≡◌, ◌+◌, ◌<◌, ◌≤◌, max, true, false, List, [], ◌∷◌, ◌++◌, map, Option, Some, None}
+use Rattle.std.specs.Prelude.{ℕ, ◌≡◌, ◌+◌, ◌<◌, ◌≤◌, max, true, false, List, [], ◌∷◌, ◌++◌, map, Option, Some, None, IfSome}
 use Rattle.mote_timers.specs.TimerLists.{next_expiration_of}
 use Rattle.process_kernel.specs.declared.line.Arrival.{Arrival}
 use Rattle.process_kernel.specs.declared.line.Line.{Line}
 use Rattle.mote_node.specs.Node.{Node, is_past}
 use Rattle.mote_node.specs.Turn.{turn_of}
 
-abbrev pub IsLater : (moment : ℕ) → (wake : Option ℕ) → Type 0
-IsLater moment None = Unit {0}
-IsLater moment (Some wake) = moment < wake
-
 -- the wake that a turn gives is above its own moment
 abbrev pub WakesLater : Type 0
-WakesLater = (moment : ℕ) (arrivals : List Arrival) (n : Node) → IsLater moment (turn_of moment arrivals n).wake
+WakesLater = (moment : ℕ) (arrivals : List Arrival) (n : Node) → IfSome (turn_of moment arrivals n).wake (λ wake. moment < wake)
 
 -- there is a wake, and it isn't later than this
 abbrev pub WakesBy : (limit : ℕ) → (wake : Option ℕ) → Type 0

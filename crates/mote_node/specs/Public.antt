@@ -7,7 +7,7 @@ use Rattle.mote_node.specs.declared.mote.Mote.{Mote as MoteOfCode}
 use Rattle.mote_node.specs.declared.mote.TurnOut.{TurnOut}
 use Rattle.mote_node.specs.Node.{Node, is_past}
 use Rattle.mote_node.specs.Wake.{wake_of}
-use Rattle.mote_node.specs.Turn.{Turned}
+use Rattle.mote_node.specs.Turn.{TurnGiven}
 
 abbrev pub node_over : (last : Option ℕ) → (collides : Bool) → Mote → Node
 node_over last collides m = record { mote = m; last = last; collides = collides }
@@ -30,5 +30,5 @@ abbrev pub with_collide : Bool → Node → Node
 with_collide collides n = record n { collides = collides }
 
 -- what a turn told, and the node that it left
-abbrev pub turn_told : TurnOut → Node → Turned
+abbrev pub turn_told : TurnOut → Node → TurnGiven
 turn_told out n = record { node = n; lines = out.lines.items; sends = out.sends.items; wake = out.wake }

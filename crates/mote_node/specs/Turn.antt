@@ -11,20 +11,20 @@ use Rattle.process_kernel.specs.Mote.{Mote, with_poll}
 use Rattle.process_kernel.specs.Public.{boot_given, run_given}
 use Rattle.mote_node.specs.Node.{Node}
 use Rattle.mote_node.specs.Wake.{wake_of}
-use Rattle.mote_node.specs.Underway.{Underway, unless_halted, with_mote, after}
+use Rattle.mote_node.specs.Underway.{Underway, turn_goes_on, with_mote, after}
 use Rattle.mote_node.specs.Arrivals.{hear_all, is_collision, with_collisions}
 
 -- the first turn boots the mote
 unfoldable pub boot_due : (moment : ℕ) → Underway → Underway
 boot_due moment u = if u.mote.booted then u else after (boot_given moment u.mote u.lines u.sends)
 
-abbrev pub is_due : (moment : ℕ) → (expiration : Option ℕ) → Bool
-is_due moment None = false
-is_due moment (Some expiration) = nat_le expiration moment
+abbrev pub is_some_due : (moment : ℕ) → (expiration : Option ℕ) → Bool
+is_some_due moment None = false
+is_some_due moment (Some expiration) = nat_le expiration moment
 
 -- the etimer process is polled where a timer is due by now
 unfoldable pub poll_due : (moment : ℕ) → Mote → Mote
-poll_due moment m = if is_due moment (next_expiration_of m.state.timers) then with_poll m Etimer else m
+poll_due moment m = if is_some_due moment (next_expiration_of m.state.timers) then with_poll m Etimer else m
 
 -- a run that left something to do is followed by the others
 abbrev pub follow : Ran → (others : Underway → Underway) → Underway → Underway
@@ -48,7 +48,7 @@ work_of moment arrivals u =
     let heard = hear_all moment arrivals u in runs_of most_runs moment (with_mote heard (poll_due moment heard.mote))
 
 unfoldable pub mote_turn : (moment : ℕ) → List Arrival → Underway → Underway
-mote_turn moment arrivals u = let booted = boot_due moment u in unless_halted booted (work_of moment arrivals booted)
+mote_turn moment arrivals u = let booted = boot_due moment u in turn_goes_on booted (work_of moment arrivals booted)
 
 -- the turn of a mote in a net: where packets collide, and that is asked for, it has none of them
 unfoldable pub net_turn : (collides : Bool) → (moment : ℕ) → List Arrival → Underway → Underway
@@ -57,7 +57,7 @@ net_turn collides moment arrivals u =
     else mote_turn moment arrivals u
 
 -- what a turn gives: the node after it, its lines and packets, and the next wake
-pub record Turned : Type 0 where
+pub record TurnGiven : Type 0 where
   pub node : Node
   pub lines : List Line
   pub sends : List Sent
@@ -67,7 +67,7 @@ pub record Turned : Type 0 where
 abbrev pub node_after : Node → (moment : ℕ) → Mote → Node
 node_after n moment m = record n { mote = m; last = Some moment }
 
-abbrev pub turned_to : Node → (moment : ℕ) → Underway → Turned
+abbrev pub turned_to : Node → (moment : ℕ) → Underway → TurnGiven
 turned_to n moment u = record {
   node = node_after n moment u.mote;
   lines = u.lines;
@@ -76,6 +76,6 @@ turned_to n moment u = record {
 }
 
 -- the turn of a node at this moment, with the packets that arrive, in order
-unfoldable pub turn_of : (moment : ℕ) → List Arrival → Node → Turned
+unfoldable pub turn_of : (moment : ℕ) → List Arrival → Node → TurnGiven
 turn_of moment arrivals n =
     turned_to n moment (net_turn n.collides moment arrivals (record { mote = n.mote; lines = []; sends = [] }))

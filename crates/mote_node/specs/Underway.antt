@@ -12,8 +12,8 @@ pub record Underway : Type 0 where
   pub sends : List Sent
 
 -- a mote that has halted does nothing more
-abbrev pub unless_halted : Underway → Underway → Underway
-unless_halted u next = if u.mote.halted then u else next
+abbrev pub turn_goes_on : Underway → Underway → Underway
+turn_goes_on u next = if u.mote.halted then u else next
 
 abbrev pub with_mote : Underway → Mote → Underway
 with_mote u m = record u { mote = m }

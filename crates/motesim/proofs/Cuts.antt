@@ -9,7 +9,7 @@ use Rattle.std.proofs.lemmas.Nat.{mod_below}
 use Rattle.window_law.specs.Agenda.{up_to}
 use Rattle.window_law.proofs.Agenda.{below_all}
 use Rattle.window_law.proofs.Lists.{every_map, every_weaker}
-use Rattle.worker_cut.specs.Cut.{block_of, stripe_of}
+use Rattle.worker_cut.specs.Cut.{block_cut, stripe_cut}
 use Rattle.window_workers.specs.Fits.{cut_fault}
 use Rattle.motesim.specs.Simulation.{MayRun}
 
@@ -28,14 +28,14 @@ fits motes workers of may long there = rw (ne_eqb workers 0 (λ e. absurd (let h
 in_block : (motes workers mote : ℕ) → 0 < workers → mote < motes → (mote * workers) / motes < workers
 in_block motes workers mote some less = (div-lt_iff_lt-mul (let h : 0 < motes = omega arith in h)).1 (let h : mote * workers < motes * workers = mul-lt-mul_of_pos_right less some in rw (mul_comm workers motes) h)
 
-pub block_fits : (motes workers : ℕ) → 0 < motes → MayRun (Some workers) → cut_fault motes workers (block_of motes workers) ≡ None
+pub block_fits : (motes workers : ℕ) → 0 < motes → MayRun (Some workers) → cut_fault motes workers (block_cut motes workers) ≡ None
 block_fits motes workers some may =
-    fits motes workers (block_of motes workers) may (length-map (up_to motes) (λ mote. (mote * workers) / motes) ∙ as_many motes)
+    fits motes workers (block_cut motes workers) may (length-map (up_to motes) (λ mote. (mote * workers) / motes) ∙ as_many motes)
     (every_map (λ worker. worker < workers) (λ mote. (mote * workers) / motes) (up_to motes)
     (every_weaker (λ mote. mote < motes) (λ mote. (mote * workers) / motes < workers) (λ mote less. in_block motes workers mote (let h = may.0 in omega arith) less) (up_to motes) (below_all motes)))
 
-pub stripe_fits : (motes workers : ℕ) → 0 < motes → MayRun (Some workers) → cut_fault motes workers (stripe_of motes workers) ≡ None
+pub stripe_fits : (motes workers : ℕ) → 0 < motes → MayRun (Some workers) → cut_fault motes workers (stripe_cut motes workers) ≡ None
 stripe_fits motes workers some may =
-    fits motes workers (stripe_of motes workers) may (length-map (up_to motes) (λ mote. mote % workers) ∙ as_many motes)
+    fits motes workers (stripe_cut motes workers) may (length-map (up_to motes) (λ mote. mote % workers) ∙ as_many motes)
     (every_map (λ worker. worker < workers) (λ mote. mote % workers) (up_to motes)
     (every_weaker (λ mote. mote < motes) (λ mote. mote % workers < workers) (λ mote less. mod_below mote workers (let h = may.0 in omega arith)) (up_to motes) (below_all motes)))

@@ -8,7 +8,7 @@ use Rattle.std.proofs.lemmas.List.{map-append}
 use Rattle.std.proofs.Math.Seq.{take-suc}
 use Rattle.process_kernel.specs.declared.line.Arrival.{Arrival}
 use Rattle.radio_medium.specs.declared.copy.RadioCopy.{RadioCopy}
-use Rattle.window_law.specs.Agenda.{Item, Wake, Packet, IsLeast, is_due, is_wake_of, moment_of, mote_of, packets}
+use Rattle.window_law.specs.Agenda.{Item, Wake, Packet, IsLeast, comes_at, is_wake_of, moment_of, mote_of, packets}
 use Rattle.window_law.proofs.Agenda.{packets_append, packets_map}
 use Rattle.net_agenda.specs.Buckets.{arrival_of, Due, nothing_due, is_wake, due_all, gathered, due_of, is_here, with_copy, with_wake, without_wake, is_none_left, Buckets, Holds, due_in, told_bucket, key_cmp}
 use Rattle.net_agenda.specs.declared.bucket.Bucket.{Bucket}
@@ -65,16 +65,16 @@ wake_more xs t m =
     some_more xs (Wake t m) ∙ (ap Some (two _ _ _ _ w k) ∙ ap (λ d. Some (with_wake d)) (sym (unwrapped xs)))
 
 -- an item more, there or elsewhere
-due_more : (t m : ℕ) (items : List Item) (x : Item) → is_due t m x ≡ true → due_of t m (items ++ x ∷ []) ≡ gathered (filter (is_due t m) items ++ x ∷ [])
-due_more t m items x e = ap gathered (filter-append (is_due t m) items (x ∷ []) ∙ ap (λ l. filter (is_due t m) items ++ l) (one e))
+due_more : (t m : ℕ) (items : List Item) (x : Item) → comes_at t m x ≡ true → due_of t m (items ++ x ∷ []) ≡ gathered (filter (comes_at t m) items ++ x ∷ [])
+due_more t m items x e = ap gathered (filter-append (comes_at t m) items (x ∷ []) ∙ ap (λ l. filter (comes_at t m) items ++ l) (one e))
   where
-    one : is_due t m x ≡ true → filter (is_due t m) (x ∷ []) ≡ x ∷ []
+    one : comes_at t m x ≡ true → filter (comes_at t m) (x ∷ []) ≡ x ∷ []
     one e = rw e refl
 
-due_same : (t m : ℕ) (items : List Item) (x : Item) → is_due t m x ≡ false → due_of t m (items ++ x ∷ []) ≡ due_of t m items
-due_same t m items x e = ap gathered (filter-append (is_due t m) items (x ∷ []) ∙ (ap (λ l. filter (is_due t m) items ++ l) (none e) ∙ append-nil _))
+due_same : (t m : ℕ) (items : List Item) (x : Item) → comes_at t m x ≡ false → due_of t m (items ++ x ∷ []) ≡ due_of t m items
+due_same t m items x e = ap gathered (filter-append (comes_at t m) items (x ∷ []) ∙ (ap (λ l. filter (comes_at t m) items ++ l) (none e) ∙ append-nil _))
   where
-    none : is_due t m x ≡ false → filter (is_due t m) (x ∷ []) ≡ []
+    none : comes_at t m x ≡ false → filter (comes_at t m) (x ∷ []) ≡ []
     none e = rw e refl
 
 here : (u k t m : ℕ) → is_here u k t m ≡ true → (u ≡ t) × (k ≡ m)
@@ -85,7 +85,7 @@ pub due_copy : (items : List Item) (c : RadioCopy) (t m : ℕ)
 due_copy items c t m =
     elim (cases_Bool (is_here c.at c.to t m)) [
       | inl e ↦ (let h = here c.at c.to t m e in
-          rw e (due_more t m items (Packet c) e ∙ (copy_more (filter (is_due t m) items) c
+          rw e (due_more t m items (Packet c) e ∙ (copy_more (filter (comes_at t m) items) c
           ∙ ap (λ o. Some (with_copy (arrival_of c) (unwrap_or o nothing_due))) (ap (λ u. due_of u m items) (sym h.0) ∙ ap (λ k. due_of c.at k items) (sym h.1)))))
       | inr e ↦ rw e (due_same t m items (Packet c) e)
     ]
@@ -95,7 +95,7 @@ pub due_wake : (items : List Item) (u k t m : ℕ)
 due_wake items u k t m =
     elim (cases_Bool (is_here u k t m)) [
       | inl e ↦ (let h = here u k t m e in
-          rw e (due_more t m items (Wake u k) e ∙ (wake_more (filter (is_due t m) items) u k
+          rw e (due_more t m items (Wake u k) e ∙ (wake_more (filter (comes_at t m) items) u k
           ∙ ap (λ o. Some (with_wake (unwrap_or o nothing_due))) (ap (λ a. due_of a m items) (sym h.0) ∙ ap (λ b. due_of u b items) (sym h.1)))))
       | inr e ↦ rw e (due_same t m items (Wake u k) e)
     ]
@@ -109,13 +109,13 @@ other_place u k t m a b h e = grind (arith, nat_tests)
 
 -- all that was there, taken out
 pub due_taken : (items : List Item) (u k t m : ℕ)
-    → due_of t m (filter (λ item. not (is_due u k item)) items) ≡ (if is_here u k t m then None else due_of t m items)
+    → due_of t m (filter (λ item. not (comes_at u k item)) items) ≡ (if is_here u k t m then None else due_of t m items)
 due_taken items u k t m =
     elim (cases_Bool (is_here u k t m)) [
-      | inl e ↦ rw e (ap gathered (filter_filter (is_due t m) (λ item. not (is_due u k item)) items
-          ∙ filter_none (λ item. not (is_due u k item)) (filter (is_due t m) items)
-          (every_weaker _ _ (λ item h. both_places u k t m (moment_of item) (mote_of item) h e) _ (every_passes (is_due t m) items))))
-      | inr e ↦ rw e (ap gathered (filter_stronger (is_due t m) (λ item. not (is_due u k item)) (λ item h. other_place u k t m (moment_of item) (mote_of item) e h) items))
+      | inl e ↦ rw e (ap gathered (filter_filter (comes_at t m) (λ item. not (comes_at u k item)) items
+          ∙ filter_none (λ item. not (comes_at u k item)) (filter (comes_at t m) items)
+          (every_weaker _ _ (λ item h. both_places u k t m (moment_of item) (mote_of item) h e) _ (every_passes (comes_at t m) items))))
+      | inr e ↦ rw e (ap gathered (filter_stronger (comes_at t m) (λ item. not (comes_at u k item)) (λ item h. other_place u k t m (moment_of item) (mote_of item) e h) items))
     ]
 
 -- a mote's wake, taken out
@@ -138,23 +138,23 @@ gathered_packets (x ∷ xs) = of_copies (packets (x ∷ xs)) ∙ refl
     of_copies [] = refl
     of_copies (c ∷ cs) = ap Some (two _ _ _ _ (no_wake (c ∷ cs)) (ap (map arrival_of) (packets_map (c ∷ cs))))
 
-due_at_mote : (t k : ℕ) (items : List Item) → AllByRecursion (λ item. mote_of item ≡ k) (filter (is_due t k) items)
-due_at_mote t k items = every_weaker _ _ (λ item h. eqb-true (mote_of item) k (and_parts (eqb (moment_of item) t) (eqb (mote_of item) k) h).1) _ (every_passes (is_due t k) items)
+due_at_mote : (t k : ℕ) (items : List Item) → AllByRecursion (λ item. mote_of item ≡ k) (filter (comes_at t k) items)
+due_at_mote t k items = every_weaker _ _ (λ item h. eqb-true (mote_of item) k (and_parts (eqb (moment_of item) t) (eqb (mote_of item) k) h).1) _ (every_passes (comes_at t k) items)
 
 pub due_unwoken : (items : List Item) (u k : ℕ) → filter (is_wake_of k) items ≡ Wake u k ∷ [] → (t m : ℕ)
     → due_of t m (filter (λ item. not (is_wake_of k item)) items) ≡ (if is_here u k t m then without_wake (due_of u k items) else due_of t m items)
 due_unwoken items u k one t m =
     elim (cases_Bool (is_here u k t m)) [
       | inl e ↦ (let h = here u k t m e in
-          rw e (ap gathered (filter_filter (is_due t m) (λ item. not (is_wake_of k item)) items)
-          ∙ (ap (λ a. gathered (filter (λ item. not (is_wake_of k item)) (filter (is_due a m) items))) (sym h.0)
-          ∙ (ap (λ b. gathered (filter (λ item. not (is_wake_of k item)) (filter (is_due u b) items))) (sym h.1)
-          ∙ (ap gathered (wakeless k (filter (is_due u k) items) (due_at_mote u k items)) ∙ gathered_packets (filter (is_due u k) items))))))
-      | inr e ↦ rw e (ap gathered (filter_filter (is_due t m) (λ item. not (is_wake_of k item)) items
-          ∙ filter_not (is_wake_of k) (filter (is_due t m) items) (filter_filter (is_wake_of k) (is_due t m) items ∙ (ap (filter (is_due t m)) one ∙ elsewhere e))))
+          rw e (ap gathered (filter_filter (comes_at t m) (λ item. not (is_wake_of k item)) items)
+          ∙ (ap (λ a. gathered (filter (λ item. not (is_wake_of k item)) (filter (comes_at a m) items))) (sym h.0)
+          ∙ (ap (λ b. gathered (filter (λ item. not (is_wake_of k item)) (filter (comes_at u b) items))) (sym h.1)
+          ∙ (ap gathered (wakeless k (filter (comes_at u k) items) (due_at_mote u k items)) ∙ gathered_packets (filter (comes_at u k) items))))))
+      | inr e ↦ rw e (ap gathered (filter_filter (comes_at t m) (λ item. not (is_wake_of k item)) items
+          ∙ filter_not (is_wake_of k) (filter (comes_at t m) items) (filter_filter (is_wake_of k) (comes_at t m) items ∙ (ap (filter (comes_at t m)) one ∙ elsewhere e))))
     ]
   where
-    elsewhere : is_here u k t m ≡ false → filter (is_due t m) (Wake u k ∷ []) ≡ []
+    elsewhere : is_here u k t m ≡ false → filter (comes_at t m) (Wake u k ∷ []) ≡ []
     elsewhere e = rw e refl
 
 -- one bucket changed
@@ -204,7 +204,7 @@ changed old entries u k f empty b after items more is none was made due updates 
 
 -- all of a bucket taken out
 pub removed : (old mid : Table) (u k : ℕ) (items : List Item) → Is old items
-    → ((t m : ℕ) → mid t m ≡ (if is_here u k t m then None else old t m)) → Is mid (filter (λ item. not (is_due u k item)) items)
+    → ((t m : ℕ) → mid t m ≡ (if is_here u k t m then None else old t m)) → Is mid (filter (λ item. not (comes_at u k item)) items)
 removed old mid u k items is out t m =
     elim (cases_Bool (is_here u k t m)) [
       | inl e ↦ (let o = rw e at (out t m) in let d = rw e at (due_taken items u k t m) in o ∙ sym d)
@@ -252,8 +252,8 @@ filled_some : (xs : List Item) (d : Due) → gathered xs ≡ Some d → is_fille
 filled_some [] d e = cc
 filled_some (x ∷ xs) d e = refl
 
-pub any_from_some : (t m : ℕ) (items : List Item) (d : Due) → due_of t m items ≡ Some d → list_any (is_due t m) items ≡ true
-any_from_some t m items d e = sym (filled_any (is_due t m) items) ∙ filled_some (filter (is_due t m) items) d e
+pub any_from_some : (t m : ℕ) (items : List Item) (d : Due) → due_of t m items ≡ Some d → list_any (comes_at t m) items ≡ true
+any_from_some t m items d e = sym (filled_any (comes_at t m) items) ∙ filled_some (filter (comes_at t m) items) d e
 
 some_from : {A : Type 0} (f : A → Due) (o : Option A) (xs : List Item) → option_map f o ≡ gathered xs → is_filled xs ≡ true → IsSome o
 some_from f None [] e h = absurd (false≢true h)
@@ -261,7 +261,7 @@ some_from f None (x ∷ xs) e h = cc
 some_from f (Some b) xs e h = refl
 
 -- what holds at each place where something is due holds of each item
-pub from_due : (P : ℕ → ℕ → Type 0) (items : List Item) → ((t m : ℕ) → list_any (is_due t m) items ≡ true → P t m) → AllByRecursion (λ item. P (moment_of item) (mote_of item)) items
+pub from_due : (P : ℕ → ℕ → Type 0) (items : List Item) → ((t m : ℕ) → list_any (comes_at t m) items ≡ true → P t m) → AllByRecursion (λ item. P (moment_of item) (mote_of item)) items
 from_due P [] f = tt
 from_due P (x ∷ xs) f = (
   f (moment_of x) (mote_of x) (let i = eq-eqb (moment_of x) (moment_of x) refl in let j = eq-eqb (mote_of x) (mote_of x) refl in rw (i, j) refl),
@@ -273,7 +273,7 @@ pub least_of : (buckets : Buckets) (t m : ℕ) (b : Bucket) (items : List Item) 
 least_of buckets t m b items holds e low = record {
   is_there = any_from_some t m items (told_bucket b) (sym (holds t m) ∙ ap (option_map told_bucket) e);
   is_first = from_due (λ u k. (ltb t u || (eqb u t && not (ltb k m))) ≡ true) items
-      (λ u k h. key_from t m u k (low (u, k) (some_from told_bucket (get key_cmp buckets (u, k)) (filter (is_due u k) items) (holds u k) (filled_any (is_due u k) items ∙ h))));
+      (λ u k h. key_from t m u k (low (u, k) (some_from told_bucket (get key_cmp buckets (u, k)) (filter (comes_at u k) items) (holds u k) (filled_any (comes_at u k) items ∙ h))));
 }
 
 pub none_of : (buckets : Buckets) (items : List Item) → Holds buckets items → buckets.entries ≡ [] → items ≡ []
@@ -281,8 +281,8 @@ none_of buckets [] holds e = refl
 none_of buckets (x ∷ xs) holds e =
     let i = eq-eqb (moment_of x) (moment_of x) refl in
     let j = eq-eqb (mote_of x) (mote_of x) refl in
-    let there : list_any (is_due (moment_of x) (mote_of x)) (x ∷ xs) ≡ true = rw (i, j) refl in
-    let some = some_from told_bucket (get key_cmp buckets (moment_of x, mote_of x)) (filter (is_due (moment_of x) (mote_of x)) (x ∷ xs)) (holds (moment_of x) (mote_of x)) (filled_any (is_due (moment_of x) (mote_of x)) (x ∷ xs) ∙ there) in
+    let there : list_any (comes_at (moment_of x) (mote_of x)) (x ∷ xs) ≡ true = rw (i, j) refl in
+    let some = some_from told_bucket (get key_cmp buckets (moment_of x, mote_of x)) (filter (comes_at (moment_of x) (mote_of x)) (x ∷ xs)) (holds (moment_of x) (mote_of x)) (filled_any (comes_at (moment_of x) (mote_of x)) (x ∷ xs) ∙ there) in
     let none : get key_cmp buckets (moment_of x, mote_of x) ≡ None = ap (λ es. lookup (is_at (key_cmp (moment_of x, mote_of x))) es) e in
     absurd (false≢true (subst IsSome none some))
 
@@ -320,13 +320,13 @@ pub part_next : (old new : Buckets) (t m : ℕ) (b : Bucket) (counted : ℕ) (it
     → ((q : ℕ × ℕ) → get key_cmp new q ≡ cond (is_eq (key_cmp (t, m) q)) None (get key_cmp old q))
     → IsPart new (counted + length b.copies.items) items
 part_next old new t m b counted items part e updates = record {
-  rest = filter (λ item. not (is_due t m item)) part.rest;
+  rest = filter (λ item. not (comes_at t m item)) part.rest;
   holds = removed (due_in old) (due_in new) t m part.rest part.holds (λ u k. ap (option_map told_bucket) (updates (u, k)) ∙ updated told_bucket _ _ None _ (key_is t m u k));
   sum = (
-      let split = split_length (is_due t m) part.rest in
-      let due : Some (told_bucket b) ≡ gathered (filter (is_due t m) part.rest) = sym (ap (option_map told_bucket) e) ∙ part.holds t m in
-      let n = ap length (of_some (filter (is_due t m) part.rest) (told_bucket b) (sym due)) in
-      let k = length_given (packets (filter (is_due t m) part.rest)) in
+      let split = split_length (comes_at t m) part.rest in
+      let due : Some (told_bucket b) ≡ gathered (filter (comes_at t m) part.rest) = sym (ap (option_map told_bucket) e) ∙ part.holds t m in
+      let n = ap length (of_some (filter (comes_at t m) part.rest) (told_bucket b) (sym due)) in
+      let k = length_given (packets (filter (comes_at t m) part.rest)) in
       let s = part.sum in
       added _ _ _ _ _ _ n k split _ s
       );

@@ -15,7 +15,7 @@ use Rattle.std.proofs.lemmas.List.Sorted.{IsPermutation-refl, IsPermutation-tran
 use Rattle.std.proofs.lemmas.Map.Keys.{sorted_head, sorted_tail}
 use Rattle.process_kernel.specs.declared.line.Arrival.{Arrival}
 use Rattle.radio_medium.specs.declared.copy.RadioCopy.{RadioCopy}
-use Rattle.window_law.specs.Agenda.{Item, Wake, Packet, is_due, moment_of, mote_of, packets}
+use Rattle.window_law.specs.Agenda.{Item, Wake, Packet, comes_at, moment_of, mote_of, packets}
 use Rattle.window_law.proofs.Agenda.{packets_append, packets_filter, packets_map}
 use Rattle.window_law.proofs.Lists.{every_passes, filter_both, filter_filter}
 use Rattle.net_agenda.specs.declared.bucket.Bucket.{Bucket}
@@ -57,7 +57,7 @@ none_later e es u k sorted h =
 
 -- packets
 
-put_back : (t m : ℕ) (xs : List Item) → AllByRecursion (λ item. is_due t m item ≡ true) xs → map (copy_at t m) (map arrival_of (packets xs)) ≡ packets xs
+put_back : (t m : ℕ) (xs : List Item) → AllByRecursion (λ item. comes_at t m item ≡ true) xs → map (copy_at t m) (map arrival_of (packets xs)) ≡ packets xs
 put_back t m [] h = refl
 put_back t m (Wake u k ∷ xs) h = put_back t m xs h.1
 put_back t m (Packet c ∷ xs) h = ap (λ l. copy_at t m (arrival_of c) ∷ l) (put_back t m xs h.1) ∙ ap (λ x. x ∷ packets xs) same
@@ -70,7 +70,7 @@ gathered_copies : (xs : List Item) (d : Due) → gathered xs ≡ Some d → d.co
 gathered_copies xs d f = ap (λ o. (unwrap_or o nothing_due).copies) (sym f) ∙ ap (λ x. x.copies) (unwrapped xs)
 
 -- the packets of one bucket
-of_bucket : (t m : ℕ) (copies : List Arrival) (xs : List Item) → AllByRecursion (λ item. is_due t m item ≡ true) xs → copies ≡ map arrival_of (packets xs)
+of_bucket : (t m : ℕ) (copies : List Arrival) (xs : List Item) → AllByRecursion (λ item. comes_at t m item ≡ true) xs → copies ≡ map arrival_of (packets xs)
     → packets xs ≡ map (copy_at t m) copies
 of_bucket t m copies xs due e = sym (ap (map (copy_at t m)) e ∙ put_back t m xs due)
 
@@ -101,11 +101,11 @@ none_held (x ∷ xs) is =
 
 -- the first bucket has what is due there, and the later ones hold the others
 
-found : (e : (ℕ × ℕ) × Bucket) (es : Entries) (items : List Item) → Is (due_among (e ∷ es)) items → gathered (filter (is_due e.0.0 e.0.1) items) ≡ Some (told_bucket e.1)
+found : (e : (ℕ × ℕ) × Bucket) (es : Entries) (items : List Item) → Is (due_among (e ∷ es)) items → gathered (filter (comes_at e.0.0 e.0.1) items) ≡ Some (told_bucket e.1)
 found e es items is = sym (is e.0.0 e.0.1) ∙ at_its_key e es
 
 rest_held : (e : (ℕ × ℕ) × Bucket) (es : Entries) (items : List Item) → IsStrictlySortedBy key_cmp (keys_of (e ∷ es)) → Is (due_among (e ∷ es)) items
-    → Is (due_among es) (filter (λ item. not (is_due e.0.0 e.0.1 item)) items)
+    → Is (due_among es) (filter (λ item. not (comes_at e.0.0 e.0.1 item)) items)
 rest_held e es items sorted is = removed (due_among (e ∷ es)) (due_among es) e.0.0 e.0.1 items is without
   where
     without : (u k : ℕ) → due_among es u k ≡ (if is_here e.0.0 e.0.1 u k then None else due_among (e ∷ es) u k)
@@ -123,7 +123,7 @@ packets_among (e ∷ es) items sorted is =
     (IsPermutation-append _ _ _ _ here (packets_among es (filter (λ item. not (p item)) items) (sorted_tail key_cmp e.0 (keys_of es) sorted) (rest_held e es items sorted is))))
   where
     p : Item → Bool
-    p = is_due e.0.0 e.0.1
+    p = comes_at e.0.0 e.0.1
 
     here : IsPermutation (packets (filter p items)) (map (copy_at e.0.0 e.0.1) e.1.copies.items)
     here = subst (IsPermutation (packets (filter p items))) (of_bucket e.0.0 e.0.1 e.1.copies.items (filter p items) (every_passes p items) (gathered_copies (filter p items) (told_bucket e.1) (found e es items is)))
@@ -142,20 +142,20 @@ and_false false = refl
 abbrev wakes_in : Option Due → Bool
 wakes_in o = (unwrap_or o nothing_due).wakes
 
-any_due_wake : (u k : ℕ) (items : List Item) → list_any (is_wake_at u k) items ≡ list_any is_wake (filter (is_due u k) items)
+any_due_wake : (u k : ℕ) (items : List Item) → list_any (is_wake_at u k) items ≡ list_any is_wake (filter (comes_at u k) items)
 any_due_wake u k [] = refl
 any_due_wake u k (x ∷ xs) =
-    elim (cases_Bool (is_due u k x)) [
+    elim (cases_Bool (comes_at u k x)) [
       | inl e ↦ rw e (ap (λ b. is_wake x || b) (any_due_wake u k xs))
       | inr e ↦ rw e (any_due_wake u k xs)
     ]
 
 wakes_held : (u k : ℕ) (items : List Item) → list_any (is_wake_at u k) items ≡ wakes_in (due_of u k items)
-wakes_held u k items = any_due_wake u k items ∙ sym (ap (λ d. d.wakes) (unwrapped (filter (is_due u k) items)))
+wakes_held u k items = any_due_wake u k items ∙ sym (ap (λ d. d.wakes) (unwrapped (filter (comes_at u k) items)))
 
 no_wake : (u k : ℕ) (copies : List RadioCopy) → list_any (is_wake_at u k) (map Packet copies) ≡ false
 no_wake u k [] = refl
-no_wake u k (c ∷ cs) = ap (λ b. b || list_any (is_wake_at u k) (map Packet cs)) (and_false (is_due u k (Packet c))) ∙ no_wake u k cs
+no_wake u k (c ∷ cs) = ap (λ b. b || list_any (is_wake_at u k) (map Packet cs)) (and_false (comes_at u k (Packet c))) ∙ no_wake u k cs
 
 bucket_wake : (t m u k : ℕ) (b : Bucket) → list_any (is_wake_at u k) (bucket_items t m b) ≡ (is_here t m u k && b.wakes)
 bucket_wake t m u k b =
@@ -185,7 +185,7 @@ wakes_among (e ∷ es) u k sorted =
 
 -- all items, where no mote has two wakes at one moment
 
-one_wake : (t m : ℕ) (xs : List Item) → AllByRecursion (λ item. is_due t m item ≡ true) xs → length (filter is_wake xs) ≤ 1 → filter is_wake xs ≡ (if list_any is_wake xs then Wake t m ∷ [] else [])
+one_wake : (t m : ℕ) (xs : List Item) → AllByRecursion (λ item. comes_at t m item ≡ true) xs → length (filter is_wake xs) ≤ 1 → filter is_wake xs ≡ (if list_any is_wake xs then Wake t m ∷ [] else [])
 one_wake t m [] due h = refl
 one_wake t m (Packet c ∷ xs) due h = one_wake t m xs due.1 h
 one_wake t m (Wake u k ∷ xs) due h =
@@ -198,7 +198,7 @@ not_wakes [] = refl
 not_wakes (Wake u k ∷ xs) = not_wakes xs
 not_wakes (Packet c ∷ xs) = ap (λ l. Packet c ∷ l) (not_wakes xs)
 
-bucket_permutes : (t m : ℕ) (b : Bucket) (xs : List Item) → AllByRecursion (λ item. is_due t m item ≡ true) xs → gathered xs ≡ Some (told_bucket b) → length (filter is_wake xs) ≤ 1
+bucket_permutes : (t m : ℕ) (b : Bucket) (xs : List Item) → AllByRecursion (λ item. comes_at t m item ≡ true) xs → gathered xs ≡ Some (told_bucket b) → length (filter is_wake xs) ≤ 1
     → IsPermutation xs (bucket_items t m b)
 bucket_permutes t m b xs due e one =
     subst (λ l. IsPermutation xs (wakes ++ map Packet l)) (of_bucket t m b.copies.items xs due (gathered_copies xs (told_bucket b) e))
@@ -223,7 +223,7 @@ items_among_permute (e ∷ es) items sorted is one =
     (IsPermutation-append _ _ _ _ here (items_among_permute es rest (sorted_tail key_cmp e.0 (keys_of es) sorted) (rest_held e es items sorted is) fewer))
   where
     p : Item → Bool
-    p = is_due e.0.0 e.0.1
+    p = comes_at e.0.0 e.0.1
 
     rest : List Item
     rest = filter (λ item. not (p item)) items

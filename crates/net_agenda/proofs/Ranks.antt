@@ -7,7 +7,7 @@ use Rattle.std.proofs.Math.Nat.{mul-le-mul_right}
 use Rattle.std.proofs.lemmas.Bool.{and_parts, eqb-true, eq-eqb}
 use Rattle.std.proofs.lemmas.Bool.Decides.{nat_tests}
 use Rattle.net_agenda.specs.declared.bucket.Bucket.{Bucket}
-use Rattle.window_law.specs.Agenda.{Item, moment_of, mote_of, is_due, is_from}
+use Rattle.window_law.specs.Agenda.{Item, moment_of, mote_of, comes_at, is_from}
 use Rattle.net_agenda.specs.Buckets.{Buckets, Holds, told_bucket, key_cmp, first_key}
 use Rattle.window_law.proofs.Lists.{any_every}
 use Rattle.net_agenda.proofs.Gathered.{any_from_some}
@@ -28,7 +28,7 @@ later_place : (n t m u k : ℕ) → (ltb t u || (eqb u t && not (ltb k (suc m)))
 later_place n t m u k h e =
     elim (place t m u k h) [ inl g ↦ over_row n t u m k g e | inr g ↦ (let r = g.1 in let q : u * n ≡ t * n = ap (λ x. x * n) g.0 in omega arith) ]
 
-pub first_due : (buckets : Buckets) (items : List Item) (u k : ℕ) → Holds buckets items → first_key buckets ≡ Some (u, k) → list_any (is_due u k) items ≡ true
+pub first_due : (buckets : Buckets) (items : List Item) (u k : ℕ) → Holds buckets items → first_key buckets ≡ Some (u, k) → list_any (comes_at u k) items ≡ true
 first_due buckets items u k holds e = of buckets.entries refl
   where
     at : (es : List ((ℕ × ℕ) × Bucket)) → option_map (λ (x : (ℕ × ℕ) × Bucket). x.0) (slice_get es 0) ≡ Some (u, k) → (b : Bucket) × (lookup (is_at (key_cmp (u, k))) es ≡ Some b)
@@ -40,7 +40,7 @@ first_due buckets items u k holds e = of buckets.entries refl
         let self : is_at (key_cmp (u, k)) x.0 ≡ true = ap (is_at (key_cmp (u, k))) g ∙ (key_is u k u k ∙ rw (i, j) refl) in
         (x.1, rw self refl)
 
-    of : (es : List ((ℕ × ℕ) × Bucket)) → es ≡ buckets.entries → list_any (is_due u k) items ≡ true
+    of : (es : List ((ℕ × ℕ) × Bucket)) → es ≡ buckets.entries → list_any (comes_at u k) items ≡ true
     of es f = let b = at buckets.entries e in any_from_some u k items (told_bucket b.0) (sym (holds u k) ∙ ap (option_map told_bucket) b.1)
 
 -- what is to come first is later, where nothing is left up to a place
@@ -56,7 +56,7 @@ left_falls motes end t m items old new buckets e inside low ahead holds f = subs
     of None f = let g = top in omega arith
     of (Some key) f =
         let later : t * motes + m < key.0 * motes + key.1 =
-        any_every _ (is_due key.0 key.1) _ (λ item d h. let parts = and_parts (eqb (moment_of item) key.0) (eqb (mote_of item) key.1) d in
+        any_every _ (comes_at key.0 key.1) _ (λ item d h. let parts = and_parts (eqb (moment_of item) key.0) (eqb (mote_of item) key.1) d in
         let u = eqb-true (moment_of item) key.0 parts.0 in
         let k = eqb-true (mote_of item) key.1 parts.1 in
         subst (λ x. t * motes + m < x * motes + key.1) u (subst (λ y. t * motes + m < moment_of item * motes + y) k

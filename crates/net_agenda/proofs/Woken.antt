@@ -4,13 +4,13 @@ use Rattle.std.specs.List.{filter, list_any}
 use Rattle.std.specs.Option.{option_eq}
 use Rattle.std.proofs.lemmas.Bool.{cases_Bool, eqb-true, eq-eqb, and_parts, false≢true}
 use Rattle.process_kernel.specs.declared.line.Arrival.{Arrival}
-use Rattle.window_law.specs.Agenda.{Item, Wake, Packet, is_due, is_wake_of, wake_items}
+use Rattle.window_law.specs.Agenda.{Item, Wake, Packet, comes_at, is_wake_of, wake_items}
 use Rattle.net_agenda.specs.Buckets.{Due, nothing_due, is_wake, gathered, due_of, is_here, with_wake, without_wake, is_none_left, Buckets, Holds}
 use Rattle.window_law.proofs.Lists.{filter_not}
 use Rattle.net_agenda.proofs.Gathered.{due_with, due_wake, due_unwoken}
 
 -- the wake is among what is due where it wakes
-any_wake : (u k : ℕ) (items : List Item) → filter (is_wake_of k) items ≡ Wake u k ∷ [] → list_any is_wake (filter (is_due u k) items) ≡ true
+any_wake : (u k : ℕ) (items : List Item) → filter (is_wake_of k) items ≡ Wake u k ∷ [] → list_any is_wake (filter (comes_at u k) items) ≡ true
 any_wake u k [] one = cc
 any_wake u k (Wake t m ∷ items) one =
     elim (cases_Bool (eqb m k)) [
@@ -21,7 +21,7 @@ any_wake u k (Wake t m ∷ items) one =
       ])
     ]
 any_wake u k (Packet c ∷ items) one =
-    elim (cases_Bool (is_due u k (Packet c))) [
+    elim (cases_Bool (comes_at u k (Packet c))) [
       | inl e ↦ rw e (any_wake u k items one)
       | inr e ↦ rw e (any_wake u k items one)
     ]
@@ -51,7 +51,7 @@ rewoken buckets (Some u) m items holds one t k =
           let out = rw (eq-eqb u u refl, eq-eqb m m refl) at (due_unwoken items u m one u m) in
           let h = and_parts (eqb u t) (eqb m k) e in
           holds t k ∙ (ap (λ x. due_of x k items) (sym (eqb-true u t h.0)) ∙ (ap (λ x. due_of u x items) (sym (eqb-true m k h.1))
-          ∙ (sym (there (filter (is_due u m) items) (any_wake u m items one)) ∙ (ap (λ o. Some (with_wake (unwrap_or o nothing_due))) (sym out) ∙ sym w)))))
+          ∙ (sym (there (filter (comes_at u m) items) (any_wake u m items one)) ∙ (ap (λ o. Some (with_wake (unwrap_or o nothing_due))) (sym out) ∙ sym w)))))
       | inr e ↦ (let w = rw e at (due_wake rest u m t k) in let out = rw e at (due_unwoken items u m one t k) in holds t k ∙ sym (w ∙ out))
     ]
   where

@@ -8,7 +8,7 @@ use Rattle.process_kernel.specs.declared.line.Arrival.{Arrival}
 use Rattle.radio_medium.specs.declared.copy.RadioCopy.{RadioCopy}
 use Rattle.net_agenda.specs.declared.bucket.Bucket.{Bucket}
 use Rattle.window_law.specs.Order.{sorted_by, in_order}
-use Rattle.window_law.specs.Agenda.{Item, Wake, Packet, is_due, packets}
+use Rattle.window_law.specs.Agenda.{Item, Wake, Packet, comes_at, packets}
 
 -- what a mote is given of a copy
 abbrev pub arrival_of : RadioCopy → Arrival
@@ -40,7 +40,7 @@ gathered (item ∷ items) = Some (due_all (item ∷ items))
 
 -- what an agenda has for a mote at a moment
 abbrev pub due_of : (moment mote : ℕ) → List Item → Option Due
-due_of moment mote items = gathered (filter (is_due moment mote) items)
+due_of moment mote items = gathered (filter (comes_at moment mote) items)
 
 abbrev pub told_bucket : Bucket → Due
 told_bucket b = record { wakes = b.wakes; copies = b.copies.items }
@@ -86,7 +86,7 @@ wake_but_at moment (Some wake) = if wake == moment then None else Some wake
 
 -- what a mote is given at a moment
 abbrev pub arrivals_at : (moment mote : ℕ) → List Item → List Arrival
-arrivals_at moment mote items = map arrival_of (in_order (packets (filter (is_due moment mote) items)))
+arrivals_at moment mote items = map arrival_of (in_order (packets (filter (comes_at moment mote) items)))
 
 -- the least key
 abbrev pub first_key : Buckets → Option (ℕ × ℕ)

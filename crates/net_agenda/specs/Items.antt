@@ -5,7 +5,7 @@ use Rattle.std.specs.List.Sorted.{IsPermutation}
 use Rattle.process_kernel.specs.declared.line.Arrival.{Arrival}
 use Rattle.radio_medium.specs.declared.copy.RadioCopy.{RadioCopy}
 use Rattle.net_agenda.specs.declared.bucket.Bucket.{Bucket}
-use Rattle.window_law.specs.Agenda.{Item, Wake, Packet, is_due, packets}
+use Rattle.window_law.specs.Agenda.{Item, Wake, Packet, comes_at, packets}
 use Rattle.net_agenda.specs.Buckets.{Buckets, is_wake}
 
 -- the copy of which a mote is given this at a moment
@@ -22,7 +22,7 @@ items_of buckets = flat_map (λ entry. bucket_items entry.0.0 entry.0.1 entry.1)
 
 -- a wake of this mote at this moment
 abbrev pub is_wake_at : (moment mote : ℕ) → Item → Bool
-is_wake_at moment mote item = is_due moment mote item && is_wake item
+is_wake_at moment mote item = comes_at moment mote item && is_wake item
 
 -- no mote has two wakes at one moment
 abbrev pub WakesDiffer : List Item → Type 0

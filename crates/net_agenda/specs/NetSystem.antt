@@ -28,10 +28,10 @@ abbrev pub tree_at : NetTold → (mote : ℕ) → Tree
 tree_at n mote = (mote_at n.motes mote).tree
 
 -- a mote before its first turn
-abbrev pub first_node : NetTold → (mote : ℕ) → Node
-first_node n mote = let m = mote_at n.motes mote in with_collide n.collide (new_node m.tree mote m.queue)
+abbrev pub first_node_in : NetTold → (mote : ℕ) → Node
+first_node_in n mote = let m = mote_at n.motes mote in with_collide n.collide (new_node m.tree mote m.queue)
 
-abbrev pub turned_of : node.Turned → Turned Node Line
+abbrev pub turned_of : node.TurnGiven → Turned Node Line
 turned_of t = record { state = t.node; lines = t.lines; sends = t.sends; wake = t.wake }
 
 abbrev pub node_turn : (mote : ℕ) → Node → (moment : ℕ) → List RadioCopy → Turned Node Line
@@ -41,7 +41,7 @@ node_turn mote n moment given = turned_of (turn_of moment (map arrival_of given)
 unfoldable pub system_of : NetTold → System Node Line
 system_of n = record {
   motes = length n.motes;
-  first = first_node n;
+  first = first_node_in n;
   turn = node_turn;
   copies = copies n.radio;
   lookahead = lookahead n.radio n.end;

@@ -2,7 +2,7 @@
 
 ghost use Rattle.std.specs.Prelude.{◌≡◌, ℕ, length, not, List, [], ◌∷◌, ◌++◌, map, OnOk, IfOk, IfSome, MatchOption, Some, None, if◌then◌else◌, ◌&&◌, ◌==◌, option_map, unwrap_or};
 ghost use Rattle.std.specs.List.{filter};
-ghost use Rattle.window_law.specs.Agenda.{Item, Wake, Packet, IsLeast, is_due, is_wake_of, packets, wake_items};
+ghost use Rattle.window_law.specs.Agenda.{Item, Wake, Packet, IsLeast, comes_at, is_wake_of, packets, wake_items};
 ghost use Rattle.net_agenda.specs.Buckets.{Holds, due_in, due_of, told_bucket, nothing_due, is_here, arrivals_at, first_key};
 
 use crate::bucket::Bucket;
@@ -129,7 +129,7 @@ impl Agenda {
     /// Takes out all that is to come to a mote at a moment: its packets, in order.
     pub fn take_due(&mut self, moment: u64, mote: u16) -> Result<Vec<Arrival>, AllocError>
         ensures copies { IfOk result (λ arrivals. (items : List Item) → Holds self.old.buckets items → arrivals.items ≡ arrivals_at moment mote items) }
-        ensures rest { (items : List Item) → Holds self.old.buckets items → Holds self.new.buckets (filter (λ item. not (is_due moment mote item)) items) }
+        ensures rest { (items : List Item) → Holds self.old.buckets items → Holds self.new.buckets (filter (λ item. not (comes_at moment mote item)) items) }
     {
         self.take(moment, mote).into_arrivals()
     }

@@ -3,7 +3,7 @@
 ghost use Rattle.std.specs.Prelude.{◌≡◌, ◌<◌, length, Some, IfOk};
 ghost use Rattle.mote_node.specs.Public.{node_in};
 ghost use Rattle.net_scenario.specs.Net.{net_of};
-ghost use Rattle.net_agenda.specs.NetSystem.{first_node, tree_at};
+ghost use Rattle.net_agenda.specs.NetSystem.{first_node_in, tree_at};
 
 use mote_node::Mote;
 use net_scenario::Net;
@@ -12,7 +12,7 @@ use std::alloc::{AllocError, Global};
 /// The mote with this number, before its first turn.
 pub fn new_mote(alloc: Global, net: &Net, number: u16) -> Result<Mote, AllocError>
     requires { number < length (net_of net.now).motes }
-    ensures { let n = net_of net.now in IfOk result (λ mote. node_in (tree_at n number) mote ≡ Some (first_node n number)) }
+    ensures { let n = net_of net.now in IfOk result (λ mote. node_in (tree_at n number) mote ≡ Some (first_node_in n number)) }
 {
     let made = Mote::new(alloc, number, net.program(number), net.queue(number));
     let Ok(mut mote) = made else {

@@ -14,7 +14,7 @@ use Rattle.net_scenario.specs.declared.programs.NamedProgram.{NamedProgram}
 use Rattle.net_scenario.specs.Programs.{NamedTree, named_tree}
 use Rattle.net_scenario.specs.Motes.{is_mote_of}
 use Rattle.net_scenario.specs.Limits.{shortest_queue, longest_queue}
-use Rattle.net_scenario.specs.Net.{queue_of, mote_of, unread_fault, mote_told, program_at, program_named}
+use Rattle.net_scenario.specs.Net.{queue_of, mote_of_table, unread_fault, mote_told, program_at, program_named}
 
 pub slice_get-map : {X Y : Type 0} (f : X → Y) (xs : List X) (i : ℕ) (d : X) → i < length xs → slice_get (map f xs) i ≡ Some (f (get_or xs i d))
 slice_get-map f [] i d h = absurd (omega arith)
@@ -120,7 +120,7 @@ some_place (p ∷ ps) name k h = some_first p ps name k (bytes_eq p.name name) h
 -- the mote of a table, by the index of its program and the length of its queue
 pub mote_is : (ps : List NamedProgram) (queue ms : Members) (name : List ℕ) (i q : ℕ) → name ≡ text_at (codes "program") ms
     → position_from (λ q. bytes_eq q.name name) 0 ps ≡ Some i → q ≡ queue_of queue name
-    → mote_told ps (record { program = i; queue = q }) ≡ mote_of queue (map named_tree ps) ms
+    → mote_told ps (record { program = i; queue = q }) ≡ mote_of_table queue (map named_tree ps) ms
 mote_is ps queue ms name i q name-is h queue-is =
     let f = found ps name 0 i h in
     let place : i ≡ f.place = omega (arith, f.is) in

@@ -18,9 +18,9 @@ use Rattle.net_scenario.specs.declared.error.ScenarioError.TheVariants.{Toml, Mi
 use Rattle.net_scenario.specs.declared.net.Net.{Net}
 use Rattle.net_scenario.specs.declared.programs.NamedProgram.{NamedProgram}
 use Rattle.net_scenario.specs.Errors.{of_medium}
-use Rattle.net_scenario.specs.Document.{version_of, natural, integer_at, natural_at, flag_at, table_at, tables_at, document_fault}
+use Rattle.net_scenario.specs.Document.{version_of, natural, integer_at, natural_at, boolean_at, table_at, tables_at, document_fault}
 use Rattle.net_scenario.specs.Programs.{named_tree, texts_of, AllRead, ReadsPrograms}
-use Rattle.net_scenario.specs.Net.{MoteTold, mote_of, mote_told, place_told, radio_told}
+use Rattle.net_scenario.specs.Net.{MoteTold, mote_of_table, mote_told, place_told, radio_told}
 use Rattle.net_scenario.specs.Reading.{document_of, HasTrees, IsNetOf, MakesRadio, MakesNet, Answers}
 
 -- a document makes what its text tells
@@ -77,9 +77,9 @@ document_is text top short parsed faultless =
 pub made : (top : Members) (e : ℕ) (flag : Bool) (radio : Radio) (ps : List NamedProgram) (ms : List Mote)
     → AllRead (texts_of (table_at (codes "programs") top)) (map named_tree ps)
     → integer_at (codes "end") top ≡ Some (pos e)
-    → flag ≡ flag_at (codes "collide") (table_at (codes "medium") top)
+    → flag ≡ boolean_at (codes "collide") (table_at (codes "medium") top)
     → MakesRadio (radio_told top) (Ok radio)
-    → map (mote_told ps) ms ≡ map (mote_of (table_at (codes "queue") top) (map named_tree ps)) (tables_at (codes "mote") top)
+    → map (mote_told ps) ms ≡ map (mote_of_table (table_at (codes "queue") top) (map named_tree ps)) (tables_at (codes "mote") top)
     → IsNetOf top (record { end = e; collide = flag; radio = radio; motes = map (mote_told ps) ms })
 made top e flag radio ps ms read end-is flag-is radio-is motes-are =
     let same-end : e ≡ natural_at (codes "end") top = sym (ap (λ (o : Option ℤ). natural (unwrap_or o (pos 0))) end-is) in
@@ -92,9 +92,9 @@ made top e flag radio ps ms read end-is flag-is radio-is motes-are =
 
 -- as many motes as there are tables of them
 pub mote_count : (top : Members) (ps : List NamedProgram) (ms : List Mote) (queue : Members)
-    → map (mote_told ps) ms ≡ map (mote_of queue (map named_tree ps)) (tables_at (codes "mote") top) → length ms ≡ length (tables_at (codes "mote") top)
+    → map (mote_told ps) ms ≡ map (mote_of_table queue (map named_tree ps)) (tables_at (codes "mote") top) → length ms ≡ length (tables_at (codes "mote") top)
 mote_count top ps ms queue motes-are =
-    sym (length-map ms (mote_told ps)) ∙ ap (λ (l : List MoteTold). length l) motes-are ∙ length-map (tables_at (codes "mote") top) (mote_of queue (map named_tree ps))
+    sym (length-map ms (mote_told ps)) ∙ ap (λ (l : List MoteTold). length l) motes-are ∙ length-map (tables_at (codes "mote") top) (mote_of_table queue (map named_tree ps))
 
 -- there are as few and as many motes as the rules allow
 pub few_motes : (top : Members) → Faultless top → length (tables_at (codes "mote") top) ≤ most_motes

@@ -19,8 +19,8 @@ abbrev pub integer_at : List ℕ → Members → Option ℤ
 integer_at name ms = option_and_then as_integer (get_member name ms)
 
 -- the flag at a key, false where there is none
-abbrev pub flag_at : List ℕ → Members → Bool
-flag_at name ms = unwrap_or (option_and_then as_bool (get_member name ms)) false
+abbrev pub boolean_at : List ℕ → Members → Bool
+boolean_at name ms = unwrap_or (option_and_then as_bool (get_member name ms)) false
 
 -- the text at a key, empty where there is none
 abbrev pub text_at : List ℕ → Members → List ℕ

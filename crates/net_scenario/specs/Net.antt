@@ -5,7 +5,7 @@ use Rattle.std.specs.Str.{bytes_eq}
 use Rattle.toml.specs.Data.{Members}
 use Rattle.mote_program.specs.Code.{Tree}
 use Rattle.radio_medium.specs.Medium.{Radio}
-use Rattle.radio_medium.specs.declared.place.Place.{Place}
+use Rattle.radio_medium.specs.declared.place.Position.{Position}
 use Rattle.radio_medium.specs.declared.place.Loss.{Loss}
 use Rattle.net_scenario.specs.declared.error.TableFault.{TableFault}
 use Rattle.net_scenario.specs.declared.error.TableFault.TheVariants.{UnknownProgram}
@@ -13,7 +13,7 @@ use Rattle.net_scenario.specs.declared.net.Mote.{Mote}
 use Rattle.net_scenario.specs.declared.net.Net.{Net}
 use Rattle.net_scenario.specs.declared.programs.NamedProgram.{NamedProgram}
 use Rattle.net_scenario.specs.Limits.{usual_queue}
-use Rattle.net_scenario.specs.Document.{natural, number_at, natural_at, integer_at, flag_at, text_at, table_at, tables_at}
+use Rattle.net_scenario.specs.Document.{natural, number_at, natural_at, integer_at, boolean_at, text_at, table_at, tables_at}
 use Rattle.net_scenario.specs.Programs.{NamedTree, named_tree}
 
 -- a mote: its program's name and tree, and how many events its queue holds
@@ -44,14 +44,14 @@ program_named trees name = unwrap_or (find (λ t. bytes_eq t.name name) trees) n
 abbrev pub queue_of : (queue : Members) → (program : List ℕ) → ℕ
 queue_of queue program = option_map_or natural (integer_at program queue) usual_queue
 
-abbrev pub mote_of : (queue : Members) → List NamedTree → Members → MoteTold
-mote_of queue trees ms = record {
+abbrev pub mote_of_table : (queue : Members) → List NamedTree → Members → MoteTold
+mote_of_table queue trees ms = record {
   program = text_at (codes "program") ms;
   tree = (program_named trees (text_at (codes "program") ms)).tree;
   queue = queue_of queue (text_at (codes "program") ms);
 }
 
-abbrev pub place_told : Members → Place
+abbrev pub place_told : Members → Position
 place_told ms = record { x = number_at (codes "x") ms; y = number_at (codes "y") ms }
 
 abbrev pub loss_of : Members → Loss
@@ -71,9 +71,9 @@ radio_told top = record {
 abbrev pub net_told : Members → List NamedTree → NetTold
 net_told top trees = record {
   end = natural_at (codes "end") top;
-  collide = flag_at (codes "collide") (table_at (codes "medium") top);
+  collide = boolean_at (codes "collide") (table_at (codes "medium") top);
   radio = radio_told top;
-  motes = map (mote_of (table_at (codes "queue") top) trees) (tables_at (codes "mote") top);
+  motes = map (mote_of_table (table_at (codes "queue") top) trees) (tables_at (codes "mote") top);
 }
 
 -- the program at an index

@@ -41,13 +41,13 @@ abbrev pub known_in : Version → List Rule → List Rule
 known_in now rules = filter (λ r. has_come r.since now) rules
 
 -- a whole number from 0 to a limit
-abbrev pub up_to : ℕ → Kind
-up_to high = Number (pos 0) (pos high)
+abbrev pub number_up_to : ℕ → Kind
+number_up_to high = Number (pos 0) (pos high)
 
 abbrev pub top_rules : List Rule
 top_rules =
     needed First (codes "version") (Number (pos 1) (pos 2))
-    ∷ needed First (codes "end") (up_to latest_end)
+    ∷ needed First (codes "end") (number_up_to latest_end)
     ∷ needed First (codes "medium") Table
     ∷ needed First (codes "programs") Table
     ∷ needed First (codes "mote") (Tables fewest_motes most_motes)
@@ -57,17 +57,17 @@ top_rules =
 
 abbrev pub medium_rules : List Rule
 medium_rules =
-    needed First (codes "range") (up_to widest_range)
-    ∷ needed First (codes "base") (up_to largest_base_or_per)
-    ∷ needed First (codes "per") (up_to largest_base_or_per)
+    needed First (codes "range") (number_up_to widest_range)
+    ∷ needed First (codes "base") (number_up_to largest_base_or_per)
+    ∷ needed First (codes "per") (number_up_to largest_base_or_per)
     ∷ needed Second (codes "collide") Boolean
     ∷ []
 
 abbrev pub loss_rules : List Rule
 loss_rules =
-    needed First (codes "from") (up_to largest_in_loss)
-    ∷ needed First (codes "to") (up_to largest_in_loss)
-    ∷ needed First (codes "every") (up_to largest_in_loss)
+    needed First (codes "from") (number_up_to largest_in_loss)
+    ∷ needed First (codes "to") (number_up_to largest_in_loss)
+    ∷ needed First (codes "every") (number_up_to largest_in_loss)
     ∷ []
 
 abbrev pub mote_rules : List Rule

@@ -7,7 +7,7 @@ ghost use Rattle.net_scenario.specs.Document.{first_some, members_of, tables_in}
 ghost use Rattle.net_scenario.specs.Names.{lengths_fault};
 ghost use Rattle.net_scenario.specs.Programs.{AreInOrder, named_tree};
 ghost use Rattle.net_scenario.specs.Motes.{is_mote_of};
-ghost use Rattle.net_scenario.specs.Net.{mote_of, mote_told, unread_fault};
+ghost use Rattle.net_scenario.specs.Net.{mote_of_table, mote_told, unread_fault};
 
 use crate::net::Mote;
 use crate::programs::NamedProgram;
@@ -28,11 +28,11 @@ fn index_of(programs: &[NamedProgram], name: &str) -> Option<usize>
 }
 
 /// The mote of a table, whose program is among those read.
-fn mote_of(programs: &[NamedProgram], queue: Option<&Table>, table: &Table) -> Mote
+fn mote_of_table(programs: &[NamedProgram], queue: Option<&Table>, table: &Table) -> Mote
     requires in_order { AreInOrder programs.now }
     requires queue { lengths_fault (members_of queue) ≡ None }
     requires read { unread_fault (map named_tree programs.now) (table_view table.now) ≡ None }
-    ensures value { mote_told programs.now result ≡ mote_of (members_of queue.entry) (map named_tree programs.now) (table_view table.now) }
+    ensures value { mote_told programs.now result ≡ mote_of_table (members_of queue.entry) (map named_tree programs.now) (table_view table.now) }
     ensures fits { IsTrue (is_mote_of (length programs.now) result) }
 {
     let name = text_at(table, "program");
@@ -53,13 +53,13 @@ pub fn motes_of(
     requires in_order { AreInOrder programs.now }
     requires queue { lengths_fault (members_of queue) ≡ None }
     requires read { first_some (unread_fault (map named_tree programs.now)) (tables_in (items_view items.now)) ≡ None }
-    ensures value { IfOk result (λ v. map (mote_told programs.now) v.items ≡ map (mote_of (members_of queue.entry) (map named_tree programs.now)) (tables_in (items_view items.now))) }
+    ensures value { IfOk result (λ v. map (mote_told programs.now) v.items ≡ map (mote_of_table (members_of queue.entry) (map named_tree programs.now)) (tables_in (items_view items.now))) }
     ensures fits { IfOk result (λ v. IsTrue (list_all (is_mote_of (length programs.now)) v.items)) }
 {
     let mut motes = Vec::new(alloc);
     for item in items {
         if let Some(table) = item.as_table() {
-            motes.push(mote_of(programs, queue, table))?;
+            motes.push(mote_of_table(programs, queue, table))?;
         }
     }
     Ok(motes)

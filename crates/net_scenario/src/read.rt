@@ -12,7 +12,7 @@ use crate::motes::motes_of;
 use crate::net::Net;
 use crate::places::{losses_of, places_of};
 use crate::programs::read_programs;
-use crate::values::{flag_at, items_at, natural_at, table_at, table_if_any};
+use crate::values::{boolean_at, items_at, natural_at, table_at, table_if_any};
 use radio_medium::Medium;
 use std::alloc::Global;
 use toml::Table;
@@ -53,7 +53,7 @@ fn net_from(alloc: Global, top: &Table) -> Result<Net, ScenarioError>
     let queue = table_if_any(top, "queue");
     let motes = motes_of(alloc, &programs, queue, items_at(top, "mote"))?;
     let end = natural_at(top, "end");
-    let collide = flag_at(table_at(top, "medium"), "collide");
+    let collide = boolean_at(table_at(top, "medium"), "collide");
     Ok(Net::new(end, collide, medium, programs, motes))
 }
 

@@ -2,7 +2,7 @@
 ghost use Rattle.std.specs.Prelude.{◌≡◌, [], Some, pos, negsuc, unwrap_or};
 ghost use Rattle.toml.specs.Data.{as_str};
 ghost use Rattle.toml.specs.View.{view, items_view, table_view};
-ghost use Rattle.net_scenario.specs.Document.{integer_at, flag_at, text_at, table_at, members_of, items_at, HoldsNumber, HoldsTable};
+ghost use Rattle.net_scenario.specs.Document.{integer_at, boolean_at, text_at, table_at, members_of, items_at, HoldsNumber, HoldsTable};
 
 use crate::rules::value_at;
 use toml::{Table, Value};
@@ -30,8 +30,8 @@ pub fn integer_at(table: &Table, name: &str) -> i32
 }
 
 /// The flag at a key, false where there is none.
-pub fn flag_at(table: &Table, name: &str) -> bool
-    ensures { result ≡ flag_at name.now (table_view table.now) }
+pub fn boolean_at(table: &Table, name: &str) -> bool
+    ensures { result ≡ boolean_at name.now (table_view table.now) }
 {
     match value_at(table, name) {
         Some(Value::Boolean(flag)) => *flag,

@@ -9,7 +9,7 @@ use Rattle.process_kernel.specs.declared.process.ProcessState.TheVariants.{Runni
 use Rattle.process_kernel.specs.State.{State, Went, Ends, Goes, ◌>>=◌}
 use Rattle.process_kernel.specs.Processes.{is_running, with_state}
 use Rattle.process_kernel.specs.Writes.{spend_of, halted_of}
-use Rattle.process_kernel.specs.Calls.{Calls, is_event}
+use Rattle.process_kernel.specs.Calls.{Calls, is_system_event}
 use Rattle.process_kernel.specs.Reaction.{react_of}
 use Rattle.process_kernel.specs.Exit.{exit_of}
 use Rattle.process_kernel.specs.Operation.{run_of}
@@ -28,7 +28,7 @@ answered calls s p ended = if ended then exit_of calls s p p else Goes tt (with_
 unfoldable pub call_of : Calls → State → Proc → Event → Went
 call_of calls s p e =
     if is_running s p then (spend_of s >>= λ _ s1. react_of calls (with_state s1 p Called) p e >>= λ answer s2.
-    answered calls s2 p (has_ended answer || is_event Exit e))
+    answered calls s2 p (has_ended answer || is_system_event Exit e))
     else Goes tt s
 
 -- The calls that nest at most so many deep. Each call, and each run of a thread from one operation to the next, spends a unit

@@ -16,8 +16,8 @@ use Rattle.process_kernel.specs.Processes.{is_on_list}
 abbrev pub told : SystemEvent → ℕ → Event
 told event word = record { number = system_number event; word = word; sender = 0 }
 
-abbrev pub is_event : SystemEvent → Event → Bool
-is_event event e = e.number == system_number event
+abbrev pub is_system_event : SystemEvent → Event → Bool
+is_system_event event e = e.number == system_number event
 
 -- what a thread answered, and what it has still to do
 abbrev pub Answer : Type 0

@@ -7,7 +7,7 @@ use Rattle.protothread.specs.Remainder.{fresh_of}
 use Rattle.mote_timers.specs.Numbers.{is_member, without_member}
 use Rattle.process_kernel.specs.State.{State, Went, Goes, ◌>>=◌}
 use Rattle.process_kernel.specs.TimerOperations.{has_timer}
-use Rattle.process_kernel.specs.Calls.{Calls, is_event}
+use Rattle.process_kernel.specs.Calls.{Calls, is_system_event}
 
 -- the callback of this timer runs as the process that the timer is of
 unfoldable pub callback_of : Calls → State → Event → Went
@@ -27,5 +27,5 @@ waits_for s timer = has_timer s timer && is_member timer s.callbacks
 -- a callback that waits for its timer is taken off the callback list and runs
 unfoldable pub ctimer_of : Calls → State → Event → Went
 ctimer_of calls s e =
-    if is_event Timer e && waits_for s e.word then callback_of calls (record s { callbacks = without_member e.word s.callbacks }) e
+    if is_system_event Timer e && waits_for s e.word then callback_of calls (record s { callbacks = without_member e.word s.callbacks }) e
     else Goes tt s

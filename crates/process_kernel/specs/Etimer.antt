@@ -9,7 +9,7 @@ use Rattle.mote_timers.specs.Timer.{is_due}
 use Rattle.mote_timers.specs.TimerLists.{timer_at, stop_timer, purge_timers}
 use Rattle.process_kernel.specs.State.{State, Went, Goes, ◌>>=◌}
 use Rattle.process_kernel.specs.Posts.{post_of, poll_of}
-use Rattle.process_kernel.specs.Calls.{told, is_event}
+use Rattle.process_kernel.specs.Calls.{told, is_system_event}
 
 -- the event of a timer was posted: it is off the timer list, and has no owner
 unfoldable pub fired_of : State → (timer : ℕ) → State
@@ -44,4 +44,4 @@ purge_of s p = if nat_lt p 256 then record s { timers = purge_timers s.timers (O
 
 unfoldable pub etimer_of : State → Event → Went
 etimer_of s e =
-    if is_event Poll e then pass_of s else (if is_event Exited e then Goes tt (purge_of s e.word) else Goes tt s)
+    if is_system_event Poll e then pass_of s else (if is_system_event Exited e then Goes tt (purge_of s e.word) else Goes tt s)

@@ -10,7 +10,7 @@ use Rattle.process_kernel.specs.declared.line.What.TheVariants as what
 use Rattle.process_kernel.specs.State.{State, Went, Goes, ◌>>=◌}
 use Rattle.process_kernel.specs.Posts.{post_of}
 use Rattle.process_kernel.specs.Writes.{write_of}
-use Rattle.process_kernel.specs.Calls.{is_event}
+use Rattle.process_kernel.specs.Calls.{is_system_event}
 
 -- a packet as an event: its value, and the mote that sent it
 abbrev pub packet_of : Arrival → Event
@@ -27,4 +27,4 @@ empty_ring receiver [] s = Goes tt s
 empty_ring receiver (a ∷ later) s = hand_to receiver (record s { ring = later }) a >>= λ _ s1. empty_ring receiver later s1
 
 unfoldable pub radio_of : State → Event → Went
-radio_of s e = if is_event Poll e then empty_ring s.program.receiver s.ring s else Goes tt s
+radio_of s e = if is_system_event Poll e then empty_ring s.program.receiver s.ring s else Goes tt s

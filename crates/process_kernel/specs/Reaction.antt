@@ -11,7 +11,7 @@ use Rattle.protothread.specs.declared.part.Part.TheVariants.{Body, OnPoll, OnExi
 use Rattle.protothread.specs.Remainder.{Remainder, fresh_of}
 use Rattle.process_kernel.specs.State.{State, Outcome, Went, Goes, ◌>>=◌}
 use Rattle.process_kernel.specs.ProcessList.{put_remainder, with_fresh_body}
-use Rattle.process_kernel.specs.Calls.{Calls, is_event}
+use Rattle.process_kernel.specs.Calls.{Calls, is_system_event}
 use Rattle.process_kernel.specs.Etimer.{etimer_of}
 use Rattle.process_kernel.specs.Ctimer.{ctimer_of}
 use Rattle.process_kernel.specs.Radio.{radio_of}
@@ -19,8 +19,8 @@ use Rattle.process_kernel.specs.Radio.{radio_of}
 -- the handler of the event, where it has one, runs from its beginning
 unfoldable pub handler_of : Calls → State → Code → (process : ℕ) → Event → Went
 handler_of calls s code p e =
-    if is_event Poll e then (calls.run s code (fresh_of code OnPoll) p e >>= λ _ s1. Goes tt s1)
-    else (if is_event Exit e then (calls.run s code (fresh_of code OnExit) p e >>= λ _ s1. Goes tt s1) else Goes tt s)
+    if is_system_event Poll e then (calls.run s code (fresh_of code OnPoll) p e >>= λ _ s1. Goes tt s1)
+    else (if is_system_event Exit e then (calls.run s code (fresh_of code OnExit) p e >>= λ _ s1. Goes tt s1) else Goes tt s)
 
 -- what the body has still to do
 abbrev pub remainder_at : State → Code → (process : ℕ) → Remainder

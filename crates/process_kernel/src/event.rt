@@ -1,7 +1,7 @@
 //! The kernel's own events.
 
 ghost use Rattle.std.specs.Prelude.{◌≡◌};
-ghost use Rattle.process_kernel.specs.Calls.{told, is_event as has_number_of};
+ghost use Rattle.process_kernel.specs.Calls.{told, is_system_event as has_number_of};
 
 use mote_program::{Event, SystemEvent};
 

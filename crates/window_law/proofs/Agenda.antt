@@ -5,7 +5,7 @@ use Rattle.std.proofs.lemmas.Bool.{cases_Bool, cases_order, lt-ltb, le-ltb, eq-e
 use Rattle.std.proofs.lemmas.List.{map-append}
 use Rattle.std.proofs.lemmas.List.Elements.{filter-append}
 use Rattle.radio_medium.specs.declared.copy.RadioCopy.{RadioCopy}
-use Rattle.window_law.specs.Agenda.{Item, Wake, Packet, is_due, is_wake_of, packets, wake_items, up_to}
+use Rattle.window_law.specs.Agenda.{Item, Wake, Packet, comes_at, is_wake_of, packets, wake_items, up_to}
 use Rattle.window_law.specs.Windows.{wakes_at}
 use Rattle.window_law.proofs.Lists.{is_filled, every_append, every_weaker}
 
@@ -13,7 +13,7 @@ or_true : (b : Bool) → (b || true) ≡ true
 or_true true = refl
 or_true false = refl
 
-pub any_own : (t m : ℕ) (wake : Option ℕ) → list_any {X = Item} (is_due t m) (wake_items m wake) ≡ wakes_at t wake
+pub any_own : (t m : ℕ) (wake : Option ℕ) → list_any {X = Item} (comes_at t m) (wake_items m wake) ≡ wakes_at t wake
 any_own t m None = refl
 any_own t m (Some u) = let f : eqb m m ≡ true = eq-eqb m m refl in elim (cases_Bool (eqb u t)) [ inl e ↦ rw (e, f) refl | inr e ↦ rw e refl ]
 
@@ -36,7 +36,7 @@ packets_wake m None = refl
 packets_wake m (Some u) = refl
 
 -- something is due: the wake, or a copy
-pub any_due : (t m : ℕ) (items : List Item) → list_any (is_due t m) items ≡ (list_any (is_due t m) (filter (is_wake_of m) items) || is_filled (packets (filter (is_due t m) items)))
+pub any_due : (t m : ℕ) (items : List Item) → list_any (comes_at t m) items ≡ (list_any (comes_at t m) (filter (is_wake_of m) items) || is_filled (packets (filter (comes_at t m) items)))
 any_due t m [] = refl
 any_due t m (Wake u k ∷ items) =
     let ih = any_due t m items in

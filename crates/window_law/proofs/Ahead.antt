@@ -6,7 +6,7 @@ use Rattle.std.proofs.lemmas.Bool.Decides.{nat_tests}
 use Rattle.process_kernel.specs.declared.line.Sent.{Sent}
 use Rattle.radio_medium.specs.declared.copy.RadioCopy.{RadioCopy}
 use Rattle.window_law.specs.System.{System, Turned, RunsForward, IsLater}
-use Rattle.window_law.specs.Agenda.{Item, Packet, moment_of, mote_of, is_due, is_wake_of, is_left, is_from, wake_items}
+use Rattle.window_law.specs.Agenda.{Item, Packet, moment_of, mote_of, comes_at, is_wake_of, is_left, is_from, wake_items}
 use Rattle.window_law.specs.NetStep.{NetState, stamped, turned_at, turn_at}
 use Rattle.window_law.proofs.Lists.{every_append, every_filter, every_map, every_weaker}
 
@@ -25,7 +25,7 @@ module _ {S L : Type 0} (system : System S L) (fine : RunsForward system) where
       → AllByRecursion (λ item. is_from t (suc m) item ≡ true) (turn_at system t m net).agenda
   turn_ahead t m net ahead =
       every_append _ (filter (is_left t m) net.agenda) _
-      (every_filter _ _ (is_left t m) (λ item g e. on_from t m (moment_of item) (mote_of item) g (left_not_due (is_due t m item) (is_wake_of m item) e)) net.agenda ahead)
+      (every_filter _ _ (is_left t m) (λ item g e. on_from t m (moment_of item) (mote_of item) g (left_not_due (comes_at t m item) (is_wake_of m item) e)) net.agenda ahead)
       (every_append _ (wake_items m next.wake) _ (new_wake next.wake (fine.wakes_later m _ t _)) (every_map _ Packet _ (each next.sends)))
     where
       next : Turned S L

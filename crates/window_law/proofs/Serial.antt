@@ -8,7 +8,7 @@ use Rattle.std.proofs.lemmas.List.Concat.{flat_map-append}
 use Rattle.process_kernel.specs.declared.line.Sent.{Sent}
 use Rattle.radio_medium.specs.declared.copy.RadioCopy.{RadioCopy}
 use Rattle.window_law.specs.System.{Turned, System, RunsForward, IsLater}
-use Rattle.window_law.specs.Agenda.{Item, Wake, Packet, is_due, is_left, is_wake_of, is_from, moment_of, mote_of, packets, wake_items, up_to}
+use Rattle.window_law.specs.Agenda.{Item, Wake, Packet, comes_at, is_left, is_wake_of, is_from, moment_of, mote_of, packets, wake_items, up_to}
 use Rattle.window_law.specs.NetStep.{NetState, Run, Done, Turn, put, after_turn, turn_at, boot, stamped, sends_of}
 use Rattle.window_law.specs.Order.{in_order}
 use Rattle.window_law.specs.Windows.{LoneMote, first_mote, after_own, wakes_at, is_within, is_from_sender, is_sent_by, sends_by, copies_by}
@@ -120,25 +120,25 @@ module _ {S L : Type 0} (system : System S L) (fine : RunsForward system) where
       ]
 
   -- the serial turn is given what the history gives
-  given_same : (t m : ℕ) (net : NetState S L) → Meets t m net → in_order (packets (filter (is_due t m) net.agenda)) ≡ given_at system t (history system t) m
+  given_same : (t m : ℕ) (net : NetState S L) → Meets t m net → in_order (packets (filter (comes_at t m) net.agenda)) ≡ given_at system t (history system t) m
   unfolding given_at
   given_same t m net meets =
       in_order_same _ _ (λ s.
-      ap (filter (is_from_sender s)) (packets_filter (is_due t m) net.agenda)
-      ∙ (filter_filter (is_from_sender s) (λ c. is_due t m (Packet c)) (packets net.agenda)
-      ∙ (ap (filter (λ c. is_due t m (Packet c))) (meets.copies s)
-      ∙ (filter_stronger (λ c. is_due t m (Packet c)) (is_ahead t m) (λ c e. due_is_from t m c.at c.to e) (copies_by system (mix t m) s)
-      ∙ (mix_unseen (λ c. is_due t m (Packet c)) t m (λ c e. let g = due_is_at t m c.at c.to e in let l = fine.some_lookahead in omega arith) s
-      ∙ (filter_agree (λ c. is_due t m (Packet c)) (is_within m t (suc t)) (λ c. due_is_for t m c.at c.to) (copies_by system (history system t) s)
+      ap (filter (is_from_sender s)) (packets_filter (comes_at t m) net.agenda)
+      ∙ (filter_filter (is_from_sender s) (λ c. comes_at t m (Packet c)) (packets net.agenda)
+      ∙ (ap (filter (λ c. comes_at t m (Packet c))) (meets.copies s)
+      ∙ (filter_stronger (λ c. comes_at t m (Packet c)) (is_ahead t m) (λ c e. due_is_from t m c.at c.to e) (copies_by system (mix t m) s)
+      ∙ (mix_unseen (λ c. comes_at t m (Packet c)) t m (λ c e. let g = due_is_at t m c.at c.to e in let l = fine.some_lookahead in omega arith) s
+      ∙ (filter_agree (λ c. comes_at t m (Packet c)) (is_within m t (suc t)) (λ c. due_is_for t m c.at c.to) (copies_by system (history system t) s)
       ∙ sym (from_given system fine (is_within m t (suc t)) t s)))))))
 
-  due_busy : (t m : ℕ) (net : NetState S L) → m < system.motes → Meets t m net → list_any (is_due t m) net.agenda ≡ is_busy system t (history system t) m
+  due_busy : (t m : ℕ) (net : NetState S L) → m < system.motes → Meets t m net → list_any (comes_at t m) net.agenda ≡ is_busy system t (history system t) m
   unfolding is_busy
   due_busy t m net h meets =
       any_due t m net.agenda
       ∙ ap₂ (λ a b. a || b)
-      (ap (list_any (is_due t m)) (meets.wakes m h) ∙ (any_own t m (mix t m m).wake ∙ ap (λ x. wakes_at t x.wake) (mix_from t m m (le_self m))))
-      (sym (filled_in_order (packets (filter (is_due t m) net.agenda))) ∙ ap is_filled (given_same t m net meets))
+      (ap (list_any (comes_at t m)) (meets.wakes m h) ∙ (any_own t m (mix t m m).wake ∙ ap (λ x. wakes_at t x.wake) (mix_from t m m (le_self m))))
+      (sym (filled_in_order (packets (filter (comes_at t m) net.agenda))) ∙ ap is_filled (given_same t m net meets))
 
   -- the place goes on, and nothing happens
   forward : (t m t' m' : ℕ) (net : NetState S L) → Meets t m net
@@ -182,7 +182,7 @@ module _ {S L : Type 0} (system : System S L) (fine : RunsForward system) where
   idle_step t m net h meets rest =
       forward t m t (suc m) net meets
       (λ k g. elim (cases_eq k m) [ inl e ↦ rw e (mix_before t (suc m) m (below m) ∙ (history_idle system t m rest ∙ sym (mix_from t m m (le_self m)))) | inr ne ↦ mix_next t m k ne ])
-      (every_not_any _ _ (is_due t m) (λ item g e. (on_from t m (moment_of item) (mote_of item) g.0 e, g.1)) net.agenda (due_busy t m net h meets ∙ rest) meets.ahead)
+      (every_not_any _ _ (comes_at t m) (λ item g e. (on_from t m (moment_of item) (mote_of item) g.0 e, g.1)) net.agenda (due_busy t m net h meets ∙ rest) meets.ahead)
       (λ u k. back_from t m u k)
       (past_on t m)
     where
@@ -306,7 +306,7 @@ module _ {S L : Type 0} (system : System S L) (fine : RunsForward system) where
     ahead_then : AllByRecursion (λ item. (is_from t (suc m) item ≡ true) × (mote_of item < system.motes)) after.agenda
     ahead_then =
         every_append _ (filter (is_left t m) net.agenda) _
-        (every_filter _ _ (is_left t m) (λ item g e. (on_from t m (moment_of item) (mote_of item) g.0 (left_not_due (is_due t m item) (is_wake_of m item) e), g.1)) net.agenda meets.ahead)
+        (every_filter _ _ (is_left t m) (λ item g e. (on_from t m (moment_of item) (mote_of item) g.0 (left_not_due (comes_at t m item) (is_wake_of m item) e), g.1)) net.agenda meets.ahead)
         (every_append _ (wake_items m turned.wake) _ (new_wake turned.wake later)
         (every_map _ Packet new (every_weaker _ _ (λ c g. (past_from t (suc m) c.at c.to (soon c.at g.2), g.1)) new new_copies)))
 

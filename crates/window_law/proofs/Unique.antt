@@ -3,7 +3,7 @@ use Rattle.std.proofs.Common.{◌≡◌, ℕ, ◌<◌, ◌≤◌, true, not, ◌
 use Rattle.std.specs.List.{AllByRecursion}
 use Rattle.std.proofs.lemmas.Bool.Decides.{nat_tests}
 use Rattle.window_law.specs.System.{System}
-use Rattle.window_law.specs.Agenda.{Item, IsLeast, is_due, moment_of, mote_of}
+use Rattle.window_law.specs.Agenda.{Item, IsLeast, comes_at, moment_of, mote_of}
 use Rattle.window_law.specs.NetStep.{NetState, Run, Done, Turn, turn_at}
 use Rattle.window_law.proofs.Lists.{any_every}
 
@@ -20,14 +20,14 @@ due_at : (t m u k : ℕ) → (eqb u t && eqb k m) ≡ true → u ≡ t
 due_at t m u k e = grind (arith, nat_tests)
 
 over : (t m t' m' : ℕ) (agenda : List Item) → IsLeast t m agenda → IsLeast t' m' agenda → (ltb t' t || (eqb t t' && not (ltb m m'))) ≡ true
-over t m t' m' agenda a b = any_every _ (is_due t m) _ (λ item e h. both_least t m t' m' (moment_of item) (mote_of item) e h) agenda a.is_there b.is_first
+over t m t' m' agenda a b = any_every _ (comes_at t m) _ (λ item e h. both_least t m t' m' (moment_of item) (mote_of item) e h) agenda a.is_there b.is_first
 
 pub least_is_one : (t m t' m' : ℕ) (agenda : List Item) → IsLeast t m agenda → IsLeast t' m' agenda → (t' ≡ t) × (m' ≡ m)
 least_is_one t m t' m' agenda a b = (one_moment t m t' m' (over t m t' m' agenda a b) (over t' m' t m agenda b a), one_mote t m t' m' (over t m t' m' agenda a b) (over t' m' t m agenda b a))
 
 module _ {S L : Type 0} (system : System S L) (end : ℕ) where
   not_both : (net : NetState S L) (t m : ℕ) → AllByRecursion (λ item. end < moment_of item) net.agenda → IsLeast t m net.agenda → t ≤ end → ⊥
-  not_both net t m h least le = any_every ⊥ (is_due t m) _ (λ item e k. let g = due_at t m (moment_of item) (mote_of item) e in absurd (omega arith)) net.agenda least.is_there h
+  not_both net t m h least le = any_every ⊥ (comes_at t m) _ (λ item e k. let g = due_at t m (moment_of item) (mote_of item) e in absurd (omega arith)) net.agenda least.is_there h
 
   pub run_is_one : {net a b : NetState S L} → Run system end net a → Run system end net b → b ≡ a
   run_is_one (Done h) (Done k) = refl

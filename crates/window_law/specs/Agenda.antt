@@ -16,8 +16,8 @@ abbrev pub mote_of : Item → ℕ
 mote_of (Wake moment mote) = mote
 mote_of (Packet copy) = copy.to
 
-abbrev pub is_due : (moment mote : ℕ) → Item → Bool
-is_due moment mote item = (moment_of item == moment) && (mote_of item == mote)
+abbrev pub comes_at : (moment mote : ℕ) → Item → Bool
+comes_at moment mote item = (moment_of item == moment) && (mote_of item == mote)
 
 abbrev pub is_wake_of : (mote : ℕ) → Item → Bool
 is_wake_of mote (Wake moment other) = other == mote
@@ -35,7 +35,7 @@ wake_items mote (Some moment) = Wake moment mote ∷ []
 
 -- what stays where this mote turns at this moment: all that isn't due, but for the mote's wake
 abbrev pub is_left : (moment mote : ℕ) → Item → Bool
-is_left moment mote item = not (is_due moment mote item || is_wake_of mote item)
+is_left moment mote item = not (comes_at moment mote item || is_wake_of mote item)
 
 -- not before this moment, and at this moment not before this mote
 abbrev pub is_from : (moment mote : ℕ) → Item → Bool
@@ -43,7 +43,7 @@ is_from moment mote item = nat_lt moment (moment_of item) || ((moment_of item ==
 
 -- the least moment and mote of an agenda
 pub record IsLeast (moment mote : ℕ) (agenda : List Item) : Type 0 where
-  pub is_there : list_any (is_due moment mote) agenda ≡ true
+  pub is_there : list_any (comes_at moment mote) agenda ≡ true
   pub is_first : AllByRecursion (λ item. is_from moment mote item ≡ true) agenda
 
 -- the numbers below n, from 0

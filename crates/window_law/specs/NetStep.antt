@@ -4,7 +4,7 @@ use Rattle.std.specs.List.{filter, flat_map, AllByRecursion}
 use Rattle.process_kernel.specs.declared.line.Sent.{Sent}
 use Rattle.window_law.specs.System.{Turned, System}
 use Rattle.window_law.specs.Order.{in_order}
-use Rattle.window_law.specs.Agenda.{Item, Wake, Packet, moment_of, is_due, is_left, packets, wake_items, IsLeast, up_to}
+use Rattle.window_law.specs.Agenda.{Item, Wake, Packet, moment_of, comes_at, is_left, packets, wake_items, IsLeast, up_to}
 
 -- the state and the trace of each mote, what is to come, and the packets that were sent, in order
 pub record NetState (S L : Type 0) : Type 0 where
@@ -40,7 +40,7 @@ after_turn system moment mote net turned = record {
 
 -- the turn of a mote on the copies that are due
 abbrev pub turned_at : {S L : Type 0} → System S L → (moment mote : ℕ) → NetState S L → Turned S L
-turned_at system moment mote net = system.turn mote (net.states mote) moment (in_order (packets (filter (is_due moment mote) net.agenda)))
+turned_at system moment mote net = system.turn mote (net.states mote) moment (in_order (packets (filter (comes_at moment mote) net.agenda)))
 
 -- the net after that turn
 abbrev pub turn_at : {S L : Type 0} → System S L → (moment mote : ℕ) → NetState S L → NetState S L

@@ -1,5 +1,5 @@
 -- Motes and the medium between them, whatever a mote is.
-use Rattle.std.specs.Prelude.{ℕ, ◌≡◌, ◌+◌, ◌<◌, ◌≤◌, List, Option, Some, None}
+use Rattle.std.specs.Prelude.{ℕ, ◌≡◌, ◌+◌, ◌<◌, ◌≤◌, List, Option, IfSome}
 use Rattle.std.specs.List.{AllByRecursion}
 use Rattle.process_kernel.specs.declared.line.Sent.{Sent}
 use Rattle.radio_medium.specs.declared.copy.RadioCopy.{RadioCopy}
@@ -20,8 +20,7 @@ pub record System (S L : Type 0) : Type 0 where
   pub lookahead : ℕ
 
 abbrev pub IsLater : (moment : ℕ) → (wake : Option ℕ) → Type 0
-IsLater moment None = Unit {0}
-IsLater moment (Some wake) = moment < wake
+IsLater moment wake = IfSome wake (λ later. moment < later)
 
 -- a copy of this packet for a mote of the net; from the packet's moment it takes the lookahead at least
 pub record IsCopyOf {S L : Type 0} (system : System S L) (sent : Sent) (copy : RadioCopy) : Type 0 where

@@ -9,8 +9,9 @@ use Rattle.radio_medium.specs.declared.copy.RadioCopy.{RadioCopy}
 use Rattle.window_law.specs.Order.{in_order}
 use Rattle.window_law.specs.System.{IsLater}
 use Rattle.window_law.specs.Windows.{is_at, WakesFrom, IsQuiet}
+use Rattle.net_agenda.specs.Buckets.{arrival_of}
 use Rattle.window_run.specs.Laws.{NoTurnIsPast}
-use Rattle.window_run.specs.Window.{arrival_of, turn_at}
+use Rattle.window_run.specs.Window.{window_after_turn}
 use Rattle.window_run.proofs.Ends.{not_before}
 
 later_copies : (m : ℕ) (xs : List RadioCopy) → AllByRecursion (λ copy. m ≤ copy.at) xs → AllByRecursion (λ copy. suc m ≤ copy.at) (filter (λ copy. not (is_at m copy)) xs)

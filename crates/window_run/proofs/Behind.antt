@@ -13,12 +13,14 @@ use Rattle.window_law.specs.Order.{in_order}
 use Rattle.window_law.specs.System.{System, Turned}
 use Rattle.window_law.specs.Windows.{is_at, Alone}
 use Rattle.window_law.specs.Windows.Alone.{Rests, Turns}
-use Rattle.window_run.specs.Laws.{behind, EarlierStaysInFront, EndsWithItsWake}
-use Rattle.window_run.specs.Window.{arrival_of, node_turn, Standing}
+use Rattle.net_agenda.specs.Buckets.{arrival_of}
+use Rattle.net_agenda.specs.NetSystem.{node_turn}
+use Rattle.window_run.specs.Laws.{with_earlier, EarlierStaysInFront, EndsWithItsWake}
+use Rattle.window_run.specs.Window.{LoneNode}
 use Rattle.window_run.proofs.Ends.{some_system}
 
 module _ (system : System Node Line) (number bound : ℕ) (lines : List Line) (sends : List Sent) where
-  alone_behind : {inbox : List RadioCopy} {mote last : Standing} → Alone system number bound inbox mote last → Alone system number bound inbox (behind lines sends mote) (behind lines sends last)
+  alone_behind : {inbox : List RadioCopy} {mote last : LoneNode} → Alone system number bound inbox mote last → Alone system number bound inbox (with_earlier lines sends mote) (with_earlier lines sends last)
   alone_behind (Rests quiet) = Rests quiet
   alone_behind {inbox} {mote} (Turns m quiet comes below rest) =
       let t = system.turn number mote.state m (in_order (filter (is_at m) inbox)) in
@@ -37,7 +39,7 @@ module _ (system : System Node Line) (turns : system.turn ≡ node_turn) (number
       let P : ((number : ℕ) → Node → (moment : ℕ) → List RadioCopy → Turned Node Line) → Type 0 = λ turn. (turn number n m given).wake ≡ wake_of (turn number n m given).state in
       subst P (sym turns) (turn_wakes m (map arrival_of given) n)
 
-  alone_wakes : {inbox : List RadioCopy} {mote last : Standing} → mote.wake ≡ wake_of mote.state → Alone system number bound inbox mote last → last.wake ≡ wake_of last.state
+  alone_wakes : {inbox : List RadioCopy} {mote last : LoneNode} → mote.wake ≡ wake_of mote.state → Alone system number bound inbox mote last → last.wake ≡ wake_of last.state
   alone_wakes wakes (Rests quiet) = wakes
   alone_wakes {inbox} {mote} wakes (Turns m quiet comes below rest) = alone_wakes (turned_wakes m (in_order (filter (is_at m) inbox)) mote.state) rest
 

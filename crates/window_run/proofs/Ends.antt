@@ -9,8 +9,8 @@ use Rattle.window_law.specs.Order.{in_order}
 use Rattle.window_law.specs.System.{System}
 use Rattle.window_law.specs.Windows.{LoneMote, own_turn, is_at, wakes_at, IsQuiet, Alone}
 use Rattle.window_law.specs.Windows.Alone.{Rests, Turns}
+use Rattle.net_agenda.specs.NetSystem.{node_turn}
 use Rattle.window_run.specs.Laws.{EndIsOne}
-use Rattle.window_run.specs.Window.{node_turn}
 
 any_copy : (k m : ℕ) (xs : List RadioCopy) → AllByRecursion (λ copy. k ≤ copy.at) xs → list_any (is_at m) xs ≡ true → k ≤ m
 any_copy k m [] g h = absurd (false≢true h)

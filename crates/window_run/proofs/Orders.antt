@@ -10,7 +10,8 @@ use Rattle.radio_medium.specs.declared.copy.RadioCopy.{RadioCopy}
 use Rattle.window_law.proofs.Lists.{filter_none, filter_every, every_weaker, every_filter}
 use Rattle.window_law.specs.Order.{is_before, insert_by, sorted_by, in_order}
 use Rattle.window_law.specs.Windows.{is_at, WakesFrom, IsQuiet}
-use Rattle.window_run.specs.Window.{arrival_of, IsNextOf, comes_before, is_rising}
+use Rattle.net_agenda.specs.Buckets.{arrival_of}
+use Rattle.window_run.specs.Window.{IsNextOf, comes_before, is_rising}
 
 module _ {X : Type 0} where
   every_of : (p : X → Bool) (xs : List X) → list_all p xs ≡ true → AllByRecursion (λ x. p x ≡ true) xs

@@ -11,38 +11,39 @@ use Rattle.window_law.specs.Order.{in_order}
 use Rattle.window_law.specs.System.{Turned}
 use Rattle.window_law.specs.Windows.{after_own, is_at, Alone}
 use Rattle.window_law.specs.Windows.Alone.{Rests, Turns}
+use Rattle.net_agenda.specs.Buckets.{arrival_of}
 use Rattle.window_run.specs.declared.out.WindowOut.{WindowOut}
-use Rattle.window_run.specs.Window.{Window, Standing, HasTurn, IsOver, turn_at, EndsAs, arrival_of, number_of}
+use Rattle.window_run.specs.Window.{Window, LoneNode, HasTurn, IsOver, window_after_turn, EndsAs, number_of}
 use Rattle.window_run.specs.Out.{shown, Gives}
 use Rattle.window_run.specs.declared.own.OwnWindow.{OwnWindow}
-use Rattle.window_run.specs.Own.{window_in, course_in, IsSpent, IsLeft, GivesNoMore}
+use Rattle.window_run.specs.Own.{window_in, course_in, IsSpent, StaysFailed, GivesNoMore}
 use Rattle.window_run.specs.Turns.{MayGive, MayAnswer, TurnsTo}
 
 pub at_rest : (old : Option OwnWindow) (own : OwnWindow) (out : WindowOut) → Some own ≡ old → IsSpent (course_in own)
-    → IfSome (window_in own) IsOver → IfSome (window_in own) (λ w. shown w.program out ≡ Some w.mote) → (window_in own ≡ None → IsLeft (course_in own) out) → MayGive old out
+    → IfSome (window_in own) IsOver → IfSome (window_in own) (λ w. shown w.program out ≡ Some w.mote) → (window_in own ≡ None → StaysFailed (course_in own) out) → MayGive old out
 at_rest old own out is spent over made left = rw (← is) (given (window_in own) over made left)
   where
-    given : (window : Option Window) → IfSome window IsOver → IfSome window (λ w. shown w.program out ≡ Some w.mote) → (window ≡ None → IsLeft (course_in own) out)
+    given : (window : Option Window) → IfSome window IsOver → IfSome window (λ w. shown w.program out ≡ Some w.mote) → (window ≡ None → StaysFailed (course_in own) out)
         → MatchOption window (GivesNoMore (course_in own) out) (λ w. Gives w out)
     given None over made left = record { spent = spent; left = left refl }
     given (Some w) over made left = record { last = w.mote; run = λ system turns. Rests over; given = made }
 
 -- a run goes on from a turn before it
-turn_before : (w v : Window) (moment : ℕ) (last : Standing) → HasTurn moment w → v ≡ turn_at moment w → EndsAs v last → EndsAs w last
+turn_before : (w v : Window) (moment : ℕ) (last : LoneNode) → HasTurn moment w → v ≡ window_after_turn moment w → EndsAs v last → EndsAs w last
 turn_before w v moment last left made run = λ system turns. (
     let given = in_order (filter (is_at moment) w.copies) in
     let number = number_of w.mote.state in
     let rest : List RadioCopy = filter (λ copy. not (is_at moment copy)) w.copies in
     let after = run_at made system turns in
-    let same : number_of (turn_at moment w).mote.state ≡ number = (turns_stamp moment (map arrival_of given) w.mote.state).mote in
-    let P : ℕ → Type 0 = λ k. Alone system k w.until rest (turn_at moment w).mote last in
+    let same : number_of (window_after_turn moment w).mote.state ≡ number = (turns_stamp moment (map arrival_of given) w.mote.state).mote in
+    let P : ℕ → Type 0 = λ k. Alone system k w.until rest (window_after_turn moment w).mote last in
     let Q : ((number : ℕ) → Node → (moment : ℕ) → List RadioCopy → Turned Node Line) → Type 0 = λ turn. Alone system number w.until rest (after_own moment number w.mote (turn number w.mote.state moment given)) last in
     Turns moment left.next.quiet left.next.comes left.in_window (subst Q (sym turns) (subst P same after)))
   where
-    run_at : v ≡ turn_at moment w → EndsAs (turn_at moment w) last
+    run_at : v ≡ window_after_turn moment w → EndsAs (window_after_turn moment w) last
     run_at e = subst (λ u. EndsAs u last) e run
 
-gives_before : (w v : Window) (moment : ℕ) (out : WindowOut) → HasTurn moment w → v ≡ turn_at moment w → Gives v out → Gives w out
+gives_before : (w v : Window) (moment : ℕ) (out : WindowOut) → HasTurn moment w → v ≡ window_after_turn moment w → Gives v out → Gives w out
 gives_before w v moment out left made g = record {
   last = g.last;
   run = turn_before w v moment g.last left made g.run;

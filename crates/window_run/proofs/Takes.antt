@@ -18,9 +18,10 @@ use Rattle.window_law.specs.NetStep.{stamped}
 use Rattle.window_law.specs.Windows.{is_at}
 use Rattle.mote_program.specs.Program.{tree_of}
 use Rattle.mote_node.specs.Public.{node_in}
+use Rattle.net_agenda.specs.Buckets.{arrival_of}
 use Rattle.window_run.specs.declared.own.OwnWindow.{OwnWindow}
 use Rattle.window_run.specs.Own.{window_in, window_over}
-use Rattle.window_run.specs.Window.{HasTurn, IsNextOf, IsOver, turn_at, arrival_of, number_of, is_rising}
+use Rattle.window_run.specs.Window.{HasTurn, IsNextOf, IsOver, window_after_turn, number_of, is_rising}
 use Rattle.window_run.specs.Turns.{TurnsTo}
 use Rattle.window_run.proofs.Orders.{IsTaken, taken, quiet_before}
 
@@ -36,7 +37,7 @@ stamped_is moment number (x ∷ xs) h =
 
 pub turned : (p : Tree) (until m : ℕ) (copies rest : List RadioCopy) (given : List Arrival) (wake : Option ℕ) (lines : List Line) (sends : List Sent) (n n' : Node) (out : TurnOut)
     → IsTaken m copies given → rest ≡ drop (length given) copies → turn_told out n' ≡ turn_of m given n
-    → window_over p until rest out.wake (lines ++ out.lines.items) (sends ++ out.sends.items) n' ≡ turn_at m (window_over p until copies wake lines sends n)
+    → window_over p until rest out.wake (lines ++ out.lines.items) (sends ++ out.sends.items) n' ≡ window_after_turn m (window_over p until copies wake lines sends n)
 turned p until m copies rest given wake lines sends n n' out took cut made =
     let stamp = stamped_is m (number_of n) (turn_of m given n).sends ((turns_stamp m given n).packets) in
     let at : turn_of m (map arrival_of (in_order (filter (is_at m) copies))) n ≡ turn_of m given n = sym (ap (λ g. turn_of m g n) took.given_is) in

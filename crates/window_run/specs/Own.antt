@@ -56,12 +56,12 @@ abbrev pub IsSpent : Course → Type 0
 IsSpent c = IsQuiet c.until c.wake c.copies
 
 -- what comes next comes at this moment, before the bound
-pub record Awaits (moment : ℕ) (c : Course) : Type 0 where
+pub record ComesNext (moment : ℕ) (c : Course) : Type 0 where
   pub next : IsNextOf moment c.wake c.copies
   pub in_window : moment < c.until
 
 -- a mote that has failed, with what it had before
-pub record IsLeft (c : Course) (out : WindowOut) : Type 0 where
+pub record StaysFailed (c : Course) (out : WindowOut) : Type 0 where
   pub failed : node_in c.program out.mote ≡ None
   pub wake : out.wake ≡ c.wake
   pub lines : out.lines.items ≡ c.lines
@@ -70,4 +70,4 @@ pub record IsLeft (c : Course) (out : WindowOut) : Type 0 where
 -- what a mote that had failed gives, to which nothing more comes
 pub record GivesNoMore (c : Course) (out : WindowOut) : Type 0 where
   pub spent : IsSpent c
-  pub left : IsLeft c out
+  pub left : StaysFailed c out

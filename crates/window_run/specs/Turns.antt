@@ -5,8 +5,8 @@ use Rattle.mote_node.specs.declared.mote.MoteError.TheVariants.{Failed, Memory, 
 use Rattle.mote_node.specs.Node.{is_past}
 use Rattle.window_run.specs.declared.out.WindowOut.{WindowOut}
 use Rattle.window_run.specs.declared.own.OwnWindow.{OwnWindow}
-use Rattle.window_run.specs.Own.{window_in, Course, course_in, Awaits, GivesNoMore}
-use Rattle.window_run.specs.Window.{Window, HasTurn, IsOver, turn_at}
+use Rattle.window_run.specs.Own.{window_in, Course, course_in, ComesNext, GivesNoMore}
+use Rattle.window_run.specs.Window.{Window, HasTurn, IsOver, window_after_turn}
 use Rattle.window_run.specs.Out.{shown, Gives}
 
 -- what a window that is not given up may give
@@ -20,7 +20,7 @@ MayAnswer own answer = IfOk answer (MayGive own)
 
 -- the window after the turn at this moment; a mote that had failed takes none
 abbrev pub TurnsTo : (moment : ℕ) → (old new : Option Window) → Type 0
-TurnsTo moment (Some old) (Some new) = new ≡ turn_at moment old
+TurnsTo moment (Some old) (Some new) = new ≡ window_after_turn moment old
 TurnsTo moment _ _ = ⊥
 
 -- the first turn of the window's run, and no more
@@ -44,7 +44,7 @@ IsRefusal e = (e ≡ Failed) ⊎ (e ≡ Memory)
 -- the error of the window's first turn; where the mote had failed, of the first that it was to take
 pub record IsFirstError (course : Course) (window : Option Window) (e : MoteError) : Type 0 where
   pub moment : ℕ
-  pub awaited : Awaits moment course
+  pub awaited : ComesNext moment course
   pub left : IfSome window (HasTurn moment)
   pub error : IfSome window (IsErrorAt moment e)
   pub refusal : window ≡ None → IsRefusal e

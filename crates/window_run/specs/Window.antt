@@ -1,36 +1,23 @@
 -- One mote alone in a window.
-use Rattle.std.specs.Prelude.{◌≡◌, ℕ, ◌<◌, Bool, true, not, ◌&&◌, ◌||◌, ◌==◌, nat_lt, List, [], ◌∷◌, map, Option, option_map}
+use Rattle.std.specs.Prelude.{◌≡◌, ℕ, ◌<◌, Bool, true, not, ◌&&◌, ◌||◌, ◌==◌, nat_lt, List, [], ◌∷◌, Option, option_map}
 use Rattle.std.specs.List.{filter, list_any, list_all}
 use Rattle.mote_program.specs.Code.{Tree}
-use Rattle.process_kernel.specs.declared.line.Arrival.{Arrival}
 use Rattle.process_kernel.specs.declared.line.Line.{Line}
 use Rattle.mote_node.specs.Node.{Node}
 use Rattle.mote_node.specs.Wake.{wake_of}
-use Rattle.mote_node.specs.Turn.{turn_of}
-use Rattle.mote_node.specs.Turn as node
 use Rattle.radio_medium.specs.declared.copy.RadioCopy.{RadioCopy}
-use Rattle.window_law.specs.System.{System, Turned}
+use Rattle.window_law.specs.System.{System}
 use Rattle.window_law.specs.Order.{in_order}
 use Rattle.window_law.specs.Windows.{LoneMote, after_own, is_at, wakes_at, IsQuiet, Alone}
-
--- what a mote is given of a copy
-abbrev pub arrival_of : RadioCopy → Arrival
-arrival_of copy = record { sender = copy.sender; number = copy.number; value = copy.value }
-
-abbrev pub turned_of : node.Turned → Turned Node Line
-turned_of t = record { state = t.node; lines = t.lines; sends = t.sends; wake = t.wake }
-
--- the turn of a mote on copies in order, in any net
-abbrev pub node_turn : (number : ℕ) → Node → (moment : ℕ) → List RadioCopy → Turned Node Line
-node_turn number n moment given = turned_of (turn_of moment (map arrival_of given) n)
+use Rattle.net_agenda.specs.NetSystem.{node_turn}
 
 -- a mote in its window: its node and its wake, with the lines and packets of the window so far
-abbrev pub Standing : Type 0
-Standing = LoneMote Node Line
+abbrev pub LoneNode : Type 0
+LoneNode = LoneMote Node Line
 
 -- before the window's first turn
-abbrev pub standing : Node → Standing
-standing n = record { state = n; wake = wake_of n; lines = []; sends = [] }
+abbrev pub lone_node : Node → LoneNode
+lone_node n = record { state = n; wake = wake_of n; lines = []; sends = [] }
 
 -- the number of the mote
 abbrev pub number_of : Node → ℕ
@@ -38,7 +25,7 @@ number_of n = n.mote.state.mote
 
 -- One mote alone with its copies, up to a bound: while the lesser of its wake and the least moment of a copy is below the bound, a
 -- turn there on all copies of that moment, in order of sender and number. It is the law's `Alone`, in whatever net the mote is.
-abbrev pub WindowRun : (number until : ℕ) → (copies : List RadioCopy) → (mote last : Standing) → Type 0
+abbrev pub WindowRun : (number until : ℕ) → (copies : List RadioCopy) → (mote last : LoneNode) → Type 0
 WindowRun number until copies mote last = (system : System Node Line) → system.turn ≡ node_turn → Alone system number until copies mote last
 
 -- a mote in its window, and the copies that are still to come; its program is this
@@ -46,10 +33,10 @@ pub record Window : Type 0 where
   pub program : Tree
   pub until : ℕ
   pub copies : List RadioCopy
-  pub mote : Standing
+  pub mote : LoneNode
 
 -- what the window may end as
-abbrev pub EndsAs : Window → Standing → Type 0
+abbrev pub EndsAs : Window → LoneNode → Type 0
 EndsAs window last = WindowRun (number_of window.mote.state) window.until window.copies window.mote last
 
 -- the lesser of the wake and the least copy's moment
@@ -70,14 +57,14 @@ pub record HasTurn (moment : ℕ) (window : Window) : Type 0 where
   pub in_window : moment < window.until
 
 -- what a mote is after its turn on these copies
-abbrev pub own_turn : (moment : ℕ) → Standing → (given : List RadioCopy) → Standing
-own_turn moment mote given = let number = number_of mote.state in after_own moment number mote (node_turn number mote.state moment given)
+abbrev pub lone_turn : (moment : ℕ) → LoneNode → (given : List RadioCopy) → LoneNode
+lone_turn moment mote given = let number = number_of mote.state in after_own moment number mote (node_turn number mote.state moment given)
 
 -- the window after the turn at this moment
-abbrev pub turn_at : (moment : ℕ) → Window → Window
-turn_at moment window = record window {
+abbrev pub window_after_turn : (moment : ℕ) → Window → Window
+window_after_turn moment window = record window {
   copies = filter (λ copy. not (is_at moment copy)) window.copies;
-  mote = own_turn moment window.mote (in_order (filter (is_at moment) window.copies));
+  mote = lone_turn moment window.mote (in_order (filter (is_at moment) window.copies));
 }
 
 -- by moment, then sender, then number; copies with the same of all three may stand in any order
@@ -91,4 +78,4 @@ is_rising (x ∷ xs) = list_all (comes_before x) xs && is_rising xs
 
 -- a window before its first turn; there is none for a mote that has failed
 abbrev pub opened : Tree → (until : ℕ) → (copies : List RadioCopy) → Option Node → Option Window
-opened program until copies mote = option_map (λ n. record { program = program; until = until; copies = copies; mote = standing n }) mote
+opened program until copies mote = option_map (λ n. record { program = program; until = until; copies = copies; mote = lone_node n }) mote

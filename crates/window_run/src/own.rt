@@ -5,7 +5,8 @@ ghost use Rattle.std.specs.List.{take_while};
 ghost use Rattle.mote_program.specs.Program.{tree_of};
 ghost use Rattle.mote_node.specs.Public.{node_in};
 ghost use Rattle.window_law.specs.Windows.{is_at};
-ghost use Rattle.window_run.specs.Window.{Window, HasTurn, IsOver, IsNextOf, arrival_of, is_rising, number_of, opened};
+ghost use Rattle.net_agenda.specs.Buckets.{arrival_of};
+ghost use Rattle.window_run.specs.Window.{Window, HasTurn, IsOver, IsNextOf, is_rising, number_of, opened};
 
 use crate::out::WindowOut;
 use mote_node::{Mote, MoteError, TurnOut};
@@ -48,7 +49,7 @@ impl Drop for OwnWindow<'_> {
 
 impl<'a> OwnWindow<'a> {
     ghost use Rattle.window_run.specs.Out.{shown};
-    ghost use Rattle.window_run.specs.Own.{window_in, course_in, course_of, IsSpent, Awaits, IsLeft};
+    ghost use Rattle.window_run.specs.Own.{window_in, course_in, course_of, IsSpent, ComesNext, StaysFailed};
     ghost use Rattle.window_run.specs.Turns.{TurnsTo, IsErrorAt, IsRefusal};
 
     /// The mote, with this program, before its first turn in the window. The copies are the mote's, each below `until`, in the
@@ -91,7 +92,7 @@ impl<'a> OwnWindow<'a> {
     /// The moment of the next turn, where one is left in the window.
     #[tactic(auto, unfolding(crate::specs::Own::window_in, crate::specs::Own::course_in))]
     pub fn next_moment(&self) -> Option<u64>
-        ensures comes { let c = course_in self.now in MatchOption result (IsSpent c) (λ moment. Awaits moment c) }
+        ensures comes { let c = course_in self.now in MatchOption result (IsSpent c) (λ moment. ComesNext moment c) }
         ensures next { IfSome (window_in self.now) (λ w. MatchOption result (IsOver w) (λ moment. HasTurn moment w)) }
         ensures early { IfSome result (λ moment. moment ≤ 2 ^ 40) }
     {
@@ -129,7 +130,7 @@ impl<'a> OwnWindow<'a> {
     #[tactic(auto, unfolding(crate::specs::Own::window_in, crate::specs::Own::course_in))]
     pub fn finish(self) -> WindowOut
         ensures made { IfSome (window_in self.entry) (λ w. shown w.program result ≡ Some w.mote) }
-        ensures left { window_in self.entry ≡ None → IsLeft (course_in self.entry) result }
+        ensures left { window_in self.entry ≡ None → StaysFailed (course_in self.entry) result }
     {
         let OwnWindow {
             alloc: _,

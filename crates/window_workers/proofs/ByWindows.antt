@@ -17,8 +17,8 @@ use Rattle.window_law.proofs.Lists.{every_weaker}
 use Rattle.window_law.proofs.Order.{sorted_permutes}
 use Rattle.net_agenda.specs.NetSystem.{system_of}
 use Rattle.net_report.specs.Report.{Packet, ReportTold}
-use Rattle.window_workers.specs.NetRun.{packet_of, told_at}
-use Rattle.window_workers.specs.Laws.{NetsRunForward, ReportIsThere, WindowsCommute}
+use Rattle.window_workers.specs.NetRun.{packet_with_fates, told_at}
+use Rattle.window_workers.specs.Laws.{NetsRunForward, ReportIsThere, WindowsCommuteInNets}
 use Rattle.window_workers.specs.Stamps.{sent_by}
 use Rattle.net_agenda.proofs.Systems.{system_is}
 use Rattle.window_workers.proofs.Stamps.{run_counts_up}
@@ -77,15 +77,15 @@ numbers_rise next (x ∷ xs) h = (later, numbers_rise (put next x.sender (next x
 abbrev told_of : List (List Line) → List Packet → ℕ → ReportTold
 told_of traces log left = record { traces = traces; log = log; left = left }
 
-pub windows_commute : WindowsCommute
+pub windows_commute : WindowsCommuteInNets
 unfolding system_of
 windows_commute n fault placed motes windows log is rest left = record {
   last = r.net;
   run = r.run;
   told =
-      ap (λ traces. told_of traces (map (packet_of n.radio) log) (length rest)) r.traces_are
-      ∙ (ap (λ l. told_of (map r.net.traces (up_to (length n.motes))) (map (packet_of n.radio) l) (length rest)) log_is
-      ∙ ap (told_of (map r.net.traces (up_to (length n.motes))) (map (packet_of n.radio) r.net.log)) r.left_is);
+      ap (λ traces. told_of traces (map (packet_with_fates n.radio) log) (length rest)) r.traces_are
+      ∙ (ap (λ l. told_of (map r.net.traces (up_to (length n.motes))) (map (packet_with_fates n.radio) l) (length rest)) log_is
+      ∙ ap (told_of (map r.net.traces (up_to (length n.motes))) (map (packet_with_fates n.radio) r.net.log)) r.left_is);
 }
   where
     r : IsReport (system_of n) n.end (map (λ number. (motes number).lines) (up_to (system_of n).motes)) (as_log is.joined) (length rest)

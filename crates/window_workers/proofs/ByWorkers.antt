@@ -29,8 +29,8 @@ use Rattle.worker_crew.proofs.Lookups.{there, read, zip_inside, zip_long}
 use Rattle.net_report.specs.declared.Report.{Report}
 use Rattle.net_report.specs.Report.{Packet, ReportTold, lines_in, told_line, report_of}
 use Rattle.window_workers.specs.Carried.{Pair, packets_told, HasCarried, AllCarried}
-use Rattle.window_workers.specs.NetRun.{packet_of, IsReportOf}
-use Rattle.window_workers.specs.Over.{EndsAs, logs_of, IsLogOf, AreTracesOf}
+use Rattle.window_workers.specs.NetRun.{packet_with_fates, IsReportOf}
+use Rattle.window_workers.specs.Over.{TellsWhatItKept, logs_of, IsLogOf, AreTracesOf}
 use Rattle.window_workers.proofs.ByWindows.{windows_commute}
 use Rattle.window_workers.proofs.Handed.{traces_hand_on}
 use Rattle.window_workers.proofs.Joined.{is_joined, is_report, left_is, takers_long, traces_are}
@@ -41,7 +41,7 @@ use Rattle.window_workers.proofs.Waiting.{taken_by_end}
 abbrev told_of : List (List Line) → List Packet → ℕ → ReportTold
 told_of traces log left = record { traces = traces; log = log; left = left }
 
-module _ (n : NetTold) (fault : medium_fault n.radio ≡ None) (placed : length n.radio.places ≡ length n.motes) (of : List ℕ) (crew : Crew) (at : IsAt n of (suc n.end) crew) (ended : List Ended) (ends : AllZip EndsAs crew.shares.items ended) where
+module _ (n : NetTold) (fault : medium_fault n.radio ≡ None) (placed : length n.radio.places ≡ length n.motes) (of : List ℕ) (crew : Crew) (at : IsAt n of (suc n.end) crew) (ended : List Ended) (ends : AllZip TellsWhatItKept crew.shares.items ended) where
   fine : RunsForward (system_of n)
   fine = system_is n fault placed
 
@@ -49,7 +49,7 @@ module _ (n : NetTold) (fault : medium_fault n.radio ≡ None) (placed : length 
   abbrev all_left : ℕ
   all_left = length (coming (system_of n) fine (suc n.end) at.motes)
 
-  by_windows : (log : List Packet) (is : IsLogOf n (logs_of ended) log) → IsReportOf n (told_of (map (λ number. (at.motes number).lines) (up_to (length n.motes))) (map (packet_of n.radio) is.sorted) all_left)
+  by_windows : (log : List Packet) (is : IsLogOf n (logs_of ended) log) → IsReportOf n (told_of (map (λ number. (at.motes number).lines) (up_to (length n.motes))) (map (packet_with_fates n.radio) is.sorted) all_left)
   by_windows log is = windows_commute n fault placed at.motes at.led is.sorted (record {
     joined = logs_of ended;
     is_joined = is_joined n fine of crew at ended ends;
@@ -65,7 +65,7 @@ module _ (n : NetTold) (fault : medium_fault n.radio ≡ None) (placed : length 
         told =
             ap (λ t. told_of t r.log r.left) traces
             ∙ (ap (λ l. told_of (map (λ number. (at.motes number).lines) (up_to (length n.motes))) l r.left) is.told
-            ∙ (ap (told_of (map (λ number. (at.motes number).lines) (up_to (length n.motes))) (map (packet_of n.radio) is.sorted)) left
+            ∙ (ap (told_of (map (λ number. (at.motes number).lines) (up_to (length n.motes))) (map (packet_with_fates n.radio) is.sorted)) left
             ∙ w.told));
       }
 

@@ -13,11 +13,11 @@ use Rattle.radio_medium.specs.declared.copy.RadioCopy.{RadioCopy}
 use Rattle.radio_medium.specs.Medium.{Radio, copies, copy_of, fates}
 use Rattle.net_scenario.specs.Net.{NetTold}
 use Rattle.window_law.specs.System.{System}
-use Rattle.window_law.specs.Agenda.{Item, Wake, Packet, moment_of, is_due, is_left, packets, wake_items, up_to}
+use Rattle.window_law.specs.Agenda.{Item, Wake, Packet, moment_of, comes_at, is_left, packets, wake_items, up_to}
 use Rattle.window_law.proofs.Agenda.{packets_append, packets_map, packets_wakes}
 use Rattle.net_agenda.specs.NetSystem.{system_of}
 use Rattle.net_report.specs.Report.{ReportTold}
-use Rattle.window_workers.specs.NetRun.{packet_of, IsReportOf}
+use Rattle.window_workers.specs.NetRun.{packet_with_fates, IsReportOf}
 use Rattle.window_law.specs.NetStep.{NetState, Run, Done, Turn, sends_of, turned_at, turn_at, boot}
 use Rattle.window_workers.specs.Counted.{is_after, is_late, LateCopiesStay, LeftIsCounted, FatesTellLeft}
 
@@ -33,14 +33,14 @@ after : (end at : ℕ) → end < at → ltb end at ≡ true
 after end at h = grind (arith, nat_tests)
 
 -- a turn leaves the copies that pass a test, where none of those that are due does
-still_there : (p : RadioCopy → Bool) (t m : ℕ) → ((c : RadioCopy) → is_due t m (Packet c) ≡ true → p c ≡ false) → (items : List Item) → filter p (packets (filter (is_left t m) items)) ≡ filter p (packets items)
+still_there : (p : RadioCopy → Bool) (t m : ℕ) → ((c : RadioCopy) → comes_at t m (Packet c) ≡ true → p c ≡ false) → (items : List Item) → filter p (packets (filter (is_left t m) items)) ≡ filter p (packets items)
 still_there p t m none [] = refl
 still_there p t m none (Wake u k ∷ items) =
     let ih = still_there p t m none items in
     elim (cases_Bool (is_left t m (Wake u k))) [ inl e ↦ rw e ih | inr e ↦ rw e ih ]
 still_there p t m none (Packet c ∷ items) =
     let ih = still_there p t m none items in
-    elim (cases_Bool (is_due t m (Packet c))) [
+    elim (cases_Bool (comes_at t m (Packet c))) [
       | inl e ↦ (let f : p c ≡ false = none c e in rw (e, f) ih)
       | inr e ↦ rw e (elim (cases_Bool (p c)) [ inl f ↦ rw f (ap (λ l. c ∷ l) ih) | inr f ↦ rw f ih ])
     ]
@@ -67,7 +67,7 @@ module _ {S L : Type 0} (system : System S L) where
   pub log-turn : (t m : ℕ) (net : NetState S L) → flat_map system.copies (turn_at system t m net).log ≡ flat_map system.copies net.log ++ more t m net
   log-turn t m net = flat_map-append system.copies net.log (sends_of t m (turned_at system t m net))
 
-  pub all_turn : (p : RadioCopy → Bool) (t m : ℕ) (net : NetState S L) → ((c : RadioCopy) → is_due t m (Packet c) ≡ true → p c ≡ false) → HasAll p net → HasAll p (turn_at system t m net)
+  pub all_turn : (p : RadioCopy → Bool) (t m : ℕ) (net : NetState S L) → ((c : RadioCopy) → comes_at t m (Packet c) ≡ true → p c ≡ false) → HasAll p net → HasAll p (turn_at system t m net)
   all_turn p t m net none has =
       ap (filter p) (packets-turn t m net)
       ∙ (filter-append p (packets (filter (is_left t m) net.agenda)) (more t m net)
@@ -106,15 +106,15 @@ module _ (radio : Radio) (end : ℕ) where
   unfolding copies
   packet_tells sent = fates_tell sent (fates radio sent)
 
-  log_tells : (log : List Sent) → length (filter (is_after end) (flat_map (copies radio) log)) ≡ length (filter (is_late end) (flat_map (λ packet. packet.fates) (map (packet_of radio) log)))
+  log_tells : (log : List Sent) → length (filter (is_after end) (flat_map (copies radio) log)) ≡ length (filter (is_late end) (flat_map (λ packet. packet.fates) (map (packet_with_fates radio) log)))
   log_tells [] = refl
   log_tells (sent ∷ log) =
       ap length (filter-append (is_after end) (copies radio sent) (flat_map (copies radio) log))
       ∙ (length-append (filter (is_after end) (copies radio sent)) (filter (is_after end) (flat_map (copies radio) log))
       ∙ (ap (λ k. k + length (filter (is_after end) (flat_map (copies radio) log))) (packet_tells sent)
       ∙ (ap (λ k. length (filter (is_late end) (fates radio sent)) + k) (log_tells log)
-      ∙ (sym (length-append (filter (is_late end) (fates radio sent)) (filter (is_late end) (flat_map (λ packet. packet.fates) (map (packet_of radio) log))))
-      ∙ ap length (sym (filter-append (is_late end) (fates radio sent) (flat_map (λ packet. packet.fates) (map (packet_of radio) log))))))))
+      ∙ (sym (length-append (filter (is_late end) (fates radio sent)) (filter (is_late end) (flat_map (λ packet. packet.fates) (map (packet_with_fates radio) log))))
+      ∙ ap length (sym (filter-append (is_late end) (fates radio sent) (flat_map (λ packet. packet.fates) (map (packet_with_fates radio) log))))))))
 
 pub fates_tell_left : FatesTellLeft
 fates_tell_left n r report =

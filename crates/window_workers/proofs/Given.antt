@@ -9,7 +9,7 @@ use Rattle.std.proofs.lemmas.List.Sorted.{IsPermutation-refl, IsPermutation-sym,
 use Rattle.radio_medium.specs.declared.copy.RadioCopy.{RadioCopy}
 use Rattle.net_scenario.specs.Net.{NetTold}
 use Rattle.window_law.specs.System.{System}
-use Rattle.window_law.specs.Agenda.{Item, Wake, Packet, moment_of, is_due, is_left, packets, up_to}
+use Rattle.window_law.specs.Agenda.{Item, Wake, Packet, moment_of, comes_at, is_left, packets, up_to}
 use Rattle.window_law.specs.Order.{in_order}
 use Rattle.window_law.proofs.Agenda.{packets_wakes}
 use Rattle.window_law.proofs.Order.{sorted_permutes}
@@ -26,20 +26,20 @@ late_is_not_by end at h = grind (arith, nat_tests)
 
 -- what is due, and what is left
 split : (end t m : ℕ) (items : List Item) → t ≤ end
-    → IsPermutation (filter (is_by end) (packets items)) (packets (filter (is_due t m) items) ++ filter (is_by end) (packets (filter (is_left t m) items)))
+    → IsPermutation (filter (is_by end) (packets items)) (packets (filter (comes_at t m) items) ++ filter (is_by end) (packets (filter (is_left t m) items)))
 split end t m [] h = IsPermutation-refl []
 split end t m (Wake u k ∷ items) h =
     let ih = split end t m items h in
-    elim (cases_Bool (is_due t m (Wake u k))) [
+    elim (cases_Bool (comes_at t m (Wake u k))) [
       | inl e ↦ rw e ih
       | inr e ↦ rw e (elim (cases_Bool (eqb k m)) [ inl f ↦ rw f ih | inr f ↦ rw f ih ])
     ]
 split end t m (Packet c ∷ items) h =
     let ih = split end t m items h in
-    elim (cases_Bool (is_due t m (Packet c))) [
+    elim (cases_Bool (comes_at t m (Packet c))) [
       | inl e ↦ (let f : is_by end c ≡ true = due_is_by end t m c.at c.to h e in rw (e, f) (IsPermutation-cons c _ _ ih))
       | inr e ↦ rw e (elim (cases_Bool (is_by end c)) [
-        | inl f ↦ rw f (IsPermutation-trans _ _ _ (IsPermutation-cons c _ _ ih) (IsPermutation-sym _ _ (IsPermutation-middle (packets (filter (is_due t m) items)) c _)))
+        | inl f ↦ rw f (IsPermutation-trans _ _ _ (IsPermutation-cons c _ _ ih) (IsPermutation-sym _ _ (IsPermutation-middle (packets (filter (comes_at t m) items)) c _)))
         | inr f ↦ rw f ih
       ])
     ]
@@ -58,7 +58,7 @@ module _ {S L : Type 0} (system : System S L) (end : ℕ) where
   HasGiven given net = IsPermutation (by (flat_map system.copies net.log)) (given ++ by (packets net.agenda))
 
   abbrev due_at : (t m : ℕ) → NetState S L → List RadioCopy
-  due_at t m net = in_order (packets (filter (is_due t m) net.agenda))
+  due_at t m net = in_order (packets (filter (comes_at t m) net.agenda))
 
   given_turn : (t m : ℕ) (net : NetState S L) (given : List RadioCopy) → t ≤ end → HasGiven given net → HasGiven (given ++ due_at t m net) (turn_at system t m net)
   given_turn t m net given le has =
@@ -77,7 +77,7 @@ module _ {S L : Type 0} (system : System S L) (end : ℕ) where
 
       taken : IsPermutation (by (packets net.agenda)) (due_at t m net ++ left)
       taken = IsPermutation-trans _ _ _ (split end t m net.agenda le)
-          (IsPermutation-append_left left _ _ (sorted_permutes (λ copy. copy.sender) (λ copy. copy.number) (packets (filter (is_due t m) net.agenda))))
+          (IsPermutation-append_left left _ _ (sorted_permutes (λ copy. copy.sender) (λ copy. copy.number) (packets (filter (comes_at t m) net.agenda))))
 
       rest : (given ++ (due_at t m net ++ left)) ++ by new ≡ (given ++ due_at t m net) ++ by (packets (turn_at system t m net).agenda)
       rest =
@@ -105,19 +105,19 @@ due_in_time t m at to e = let parts = and_parts (eqb at t) (eqb to m) e in (eqb-
 abbrev IsInTime : (t m : ℕ) → RadioCopy → Type 0
 IsInTime t m copy = (copy.at ≡ t) × (copy.to ≡ m)
 
-in_time : (t m : ℕ) (items : List Item) → AllByRecursion (IsInTime t m) (packets (filter (is_due t m) items))
+in_time : (t m : ℕ) (items : List Item) → AllByRecursion (IsInTime t m) (packets (filter (comes_at t m) items))
 in_time t m [] = tt
 in_time t m (Wake u k ∷ items) =
     let ih = in_time t m items in
-    elim (cases_Bool (is_due t m (Wake u k))) [ inl e ↦ rw e ih | inr e ↦ rw e ih ]
+    elim (cases_Bool (comes_at t m (Wake u k))) [ inl e ↦ rw e ih | inr e ↦ rw e ih ]
 in_time t m (Packet c ∷ items) =
     let ih = in_time t m items in
-    elim (cases_Bool (is_due t m (Packet c))) [ inl e ↦ rw e (due_in_time t m c.at c.to e, ih) | inr e ↦ rw e ih ]
+    elim (cases_Bool (comes_at t m (Packet c))) [ inl e ↦ rw e (due_in_time t m c.at c.to e, ih) | inr e ↦ rw e ih ]
 
 run_in_time : {S L : Type 0} {system : System S L} {end : ℕ} {net last : NetState S L} (run : Run system end net last) → AllByRecursion IsGivenInTime (turns run)
 run_in_time (Done h) = tt
 run_in_time {net = net} (Turn t m least le run) =
-    let cs = packets (filter (is_due t m) net.agenda) in
+    let cs = packets (filter (comes_at t m) net.agenda) in
     let given = All-permutation (IsInTime t m) cs (in_order cs) (sorted_permutes (λ copy. copy.sender) (λ copy. copy.number) cs) (All-from_recursion (IsInTime t m) cs (in_time t m net.agenda)) in
     (recursion_from_All (IsInTime t m) (in_order cs) given, run_in_time run)
 

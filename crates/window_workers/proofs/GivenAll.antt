@@ -5,7 +5,7 @@ use Rattle.std.proofs.lemmas.Bool.Decides.{nat_tests}
 use Rattle.std.proofs.lemmas.List.Elements.{filter-append}
 use Rattle.radio_medium.specs.declared.copy.RadioCopy.{RadioCopy}
 use Rattle.window_law.specs.System.{System, RunsForward}
-use Rattle.window_law.specs.Agenda.{Item, Wake, Packet, moment_of, mote_of, is_due, is_left, is_from, packets, IsLeast, up_to}
+use Rattle.window_law.specs.Agenda.{Item, Wake, Packet, moment_of, mote_of, comes_at, is_left, is_from, packets, IsLeast, up_to}
 use Rattle.window_law.specs.Order.{in_order}
 use Rattle.net_agenda.specs.NetSystem.{system_of}
 use Rattle.window_law.specs.NetStep.{NetState, Run, Done, Turn, turn_at}
@@ -43,7 +43,7 @@ none_for t m (Wake u k ∷ items) h = none_for t m items h.1
 none_for t m (Packet c ∷ items) h = let f : is_for t m c ≡ false = not_for t m c.at c.to h.0 in rw f (none_for t m items h.1)
 
 first_from : (t m u k : ℕ) (agenda : List Item) → IsLeast u k agenda → AllByRecursion (λ item. is_from t m item ≡ true) agenda → is_from t m (Wake u k) ≡ true
-first_from t m u k agenda least from = any_every _ (is_due u k) _ (λ item e h. due_from t m u k (moment_of item) (mote_of item) e h) agenda least.is_there from
+first_from t m u k agenda least from = any_every _ (comes_at u k) _ (λ item e h. due_from t m u k (moment_of item) (mote_of item) e h) agenda least.is_there from
 
 boot_from : (ks : List ℕ) → AllByRecursion (λ item. is_from 0 0 item ≡ true) (map (λ mote. Wake 0 mote) ks)
 boot_from [] = tt
@@ -85,7 +85,7 @@ module _ {S L : Type 0} (system : System S L) (fine : RunsForward system) where
   given_all {net = net} (Turn u k least le run) t m from has =
       let here = first_from t m u k net.agenda least from in
       let next = turn_ahead system fine u k net least.is_first in (
-        ap in_order (packets_filter (is_due u k) net.agenda ∙ (has u k here ∙ sym (same_later run u k next ∙ same_log u k u k net next))),
+        ap in_order (packets_filter (comes_at u k) net.agenda ∙ (has u k here ∙ sym (same_later run u k next ∙ same_log u k u k net next))),
         given_all run u (suc k) next (λ v j h. all_turn system (is_for v j) u k net (λ c e. not_both u k v j c.at c.to h e) (has v j (still_from t m u k v j here h))),
       )
 

@@ -24,14 +24,14 @@ use Rattle.worker_cut.proofs.Counts.{IsHad, by_worker, total}
 use Rattle.worker_cut.proofs.Windows.{at_the_end, coming, receivers}
 use Rattle.worker_share.specs.declared.share.Share.{Share}
 use Rattle.worker_share.specs.declared.share.Ended.{Ended}
-use Rattle.worker_share.specs.Ended.{Tells}
+use Rattle.worker_share.specs.Ended.{TellsAtEnd}
 use Rattle.worker_crew.specs.declared.crew.Crew.{Crew}
 use Rattle.worker_crew.specs.Crew.{IsAt, IsWorkerAt}
 use Rattle.worker_crew.proofs.Lookups.{there, inside, read, beside, as_long, none_of, one_of}
 use Rattle.worker_crew.proofs.Step.{own_by, some_worker}
 use Rattle.net_report.specs.Report.{lines_in}
 use Rattle.window_workers.specs.Carried.{Pair}
-use Rattle.window_workers.specs.Over.{EndsAs, logs_of, HasFates, AreTracesOf}
+use Rattle.window_workers.specs.Over.{TellsWhatItKept, logs_of, HasFates, AreTracesOf}
 use Rattle.window_workers.proofs.Pairs.{beyond, each_permutes, same_found}
 use Rattle.window_workers.proofs.Reports.{family}
 use Rattle.window_workers.proofs.Sums.{two_sums}
@@ -62,7 +62,7 @@ nobody of s i h = ap (λ o. option_map_or (λ w. eqb w i) o false) (beyond of s 
 not_mine : (of : List ℕ) (s w i : ℕ) → slice_get of s ≡ Some w → (i ≡ w → ⊥) → is_own of i s ≡ false
 not_mine of s w i e ne = ap (λ o. option_map_or (λ w. eqb w i) o false) e ∙ ne_eqb w i (λ q. ne (sym q))
 
-module _ (n : NetTold) (fine : RunsForward (system_of n)) (of : List ℕ) (crew : Crew) (at : IsAt n of (suc n.end) crew) (ended : List Ended) (ends : AllZip EndsAs crew.shares.items ended) where
+module _ (n : NetTold) (fine : RunsForward (system_of n)) (of : List ℕ) (crew : Crew) (at : IsAt n of (suc n.end) crew) (ended : List Ended) (ends : AllZip TellsWhatItKept crew.shares.items ended) where
   abbrev workers : ℕ
   workers = length crew.inboxes.items
 
@@ -72,10 +72,10 @@ module _ (n : NetTold) (fine : RunsForward (system_of n)) (of : List ℕ) (crew 
     taker : TakerView
     taker_at : slice_get crew.takers.items v ≡ Some taker
     here : IsWorkerAt n of (suc n.end) at.motes crew.first_out v share taker
-    tells : Tells n of v (suc n.end) at.motes (taken_by taker) one
+    tells : TellsAtEnd n of v (suc n.end) at.motes (taken_by taker) one
 
   pub ended_long : length ended ≡ workers
-  ended_long = as_long EndsAs crew.shares.items ended ends ∙ at.shares
+  ended_long = as_long TellsWhatItKept crew.shares.items ended ends ∙ at.shares
 
   pub takers_long : length crew.takers.items ≡ workers
   takers_long = as_long _ crew.inboxes.items crew.takers.items at.settled
@@ -85,7 +85,7 @@ module _ (n : NetTold) (fine : RunsForward (system_of n)) (of : List ℕ) (crew 
       let h : v < workers = subst (λ l. v < l) ended_long (inside ended v one e) in
       let s = there crew.shares.items v (subst (λ l. v < l) (sym at.shares) h) in
       let t = there crew.takers.items v (subst (λ l. v < l) (sym takers_long) h) in
-      let o = beside EndsAs crew.shares.items ended ends v s.0 s.1 in
+      let o = beside TellsWhatItKept crew.shares.items ended ends v s.0 s.1 in
       let is_here : IsWorkerAt n of (suc n.end) at.motes crew.first_out v s.0 t.0 =
       subst (λ x. IsWorkerAt n of (suc n.end) at.motes crew.first_out v x t.0) (read crew.shares.items v s.0 s.0 s.1)
       (subst (λ x. IsWorkerAt n of (suc n.end) at.motes crew.first_out v (get_or crew.shares.items v s.0) x) (read crew.takers.items v t.0 t.0 t.1) (at.each v h s.0 t.0)) in
@@ -94,7 +94,7 @@ module _ (n : NetTold) (fine : RunsForward (system_of n)) (of : List ℕ) (crew 
         taker = t.0;
         taker_at = t.1;
         here = is_here;
-        tells = subst (Tells n of v (suc n.end) at.motes (taken_by t.0)) (same_found ended v o.0 one o.1 e) (o.2 n of v (suc n.end) at.motes (taken_by t.0) is_here.keeps);
+        tells = subst (TellsAtEnd n of v (suc n.end) at.motes (taken_by t.0)) (same_found ended v o.0 one o.1 e) (o.2 n of v (suc n.end) at.motes (taken_by t.0) is_here.keeps);
       }
 
   -- ---- packets

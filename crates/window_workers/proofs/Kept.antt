@@ -12,12 +12,12 @@ use Rattle.mote_node.specs.Turn.{turn_of}
 use Rattle.mote_node.specs.Wake.{wake_of}
 use Rattle.net_scenario.specs.Net.{NetTold}
 use Rattle.window_law.specs.System.{Turned, RunsForward}
-use Rattle.window_law.specs.Agenda.{Item, Packet, mote_of, is_due, is_wake_of, is_left, wake_items}
+use Rattle.window_law.specs.Agenda.{Item, Packet, mote_of, comes_at, is_wake_of, is_left, wake_items}
 use Rattle.window_law.proofs.Agenda.{no_wake_in_packets, own_wake, other_wake}
 use Rattle.net_agenda.specs.Buckets.{wake_but_at}
 use Rattle.window_law.specs.NetStep.{NetState, stamped, sends_of, turned_at, turn_at}
 use Rattle.net_agenda.specs.NetSystem.{system_of}
-use Rattle.window_workers.specs.Stands.{IsKept}
+use Rattle.window_workers.specs.Stands.{KeepsWakes}
 use Rattle.window_law.proofs.Lists.{filter_filter, every_append, every_filter, every_map, every_weaker}
 
 -- the mote's wake goes with its turn, another's stays
@@ -35,7 +35,7 @@ wake_stays t m k (Some u) ne = let g : not ((eqb u t && eqb k m) || eqb k m) ≡
     stays : (u t k m : ℕ) → eqb k m ≡ false → not ((eqb u t && eqb k m) || eqb k m) ≡ true
     stays u t k m e = grind (arith, nat_tests)
 
-pub wake_later : (t m : ℕ) (wake : Option ℕ) → filter (λ item. not (is_due t m item)) (wake_items m wake) ≡ wake_items m (wake_but_at t wake)
+pub wake_later : (t m : ℕ) (wake : Option ℕ) → filter (λ item. not (comes_at t m item)) (wake_items m wake) ≡ wake_items m (wake_but_at t wake)
 wake_later t m None = refl
 wake_later t m (Some u) =
     let f : eqb m m ≡ true = eq-eqb m m refl in
@@ -53,7 +53,7 @@ module _ (n : NetTold) where
   unfolding system_of
   count = refl
 
-  pub kept_turn : (fine : RunsForward (system_of n)) (t m : ℕ) (net : NetState Node Line) → m < length n.motes → IsKept n net → IsKept n (turn_at (system_of n) t m net)
+  pub kept_turn : (fine : RunsForward (system_of n)) (t m : ℕ) (net : NetState Node Line) → m < length n.motes → KeepsWakes n net → KeepsWakes n (turn_at (system_of n) t m net)
   kept_turn fine t m net there kept = record {
     wakes = λ k h.
         filter-append (is_wake_of k) (filter (is_left t m) net.agenda) (wake_items m next.wake ++ more)

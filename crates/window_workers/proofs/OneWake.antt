@@ -5,7 +5,7 @@ use Rattle.std.proofs.lemmas.Bool.{cases_eq, and_parts}
 use Rattle.std.proofs.lemmas.List.Elements.{filter-append}
 use Rattle.std.proofs.lemmas.List.Filters.{length-filter_both}
 use Rattle.radio_medium.specs.declared.copy.RadioCopy.{RadioCopy}
-use Rattle.window_law.specs.Agenda.{Item, Wake, Packet, is_due, is_left, is_wake_of, wake_items}
+use Rattle.window_law.specs.Agenda.{Item, Wake, Packet, comes_at, is_left, is_wake_of, wake_items}
 use Rattle.window_law.specs.NetStep.{NetState, Run, Done, Turn, boot, turned_at, sends_of}
 use Rattle.window_law.specs.System.{System}
 use Rattle.window_law.proofs.Agenda.{first_wakes, no_wake_in_packets, other_wake}
@@ -31,11 +31,11 @@ differ items one t m =
   where
     of_mote : (x : Item) → is_wake_at t m x ≡ true → is_wake_of m x ≡ true
     of_mote (Wake u k) e = (and_parts (eqb u t) (eqb k m) ((and_parts (eqb u t && eqb k m) true e).0)).1
-    of_mote (Packet c) e = (and_parts (is_due t m (Packet c)) false e).1
+    of_mote (Packet c) e = (and_parts (comes_at t m (Packet c)) false e).1
 
 -- a turn takes the mote's wake out
 none_left : (t m : ℕ) (items : List Item) → filter (is_wake_of m) (filter (is_left t m) items) ≡ []
-none_left t m items = filter_both (is_wake_of m) (is_left t m) (λ x. false) (λ x. never (is_due t m x) (is_wake_of m x)) items ∙ filter_never items
+none_left t m items = filter_both (is_wake_of m) (is_left t m) (λ x. false) (λ x. never (comes_at t m x) (is_wake_of m x)) items ∙ filter_never items
   where
     never : (d w : Bool) → false ≡ (not (d || w) && w)
     never true w = refl

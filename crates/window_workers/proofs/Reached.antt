@@ -8,32 +8,32 @@ use Rattle.mote_node.specs.Node.{Node}
 use Rattle.net_scenario.specs.Net.{NetTold}
 use Rattle.window_workers.specs.declared.engine.Engine.{Engine}
 use Rattle.window_law.specs.System.{RunsForward}
-use Rattle.window_law.specs.Agenda.{Wake, moment_of, mote_of, is_due, wake_items, IsLeast, up_to}
+use Rattle.window_law.specs.Agenda.{Wake, moment_of, mote_of, comes_at, wake_items, IsLeast, up_to}
 use Rattle.window_law.proofs.Agenda.{first_wakes, below_all}
 use Rattle.net_agenda.specs.NetSystem.{system_of}
 use Rattle.window_law.specs.NetStep.{NetState, Done, Turn, boot, turn_at}
-use Rattle.window_workers.specs.Stands.{Stands, IsKept}
+use Rattle.window_workers.specs.Stands.{StandsAt, KeepsWakes}
 use Rattle.window_workers.specs.Ended.{HasReached, HasEnded}
 use Rattle.window_law.proofs.Lists.{any_every, every_weaker, every_map}
 use Rattle.window_workers.proofs.Kept.{kept_turn}
 use Rattle.net_agenda.proofs.NewWakes.{new_wakes}
 
-kept_first : (n : NetTold) → IsKept n (boot (system_of n))
+kept_first : (n : NetTold) → KeepsWakes n (boot (system_of n))
 unfolding system_of
 kept_first n = record {
   wakes = λ k h. first_wakes (length n.motes) k ∙ (let e = lt-ltb k (length n.motes) h in rw e (ap (wake_items k) (sym (new_wakes n k))));
   inside = every_map _ (λ mote. Wake 0 mote) (up_to (length n.motes)) (below_all (length n.motes));
 }
 
-pub reached_first : (n : NetTold) (engine : Engine) → Stands n engine (boot (system_of n)) → HasReached n engine
+pub reached_first : (n : NetTold) (engine : Engine) → StandsAt n engine (boot (system_of n)) → HasReached n engine
 reached_first n engine at = record { state = boot (system_of n); stands = at; kept = kept_first n; led = λ last r. r }
 
-pub inside_least : (n : NetTold) (t m : ℕ) (state : NetState Node Line) → IsKept n state → IsLeast t m state.agenda → m < length n.motes
+pub inside_least : (n : NetTold) (t m : ℕ) (state : NetState Node Line) → KeepsWakes n state → IsLeast t m state.agenda → m < length n.motes
 inside_least n t m state kept least =
-    any_every _ (is_due t m) _ (λ item e g. let k = eqb-true (mote_of item) m (and_parts (eqb (moment_of item) t) (eqb (mote_of item) m) e).1 in omega arith) state.agenda least.is_there kept.inside
+    any_every _ (comes_at t m) _ (λ item e g. let k = eqb-true (mote_of item) m (and_parts (eqb (moment_of item) t) (eqb (mote_of item) m) e).1 in omega arith) state.agenda least.is_there kept.inside
 
 pub reached_next : (n : NetTold) → RunsForward (system_of n) → (old new : Engine) (t m end : ℕ) → end ≡ n.end → (at : HasReached n old) → IsLeast t m at.state.agenda → t ≤ end
-    → ((state : NetState Node Line) → Stands n old state → IsKept n state → Stands n new (turn_at (system_of n) t m state)) → HasReached n new
+    → ((state : NetState Node Line) → StandsAt n old state → KeepsWakes n state → StandsAt n new (turn_at (system_of n) t m state)) → HasReached n new
 reached_next n fine old new t m end e at least le turn = record {
   state = turn_at (system_of n) t m at.state;
   stands = turn at.state at.stands at.kept;

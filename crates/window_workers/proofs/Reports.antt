@@ -11,7 +11,7 @@ use Rattle.net_report.specs.declared.Report.{Report}
 use Rattle.net_report.specs.Report.{Packet, ReportTold, lines_in, told_line, report_of}
 use Rattle.window_workers.specs.declared.engine.Engine.{Engine}
 use Rattle.window_law.specs.Agenda.{packets, up_to}
-use Rattle.window_workers.specs.NetRun.{packet_of, told_at, IsReportOf}
+use Rattle.window_workers.specs.NetRun.{packet_with_fates, told_at, IsReportOf}
 use Rattle.window_workers.specs.Stands.{IsWhole}
 use Rattle.window_workers.specs.Ended.{HasEnded}
 use Rattle.window_workers.proofs.Handed.{traces_hand_on}
@@ -46,7 +46,7 @@ report_is n engine report whole at traces log left = record {
       ap (λ (v : Vec (Vec Line Global) Global). told_of (map lines_in v.items) (map told_line report.medium.items) report.left) traces
       ∙ (ap (λ l. told_of l (map told_line report.medium.items) report.left) all
       ∙ (ap (λ l. told_of (map at.last.traces (up_to (length n.motes))) l report.left) (ap (λ v. map told_line v.items) log ∙ at.stands.log)
-      ∙ ap (told_of (map at.last.traces (up_to (length n.motes))) (map (packet_of n.radio) at.last.log)) left));
+      ∙ ap (told_of (map at.last.traces (up_to (length n.motes))) (map (packet_with_fates n.radio) at.last.log)) left));
 }
   where
     all : map lines_in engine.traces.items ≡ map at.last.traces (up_to (length n.motes))

@@ -17,10 +17,10 @@ use Rattle.mote_node.proofs.WakeLaws.{wakes_later}
 use Rattle.radio_medium.proofs.Copies.{copies_later}
 use Rattle.net_scenario.specs.Net.{NetTold}
 use Rattle.window_law.specs.System.{Turned, IsLater}
-use Rattle.window_law.specs.Agenda.{Item, Packet, moment_of, mote_of, is_due, is_left, is_from, wake_items, IsLeast, up_to}
+use Rattle.window_law.specs.Agenda.{Item, Packet, moment_of, mote_of, comes_at, is_left, is_from, wake_items, IsLeast, up_to}
 use Rattle.net_agenda.specs.NetSystem.{system_of, mote_at}
 use Rattle.net_report.specs.Report.{ReportTold, Packet as OfReport}
-use Rattle.window_workers.specs.NetRun.{packet_of}
+use Rattle.window_workers.specs.NetRun.{packet_with_fates}
 use Rattle.window_law.specs.NetStep.{NetState, Run, Done, Turn, boot, put, stamped, turned_at, turn_at}
 use Rattle.window_workers.specs.Stamps.{TracesNeverGoBack, sent_by, LogCountsUp}
 use Rattle.window_law.proofs.Lists.{every_append, every_filter, every_map, every_weaker, any_every}
@@ -73,7 +73,7 @@ module _ (n : NetTold) where
   turn_rises at t m net least r = record { agenda = agenda_later t m net least.is_first; lines = λ k. (at_mote k).0; rise = λ k. (at_mote k).1 }
     where
       no_sooner : at ≤ t
-      no_sooner = any_every (at ≤ t) (is_due t m) (λ item. at ≤ moment_of item) (λ item e h. let q = due_now t m (moment_of item) (mote_of item) e in omega arith) net.agenda least.is_there r.agenda
+      no_sooner = any_every (at ≤ t) (comes_at t m) (λ item. at ≤ moment_of item) (λ item e h. let q = due_now t m (moment_of item) (mote_of item) e in omega arith) net.agenda least.is_there r.agenda
 
       before : (k : ℕ) → All (λ l. l.at ≤ t) (net.traces k)
       before k = All-weaker (λ l. l.at ≤ at) (λ l. l.at ≤ t) (λ l h. let le = no_sooner in omega arith) (net.traces k) (r.lines k)
@@ -190,7 +190,7 @@ module _ (n : NetTold) where
   unfolding system_of
   boot_counts k = let m = mote_at n.motes k in record { numbered = refl; counted = (new_is m.tree k m.queue).1 }
 
-pub sent_packets : (n : NetTold) (log : List Sent) → map (λ (p : OfReport). p.sent) (map (packet_of n.radio) log) ≡ log
+pub sent_packets : (n : NetTold) (log : List Sent) → map (λ (p : OfReport). p.sent) (map (packet_with_fates n.radio) log) ≡ log
 sent_packets n [] = refl
 sent_packets n (s ∷ log) = ap (λ l. s ∷ l) (sent_packets n log)
 

@@ -20,30 +20,30 @@ use Rattle.radio_medium.specs.Medium.{copies}
 use Rattle.net_scenario.specs.Net.{NetTold}
 use Rattle.net_report.specs.Report.{told_line}
 use Rattle.window_workers.specs.declared.engine.Engine.{Engine}
-use Rattle.window_law.specs.Agenda.{Item, Packet, is_due, is_wake_of, is_left, wake_items}
+use Rattle.window_law.specs.Agenda.{Item, Packet, comes_at, is_wake_of, is_left, wake_items}
 use Rattle.net_agenda.specs.Buckets.{Holds, arrivals_at, wake_but_at}
 use Rattle.net_agenda.specs.NetSystem.{system_of, tree_at}
-use Rattle.window_workers.specs.NetRun.{packet_of}
+use Rattle.window_workers.specs.NetRun.{packet_with_fates}
 use Rattle.window_law.specs.NetStep.{NetState, stamped, turn_at}
-use Rattle.window_workers.specs.Stands.{Stands, IsKept, TakesTurn, AddsLines}
+use Rattle.window_workers.specs.Stands.{StandsAt, KeepsWakes, OneTakesTurn, AddsLines}
 use Rattle.window_law.proofs.Lists.{filter_filter, filter_both}
 use Rattle.window_workers.proofs.Kept.{wake_later}
 
 -- what a turn told, and where it led
-record Tells (o : Option Node) (out : TurnOut) (t : node.Turned) : Type 0 where
+record Tells (o : Option Node) (out : TurnOut) (t : node.TurnGiven) : Type 0 where
   node : o ≡ Some t.node
   lines : out.lines.items ≡ t.lines
   sends : out.sends.items ≡ t.sends
   wake : out.wake ≡ t.wake
 
-tells : (o : Option Node) (out : TurnOut) (t : node.Turned) → option_map (turn_told out) o ≡ Some t → Tells o out t
+tells : (o : Option Node) (out : TurnOut) (t : node.TurnGiven) → option_map (turn_told out) o ≡ Some t → Tells o out t
 tells None out t e = cc
 tells (Some x) out t e =
     let f : turn_told out x ≡ t = cc in record {
-      node = ap (λ (u : node.Turned). Some u.node) f;
-      lines = ap (λ (u : node.Turned). u.lines) f;
-      sends = ap (λ (u : node.Turned). u.sends) f;
-      wake = ap (λ (u : node.Turned). u.wake) f;
+      node = ap (λ (u : node.TurnGiven). Some u.node) f;
+      lines = ap (λ (u : node.TurnGiven). u.lines) f;
+      sends = ap (λ (u : node.TurnGiven). u.sends) f;
+      wake = ap (λ (u : node.TurnGiven). u.wake) f;
     }
 
 neither : (a b : Bool) → not (a || b) ≡ (not a && not b)
@@ -51,23 +51,23 @@ neither true b = refl
 neither false b = refl
 
 module _ (n : NetTold) (t m : ℕ) (state : NetState Node Line) where
-  abbrev turned : node.Turned
+  abbrev turned : node.TurnGiven
   turned = turn_of t (arrivals_at t m state.agenda) (state.states m)
 
   -- the agenda as the engine makes it
   abbrev pub agenda_after : Option ℕ → List Sent → List Item
   agenda_after wake sends =
-      (filter (λ item. not (is_wake_of m item)) (filter (λ item. not (is_due t m item)) state.agenda) ++ wake_items m wake)
+      (filter (λ item. not (is_wake_of m item)) (filter (λ item. not (comes_at t m item)) state.agenda) ++ wake_items m wake)
       ++ map Packet (flat_map (copies n.radio) (map (stamped t m) sends))
 
   pub stands_turn : (old new : Engine) (tree : Tree) (packets : List Arrival) (out : TurnOut)
-      → m < length n.motes → length old.motes.items ≡ length n.motes → length old.traces.items ≡ length n.motes → Stands n old state
+      → m < length n.motes → length old.motes.items ≡ length n.motes → length old.traces.items ≡ length n.motes → StandsAt n old state
       → tree ≡ tree_at n m → packets ≡ arrivals_at t m state.agenda
-      → TakesTurn tree t packets m old.motes.items new.motes.items out
+      → OneTakesTurn tree t packets m old.motes.items new.motes.items out
       → AddsLines m out.lines.items old.traces.items new.traces.items
       → Holds new.agenda.buckets (agenda_after out.wake out.sends.items)
-      → map told_line new.log.items ≡ map told_line old.log.items ++ map (packet_of n.radio) (map (stamped t m) out.sends.items)
-      → Stands n new (turn_at (system_of n) t m state)
+      → map told_line new.log.items ≡ map told_line old.log.items ++ map (packet_with_fates n.radio) (map (stamped t m) out.sends.items)
+      → StandsAt n new (turn_at (system_of n) t m state)
   unfolding system_of
   stands_turn old new tree packets out there motes traces at tree_is packets_are takes adds agenda log = record {
     nodes = λ k h d.
@@ -92,9 +92,9 @@ module _ (n : NetTold) (t m : ℕ) (state : NetState Node Line) where
               ∙ (ap (λ (v : Vec Line Global). v.items) (get_or-set_other old.traces.items m k adds.after d ne) ∙ at.traces k h d)))
         ];
     log =
-        log ∙ (ap (λ l. l ++ map (packet_of n.radio) (map (stamped t m) out.sends.items)) at.log
-        ∙ (ap (λ l. map (packet_of n.radio) state.log ++ map (packet_of n.radio) (map (stamped t m) l)) is.sends
-        ∙ sym (map-append (packet_of n.radio) state.log (map (stamped t m) turned.sends))));
+        log ∙ (ap (λ l. l ++ map (packet_with_fates n.radio) (map (stamped t m) out.sends.items)) at.log
+        ∙ (ap (λ l. map (packet_with_fates n.radio) state.log ++ map (packet_with_fates n.radio) (map (stamped t m) l)) is.sends
+        ∙ sym (map-append (packet_with_fates n.radio) state.log (map (stamped t m) turned.sends))));
     agenda = subst (λ l. Holds new.agenda.buckets l) same agenda;
   }
     where
@@ -115,18 +115,18 @@ module _ (n : NetTold) (t m : ℕ) (state : NetState Node Line) where
       same =
           append_assoc _ (wake_items m out.wake) _
           ∙ (ap (λ l. l ++ (wake_items m out.wake ++ map Packet (flat_map (copies n.radio) (map (stamped t m) out.sends.items))))
-          (filter_both (λ item. not (is_wake_of m item)) (λ item. not (is_due t m item)) (is_left t m) (λ item. neither (is_due t m item) (is_wake_of m item)) state.agenda)
+          (filter_both (λ item. not (is_wake_of m item)) (λ item. not (comes_at t m item)) (is_left t m) (λ item. neither (comes_at t m item) (is_wake_of m item)) state.agenda)
           ∙ (ap (λ w. filter (is_left t m) state.agenda ++ (wake_items m w ++ map Packet (flat_map (copies n.radio) (map (stamped t m) out.sends.items)))) is.wake
           ∙ ap (λ l. filter (is_left t m) state.agenda ++ (wake_items m turned.wake ++ map Packet (flat_map (copies n.radio) (map (stamped t m) l)))) is.sends))
 
   -- the mote's wake, where it isn't due with the turn
-  pub wake_to_drop : (wake other : Option ℕ) (engine : Engine) → m < length n.motes → Stands n engine state → IsKept n state
+  pub wake_to_drop : (wake other : Option ℕ) (engine : Engine) → m < length n.motes → StandsAt n engine state → KeepsWakes n state
       → ((x : Tree) (d : Mote) → wake ≡ wake_in (node_in x (get_or engine.motes.items m d))) → (d : Mote)
       → other ≡ wake_but_at t wake
-      → filter (is_wake_of m) (filter (λ item. not (is_due t m item)) state.agenda) ≡ wake_items m other
+      → filter (is_wake_of m) (filter (λ item. not (comes_at t m item)) state.agenda) ≡ wake_items m other
   wake_to_drop wake other engine there at kept wakes d is =
-      filter_filter (is_wake_of m) (λ item. not (is_due t m item)) state.agenda
-      ∙ (ap (filter (λ item. not (is_due t m item))) (kept.wakes m there)
+      filter_filter (is_wake_of m) (λ item. not (comes_at t m item)) state.agenda
+      ∙ (ap (filter (λ item. not (comes_at t m item))) (kept.wakes m there)
       ∙ (wake_later t m (wake_of (state.states m))
       ∙ ap (wake_items m) (ap (wake_but_at t) (sym (ap wake_in (at.nodes m there d)) ∙ sym (wakes (tree_at n m) d)) ∙ sym is)))
 

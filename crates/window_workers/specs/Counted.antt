@@ -8,7 +8,7 @@ use Rattle.radio_medium.specs.Medium.{copies, medium_fault}
 use Rattle.net_scenario.specs.Net.{NetTold}
 use Rattle.window_law.specs.System.{System}
 use Rattle.window_law.specs.Order.{in_order}
-use Rattle.window_law.specs.Agenda.{is_due, packets}
+use Rattle.window_law.specs.Agenda.{comes_at, packets}
 use Rattle.window_law.specs.NetStep.{NetState, Run, Done, Turn}
 use Rattle.net_report.specs.Report.{ReportTold}
 use Rattle.window_workers.specs.NetRun.{IsReportOf}
@@ -44,7 +44,7 @@ pub record TurnTaken : Type 0 where
 
 abbrev pub turns : {S L : Type 0} {system : System S L} {end : ℕ} {net last : NetState S L} → Run system end net last → List TurnTaken
 turns (Done late) = []
-turns {net = net} (Turn moment mote least le rest) = record { moment = moment; mote = mote; given = in_order (packets (filter (is_due moment mote) net.agenda)) } ∷ turns rest
+turns {net = net} (Turn moment mote least le rest) = record { moment = moment; mote = mote; given = in_order (packets (filter (comes_at moment mote) net.agenda)) } ∷ turns rest
 
 -- the turns of the run are given the copies of the log that arrive at or before the end, each once
 abbrev pub CopiesAreGiven : Type 0

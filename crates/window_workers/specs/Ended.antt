@@ -5,17 +5,17 @@ use Rattle.net_scenario.specs.Net.{NetTold}
 use Rattle.window_workers.specs.declared.engine.Engine.{Engine}
 use Rattle.net_agenda.specs.NetSystem.{system_of}
 use Rattle.window_law.specs.NetStep.{NetState, Run, boot}
-use Rattle.window_workers.specs.Stands.{Stands, IsKept}
+use Rattle.window_workers.specs.Stands.{StandsAt, KeepsWakes}
 
 -- The engine is where a beginning of the run leads: how the run goes on from there, it goes from boot.
 pub record HasReached (n : NetTold) (engine : Engine) : Type 0 where
   pub state : NetState Node Line
-  pub stands : Stands n engine state
-  pub kept : IsKept n state
+  pub stands : StandsAt n engine state
+  pub kept : KeepsWakes n state
   pub led : (last : NetState Node Line) → Run (system_of n) n.end state last → Run (system_of n) n.end (boot (system_of n)) last
 
 -- the engine is where the run ends
 pub record HasEnded (n : NetTold) (engine : Engine) : Type 0 where
   pub last : NetState Node Line
-  pub stands : Stands n engine last
+  pub stands : StandsAt n engine last
   pub run : Run (system_of n) n.end (boot (system_of n)) last

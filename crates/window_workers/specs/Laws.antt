@@ -19,7 +19,7 @@ use Rattle.net_agenda.specs.Buckets.{Buckets, Holds}
 use Rattle.net_agenda.specs.Items.{AreSameItems, WakesDiffer, items_of}
 use Rattle.net_agenda.specs.NetSystem.{system_of}
 use Rattle.net_report.specs.Report.{ReportTold}
-use Rattle.window_workers.specs.NetRun.{packet_of, IsReportOf}
+use Rattle.window_workers.specs.NetRun.{packet_with_fates, IsReportOf}
 
 -- a net has at most one report
 abbrev pub ReportIsOne : Type 0
@@ -49,15 +49,15 @@ pub record IsMediumLog (n : NetTold) (motes : (number : ℕ) → LoneMote Node L
 abbrev pub told_by : (n : NetTold) → (motes : (number : ℕ) → LoneMote Node Line) → (log : List Sent) → (rest : List RadioCopy) → ReportTold
 told_by n motes log rest = record {
   traces = map (λ number. (motes number).lines) (up_to (length n.motes));
-  log = map (packet_of n.radio) log;
+  log = map (packet_with_fates n.radio) log;
   left = length rest;
 }
 
 -- Windows commute. Cut 0 to end + 1 at any rising bounds whose steps are at most the lookahead, and run each mote alone through
 -- each window, the motes of a window in any order, on the copies that earlier windows sent to it: the lines of each mote, the
 -- medium's log sorted by moment, sender and number, and the copies that arrive after the end are those of the net's run.
-abbrev pub WindowsCommute : Type 0
-WindowsCommute = (n : NetTold) → medium_fault n.radio ≡ None → length n.radio.places ≡ length n.motes
+abbrev pub WindowsCommuteInNets : Type 0
+WindowsCommuteInNets = (n : NetTold) → medium_fault n.radio ≡ None → length n.radio.places ≡ length n.motes
     → (motes : (number : ℕ) → LoneMote Node Line) → Windows (system_of n) 0 (suc n.end) (first_mote (system_of n)) motes
     → (log : List Sent) → IsMediumLog n motes log → (rest : List RadioCopy) → IsLeft (system_of n) n.end motes rest
     → IsReportOf n (told_by n motes log rest)

@@ -11,13 +11,13 @@ use Rattle.window_law.specs.Order.{is_sooner}
 use Rattle.worker_share.specs.declared.share.Share.{Share}
 use Rattle.worker_share.specs.declared.share.Ended.{Ended}
 use Rattle.worker_share.specs.Share.{Motes, Keeps}
-use Rattle.worker_share.specs.Ended.{Tells}
+use Rattle.worker_share.specs.Ended.{TellsAtEnd}
 use Rattle.net_report.specs.Report.{Packet}
-use Rattle.window_workers.specs.NetRun.{packet_of}
+use Rattle.window_workers.specs.NetRun.{packet_with_fates}
 
 -- a share that is taken apart tells what it kept
-abbrev pub EndsAs : Share → Ended → Type 0
-EndsAs share ended = (n : NetTold) (of : List ℕ) (worker from : ℕ) (motes : Motes) (taken : List RadioCopy) → Keeps n of worker from motes taken share → Tells n of worker from motes taken ended
+abbrev pub TellsWhatItKept : Share → Ended → Type 0
+TellsWhatItKept share ended = (n : NetTold) (of : List ℕ) (worker from : ℕ) (motes : Motes) (taken : List RadioCopy) → Keeps n of worker from motes taken share → TellsAtEnd n of worker from motes taken ended
 
 -- the packets of all workers, one worker's after another's
 abbrev pub logs_of : List Ended → List Sent
@@ -32,7 +32,7 @@ pub record IsLogOf (n : NetTold) (sends : List Sent) (log : List Packet) : Type 
   pub sorted : List Sent
   pub same : IsPermutation sends sorted
   pub in_order : IsSortedBy is_sooner sorted
-  pub told : log ≡ map (packet_of n.radio) sorted
+  pub told : log ≡ map (packet_with_fates n.radio) sorted
 
 -- what one worker told of one mote's trace
 abbrev pub trace_at : List Ended → (worker mote : ℕ) → Ended → Vec Line Global → Vec Line Global

@@ -16,7 +16,7 @@ use Rattle.window_workers.specs.declared.engine.Engine.{Engine}
 use Rattle.window_law.specs.Agenda.{mote_of, is_wake_of, wake_items}
 use Rattle.net_agenda.specs.Buckets.{Holds}
 use Rattle.net_agenda.specs.NetSystem.{tree_at}
-use Rattle.window_workers.specs.NetRun.{packet_of}
+use Rattle.window_workers.specs.NetRun.{packet_with_fates}
 use Rattle.window_law.specs.NetStep.{NetState}
 use Rattle.mote_program.specs.Code as code
 
@@ -27,10 +27,10 @@ abbrev pub OneTrace : List (Vec Line Global) → NetState Node Line → (mote : 
 OneTrace traces net k = (d : Vec Line Global) → (slice_index_or traces k d).items ≡ net.traces k
 
 -- the engine's motes, traces, log and agenda are those of this net
-pub record Stands (n : NetTold) (engine : Engine) (net : NetState Node Line) : Type 0 where
+pub record StandsAt (n : NetTold) (engine : Engine) (net : NetState Node Line) : Type 0 where
   pub nodes : (k : ℕ) → k < length n.motes → OneNode n engine.motes.items net k
   pub traces : (k : ℕ) → k < length n.motes → OneTrace engine.traces.items net k
-  pub log : map told_line engine.log.items ≡ map (packet_of n.radio) net.log
+  pub log : map told_line engine.log.items ≡ map (packet_with_fates n.radio) net.log
   pub agenda : Holds engine.agenda.buckets net.agenda
 
 -- each mote has a node and a trace
@@ -39,12 +39,12 @@ pub record IsWhole (n : NetTold) (engine : Engine) : Type 0 where
   pub traces : length engine.traces.items ≡ length n.motes
 
 -- the agenda has each mote's own next wake, and nothing for a mote that isn't there
-pub record IsKept (n : NetTold) (net : NetState Node Line) : Type 0 where
+pub record KeepsWakes (n : NetTold) (net : NetState Node Line) : Type 0 where
   pub wakes : (k : ℕ) → k < length n.motes → filter (is_wake_of k) net.agenda ≡ wake_items k (wake_of (net.states k))
   pub inside : AllByRecursion (λ item. mote_of item < length n.motes) net.agenda
 
 -- one mote took a turn, which told this
-pub record TakesTurn (tree : code.Tree) (moment : ℕ) (packets : List Arrival) (k : ℕ) (old new : List Mote) (out : TurnOut) : Type 0 where
+pub record OneTakesTurn (tree : code.Tree) (moment : ℕ) (packets : List Arrival) (k : ℕ) (old new : List Mote) (out : TurnOut) : Type 0 where
   pub after : Mote
   pub put : new ≡ slice_set old k after
   pub turned : (d : Mote) → option_map (turn_told out) (node_in tree after) ≡ option_map (turn_of moment packets) (node_in tree (slice_index_or old k d))

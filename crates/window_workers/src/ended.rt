@@ -4,7 +4,7 @@ ghost use Rattle.std.specs.Prelude.{◌≡◌, ◌+◌, length, IfOk};
 ghost use Rattle.std.specs.List.{AllByRecursion as Each, AllZip, sum_by};
 ghost use Rattle.copy_exchange.specs.Desks.{taken_by, gathered_by};
 ghost use Rattle.copy_exchange.specs.Inboxes.{IsSettled};
-ghost use Rattle.window_workers.specs.Over.{EndsAs};
+ghost use Rattle.window_workers.specs.Over.{TellsWhatItKept};
 
 use copy_exchange::known;
 use copy_inbox::{Inbox, Taker};
@@ -13,7 +13,7 @@ use worker_share::{Ended, Share};
 
 /// Takes the shares of all workers apart.
 pub fn end_all(alloc: Global, shares: Vec<Share>) -> Result<Vec<Ended>, AllocError>
-    ensures { IfOk result (λ all. AllZip EndsAs shares.items all.items) }
+    ensures { IfOk result (λ all. AllZip TellsWhatItKept shares.items all.items) }
 {
     let mut all = Vec::new(alloc);
     for share in shares {

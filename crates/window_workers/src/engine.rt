@@ -9,9 +9,9 @@ ghost use Rattle.mote_program.specs.Code.{Tree};
 ghost use Rattle.process_kernel.specs.declared.line.Line.{Line};
 ghost use Rattle.net_scenario.specs.Net.{net_of};
 ghost use Rattle.net_agenda.specs.Buckets.{wake_but_at};
-ghost use Rattle.net_agenda.specs.NetSystem.{system_of, first_node, tree_at};
+ghost use Rattle.net_agenda.specs.NetSystem.{system_of, first_node_in, tree_at};
 ghost use Rattle.window_law.specs.NetStep.{NetState, turn_at, boot};
-ghost use Rattle.window_workers.specs.Stands.{Stands, IsWhole, IsKept, TakesTurn, AddsLines};
+ghost use Rattle.window_workers.specs.Stands.{StandsAt, IsWhole, KeepsWakes, OneTakesTurn, AddsLines};
 
 use crate::sends::send_all;
 use mote_node::{Mote, TurnOut};
@@ -56,7 +56,7 @@ fn turn_mote(
 ) -> Result<TurnOut, AllocError>
     requires there { number < length motes.old.items }
     requires early { moment ≤ 2 ^ 40 }
-    ensures { IfOk result (λ out. TakesTurn (tree_of program.now) moment packets.now number motes.old.items motes.new.items out) }
+    ensures { IfOk result (λ out. OneTakesTurn (tree_of program.now) moment packets.now number motes.old.items motes.new.items out) }
 {
     let Ok(out) = motes[usize::from(number)].turn(program, moment, packets) else {
         return Err(AllocError);
@@ -85,7 +85,7 @@ fn add_lines(traces: &mut Vec<Vec<Line>>, number: u16, lines: Vec<Line>) -> Resu
 impl Engine {
     /// The net before its first turn: each mote wakes at 0.
     pub fn boot(alloc: Global, net: &Net) -> Result<Engine, AllocError>
-        ensures stands { let n = net_of net.now in IfOk result (λ engine. Stands n engine (boot (system_of n))) }
+        ensures stands { let n = net_of net.now in IfOk result (λ engine. StandsAt n engine (boot (system_of n))) }
         ensures whole { let n = net_of net.now in IfOk result (λ engine. IsWhole n engine) }
     {
         let mut engine = Engine {
@@ -108,7 +108,7 @@ impl Engine {
         requires there { number < length (net_of net.now).motes }
         requires early { moment ≤ 2 ^ 40 }
         requires whole { IsWhole (net_of net.now) self.old }
-        ensures stands { let n = net_of net.now in OnOk result ((state : NetState Node Line) → Stands n self.old state → IsKept n state → Stands n self.new (turn_at (system_of n) moment number state)) }
+        ensures stands { let n = net_of net.now in OnOk result ((state : NetState Node Line) → StandsAt n self.old state → KeepsWakes n state → StandsAt n self.new (turn_at (system_of n) moment number state)) }
         ensures whole { OnOk result (IsWhole (net_of net.now) self.new) }
     {
         let packets = self.agenda.take_due(moment, number)?;

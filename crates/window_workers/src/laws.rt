@@ -1,7 +1,7 @@
 //! Laws of the run of a net. Each is the contract of a function that does nothing, or no more than to ask for a length.
 
 ghost use Rattle.window_workers.specs.Counted.{CopiesAreGiven, CopiesComeInTime, FatesTellLeft, LateCopiesStay, LeftIsCounted, TurnsAreGivenAll};
-ghost use Rattle.window_workers.specs.Laws.{AlwaysOneWake, BucketsHoldItems, NetsRunForward, ReportIsOne, ReportIsThere, ScenarioHasReport, TracesHandOn, WakesAlwaysDiffer, WindowsCommute};
+ghost use Rattle.window_workers.specs.Laws.{AlwaysOneWake, BucketsHoldItems, NetsRunForward, ReportIsOne, ReportIsThere, ScenarioHasReport, TracesHandOn, WakesAlwaysDiffer, WindowsCommuteInNets};
 ghost use Rattle.window_workers.specs.Stamps.{LogCountsUp, SendsAreStamped, TracesNeverGoBack};
 
 use net_agenda::Agenda;
@@ -23,7 +23,7 @@ pub fn report_is_there()
 /// each window, the motes of a window in any order, on the copies that earlier windows sent to it. The lines of each mote, the
 /// medium's log sorted by moment, sender and number, and the copies left are those of the net's run.
 pub fn windows_commute()
-    ensures { WindowsCommute }
+    ensures { WindowsCommuteInNets }
 {}
 
 /// The lines of each mote of a net hand its events on, nothing follows a halt, and only a process that is not listed starts.

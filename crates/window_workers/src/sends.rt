@@ -6,7 +6,7 @@ ghost use Rattle.radio_medium.specs.Medium.{copies};
 ghost use Rattle.window_law.specs.Agenda.{Item, Packet};
 ghost use Rattle.net_agenda.specs.Buckets.{Holds};
 ghost use Rattle.net_report.specs.Report.{told_line};
-ghost use Rattle.window_workers.specs.NetRun.{packet_of};
+ghost use Rattle.window_workers.specs.NetRun.{packet_with_fates};
 ghost use Rattle.window_law.specs.NetStep.{stamped};
 
 use net_agenda::Agenda;
@@ -25,7 +25,7 @@ fn send(
     requires sender { sent.now.sender < length medium.now.places }
     requires moment { sent.now.at ≤ 2 ^ 40 }
     ensures agenda { OnOk result ((items : List Item) → Holds agenda.old.buckets items → Holds agenda.new.buckets (items ++ map Packet (copies medium.now sent.now))) }
-    ensures log { OnOk result (map told_line log.new.items ≡ map told_line log.old.items ++ packet_of medium.now sent.now ∷ []) }
+    ensures log { OnOk result (map told_line log.new.items ≡ map told_line log.old.items ++ packet_with_fates medium.now sent.now ∷ []) }
 {
     let copies = medium.copies(sent)?;
     agenda.put_copies(&copies)?;
@@ -46,7 +46,7 @@ pub fn send_all(
     requires sender { mote < length medium.now.places }
     requires moment { moment ≤ 2 ^ 40 }
     ensures agenda { OnOk result ((items : List Item) → Holds agenda.old.buckets items → Holds agenda.new.buckets (items ++ map Packet (flat_map (copies medium.now) (map (stamped moment mote) sends.now)))) }
-    ensures log { OnOk result (map told_line log.new.items ≡ map told_line log.old.items ++ map (packet_of medium.now) (map (stamped moment mote) sends.now)) }
+    ensures log { OnOk result (map told_line log.new.items ≡ map told_line log.old.items ++ map (packet_with_fates medium.now) (map (stamped moment mote) sends.now)) }
 {
     for sent in sends {
         let stamped = Sent {

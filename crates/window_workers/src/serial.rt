@@ -7,7 +7,7 @@ ghost use Rattle.net_agenda.specs.NetSystem.{system_of};
 ghost use Rattle.net_report.specs.Report.{report_of};
 ghost use Rattle.window_workers.specs.NetRun.{IsReportOf};
 ghost use Rattle.window_law.specs.NetStep.{boot};
-ghost use Rattle.window_workers.specs.Stands.{Stands, IsWhole};
+ghost use Rattle.window_workers.specs.Stands.{StandsAt, IsWhole};
 ghost use Rattle.window_workers.specs.Ended.{HasEnded};
 
 use crate::engine::Engine;
@@ -19,7 +19,7 @@ use std::alloc::{AllocError, Global};
 /// Takes turns until nothing is to come at or before the end.
 fn run_to_end(engine: &mut Engine, net: &Net) -> Result<(), AllocError>
     requires whole { IsWhole (net_of net.now) engine.old }
-    requires boot { let n = net_of net.now in Stands n engine.old (boot (system_of n)) }
+    requires boot { let n = net_of net.now in StandsAt n engine.old (boot (system_of n)) }
     ensures whole { OnOk result (IsWhole (net_of net.now) engine.new) }
     ensures ended { OnOk result (HasEnded (net_of net.now) engine.new) }
 {

@@ -8,7 +8,7 @@ use Rattle.window_law.proofs.Lists.{every_append, every_weaker}
 use Rattle.worker_share.specs.declared.share.Share.{Share}
 use Rattle.worker_crew.specs.declared.worker.Worker.{Worker}
 use Rattle.worker_crew.specs.Worker.{IsNotBefore}
-use Rattle.worker_crew.specs.Crew.{FirstOfAll, TellsNext, IsNext}
+use Rattle.worker_crew.specs.Crew.{FirstOfAll, TellsNext, IsNextOfAll}
 
 pub taken_all : {X : Type 0} (xs : List X) (i : ℕ) → length xs ≤ i → i ≤ length xs → take i xs ≡ xs
 taken_all xs i h k = let e : i ≡ length xs = omega arith in ap (λ j. take j xs) e ∙ take-length xs
@@ -28,9 +28,9 @@ first_of_more workers worker first result h one other greatest = record {
   greatest = λ moment all. let p = parts_of _ workers worker all in greatest moment p.1 (h.greatest moment p.0);
 }
 
-pub next_of_more : (out : Option ℕ) (shares : List Share) (share : Share) (first next result : Option ℕ) → IsNext out shares next → TellsNext share first
+pub next_of_more : (out : Option ℕ) (shares : List Share) (share : Share) (first next result : Option ℕ) → IsNextOfAll out shares next → TellsNext share first
     → ((moment : ℕ) → WakesFrom moment result → WakesFrom moment first × WakesFrom moment next)
-    → ((moment : ℕ) → WakesFrom moment first → WakesFrom moment next → WakesFrom moment result) → IsNext out (shares ++ share ∷ []) result
+    → ((moment : ℕ) → WakesFrom moment first → WakesFrom moment next → WakesFrom moment result) → IsNextOfAll out (shares ++ share ∷ []) result
 next_of_more out shares share first next result h tells least greatest = record {
   out = λ moment g. h.out moment (least moment g).1;
   each = every_append _ shares (share ∷ []) (every_weaker _ _ (λ s f. (f.0, f.1, λ moment g. f.2 moment (least moment g).1)) shares h.each) ((first, tells, λ moment g. (least moment g).0), tt);
@@ -43,8 +43,8 @@ pub first_of_next : (xs : List Worker) (i : ℕ) (x : Worker) (first result : Op
 first_of_next xs i x first result is h all one other greatest =
     subst (λ l. FirstOfAll l result) (sym (taken_more xs i x h ∙ ap (λ y. take i xs ++ y ∷ []) (sym is))) (first_of_more (take i xs) x first result all one other greatest)
 
-pub next_of_next : (out : Option ℕ) (xs : List Share) (i : ℕ) (x : Share) (first next result : Option ℕ) → x ≡ get_or xs i x → i < length xs → IsNext out (take i xs) next → TellsNext x first
+pub next_of_next : (out : Option ℕ) (xs : List Share) (i : ℕ) (x : Share) (first next result : Option ℕ) → x ≡ get_or xs i x → i < length xs → IsNextOfAll out (take i xs) next → TellsNext x first
     → ((moment : ℕ) → WakesFrom moment result → WakesFrom moment first × WakesFrom moment next)
-    → ((moment : ℕ) → WakesFrom moment first → WakesFrom moment next → WakesFrom moment result) → IsNext out (take (i + 1) xs) result
+    → ((moment : ℕ) → WakesFrom moment first → WakesFrom moment next → WakesFrom moment result) → IsNextOfAll out (take (i + 1) xs) result
 next_of_next out xs i x first next result is h all tells least greatest =
-    subst (λ l. IsNext out l result) (sym (taken_more xs i x h ∙ ap (λ y. take i xs ++ y ∷ []) (sym is))) (next_of_more out (take i xs) x first next result all tells least greatest)
+    subst (λ l. IsNextOfAll out l result) (sym (taken_more xs i x h ∙ ap (λ y. take i xs ++ y ∷ []) (sym is))) (next_of_more out (take i xs) x first next result all tells least greatest)

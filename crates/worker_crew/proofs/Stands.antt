@@ -15,7 +15,7 @@ use Rattle.worker_cut.proofs.Windows.{idle, receivers}
 use Rattle.worker_share.specs.declared.share.Share.{Share}
 use Rattle.worker_share.specs.Share.{Keeps, copies_known, is_to_come}
 use Rattle.worker_crew.specs.declared.crew.Crew.{Crew}
-use Rattle.worker_crew.specs.Crew.{IsAt, IsWorkerAt, IsNext, TellsNext}
+use Rattle.worker_crew.specs.Crew.{IsAt, IsWorkerAt, IsNextOfAll, TellsNext}
 use Rattle.worker_crew.specs.Worker.{IsNotBefore}
 use Rattle.worker_crew.proofs.Lookups.{there, read, inside, as_long, each_at, each_from}
 use Rattle.worker_crew.proofs.Step.{own_by, some_worker}
@@ -53,7 +53,7 @@ by_some : (workers : ℕ) (A : ℕ → RadioCopy → Type 0) (Q : RadioCopy → 
 by_some workers A Q [] h k = tt
 by_some workers A Q (x ∷ xs) h k = ((h k.0.0 k.0.1).0 k.0.2, by_some workers A Q xs (λ v l. (h v l).1) k.1)
 
-module _ (n : NetTold) (fine : RunsForward (system_of n)) (of : List ℕ) (from moment : ℕ) (crew : Crew) (next : Option ℕ) (at : IsAt n of from crew) (is : IsNext crew.first_out crew.shares.items next) (le : from ≤ moment) (wakes : WakesFrom moment next) where
+module _ (n : NetTold) (fine : RunsForward (system_of n)) (of : List ℕ) (from moment : ℕ) (crew : Crew) (next : Option ℕ) (at : IsAt n of from crew) (is : IsNextOfAll crew.first_out crew.shares.items next) (le : from ≤ moment) (wakes : WakesFrom moment next) where
   abbrev workers : ℕ
   workers = length crew.inboxes.items
 
@@ -140,7 +140,7 @@ module _ (n : NetTold) (fine : RunsForward (system_of n)) (of : List ℕ) (from 
           subst (λ x. IsWorkerAt n of moment at.motes crew.first_out v x (get_or crew.takers.items v taker)) (sym (read crew.shares.items v p.share share p.share_at))
           (subst (λ x. IsWorkerAt n of moment at.motes crew.first_out v p.share x) (sym (read crew.takers.items v p.taker taker p.taker_at)) (record { keeps = keeps_on v p; gathered = p.here.gathered; waits = p.here.waits }))
 
-module _ (n : NetTold) (of : List ℕ) (from : ℕ) (crew : Crew) (next : Option ℕ) (at : IsAt n of from crew) (is : IsNext crew.first_out crew.shares.items next) where
+module _ (n : NetTold) (of : List ℕ) (from : ℕ) (crew : Crew) (next : Option ℕ) (at : IsAt n of from crew) (is : IsNextOfAll crew.first_out crew.shares.items next) where
   takers_here : length crew.takers.items ≡ length crew.inboxes.items
   takers_here = as_long _ crew.inboxes.items crew.takers.items at.settled
 

@@ -11,7 +11,7 @@ use Rattle.copy_inbox.specs.declared.items.Item.{Item}
 use Rattle.copy_inbox.specs.Items.{copies_of, part}
 use Rattle.copy_inbox.specs.Handles.{InboxId, TakerView}
 use Rattle.copy_inbox.specs.Views.{make_desk}
-use Rattle.copy_exchange.specs.Desks.{Stands}
+use Rattle.copy_exchange.specs.Desks.{IsOrderly}
 use Rattle.copy_exchange.specs.Inboxes.{IsFresh, IsSettled, Settled}
 use Rattle.worker_cut.specs.Crossed.{is_own, is_to, crossed}
 use Rattle.worker_share.specs.declared.share.Share.{Share}
@@ -26,7 +26,7 @@ no_parts : (rest : List Item) → ((s : ℕ) → part s rest ≡ []) → rest �
 no_parts [] h = refl
 no_parts (x ∷ rest) h = let e = rw (eq-eqb x.sender x.sender refl) at (h x.sender) in cc
 
-stands_first : Stands (make_desk 0 [] [])
+stands_first : IsOrderly (make_desk 0 [] [])
 stands_first = record {
   in_order = λ rest is s. ap (λ l. filter (λ (c : RadioCopy). eqb c.sender s) (copies_of l)) (no_parts rest (λ u. is.1 u refl));
   begun = tt;
@@ -39,7 +39,7 @@ stands_first = record {
 settled_first : (inbox : InboxId) (t : TakerView) → IsFresh inbox t → IsSettled inbox t
 settled_first inbox t fresh = record {
   its = fresh.0;
-  stands = subst Stands (sym fresh.1) stands_first;
+  stands = subst IsOrderly (sym fresh.1) stands_first;
   all = λ s low. absurd (let e = ap (λ d. d.made) fresh.1 in omega arith);
 }
 

@@ -52,7 +52,7 @@ pub record TellsNext (share : Share) (next : Option ℕ) : Type 0 where
       → (moment : ℕ) → WakesFrom moment next → (sender : ℕ) → Each (λ (copy : RadioCopy). moment ≤ copy.at) (filter (is_to_come (is_own of worker) from) (copies_known n (is_own of worker) motes taken sender))
 
 -- nothing comes before this moment, neither what lies in the inboxes nor what is to come to the shares
-pub record IsNext (first_out : Option ℕ) (shares : List Share) (next : Option ℕ) : Type 0 where
+pub record IsNextOfAll (first_out : Option ℕ) (shares : List Share) (next : Option ℕ) : Type 0 where
   pub out : (moment : ℕ) → WakesFrom moment next → WakesFrom moment first_out
   pub each : Each (λ share. (first : Option ℕ) × TellsNext share first × ((moment : ℕ) → WakesFrom moment next → WakesFrom moment first)) shares
   pub greatest : (moment : ℕ) → WakesFrom moment first_out → Each (λ share. (first : Option ℕ) → TellsNext share first → WakesFrom moment first) shares → WakesFrom moment next

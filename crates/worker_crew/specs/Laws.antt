@@ -11,7 +11,7 @@ use Rattle.copy_exchange.specs.Inboxes.{Settled}
 use Rattle.worker_share.specs.declared.share.Share.{Share}
 use Rattle.worker_crew.specs.declared.crew.Crew.{Crew}
 use Rattle.worker_crew.specs.declared.worker.Worker.{Worker}
-use Rattle.worker_crew.specs.Crew.{IsAt, IsNext, FirstOfAll}
+use Rattle.worker_crew.specs.Crew.{IsAt, IsNextOfAll, FirstOfAll}
 use Rattle.worker_crew.specs.Worker.{RunsWorker}
 
 -- each worker with its share and its courier
@@ -38,5 +38,5 @@ WindowMovesOn = (n : NetTold) → RunsForward (system_of n) → (of : List ℕ) 
 
 -- the next moment at which something comes isn't sooner than where the workers stand, and until then they stand
 abbrev pub StandsUntilNext : Type 0
-StandsUntilNext = (n : NetTold) → RunsForward (system_of n) → (of : List ℕ) (from : ℕ) (crew : Crew) (next : Option ℕ) → IsAt n of from crew → IsNext crew.first_out crew.shares.items next
+StandsUntilNext = (n : NetTold) → RunsForward (system_of n) → (of : List ℕ) (from : ℕ) (crew : Crew) (next : Option ℕ) → IsAt n of from crew → IsNextOfAll crew.first_out crew.shares.items next
     → WakesFrom from next × ((moment : ℕ) → from ≤ moment → WakesFrom moment next → IsAt n of moment crew)

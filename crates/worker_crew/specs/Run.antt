@@ -1,7 +1,7 @@
 -- The windows of a run: where they begin, and where they end.
 use Rattle.std.specs.Prelude.{ℕ, ◌≡◌, ◌+◌, min, nat_lt, ◌&&◌, if◌then◌else◌, Option, Some, None}
 use Rattle.worker_crew.specs.declared.crew.Crew.{Crew}
-use Rattle.worker_crew.specs.Crew.{IsNext}
+use Rattle.worker_crew.specs.Crew.{IsNextOfAll}
 
 -- a window lasts as long as the lookahead, or less where a shorter length is told
 abbrev pub length_of_window : (lookahead longest : ℕ) → ℕ
@@ -19,5 +19,5 @@ end_of_window end length from = min (from + length) (end + 1)
 -- where the next window of these workers begins
 pub record BeginsAt (end : ℕ) (crew : Crew) (from : ℕ) : Type 0 where
   pub next : Option ℕ
-  pub is : IsNext crew.first_out crew.shares.items next
+  pub is : IsNextOfAll crew.first_out crew.shares.items next
   pub start : from ≡ start_of_window end next

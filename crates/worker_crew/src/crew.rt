@@ -1,7 +1,7 @@
 //! All workers between two windows.
 
 ghost use Rattle.std.specs.Prelude.{◌≡◌};
-ghost use Rattle.worker_crew.specs.Crew.{TellsNext, IsNext, FirstOfAll};
+ghost use Rattle.worker_crew.specs.Crew.{TellsNext, IsNextOfAll, FirstOfAll};
 
 use crate::worker::{Worker, sooner};
 use copy_inbox::{Inbox, Taker};
@@ -44,7 +44,7 @@ pub fn first_of_all(workers: &[Worker]) -> Option<u64>
 
 /// When something comes first to one of these shares, or out of an inbox.
 fn next_of_all(first_out: Option<u64>, shares: &[Share]) -> Option<u64>
-    ensures { IsNext first_out shares.now result }
+    ensures { IsNextOfAll first_out shares.now result }
 {
     let mut next = first_out;
     for share in shares {
@@ -56,7 +56,7 @@ fn next_of_all(first_out: Option<u64>, shares: &[Share]) -> Option<u64>
 impl Crew {
     /// The moment of what is to come first, in the shares or the inboxes, if anything is.
     pub fn next(&self) -> Option<u64>
-        ensures { IsNext self.now.first_out self.now.shares.items result }
+        ensures { IsNextOfAll self.now.first_out self.now.shares.items result }
     {
         next_of_all(self.first_out, &self.shares)
     }

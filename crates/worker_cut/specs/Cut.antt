@@ -3,9 +3,9 @@ use Rattle.std.specs.Prelude.{ℕ, ◌*◌, ◌/◌, ◌%◌, List, map}
 use Rattle.window_law.specs.Agenda.{up_to}
 
 -- blocks of motes that follow one another
-abbrev pub block_of : (motes workers : ℕ) → List ℕ
-block_of motes workers = map (λ mote. (mote * workers) / motes) (up_to motes)
+abbrev pub block_cut : (motes workers : ℕ) → List ℕ
+block_cut motes workers = map (λ mote. (mote * workers) / motes) (up_to motes)
 
 -- the motes dealt in turn
-abbrev pub stripe_of : (motes workers : ℕ) → List ℕ
-stripe_of motes workers = map (λ mote. mote % workers) (up_to motes)
+abbrev pub stripe_cut : (motes workers : ℕ) → List ℕ
+stripe_cut motes workers = map (λ mote. mote % workers) (up_to motes)

@@ -1,7 +1,7 @@
 //! Which worker has which mote.
 
 ghost use Rattle.std.specs.Prelude.{◌≡◌, ◌<◌, ◌*◌, ◌/◌, IfOk};
-ghost use Rattle.worker_cut.specs.Cut.{block_of, stripe_of};
+ghost use Rattle.worker_cut.specs.Cut.{block_cut, stripe_cut};
 
 use std::alloc::{AllocError, Global};
 
@@ -29,7 +29,7 @@ impl Cut {
     pub fn block(alloc: Global, motes: u16, workers: u16) -> Result<Cut, AllocError>
         requires motes { 0 < motes }
         requires workers { 0 < workers }
-        ensures of { IfOk result (λ cut. cut.of.items ≡ block_of motes workers) }
+        ensures of { IfOk result (λ cut. cut.of.items ≡ block_cut motes workers) }
         ensures longest { IfOk result (λ cut. cut.longest ≡ 0) }
     {
         let mut of = Vec::new(alloc);
@@ -43,7 +43,7 @@ impl Cut {
     pub fn stripe(alloc: Global, motes: u16, workers: u16) -> Result<Cut, AllocError>
         requires motes { 0 < motes }
         requires workers { 0 < workers }
-        ensures of { IfOk result (λ cut. cut.of.items ≡ stripe_of motes workers) }
+        ensures of { IfOk result (λ cut. cut.of.items ≡ stripe_cut motes workers) }
         ensures longest { IfOk result (λ cut. cut.longest ≡ 0) }
     {
         let mut of = Vec::new(alloc);

@@ -23,9 +23,9 @@ use Rattle.window_run.specs.declared.out.WindowOut.{WindowOut}
 use Rattle.net_agenda.specs.Buckets.{Holds}
 use Rattle.net_agenda.specs.NetSystem.{tree_at, system_of}
 use Rattle.worker_share.specs.declared.share.Share.{Share}
-use Rattle.worker_share.specs.Share.{Motes, IsShare, HasToCome, is_own, node_at, mote_in, number_of, copies_known, is_to_come}
+use Rattle.worker_share.specs.Share.{Motes, IsShare, HasToCome, is_own, node_at, mote_here, number_of, copies_known, is_to_come}
 use Rattle.worker_share.specs.Window.{leaves, copies_out}
-use Rattle.worker_share.specs.Leaving.{is_among, Returns}
+use Rattle.worker_share.specs.Leaving.{is_one_of, MoteReturns}
 use Rattle.worker_share.proofs.Gives.{IsBack, ComesLate, come_late}
 use Rattle.worker_share.proofs.Left.{among_more}
 
@@ -51,16 +51,16 @@ or_yes true = refl
 or_yes false = refl
 
 module _ (n : NetTold) (of : List ℕ) (worker from until : ℕ) (before now : Motes) (taken : List RadioCopy) (inbox : ℕ → List RadioCopy) (placed : length n.radio.places ≡ length n.motes)
-    (short : until ≤ from + (system_of n).lookahead) (others : List ℕ) (k : ℕ) (new : is_among k others ≡ false) (out : WindowOut) (back : IsBack n (is_own of worker) from until before inbox k out)
+    (short : until ≤ from + (system_of n).lookahead) (others : List ℕ) (k : ℕ) (new : is_one_of k others ≡ false) (out : WindowOut) (back : IsBack n (is_own of worker) from until before inbox k out)
     (waits : now k ≡ before k) where
   abbrev own : ℕ → Bool
   own = is_own of worker
 
   abbrev away : ℕ → Bool
-  away j = own j && not (is_among j (others ++ k ∷ []))
+  away j = own j && not (is_one_of j (others ++ k ∷ []))
 
   abbrev home : ℕ → Bool
-  home j = own j && not (is_among j others)
+  home j = own j && not (is_one_of j others)
 
   abbrev pub next : Motes
   next = put now k back.last
@@ -75,10 +75,10 @@ module _ (n : NetTold) (of : List ℕ) (worker from until : ℕ) (before now : M
   home_k = ap (λ b. own k && not b) new ∙ (let e = back.mine in rw e refl)
 
   away_k : away k ≡ false
-  away_k = ap (λ b. own k && not b) (among_more k others k ∙ (ap (λ b. is_among k others || b) (eq-eqb k k refl) ∙ or_yes (is_among k others))) ∙ (let e = back.mine in rw e refl)
+  away_k = ap (λ b. own k && not b) (among_more k others k ∙ (ap (λ b. is_one_of k others || b) (eq-eqb k k refl) ∙ or_yes (is_one_of k others))) ∙ (let e = back.mine in rw e refl)
 
   same_home : (j : ℕ) → (j ≡ k → ⊥) → away j ≡ home j
-  same_home j ne = ap (λ b. own j && not b) (among_more j others k ∙ (ap (λ b. is_among j others || b) (ne_eqb k j (λ f. ne (sym f))) ∙ or_none (is_among j others)))
+  same_home j ne = ap (λ b. own j && not b) (among_more j others k ∙ (ap (λ b. is_one_of j others || b) (ne_eqb k j (λ f. ne (sym f))) ∙ or_none (is_one_of j others)))
 
   -- of the mote that is back, and of another
   by_mote : (P : ℕ → Type 0) → P k → ((j : ℕ) → (j ≡ k → ⊥) → P j) → (j : ℕ) → P j
@@ -132,7 +132,7 @@ module _ (n : NetTold) (of : List ℕ) (worker from until : ℕ) (before now : M
           ap (λ l. cond (own s) (filter (leaves own) l) []) (copies_put s ne)
           ∙ sym (ap (λ l. copies_out n own now s ++ l) (from_others (leaves own) s ne) ∙ append-nil (copies_out n own now s))
 
-  module _ (old share : Share) (stands : IsShare n of worker away until now taken old) (gone later : List RadioCopy) (ret : Returns n.radio of k out old share gone later) where
+  module _ (old share : Share) (stands : IsShare n of worker away until now taken old) (gone later : List RadioCopy) (ret : MoteReturns n.radio of k out old share gone later) where
     abbrev has : HasToCome n own away until now taken old.agenda.buckets
     has = stands.agenda
 
@@ -145,11 +145,11 @@ module _ (n : NetTold) (of : List ℕ) (worker from until : ℕ) (before now : M
     within : k < length old.motes.items
     within = let a = back.there in let b = stands.places in omega arith
 
-    mote_k : mote_in share.motes.items k ≡ Some out.mote
-    mote_k = ap (λ l. mote_in l k) ret.motes ∙ get_or-set_same old.motes.items k (Some out.mote) None within
+    mote_k : mote_here share.motes.items k ≡ Some out.mote
+    mote_k = ap (λ l. mote_here l k) ret.motes ∙ get_or-set_same old.motes.items k (Some out.mote) None within
 
-    mote_else : (j : ℕ) → (j ≡ k → ⊥) → mote_in share.motes.items j ≡ mote_in old.motes.items j
-    mote_else j ne = ap (λ l. mote_in l j) ret.motes ∙ get_or-set_other old.motes.items k j (Some out.mote) None ne
+    mote_else : (j : ℕ) → (j ≡ k → ⊥) → mote_here share.motes.items j ≡ mote_here old.motes.items j
+    mote_else j ne = ap (λ l. mote_here l j) ret.motes ∙ get_or-set_other old.motes.items k j (Some out.mote) None ne
 
     wakes_are : (j : ℕ) → filter (is_wake_of j) items ≡ filter (is_wake_of j) has.items ++ filter (is_wake_of j) (wake_items k out.wake)
     wakes_are j =
@@ -211,7 +211,7 @@ module _ (n : NetTold) (of : List ℕ) (worker from until : ℕ) (before now : M
       places = ap length ret.motes ∙ (length-set old.motes.items k (Some out.mote) ∙ stands.places);
       numbers = at_home (λ j m. number_of m.state ≡ j) back.number_is stands.numbers;
       nodes =
-          by_mote (λ j. home j ≡ true → node_at (tree_at n j) (mote_in share.motes.items j) ≡ Some (next j).state)
+          by_mote (λ j. home j ≡ true → node_at (tree_at n j) (mote_here share.motes.items j) ≡ Some (next j).state)
           (λ _. ap (node_at (tree_at n k)) mote_k ∙ (back.node ∙ ap (λ m. Some m.state) (sym at_k)))
           (λ j ne h. ap (node_at (tree_at n j)) (mote_else j ne) ∙ (stands.nodes j (same_home j ne ∙ h) ∙ ap (λ m. Some m.state) (sym (elsewhere j ne))));
       wakes = at_home (λ j m. m.wake ≡ wake_of m.state) back.wakes stands.wakes;

@@ -15,10 +15,10 @@ use Rattle.window_law.specs.Windows.{first_mote, is_from_sender, is_sent_by}
 use Rattle.window_law.proofs.Agenda.{first_wakes, packets_wakes}
 use Rattle.window_law.proofs.Lists.{filter_filter}
 use Rattle.net_agenda.specs.Buckets.{Holds}
-use Rattle.net_agenda.specs.NetSystem.{system_of, first_node, tree_at}
+use Rattle.net_agenda.specs.NetSystem.{system_of, first_node_in, tree_at}
 use Rattle.net_agenda.proofs.NewWakes.{new_wakes, new_numbers}
 use Rattle.worker_share.specs.declared.share.Share.{Share}
-use Rattle.worker_share.specs.Share.{is_own, node_at, mote_in, Keeps, copies_known, is_to_come}
+use Rattle.worker_share.specs.Share.{is_own, node_at, mote_here, Keeps, copies_known, is_to_come}
 
 -- a mote of the worker is one of the net
 pub own_there : (of : List ℕ) (worker k : ℕ) → is_own of worker k ≡ true → k < length of
@@ -50,7 +50,7 @@ module _ (n : NetTold) (of : List ℕ) (worker : ℕ) (long : length of ≡ leng
   unfolding system_of
   wakes_at_0 k mine = let h = own_there of worker k mine in let e : ltb k (length n.motes) ≡ true = lt-ltb k (length n.motes) (omega arith) in rw e refl
 
-  first_state : (k : ℕ) → (first_mote (system_of n) k).state ≡ first_node n k
+  first_state : (k : ℕ) → (first_mote (system_of n) k).state ≡ first_node_in n k
   unfolding system_of
   first_state k = refl
 
@@ -70,7 +70,7 @@ module _ (n : NetTold) (of : List ℕ) (worker : ℕ) (long : length of ≡ leng
       ]
 
   pub begins : (share : Share) → share.worker ≡ worker → length share.motes.items ≡ length n.motes → length share.traces.items ≡ length n.motes
-      → ((k : ℕ) → k < length n.motes → own k ≡ true → node_at (tree_at n k) (mote_in share.motes.items k) ≡ Some (first_node n k))
+      → ((k : ℕ) → k < length n.motes → own k ≡ true → node_at (tree_at n k) (mote_here share.motes.items k) ≡ Some (first_node_in n k))
       → ((k : ℕ) (d : Vec Line Global) → k < length n.motes → (get_or share.traces.items k d).items ≡ [])
       → share.log.items ≡ [] → Holds share.agenda.buckets (map (λ k. Wake 0 k) (filter own (up_to (length n.motes))))
       → Keeps n of worker 0 (first_mote (system_of n)) [] share

@@ -16,7 +16,7 @@ use Rattle.net_agenda.specs.NetSystem.{tree_at, system_of}
 use Rattle.worker_share.specs.declared.share.Share.{Share}
 use Rattle.worker_share.specs.Share.{Motes, IsShare, copies_known, is_own}
 use Rattle.worker_share.specs.Window.{GoesOut, RunsWindow, copies_out, leaves}
-use Rattle.worker_share.specs.Leaving.{IsNumbered, IsFit, Returns, is_among, are_different, numbers_of}
+use Rattle.worker_share.specs.Leaving.{HasNumber, IsOutOfNet, MoteReturns, is_one_of, are_different, numbers_of}
 use Rattle.worker_share.proofs.Gives.{IsSentIn, IsBack}
 use Rattle.worker_share.proofs.Left.{among_more, different_less}
 use Rattle.worker_share.proofs.Back.{next, at_k, elsewhere, out_more, is_back}
@@ -26,10 +26,10 @@ pub record IsFitOwn (n : NetTold) (of : List ℕ) (worker until : ℕ) (out : Wi
   pub number : ℕ
   pub mine : is_own of worker number ≡ true
   pub there : number < length n.motes
-  pub numbered : IsNumbered number out.mote
+  pub numbered : HasNumber number out.mote
   pub sent : AllByRecursion (IsSentIn number 0 until) out.sends.items
 
-pub fits : (n : NetTold) (of : List ℕ) (worker until motes : ℕ) (out : WindowOut) → IsFitOwn n of worker until out → motes ≡ length n.motes → until ≤ 2 ^ 40 → IsFit motes out
+pub fits : (n : NetTold) (of : List ℕ) (worker until motes : ℕ) (out : WindowOut) → IsFitOwn n of worker until out → motes ≡ length n.motes → until ≤ 2 ^ 40 → IsOutOfNet motes out
 fits n of worker until motes out fit e early = record {
   number = fit.number;
   numbered = fit.numbered;
@@ -93,10 +93,10 @@ pub record Coming (n : NetTold) (of : List ℕ) (worker from until : ℕ) (motes
   pub different : are_different rest ≡ true
   pub now : Motes
   pub backs : AllZip (IsBack n (is_own of worker) from until motes inbox) rest outs
-  pub stands : IsShare n of worker (λ j. is_own of worker j && not (is_among j rest)) until now taken share
-  pub waits : (k : ℕ) → is_among k rest ≡ true → now k ≡ motes k
+  pub stands : IsShare n of worker (λ j. is_own of worker j && not (is_one_of j rest)) until now taken share
+  pub waits : (k : ℕ) → is_one_of k rest ≡ true → now k ≡ motes k
   pub others : (k : ℕ) → is_own of worker k ≡ false → now k ≡ motes k
-  pub alone : (k : ℕ) → is_own of worker k ≡ true → is_among k rest ≡ false → Alone (system_of n) k until (inbox k) (motes k) (now k)
+  pub alone : (k : ℕ) → is_own of worker k ≡ true → is_one_of k rest ≡ false → Alone (system_of n) k until (inbox k) (motes k) (now k)
   pub sent : (s : ℕ) → copies_out n (is_own of worker) now s ≡ copies_out n (is_own of worker) motes s ++ filter (is_from_sender s) away
 
 or_none : (b : Bool) → (b || false) ≡ b
@@ -113,7 +113,7 @@ module _ (n : NetTold) (of : List ℕ) (worker from until : ℕ) (motes : Motes)
   mine = is_own of worker
 
   module _ (old share : Share) (outs more : List WindowOut) (out : WindowOut) (popped : outs ≡ more ++ out ∷ []) (before after : List RadioCopy) (coming : Coming n of worker from until motes taken inbox old outs before)
-      (returns : (k : ℕ) → IsNumbered k out.mote → Returns n.radio of k out old share before after) where
+      (returns : (k : ℕ) → HasNumber k out.mote → MoteReturns n.radio of k out old share before after) where
     l : Last (IsBack n mine from until motes inbox) coming.rest more out
     l = last_of (IsBack n mine from until motes inbox) coming.rest more out (subst (AllZip (IsBack n mine from until motes inbox) coming.rest) popped coming.backs)
 
@@ -123,17 +123,17 @@ module _ (n : NetTold) (of : List ℕ) (worker from until : ℕ) (motes : Motes)
     abbrev k : ℕ
     k = l.number
 
-    ret : Returns n.radio of k out old share before after
+    ret : MoteReturns n.radio of k out old share before after
     ret = returns k (record { tree = tree_at n k; node = l.last.last.state; is = l.last.node; number_is = l.last.number_is })
 
-    d : (are_different front ≡ true) × (is_among k front ≡ false)
+    d : (are_different front ≡ true) × (is_one_of k front ≡ false)
     d = different_less front k (ap are_different (sym l.is) ∙ coming.different)
 
-    among : (j : ℕ) → is_among j coming.rest ≡ (is_among j front || eqb k j)
-    among j = ap (is_among j) l.is ∙ among_more j front k
+    among : (j : ℕ) → is_one_of j coming.rest ≡ (is_one_of j front || eqb k j)
+    among j = ap (is_one_of j) l.is ∙ among_more j front k
 
     waited : coming.now k ≡ motes k
-    waited = coming.waits k (among k ∙ (ap (λ b. is_among k front || b) (eq-eqb k k refl) ∙ or_yes (is_among k front)))
+    waited = coming.waits k (among k ∙ (ap (λ b. is_one_of k front || b) (eq-eqb k k refl) ∙ or_yes (is_one_of k front)))
 
     abbrev after_it : Motes
     after_it = next n of worker from until motes coming.now taken inbox placed short front k d.1 out l.last waited
@@ -141,13 +141,13 @@ module _ (n : NetTold) (of : List ℕ) (worker from until : ℕ) (motes : Motes)
     else_same : (j : ℕ) → (j ≡ k → ⊥) → after_it j ≡ coming.now j
     else_same j ne = elsewhere n of worker from until motes coming.now taken inbox placed short front k d.1 out l.last waited j ne
 
-    stands_then : IsShare n of worker (λ j. mine j && not (is_among j (front ++ k ∷ []))) until coming.now taken old
-    stands_then = subst (λ ks. IsShare n of worker (λ j. mine j && not (is_among j ks)) until coming.now taken old) l.is coming.stands
+    stands_then : IsShare n of worker (λ j. mine j && not (is_one_of j (front ++ k ∷ []))) until coming.now taken old
+    stands_then = subst (λ ks. IsShare n of worker (λ j. mine j && not (is_one_of j ks)) until coming.now taken old) l.is coming.stands
 
-    among_else : (j : ℕ) → (j ≡ k → ⊥) → is_among j coming.rest ≡ is_among j front
-    among_else j ne = among j ∙ (ap (λ b. is_among j front || b) (ne_eqb k j (λ f. ne (sym f))) ∙ or_none (is_among j front))
+    among_else : (j : ℕ) → (j ≡ k → ⊥) → is_one_of j coming.rest ≡ is_one_of j front
+    among_else j ne = among j ∙ (ap (λ b. is_one_of j front || b) (ne_eqb k j (λ f. ne (sym f))) ∙ or_none (is_one_of j front))
 
-    alone_then : (j : ℕ) → mine j ≡ true → is_among j front ≡ false → Alone (system_of n) j until (inbox j) (motes j) (after_it j)
+    alone_then : (j : ℕ) → mine j ≡ true → is_one_of j front ≡ false → Alone (system_of n) j until (inbox j) (motes j) (after_it j)
     alone_then j h e =
         elim (cases_eq j k) [
           | inl f ↦ subst (λ i. Alone (system_of n) i until (inbox i) (motes i) (after_it i)) (sym f)
@@ -174,7 +174,7 @@ module _ (n : NetTold) (of : List ℕ) (worker from until : ℕ) (motes : Motes)
       backs = l.zip;
       stands = is_back n of worker from until motes coming.now taken inbox placed short front k d.1 out l.last waited old share stands_then before after ret;
       waits = λ j e. (
-          let ne : j ≡ k → ⊥ = λ f. false≢true (sym d.1 ∙ (ap (λ i. is_among i front) (sym f) ∙ e)) in
+          let ne : j ≡ k → ⊥ = λ f. false≢true (sym d.1 ∙ (ap (λ i. is_one_of i front) (sym f) ∙ e)) in
           else_same j ne ∙ coming.waits j (among_else j ne ∙ e));
       others = λ j e. (
           let ne : j ≡ k → ⊥ = λ f. false≢true (sym e ∙ (ap mine f ∙ l.last.mine)) in
@@ -196,7 +196,7 @@ module _ (n : NetTold) (of : List ℕ) (worker from until : ℕ) (motes : Motes)
       → RunsWindow n of worker from until motes taken share away
   all_back share outs away e coming inboxes = record {
     next = coming.now;
-    runs = λ k h. record { inbox = inbox k; is_inbox = inboxes k h; alone = coming.alone k h (ap (is_among k) none) };
+    runs = λ k h. record { inbox = inbox k; is_inbox = inboxes k h; alone = coming.alone k h (ap (is_one_of k) none) };
     others = coming.others;
     keeps = record {
       is_worker = coming.stands.is_worker;
@@ -221,8 +221,8 @@ module _ (n : NetTold) (of : List ℕ) (worker from until : ℕ) (motes : Motes)
       none : coming.rest ≡ []
       none = none_of (IsBack n all_mine from until motes inbox) coming.rest (subst (AllZip (IsBack n all_mine from until motes inbox) coming.rest) e coming.backs)
 
-      here : (k : ℕ) → (all_mine k && not (is_among k coming.rest)) ≡ all_mine k
-      here k = ap (λ ks. all_mine k && not (is_among k ks)) none ∙ and_yes (all_mine k)
+      here : (k : ℕ) → (all_mine k && not (is_one_of k coming.rest)) ≡ all_mine k
+      here k = ap (λ ks. all_mine k && not (is_one_of k ks)) none ∙ and_yes (all_mine k)
 
-      home : (k : ℕ) → all_mine k ≡ true → (all_mine k && not (is_among k coming.rest)) ≡ true
+      home : (k : ℕ) → all_mine k ≡ true → (all_mine k && not (is_one_of k coming.rest)) ≡ true
       home k h = here k ∙ h

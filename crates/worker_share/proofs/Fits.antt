@@ -15,9 +15,9 @@ use Rattle.window_run.specs.Shares.{ResidentGives, GivesList, AreInNet}
 use Rattle.net_agenda.specs.Buckets.{Buckets}
 use Rattle.net_agenda.specs.NetSystem.{tree_at}
 use Rattle.worker_share.specs.declared.share.Share.{Share}
-use Rattle.worker_share.specs.Calls.{Calls, copies_for, Gathers}
-use Rattle.worker_share.specs.Share.{IsKept, is_own, node_at, mote_in}
-use Rattle.worker_share.specs.Leaving.{IsCalled, Leaves}
+use Rattle.worker_share.specs.Calls.{CalledMotes, copies_for, Gathers}
+use Rattle.worker_share.specs.Share.{IsKept, is_own, node_at, mote_here}
+use Rattle.worker_share.specs.Leaving.{IsCalled, MotesLeave}
 use Rattle.worker_share.proofs.Begins.{own_there}
 use Rattle.worker_share.proofs.Gives.{IsBack, back, gives_open}
 use Rattle.worker_share.proofs.Items.{inside}
@@ -56,14 +56,14 @@ module _ (n : NetTold) (of : List ℕ) (share : Share) (kept : IsKept n of share
       (every_weaker _ _ (λ item h. h.0) kept.keeps.agenda.items (inside n mine mine kept.from kept.motes kept.taken share.agenda.buckets kept.keeps.agenda (λ k h. h) kept.keeps.quiet))
       (every_map _ Packet arrived (every_weaker _ _ (λ c h. same_own c.to ∙ h) arrived to_own))
 
-  module _ (until : ℕ) (calls : Calls) (gathers : Gathers until all_items calls) where
+  module _ (until : ℕ) (calls : CalledMotes) (gathers : Gathers until all_items calls) where
     called_mine : (k : ℕ) → is_some (copies_for calls k) ≡ true → mine k ≡ true
     called_mine k e = called_in (λ k. mine k ≡ true) until k all_items all_mine (sym (gathers.called k) ∙ e)
 
-    pub called_here : (k : ℕ) → IsSome (copies_for calls k) → IsSome (mote_in share.motes.items k)
-    called_here k h = some_mote (tree_at n k) (mote_in share.motes.items k) _ (kept.keeps.nodes k (called_mine k (is_some_of (copies_for calls k) h)))
+    pub called_here : (k : ℕ) → IsSome (copies_for calls k) → IsSome (mote_here share.motes.items k)
+    called_here k h = some_mote (tree_at n k) (mote_here share.motes.items k) _ (kept.keeps.nodes k (called_mine k (is_some_of (copies_for calls k) h)))
 
-    module _ (new : List (Option Mote)) (before after : Buckets) (residents : List Resident) (leaves : Leaves until calls share.motes.items new before after residents) where
+    module _ (new : List (Option Mote)) (before after : Buckets) (residents : List Resident) (leaves : MotesLeave until calls share.motes.items new before after residents) where
       number_mine : (r : Resident) → IsCalled calls share.motes.items r → mine r.number ≡ true
       number_mine r called = called_mine r.number (ap is_some called.copies)
 

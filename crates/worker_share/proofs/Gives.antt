@@ -20,12 +20,11 @@ use Rattle.window_law.specs.Windows.{LoneMote, WakesFrom, own_turn, IsQuiet, Alo
 use Rattle.window_law.proofs.Lists.{every_append, every_weaker, every_flat_map}
 use Rattle.window_run.specs.declared.out.WindowOut.{WindowOut}
 use Rattle.window_run.specs.declared.share.Resident.{Resident}
-use Rattle.window_run.specs.Window.{Window, standing}
-use Rattle.window_run.specs.Window as window
+use Rattle.window_run.specs.Window.{Window, lone_node}
 use Rattle.window_run.specs.Out.{Gives}
 use Rattle.window_run.specs.Shares.{ResidentGives}
 use Rattle.net_agenda.specs.Buckets.{arrival_of}
-use Rattle.net_agenda.specs.NetSystem.{mote_at, no_mote, tree_at, system_of}
+use Rattle.net_agenda.specs.NetSystem.{mote_at, no_mote, tree_at, system_of, node_turn}
 use Rattle.net_agenda.proofs.Systems.{turn_wakes}
 use Rattle.worker_share.specs.Share.{Motes, number_of}
 use Rattle.worker_share.proofs.Lone.{in_front, alone_in_front, alone_alike, alone_keeps, rests_quiet, IsAlike}
@@ -83,7 +82,7 @@ mote_there n k h = of (slice_get n.motes k) refl ((slice_get_cases n.motes k).1)
 
 -- the window of a resident that is a mote of the net
 pub gives_open : (n : NetTold) (until : ℕ) (r : Resident) (out : WindowOut) (state : Node) → r.number < length n.motes → node_in (tree_at n r.number) r.mote ≡ Some state → ResidentGives n until r out
-    → Gives (record { program = tree_at n r.number; until = until; copies = r.copies.items; mote = standing state }) out
+    → Gives (record { program = tree_at n r.number; until = until; copies = r.copies.items; mote = lone_node state }) out
 gives_open n until r out state h f g =
     let e = mote_there n r.number h in
     let told = rw e at g in
@@ -95,7 +94,7 @@ module _ (n : NetTold) (from until : ℕ) where
   unfolding system_of
   later mote state moment given = wakes_later moment (map arrival_of given) state
 
-  turn_is : (system_of n).turn ≡ window.node_turn
+  turn_is : (system_of n).turn ≡ node_turn
   unfolding system_of
   turn_is = refl
 
@@ -114,17 +113,17 @@ module _ (n : NetTold) (from until : ℕ) where
   -- where a resident's answer is told, the mote is back
   module _ (own : ℕ → Bool) (motes : Motes) (inbox : ℕ → List RadioCopy) (k : ℕ) (mine : own k ≡ true) (there : k < length n.motes) (numbered : number_of (motes k).state ≡ k)
       (wakes : (motes k).wake ≡ wake_of (motes k).state) (wakes_from : WakesFrom from (motes k).wake) (inbox_from : AllByRecursion (λ c. from ≤ c.at) (inbox k)) where
-    front_is : in_front (motes k).lines (motes k).sends (standing (motes k).state) ≡ motes k
+    front_is : in_front (motes k).lines (motes k).sends (lone_node (motes k).state) ≡ motes k
     front_is =
         ap (λ (l : List Line). record { state = (motes k).state; wake = wake_of (motes k).state; lines = l; sends = (motes k).sends ++ [] }) (append-nil (motes k).lines)
         ∙ (ap (λ (l : List Sent). record { state = (motes k).state; wake = wake_of (motes k).state; lines = (motes k).lines; sends = l }) (append-nil (motes k).sends)
         ∙ ap (λ (w : Option ℕ). record { state = (motes k).state; wake = w; lines = (motes k).lines; sends = (motes k).sends }) (sym wakes))
 
     module _ (mote : Mote) (given : List RadioCopy) (alike : IsAlike (system_of n) k until given (inbox k)) (out : WindowOut) where
-      quiet : IsQuiet from (standing (motes k).state).wake (inbox k)
+      quiet : IsQuiet from (lone_node (motes k).state).wake (inbox k)
       quiet = record { no_wake = subst (WakesFrom from) wakes wakes_from; no_copies = inbox_from }
 
-      pub back : Gives (record { program = tree_at n k; until = until; copies = given; mote = standing (motes k).state }) out → IsBack n own from until motes inbox k out
+      pub back : Gives (record { program = tree_at n k; until = until; copies = given; mote = lone_node (motes k).state }) out → IsBack n own from until motes inbox k out
       back gives = record {
         mine = mine;
         there = there;
@@ -145,8 +144,8 @@ module _ (n : NetTold) (from until : ℕ) where
           told : IsTold (node_in (tree_at n k) out.mote) out gives.last
           told = told_is (node_in (tree_at n k) out.mote) out gives.last gives.given
 
-          alone : Alone (system_of n) k until (inbox k) (standing (motes k).state) gives.last
-          alone = alone_alike (system_of n) k until (inbox k) alike (subst (λ j. Alone (system_of n) j until given (standing (motes k).state) gives.last) numbered (gives.run (system_of n) turn_is))
+          alone : Alone (system_of n) k until (inbox k) (lone_node (motes k).state) gives.last
+          alone = alone_alike (system_of n) k until (inbox k) alike (subst (λ j. Alone (system_of n) j until given (lone_node (motes k).state) gives.last) numbered (gives.run (system_of n) turn_is))
 
   -- the copies of what a mote sent in the window come after it
   pub record ComesLate (k : ℕ) (copy : RadioCopy) : Type 0 where

@@ -5,7 +5,7 @@ use Rattle.std.proofs.lemmas.Bool.{and_parts, eqb-true}
 use Rattle.std.proofs.lemmas.Bool.Decides.{nat_tests}
 use Rattle.radio_medium.specs.declared.copy.RadioCopy.{RadioCopy}
 use Rattle.net_scenario.specs.Net.{NetTold}
-use Rattle.window_law.specs.Agenda.{Item, moment_of, mote_of, is_due, packets, wake_items, IsLeast}
+use Rattle.window_law.specs.Agenda.{Item, moment_of, mote_of, comes_at, packets, wake_items, IsLeast}
 use Rattle.window_law.specs.Windows.{WakesFrom, is_from_sender}
 use Rattle.window_law.proofs.Lists.{any_every, every_weaker, every_filter, filter_both, filter_every}
 use Rattle.worker_share.specs.declared.share.Share.{Share}
@@ -38,7 +38,7 @@ module _ (n : NetTold) (of : List ℕ) (worker from : ℕ) (motes : Motes) (take
   none_sooner = every_weaker _ _ (λ item h. h.1) items (inside n own own from motes taken share.agenda.buckets keeps.agenda (λ k h. h) keeps.quiet)
 
   pub first_from : (t m : ℕ) → IsLeast t m items → from ≤ t
-  first_from t m least = any_every _ (is_due t m) _ (λ item e h. let f = eqb-true (moment_of item) t (and_parts (eqb (moment_of item) t) (eqb (mote_of item) m) e).0 in omega arith) items least.is_there none_sooner
+  first_from t m least = any_every _ (comes_at t m) _ (λ item e h. let f = eqb-true (moment_of item) t (and_parts (eqb (moment_of item) t) (eqb (mote_of item) m) e).0 in omega arith) items least.is_there none_sooner
 
   wake_then : (moment k : ℕ) → own k ≡ true → AllByRecursion (λ item. moment ≤ moment_of item) items → WakesFrom moment (motes k).wake
   wake_then moment k mine h =

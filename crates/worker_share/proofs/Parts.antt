@@ -7,17 +7,17 @@ use Rattle.std.proofs.lemmas.List.Elements.{filter-append}
 use Rattle.radio_medium.specs.declared.copy.RadioCopy.{RadioCopy}
 use Rattle.net_scenario.specs.Net.{NetTold}
 use Rattle.window_law.specs.Order.{in_order}
-use Rattle.window_law.specs.Agenda.{Item, Packet, moment_of, mote_of, is_wake_of, is_due, packets, wake_items}
+use Rattle.window_law.specs.Agenda.{Item, Packet, moment_of, mote_of, is_wake_of, comes_at, packets, wake_items}
 use Rattle.window_law.specs.Windows.{WakesFrom, is_at, is_from_sender, is_within, copies_by, Alone, Rests}
 use Rattle.window_law.proofs.Agenda.{packets_filter, packets_append, packets_map, no_wake_in_packets}
 use Rattle.window_law.proofs.Lists.{filter_filter, filter_both, filter_none, filter_every, filter_never, every_append, every_weaker, every_filter, every_map, filled_any, unfilled}
 use Rattle.window_law.proofs.Order.{sorted_rising}
 use Rattle.net_agenda.specs.NetSystem.{system_of}
 use Rattle.worker_share.specs.declared.share.Share.{Share}
-use Rattle.worker_share.specs.Calls.{is_late, calls_for, GathersFor}
+use Rattle.worker_share.specs.Calls.{is_not_before, calls_for, GathersFor}
 use Rattle.worker_share.specs.Share.{Motes, Keeps, is_own, copies_known, is_to_come}
 use Rattle.worker_share.specs.Window.{ComesIn}
-use Rattle.worker_share.specs.Leaving.{is_among, stays_without}
+use Rattle.worker_share.specs.Leaving.{is_one_of, stays_without}
 use Rattle.worker_share.proofs.Items.{inside, packets_of_all}
 use Rattle.worker_share.proofs.Rises.{sorted_is_sorted}
 
@@ -142,10 +142,10 @@ module _ (n : NetTold) (of : List ℕ) (worker from until : ℕ) (motes : Motes)
   pub inbox_from : (k : ℕ) → AllByRecursion (λ c. from ≤ c.at) (inbox k)
   inbox_from k = every_filter _ _ (is_soon k) (λ c h e. h.1) (packets items) (packets_of_all IsIn items all_in)
 
-  at_inbox : (k t : ℕ) → filter (is_at t) (inbox k) ≡ cond (ltb t until) (packets (filter (is_due t k) items)) []
+  at_inbox : (k t : ℕ) → filter (is_at t) (inbox k) ≡ cond (ltb t until) (packets (filter (comes_at t k) items)) []
   at_inbox k t =
       elim (cases_Bool (ltb t until)) [
-        | inl e ↦ rw e (filter_both (is_at t) (is_soon k) (λ c. is_due t k (Packet c)) (λ c. due_soon c.at c.to t k until (soon e)) (packets items) ∙ sym (packets_filter (is_due t k) items))
+        | inl e ↦ rw e (filter_both (is_at t) (is_soon k) (λ c. comes_at t k (Packet c)) (λ c. due_soon c.at c.to t k until (soon e)) (packets items) ∙ sym (packets_filter (comes_at t k) items))
         | inr e ↦ rw e (filter_both (is_at t) (is_soon k) (λ c. false) (λ c. never_soon c.at c.to t k until (not_soon e)) (packets items) ∙ filter_never (packets items))
       ]
     where
@@ -161,7 +161,7 @@ module _ (n : NetTold) (of : List ℕ) (worker from until : ℕ) (motes : Motes)
   pub alike : (k : ℕ) (copies : List RadioCopy) → GathersFor until items k copies → (t : ℕ) → in_order (filter (is_at t) copies) ≡ in_order (filter (is_at t) (inbox k))
   alike k copies g t =
       ap in_order (g.all t)
-      ∙ (elim (cases_Bool (ltb t until)) [ inl e ↦ rw e (in_order_again (packets (filter (is_due t k) items))) | inr e ↦ rw e refl ]
+      ∙ (elim (cases_Bool (ltb t until)) [ inl e ↦ rw e (in_order_again (packets (filter (comes_at t k) items))) | inr e ↦ rw e refl ]
       ∙ sym (ap in_order (at_inbox k t)))
 
   pub idle_alone : (k : ℕ) → own k ≡ true → called k ≡ false → Alone (system_of n) k until (inbox k) (motes k) (motes k)
@@ -171,26 +171,26 @@ module _ (n : NetTold) (of : List ℕ) (worker from until : ℕ) (motes : Motes)
       empty = sym (packets_filter (calls_for until k) items) ∙ ap packets (unfilled (filter (calls_for until k) items) (filled_any (calls_for until k) items ∙ idle))
 
   -- once the motes that are called have left
-  module _ (numbers : List ℕ) (all : (k : ℕ) → is_among k numbers ≡ called k) where
+  module _ (numbers : List ℕ) (all : (k : ℕ) → is_one_of k numbers ≡ called k) where
     abbrev pub home : ℕ → Bool
-    home k = own k && not (is_among k numbers)
+    home k = own k && not (is_one_of k numbers)
 
     abbrev pub left : List Item
-    left = filter (stays_without numbers) (filter (is_late until) items)
+    left = filter (stays_without numbers) (filter (is_not_before until) items)
 
     pub left_wakes : (k : ℕ) → filter (is_wake_of k) left ≡ cond (home k) (wake_items k (motes k).wake) []
     left_wakes k =
-        filter_filter (is_wake_of k) (stays_without numbers) (filter (is_late until) items)
-        ∙ (ap (filter (stays_without numbers)) (filter_filter (is_wake_of k) (is_late until) items ∙ ap (filter (is_late until)) (wakes_now k))
+        filter_filter (is_wake_of k) (stays_without numbers) (filter (is_not_before until) items)
+        ∙ (ap (filter (stays_without numbers)) (filter_filter (is_wake_of k) (is_not_before until) items ∙ ap (filter (is_not_before until)) (wakes_now k))
         ∙ go (own k) refl (motes k).wake refl)
       where
         go : (b : Bool) → own k ≡ b → (wake : Option ℕ) → (motes k).wake ≡ wake
-            → filter (stays_without numbers) (filter (is_late until) (cond b (wake_items k wake) [])) ≡ cond (b && not (is_among k numbers)) (wake_items k wake) []
+            → filter (stays_without numbers) (filter (is_not_before until) (cond b (wake_items k wake) [])) ≡ cond (b && not (is_one_of k numbers)) (wake_items k wake) []
         go false e wake f = refl
-        go true e None f = sym (same_both (not (is_among k numbers)) [])
+        go true e None f = sym (same_both (not (is_one_of k numbers)) [])
         go true e (Some t) f =
             elim (cases_Bool (ltb t until)) [
-              | inl g ↦ (let a : is_among k numbers ≡ true = all k ∙ soon_called k t e f (soon g) in rw (g, a) refl)
+              | inl g ↦ (let a : is_one_of k numbers ≡ true = all k ∙ soon_called k t e f (soon g) in rw (g, a) refl)
               | inr g ↦ rw g refl
             ]
           where
@@ -199,7 +199,7 @@ module _ (n : NetTold) (of : List ℕ) (worker from until : ℕ) (motes : Motes)
 
     pub left_copies : (s : ℕ) → filter (is_from_sender s) (packets left) ≡ filter (is_to_come own until) (known s)
     left_copies s =
-        ap (filter (is_from_sender s)) (packets_filter (stays_without numbers) (filter (is_late until) items) ∙ (filter_every (λ c. true) _ (units (packets (filter (is_late until) items))) ∙ packets_filter (is_late until) items))
+        ap (filter (is_from_sender s)) (packets_filter (stays_without numbers) (filter (is_not_before until) items) ∙ (filter_every (λ c. true) _ (units (packets (filter (is_not_before until) items))) ∙ packets_filter (is_not_before until) items))
         ∙ (filter_filter (is_from_sender s) (λ c. not (ltb c.at until)) (packets items)
         ∙ (ap (filter (λ c. not (ltb c.at until))) (known_now s)
         ∙ filter_both (λ c. not (ltb c.at until)) (is_to_come own from) (is_to_come own until) (λ c. still_later (own c.to) c.at from until le) (known s)))
@@ -209,9 +209,9 @@ module _ (n : NetTold) (of : List ℕ) (worker from until : ℕ) (motes : Motes)
         units (x ∷ xs) = (refl, units xs)
 
     pub home_parts : (k : ℕ) → home k ≡ true → (own k ≡ true) × (called k ≡ false)
-    home_parts k e = go (own k) (is_among k numbers) refl refl e
+    home_parts k e = go (own k) (is_one_of k numbers) refl refl e
       where
-        go : (a b : Bool) → own k ≡ a → is_among k numbers ≡ b → (a && not b) ≡ true → (own k ≡ true) × (called k ≡ false)
+        go : (a b : Bool) → own k ≡ a → is_one_of k numbers ≡ b → (a && not b) ≡ true → (own k ≡ true) × (called k ≡ false)
         go true true f g h = absurd (false≢true h)
         go true false f g h = (f, sym (all k) ∙ g)
         go false b f g h = absurd (false≢true h)

@@ -8,7 +8,7 @@ use Rattle.window_law.specs.Order.{is_before, insert_by, sorted_by, in_order}
 use Rattle.window_law.proofs.Lists.{every_append, every_weaker, every_both}
 use Rattle.net_agenda.specs.Buckets.{arrival_of}
 use Rattle.window_run.specs.Window.{comes_before, is_rising}
-use Rattle.worker_share.specs.Calls.{copy_at}
+use Rattle.net_agenda.specs.Items.{copy_at}
 
 -- `is_before` over plain numbers
 chained : (s a t b u c : ℕ) → (ltb s t || (eqb s t && not (ltb b a))) ≡ true → (ltb t u || (eqb t u && not (ltb c b))) ≡ true → (ltb s u || (eqb s u && not (ltb c a))) ≡ true

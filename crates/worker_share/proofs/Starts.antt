@@ -14,10 +14,10 @@ use Rattle.window_run.specs.Shares.{ResidentGives, GivesList}
 use Rattle.net_agenda.specs.Buckets.{Buckets, Holds}
 use Rattle.net_agenda.specs.NetSystem.{tree_at}
 use Rattle.worker_share.specs.declared.share.Share.{Share}
-use Rattle.worker_share.specs.Calls.{Calls, copies_for, is_late, calls_for, Gathers}
-use Rattle.worker_share.specs.Share.{Motes, IsShare, Keeps, is_own, node_at, mote_in}
+use Rattle.worker_share.specs.Calls.{CalledMotes, copies_for, is_not_before, calls_for, Gathers}
+use Rattle.worker_share.specs.Share.{Motes, IsShare, Keeps, is_own, node_at, mote_here}
 use Rattle.worker_share.specs.Window.{ComesIn, copies_out}
-use Rattle.worker_share.specs.Leaving.{IsCalled, Leaves, wake_from, is_among, numbers_of}
+use Rattle.worker_share.specs.Leaving.{IsCalled, MotesLeave, wake_from, is_one_of, numbers_of}
 use Rattle.worker_share.proofs.Begins.{own_there}
 use Rattle.worker_share.proofs.Gives.{IsBack, back, gives_open}
 use Rattle.worker_share.proofs.Parts.{items, inbox, inbox_from, alike, idle_alone, all_in, left, left_wakes, left_copies, quiet_else, home_parts, wakes_now}
@@ -28,7 +28,7 @@ pub called_in : (P : ℕ → Type 0) (until k : ℕ) (items : List Item) → All
 called_in P until k items all e =
     any_every (P k) (calls_for until k) _ (λ item f h. subst P (eqb-true (mote_of item) k (and_parts (ltb (moment_of item) until) (eqb (mote_of item) k) f).1) h) items e all
 
-late_wakes : (until k : ℕ) (wake : Option ℕ) → filter (is_late until) (wake_items k wake) ≡ wake_items k (wake_from until wake)
+late_wakes : (until k : ℕ) (wake : Option ℕ) → filter (is_not_before until) (wake_items k wake) ≡ wake_items k (wake_from until wake)
 late_wakes until k None = refl
 late_wakes until k (Some t) = elim (cases_Bool (ltb t until)) [ inl e ↦ rw e refl | inr e ↦ rw e refl ]
 
@@ -38,9 +38,9 @@ IsLeft old new = (new.worker ≡ old.worker) × (new.traces.items ≡ old.traces
 
 module _ (n : NetTold) (of : List ℕ) (worker from until : ℕ) (motes : Motes) (taken arrived : List RadioCopy) (old new : Share) (keeps : Keeps n of worker from motes taken old)
     (le : from ≤ until) (come : AllByRecursion (ComesIn of worker from) arrived) (long : length of ≡ length n.motes)
-    (calls : Calls) (before : Buckets) (residents : List Resident) (gathers : Gathers until (items n of worker from until motes taken arrived old keeps le come) calls)
-    (holds : Holds before (filter (is_late until) (items n of worker from until motes taken arrived old keeps le come)))
-    (leaves : Leaves until calls old.motes.items new.motes.items before new.agenda.buckets residents) where
+    (calls : CalledMotes) (before : Buckets) (residents : List Resident) (gathers : Gathers until (items n of worker from until motes taken arrived old keeps le come) calls)
+    (holds : Holds before (filter (is_not_before until) (items n of worker from until motes taken arrived old keeps le come)))
+    (leaves : MotesLeave until calls old.motes.items new.motes.items before new.agenda.buckets residents) where
   abbrev mine : ℕ → Bool
   mine = is_own of worker
 
@@ -50,7 +50,7 @@ module _ (n : NetTold) (of : List ℕ) (worker from until : ℕ) (motes : Motes)
   abbrev pub boxes : ℕ → List RadioCopy
   boxes = inbox n of worker from until motes taken arrived old keeps le come
 
-  all : (k : ℕ) → is_among k (numbers_of residents) ≡ list_any (calls_for until k) all_items
+  all : (k : ℕ) → is_one_of k (numbers_of residents) ≡ list_any (calls_for until k) all_items
   all k = leaves.all k ∙ gathers.called k
 
   called_mine : (k : ℕ) → is_some (copies_for calls k) ≡ true → mine k ≡ true
@@ -58,22 +58,22 @@ module _ (n : NetTold) (of : List ℕ) (worker from until : ℕ) (motes : Motes)
       called_in (λ k. mine k ≡ true) until k all_items (every_weaker _ _ (λ item h. h.0) all_items (all_in n of worker from until motes taken arrived old keeps le come)) (sym (gathers.called k) ∙ e)
 
   awake : (k : ℕ) → is_some (copies_for calls k) ≡ true
-      → filter (is_wake_of k) (filter (is_late until) all_items) ≡ wake_items k (wake_from until (wake_in (node_at (tree_at n k) (mote_in old.motes.items k))))
+      → filter (is_wake_of k) (filter (is_not_before until) all_items) ≡ wake_items k (wake_from until (wake_in (node_at (tree_at n k) (mote_here old.motes.items k))))
   awake k e =
       let h = called_mine k e in
-      filter_filter (is_wake_of k) (is_late until) all_items
-      ∙ (ap (filter (is_late until)) (wakes_now n of worker from until motes taken arrived old keeps le come k ∙ ap (λ b. cond b (wake_items k (motes k).wake) []) h)
+      filter_filter (is_wake_of k) (is_not_before until) all_items
+      ∙ (ap (filter (is_not_before until)) (wakes_now n of worker from until motes taken arrived old keeps le come k ∙ ap (λ b. cond b (wake_items k (motes k).wake) []) h)
       ∙ (late_wakes until k (motes k).wake
       ∙ ap (λ w. wake_items k (wake_from until w)) (keeps.wakes k h ∙ ap wake_in (sym (keeps.nodes k h)))))
 
   abbrev home : ℕ → Bool
-  home k = mine k && not (is_among k (numbers_of residents))
+  home k = mine k && not (is_one_of k (numbers_of residents))
 
   parts : (k : ℕ) → home k ≡ true → (mine k ≡ true) × (list_any (calls_for until k) all_items ≡ false)
   parts k h = home_parts n of worker from until motes taken arrived old keeps le come (numbers_of residents) all k h
 
-  same_mote : (k : ℕ) → home k ≡ true → mote_in new.motes.items k ≡ mote_in old.motes.items k
-  same_mote k h = leaves.gone k ∙ ap (λ b. cond b None (mote_in old.motes.items k)) (all k ∙ (parts k h).1)
+  same_mote : (k : ℕ) → home k ≡ true → mote_here new.motes.items k ≡ mote_here old.motes.items k
+  same_mote k h = leaves.gone k ∙ ap (λ b. cond b None (mote_here old.motes.items k)) (all k ∙ (parts k h).1)
 
   pub stands_left : IsLeft old new → IsShare n of worker home until motes (taken ++ arrived) new
   stands_left same = record {
@@ -88,7 +88,7 @@ module _ (n : NetTold) (of : List ℕ) (worker from until : ℕ) (motes : Motes)
     log = λ s. ap (filter (is_sent_by s)) same.2 ∙ keeps.log s;
     agenda = record {
       items = left n of worker from until motes taken arrived old keeps le come (numbers_of residents) all;
-      holds = leaves.agenda (tree_at n) (filter (is_late until) all_items) holds awake;
+      holds = leaves.agenda (tree_at n) (filter (is_not_before until) all_items) holds awake;
       wakes = left_wakes n of worker from until motes taken arrived old keeps le come (numbers_of residents) all;
       copies = left_copies n of worker from until motes taken arrived old keeps le come (numbers_of residents) all;
     };

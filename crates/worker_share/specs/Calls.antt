@@ -4,28 +4,23 @@ use Rattle.std.specs.List.{filter, list_any}
 use Rattle.std.specs.Ordering.{nat_cmp}
 use Rattle.std.specs.BTreeMap.{BTreeMap, get}
 use Rattle.std.specs.declared.alloc.Global.{Global}
-use Rattle.process_kernel.specs.declared.line.Arrival.{Arrival}
 use Rattle.radio_medium.specs.declared.copy.RadioCopy.{RadioCopy}
 use Rattle.window_law.specs.Order.{in_order}
-use Rattle.window_law.specs.Agenda.{Item, moment_of, mote_of, is_due, packets}
+use Rattle.window_law.specs.Agenda.{Item, moment_of, mote_of, comes_at, packets}
 use Rattle.window_law.specs.Windows.{is_at}
 use Rattle.window_run.specs.Window.{is_rising}
 use Rattle.net_agenda.specs.Buckets.{Buckets, Holds}
 
-abbrev pub Calls : Type 0
-Calls = BTreeMap ℕ (Vec RadioCopy Global)
+abbrev pub CalledMotes : Type 0
+CalledMotes = BTreeMap ℕ (Vec RadioCopy Global)
 
 -- the copies for a mote, if it is called
-abbrev pub copies_for : Calls → (mote : ℕ) → Option (List RadioCopy)
+abbrev pub copies_for : CalledMotes → (mote : ℕ) → Option (List RadioCopy)
 copies_for calls mote = option_map (λ copies. copies.items) (get nat_cmp calls mote)
 
--- the copy that arrives like this
-abbrev pub copy_at : (moment mote : ℕ) → Arrival → RadioCopy
-copy_at moment mote arrival = record { at = moment; to = mote; sender = arrival.sender; number = arrival.number; value = arrival.value }
-
 -- not before this moment
-abbrev pub is_late : (until : ℕ) → Item → Bool
-is_late until item = not (nat_lt (moment_of item) until)
+abbrev pub is_not_before : (until : ℕ) → Item → Bool
+is_not_before until item = not (nat_lt (moment_of item) until)
 
 -- something comes to this mote before this moment
 abbrev pub calls_for : (until mote : ℕ) → Item → Bool
@@ -34,10 +29,10 @@ calls_for until mote item = nat_lt (moment_of item) until && (mote_of item == mo
 -- the copies for a mote, rising, are those that the items have for it at each moment
 pub record GathersFor (until : ℕ) (items : List Item) (mote : ℕ) (copies : List RadioCopy) : Type 0 where
   pub rising : is_rising copies ≡ true
-  pub all : (moment : ℕ) → filter (is_at moment) copies ≡ (if nat_lt moment until then in_order (packets (filter (is_due moment mote) items)) else [])
+  pub all : (moment : ℕ) → filter (is_at moment) copies ≡ (if nat_lt moment until then in_order (packets (filter (comes_at moment mote) items)) else [])
 
 -- the calls are those that these items make before a moment
-pub record Gathers (until : ℕ) (items : List Item) (calls : Calls) : Type 0 where
+pub record Gathers (until : ℕ) (items : List Item) (calls : CalledMotes) : Type 0 where
   pub called : (mote : ℕ) → is_some (copies_for calls mote) ≡ list_any (calls_for until mote) items
   pub copies : (mote : ℕ) (copies : List RadioCopy) → copies_for calls mote ≡ Some copies → GathersFor until items mote copies
 

@@ -10,7 +10,7 @@ use Rattle.worker_share.specs.declared.share.Ended.{Ended}
 use Rattle.worker_share.specs.Share.{Motes, is_own, copies_known, is_to_come}
 
 -- the traces and the packets of the worker's motes, and how many copies are still to come to them
-pub record Tells (n : NetTold) (of : List ℕ) (worker from : ℕ) (motes : Motes) (taken : List RadioCopy) (ended : Ended) : Type 0 where
+pub record TellsAtEnd (n : NetTold) (of : List ℕ) (worker from : ℕ) (motes : Motes) (taken : List RadioCopy) (ended : Ended) : Type 0 where
   pub traces_kept : length ended.traces.items ≡ length n.motes
   pub traces : (k : ℕ) → is_own of worker k ≡ true → (d : Vec Line Global) → (slice_index_or ended.traces.items k d).items ≡ (motes k).lines
   pub log : (s : ℕ) → filter (is_sent_by s) ended.log.items ≡ (if is_own of worker s then (motes s).sends else [])

@@ -14,63 +14,63 @@ use Rattle.window_run.specs.declared.out.WindowOut.{WindowOut}
 use Rattle.window_run.specs.declared.share.Resident.{Resident}
 use Rattle.net_agenda.specs.Buckets.{Buckets, Holds}
 use Rattle.worker_share.specs.declared.share.Share.{Share}
-use Rattle.worker_share.specs.Calls.{Calls, copies_for}
-use Rattle.worker_share.specs.Share.{is_own, mote_in, node_at, number_of}
+use Rattle.worker_share.specs.Calls.{CalledMotes, copies_for}
+use Rattle.worker_share.specs.Share.{is_own, mote_here, node_at, number_of}
 use Rattle.worker_share.specs.Window.{leaves}
 
 abbrev pub wake_from : (until : ℕ) → Option ℕ → Option ℕ
 wake_from until None = None
 wake_from until (Some wake) = if nat_lt wake until then None else Some wake
 
-abbrev pub is_among : (number : ℕ) → List ℕ → Bool
-is_among number numbers = list_any (λ other. other == number) numbers
+abbrev pub is_one_of : (number : ℕ) → List ℕ → Bool
+is_one_of number numbers = list_any (λ other. other == number) numbers
 
 abbrev pub are_different : List ℕ → Bool
 are_different [] = true
-are_different (k ∷ ks) = not (is_among k ks) && are_different ks
+are_different (k ∷ ks) = not (is_one_of k ks) && are_different ks
 
 abbrev pub numbers_of : List Resident → List ℕ
 numbers_of residents = map (λ resident. resident.number) residents
 
 -- all but the wakes of these motes
 abbrev pub stays_without : List ℕ → Item → Bool
-stays_without numbers (Wake moment mote) = not (is_among mote numbers)
+stays_without numbers (Wake moment mote) = not (is_one_of mote numbers)
 stays_without numbers (Packet copy) = true
 
 -- a mote that was here, with the copies for it
-pub record IsCalled (calls : Calls) (motes : List (Option Mote)) (resident : Resident) : Type 0 where
-  pub mote : mote_in motes resident.number ≡ Some resident.mote
+pub record IsCalled (calls : CalledMotes) (motes : List (Option Mote)) (resident : Resident) : Type 0 where
+  pub mote : mote_here motes resident.number ≡ Some resident.mote
   pub copies : copies_for calls resident.number ≡ Some resident.copies.items
 
 -- in the agenda these motes have the wakes that they tell, from a moment on
-abbrev pub AreAwake : (until : ℕ) → Calls → List (Option Mote) → (trees : ℕ → Tree) → List Item → Type 0
-AreAwake until calls motes trees items = (k : ℕ) → is_some (copies_for calls k) ≡ true → filter (is_wake_of k) items ≡ wake_items k (wake_from until (wake_in (node_at (trees k) (mote_in motes k))))
+abbrev pub AreAwake : (until : ℕ) → CalledMotes → List (Option Mote) → (trees : ℕ → Tree) → List Item → Type 0
+AreAwake until calls motes trees items = (k : ℕ) → is_some (copies_for calls k) ≡ true → filter (is_wake_of k) items ≡ wake_items k (wake_from until (wake_in (node_at (trees k) (mote_here motes k))))
 
 -- the motes that are called left, with their wakes
-pub record Leaves (until : ℕ) (calls : Calls) (old new : List (Option Mote)) (before after : Buckets) (residents : List Resident) : Type 0 where
+pub record MotesLeave (until : ℕ) (calls : CalledMotes) (old new : List (Option Mote)) (before after : Buckets) (residents : List Resident) : Type 0 where
   pub different : are_different (numbers_of residents) ≡ true
-  pub all : (k : ℕ) → is_among k (numbers_of residents) ≡ is_some (copies_for calls k)
+  pub all : (k : ℕ) → is_one_of k (numbers_of residents) ≡ is_some (copies_for calls k)
   pub called : AllByRecursion (IsCalled calls old) residents
   pub places : length new ≡ length old
-  pub gone : (k : ℕ) → mote_in new k ≡ (if is_among k (numbers_of residents) then None else mote_in old k)
+  pub gone : (k : ℕ) → mote_here new k ≡ (if is_one_of k (numbers_of residents) then None else mote_here old k)
   pub agenda : (trees : ℕ → Tree) (items : List Item) → Holds before items → AreAwake until calls old trees items → Holds after (filter (stays_without (numbers_of residents)) items)
 
 -- the mote has this number
-pub record IsNumbered (number : ℕ) (mote : Mote) : Type 0 where
+pub record HasNumber (number : ℕ) (mote : Mote) : Type 0 where
   pub tree : Tree
   pub node : Node
   pub is : node_in tree mote ≡ Some node
   pub number_is : number_of node ≡ number
 
 -- what a mote of a net gave in a window
-pub record IsFit (motes : ℕ) (out : WindowOut) : Type 0 where
+pub record IsOutOfNet (motes : ℕ) (out : WindowOut) : Type 0 where
   pub number : ℕ
-  pub numbered : IsNumbered number out.mote
+  pub numbered : HasNumber number out.mote
   pub there : number < motes
   pub sends : AllByRecursion (λ sent. (sent.sender < motes) × (sent.at ≤ 2 ^ 40)) out.sends.items
 
 -- a mote is back in its share
-pub record Returns (radio : Radio) (of : List ℕ) (number : ℕ) (out : WindowOut) (old new : Share) (before after : List RadioCopy) : Type 0 where
+pub record MoteReturns (radio : Radio) (of : List ℕ) (number : ℕ) (out : WindowOut) (old new : Share) (before after : List RadioCopy) : Type 0 where
   pub worker : new.worker ≡ old.worker
   pub motes : new.motes.items ≡ slice_set old.motes.items number (Some out.mote)
   pub traces_kept : length new.traces.items ≡ length old.traces.items

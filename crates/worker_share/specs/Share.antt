@@ -32,8 +32,8 @@ node_at tree None = None
 node_at tree (Some mote) = node_in tree mote
 
 -- the mote with this number, if it is here
-abbrev pub mote_in : List (Option Mote) → (number : ℕ) → Option Mote
-mote_in motes number = slice_index_or motes number None
+abbrev pub mote_here : List (Option Mote) → (number : ℕ) → Option Mote
+mote_here motes number = slice_index_or motes number None
 
 -- the copies of a mote's packets, in the order of sending: of its own mote the worker knows all, of another's those that it took
 abbrev pub copies_known : NetTold → (own : ℕ → Bool) → Motes → (taken : List RadioCopy) → (sender : ℕ) → List RadioCopy
@@ -56,7 +56,7 @@ pub record IsShare (n : NetTold) (of : List ℕ) (worker : ℕ) (home : ℕ → 
   pub is_worker : share.worker ≡ worker
   pub places : length share.motes.items ≡ length n.motes
   pub numbers : (k : ℕ) → home k ≡ true → number_of (motes k).state ≡ k
-  pub nodes : (k : ℕ) → home k ≡ true → node_at (tree_at n k) (mote_in share.motes.items k) ≡ Some (motes k).state
+  pub nodes : (k : ℕ) → home k ≡ true → node_at (tree_at n k) (mote_here share.motes.items k) ≡ Some (motes k).state
   pub wakes : (k : ℕ) → home k ≡ true → (motes k).wake ≡ wake_of (motes k).state
   pub quiet : (k : ℕ) → home k ≡ true → WakesFrom from (motes k).wake
   pub traces_kept : length share.traces.items ≡ length n.motes

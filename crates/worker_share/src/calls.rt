@@ -4,7 +4,8 @@ ghost use Rattle.std.specs.Prelude.{◌≡◌, ℕ, length, List, [], OnOk, IfOk
 ghost use Rattle.std.specs.List.{filter};
 ghost use Rattle.net_agenda.specs.Buckets.{Buckets, Holds};
 ghost use Rattle.window_law.specs.Agenda.{Item};
-ghost use Rattle.worker_share.specs.Calls.{Calls as CallsTold, copies_for, copy_at, is_late, Gathers, HasItems};
+ghost use Rattle.net_agenda.specs.Items.{copy_at};
+ghost use Rattle.worker_share.specs.Calls.{CalledMotes as CallsTold, copies_for, is_not_before, Gathers, HasItems};
 
 use net_agenda::Agenda;
 use process_kernel::Arrival;
@@ -73,7 +74,7 @@ fn add_copies(
 pub fn gather(alloc: Global, agenda: &mut Agenda, until: u64) -> Result<Calls, AllocError>
     requires { HasItems agenda.old.buckets }
     ensures gathered { IfOk result (λ calls. (items : List Item) → Holds agenda.old.buckets items → Gathers until items calls.copies) }
-    ensures rest { OnOk result ((items : List Item) → Holds agenda.old.buckets items → Holds agenda.new.buckets (filter (is_late until) items)) }
+    ensures rest { OnOk result ((items : List Item) → Holds agenda.old.buckets items → Holds agenda.new.buckets (filter (is_not_before until) items)) }
 {
     let mut calls = Calls::new(alloc);
     while let Some((moment, mote)) = agenda.first() {

@@ -6,10 +6,10 @@ ghost use Rattle.radio_medium.specs.declared.copy.RadioCopy.{RadioCopy};
 ghost use Rattle.window_law.specs.Agenda.{Item, Wake};
 ghost use Rattle.window_law.specs.Windows.{WakesFrom, first_mote};
 ghost use Rattle.net_scenario.specs.Net.{NetTold, net_of};
-ghost use Rattle.net_agenda.specs.NetSystem.{first_node, system_of, tree_at};
+ghost use Rattle.net_agenda.specs.NetSystem.{first_node_in, system_of, tree_at};
 ghost use Rattle.net_agenda.specs.Buckets.{Holds};
 ghost use Rattle.worker_share.specs.Share.{Motes, Keeps, is_own, node_at, is_to_come, copies_known};
-ghost use Rattle.worker_share.specs.Ended.{Tells};
+ghost use Rattle.worker_share.specs.Ended.{TellsAtEnd};
 
 use mote_node::Mote;
 use net_agenda::{Agenda, new_mote};
@@ -57,7 +57,7 @@ fn begin(
     agenda: &mut Agenda,
 ) -> Result<Option<Mote>, AllocError>
     requires { number < length (net_of net.now).motes }
-    ensures mote { let n = net_of net.now in IfOk result (λ mote. own ≡ true → node_at (tree_at n number) mote ≡ Some (first_node n number)) }
+    ensures mote { let n = net_of net.now in IfOk result (λ mote. own ≡ true → node_at (tree_at n number) mote ≡ Some (first_node_in n number)) }
     ensures wake { OnOk result ((items : List Item) → Holds agenda.old.buckets items → Holds agenda.new.buckets (items ++ (if own then Wake 0 number ∷ [] else []))) }
 {
     if !own {
@@ -109,7 +109,7 @@ impl Share {
     /// Takes the share apart at the end.
     pub fn end(self) -> Result<Ended, AllocError>
         ensures { (n : NetTold) (of : List ℕ) (worker from : ℕ) (motes : Motes) (taken : List RadioCopy) → Keeps n of worker from motes taken self
-            → IfOk result (Tells n of worker from motes taken) }
+            → IfOk result (TellsAtEnd n of worker from motes taken) }
     {
         let Share {
             alloc: _,

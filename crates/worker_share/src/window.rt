@@ -12,9 +12,9 @@ ghost use Rattle.worker_share.specs.Calls.{copies_for};
 ghost use Rattle.net_scenario.specs.Net.{net_of};
 ghost use Rattle.net_agenda.specs.NetSystem.{system_of};
 ghost use Rattle.radio_medium.specs.declared.copy.RadioCopy.{RadioCopy as CopyOfCode};
-ghost use Rattle.worker_share.specs.Share.{Motes, Keeps, IsKept, is_own, mote_in};
+ghost use Rattle.worker_share.specs.Share.{Motes, Keeps, IsKept, is_own, mote_here};
 ghost use Rattle.worker_share.specs.Window.{ComesIn, GoesOut, RunsWindow, leaves};
-ghost use Rattle.worker_share.specs.Leaving.{wake_from, Leaves, IsNumbered, IsFit, Returns};
+ghost use Rattle.worker_share.specs.Leaving.{wake_from, MotesLeave, HasNumber, IsOutOfNet, MoteReturns};
 
 use crate::calls::{Calls, gather};
 use crate::share::{Share, is_own};
@@ -45,8 +45,8 @@ fn wake_from(until: u64, wake: Option<u64>) -> Option<u64>
 
 /// Takes a mote that is here out of the share, with its wake.
 fn take_mote(motes: &mut Vec<Option<Mote>>, number: u16) -> Mote
-    requires { IsSome (mote_in motes.old.items number) }
-    ensures mote { mote_in motes.old.items number ≡ Some result }
+    requires { IsSome (mote_here motes.old.items number) }
+    ensures mote { mote_here motes.old.items number ≡ Some result }
     ensures others { motes.new.items ≡ slice_set motes.old.items number None }
 {
     motes[usize::from(number)].take().unwrap()
@@ -59,9 +59,9 @@ pub(crate) fn leave(
     until: u64,
     calls: Calls,
 ) -> Result<Vec<Resident>, AllocError>
-    requires here { (k : ℕ) → IsSome (copies_for calls.copies k) → IsSome (mote_in motes.old.items k) }
+    requires here { (k : ℕ) → IsSome (copies_for calls.copies k) → IsSome (mote_here motes.old.items k) }
     requires rising { (k : ℕ) (copies : List RadioCopy) → copies_for calls.copies k ≡ Some copies → is_rising copies ≡ true }
-    ensures { IfOk result (λ residents. Leaves until calls.copies motes.old.items motes.new.items agenda.old.buckets agenda.new.buckets residents.items) }
+    ensures { IfOk result (λ residents. MotesLeave until calls.copies motes.old.items motes.new.items agenda.old.buckets agenda.new.buckets residents.items) }
 {
     let mut residents = Vec::with_capacity(calls.alloc, calls.copies.len())?;
     let mut copies = calls.copies;
@@ -142,10 +142,10 @@ impl Share {
         out: WindowOut,
         away: &mut Vec<RadioCopy>,
     ) -> Result<(), AllocError>
-        requires motes { IsFit (length self.old.motes.items) out }
-        requires traces { IsFit (length self.old.traces.items) out }
-        requires places { IsFit (length medium.now.places) out }
-        ensures { OnOk result ((number : ℕ) → IsNumbered number out.mote → Returns medium.now of.now number out self.old self.new away.old.items away.new.items) }
+        requires motes { IsOutOfNet (length self.old.motes.items) out }
+        requires traces { IsOutOfNet (length self.old.traces.items) out }
+        requires places { IsOutOfNet (length medium.now.places) out }
+        ensures { OnOk result ((number : ℕ) → HasNumber number out.mote → MoteReturns medium.now of.now number out self.old self.new away.old.items away.new.items) }
     {
         let number = out.mote.number();
         let WindowOut {

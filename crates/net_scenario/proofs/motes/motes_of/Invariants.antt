@@ -4,13 +4,13 @@ use Rattle.toml.specs.View.{items_view}
 use Rattle.net_scenario.specs.Document.{first_some, members_of, tables_in}
 use Rattle.net_scenario.specs.Motes.{is_mote_of}
 use Rattle.net_scenario.specs.Programs.{named_tree}
-use Rattle.net_scenario.specs.Net.{mote_of, mote_told, unread_fault}
+use Rattle.net_scenario.specs.Net.{mote_of_table, mote_told, unread_fault}
 use Rattle.net_scenario.proofs.motes.motes_of.Given as goal
 
 -- no fault is to come, and the motes so far and those to come are all of them
 abbrev pub invariant-loop-item : goal.invariant-loop-item
 invariant-loop-item l = record {
   read : first_some (unread_fault (map named_tree l.programs)) (tables_in (items_view (drop l.item-index l.items))) ≡ None;
-  value : map (mote_of (members_of l.queue) (map named_tree l.programs)) (tables_in (items_view l.items)) ≡ map (mote_told l.programs) l.motes.items ++ map (mote_of (members_of l.queue) (map named_tree l.programs)) (tables_in (items_view (drop l.item-index l.items)));
+  value : map (mote_of_table (members_of l.queue) (map named_tree l.programs)) (tables_in (items_view l.items)) ≡ map (mote_told l.programs) l.motes.items ++ map (mote_of_table (members_of l.queue) (map named_tree l.programs)) (tables_in (items_view (drop l.item-index l.items)));
   fits : IsTrue (list_all (is_mote_of (length l.programs)) l.motes.items);
 }

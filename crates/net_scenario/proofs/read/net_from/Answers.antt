@@ -52,6 +52,6 @@ returns c =
     (made (table_view c.args.top.now) _ _ _ c.in_ok-programs.programs.items _
     (rw c.table_at.ensures at c.in_ok-programs.ensures.read)
     c.natural_at-end.ensures
-    (rw c.table_at-2.ensures at c.flag_at-collide.ensures)
+    (rw c.table_at-2.ensures at c.boolean_at-collide.ensures)
     c.in_ok-medium.ensures
     motes)

@@ -2,11 +2,11 @@ use Rattle.std.proofs.Common.{rules, ◌≡◌, sym, ◌∙◌, map-id, vec_len,
 use Rattle.std.proofs.lemmas.Iterator.Adapters.{YieldsList-from_vec}
 use Rattle.std.proofs.lemmas.Iterator.Consumers.{YieldsList-end}
 use Rattle.fork_join.proofs.Zips.{push_zip}
-use Rattle.window_workers.specs.Over.{EndsAs}
+use Rattle.window_workers.specs.Over.{TellsWhatItKept}
 use Rattle.window_workers.proofs.ended.end_all.Goals as goal
 
 pub loop-share-preserved : goal.loop-share-preserved
-loop-share-preserved c = rw c.in_ok-push.ensures.items (push_zip EndsAs c.loop-share.yielded c.loop-share.all.items c.in-Some.share c.in_ok-ended.ended c.loop-share.invariant c.in_ok-ended.ensures)
+loop-share-preserved c = rw c.in_ok-push.ensures.items (push_zip TellsWhatItKept c.loop-share.yielded c.loop-share.all.items c.in-Some.share c.in_ok-ended.ended c.loop-share.invariant c.in_ok-ended.ensures)
 
 pub returns : goal.returns
 returns c =

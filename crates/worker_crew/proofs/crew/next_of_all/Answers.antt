@@ -1,5 +1,5 @@
 use Rattle.std.proofs.Common.{subst}
-use Rattle.worker_crew.specs.Crew.{IsNext}
+use Rattle.worker_crew.specs.Crew.{IsNextOfAll}
 use Rattle.worker_crew.proofs.Nexts.{next_of_next, taken_all}
 use Rattle.worker_crew.proofs.crew.next_of_all.Goals as goal
 
@@ -9,4 +9,4 @@ loop-share-preserved c =
     c.next_of.ensures c.sooner-next.ensures.least c.sooner-next.ensures.greatest
 
 pub returns : goal.returns
-returns c = subst (λ l. IsNext c.args.first_out l c.loop-share.next) (taken_all c.args.shares.now c.loop-share.share-index c.loop-share-test.false c.loop-share.auto.share-index-end) c.loop-share.invariant
+returns c = subst (λ l. IsNextOfAll c.args.first_out l c.loop-share.next) (taken_all c.args.shares.now c.loop-share.share-index c.loop-share-test.false c.loop-share.auto.share-index-end) c.loop-share.invariant

@@ -1,5 +1,5 @@
 use Rattle.std.proofs.Common.{◌≡◌, ◌++◌, map, take}
-use Rattle.worker_share.specs.Calls.{copy_at}
+use Rattle.net_agenda.specs.Items.{copy_at}
 use Rattle.worker_share.proofs.calls.add_copies.Given as goal
 
 abbrev pub invariant-loop-arrival : goal.invariant-loop-arrival

@@ -1,5 +1,5 @@
 use Rattle.std.proofs.Common.{◌≡◌, subst, arith}
-use Rattle.copy_inbox.specs.Gathered.{Begun}
+use Rattle.copy_inbox.specs.Gathered.{TookFronts}
 use Rattle.copy_inbox.specs.Handles.{TakerView}
 use Rattle.copy_inbox.proofs.Counts.{whole_of}
 use Rattle.copy_inbox.proofs.Drains.{drain_goes, known_to}
@@ -17,7 +17,7 @@ loop-preserved g c =
 
 pub returns-clause-whole : goal.returns-clause-whole
 returns-clause-whole g c = λ all later.
-    let P : TakerView → Type 0 = λ t. Begun t.desk.gathered t.desk.taken in
+    let P : TakerView → Type 0 = λ t. TookFronts t.desk.gathered t.desk.taken in
     let begun = subst P c.taker.view_is c.taker.invariant.0.begun in
     let end = c.loop-test.false in
     let top = c.loop.auto.counter-end in

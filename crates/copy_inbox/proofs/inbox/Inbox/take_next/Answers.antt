@@ -1,7 +1,7 @@
 use Rattle.std.proofs.Common.{◌≡◌, ap, arith, subst}
 use Rattle.copy_inbox.specs.declared.rule.Desk.{Desk}
 use Rattle.copy_inbox.specs.Gathered.{known_of}
-use Rattle.copy_inbox.specs.Handles.{desk_in, IsNext}
+use Rattle.copy_inbox.specs.Handles.{desk_in, IsNextTaken}
 use Rattle.copy_inbox.proofs.Moves.{takes_as, learns}
 use Rattle.copy_inbox.proofs.Takers.{next_below, next_known, next_less, next_fits, next_leaves, none_known}
 use Rattle.copy_inbox.proofs.inbox.Inbox.take_next.Goals as goal
@@ -49,5 +49,5 @@ pub returns-clause-next : goal.returns-clause-next
 returns-clause-next g c =
     let told = c.in_ok-item.ensures.rule in
     let next = next_known c.taker.inside.pass.me.view.client c.in_ok-item.item told.0.1.0 c.taker.invariant.0.is told.0.1.1 in
-    let P : Desk → Type 0 = λ d. IsNext d c.in_ok-item.item in
+    let P : Desk → Type 0 = λ d. IsNextTaken d c.in_ok-item.item in
     subst P (ap (λ t. t.desk) c.taker.view_is) next

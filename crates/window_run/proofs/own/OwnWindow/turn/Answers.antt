@@ -5,8 +5,8 @@ use Rattle.mote_program.specs.Program.{tree_of}
 use Rattle.mote_node.specs.Public.{node_in, turn_told}
 use Rattle.mote_node.specs.Turn.{turn_of}
 use Rattle.window_law.specs.Windows.{is_at}
+use Rattle.net_agenda.specs.Buckets.{arrival_of}
 use Rattle.window_run.specs.Own.{window_in}
-use Rattle.window_run.specs.Window.{arrival_of}
 use Rattle.window_run.proofs.Orders.{is_rising-drop, rest_of}
 use Rattle.window_run.proofs.Takes.{turns_to}
 use Rattle.window_run.proofs.own.OwnWindow.turn.Goals as goal

@@ -5,7 +5,7 @@ use Rattle.process_kernel.specs.declared.line.Line.{Line}
 use Rattle.net_scenario.specs.Net.{net_of}
 use Rattle.window_law.specs.Agenda.{Wake, up_to}
 use Rattle.net_agenda.specs.Buckets.{Holds}
-use Rattle.net_agenda.specs.NetSystem.{system_of, first_node, tree_at}
+use Rattle.net_agenda.specs.NetSystem.{system_of, first_node_in, tree_at}
 use Rattle.net_agenda.proofs.Boots.{pushed, wakes_more}
 use Rattle.net_report.specs.Report.{told_line}
 use Rattle.window_workers.proofs.engine.Engine.boot.Goals as goal
@@ -20,7 +20,7 @@ loop-number-preserved c =
     record {
       motes = (let e = inv.motes in omega arith);
       traced = (let e = inv.traced in omega arith);
-      nodes = pushed (λ k (m : Mote). node_in (tree_at n k) m ≡ Some (first_node n k)) c.loop-number.engine.motes.items _ c.in_ok-mote.mote i c.in_ok-push.ensures.items inv.motes inv.nodes c.in_ok-mote.ensures;
+      nodes = pushed (λ k (m : Mote). node_in (tree_at n k) m ≡ Some (first_node_in n k)) c.loop-number.engine.motes.items _ c.in_ok-mote.mote i c.in_ok-push.ensures.items inv.motes inv.nodes c.in_ok-mote.ensures;
       traces = pushed (λ k (v : Vec Line Global). v.items ≡ []) c.loop-number.engine.traces.items _ c.new-in-loop-number.result i c.in_ok-push-2.ensures.items inv.traced inv.traces c.new-in-loop-number.ensures.items;
       log = inv.log;
       agenda = subst (λ l. Holds c.put_wake.new.self.buckets l) (wakes_more i) (c.in_ok-put_wake.ensures _ inv.agenda);

@@ -5,7 +5,7 @@ use Rattle.process_kernel.specs.declared.line.Line.{Line}
 use Rattle.net_scenario.specs.Net.{net_of}
 use Rattle.window_law.specs.Agenda.{Wake, up_to}
 use Rattle.net_agenda.specs.Buckets.{Holds}
-use Rattle.net_agenda.specs.NetSystem.{first_node, tree_at}
+use Rattle.net_agenda.specs.NetSystem.{first_node_in, tree_at}
 use Rattle.net_agenda.proofs.Boots.{pushed}
 use Rattle.worker_share.specs.Share.{is_own, node_at}
 use Rattle.worker_share.proofs.Begins.{wakes_more, begins}
@@ -25,7 +25,7 @@ loop-number-preserved c =
       motes = (let e = inv.motes in omega arith);
       traced = (let e = inv.traced in omega arith);
       nodes =
-          pushed (λ k (m : Option Mote). is_own of worker k ≡ true → node_at (tree_at n k) m ≡ Some (first_node n k)) c.loop-number.share.motes.items _ c.in_ok-mote.mote i
+          pushed (λ k (m : Option Mote). is_own of worker k ≡ true → node_at (tree_at n k) m ≡ Some (first_node_in n k)) c.loop-number.share.motes.items _ c.in_ok-mote.mote i
           c.in_ok-push.ensures.items inv.motes inv.nodes (λ e. c.in_ok-mote.ensures.mote (c.is_own-own.ensures ∙ e));
       traces = pushed (λ k (v : Vec Line Global). v.items ≡ []) c.loop-number.share.traces.items _ c.new-in-loop-number.result i c.in_ok-push-2.ensures.items inv.traced inv.traces c.new-in-loop-number.ensures.items;
       log = inv.log;

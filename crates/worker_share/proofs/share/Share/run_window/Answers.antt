@@ -10,7 +10,7 @@ use Rattle.net_agenda.proofs.Gathered.{zero_from}
 use Rattle.worker_share.specs.declared.share.Share.{Share}
 use Rattle.worker_share.specs.Share.{is_own}
 use Rattle.worker_share.specs.Window.{GoesOut, leaves}
-use Rattle.worker_share.specs.Leaving.{IsNumbered, Returns}
+use Rattle.worker_share.specs.Leaving.{HasNumber, MoteReturns}
 use Rattle.worker_share.proofs.Parts.{inbox, inbox_is}
 use Rattle.worker_share.proofs.Comings.{Coming, IsFitOwn, fits, go_out, one_back, all_back}
 use Rattle.worker_share.proofs.Starts.{starts}
@@ -101,8 +101,8 @@ loop-out-preserved g c =
     let split = every_split P c.pop.new.self.items out (subst (AllByRecursion P) c.in-Some.ensures.items inv.fits) in
     let fit = split.1 in
     let placed : length n.radio.places ≡ length n.motes = ap (λ (r : Radio). length r.places) (sym c.medium.ensures.value) ∙ c.medium.ensures.placed in
-    let returns : (k : ℕ) → IsNumbered k out.mote → Returns n.radio of k out c.loop-out.self c.take_back.new.self c.loop-out.away.items c.take_back.new.away.items = λ k numbered.
-    subst (λ (r : Radio). Returns r of k out c.loop-out.self c.take_back.new.self c.loop-out.away.items c.take_back.new.away.items) c.medium.ensures.value (c.in_ok-take_back.ensures k numbered) in
+    let returns : (k : ℕ) → HasNumber k out.mote → MoteReturns n.radio of k out c.loop-out.self c.take_back.new.self c.loop-out.away.items c.take_back.new.away.items = λ k numbered.
+    subst (λ (r : Radio). MoteReturns r of k out c.loop-out.self c.take_back.new.self c.loop-out.away.items c.take_back.new.away.items) c.medium.ensures.value (c.in_ok-take_back.ensures k numbered) in
     let one = returns fit.number fit.numbered in
     record {
       motes = ap length one.motes ∙ (length-set c.loop-out.self.motes.items fit.number _ ∙ inv.motes);

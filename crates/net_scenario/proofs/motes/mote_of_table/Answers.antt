@@ -1,7 +1,7 @@
 use Rattle.std.proofs.Common.{sym, ◌∙◌}
 use Rattle.toml.specs.View.{table_view}
 use Rattle.net_scenario.proofs.NetMotes.{is_mote, mote_is, place_within, read_is_found}
-use Rattle.net_scenario.proofs.motes.mote_of.Goals as goal
+use Rattle.net_scenario.proofs.motes.mote_of_table.Goals as goal
 
 pub unwrap-requires : goal.unwrap-requires
 unwrap-requires c = rw c.index_of.ensures (read_is_found _ (table_view c.args.table.now) _ c.requires.read c.text_at-name.ensures)
