@@ -5,7 +5,7 @@ use Rattle.std.proofs.lemmas.List.{length-map}
 use Rattle.std.proofs.lemmas.List.Sums.{sum_by-cons}
 use Rattle.std.proofs.Math.Seq.{drop-append_seam}
 use Rattle.copy_inbox.specs.declared.items.Carried.{Carried}
-use Rattle.copy_inbox.specs.declared.items.Item.{Item}
+use Rattle.copy_inbox.specs.declared.items.InboxItem.{InboxItem}
 use Rattle.copy_inbox.specs.declared.rule.Gathered.{Gathered}
 use Rattle.copy_inbox.specs.declared.rule.Desk.{Desk}
 use Rattle.copy_inbox.specs.Items.{copies_of, carried_copy, part}
@@ -14,7 +14,7 @@ use Rattle.copy_inbox.proofs.Parts.{part-not_nil, part-nil_right}
 use Rattle.copy_inbox.proofs.Counts.{tally, front_counts, tally-nil}
 use Rattle.copy_exchange.specs.Desks.{copies_in, copies_pushed, IsOrderly}
 
-begun_length : (gs : List Gathered) (taken : List Item) → TookFronts gs taken → length (copies_in gs) ≡ tally gs taken + known_of gs taken
+begun_length : (gs : List Gathered) (taken : List InboxItem) → TookFronts gs taken → length (copies_in gs) ≡ tally gs taken + known_of gs taken
 begun_length [] taken h = refl
 begun_length (g ∷ gs) taken h =
     let rest : List Carried = h.0.0 in
@@ -26,7 +26,7 @@ begun_length (g ∷ gs) taken h =
     let r = begun_length gs taken h.1 in
     omega (arith, sum_by-cons (λ (k : Gathered). length (untaken_of taken k)) g gs, sum_by-cons (λ (k : Gathered). length (part k.number taken)) g gs)
 
-all_counted : (gs : List Gathered) (taken : List Item) → Apart gs → ((i : ℕ) → is_gathered gs i ≡ false → part i taken ≡ []) → tally gs taken ≡ length taken
+all_counted : (gs : List Gathered) (taken : List InboxItem) → Apart gs → ((i : ℕ) → is_gathered gs i ≡ false → part i taken ≡ []) → tally gs taken ≡ length taken
 all_counted gs [] apart none = tally-nil gs
 all_counted gs (x ∷ xs) apart none =
     let yes : is_gathered gs x.sender ≡ true = true_from_ne_false (is_gathered gs x.sender) (λ no. part-not_nil x xs (none x.sender no)) in
@@ -38,5 +38,5 @@ pub gathered_length : (d : Desk) → IsOrderly d → length (copies_in d.gathere
 gathered_length d h =
     let a = begun_length d.gathered d.taken h.begun in
     let b = all_counted d.gathered d.taken h.apart h.unseen in
-    let c = length-map d.taken (λ (x : Item). carried_copy x.what) in
+    let c = length-map d.taken (λ (x : InboxItem). carried_copy x.what) in
     omega arith

@@ -5,7 +5,7 @@ use Rattle.std.proofs.lemmas.Bool.{cases_lt}
 use Rattle.std.proofs.lemmas.Bool.Decides.{eqb_tells}
 use Rattle.std.proofs.lemmas.List.Concat.{flat_map-cons}
 use Rattle.radio_medium.specs.declared.copy.RadioCopy.{RadioCopy}
-use Rattle.copy_inbox.specs.declared.items.Item.{Item}
+use Rattle.copy_inbox.specs.declared.items.InboxItem.{InboxItem}
 use Rattle.copy_inbox.specs.declared.rule.Gathered.{Gathered}
 use Rattle.copy_inbox.specs.declared.rule.Desk.{Desk}
 use Rattle.copy_inbox.specs.Items.{copies_of, part}
@@ -142,7 +142,7 @@ module _ (s j : ℕ) where
       let here : from s (copies_by a) ≡ [] = ⊎_elim (λ (same : a.post.number ≡ j). absurd (omega arith)) (λ (none : from s (copies_by a) ≡ []). none) h.0 in
       ap (from s) (flat_map-cons copies_by a as') ∙ (from-append s (copies_by a) (flat_map copies_by as') ∙ (ap (λ l. l ++ from s (flat_map copies_by as')) here ∙ none_of (first + 1) as' heads'.1 (omega arith) h.1))
 
-  all_of : (items : List Item) (first : ℕ) (ss : List SenderView) → numbers_of ss ≡ range_with_len first (length ss) → Each (λ (a : SenderView). part a.post.number items ≡ a.post.pushed) ss → Each Mine ss
+  all_of : (items : List InboxItem) (first : ℕ) (ss : List SenderView) → numbers_of ss ≡ range_with_len first (length ss) → Each (λ (a : SenderView). part a.post.number items ≡ a.post.pushed) ss → Each Mine ss
       → ((j < first) ⊎ (first + length ss ≤ j) → from s (copies_pushed (part j items)) ≡ []) → from s (flat_map copies_by ss) ≡ from s (copies_pushed (part j items))
   all_of items first [] e parts h out = ⊎_elim (λ (lt : j < first). sym (out (inl lt))) (λ (ge : first ≤ j). sym (out (inr (omega arith)))) (cases_lt j first)
   all_of items first (a ∷ as') e parts h out =
@@ -172,7 +172,7 @@ module _ (P Q R : SenderView → Type 0) where
   each_two (a ∷ as') f h k = (f a h.0 k.0, each_two as' f h.1 k.1)
 
 -- nothing was taken of senders numbered from `first` on
-fresh_parts : (taken rest : List Item) (first : ℕ) (ss : List SenderView) → numbers_of ss ≡ range_with_len first (length ss) → ((i : ℕ) → first ≤ i → part i taken ≡ [])
+fresh_parts : (taken rest : List InboxItem) (first : ℕ) (ss : List SenderView) → numbers_of ss ≡ range_with_len first (length ss) → ((i : ℕ) → first ≤ i → part i taken ≡ [])
     → Each (λ (a : SenderView). part a.post.number (taken ++ rest) ≡ a.post.pushed) ss → Each (λ (a : SenderView). part a.post.number rest ≡ a.post.pushed) ss
 fresh_parts taken rest first [] e none h = tt
 fresh_parts taken rest first (a ∷ as') e none h =
@@ -193,7 +193,7 @@ module _ (ss : List SenderView) (d : Desk) (stands : IsOrderly d) (whole : Whole
   all_gathered i lt = let made = end.are_open.made in end.are_open.older i (omega arith)
 
   -- nothing more comes of a sender that was gathered before
-  module _ (rest : List Item) (is_rest : IsRest (with_joined ss d) rest) where
+  module _ (rest : List InboxItem) (is_rest : IsRest (with_joined ss d) rest) where
     old_whole : Whole d.gathered (d.taken ++ rest)
     old_whole = each_old (λ g. part g.number (d.taken ++ rest) ≡ g.pushed) d.made ss d.gathered is_rest.0
 
@@ -231,7 +231,7 @@ module _ (ss : List SenderView) (d : Desk) (stands : IsOrderly d) (whole : Whole
     then_in_order s =
         let j : ℕ = (one s).number in
         let before : from s (copies_of d.taken) ≡ from s (copies_in d.gathered) =
-        ap (λ l. from s (copies_of l)) (sym (append-nil d.taken)) ∙ stands.in_order [] (subst (λ (l : List Item). Whole d.gathered l) (sym (append-nil d.taken)) whole, λ i no. ap (part i) (append-nil d.taken)) s in
+        ap (λ l. from s (copies_of l)) (sym (append-nil d.taken)) ∙ stands.in_order [] (subst (λ (l : List InboxItem). Whole d.gathered l) (sym (append-nil d.taken)) whole, λ i no. ap (part i) (append-nil d.taken)) s in
         let now : from s (copies_of rest) ≡ from s (flat_map copies_by ss) =
         of_one_sender s j rest (only_in s) ∙ sym (all_of s j rest are_open.first ss are_open.numbered new_parts (one s).each (λ q. ap (λ l. from s (copies_pushed l)) (outside j q))) in
         ap (from s) (copies-append d.taken rest) ∙ (from-append s (copies_of d.taken) (copies_of rest)

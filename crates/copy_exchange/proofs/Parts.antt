@@ -5,7 +5,7 @@ use Rattle.std.proofs.lemmas.List.{map-append}
 use Rattle.std.proofs.lemmas.List.Elements.{filter-append}
 use Rattle.radio_medium.specs.declared.copy.RadioCopy.{RadioCopy}
 use Rattle.copy_inbox.specs.declared.items.Carried.{Carried}
-use Rattle.copy_inbox.specs.declared.items.Item.{Item}
+use Rattle.copy_inbox.specs.declared.items.InboxItem.{InboxItem}
 use Rattle.copy_inbox.specs.Items.{copies_of, carried_copy, part}
 use Rattle.copy_inbox.proofs.Parts.{part-here, part-else}
 use Rattle.copy_exchange.specs.Desks.{is_from_sender, copies_pushed}
@@ -17,8 +17,8 @@ from s copies = filter (is_from_sender s) copies
 pub from-append : (s : ℕ) (xs ys : List RadioCopy) → from s (xs ++ ys) ≡ from s xs ++ from s ys
 from-append s xs ys = filter-append (is_from_sender s) xs ys
 
-pub copies-append : (xs ys : List Item) → copies_of (xs ++ ys) ≡ copies_of xs ++ copies_of ys
-copies-append xs ys = map-append (λ (x : Item). carried_copy x.what) xs ys
+pub copies-append : (xs ys : List InboxItem) → copies_of (xs ++ ys) ≡ copies_of xs ++ copies_of ys
+copies-append xs ys = map-append (λ (x : InboxItem). carried_copy x.what) xs ys
 
 pub pushed-append : (xs ys : List Carried) → copies_pushed (xs ++ ys) ≡ copies_pushed xs ++ copies_pushed ys
 pushed-append xs ys = map-append carried_copy xs ys
@@ -35,16 +35,16 @@ from_tail s x xs e = cases (is_from_sender s x) refl
     cases false f = (f, ap (λ (c : Bool). cond c (x ∷ from s xs) (from s xs)) (sym f) ∙ e)
 
 -- mote s has copies in the items of sender j alone
-abbrev pub OnlyIn : (s j : ℕ) → List Item → Type 0
+abbrev pub OnlyIn : (s j : ℕ) → List InboxItem → Type 0
 OnlyIn s j items = (i : ℕ) → i ≢ j → from s (copies_pushed (part i items)) ≡ []
 
-only_in_tail : (s j : ℕ) (x : Item) (xs : List Item) → OnlyIn s j (x ∷ xs) → OnlyIn s j xs
+only_in_tail : (s j : ℕ) (x : InboxItem) (xs : List InboxItem) → OnlyIn s j (x ∷ xs) → OnlyIn s j xs
 only_in_tail s j x xs h i n = ⊎_elim
     (λ (t : (eqb x.sender i ≡ true) × (x.sender ≡ i)). (from_tail s (carried_copy x.what) (copies_pushed (part i xs)) (ap (λ l. from s (copies_pushed l)) (sym (part-here i x xs t.1)) ∙ h i n)).1)
     (λ (t : (eqb x.sender i ≡ false) × (x.sender ≢ i)). ap (λ l. from s (copies_pushed l)) (sym (part-else i x xs t.1)) ∙ h i n)
     (eqb_tells x.sender i)
 
-pub of_one_sender : (s j : ℕ) (items : List Item) → OnlyIn s j items → from s (copies_of items) ≡ from s (copies_pushed (part j items))
+pub of_one_sender : (s j : ℕ) (items : List InboxItem) → OnlyIn s j items → from s (copies_of items) ≡ from s (copies_pushed (part j items))
 of_one_sender s j [] h = refl
 of_one_sender s j (x ∷ xs) h =
     let p : RadioCopy = carried_copy x.what in

@@ -3,7 +3,7 @@ use Rattle.std.proofs.Common.{◌≡◌, ◌≢◌, ℕ, ◌+◌, ◌<◌, ◌==
 use Rattle.std.specs.List.{AllByRecursion as Each, range_with_len}
 use Rattle.std.proofs.lemmas.List.Concat.{flat_map-cons}
 use Rattle.radio_medium.specs.declared.copy.RadioCopy.{RadioCopy}
-use Rattle.copy_inbox.specs.declared.items.Item.{Item}
+use Rattle.copy_inbox.specs.declared.items.InboxItem.{InboxItem}
 use Rattle.copy_inbox.specs.declared.rule.Desk.{Desk}
 use Rattle.copy_inbox.specs.Items.{copies_of, part}
 use Rattle.copy_inbox.specs.Gathered.{Whole}
@@ -20,7 +20,7 @@ use Rattle.copy_exchange.proofs.Owns.{workers_of, none_of_them}
 use Rattle.copy_exchange.proofs.Parts.{from, from-append}
 
 -- ---- at the start
-none_left : (rest : List Item) → ((s : ℕ) → part s rest ≡ []) → rest ≡ []
+none_left : (rest : List InboxItem) → ((s : ℕ) → part s rest ≡ []) → rest ≡ []
 none_left [] h = refl
 none_left (x ∷ xs) h = absurd (part-not_nil x xs (h x.sender))
 

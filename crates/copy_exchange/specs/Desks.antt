@@ -3,7 +3,7 @@ use Rattle.std.specs.Prelude.{◌≡◌, ℕ, ◌<◌, ◌≤◌, ◌==◌, Bool
 use Rattle.std.specs.List.{AllByRecursion as Each}
 use Rattle.radio_medium.specs.declared.copy.RadioCopy.{RadioCopy}
 use Rattle.copy_inbox.specs.declared.items.Carried.{Carried}
-use Rattle.copy_inbox.specs.declared.items.Item.{Item}
+use Rattle.copy_inbox.specs.declared.items.InboxItem.{InboxItem}
 use Rattle.copy_inbox.specs.declared.rule.Gathered.{Gathered}
 use Rattle.copy_inbox.specs.declared.rule.Desk.{Desk}
 use Rattle.copy_inbox.specs.Items.{copies_of, carried_copy, part}
@@ -34,13 +34,13 @@ abbrev pub gathered_by : TakerView → List RadioCopy
 gathered_by t = copies_in t.desk.gathered
 
 -- these items are all that was gathered and isn't taken yet, in any mixture
-abbrev pub IsRest : Desk → List Item → Type 0
+abbrev pub IsRest : Desk → List InboxItem → Type 0
 IsRest d rest = Whole d.gathered (d.taken ++ rest) × NoOthers d.gathered d.taken (d.taken ++ rest)
 
 -- What holds of each taker between windows and in them.
 pub record IsOrderly (d : Desk) : Type 0 where
   -- in whatever mixture the rest comes, each mote's copies are taken in the order in which they were gathered
-  pub in_order : (rest : List Item) → IsRest d rest → SameOfEach (copies_of (d.taken ++ rest)) (copies_in d.gathered)
+  pub in_order : (rest : List InboxItem) → IsRest d rest → SameOfEach (copies_of (d.taken ++ rest)) (copies_in d.gathered)
   pub begun : TookFronts d.gathered d.taken
   pub unseen : (s : ℕ) → is_gathered d.gathered s ≡ false → part s d.taken ≡ []
   pub apart : Apart d.gathered

@@ -2,9 +2,9 @@
 //! up, and each mote's copies stay in order.
 #![tactic(auto)]
 
-pub mod courier;
-pub mod inboxes;
-pub mod window;
+mod courier;
+mod inboxes;
+mod window;
 
 pub use courier::Courier;
 pub use inboxes::{close_inboxes, known, make_inboxes, paired, parted};

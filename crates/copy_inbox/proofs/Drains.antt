@@ -3,7 +3,7 @@ use Rattle.std.proofs.Common.{◌≡◌, ◌≢◌, ℕ, ◌+◌, ◌≤◌, Boo
 use Rattle.std.proofs.lemmas.Bool.{true≢false}
 use Rattle.std.proofs.lemmas.List.{map-append}
 use Rattle.radio_medium.specs.declared.copy.RadioCopy.{RadioCopy}
-use Rattle.copy_inbox.specs.declared.items.Item.{Item}
+use Rattle.copy_inbox.specs.declared.items.InboxItem.{InboxItem}
 use Rattle.copy_inbox.specs.Items.{copies_of, carried_copy, part}
 use Rattle.copy_inbox.specs.Gathered.{known_of, is_gathered, Later, NoOthers}
 use Rattle.copy_inbox.specs.Handles.{TakerView, after_taking, IsNextTaken}
@@ -14,7 +14,7 @@ known_to t = known_of t.desk.gathered t.desk.taken
 
 -- n items were taken, and these are their copies
 pub record Drained (old new : TakerView) (copies : List RadioCopy) (n : ℕ) : Type 0 where
-  pub items : List Item
+  pub items : List InboxItem
   pub given : copies ≡ copies_of items
   pub long : length items ≡ n
   pub now : new ≡ after_taking old items
@@ -38,7 +38,7 @@ cond_le true = omega arith
 cond_le false = omega arith
 
 -- one item more is taken, and its copy added
-pub drain_goes : (old t u : TakerView) (copies longer : List RadioCopy) (k : ℕ) (x : Item) (copy : RadioCopy) → Drained old t copies k
+pub drain_goes : (old t u : TakerView) (copies longer : List RadioCopy) (k : ℕ) (x : InboxItem) (copy : RadioCopy) → Drained old t copies k
     → u ≡ after_taking t (x ∷ []) → IsNextTaken t.desk x → copy ≡ carried_copy x.what → longer ≡ copies ++ copy ∷ [] → Drained old u longer (k + 1)
 drain_goes old t u copies longer k x copy d e next of added =
     let is : u ≡ after_taking old (d.items ++ x ∷ []) = e ∙ (ap (λ y. after_taking y (x ∷ [])) d.now ∙ (λ i. record { inbox = old.inbox; desk = record { made = old.desk.made; taken = append_assoc old.desk.taken d.items (x ∷ []) i; gathered = old.desk.gathered } })) in
@@ -50,7 +50,7 @@ drain_goes old t u copies longer k x copy d e next of added =
     let desk : t.desk.made ≡ old.desk.made = ap (λ y. y.desk.made) d.now in
     record {
       items = d.items ++ x ∷ [];
-      given = added ∙ ap (λ c. copies ++ c ∷ []) of ∙ ap (λ l. l ++ carried_copy x.what ∷ []) d.given ∙ sym (map-append (λ (y : Item). carried_copy y.what) d.items (x ∷ []));
+      given = added ∙ ap (λ c. copies ++ c ∷ []) of ∙ ap (λ l. l ++ carried_copy x.what ∷ []) d.given ∙ sym (map-append (λ (y : InboxItem). carried_copy y.what) d.items (x ∷ []));
       long = omega (arith, length-append d.items (x ∷ []));
       now = is;
       known = omega arith;

@@ -7,7 +7,7 @@ use Rattle.std.proofs.lemmas.Bool.Decides.{eqb_tells}
 use Rattle.crossbeam_queue.specs.Fifo.{Pushes, Pops, Forks, Merges, Learns}
 use Rattle.crossbeam_queue.proofs.Lists.{at_set, set_else, at_longer, at_last}
 use Rattle.copy_inbox.specs.declared.items.Carried.{Carried}
-use Rattle.copy_inbox.specs.declared.items.Item.{Item}
+use Rattle.copy_inbox.specs.declared.items.InboxItem.{InboxItem}
 use Rattle.copy_inbox.specs.declared.rule.Gathered.{Gathered}
 use Rattle.copy_inbox.specs.declared.rule.Desk.{Desk}
 use Rattle.copy_inbox.specs.declared.rule.Post.{Post}
@@ -92,7 +92,7 @@ fits_push taker seat d old now s pass j Spent at n same f = f
 longer : (l : List Carried) (c : Carried) → length l < 2 ^ 62 → length (l ++ c ∷ []) ≤ 2 ^ 62
 longer l c h = omega (arith, length-append l (c ∷ []))
 
-sends_push : (views : List View) (pass q s : ℕ) (p : Post) (w : View) (old now : ℕ → List Carried) (x : Item) → get_elem? views pass ≡ some (Sending p) → get_elem? views q ≡ some (Sending (make_post s (old s)))
+sends_push : (views : List View) (pass q s : ℕ) (p : Post) (w : View) (old now : ℕ → List Carried) (x : InboxItem) → get_elem? views pass ≡ some (Sending p) → get_elem? views q ≡ some (Sending (make_post s (old s)))
     → (q ≢ pass → s ≢ p.number) → ((t : ℕ) → t ≢ p.number → now t ≡ old t) → now p.number ≡ p.pushed ++ x.what ∷ [] → w ≡ with_pushed (Sending p) x
     → get_elem? (set views pass w) q ≡ some (Sending (make_post s (now s)))
 sends_push views pass q s p w old now x at was other same more is = ⊎_elim
@@ -105,7 +105,7 @@ sends_push views pass q s p w old now x at was other same more is = ⊎_elim
     set_else views pass q w e.1 ∙ (was ∙ (λ i. some (Sending (make_post s (sym (same s (other e.1)) i))))))
     (eqb_tells q pass)
 
-pub pushes : (n pass : ℕ) (p : Post) (x : Item) → x.sender ≡ p.number → length p.pushed < 2 ^ 62 → Pushes InboxRule n pass (Sending p) x (Pushed (Sending p) x)
+pub pushes : (n pass : ℕ) (p : Post) (x : InboxItem) → x.sender ≡ p.number → length p.pushed < 2 ^ 62 → Pushes InboxRule n pass (Sending p) x (Pushed (Sending p) x)
 pushes n pass p x of room items views _ h at =
     let d = h.desk_of in
     let w : View = with_pushed (Sending p) x in
@@ -136,11 +136,11 @@ pushes n pass p x of room items views _ h at =
       refl,
     )
 
-pub pushes_as : (n pass : ℕ) (v : View) (p : Post) (x : Item) → v ≡ Sending p → x.sender ≡ p.number → length p.pushed < 2 ^ 62 → Pushes InboxRule n pass v x (Pushed v x)
+pub pushes_as : (n pass : ℕ) (v : View) (p : Post) (x : InboxItem) → v ≡ Sending p → x.sender ≡ p.number → length p.pushed < 2 ^ 62 → Pushes InboxRule n pass v x (Pushed v x)
 pushes_as n pass v p x is of room = subst (λ (u : View). Pushes InboxRule n pass u x (Pushed u x)) (sym is) (pushes n pass p x of room)
 
 -- ---- a pop
-sound_of : (d e : Desk) (seat : ℕ → Option ℕ) (pushed : ℕ → List Carried) (items : List Item) → e ≡ d → Sound d seat pushed items → Sound e seat pushed items
+sound_of : (d e : Desk) (seat : ℕ → Option ℕ) (pushed : ℕ → List Carried) (items : List InboxItem) → e ≡ d → Sound d seat pushed items → Sound e seat pushed items
 sound_of d e seat pushed items is s = subst (λ (k : Desk). Sound k seat pushed items) (sym is) s
 
 fits_take : (taker : ℕ) (seat : ℕ → Option ℕ) (d e : Desk) (pushed : ℕ → List Carried) (j : ℕ) (u : View) → j ≢ taker → PassFits taker seat d pushed j u → PassFits taker seat e pushed j u
@@ -182,13 +182,13 @@ pub learns : (pass : ℕ) (v : View) → Learns InboxRule pass v (SeenBy v)
 learns pass v items views h at = (views, pass, h, at)
 
 -- what a step told, of a taker's desk
-abbrev pub SoundWith : Desk → List Item → Type 0
+abbrev pub SoundWith : Desk → List InboxItem → Type 0
 SoundWith d items = (seat : ℕ → Option ℕ) × (pushed : ℕ → List Carried) × Sound d seat pushed items
 
-seen : (d : Desk) (items : List Item) → SeenBy (Taking d) items → SoundWith d items
+seen : (d : Desk) (items : List InboxItem) → SeenBy (Taking d) items → SoundWith d items
 seen d items s = let h = s.2 in (h.seat, h.pushed, sound_of h.desk_of d h.seat h.pushed items (h.fits s.1 (Taking d) s.3).1 h.sound)
 
-pub seen_sound : (v : View) (d : Desk) (items : List Item) → v ≡ Taking d → SeenBy v items → SoundWith d items
+pub seen_sound : (v : View) (d : Desk) (items : List InboxItem) → v ≡ Taking d → SeenBy v items → SoundWith d items
 seen_sound v d items is s = seen d items (subst (λ (u : View). SeenBy u items) is s)
 
 -- ---- a sender more

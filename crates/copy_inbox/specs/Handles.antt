@@ -4,7 +4,7 @@ use Rattle.std.specs.List.{AllByRecursion as Each}
 use Rattle.std.specs.declared.alloc.Global.{Global}
 use Rattle.crossbeam_queue.specs.SegTies.{SegId}
 use Rattle.radio_medium.specs.declared.copy.RadioCopy.{RadioCopy}
-use Rattle.copy_inbox.specs.declared.items.Item.{Item}
+use Rattle.copy_inbox.specs.declared.items.InboxItem.{InboxItem}
 use Rattle.copy_inbox.specs.declared.count.Count.{Count}
 use Rattle.copy_inbox.specs.declared.rule.Gathered.{Gathered}
 use Rattle.copy_inbox.specs.declared.rule.Desk.{Desk}
@@ -36,12 +36,12 @@ after_sender t = record { inbox = t.inbox; desk = make_desk (t.desk.made + 1) t.
 abbrev pub after_gather : TakerView → Post → TakerView
 after_gather t p = record { inbox = t.inbox; desk = make_desk t.desk.made t.desk.taken (make_gathered p.number t.desk.made p.pushed ∷ t.desk.gathered) }
 
-abbrev pub after_taking : TakerView → List Item → TakerView
+abbrev pub after_taking : TakerView → List InboxItem → TakerView
 after_taking t xs = record { inbox = t.inbox; desk = make_desk t.desk.made (t.desk.taken ++ xs) t.desk.gathered }
 
 -- there are items, of which these are the copies, that went to the end of what was taken
 abbrev pub TakesCopies : TakerView → TakerView → List RadioCopy → Type 0
-TakesCopies old new copies = (items : List Item) × (copies ≡ copies_of items) × (new ≡ after_taking old items)
+TakesCopies old new copies = (items : List InboxItem) × (copies ≡ copies_of items) × (new ≡ after_taking old items)
 
 -- each sender that was made is gathered
 abbrev pub AllGathered : Desk → Type 0
@@ -50,7 +50,7 @@ AllGathered d = (s : ℕ) → s < d.made → is_gathered d.gathered s ≡ true
 -- there are items, of which these are the copies, that are the rest of what was pushed: with what was taken they make
 -- the whole of each gathered sender, and nothing else
 abbrev pub Empties : Desk → List RadioCopy → Type 0
-Empties d copies = (rest : List Item) × (copies ≡ copies_of rest) × Whole d.gathered (d.taken ++ rest) × OfMade d.made (d.taken ++ rest)
+Empties d copies = (rest : List InboxItem) × (copies ≡ copies_of rest) × Whole d.gathered (d.taken ++ rest) × OfMade d.made (d.taken ++ rest)
 
 -- ---- what is true of every taker and sender, by what its pass knows and what it keeps
 abbrev pub desk_in : View → Desk
@@ -83,7 +83,7 @@ pub record IsSender (v : View) (count : ℕ) : Type 0 where
 
 -- x is the next item that the taker takes: one less is known where its sender was gathered, and it was gathered where
 -- something is known and no sender that isn't gathered can stand before that
-abbrev pub IsNextTaken : Desk → Item → Type 0
+abbrev pub IsNextTaken : Desk → InboxItem → Type 0
 IsNextTaken d x =
     (known_of d.gathered d.taken ≡ cond (is_gathered d.gathered x.sender) 1 0 + known_of d.gathered (d.taken ++ x ∷ []))
     × (Later d.made d.gathered → 0 < known_of d.gathered d.taken → is_gathered d.gathered x.sender ≡ true)

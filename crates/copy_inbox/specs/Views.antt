@@ -1,14 +1,14 @@
 -- What each step on an inbox does to the view of the one pass that takes it.
 use Rattle.std.specs.Prelude.{ℕ, ◌+◌, List, [], ◌∷◌, ◌++◌}
 use Rattle.copy_inbox.specs.declared.items.Carried.{Carried}
-use Rattle.copy_inbox.specs.declared.items.Item.{Item}
+use Rattle.copy_inbox.specs.declared.items.InboxItem.{InboxItem}
 use Rattle.copy_inbox.specs.declared.rule.Gathered.{Gathered}
 use Rattle.copy_inbox.specs.declared.rule.Desk.{Desk}
 use Rattle.copy_inbox.specs.declared.rule.Post.{Post}
 use Rattle.copy_inbox.specs.declared.rule.View.{View}
 use Rattle.copy_inbox.specs.declared.rule.View.TheVariants.{Taking, Sending, Spent}
 
-abbrev pub make_desk : ℕ → List Item → List Gathered → Desk
+abbrev pub make_desk : ℕ → List InboxItem → List Gathered → Desk
 make_desk made taken gathered = record { made = made; taken = taken; gathered = gathered }
 
 abbrev pub make_post : ℕ → List Carried → Post
@@ -41,13 +41,13 @@ with_gathered (Sending p) w = Sending p
 with_gathered Spent w = Spent
 
 -- a push: the item is the sender's last
-abbrev pub with_pushed : View → Item → View
+abbrev pub with_pushed : View → InboxItem → View
 with_pushed (Sending p) x = Sending (make_post p.number (p.pushed ++ x.what ∷ []))
 with_pushed (Taking d) x = Taking d
 with_pushed Spent x = Spent
 
 -- a pop: the item is the last that was taken
-abbrev pub with_taken : View → Item → View
+abbrev pub with_taken : View → InboxItem → View
 with_taken (Taking d) x = Taking (make_desk d.made (d.taken ++ x ∷ []) d.gathered)
 with_taken (Sending p) x = Sending p
 with_taken Spent x = Spent

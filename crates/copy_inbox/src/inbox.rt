@@ -9,7 +9,7 @@ ghost use Rattle.copy_inbox.specs.Views.{make_desk, make_post};
 ghost use Rattle.copy_inbox.specs.Handles.{InboxId, TakerView, SenderView, after_sender, after_gather, after_taking, TakesCopies, Empties, AllGathered, desk_in, post_in, IsTaker, IsSender, IsNextTaken};
 
 use crate::count::Count;
-use crate::items::{Carried, Item};
+use crate::items::{Carried, InboxItem};
 use crate::rule::{Gathers, Makes, Pushes, Ruled, Takes, View};
 use crossbeam_queue::{RuledSegQueue, SegPass};
 use radio_medium::RadioCopy;
@@ -51,7 +51,7 @@ impl From<AllocError> for InboxError {
 /// contract can say, since another thread may push at any moment; a contract says what a sender has pushed, and what
 /// the taker has taken and gathered.
 pub struct Inbox {
-    queue: RuledSegQueue<Item, View, Ruled>,
+    queue: RuledSegQueue<InboxItem, View, Ruled>,
     alloc: Global,
 }
 
@@ -64,7 +64,7 @@ impl Model for Inbox {
 /// The one that makes and gathers the senders of an inbox, and takes what they push.
 #[derive(Drop)]
 pub struct Taker {
-    pass: SegPass<Item, View>,
+    pass: SegPass<InboxItem, View>,
     counts: Vec<Count>,
     known: u64,
 }
@@ -80,7 +80,7 @@ impl Model for Taker {
 /// One that pushes copies into an inbox.
 #[derive(Drop)]
 pub struct Sender {
-    pass: SegPass<Item, View>,
+    pass: SegPass<InboxItem, View>,
     number: u64,
     pushed: u64,
 }
@@ -147,7 +147,7 @@ impl Inbox {
         if sender.pushed >= MOST {
             return Err(copy);
         }
-        let item = Item {
+        let item = InboxItem {
             sender: sender.number,
             what: Carried::Packet(copy),
         };
@@ -192,7 +192,7 @@ impl Inbox {
     }
 
     // Takes the item at the front of the queue, without memory. There is none only where nothing is known.
-    fn take_next<R: Wait>(&self, rt: &R, taker: &mut Taker) -> Option<Item>
+    fn take_next<R: Wait>(&self, rt: &R, taker: &mut Taker) -> Option<InboxItem>
         requires { taker.old.inbox ≡ self.now }
         ensures taken { IfSome result (λ x. taker.new ≡ after_taking taker.old (x ∷ [])) }
         ensures next { IfSome result (λ x. IsNextTaken taker.old.desk x) }

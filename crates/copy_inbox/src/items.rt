@@ -14,12 +14,12 @@ pub enum Carried {
 /// What was pushed, with the number of the sender that pushed it. An inbox numbers its senders from 0, in the order in
 /// which they are made.
 #[derive(Clone, Copy, Debug, PartialEq, Eq)]
-pub struct Item {
+pub struct InboxItem {
     pub sender: u64,
     pub what: Carried,
 }
 
-impl Item {
+impl InboxItem {
     /// The copy that it carries.
     pub fn copy(self) -> RadioCopy
         ensures { result ≡ carried_copy self.what }

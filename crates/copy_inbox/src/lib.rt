@@ -1,10 +1,10 @@
 //! An inbox: many threads push copies of packets into it, and one takes them. No copy is lost, doubled or made up.
 #![tactic(auto)]
 
-pub mod count;
-pub mod inbox;
-pub mod items;
-pub mod rule;
+mod count;
+mod inbox;
+mod items;
+mod rule;
 
 pub use inbox::{Inbox, InboxError, Sender, Taker};
 

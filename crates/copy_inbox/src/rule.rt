@@ -1,7 +1,7 @@
 //! The rule of an inbox's queue, and what each pass of the queue knows. No value of these types is made when a program
 //! runs: they are what the contracts and their proofs speak of.
 
-use crate::items::{Carried, Item};
+use crate::items::{Carried, InboxItem};
 use crossbeam_queue::protocol::{Join, Lesson, Outcome, Protocol, Split};
 use std::collections::LinkedList;
 
@@ -15,7 +15,7 @@ pub struct Gathered {
 /// What the taker knows: how many senders it has made, what it has taken, and the senders that it gathered, the newest first.
 pub struct Desk {
     pub made: u64,
-    pub taken: LinkedList<Item>,
+    pub taken: LinkedList<InboxItem>,
     pub gathered: LinkedList<Gathered>,
 }
 
@@ -35,7 +35,7 @@ pub enum View {
 /// The rule of the queue.
 pub struct Ruled;
 
-impl Protocol<Item, View> for Ruled {
+impl Protocol<InboxItem, View> for Ruled {
     ghost use Rattle.copy_inbox.specs.Rule.{InboxRule};
     ghost use Rattle.copy_inbox.specs.Views.{new_taker};
 
@@ -70,7 +70,7 @@ impl Join<View> for Gathers {
 /// A sender pushes an item.
 pub struct Pushes;
 
-impl Outcome<Item, View> for Pushes {
+impl Outcome<InboxItem, View> for Pushes {
     ghost use Rattle.copy_inbox.specs.Rule.{Pushed};
 
     ghost then = { Pushed };
@@ -79,13 +79,13 @@ impl Outcome<Item, View> for Pushes {
 /// The taker takes an item, or finds the queue empty.
 pub struct Takes;
 
-impl Outcome<Item, View> for Takes {
+impl Outcome<InboxItem, View> for Takes {
     ghost use Rattle.copy_inbox.specs.Rule.{Took};
 
     ghost then = { Took };
 }
 
-impl Lesson<Item, View> for Takes {
+impl Lesson<InboxItem, View> for Takes {
     ghost use Rattle.copy_inbox.specs.Rule.{SeenBy};
 
     ghost fact = { SeenBy };

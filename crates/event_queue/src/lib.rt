@@ -1,7 +1,7 @@
 //! The event queue of a mote: posted events in the order in which they came, each with its serial.
 #![tactic(auto)]
 
-pub mod queue;
+mod queue;
 
 pub use queue::{EventQueue, Full, Posted};
 

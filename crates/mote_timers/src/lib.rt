@@ -1,11 +1,11 @@
 //! The timers of a mote: the timer list, and the list of the callbacks that wait for their timer.
 #![tactic(auto)]
 
-pub mod callbacks;
+mod callbacks;
 pub mod laws;
 mod number_list;
 mod timer;
-pub mod timers;
+mod timers;
 
 pub use callbacks::Callbacks;
 pub use timers::Timers;

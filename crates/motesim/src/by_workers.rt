@@ -6,15 +6,15 @@ ghost use Rattle.motesim.specs.Cuts.{of_kind};
 ghost use Rattle.motesim.specs.Simulation.{MayRun, RunsWith};
 
 use crate::options::CutKind;
+use net_report::Report;
 use net_scenario::Net;
 use std::alloc::{AllocError, Global};
 use std::random::RandomSource;
 use std::sync::Wait;
 use std::thread::Threads;
-use window_workers::{Cut, Gate, Report, RunError, run_workers};
-
-/// The most workers that there may be.
-pub const MOST_WORKERS: u16 = 16;
+use window_run::Gate;
+use window_workers::{MOST_WORKERS, RunError, run_workers};
+use worker_cut::Cut;
 
 /// The cut of this kind, which fits.
 fn cut_of(alloc: Global, kind: CutKind, motes: u16, workers: u16) -> Result<Cut, AllocError>

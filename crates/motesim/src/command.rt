@@ -16,7 +16,8 @@ use std::sync::Wait;
 use std::thread::Threads;
 use std::{fmt, fs};
 use trace_printer::PrintError;
-use window_workers::{NoGate, RunError};
+use window_run::NoGate;
+use window_workers::RunError;
 
 /// The number of a run's fault, as it is printed.
 fn run_fault_number(error: RunError) -> u8

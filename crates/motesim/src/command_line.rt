@@ -2,10 +2,10 @@
 ghost use Rattle.std.specs.Prelude.{◌≡◌, codes};
 ghost use Rattle.motesim.specs.declared.options.CutKind.TheVariants as kind;
 
-use crate::by_workers::MOST_WORKERS;
 use crate::options::{CutKind, Options};
 use clap::{Arg, Command, Error};
 use std::alloc::{AllocError, Global};
+use window_workers::MOST_WORKERS;
 
 /// What the words ask for.
 #[derive(Clone, Copy, Debug, PartialEq, Eq)]

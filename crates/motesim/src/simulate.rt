@@ -14,7 +14,8 @@ use std::random::RandomSource;
 use std::sync::Wait;
 use std::thread::Threads;
 use trace_printer::{PrintError, write_report};
-use window_workers::{Gate, RunError, run_serial};
+use window_run::Gate;
+use window_workers::{RunError, run_serial};
 
 /// Why a simulation wrote no whole report.
 #[derive(Debug, PartialEq, Eq, Drop)]

@@ -1,14 +1,14 @@
 //! The radio medium: who hears whom, how much later, and what becomes of the copies of a packet.
 #![tactic(auto)]
 
-pub mod copy;
-pub mod error;
-pub mod fate;
+mod copy;
+mod error;
+mod fate;
 pub mod laws;
 mod link;
 mod losses;
-pub mod medium;
-pub mod place;
+mod medium;
+mod place;
 mod reach;
 
 pub use copy::RadioCopy;

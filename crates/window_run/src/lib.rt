@@ -15,8 +15,8 @@ pub use gate::{Gate, NoGate};
 pub use mote_window::MoteWindow;
 pub use out::WindowOut;
 pub use own::OwnWindow;
-pub use share::{Resident, Share, ShareError};
-pub use worker::{Worker, run_share};
+pub use share::{Resident, Residents, ShareError};
+pub use worker::{ShareWindow, run_share};
 
 #[cfg(test)]
 mod tests;

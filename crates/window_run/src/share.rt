@@ -20,7 +20,7 @@ pub struct Resident {
 
 /// The motes of one worker.
 #[derive(Drop)]
-pub struct Share {
+pub struct Residents {
     pub worker: u16,
     pub residents: Vec<Resident>,
 }

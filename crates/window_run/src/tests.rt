@@ -281,7 +281,7 @@ fn resident(
 }
 
 /// One worker with motes 0 and 1 of a net, and the copies that come to mote 1.
-fn share_of_two(alloc: Global, net: &Net, copies: Vec<RadioCopy>) -> Result<Share, ShareError>
+fn share_of_two(alloc: Global, net: &Net, copies: Vec<RadioCopy>) -> Result<Residents, ShareError>
     requires there { 2 ≤ length (net_of net.now).motes }
     requires rising { is_rising copies.items ≡ true }
     ensures { IfOk result (λ share. AreInNet (net_of net.now) share.residents.items) }
@@ -289,7 +289,7 @@ fn share_of_two(alloc: Global, net: &Net, copies: Vec<RadioCopy>) -> Result<Shar
     let mut residents = Vec::with_capacity(alloc, 2)?;
     residents.push_reserved(resident(alloc, net, 0, Vec::new(alloc))?);
     residents.push_reserved(resident(alloc, net, 1, copies)?);
-    Ok(Share {
+    Ok(Residents {
         worker: 0,
         residents,
     })

@@ -12,7 +12,7 @@ ghost use Rattle.window_run.specs.Turns.{MayGive};
 use crate::gate::Gate;
 use crate::mote_window::MoteWindow;
 use crate::out::WindowOut;
-use crate::share::{Resident, Share, ShareError};
+use crate::share::{Resident, Residents, ShareError};
 use crate::slot::Slot;
 use futures::Future;
 use futures::executor::block_on;
@@ -26,14 +26,14 @@ use std::sync::Wait;
 
 /// Polls each unfinished window once in turn, and then yields. It is ready once all are, with what they gave, in the order of the
 /// residents; or once one gave an error.
-pub struct Worker<'a, G> {
+pub struct ShareWindow<'a, G> {
     alloc: Global,
     slots: Vec<Slot<'a, G>>,
 }
 
-impl<G> Drop for Worker<'_, G> {
+impl<G> Drop for ShareWindow<'_, G> {
     fn drop(self) {
-        let Worker { alloc: _, slots: _ } = self;
+        let ShareWindow { alloc: _, slots: _ } = self;
     }
 }
 
@@ -59,31 +59,31 @@ fn open<'a, G: Gate>(
     MoteWindow::new(alloc, mote, program, copies, until, worker, gate)
 }
 
-impl<'a, G: Gate> Worker<'a, G> {
+impl<'a, G: Gate> ShareWindow<'a, G> {
     /// The worker's motes, each before its first turn in the window up to `until`, which is at most 2^40. Each is a mote of the
     /// net.
     pub fn new(
         alloc: Global,
         net: &'a Net,
-        share: Share,
+        share: Residents,
         until: u64,
         gate: &'a G,
-    ) -> Result<Worker<'a, G>, AllocError>
+    ) -> Result<ShareWindow<'a, G>, AllocError>
         requires until { until ≤ 2 ^ 40 }
         requires there { AreInNet (net_of net.now) share.residents.items }
         ensures { IfOk result (λ w. (outs : List OutOfCode) → SlotsGive w.slots.items outs → GivesList (net_of net.now) until share.residents.items outs) }
     {
-        let Share { worker, residents } = share;
+        let Residents { worker, residents } = share;
         let mut slots = Vec::with_capacity(alloc, residents.len())?;
         for resident in residents {
             let window = open(alloc, net, resident, until, worker, gate);
             slots.push(Slot::Running(window))?;
         }
-        Ok(Worker { alloc, slots })
+        Ok(ShareWindow { alloc, slots })
     }
 }
 
-impl<G: Gate> Future for Worker<'_, G> {
+impl<G: Gate> Future for ShareWindow<'_, G> {
     type Output = Result<Vec<WindowOut>, MoteError>;
 
     ghost gives = { λ w r. WorkerMayAnswer w.slots.items r };
@@ -143,7 +143,7 @@ pub fn run_share<R, G>(
     rt: &R,
     alloc: Global,
     net: &Net,
-    share: Share,
+    share: Residents,
     until: u64,
     gate: &G,
 ) -> Result<Vec<WindowOut>, ShareError>
@@ -154,7 +154,7 @@ where
     requires there { AreInNet (net_of net.now) share.residents.items }
     ensures { IfOk result (λ outs. GivesList (net_of net.now) until share.residents.items outs.items) }
 {
-    let worker = Worker::new(alloc, net, share, until, gate)?;
+    let worker = ShareWindow::new(alloc, net, share, until, gate)?;
     match block_on(rt, worker) {
         Ok(answer) => Ok(answer?),
         Err(_) => Err(ShareError::Thread),

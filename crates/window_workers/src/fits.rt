@@ -7,7 +7,7 @@ ghost use Rattle.window_workers.specs.Fits.{cut_fault};
 use crate::error::RunError;
 
 /// The most workers that a run may have.
-const MOST_WORKERS: usize = 16;
+pub const MOST_WORKERS: u16 = 16;
 
 /// Whether each of these workers is one of so many.
 fn are_there(workers: usize, of: &[u16]) -> bool
@@ -20,7 +20,7 @@ fn are_there(workers: usize, of: &[u16]) -> bool
 pub fn fault_of(motes: u16, workers: usize, of: &[u16]) -> Option<RunError>
     ensures { result ≡ cut_fault motes workers of.now }
 {
-    if workers == 0 || workers > MOST_WORKERS {
+    if workers == 0 || workers > usize::from(MOST_WORKERS) {
         return Some(RunError::Workers);
     }
     if of.len() != usize::from(motes) {

@@ -13,10 +13,8 @@ mod traces;
 mod workers;
 
 pub use error::RunError;
-pub use net_report::{LogLine, Report};
+pub use fits::MOST_WORKERS;
 pub use serial::run_serial;
-pub use window_run::{Gate, MoteWindow, NoGate, WindowOut};
-pub use worker_cut::Cut;
 pub use workers::{run_inboxes, run_workers};
 
 #[cfg(test)]

@@ -10,4 +10,4 @@ mod worker;
 
 pub use crew::{Crew, first_of_all};
 pub use run::run_windows;
-pub use worker::{Runner, Window, Worker};
+pub use worker::{CrewWindow, Runner, Worker};

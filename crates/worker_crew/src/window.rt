@@ -10,7 +10,7 @@ ghost use Rattle.worker_crew.specs.Laws.{RunsAll, manned_by};
 ghost use Rattle.worker_crew.specs.Worker.{IsReady, RunsWorker};
 
 use crate::crew::{Crew, first_of_all};
-use crate::worker::{Runner, Window, Worker};
+use crate::worker::{CrewWindow, Runner, Worker};
 use copy_exchange::{Courier, couriers, gathered};
 use fork_join::{Refused, fork_join};
 use net_scenario::Net;
@@ -60,7 +60,7 @@ fn run_together<R, G>(
     rt: &R,
     alloc: Global,
     workers: Vec<Worker>,
-    window: Window<'_>,
+    window: CrewWindow<'_>,
     gate: &G,
 ) -> Result<Vec<Worker>, Refused>
 where
@@ -101,7 +101,7 @@ impl Crew {
             return Err(Refused::Memory);
         };
         let workers = manned(alloc, shares, couriers)?;
-        let window = Window {
+        let window = CrewWindow {
             net,
             of,
             inboxes: &inboxes,

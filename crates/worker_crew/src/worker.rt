@@ -14,8 +14,8 @@ use net_scenario::Net;
 use radio_medium::RadioCopy;
 use std::random::RandomSource;
 use std::sync::Wait;
-use window_run::Gate;
-use worker_share::{Share, ShareError};
+use window_run::{Gate, ShareError};
+use worker_share::Share;
 
 /// A worker: its share of the net, and the courier of its copies.
 #[derive(Drop)]
@@ -28,7 +28,7 @@ pub struct Worker {
 
 /// What all workers of a window have in common.
 #[derive(Clone, Copy)]
-pub struct Window<'a> {
+pub struct CrewWindow<'a> {
     pub net: &'a Net,
     /// The worker of each mote.
     pub of: &'a [u16],
@@ -42,7 +42,7 @@ pub struct Window<'a> {
 pub struct Runner<'a, R, G> {
     pub rt: &'a R,
     pub gate: &'a G,
-    pub window: Window<'a>,
+    pub window: CrewWindow<'a>,
 }
 
 impl<R, G> Drop for Runner<'_, R, G> {
@@ -87,7 +87,7 @@ fn first_of(copies: &[RadioCopy]) -> Option<u64>
 fn run_worker<R: Wait + RandomSource + AllocGlobal, G: Gate>(
     rt: &R,
     gate: &G,
-    window: &Window<'_>,
+    window: &CrewWindow<'_>,
     worker: Worker,
 ) -> Result<Worker, Refused>
     requires { IsReady (net_of window.now.net.now) window.now.of.now window.now.inboxes.now window.now.until worker }

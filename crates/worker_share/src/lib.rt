@@ -6,4 +6,3 @@ mod share;
 mod window;
 
 pub use share::{Ended, Share};
-pub use window_run::ShareError;

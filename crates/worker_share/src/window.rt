@@ -203,7 +203,7 @@ impl Share {
         self.agenda.put_copies(&arrived)?;
         let calls = gather(self.alloc, &mut self.agenda, until)?;
         let residents = leave(&mut self.motes, &mut self.agenda, until, calls)?;
-        let called = window_run::Share {
+        let called = window_run::Residents {
             worker: self.worker,
             residents,
         };

@@ -11,7 +11,7 @@ use std::sync::atomic::AtomicU64;
 use std::sync::atomic::Ordering::SeqCst;
 use std::test::Fail;
 use std::thread::Threads;
-use window_workers::Gate;
+use window_run::Gate;
 
 /// Three more motes, which hear no other.
 const THREE_MOTES: &str =

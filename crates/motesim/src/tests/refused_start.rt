@@ -4,7 +4,8 @@ use crate::options::{CutKind, Options};
 use crate::simulate::{SimError, simulate};
 use crate::tests::nets::{TWO_SENDERS, scenario_of};
 use std::test::Fail;
-use window_workers::{Gate, RunError};
+use window_run::Gate;
+use window_workers::RunError;
 
 /// A gate that lets no thread of one worker start.
 #[derive(Clone, Copy)]

@@ -15,7 +15,8 @@ use std::sync::Wait;
 use std::test::Fail;
 use std::thread::Threads;
 use trace_printer::PrintError;
-use window_workers::{NoGate, RunError};
+use window_run::NoGate;
+use window_workers::RunError;
 
 /// Compares the report of a net by 1 to 4 workers, with both cuts, with that of one thread.
 fn expect_same<T>(rt: &T, net: &Net) -> Result<(), Fail>

@@ -5,9 +5,10 @@ ghost use Rattle.std.specs.List.{AllByRecursion as Each};
 ghost use Rattle.copy_inbox.specs.Handles.{AllGathered};
 
 use super::{COPY_PAST_THE_END, PACKET_AFTER_TIMER, RING_OVERFLOWS, RUNAWAY_HALTS, TWO_SENDERS};
-use crate::{Report, RunError, run_inboxes, run_serial, run_workers};
+use crate::{RunError, run_inboxes, run_serial, run_workers};
 use copy_exchange::make_inboxes;
 use copy_inbox::{Inbox, Taker};
+use net_report::Report;
 use net_scenario::{Net, read_scenario};
 use radio_medium::RadioCopy;
 use std::alloc::{AllocError, AllocGlobal, Global};

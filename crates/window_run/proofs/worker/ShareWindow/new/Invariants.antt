@@ -3,7 +3,7 @@ use Rattle.std.specs.Vec.Iter.{into_iter_items}
 use Rattle.net_scenario.specs.Net.{net_of}
 use Rattle.window_run.specs.Shares.{AreInNet}
 use Rattle.window_run.specs.Slots.{IsOf}
-use Rattle.window_run.proofs.worker.Worker.new.Given as goal
+use Rattle.window_run.proofs.worker.ShareWindow.new.Given as goal
 
 abbrev pub invariant-loop-resident : goal.invariant-loop-resident
 invariant-loop-resident g l = record {

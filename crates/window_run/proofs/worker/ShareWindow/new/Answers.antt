@@ -3,7 +3,7 @@ use Rattle.std.specs.Vec.Iter.{into_iter_items}
 use Rattle.std.proofs.lemmas.Iterator.Adapters.{YieldsList-from_vec}
 use Rattle.std.proofs.lemmas.Iterator.Consumers.{YieldsList-end}
 use Rattle.window_run.proofs.Zips.{first_all, push_zip, zip_zip}
-use Rattle.window_run.proofs.worker.Worker.new.Goals as goal
+use Rattle.window_run.proofs.worker.ShareWindow.new.Goals as goal
 
 pub open-window-requires-clause-there : goal.open-window-requires-clause-there
 open-window-requires-clause-there g c = (first_all _ (into_iter_items c.loop-resident.resident-iterator) c.in-Some.resident (into_iter_items c.next.new.self) c.in-Some.ensures.steps.0 c.loop-resident.invariant.there).0

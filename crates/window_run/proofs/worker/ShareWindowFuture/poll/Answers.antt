@@ -1,6 +1,6 @@
 use Rattle.std.proofs.Common.{ap}
 use Rattle.window_run.proofs.Workers.{answers_less}
-use Rattle.window_run.proofs.worker.WorkerFuture.poll.Goals as goal
+use Rattle.window_run.proofs.worker.ShareWindowFuture.poll.Goals as goal
 
 pub returns-then-not-all_done-clause-same : goal.returns-then-not-all_done-clause-same
 returns-then-not-all_done-clause-same g c = rw c.yield_now.ensures.pending (answers_less c.args.self.now.slots.items c.advance_each.new.slots.items c.in_default.ensures.same)
