@@ -7,7 +7,7 @@ use Rattle.net_scenario.specs.Net.{NetTold}
 use Rattle.net_agenda.specs.NetSystem.{system_of}
 use Rattle.window_law.specs.System.{System}
 use Rattle.window_law.specs.Windows.{first_mote, copies_by, Last}
-use Rattle.copy_inbox.specs.declared.items.Item.{Item}
+use Rattle.copy_inbox.specs.declared.items.InboxItem.{InboxItem}
 use Rattle.copy_inbox.specs.Items.{copies_of, part}
 use Rattle.copy_inbox.specs.Handles.{InboxId, TakerView}
 use Rattle.copy_inbox.specs.Views.{make_desk}
@@ -22,7 +22,7 @@ use Rattle.worker_crew.specs.Start.{AreFirst}
 use Rattle.worker_crew.specs.Worker.{IsCut}
 
 -- where no sender has a part there is nothing
-no_parts : (rest : List Item) → ((s : ℕ) → part s rest ≡ []) → rest ≡ []
+no_parts : (rest : List InboxItem) → ((s : ℕ) → part s rest ≡ []) → rest ≡ []
 no_parts [] h = refl
 no_parts (x ∷ rest) h = let e = rw (eq-eqb x.sender x.sender refl) at (h x.sender) in cc
 
