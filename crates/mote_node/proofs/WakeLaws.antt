@@ -1,5 +1,5 @@
 -- Laws of the next wake.
-use Rattle.std.proofs.Common.{ℕ, ◌≡◌, ◌+◌, max, Bool, true, false, Option, Some, None, option_map, refl, arith, if◌then◌else◌}
+use Rattle.std.proofs.Common.{ℕ, ◌≡◌, ◌+◌, ◌<◌, max, Bool, true, false, Option, Some, None, option_map, refl, arith, if◌then◌else◌}
 use Rattle.std.specs.Prelude.{IfSome}
 use Rattle.mote_timers.specs.TimerLists.{next_expiration_of}
 use Rattle.process_kernel.specs.Mote.{Mote, is_pending}
