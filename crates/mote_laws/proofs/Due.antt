@@ -9,7 +9,7 @@ use Rattle.mote_program.specs.declared.event.SystemEvent.TheVariants.{Timer}
 use Rattle.mote_program.specs.Events.{system_number}
 use Rattle.mote_program.specs.Code.{Tree}
 use Rattle.mote_timers.specs.Numbers.{is_member}
-use Rattle.mote_timers.specs.Timer.{expiration, is_some_due as is_timer_due}
+use Rattle.mote_timers.specs.Timer.{expiration, is_due}
 use Rattle.mote_timers.specs.TimerLists.{TimerLists, timer_at, new_timers, least, next_expiration_of}
 use Rattle.process_kernel.specs.declared.kernel.Ran.{Ran}
 use Rattle.process_kernel.specs.declared.kernel.Ran.TheVariants as ran
@@ -153,7 +153,7 @@ above_least moment f (j ∷ ks) k e h = by (least (map f ks)) e (above_least mom
 none_due : (moment : ℕ) (l : TimerLists) → is_some_due moment (next_expiration_of l) ≡ false → NoneIsDue moment l
 unfolding next_expiration_of
 none_due moment l e id owner d =
-    let f : is_timer_due moment (timer_at l.timers id) ≡ false = above_least moment (λ k. expiration (timer_at l.timers k)) l.listed id e d.listed in let g = d.due in cc
+    let f : is_due moment (timer_at l.timers id) ≡ false = above_least moment (λ k. expiration (timer_at l.timers k)) l.listed id e d.listed in let g = d.due in cc
 
 pub poll_due_watched : (moment : ℕ) (m : Mote) → Rested m → Watched moment (poll_due moment m)
 unfolding poll_due with_poll
