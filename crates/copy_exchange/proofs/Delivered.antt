@@ -14,7 +14,9 @@ use Rattle.copy_inbox.specs.Views.{make_post}
 use Rattle.copy_inbox.specs.Handles.{InboxId, SenderView}
 use Rattle.copy_exchange.specs.declared.courier.Courier.{Courier}
 use Rattle.copy_exchange.specs.Desks.{copies_pushed}
-use Rattle.copy_exchange.specs.Couriers.{IsCourier, IsSenderOn, Leaves, Stays, Delivers, sender_to, delivered, pushed_by, seat_of, is_to}
+use Rattle.worker_cut.specs.Crossed.{is_to}
+use Rattle.copy_exchange.specs.Couriers.{IsCourier, IsSenderOn, Leaves, Stays, Delivers, sender_to, delivered, pushed_by, seat_of}
+use Rattle.worker_cut.proofs.Owners.{own_is}
 use Rattle.copy_exchange.proofs.Parts.{pushed-append}
 
 same_at : (senders : List (Option SenderView)) (v : ℕ) (d e : Option SenderView) → v < length senders → get_or senders v d ≡ get_or senders v e
@@ -32,7 +34,7 @@ module _ (inboxes : List InboxId) (of : List ℕ) (c : Courier) (copy : RadioCop
   to_inside = let e = to_is in let h = leaves.its_worker in omega arith
 
   to_other : (to == c.worker) ≡ false
-  to_other = ap (λ k. k == c.worker) to_is ∙ leaves.other
+  to_other = ap (λ k. k == c.worker) to_is ∙ (sym (own_is of copy.to c.worker leaves.there) ∙ leaves.other)
 
   -- the sender is there
   pub never_none : (s : Option SenderView) → s ≡ get_or c.senders.items to s → s ≡ None → ⊥
@@ -64,7 +66,7 @@ sender_on id false s t e h = e ∙ h
 abbrev pub with_sender : Courier → (to : ℕ) → SenderView → Courier
 with_sender c to t = record { worker = c.worker; taker = c.taker; senders = with_item c.senders to (Some t) }
 
-module _ (inboxes : List InboxId) (of : List ℕ) (c : Courier) (copy : RadioCopy) (to : ℕ) (courier : IsCourier inboxes c) (inside : to < length inboxes) (is : to ≡ slice_index of copy.to)
+module _ (inboxes : List InboxId) (of : List ℕ) (c : Courier) (copy : RadioCopy) (to : ℕ) (courier : IsCourier inboxes c) (inside : to < length inboxes) (there : copy.to < length of) (is : to ≡ slice_index of copy.to)
     (s t : SenderView) (was : Some s ≡ get_or c.senders.items to (Some s)) (same_inbox : t.inbox ≡ s.inbox) (post : t.post ≡ make_post s.post.number (s.post.pushed ++ Packet copy ∷ [])) where
   here : sender_to c to ≡ Some s
   here = let count = courier.count in same_at c.senders.items to None (Some s) (omega arith) ∙ sym was
@@ -94,13 +96,13 @@ module _ (inboxes : List InboxId) (of : List ℕ) (c : Courier) (copy : RadioCop
   adds_at : (v : ℕ) → delivered (with_sender c to t) v ≡ delivered c v ++ filter (is_to of v) (copy ∷ [])
   adds_at v = ⊎_elim
       (λ (q : (eqb v to ≡ true) × (v ≡ to)).
-      let e : is_to of v copy ≡ true = eq-eqb (slice_index of copy.to) v (sym (q.1 ∙ is)) in
+      let e : is_to of v copy ≡ true = own_is of copy.to v there ∙ eq-eqb (slice_index of copy.to) v (sym (q.1 ∙ is)) in
       ap pushed_by (ap (sender_to (with_sender c to t)) q.1 ∙ then_here)
       ∙ (ap (λ (p : Post). copies_pushed p.pushed) post ∙ pushed-append s.post.pushed (Packet copy ∷ []))
       ∙ ap (λ (o : Option SenderView). pushed_by o ++ copy ∷ []) (sym (ap (sender_to c) q.1 ∙ here))
       ∙ ap (λ (b : Bool). delivered c v ++ cond b (copy ∷ []) []) (sym e))
       (λ (q : (eqb v to ≡ false) × (v ≢ to)).
-      let e : is_to of v copy ≡ false = ne_eqb (slice_index of copy.to) v (λ h. q.1 (sym (is ∙ h))) in
+      let e : is_to of v copy ≡ false = own_is of copy.to v there ∙ ne_eqb (slice_index of copy.to) v (λ h. q.1 (sym (is ∙ h))) in
       ap pushed_by (then_else v q.1) ∙ sym (append-nil (delivered c v)) ∙ ap (λ (b : Bool). delivered c v ++ cond b (copy ∷ []) []) (sym e))
       (eqb_tells v to)
 

@@ -11,8 +11,10 @@ use Rattle.copy_inbox.specs.Views.{make_desk}
 use Rattle.copy_inbox.specs.Handles.{InboxId, TakerView}
 use Rattle.copy_inbox.proofs.Parts.{part-not_nil}
 use Rattle.copy_exchange.specs.declared.courier.Courier.{Courier}
-use Rattle.copy_exchange.specs.Desks.{is_from_sender, IsOrderly}
-use Rattle.copy_exchange.specs.Couriers.{IsCourier, DeliversOwn, Stays, Collects, Delivers, SetsOut, Returns, AllReturn, delivered, delivered_to, is_to}
+use Rattle.window_law.specs.Windows.{is_from_sender}
+use Rattle.copy_exchange.specs.Desks.{IsOrderly}
+use Rattle.worker_cut.specs.Crossed.{is_to}
+use Rattle.copy_exchange.specs.Couriers.{IsCourier, DeliversOwn, Stays, Collects, Delivers, SetsOut, Returns, AllReturn, delivered, delivered_to}
 use Rattle.copy_exchange.specs.Inboxes.{IsFresh, IsSettled, Settled}
 use Rattle.copy_exchange.proofs.Delivered as step
 use Rattle.copy_exchange.proofs.Homes.{workers, count, owns}

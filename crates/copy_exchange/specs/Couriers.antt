@@ -3,11 +3,13 @@ use Rattle.std.specs.Prelude.{◌≡◌, ℕ, ◌+◌, ◌<◌, ◌≤◌, ◌==
 use Rattle.std.specs.List.{AllByRecursion as Each, AllZip, filter_map, flat_map, range_with_len}
 use Rattle.std.specs.Option.{IsSomeAnd}
 use Rattle.radio_medium.specs.declared.copy.RadioCopy.{RadioCopy}
+use Rattle.worker_cut.specs.Crossed.{is_to}
 use Rattle.copy_inbox.specs.declared.rule.Desk.{Desk}
 use Rattle.copy_inbox.specs.Gathered.{is_gathered, Whole}
 use Rattle.copy_inbox.specs.Handles.{InboxId, TakerView, SenderView}
 use Rattle.copy_exchange.specs.declared.courier.Courier.{Courier}
-use Rattle.copy_exchange.specs.Desks.{is_from_sender, SameOfEach, copies_pushed, taken_by, gathered_by, IsOrderly}
+use Rattle.window_law.specs.Windows.{is_from_sender}
+use Rattle.copy_exchange.specs.Desks.{SameOfEach, copies_pushed, taken_by, gathered_by, IsOrderly}
 
 -- its sender on the inbox of worker v
 abbrev pub sender_to : Courier → (v : ℕ) → Option SenderView
@@ -66,10 +68,6 @@ pub record Collects (old new : Courier) (copies : List RadioCopy) : Type 0 where
   pub in_order : SameOfEach (taken_by new.taker) (gathered_by old.taker)
   pub all : IsCollected new
   pub delivers_none : (v : ℕ) → delivered new v ≡ delivered old v
-
--- the copy is for a mote of worker v
-abbrev pub is_to : (of : List ℕ) → (v : ℕ) → RadioCopy → Bool
-is_to of v copy = slice_index of copy.to == v
 
 -- the copy is for a mote of another of these workers
 pub record Leaves (of : List ℕ) (workers worker : ℕ) (copy : RadioCopy) : Type 0 where

@@ -2,6 +2,7 @@
 use Rattle.std.specs.Prelude.{◌≡◌, ℕ, ◌<◌, ◌≤◌, ◌==◌, Bool, false, List, [], ◌∷◌, ◌++◌, map, filter}
 use Rattle.std.specs.List.{AllByRecursion as Each}
 use Rattle.radio_medium.specs.declared.copy.RadioCopy.{RadioCopy}
+use Rattle.window_law.specs.Windows.{is_from_sender}
 use Rattle.copy_inbox.specs.declared.items.Carried.{Carried}
 use Rattle.copy_inbox.specs.declared.items.InboxItem.{InboxItem}
 use Rattle.copy_inbox.specs.declared.rule.Gathered.{Gathered}
@@ -9,9 +10,6 @@ use Rattle.copy_inbox.specs.declared.rule.Desk.{Desk}
 use Rattle.copy_inbox.specs.Items.{copies_of, carried_copy, part}
 use Rattle.copy_inbox.specs.Gathered.{is_gathered, Apart, TookFronts, Whole, Later, NoOthers}
 use Rattle.copy_inbox.specs.Handles.{TakerView}
-
-abbrev pub is_from_sender : ℕ → RadioCopy → Bool
-is_from_sender s copy = copy.sender == s
 
 -- of each mote the two lists have the same copies, in the same order
 abbrev pub SameOfEach : List RadioCopy → List RadioCopy → Type 0

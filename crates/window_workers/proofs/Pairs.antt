@@ -35,10 +35,6 @@ module _ {X : Type 0} where
   pub same_found : (xs : List X) (i : ℕ) (x y : X) → slice_get xs i ≡ Some x → slice_get xs i ≡ Some y → x ≡ y
   same_found xs i x y e f = cc
 
-  pub ends_of : (P : X → Type 0) (xs ys : List X) → Each P (xs ++ ys) → Each P xs × Each P ys
-  ends_of P [] ys h = (tt, h)
-  ends_of P (x ∷ xs) ys h = let e = ends_of P xs ys h.1 in ((h.0, e.0), e.1)
-
   pub each_permutes : (P : X → Type 0) (xs ys : List X) → IsPermutation xs ys → Each P xs → Each P ys
   each_permutes P xs ys same h = recursion_from_All P ys (All-permutation P xs ys same (All-from_recursion P xs h))
 

@@ -12,7 +12,6 @@ use Rattle.window_law.proofs.Lists.{filter_filter, every_weaker}
 use Rattle.net_agenda.specs.NetSystem.{system_of}
 use Rattle.copy_inbox.specs.Handles.{TakerView}
 use Rattle.copy_exchange.specs.Couriers.{delivered, delivered_to}
-use Rattle.copy_exchange.specs.Couriers as exchange
 use Rattle.copy_exchange.specs.Desks.{copies_in, taken_by, gathered_by}
 use Rattle.copy_inbox.specs.Items.{copies_of}
 use Rattle.worker_cut.specs.Crossed.{is_own, is_to}
@@ -26,11 +25,11 @@ use Rattle.worker_crew.specs.Crew.{IsAt, IsWorkerAt}
 use Rattle.worker_crew.specs.Laws.{RunsAll, manned_by}
 use Rattle.worker_crew.specs.Worker.{IsCut, IsNotBefore, IsFirstOf}
 use Rattle.worker_crew.proofs.Choose.{choose}
-use Rattle.worker_crew.proofs.Lookups.{there, read, mapped, as_long, inside, each_from, each_at, zip_long, map_long, none_of, one_of, same_tests, same_found}
+use Rattle.worker_crew.proofs.Lookups.{there, read, mapped, as_long, inside, each_from, each_at, zip_long, map_long, none_of, one_of, same_found}
 use Rattle.worker_crew.proofs.Moves.{Piece, piece, window}
 use Rattle.worker_crew.proofs.Same.{keeps_same}
 use Rattle.worker_crew.proofs.Step.{next, next_is, led_next, out_of, told_next, sent_late}
-use Rattle.worker_crew.proofs.Working.{own_is, each_of_every}
+use Rattle.worker_crew.proofs.Working.{each_of_every}
 
 -- what a window made of one worker's part
 record Told : Type 0 where
@@ -50,7 +49,7 @@ module _ (n : NetTold) (fine : RunsForward (system_of n)) (of : List ℕ) (from 
     out : (s : ℕ) → copies_out n (is_own of v) z.next s ≡ copies_out n (is_own of v) at.motes s ++ filter (is_from_sender s) z.sent
     goes : Each (GoesOut n of v) z.sent
     first : (d : Worker) → slice_get all.done v ≡ Some d → IsFirstOf z.sent d.first_out
-    to : (d : Worker) → slice_get all.done v ≡ Some d → (u : ℕ) → delivered d.courier u ≡ filter (exchange.is_to of u) z.sent
+    to : (d : Worker) → slice_get all.done v ≡ Some d → (u : ℕ) → delivered d.courier u ≡ filter (is_to of u) z.sent
     keeps : (d : Worker) → slice_get all.done v ≡ Some d → Keeps n of v until z.next z.taken d.share
     taken_home : (t : TakerView) → slice_get new.takers.items v ≡ Some t → taken_by t ≡ z.taken
     home : (t : TakerView) → slice_get new.takers.items v ≡ Some t → gathered_by t ≡ z.gathered ++ delivered_to (map (λ (w : Worker). w.courier) all.done) v
@@ -76,7 +75,7 @@ module _ (n : NetTold) (fine : RunsForward (system_of n)) (of : List ℕ) (from 
               first = λ d e. subst (λ x. IsFirstOf p.ran.sent x.first_out) (same_found _ p.done d p.done_at e) p.ran.first;
               to = λ d e u.
                   ap (λ x. delivered x.courier u) (sym (same_found _ p.done d p.done_at e))
-                  ∙ (p.ran.delivers.adds u ∙ ap (λ l. l ++ filter (exchange.is_to of u) p.ran.sent) (p.ran.collects.delivers_none u ∙ p.set_out.nothing u));
+                  ∙ (p.ran.delivers.adds u ∙ ap (λ l. l ++ filter (is_to of u) p.ran.sent) (p.ran.collects.delivers_none u ∙ p.set_out.nothing u));
               keeps = λ d e. subst (λ x. Keeps n of v until w.next (taken_by p.done.courier.taker) x.share) (same_found _ p.done d p.done_at e) w.keeps;
               taken_home = λ t e. ap taken_by (sym (same_found _ p.home t p.home_at e)) ∙ ap copies_of p.came.same_taken;
               home = λ t e.
@@ -164,8 +163,7 @@ module _ (n : NetTold) (fine : RunsForward (system_of n)) (of : List ℕ) (from 
 
       its_copies : (i : ℕ) (d : Worker) → slice_get all.done i ≡ Some d → filter (is_from_sender s) (delivered d.courier v) ≡ filter (is_from_sender s) (filter (is_to of v) (sent i))
       its_copies i d e =
-          ap (filter (is_from_sender s)) ((is_part i (there_is i d e)).to d e v
-          ∙ same_tests (exchange.is_to of v) (is_to of v) (sent i) (every_weaker _ _ (λ c g. sym (own_is of c.to v (subst (λ l. c.to < l) (sym at.cut.len) g.there))) (sent i) (goes i (there_is i d e))))
+          ap (filter (is_from_sender s)) ((is_part i (there_is i d e)).to d e v)
 
       not_its : (i : ℕ) (d : Worker) → slice_get all.done i ≡ Some d → is_own of i s ≡ false → filter (is_from_sender s) (delivered d.courier v) ≡ []
       not_its i d e f =

@@ -9,7 +9,7 @@ use Rattle.copy_exchange.specs.declared.courier.Courier.{Courier}
 use Rattle.copy_exchange.specs.Couriers.{IsCourier, Together, SetsOut}
 use Rattle.copy_exchange.specs.Desks.{copies_in, taken_by, gathered_by}
 use Rattle.worker_share.specs.declared.share.Share.{Share}
-use Rattle.worker_share.specs.Share.{is_own}
+use Rattle.worker_cut.specs.Crossed.{is_own}
 use Rattle.worker_crew.specs.declared.crew.Crew.{Crew}
 use Rattle.worker_crew.specs.Crew.{IsAt, IsWorkerAt}
 use Rattle.worker_crew.specs.Laws.{manned_by}

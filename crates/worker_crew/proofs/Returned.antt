@@ -9,10 +9,10 @@ use Rattle.window_law.proofs.Lists.{filter_none, every_weaker}
 use Rattle.copy_inbox.specs.Handles.{InboxId, TakerView}
 use Rattle.copy_exchange.specs.declared.courier.Courier.{Courier}
 use Rattle.copy_exchange.specs.Couriers.{Together, SetsOut, Returns, AllReturn}
-use Rattle.copy_exchange.specs.Desks.{is_from_sender}
+use Rattle.window_law.specs.Windows.{is_from_sender}
 use Rattle.copy_exchange.proofs.Windows.{returns_from}
 use Rattle.worker_share.specs.declared.share.Share.{Share}
-use Rattle.worker_share.specs.Share.{is_own}
+use Rattle.worker_cut.specs.Crossed.{is_own}
 use Rattle.worker_share.specs.Window.{GoesOut}
 use Rattle.worker_crew.specs.declared.crew.Crew.{Crew}
 use Rattle.worker_crew.specs.declared.worker.Worker.{Worker}

@@ -11,12 +11,12 @@ use Rattle.window_law.specs.Windows.{Alone, first_mote, Windows, RunsAlone, copi
 use Rattle.window_law.proofs.Lists.{filter_filter, filter_none, every_weaker}
 use Rattle.window_law.proofs.History.{history, unseen_since}
 use Rattle.net_agenda.specs.NetSystem.{system_of}
-use Rattle.worker_cut.specs.Crossed.{is_own, is_to, crossed}
+use Rattle.worker_cut.specs.Crossed.{is_own, is_to, crossed, leaves}
 use Rattle.worker_cut.specs.Laws.{HasGathered}
 use Rattle.worker_cut.proofs.Crossed.{inbox_is, crossed_next}
 use Rattle.worker_cut.proofs.Windows.{one_more, same_copies}
 use Rattle.worker_share.specs.Share.{Motes}
-use Rattle.worker_share.specs.Window.{RunsOwn, GoesOut, copies_out, leaves}
+use Rattle.worker_share.specs.Window.{RunsOwn, GoesOut, copies_out}
 use Rattle.worker_crew.specs.Worker.{IsCut}
 use Rattle.worker_crew.proofs.Same.{own_copies_same}
 use Rattle.worker_crew.proofs.Working.{every_of_each}

@@ -7,11 +7,12 @@ use Rattle.radio_medium.specs.declared.copy.RadioCopy.{RadioCopy}
 use Rattle.net_scenario.specs.Net.{NetTold}
 use Rattle.copy_exchange.specs.declared.courier.Courier.{Courier}
 use Rattle.copy_exchange.specs.Couriers.{Collects, Leaves}
-use Rattle.copy_exchange.specs.Desks.{is_from_sender, SameOfEach, taken_by, gathered_by}
+use Rattle.window_law.specs.Windows.{is_from_sender}
+use Rattle.copy_exchange.specs.Desks.{SameOfEach, taken_by, gathered_by}
 use Rattle.net_agenda.specs.NetSystem.{system_of}
-use Rattle.worker_cut.specs.Crossed.{is_to}
+use Rattle.worker_cut.specs.Crossed.{is_to, is_own}
 use Rattle.worker_cut.specs.Laws.{HasGathered}
-use Rattle.worker_share.specs.Share.{Motes, is_own}
+use Rattle.worker_share.specs.Share.{Motes}
 use Rattle.worker_share.specs.Window.{GoesOut}
 use Rattle.window_law.proofs.Lists.{every_weaker, every_both, every_passes}
 use Rattle.worker_crew.specs.Worker.{IsCut}
@@ -41,11 +42,6 @@ module _ (P : RadioCopy → Type 0) where
   pub arrived_have : (old new : Courier) (copies : List RadioCopy) → Collects old new copies → Each P (gathered_by old.taker) → Each P copies
   arrived_have old new copies collects h = last_of (taken_by old.taker) copies (subst (Each P) collects.adds (every_same (taken_by new.taker) (gathered_by old.taker) collects.in_order h))
 
-pub own_is : (of : List ℕ) (k w : ℕ) → k < length of → is_own of w k ≡ eqb (slice_index of k) w
-own_is [] k w h = absurd (omega arith)
-own_is (x ∷ of) zero w h = refl
-own_is (x ∷ of) (suc k) w h = own_is of k w (omega arith)
-
 there_at : (of : List ℕ) (k workers : ℕ) → k < length of → Each (λ w. w < workers) of → slice_index of k < workers
 there_at [] k workers h all = absurd (omega arith)
 there_at (x ∷ of) zero workers h all = all.0
@@ -57,7 +53,7 @@ leaves_sent n of workers worker sent cut out = every_weaker _ _ one sent out
     one : (c : RadioCopy) → GoesOut n of worker c → Leaves of workers worker c
     one c g =
         let h : c.to < length of = subst (λ l. c.to < l) (sym cut.len) g.there in
-        record { there = h; its_worker = there_at of c.to workers h cut.there; other = sym (own_is of c.to worker h) ∙ g.to }
+        record { there = h; its_worker = there_at of c.to workers h cut.there; other = g.to }
 
 -- what a worker gathered is for its motes, and no mote of its own sent it
 module _ (n : NetTold) (of : List ℕ) (motes : Motes) (v : ℕ) (gathered : List RadioCopy) (told : HasGathered (system_of n) of motes v gathered) where

@@ -9,7 +9,8 @@ use Rattle.copy_inbox.specs.Handles.{InboxId}
 use Rattle.copy_exchange.specs.declared.courier.Courier.{Courier}
 use Rattle.copy_exchange.specs.Couriers.{IsCourier, Collects, Delivers}
 use Rattle.copy_exchange.specs.Desks.{taken_by, gathered_by}
-use Rattle.worker_share.specs.Share.{Motes, IsKept, Keeps, is_own}
+use Rattle.worker_cut.specs.Crossed.{is_own}
+use Rattle.worker_share.specs.Share.{Motes, IsKept, Keeps}
 use Rattle.worker_share.specs.Window.{RunsWindow, GoesOut, ComesIn}
 use Rattle.worker_crew.specs.declared.worker.Worker.{Worker}
 

@@ -14,9 +14,9 @@ is_own of worker mote = option_map_or (λ w. w == worker) (slice_get of mote) fa
 abbrev pub is_to : (of : List ℕ) → (worker : ℕ) → RadioCopy → Bool
 is_to of worker copy = is_own of worker copy.to
 
--- it isn't
-abbrev pub leaves : (of : List ℕ) → (worker : ℕ) → RadioCopy → Bool
-leaves of worker copy = not (is_own of worker copy.to)
+-- the copy is for a mote of another worker
+abbrev pub leaves : (own : ℕ → Bool) → RadioCopy → Bool
+leaves own copy = not (own copy.to)
 
 -- what this mote has sent for motes of the worker, where it is another worker's
 abbrev pub crossed : {S L : Type 0} → System S L → (of : List ℕ) → (motes : (number : ℕ) → LoneMote S L) → (worker sender : ℕ) → List RadioCopy

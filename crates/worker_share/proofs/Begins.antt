@@ -18,7 +18,8 @@ use Rattle.net_agenda.specs.Buckets.{Holds}
 use Rattle.net_agenda.specs.NetSystem.{system_of, first_node_in, tree_at}
 use Rattle.net_agenda.proofs.NewWakes.{new_wakes, new_numbers}
 use Rattle.worker_share.specs.declared.share.Share.{Share}
-use Rattle.worker_share.specs.Share.{is_own, node_at, mote_here, Keeps, copies_known, is_to_come}
+use Rattle.worker_cut.specs.Crossed.{is_own, copies_known}
+use Rattle.worker_share.specs.Share.{node_at, mote_here, Keeps, is_to_come}
 
 -- a mote of the worker is one of the net
 pub own_there : (of : List ℕ) (worker k : ℕ) → is_own of worker k ≡ true → k < length of
@@ -61,7 +62,7 @@ module _ (n : NetTold) (of : List ℕ) (worker : ℕ) (long : length of ≡ leng
       ∙ (filter_filter (is_wake_of k) (λ item. own (mote_of item)) (map (λ k. Wake 0 k) (up_to (length n.motes)))
       ∙ (ap (filter (λ item. own (mote_of item))) (first_wakes (length n.motes) k) ∙ only_own own k (cond (ltb k (length n.motes)) (Some 0) None)))
 
-  no_copies : (s : ℕ) → filter (is_from_sender s) (packets (map (λ k. Wake 0 k) (filter own (up_to (length n.motes))))) ≡ filter (is_to_come own 0) (copies_known n own (first_mote (system_of n)) [] s)
+  no_copies : (s : ℕ) → filter (is_from_sender s) (packets (map (λ k. Wake 0 k) (filter own (up_to (length n.motes))))) ≡ filter (is_to_come own 0) (copies_known (system_of n) own (first_mote (system_of n)) [] s)
   no_copies s =
       ap (filter (is_from_sender s)) (packets_wakes (filter own (up_to (length n.motes))))
       ∙ elim (cases_Bool (own s)) [

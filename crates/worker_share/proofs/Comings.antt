@@ -14,8 +14,9 @@ use Rattle.window_run.specs.declared.out.WindowOut.{WindowOut}
 use Rattle.window_run.specs.declared.share.Resident.{Resident}
 use Rattle.net_agenda.specs.NetSystem.{tree_at, system_of}
 use Rattle.worker_share.specs.declared.share.Share.{Share}
-use Rattle.worker_share.specs.Share.{Motes, IsShare, copies_known, is_own}
-use Rattle.worker_share.specs.Window.{GoesOut, RunsWindow, copies_out, leaves}
+use Rattle.worker_cut.specs.Crossed.{is_own, copies_known, leaves}
+use Rattle.worker_share.specs.Share.{Motes, IsShare}
+use Rattle.worker_share.specs.Window.{GoesOut, RunsWindow, copies_out}
 use Rattle.worker_share.specs.Leaving.{HasNumber, IsOutOfNet, MoteReturns, is_one_of, are_different, numbers_of}
 use Rattle.worker_share.proofs.Gives.{IsSentIn, IsBack}
 use Rattle.worker_share.proofs.Left.{among_more, different_less}
@@ -192,7 +193,7 @@ module _ (n : NetTold) (of : List ℕ) (worker from until : ℕ) (motes : Motes)
   and_yes false = refl
 
   pub all_back : (share : Share) (outs : List WindowOut) (away : List RadioCopy) → outs ≡ [] → Coming n of worker from until motes taken inbox share outs away
-      → ((k : ℕ) → all_mine k ≡ true → (t s : ℕ) → filter (is_from_sender s) (filter (is_at t) (inbox k)) ≡ filter (is_at t) (filter (is_within k from until) (copies_known n all_mine motes taken s)))
+      → ((k : ℕ) → all_mine k ≡ true → (t s : ℕ) → filter (is_from_sender s) (filter (is_at t) (inbox k)) ≡ filter (is_at t) (filter (is_within k from until) (copies_known (system_of n) all_mine motes taken s)))
       → RunsWindow n of worker from until motes taken share away
   all_back share outs away e coming inboxes = record {
     next = coming.now;

@@ -16,7 +16,8 @@ use Rattle.net_agenda.specs.Buckets.{Buckets}
 use Rattle.net_agenda.specs.NetSystem.{tree_at}
 use Rattle.worker_share.specs.declared.share.Share.{Share}
 use Rattle.worker_share.specs.Calls.{CalledMotes, copies_for, Gathers}
-use Rattle.worker_share.specs.Share.{IsKept, is_own, node_at, mote_here}
+use Rattle.worker_cut.specs.Crossed.{is_own}
+use Rattle.worker_share.specs.Share.{IsKept, node_at, mote_here}
 use Rattle.worker_share.specs.Leaving.{IsCalled, MotesLeave}
 use Rattle.worker_share.proofs.Begins.{own_there}
 use Rattle.worker_share.proofs.Gives.{IsBack, back, gives_open}

@@ -20,13 +20,13 @@ use Rattle.window_law.specs.Windows.{LoneMote, WakesFrom, own_turn, IsQuiet, Alo
 use Rattle.window_law.proofs.Lists.{every_append, every_weaker, every_flat_map}
 use Rattle.window_run.specs.declared.out.WindowOut.{WindowOut}
 use Rattle.window_run.specs.declared.share.Resident.{Resident}
-use Rattle.window_run.specs.Window.{Window, lone_node}
+use Rattle.window_run.specs.Window.{Window, lone_node, number_of}
 use Rattle.window_run.specs.Out.{Gives}
 use Rattle.window_run.specs.Shares.{ResidentGives}
 use Rattle.net_agenda.specs.Buckets.{arrival_of}
 use Rattle.net_agenda.specs.NetSystem.{mote_at, no_mote, tree_at, system_of, node_turn}
 use Rattle.net_agenda.proofs.Systems.{turn_wakes}
-use Rattle.worker_share.specs.Share.{Motes, number_of}
+use Rattle.worker_share.specs.Share.{Motes}
 use Rattle.worker_share.proofs.Lone.{in_front, alone_in_front, alone_alike, alone_keeps, rests_quiet, IsAlike}
 
 -- a packet of this mote, sent in the window

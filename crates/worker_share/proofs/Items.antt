@@ -9,7 +9,9 @@ use Rattle.window_law.specs.Agenda.{Item, Wake, Packet, moment_of, mote_of, is_w
 use Rattle.window_law.specs.Windows.{WakesFrom, is_from_sender}
 use Rattle.window_law.proofs.Lists.{every_passes, every_weaker}
 use Rattle.net_agenda.specs.Buckets.{Buckets}
-use Rattle.worker_share.specs.Share.{Motes, HasToCome, copies_known, is_to_come}
+use Rattle.net_agenda.specs.NetSystem.{system_of}
+use Rattle.worker_cut.specs.Crossed.{copies_known}
+use Rattle.worker_share.specs.Share.{Motes, HasToCome, is_to_come}
 
 -- what holds of each mote's wakes and of each sender's copies holds of each item
 module _ (P : Item → Type 0) where
@@ -68,4 +70,4 @@ module _ (n : NetTold) (own home : ℕ → Bool) (from : ℕ) (motes : Motes) (t
       every_item IsInside has.items
       (λ k. subst (AllByRecursion IsInside) (sym (has.wakes k)) (wake_inside at_home quiet k (home k) refl (motes k).wake refl))
       (λ s. subst (AllByRecursion (λ c. IsInside (Packet c))) (sym (has.copies s))
-      (every_weaker _ _ (λ c h. to_come (own c.to) c.at from h) _ (every_passes (is_to_come own from) (copies_known n own motes taken s))))
+      (every_weaker _ _ (λ c h. to_come (own c.to) c.at from h) _ (every_passes (is_to_come own from) (copies_known (system_of n) own motes taken s))))

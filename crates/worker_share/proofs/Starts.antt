@@ -15,7 +15,8 @@ use Rattle.net_agenda.specs.Buckets.{Buckets, Holds}
 use Rattle.net_agenda.specs.NetSystem.{tree_at}
 use Rattle.worker_share.specs.declared.share.Share.{Share}
 use Rattle.worker_share.specs.Calls.{CalledMotes, copies_for, is_not_before, calls_for, Gathers}
-use Rattle.worker_share.specs.Share.{Motes, IsShare, Keeps, is_own, node_at, mote_here}
+use Rattle.worker_cut.specs.Crossed.{is_own}
+use Rattle.worker_share.specs.Share.{Motes, IsShare, Keeps, node_at, mote_here}
 use Rattle.worker_share.specs.Window.{ComesIn, copies_out}
 use Rattle.worker_share.specs.Leaving.{IsCalled, MotesLeave, wake_from, is_one_of, numbers_of}
 use Rattle.worker_share.proofs.Begins.{own_there}

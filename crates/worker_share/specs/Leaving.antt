@@ -15,8 +15,9 @@ use Rattle.window_run.specs.declared.share.Resident.{Resident}
 use Rattle.net_agenda.specs.Buckets.{Buckets, Holds}
 use Rattle.worker_share.specs.declared.share.Share.{Share}
 use Rattle.worker_share.specs.Calls.{CalledMotes, copies_for}
-use Rattle.worker_share.specs.Share.{is_own, mote_here, node_at, number_of}
-use Rattle.worker_share.specs.Window.{leaves}
+use Rattle.worker_cut.specs.Crossed.{is_own, leaves}
+use Rattle.window_run.specs.Window.{number_of}
+use Rattle.worker_share.specs.Share.{mote_here, node_at}
 
 abbrev pub wake_from : (until : ℕ) → Option ℕ → Option ℕ
 wake_from until None = None

@@ -1,7 +1,6 @@
 -- What one worker of a net has: its motes, their traces and packets so far, and what is to come to them.
 use Rattle.std.specs.Prelude.{ℕ, ◌≡◌, Bool, true, not, ◌&&◌, ◌==◌, nat_lt, if◌then◌else◌, false, List, [], length, Option, Some, None, slice_get, slice_index_or, Vec}
 use Rattle.std.specs.List.{filter}
-use Rattle.std.specs.Option.{option_map_or}
 use Rattle.std.specs.declared.alloc.Global.{Global}
 use Rattle.mote_program.specs.Code.{Tree}
 use Rattle.process_kernel.specs.declared.line.Line.{Line}
@@ -15,12 +14,9 @@ use Rattle.window_law.specs.Agenda.{Item, is_wake_of, packets, wake_items}
 use Rattle.window_law.specs.Windows.{LoneMote, WakesFrom, copies_by, is_from_sender, is_sent_by}
 use Rattle.net_agenda.specs.Buckets.{Buckets, Holds}
 use Rattle.net_agenda.specs.NetSystem.{tree_at, system_of}
-pub use Rattle.window_run.specs.Window.{number_of}
+use Rattle.worker_cut.specs.Crossed.{is_own, copies_known}
+use Rattle.window_run.specs.Window.{number_of}
 use Rattle.worker_share.specs.declared.share.Share.{Share}
-
--- `of` tells the worker of each mote
-abbrev pub is_own : (of : List ℕ) → (worker mote : ℕ) → Bool
-is_own of worker mote = option_map_or (λ other. other == worker) (slice_get of mote) false
 
 -- the motes of a net, by number
 abbrev pub Motes : Type 0
@@ -35,10 +31,6 @@ node_at tree (Some mote) = node_in tree mote
 abbrev pub mote_here : List (Option Mote) → (number : ℕ) → Option Mote
 mote_here motes number = slice_index_or motes number None
 
--- the copies of a mote's packets, in the order of sending: of its own mote the worker knows all, of another's those that it took
-abbrev pub copies_known : NetTold → (own : ℕ → Bool) → Motes → (taken : List RadioCopy) → (sender : ℕ) → List RadioCopy
-copies_known n own motes taken sender = if own sender then copies_by (system_of n) motes sender else filter (is_from_sender sender) taken
-
 -- a copy for one of the worker's motes that arrives at this moment or later
 abbrev pub is_to_come : (own : ℕ → Bool) → (from : ℕ) → RadioCopy → Bool
 is_to_come own from copy = own copy.to && not (nat_lt copy.at from)
@@ -48,7 +40,7 @@ pub record HasToCome (n : NetTold) (own home : ℕ → Bool) (from : ℕ) (motes
   pub items : List Item
   pub holds : Holds buckets items
   pub wakes : (k : ℕ) → filter (is_wake_of k) items ≡ (if home k then wake_items k (motes k).wake else [])
-  pub copies : (s : ℕ) → filter (is_from_sender s) (packets items) ≡ filter (is_to_come own from) (copies_known n own motes taken s)
+  pub copies : (s : ℕ) → filter (is_from_sender s) (packets items) ≡ filter (is_to_come own from) (copies_known (system_of n) own motes taken s)
 
 -- The share of a worker at a moment, before which nothing is to come, while some of its motes are at home: their nodes and wakes,
 -- the lines and packets of all its motes so far, and the agenda. `taken` are all copies that ever came from other workers.

@@ -5,20 +5,17 @@ use Rattle.radio_medium.specs.declared.copy.RadioCopy.{RadioCopy}
 use Rattle.net_scenario.specs.Net.{NetTold}
 use Rattle.window_law.specs.Windows.{Alone, copies_by, is_at, is_from_sender, is_within}
 use Rattle.net_agenda.specs.NetSystem.{system_of}
+use Rattle.worker_cut.specs.Crossed.{leaves, is_own, copies_known}
 use Rattle.worker_share.specs.declared.share.Share.{Share}
-use Rattle.worker_share.specs.Share.{Motes, Keeps, is_own, copies_known}
+use Rattle.worker_share.specs.Share.{Motes, Keeps}
 
 -- A mote runs alone on what the worker knows: at each moment of the window, of each sender, the copies for it, in the order of
 -- sending.
 pub record RunsOwn (n : NetTold) (own : ℕ → Bool) (from until : ℕ) (motes next : Motes) (taken : List RadioCopy) (number : ℕ) : Type 0 where
   pub inbox : List RadioCopy
   pub is_inbox : (moment sender : ℕ)
-      → filter (is_from_sender sender) (filter (is_at moment) inbox) ≡ filter (is_at moment) (filter (is_within number from until) (copies_known n own motes taken sender))
+      → filter (is_from_sender sender) (filter (is_at moment) inbox) ≡ filter (is_at moment) (filter (is_within number from until) (copies_known (system_of n) own motes taken sender))
   pub alone : Alone (system_of n) number until inbox (motes number) (next number)
-
--- for a mote of another worker
-abbrev pub leaves : (own : ℕ → Bool) → RadioCopy → Bool
-leaves own copy = not (own copy.to)
 
 -- the copies of a mote's packets so far that go from this worker to others, in the order of sending
 abbrev pub copies_out : NetTold → (own : ℕ → Bool) → Motes → (sender : ℕ) → List RadioCopy

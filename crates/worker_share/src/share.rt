@@ -8,7 +8,8 @@ ghost use Rattle.window_law.specs.Windows.{WakesFrom, first_mote};
 ghost use Rattle.net_scenario.specs.Net.{NetTold, net_of};
 ghost use Rattle.net_agenda.specs.NetSystem.{first_node_in, system_of, tree_at};
 ghost use Rattle.net_agenda.specs.Buckets.{Holds};
-ghost use Rattle.worker_share.specs.Share.{Motes, Keeps, is_own, node_at, is_to_come, copies_known};
+ghost use Rattle.worker_cut.specs.Crossed.{is_own, copies_known};
+ghost use Rattle.worker_share.specs.Share.{Motes, Keeps, node_at, is_to_come};
 ghost use Rattle.worker_share.specs.Ended.{TellsAtEnd};
 
 use mote_node::Mote;
@@ -98,7 +99,7 @@ impl Share {
             → (moment : ℕ) → from ≤ moment → WakesFrom moment result → Keeps n of worker moment motes taken self.now }
         ensures no_copies { (n : NetTold) (of : List ℕ) (worker from : ℕ) (motes : Motes) (taken : List RadioCopy) → Keeps n of worker from motes taken self.now
             → (moment : ℕ) → WakesFrom moment result → (sender : ℕ)
-            → AllByRecursion (λ copy. moment ≤ copy.at) (filter (is_to_come (is_own of worker) from) (copies_known n (is_own of worker) motes taken sender)) }
+            → AllByRecursion (λ copy. moment ≤ copy.at) (filter (is_to_come (is_own of worker) from) (copies_known (system_of n) (is_own of worker) motes taken sender)) }
     {
         match self.agenda.first() {
             Some((moment, _)) => Some(moment),

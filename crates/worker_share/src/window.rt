@@ -12,8 +12,9 @@ ghost use Rattle.worker_share.specs.Calls.{copies_for};
 ghost use Rattle.net_scenario.specs.Net.{net_of};
 ghost use Rattle.net_agenda.specs.NetSystem.{system_of};
 ghost use Rattle.radio_medium.specs.declared.copy.RadioCopy.{RadioCopy as CopyOfCode};
-ghost use Rattle.worker_share.specs.Share.{Motes, Keeps, IsKept, is_own, mote_here};
-ghost use Rattle.worker_share.specs.Window.{ComesIn, GoesOut, RunsWindow, leaves};
+ghost use Rattle.worker_cut.specs.Crossed.{is_own, leaves};
+ghost use Rattle.worker_share.specs.Share.{Motes, Keeps, IsKept, mote_here};
+ghost use Rattle.worker_share.specs.Window.{ComesIn, GoesOut, RunsWindow};
 ghost use Rattle.worker_share.specs.Leaving.{wake_from, MotesLeave, HasNumber, IsOutOfNet, MoteReturns};
 
 use crate::calls::{Calls, gather};

@@ -2,7 +2,8 @@ use Rattle.std.proofs.Common.{◌≡◌, ◌≢◌, ℕ, zero, suc, ◌+◌, ◌
 use Rattle.std.proofs.lemmas.Bool.Decides.{eqb_tells}
 use Rattle.std.specs.List.{AllByRecursion as Each}
 use Rattle.radio_medium.specs.declared.copy.RadioCopy.{RadioCopy}
-use Rattle.copy_exchange.specs.Desks.{is_from_sender}
+use Rattle.window_law.specs.Windows.{is_from_sender}
+use Rattle.worker_cut.specs.Crossed.{is_own}
 use Rattle.copy_exchange.specs.Couriers.{Leaves}
 use Rattle.copy_exchange.proofs.Lists.{each_map}
 use Rattle.copy_exchange.proofs.Parts.{from-cons}
@@ -13,7 +14,7 @@ use Rattle.copy_exchange.proofs.tests.through.Goals as goal
 abbrev Across : (worker : ℕ) → RadioCopy → Type 0
 Across w copy = (copy.sender ≡ w) × (copy.to + w ≡ 1)
 
-crosses : (to w : ℕ) → to + w ≡ 1 → (to < 2) × (slice_index (0 ∷ 1 ∷ []) to < 2) × ((slice_index (0 ∷ 1 ∷ []) to == w) ≡ false)
+crosses : (to w : ℕ) → to + w ≡ 1 → (to < 2) × (slice_index (0 ∷ 1 ∷ []) to < 2) × (is_own (0 ∷ 1 ∷ []) w to ≡ false)
 crosses zero w e = (omega arith, omega arith, ne_eqb 0 w (λ k. absurd (omega arith)))
 crosses (suc zero) w e = (omega arith, omega arith, ne_eqb 1 w (λ k. absurd (omega arith)))
 crosses (suc (suc n)) w e = absurd (omega arith)

@@ -3,7 +3,7 @@ use Rattle.std.specs.List.{AllByRecursion as Each}
 use Rattle.radio_medium.specs.declared.copy.RadioCopy.{RadioCopy}
 use Rattle.net_scenario.specs.Net.{net_of}
 use Rattle.copy_exchange.specs.Desks.{taken_by, gathered_by}
-use Rattle.worker_share.specs.Share.{is_own}
+use Rattle.worker_cut.specs.Crossed.{is_own}
 use Rattle.worker_share.specs.Window.{RunsWindow, GoesOut}
 use Rattle.worker_crew.proofs.Working.{arrived_have, leaves_sent}
 use Rattle.worker_crew.specs.Worker.{IsFirstOf}

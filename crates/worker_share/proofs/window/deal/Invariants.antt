@@ -1,7 +1,6 @@
 use Rattle.std.proofs.Common.{◌≡◌, ◌++◌, take}
 use Rattle.std.specs.List.{filter}
-use Rattle.worker_share.specs.Share.{is_own}
-use Rattle.worker_share.specs.Window.{leaves}
+use Rattle.worker_cut.specs.Crossed.{is_own, leaves}
 use Rattle.worker_share.proofs.window.deal.Given as goal
 
 abbrev pub invariant-loop-copy : goal.invariant-loop-copy

@@ -3,7 +3,7 @@ use Rattle.std.specs.List.{filter, flat_map}
 use Rattle.radio_medium.specs.Medium.{copies}
 use Rattle.window_law.specs.Agenda.{Packet}
 use Rattle.net_agenda.specs.Buckets.{Holds}
-use Rattle.worker_share.specs.Share.{is_own}
+use Rattle.worker_cut.specs.Crossed.{is_own}
 use Rattle.std.proofs.lemmas.List.{take_all}
 use Rattle.worker_share.proofs.window.send_all.Goals as goal
 

@@ -1,8 +1,7 @@
 use Rattle.std.proofs.Common.{◌≡◌, ◌++◌, take}
 use Rattle.std.specs.List.{filter, flat_map}
 use Rattle.radio_medium.specs.Medium.{copies}
-use Rattle.worker_share.specs.Share.{is_own}
-use Rattle.worker_share.specs.Window.{leaves}
+use Rattle.worker_cut.specs.Crossed.{is_own, leaves}
 use Rattle.worker_share.proofs.window.send_all.Given as goal
 
 abbrev pub invariant-loop-sent : goal.invariant-loop-sent

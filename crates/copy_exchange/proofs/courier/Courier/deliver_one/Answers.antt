@@ -29,11 +29,11 @@ returns-clause-courier g c =
     let inside = to_inside c.args.inboxes.now c.args.of.now c.args.self.now c.args.copy c.from-to.result c.from.result c.requires.courier c.requires.leaves c.from.ensures c.from-to.ensures in
     let is = to_is c.args.inboxes.now c.args.of.now c.args.self.now c.args.copy c.from-to.result c.from.result c.requires.courier c.requires.leaves c.from.ensures c.from-to.ensures in
     let t = told g c in
-    courier_with c.args.inboxes.now c.args.of.now c.args.self.now c.args.copy c.from-to.result c.requires.courier inside is c.in-Some.sender c.push_copy.new.sender t.1 c.push_copy.ensures.inbox t.0
+    courier_with c.args.inboxes.now c.args.of.now c.args.self.now c.args.copy c.from-to.result c.requires.courier inside c.requires.leaves.there is c.in-Some.sender c.push_copy.new.sender t.1 c.push_copy.ensures.inbox t.0
 
 pub returns-clause-delivers : goal.returns-clause-delivers
 returns-clause-delivers g c =
     let inside = to_inside c.args.inboxes.now c.args.of.now c.args.self.now c.args.copy c.from-to.result c.from.result c.requires.courier c.requires.leaves c.from.ensures c.from-to.ensures in
     let is = to_is c.args.inboxes.now c.args.of.now c.args.self.now c.args.copy c.from-to.result c.from.result c.requires.courier c.requires.leaves c.from.ensures c.from-to.ensures in
     let t = told g c in
-    delivers_with c.args.inboxes.now c.args.of.now c.args.self.now c.args.copy c.from-to.result c.requires.courier inside is c.in-Some.sender c.push_copy.new.sender t.1 c.push_copy.ensures.inbox t.0
+    delivers_with c.args.inboxes.now c.args.of.now c.args.self.now c.args.copy c.from-to.result c.requires.courier inside c.requires.leaves.there is c.in-Some.sender c.push_copy.new.sender t.1 c.push_copy.ensures.inbox t.0

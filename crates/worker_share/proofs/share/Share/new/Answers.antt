@@ -7,7 +7,8 @@ use Rattle.window_law.specs.Agenda.{Wake, up_to}
 use Rattle.net_agenda.specs.Buckets.{Holds}
 use Rattle.net_agenda.specs.NetSystem.{first_node_in, tree_at}
 use Rattle.net_agenda.proofs.Boots.{pushed}
-use Rattle.worker_share.specs.Share.{is_own, node_at}
+use Rattle.worker_cut.specs.Crossed.{is_own}
+use Rattle.worker_share.specs.Share.{node_at}
 use Rattle.worker_share.proofs.Begins.{wakes_more, begins}
 use Rattle.worker_share.proofs.share.Share.new.Goals as goal
 

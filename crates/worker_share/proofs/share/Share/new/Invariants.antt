@@ -8,7 +8,8 @@ use Rattle.net_scenario.specs.Net.{net_of}
 use Rattle.window_law.specs.Agenda.{Wake, up_to}
 use Rattle.net_agenda.specs.Buckets.{Holds}
 use Rattle.net_agenda.specs.NetSystem.{tree_at, first_node_in}
-use Rattle.worker_share.specs.Share.{is_own, node_at}
+use Rattle.worker_cut.specs.Crossed.{is_own}
+use Rattle.worker_share.specs.Share.{node_at}
 use Rattle.worker_share.proofs.share.Share.new.Given as goal
 
 abbrev pub invariant-loop-number : goal.invariant-loop-number

@@ -8,8 +8,8 @@ use Rattle.window_law.proofs.Lists.{every_append}
 use Rattle.net_agenda.specs.Buckets.{Holds}
 use Rattle.net_agenda.proofs.Gathered.{zero_from}
 use Rattle.worker_share.specs.declared.share.Share.{Share}
-use Rattle.worker_share.specs.Share.{is_own}
-use Rattle.worker_share.specs.Window.{GoesOut, leaves}
+use Rattle.worker_cut.specs.Crossed.{is_own, leaves}
+use Rattle.worker_share.specs.Window.{GoesOut}
 use Rattle.worker_share.specs.Leaving.{HasNumber, MoteReturns}
 use Rattle.worker_share.proofs.Parts.{inbox, inbox_is}
 use Rattle.worker_share.proofs.Comings.{Coming, IsFitOwn, fits, go_out, one_back, all_back}

@@ -4,8 +4,7 @@ use Rattle.process_kernel.specs.declared.line.Sent.{Sent}
 use Rattle.radio_medium.specs.Medium.{copies}
 use Rattle.window_law.specs.Agenda.{Packet, wake_items}
 use Rattle.net_agenda.specs.Buckets.{Holds}
-use Rattle.worker_share.specs.Share.{is_own}
-use Rattle.worker_share.specs.Window.{leaves}
+use Rattle.worker_cut.specs.Crossed.{is_own, leaves}
 use Rattle.worker_share.proofs.share.Share.take_back.Goals as goal
 
 pub returns : goal.returns
