@@ -5,7 +5,7 @@ ghost use Rattle.std.specs.List.{filter};
 ghost use Rattle.net_agenda.specs.Buckets.{Buckets, Holds};
 ghost use Rattle.window_law.specs.Agenda.{Item};
 ghost use Rattle.net_agenda.specs.Items.{copy_at};
-ghost use Rattle.worker_share.specs.Calls.{CalledMotes as CallsTold, copies_for, is_not_before, Gathers, HasItems};
+ghost use Rattle.worker_share.specs.Calls.{copies_for, is_not_before, Gathers, HasItems};
 
 use net_agenda::Agenda;
 use process_kernel::Arrival;
@@ -15,17 +15,17 @@ use std::collections::BTreeMap;
 
 /// The motes that have a turn in a window, by rising number, each with the copies that come to it.
 #[derive(Drop)]
-pub struct Calls {
+pub struct CalledMotes {
     pub alloc: Global,
     pub copies: BTreeMap<u16, Vec<RadioCopy>>,
 }
 
-impl Calls {
+impl CalledMotes {
     /// No mote.
-    fn new(alloc: Global) -> Calls
+    fn new(alloc: Global) -> CalledMotes
         ensures { (mote : ℕ) → copies_for result.copies mote ≡ None }
     {
-        Calls {
+        CalledMotes {
             alloc,
             copies: BTreeMap::new(alloc),
         }
@@ -71,12 +71,12 @@ fn add_copies(
 }
 
 /// Takes all that is to come before a moment out of the agenda, mote by mote.
-pub fn gather(alloc: Global, agenda: &mut Agenda, until: u64) -> Result<Calls, AllocError>
+pub fn gather(alloc: Global, agenda: &mut Agenda, until: u64) -> Result<CalledMotes, AllocError>
     requires { HasItems agenda.old.buckets }
     ensures gathered { IfOk result (λ calls. (items : List Item) → Holds agenda.old.buckets items → Gathers until items calls.copies) }
     ensures rest { OnOk result ((items : List Item) → Holds agenda.old.buckets items → Holds agenda.new.buckets (filter (is_not_before until) items)) }
 {
-    let mut calls = Calls::new(alloc);
+    let mut calls = CalledMotes::new(alloc);
     while let Some((moment, mote)) = agenda.first() {
         if moment >= until {
             break;

@@ -17,7 +17,7 @@ ghost use Rattle.worker_share.specs.Share.{Motes, Keeps, IsKept, mote_here};
 ghost use Rattle.worker_share.specs.Window.{ComesIn, GoesOut, RunsWindow};
 ghost use Rattle.worker_share.specs.Leaving.{wake_from, MotesLeave, HasNumber, IsOutOfNet, MoteReturns};
 
-use crate::calls::{Calls, gather};
+use crate::calls::{CalledMotes, gather};
 use crate::share::{Share, is_own};
 use mote_node::Mote;
 use net_agenda::Agenda;
@@ -58,7 +58,7 @@ pub(crate) fn leave(
     motes: &mut Vec<Option<Mote>>,
     agenda: &mut Agenda,
     until: u64,
-    calls: Calls,
+    calls: CalledMotes,
 ) -> Result<Vec<Resident>, AllocError>
     requires here { (k : ℕ) → IsSome (copies_for calls.copies k) → IsSome (mote_here motes.old.items k) }
     requires rising { (k : ℕ) (copies : List RadioCopy) → copies_for calls.copies k ≡ Some copies → is_rising copies ≡ true }
