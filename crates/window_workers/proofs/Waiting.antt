@@ -30,6 +30,9 @@ module _ (n : NetTold) (fine : RunsForward (system_of n)) (of : List ℕ) (from 
   abbrev lying : List RadioCopy
   lying = waiting n fine of from motes led first starts v share taker here
 
+  abbrev taken_of : ℕ → List RadioCopy
+  taken_of s = filter (is_from_sender s) (taken_by taker)
+
   -- this worker's part of what is left
   pub left_here : (left : ℕ) (rest : List RadioCopy) → left ≡ length rest → ((s : ℕ) → filter (is_from_sender s) rest ≡ filter (is_to_come (is_own of v) from) (copies_known (system_of n) (is_own of v) motes (taken_by taker) s))
       → left + length (gathered_by taker) ≡ length (filter (is_to of v) (coming (system_of n) fine from motes)) + length (taken_by taker)
@@ -46,9 +49,6 @@ module _ (n : NetTold) (fine : RunsForward (system_of n)) (of : List ℕ) (from 
     where
       past : from ≡ suc end → (at : ℕ) → from ≤ at → not (ltb end at) ≡ false
       past e at h = is_late end at (omega arith)
-
-      abbrev taken_of : ℕ → List RadioCopy
-      taken_of s = filter (is_from_sender s) (taken_by taker)
 
       none : (s : ℕ) → filter (is_by end) ((here.waits s).rest) ≡ []
       none s =
