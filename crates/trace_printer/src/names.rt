@@ -4,7 +4,26 @@ ghost use Rattle.std.specs.Prelude.{◌≡◌, [], slice_get, unwrap_or};
 ghost use Rattle.mote_program.specs.Program.{tree_of};
 ghost use Rattle.trace_printer.specs.Words.{process_word, target_word, event_word};
 
-use mote_program::{Proc, Program, Target};
+use mote_program::{Proc, Program, SystemEvent, Target};
+
+// The numbers of the system's events.
+const INIT: u8 = SystemEvent::Init as u8;
+
+const POLL: u8 = SystemEvent::Poll as u8;
+
+const EXIT: u8 = SystemEvent::Exit as u8;
+
+const CONTINUE: u8 = SystemEvent::Continue as u8;
+
+const MSG: u8 = SystemEvent::Msg as u8;
+
+const EXITED: u8 = SystemEvent::Exited as u8;
+
+const TIMER: u8 = SystemEvent::Timer as u8;
+
+const COM: u8 = SystemEvent::Com as u8;
+
+const PACKET: u8 = SystemEvent::Packet as u8;
 
 /// The name of a process of the program, or nothing where the program has no such process.
 fn own_word(program: &Program, number: u8) -> &str
@@ -41,15 +60,15 @@ pub fn event_word(program: &Program, event: u8) -> &str
     ensures { result.now ≡ event_word (tree_of program.now) event }
 {
     match event {
-        0x81 => "init",
-        0x82 => "poll",
-        0x83 => "exit",
-        0x85 => "continue",
-        0x86 => "msg",
-        0x87 => "exited",
-        0x88 => "timer",
-        0x89 => "com",
-        0x8a => "packet",
+        INIT => SystemEvent::Init.word(),
+        POLL => SystemEvent::Poll.word(),
+        EXIT => SystemEvent::Exit.word(),
+        CONTINUE => SystemEvent::Continue.word(),
+        MSG => SystemEvent::Msg.word(),
+        EXITED => SystemEvent::Exited.word(),
+        TIMER => SystemEvent::Timer.word(),
+        COM => SystemEvent::Com.word(),
+        PACKET => SystemEvent::Packet.word(),
         _ => program.event_name(event).unwrap_or(""),
     }
 }
