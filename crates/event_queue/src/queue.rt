@@ -100,6 +100,11 @@ impl EventQueue {
         ensures front { IfSome result (λ first. self.old.events ≡ first ∷ self.new.events) }
         ensures after { self.new ≡ without_front self.old }
     {
-        self.events.pop_front()
+        // The only event is taken from the back, so a queue that is emptied each time stays at its first slots, which are at hand.
+        if self.len() == 1 {
+            self.events.pop_back()
+        } else {
+            self.events.pop_front()
+        }
     }
 }

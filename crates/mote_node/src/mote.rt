@@ -1,6 +1,6 @@
 //! A mote with its clock: one turn after another.
 
-ghost use Rattle.std.specs.Prelude.{◌≡◌, ◌≤◌, ◌^◌, ◌↔◌, true, false, IsTrue, IsSome, IfSome, IfOk, IfErr, Some, None, Err, option_map, OnOk, OnErr};
+ghost use Rattle.std.specs.Prelude.{◌≡◌, ◌≤◌, ◌^◌, ◌↔◌, true, false, IsTrue, IsSome, IfSome, IfOk, IfErr, Some, None, Err, [], option_map, OnOk, OnErr};
 ghost use Rattle.mote_program.specs.Code.{Tree};
 ghost use Rattle.mote_program.specs.Program.{tree_of};
 ghost use Rattle.process_kernel.specs.Public.{mote_in};
@@ -13,7 +13,7 @@ use mote_program::Program;
 use process_kernel::{Arrival, Kernel, KernelError, Line, Out, Sent};
 use std::alloc::{AllocError, Global};
 use std::error::Error;
-use std::fmt;
+use std::{fmt, mem};
 
 /// Why a mote gives no turn.
 #[derive(Clone, Copy, Debug, PartialEq, Eq)]
@@ -54,6 +54,35 @@ pub struct TurnOut {
     pub lines: Vec<Line>,
     pub sends: Vec<Sent>,
     pub wake: Option<u64>,
+}
+
+impl TurnOut {
+    /// No lines, no packets and no wake.
+    pub fn new(alloc: Global) -> TurnOut
+        ensures lines { result.lines.items ≡ [] }
+        ensures sends { result.sends.items ≡ [] }
+        ensures wake { result.wake ≡ None }
+    {
+        TurnOut {
+            lines: Vec::new(alloc),
+            sends: Vec::new(alloc),
+            wake: None,
+        }
+    }
+
+    /// Takes the room of the lines and packets out, empty.
+    fn take_room(&mut self, alloc: Global) -> Out
+        ensures lines { result.lines.items ≡ [] }
+        ensures sends { result.sends.items ≡ [] }
+    {
+        let mut out = Out {
+            lines: mem::replace(&mut self.lines, Vec::new(alloc)),
+            sends: mem::replace(&mut self.sends, Vec::new(alloc)),
+        };
+        out.lines.clear();
+        out.sends.clear();
+        out
+    }
 }
 
 /// A mote of a net. Its turns come at rising moments, always with the same program. The kernel stands behind a pointer, so a mote
@@ -178,30 +207,57 @@ impl Mote {
         ensures fails { (t : Tree) → result ≡ Err MoteError.Memory → node_in t self.new ≡ None }
         ensures stays_failed { result ≡ Err MoteError.Failed → self.new ≡ self.old }
     {
+        let mut out = TurnOut::new(self.alloc);
+        self.turn_into(program, moment, arrivals, &mut out)?;
+        Ok(out)
+    }
+
+    /// The turn that `turn` answers, which takes the place of what `out` had, in the room that this has. After an error `out`
+    /// may have anything.
+    ///
+    /// # Errors
+    /// Those of `turn`.
+    #[tactic(auto, unfolding(crate::specs::Public::node_in, crate::specs::Turn::turn_of))]
+    pub fn turn_into(
+        &mut self,
+        program: &Program,
+        moment: u64,
+        arrivals: &[Arrival],
+        out: &mut TurnOut,
+    ) -> Result<(), MoteError>
+        requires { moment ≤ 2 ^ 40 }
+        ensures ok { let t = tree_of program.now in OnOk result (option_map (turn_told out.new) (node_in t self.new) ≡ option_map (turn_of moment arrivals.now) (node_in t self.old)) }
+
+        ensures failed { let t = tree_of program.now in (result ≡ Err MoteError.Failed) ↔ (node_in t self.old ≡ None) }
+        ensures past { let t = tree_of program.now in (result ≡ Err MoteError.Past) ↔ IsTrue (is_past_in moment (node_in t self.old)) }
+        ensures unchanged { result ≡ Err MoteError.Past → self.new ≡ self.old }
+
+        // It has failed for good, whatever its program.
+        ensures fails { (t : Tree) → result ≡ Err MoteError.Memory → node_in t self.new ≡ None }
+        ensures stays_failed { result ≡ Err MoteError.Failed → self.new ≡ self.old }
+    {
         if self.failed {
             return Err(MoteError::Failed);
         }
         if is_past(moment, self.last) {
             return Err(MoteError::Past);
         }
-        let mut out = Out {
-            lines: Vec::new(self.alloc),
-            sends: Vec::new(self.alloc),
-        };
+        let mut written = out.take_room(self.alloc);
         let turned = turn_in_net(
             &mut *self.kernel,
             program,
             self.collide,
             moment,
             arrivals,
-            &mut out,
+            &mut written,
         );
         match turned {
             Ok(()) => {
                 self.last = Some(moment);
                 let wake = self.wake();
-                let Out { lines, sends } = out;
-                Ok(TurnOut { lines, sends, wake })
+                let Out { lines, sends } = written;
+                *out = TurnOut { lines, sends, wake };
+                Ok(())
             }
             Err(_) => {
                 self.failed = true;

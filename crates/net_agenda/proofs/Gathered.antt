@@ -1,13 +1,16 @@
 -- What an agenda has for each mote at each moment, as items come and go.
 use Rattle.std.proofs.Common.{◌≡◌, ℕ, Bool, true, false, cond, not, ◌&&◌, ◌||◌, eqb, if◌then◌else◌, List, [], ◌∷◌, ◌++◌, map, refl, sym, ap, ◌∙◌, inl, inr, append-nil, arith, ltb, zero, suc, ◌<◌, subst, append_assoc, add-one, take, get_or, length, ◌+◌, Option, Some, None, IsSome, unwrap_or, option_map}
-use Rattle.std.specs.List.{filter, list_any, AllByRecursion}
+use Rattle.std.specs.List.{filter, filter_map, list_any, AllByRecursion}
 use Rattle.std.proofs.lemmas.Bool.{cases_Bool, eq-eqb, eqb-true, and_parts, false≢true, or_right}
 use Rattle.std.proofs.lemmas.Bool.Decides.{nat_tests}
-use Rattle.std.proofs.lemmas.List.Elements.{filter-append}
+use Rattle.std.proofs.lemmas.List.Elements.{filter-append, filter_map-append}
 use Rattle.std.proofs.lemmas.List.{map-append}
 use Rattle.std.proofs.Math.Seq.{take-suc}
 use Rattle.process_kernel.specs.declared.line.Arrival.{Arrival}
+use Rattle.process_kernel.specs.declared.line.Sent.{Sent}
 use Rattle.radio_medium.specs.declared.copy.RadioCopy.{RadioCopy}
+use Rattle.radio_medium.specs.declared.fate.Fate.{Fate}
+use Rattle.radio_medium.specs.Medium.{copy_of}
 use Rattle.window_law.specs.Agenda.{Item, Wake, Packet, IsLeast, comes_at, is_wake_of, moment_of, mote_of, packets}
 use Rattle.window_law.proofs.Agenda.{packets_append, packets_map}
 use Rattle.net_agenda.specs.Buckets.{arrival_of, Due, nothing_due, is_wake, due_all, gathered, due_of, is_here, with_copy, with_wake, without_wake, is_none_left, Buckets, Holds, due_in, told_bucket, key_cmp}
@@ -355,3 +358,13 @@ pub more_copies : (items : List Item) (cs : List RadioCopy) (i : ℕ) (d : Radio
 more_copies items cs i d h =
     append_assoc items (map Packet (take i cs)) (Packet (get_or cs i d) ∷ [])
     ∙ ap (λ l. items ++ l) (sym (ap (map Packet) (ap (λ n. take n cs) (add-one i) ∙ take-suc cs i d h) ∙ map-append Packet (take i cs) (get_or cs i d ∷ [])))
+
+-- the copies of one fate more
+pub more_fates : (items : List Item) (sent : Sent) (fs : List Fate) (i : ℕ) (d : Fate) → i < length fs
+    → (items ++ map Packet (filter_map (copy_of sent) (take i fs))) ++ map Packet (filter_map (copy_of sent) (get_or fs i d ∷ [])) ≡ items ++ map Packet (filter_map (copy_of sent) (take (i + 1) fs))
+more_fates items sent fs i d h =
+    let h' = copy_of sent in
+    append_assoc items (map Packet (filter_map h' (take i fs))) (map Packet (filter_map h' (get_or fs i d ∷ [])))
+    ∙ ap (λ l. items ++ l) (sym (
+    ap (λ l. map Packet (filter_map h' l)) (ap (λ n. take n fs) (add-one i) ∙ take-suc fs i d h)
+    ∙ (ap (map Packet) (filter_map-append h' (take i fs) (get_or fs i d ∷ [])) ∙ map-append Packet (filter_map h' (take i fs)) (filter_map h' (get_or fs i d ∷ [])))))

@@ -1,13 +1,14 @@
 //! What is to come in a net, in buckets by moment and mote.
 
 ghost use Rattle.std.specs.Prelude.{◌≡◌, ℕ, length, not, List, [], ◌∷◌, ◌++◌, map, OnOk, IfOk, IfSome, MatchOption, Some, None, if◌then◌else◌, ◌&&◌, ◌==◌, option_map, unwrap_or};
-ghost use Rattle.std.specs.List.{filter};
+ghost use Rattle.std.specs.List.{filter, filter_map};
+ghost use Rattle.radio_medium.specs.Medium.{copy_of};
 ghost use Rattle.window_law.specs.Agenda.{Item, Wake, Packet, IsLeast, comes_at, is_wake_of, packets, wake_items};
 ghost use Rattle.net_agenda.specs.Buckets.{Holds, due_in, due_of, told_bucket, nothing_due, is_here, arrivals_at, first_key};
 
 use crate::bucket::Bucket;
-use process_kernel::Arrival;
-use radio_medium::RadioCopy;
+use process_kernel::{Arrival, Sent};
+use radio_medium::{Fate, RadioCopy};
 use std::alloc::{AllocError, Global};
 use std::collections::BTreeMap;
 
@@ -88,6 +89,32 @@ impl Agenda {
     {
         for copy in copies {
             self.put_copy(copy)?;
+        }
+        Ok(())
+    }
+
+    /// Adds the copy of a packet that has this fate, where it isn't lost.
+    fn put_fate(&mut self, sent: &Sent, fate: &Fate) -> Result<(), AllocError>
+        ensures { OnOk result ((items : List Item) → Holds self.old.buckets items → Holds self.new.buckets (items ++ map Packet (filter_map (copy_of sent.now) (fate.now ∷ [])))) }
+    {
+        if let Some(at) = fate.at {
+            self.put_copy(&RadioCopy {
+                at,
+                to: fate.to,
+                sender: sent.sender,
+                number: sent.number,
+                value: sent.value,
+            })?;
+        }
+        Ok(())
+    }
+
+    /// Adds the copies of a packet whose fates these are: those that aren't lost.
+    pub fn put_fates(&mut self, sent: &Sent, fates: &[Fate]) -> Result<(), AllocError>
+        ensures { OnOk result ((items : List Item) → Holds self.old.buckets items → Holds self.new.buckets (items ++ map Packet (filter_map (copy_of sent.now) fates.now))) }
+    {
+        for fate in fates {
+            self.put_fate(sent, fate)?;
         }
         Ok(())
     }

@@ -1,6 +1,6 @@
 //! The radio process.
 
-ghost use Rattle.std.specs.Prelude.{◌≡◌, ◌++◌, [], ◌∷◌, if◌then◌else◌, nat_lt, length, OnOk};
+ghost use Rattle.std.specs.Prelude.{◌≡◌, ◌++◌, [], ◌∷◌, if◌then◌else◌, drop, nat_lt, length, slice_get, OnOk};
 ghost use Rattle.mote_program.specs.Code.{Tree};
 ghost use Rattle.mote_program.specs.Program.{tree_of};
 ghost use Rattle.process_kernel.specs.Radio.{packet_of, hand_to, empty_ring, radio_of};
@@ -34,6 +34,22 @@ impl Machine {
         }
     }
 
+    /// Takes the oldest packet out of the ring. The only one is taken from the back, so a ring that is emptied each time stays at
+    /// its first slots.
+    fn take_packet(&mut self) -> Option<Arrival>
+        ensures value { result ≡ slice_get self.old.ring.items 0 }
+        ensures after { (t : Tree) → state_of t self.new ≡ record (state_of t self.old) { ring = drop 1 self.old.ring.items } }
+        ensures ring { self.new.ring.items ≡ drop 1 self.old.ring.items }
+        ensures kept { KeepsCounts self.old self.new }
+        ensures grows { Grows self.old.out self.new.out }
+    {
+        if self.ring.len() == 1 {
+            self.ring.pop_back()
+        } else {
+            self.ring.pop_front()
+        }
+    }
+
     /// Posts a packet to the receiver; without one nobody hears it.
     #[tactic(auto, unfolding(crate::specs::Radio::hand_to))]
     fn hand_to(&mut self, receiver: Option<u8>, packet: &Arrival) -> Result<(), Stop>
@@ -57,7 +73,7 @@ impl Machine {
         ensures kept { OnOk result (KeepsCounts self.old self.new) }
         ensures grows { Grows self.old.out self.new.out }
     {
-        while let Some(packet) = self.ring.pop_front() {
+        while let Some(packet) = self.take_packet() {
             self.hand_to(receiver, &packet)?;
         }
         Ok(())

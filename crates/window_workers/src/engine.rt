@@ -29,6 +29,8 @@ pub struct Engine {
     pub traces: Vec<Vec<Line>>,
     pub log: Vec<LogLine>,
     pub agenda: Agenda,
+    /// What the last turn told; the next turn writes into its room.
+    pub out: TurnOut,
 }
 
 /// A wake at another moment than this.
@@ -53,15 +55,16 @@ fn turn_mote(
     number: u16,
     moment: u64,
     packets: &[Arrival],
-) -> Result<TurnOut, AllocError>
+    out: &mut TurnOut,
+) -> Result<(), AllocError>
     requires there { number < length motes.old.items }
     requires early { moment ≤ 2 ^ 40 }
-    ensures { IfOk result (λ out. OneTakesTurn (tree_of program.now) moment packets.now number motes.old.items motes.new.items out) }
+    ensures { OnOk result (OneTakesTurn (tree_of program.now) moment packets.now number motes.old.items motes.new.items out.new) }
 {
-    let Ok(out) = motes[usize::from(number)].turn(program, moment, packets) else {
+    let Ok(()) = motes[usize::from(number)].turn_into(program, moment, packets, out) else {
         return Err(AllocError);
     };
-    Ok(out)
+    Ok(())
 }
 
 /// When one of the motes wakes next.
@@ -72,13 +75,16 @@ fn wake_at(motes: &[Mote], number: u16) -> Option<u64>
     motes[usize::from(number)].wake()
 }
 
-/// Lines more at the end of a mote's trace.
-fn add_lines(traces: &mut Vec<Vec<Line>>, number: u16, lines: Vec<Line>) -> Result<(), AllocError>
+/// Moves lines to the end of a mote's trace.
+fn add_lines(
+    traces: &mut Vec<Vec<Line>>,
+    number: u16,
+    lines: &mut Vec<Line>,
+) -> Result<(), AllocError>
     requires { number < length traces.old.items }
-    ensures { OnOk result (AddsLines number lines.items traces.old.items traces.new.items) }
+    ensures { OnOk result (AddsLines number lines.old.items traces.old.items traces.new.items) }
 {
-    let mut lines = lines;
-    traces[usize::from(number)].append(&mut lines)?;
+    traces[usize::from(number)].append(lines)?;
     Ok(())
 }
 
@@ -93,6 +99,7 @@ impl Engine {
             traces: Vec::new(alloc),
             log: Vec::new(alloc),
             agenda: Agenda::new(alloc),
+            out: TurnOut::new(alloc),
         };
         for number in 0..net.motes() {
             let mote = new_mote(alloc, net, number)?;
@@ -113,28 +120,24 @@ impl Engine {
     {
         let packets = self.agenda.take_due(moment, number)?;
         let wake = wake_but_at(moment, wake_at(&self.motes, number));
-        let out = turn_mote(
+        turn_mote(
             &mut self.motes,
             net.program(number),
             number,
             moment,
             &packets,
+            &mut self.out,
         )?;
-        let TurnOut {
-            lines,
-            sends,
-            wake: next,
-        } = out;
-        self.agenda.move_wake(wake, next, number)?;
+        self.agenda.move_wake(wake, self.out.wake, number)?;
         send_all(
             net.medium(),
             moment,
             number,
-            &sends,
+            &self.out.sends,
             &mut self.agenda,
             &mut self.log,
         )?;
-        add_lines(&mut self.traces, number, lines)?;
+        add_lines(&mut self.traces, number, &mut self.out.lines)?;
         Ok(())
     }
 }

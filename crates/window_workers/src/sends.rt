@@ -27,9 +27,8 @@ fn send(
     ensures agenda { OnOk result ((items : List Item) → Holds agenda.old.buckets items → Holds agenda.new.buckets (items ++ map Packet (copies medium.now sent.now))) }
     ensures log { OnOk result (map told_line log.new.items ≡ map told_line log.old.items ++ packet_with_fates medium.now sent.now ∷ []) }
 {
-    let copies = medium.copies(sent)?;
-    agenda.put_copies(&copies)?;
     let fates = medium.fates(sent)?;
+    agenda.put_fates(sent, &fates)?;
     log.push(LogLine { sent: *sent, fates })?;
     Ok(())
 }

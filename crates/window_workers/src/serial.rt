@@ -55,6 +55,7 @@ pub fn run_serial(alloc: Global, net: &Net) -> Result<Report, RunError>
         traces,
         log,
         agenda,
+        out: _,
     } = engine;
     let left = agenda.left()?;
     Ok(Report {

@@ -10,5 +10,5 @@ returns c =
       put = ap (λ k. slice_set xs k c.append.new.self) c.from.ensures;
       added = λ d.
           c.in_ok-append.ensures.items
-          ∙ ap (λ v. v.items ++ c.args.lines.items) (c.index_mut.ensures.value ∙ (ap (λ k. get_or xs k old) c.from.ensures ∙ sym (get_or_default xs c.args.number d old c.requires)));
+          ∙ ap (λ v. v.items ++ c.args.lines.now.items) (c.index_mut.ensures.value ∙ (ap (λ k. get_or xs k old) c.from.ensures ∙ sym (get_or_default xs c.args.number d old c.requires)));
     }

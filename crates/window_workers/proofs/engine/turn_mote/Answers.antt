@@ -11,8 +11,8 @@ returns c =
     let old = c.index_mut.result.now in
     let tree = tree_of c.args.program.now in
     record {
-      after = c.turn.new.self;
-      put = ap (λ k. slice_set xs k c.turn.new.self) c.from.ensures;
+      after = c.turn_into.new.self;
+      put = ap (λ k. slice_set xs k c.turn_into.new.self) c.from.ensures;
       turned = λ d.
           c.in-Ok.ensures.ok
           ∙ ap (λ m. option_map (turn_of c.args.moment c.args.packets.now) (node_in tree m))
