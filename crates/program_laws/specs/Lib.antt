@@ -1,0 +1,4 @@
+pub mod Complete
+pub mod Declared
+pub mod Laws
+pub mod Named
