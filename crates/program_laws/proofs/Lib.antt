@@ -6,4 +6,5 @@ pub mod Marks
 pub mod Numbers
 pub mod Programs
 pub mod Stands
+pub mod Trees
 pub mod Walk

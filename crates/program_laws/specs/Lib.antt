@@ -2,3 +2,4 @@ pub mod Complete
 pub mod Declared
 pub mod Laws
 pub mod Named
+pub mod Trees

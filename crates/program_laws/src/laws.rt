@@ -4,6 +4,7 @@ ghost use Rattle.mote_program.specs.Program.{tree_of};
 ghost use Rattle.program_laws.specs.Complete.{IsComplete};
 ghost use Rattle.program_laws.specs.Declared.{IsDeclared};
 ghost use Rattle.program_laws.specs.Laws.{NamesAreDeclared, DeclarationsAreComplete};
+ghost use Rattle.program_laws.specs.Trees.{TreesThatDeclare, TreesThatDoNot, TreesThatLack};
 
 use mote_program::Program;
 
@@ -20,4 +21,11 @@ pub fn what_a_text_names_is_declared()
 pub fn names_are_declared(program: &Program)
     ensures declared { IsDeclared (tree_of program.now) }
     ensures complete { IsComplete (tree_of program.now) }
+{}
+
+/// Both properties hold of a small tree that names something of each class, and fail at small trees that break one thing each.
+pub fn trees_are_told_apart()
+    ensures whole { TreesThatDeclare }
+    ensures undeclared { TreesThatDoNot }
+    ensures lacking { TreesThatLack }
 {}
