@@ -1,0 +1,10 @@
+pub mod Changed
+pub mod Codes
+pub mod Complete
+pub mod Head
+pub mod Marks
+pub mod Numbers
+pub mod Programs
+pub mod Stands
+pub mod Trees
+pub mod Walk

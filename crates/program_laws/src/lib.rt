@@ -1,0 +1,4 @@
+//! Laws of programs: what the tree of each program keeps.
+#![tactic(auto)]
+
+pub mod laws;
