@@ -1,5 +1,5 @@
 -- Each packet that arrives at a turn has its line there.
-use Rattle.std.proofs.Common.{ℕ, zero, suc, ◌≡◌, ◌&&◌, Bool, true, false, if◌then◌else◌, List, [], ◌∷◌, ◌++◌, refl, sym, ap, ◌∙◌, subst, append_assoc, append-nil}
+use Rattle.std.proofs.Common.{ℕ, zero, suc, ◌≡◌, ◌&&◌, Bool, true, false, if◌then◌else◌, List, [], ◌∷◌, ◌++◌, map, refl, sym, ap, ◌∙◌, subst, append_assoc, append-nil}
 use Rattle.std.specs.List.{All}
 use Rattle.std.proofs.lemmas.List.Elements.{All-head, All-tail}
 use Rattle.mote_program.specs.declared.event.Proc.TheVariants.{Radio}
@@ -14,9 +14,9 @@ use Rattle.process_kernel.specs.Public.{boot_given, run_given}
 use Rattle.kernel_laws.specs.Going.{IsNote}
 use Rattle.kernel_laws.proofs.Ring.{boot_tells_packets, run_tells_packets}
 use Rattle.mote_node.specs.Underway.{Underway, with_mote, with_lines, after}
-use Rattle.mote_node.specs.Arrivals.{received_line, lost_line, hear, hear_each, took_some, hear_all, is_collision, with_collisions}
+use Rattle.mote_node.specs.Arrivals.{received_line, lost_line, collision_line, hear, hear_each, took_some, hear_all, is_collision, with_collisions}
 use Rattle.mote_node.specs.Turn.{most_runs, boot_due, poll_due, follow, runs_of, work_of, mote_turn, net_turn, turn_of}
-use Rattle.mote_laws.specs.Ring.{note_of, notes_in, AreHeard, NoneCame, IsReceived, IsLost, TurnsHear}
+use Rattle.mote_laws.specs.Ring.{note_of, notes_in, AreHeard, NoneCame, IsReceived, IsLost, BeginWithCollisions, TurnsCollide, TurnsHear}
 
 notes_joined : (xs ys : List Line) → notes_in (xs ++ ys) ≡ notes_in xs ++ notes_in ys
 notes_joined [] ys = refl
@@ -153,3 +153,30 @@ turns_hear moment arrivals n apart running =
         → AreHeard arrivals (notes_in (if b then mote_turn moment [] (with_collisions moment arrivals u) else mote_turn moment arrivals u).lines)
     by u true e none h = absurd (cc)
     by u false e none h = let k = mote_turn_hears moment arrivals u h in subst (λ l. AreHeard arrivals (notes_in l)) (sym (k.wrote ∙ ap (λ l. l ++ k.added) none)) k.heard
+
+-- collisions
+
+none_heard : (ws : List What) → AreHeard [] ws → ws ≡ []
+none_heard ws NoneCame = refl
+
+-- a turn at which no packet arrives hears none
+mote_turn_quiet : (moment : ℕ) (u : Underway) → Quiet u (mote_turn moment [] u)
+unfolding mote_turn
+mote_turn_quiet moment u = let b = boot_due moment u in by b b.mote.halted (boot_quiet moment u)
+  where
+    by : (v : Underway) (b : Bool) → Quiet u v → Quiet u (if b then v else work_of moment [] v)
+    by v true q = q
+    by v false q = let h = work_hears moment [] u v q in record { added = h.added; wrote = h.wrote; none = none_heard (notes_in h.added) h.heard }
+
+pub turns_collide : TurnsCollide
+unfolding turn_of net_turn
+turns_collide moment arrivals n together =
+    let u : Underway = record { mote = n.mote; lines = []; sends = [] } in
+    by u (n.collides && is_collision n.mote arrivals) together refl
+  where
+    by : (u : Underway) (b : Bool) → b ≡ true → u.lines ≡ []
+        → BeginWithCollisions moment arrivals (if b then mote_turn moment [] (with_collisions moment arrivals u) else mote_turn moment arrivals u).lines
+    by u true e none =
+        let k = mote_turn_quiet moment (with_collisions moment arrivals u) in
+        record { later = k.added; first = k.wrote ∙ ap (λ l. (l ++ map (collision_line moment) arrivals) ++ k.added) none; none = k.none }
+    by u false e none = absurd (cc)

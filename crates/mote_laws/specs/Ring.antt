@@ -1,5 +1,5 @@
 -- The packets that a mote receives, and the line that each of them gets, over its turns.
-use Rattle.std.specs.Prelude.{ℕ, ◌≡◌, ◌&&◌, Bool, false, List, [], ◌∷◌, ◌++◌, Option}
+use Rattle.std.specs.Prelude.{ℕ, ◌≡◌, ◌&&◌, Bool, true, false, List, [], ◌∷◌, ◌++◌, map, Option}
 use Rattle.mote_program.specs.Code.{Tree}
 use Rattle.process_kernel.specs.declared.line.Arrival.{Arrival}
 use Rattle.process_kernel.specs.declared.line.Line.{Line}
@@ -9,7 +9,7 @@ use Rattle.process_kernel.specs.Mote.{Mote}
 use Rattle.kernel_laws.specs.Polled.{TellEach}
 use Rattle.kernel_laws.specs.Ring.{RingRuns}
 use Rattle.mote_node.specs.Node.{Node}
-use Rattle.mote_node.specs.Arrivals.{is_collision}
+use Rattle.mote_node.specs.Arrivals.{collision_line, is_collision}
 use Rattle.mote_node.specs.Turn.{turn_of}
 use Rattle.mote_node.specs.Laws.{TurnInput, Turns}
 use Rattle.mote_laws.specs.Laws.{first_node}
@@ -36,6 +36,17 @@ abbrev pub TurnsHear : Type 0
 TurnsHear =
     (moment : ℕ) (arrivals : List Arrival) (n : Node) → let t = turn_of moment arrivals n in (n.collides && is_collision n.mote arrivals) ≡ false → t.node.mote.halted ≡ false
     → AreHeard arrivals (notes_in t.lines)
+
+-- lines that begin with one for each of these packets, in order, and tell of no other that arrives
+pub record BeginWithCollisions (moment : ℕ) (arrivals : List Arrival) (lines : List Line) : Type 0 where
+  pub later : List Line
+  pub first : lines ≡ map (collision_line moment) arrivals ++ later
+  pub none : notes_in later ≡ []
+
+-- a turn whose packets collide begins with their lines, and hears none of them
+abbrev pub TurnsCollide : Type 0
+TurnsCollide =
+    (moment : ℕ) (arrivals : List Arrival) (n : Node) → (n.collides && is_collision n.mote arrivals) ≡ true → BeginWithCollisions moment arrivals (turn_of moment arrivals n).lines
 
 -- Beside these lines the ring goes from empty to the packets that are left: those that the mote holds, unless it has halted.
 pub record GoesWithRing (receiver : Option ℕ) (lines : List Line) (m : Mote) : Type 0 where

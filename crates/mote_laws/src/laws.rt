@@ -3,7 +3,7 @@
 ghost use Rattle.mote_laws.specs.Laws.{MotesHandOn, NewGoesWithNoLines, TurnKeeps};
 ghost use Rattle.mote_node.specs.Laws.{WakesInTime, WakesLater};
 ghost use Rattle.mote_laws.specs.Due.{TurnsForgetNone, TurnsKeepOwners, TurnsServeTimers};
-ghost use Rattle.mote_laws.specs.Ring.{PacketsAreAccountedFor, RingGoesWithLines, TurnsEmptyRing, TurnsHear};
+ghost use Rattle.mote_laws.specs.Ring.{PacketsAreAccountedFor, RingGoesWithLines, TurnsCollide, TurnsEmptyRing, TurnsHear};
 ghost use Rattle.mote_laws.specs.Stamps.{TurnsStamp, PacketsCountUp, TurnsNeverGoBack};
 
 /// Whatever its program is, and whatever turns it takes: the lines of a mote hand its events on, nothing follows a halt, and
@@ -26,13 +26,15 @@ pub fn each_turn_bears_its_moment()
     ensures lines { TurnsNeverGoBack }
 {}
 
-/// Whatever turns a mote takes: each packet that arrives is received (`recv`) or lost (`lost`), but for collisions; and each that is received is
+/// Whatever turns a mote takes: each packet that arrives is received (`recv`) or lost (`lost`), but for collisions: the lines of a turn whose packets
+/// collide begin with one for each of them (`collide`), in order, and none of them is received. Each that is received is
 /// handed on, in the same turn and in order, with one line of its own. It is posted to the receiver (`post`), or refused by a full queue (`full`), or,
 /// without a receiver, `deaf`. Read beside the lines, the ring takes a packet at its back where it holds fewer than 8, loses one only where it holds 8,
 /// and gives each up from the front; no `deaf` line stands there for another reason. After a turn it is empty. Where the mote halts, some packets may be
 /// left behind those that were handed on. A program that posts `packet` to the receiver itself writes the same `post` or `full` line.
 pub fn each_packet_is_handed_on()
     ensures heard { TurnsHear }
+    ensures collide { TurnsCollide }
     ensures ring { RingGoesWithLines }
     ensures emptied { TurnsEmptyRing }
     ensures packets { PacketsAreAccountedFor }

@@ -1,5 +1,6 @@
 pub mod Arrivals
 pub mod Laws
+pub mod MoteErrors
 pub mod Node
 pub mod Public
 pub mod Steps

@@ -27,11 +27,15 @@ pub enum MoteError {
 }
 
 impl fmt::Display for MoteError {
+    ghost use Rattle.mote_node.specs.MoteErrors.{text_of_error};
+
+    ghost output = { λ e. Some (text_of_error e) };
+
     fn fmt<W: fmt::Write>(&self, f: &mut fmt::Formatter<W>) -> fmt::Result {
         match self {
-            MoteError::Memory => write!(f, "out of memory"),
-            MoteError::Failed => write!(f, "an earlier turn of the mote found no memory"),
-            MoteError::Past => write!(f, "the moment isn't above that of the last turn"),
+            MoteError::Memory => f.write_str("out of memory"),
+            MoteError::Failed => f.write_str("an earlier turn of the mote found no memory"),
+            MoteError::Past => f.write_str("the moment isn't above that of the last turn"),
         }
     }
 }

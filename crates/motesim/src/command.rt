@@ -1,9 +1,10 @@
 //! The program: a scenario in a file or on standard input, its report on standard output, a fault's line on standard error.
 
-ghost use Rattle.std.specs.Prelude.{◌≡◌, Some};
+ghost use Rattle.std.specs.Prelude.{◌≡◌, Some, None, IfErr, IfSome};
 ghost use Rattle.motesim.specs.FaultLines.{fault_line, run_fault_number};
+ghost use Rattle.motesim.specs.Simulation.{SimulatedWith, SimulatedSome, Unwritten};
 
-use crate::command_line::asked_by;
+use crate::command_line::{Asked, asked_by};
 use crate::options::Options;
 use crate::simulate::{SimError, simulate};
 use clap::error::ErrorKind;
@@ -16,7 +17,7 @@ use std::sync::Wait;
 use std::thread::Threads;
 use std::{fmt, fs};
 use trace_printer::PrintError;
-use window_run::NoGate;
+use window_run::{Gate, NoGate};
 use window_workers::RunError;
 
 /// The number of a run's fault, as it is printed.
@@ -95,19 +96,51 @@ fn status_of_words<W: Write, E: Write>(error: &clap::Error, output: &mut W, erro
 ///
 /// # Errors
 /// `Read` also where the file can't be opened.
-fn simulate_file<T, W>(
+fn simulate_file<T, W, G>(
     rt: &T,
     file: &str,
     output: &mut W,
     options: &Options,
+    gate: &G,
 ) -> Result<(), SimError>
 where
     T: AllocGlobal + Files + Threads + Wait + RandomSource + Sync,
     W: Write,
+    G: Gate + Sync,
+    ensures some { SimulatedSome options.now.workers (W.contents output.old) (W.contents output.new) result }
+    ensures unwritten { IfErr result (Unwritten (W.contents output.old) (W.contents output.new)) }
 {
     match fs::open(rt, file) {
-        Ok(mut input) => simulate(rt, rt.alloc(), &mut input, output, options, &NoGate),
+        Ok(mut input) => simulate(rt, rt.alloc(), &mut input, output, options, gate),
         Err(_) => Err(SimError::Read),
+    }
+}
+
+/// Simulates what is asked for: the scenario in the file, or else the one that `input` gives, by the options.
+///
+/// # Errors
+/// As `simulate`; `Read` also where the file can't be opened.
+pub fn simulate_asked<T, R, W, G>(
+    rt: &T,
+    asked: &Asked<'_>,
+    input: &mut R,
+    output: &mut W,
+    gate: &G,
+) -> Result<(), SimError>
+where
+    T: AllocGlobal + Files + Threads + Wait + RandomSource + Sync,
+    R: Read,
+    W: Write,
+    G: Gate + Sync,
+    // Without a file it is the simulation of what `input` gives.
+    ensures answer { asked.now.file ≡ None → IfSome (R.remaining input.old) (λ bytes. SimulatedWith asked.now.options.workers bytes (W.contents output.old) (W.contents output.new) result) }
+    // A report is that of some bytes, by so many workers as are asked for.
+    ensures some { SimulatedSome asked.now.options.workers (W.contents output.old) (W.contents output.new) result }
+    ensures unwritten { IfErr result (Unwritten (W.contents output.old) (W.contents output.new)) }
+{
+    match asked.file {
+        Some(file) => simulate_file(rt, file, output, &asked.options, gate),
+        None => simulate(rt, rt.alloc(), input, output, &asked.options, gate),
     }
 }
 
@@ -134,9 +167,5 @@ where
         Ok(asked) => asked,
         Err(error) => return status_of_words(&error, output, errors),
     };
-    let answer = match asked.file {
-        Some(file) => simulate_file(rt, file, output, &asked.options),
-        None => simulate(rt, rt.alloc(), input, output, &asked.options, &NoGate),
-    };
-    status_of(answer, errors)
+    status_of(simulate_asked(rt, &asked, input, output, &NoGate), errors)
 }

@@ -1,5 +1,5 @@
 //! The words of the command line, as `clap` reads them.
-ghost use Rattle.std.specs.Prelude.{◌≡◌, codes};
+ghost use Rattle.std.specs.Prelude.{◌≡◌, codes, None, IfSome};
 ghost use Rattle.motesim.specs.declared.options.CutKind.TheVariants as kind;
 
 use crate::options::{CutKind, Options};
@@ -27,6 +27,20 @@ fn cut_named(name: &str) -> CutKind
         "stripe" => CutKind::Stripe,
         _ => CutKind::Block,
     }
+}
+
+/// The options for so many workers and the cut of this name. Without a name it is the cut in blocks.
+fn options_for(workers: Option<u16>, cut: Option<&str>) -> Options
+    ensures workers { result.workers ≡ workers }
+    ensures unnamed { cut ≡ None → result.cut ≡ kind.Block }
+    ensures block { IfSome cut (λ name. name.now ≡ codes "block" → result.cut ≡ kind.Block) }
+    ensures stripe { IfSome cut (λ name. name.now ≡ codes "stripe" → result.cut ≡ kind.Stripe) }
+{
+    let cut = match cut {
+        Some(name) => cut_named(name),
+        None => CutKind::Block,
+    };
+    Options { workers, cut }
 }
 
 /// The program's one command.
@@ -63,10 +77,7 @@ fn command<'a>(alloc: Global) -> Result<Command<'a>, AllocError> {
 /// words.
 pub fn asked_by<'a>(alloc: Global, words: &'a [&'a str]) -> Result<Asked<'a>, Error> {
     let matches = command(alloc)?.try_get_matches_from(words)?;
-    let options = Options {
-        workers: matches.get_one::<u16>("workers"),
-        cut: matches.get_str("cut").map(cut_named).unwrap_or_default(),
-    };
+    let options = options_for(matches.get_one::<u16>("workers"), matches.get_str("cut"));
     let file = matches.get_str("FILE");
     Ok(Asked { file, options })
 }

@@ -7,9 +7,11 @@ mod motes;
 mod nets;
 mod queues;
 mod refused_start;
+mod scenario_file;
 mod scenarios;
 mod streams;
 mod with_workers;
+mod workers;
 mod workers_of_the_command;
 
 use crate::simulate::{SimError, simulate_serial};

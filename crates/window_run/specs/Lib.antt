@@ -1,6 +1,7 @@
 pub mod Laws
 pub mod Out
 pub mod Own
+pub mod ShareErrors
 pub mod Shares
 pub mod Slots
 pub mod Turns

@@ -1,6 +1,6 @@
 //! What one worker has in a window.
 
-ghost use Rattle.std.specs.Prelude.{◌≡◌, true};
+ghost use Rattle.std.specs.Prelude.{◌≡◌, true, Some};
 ghost use Rattle.window_run.specs.Window.{is_rising};
 
 use mote_node::{Mote, MoteError};
@@ -35,10 +35,14 @@ pub enum ShareError {
 }
 
 impl fmt::Display for ShareError {
+    ghost use Rattle.window_run.specs.ShareErrors.{text_of_error};
+
+    ghost output = { λ e. Some (text_of_error e) };
+
     fn fmt<W: fmt::Write>(&self, f: &mut fmt::Formatter<W>) -> fmt::Result {
         match self {
-            ShareError::Memory => write!(f, "out of memory"),
-            ShareError::Thread => write!(f, "the executor gave up"),
+            ShareError::Memory => f.write_str("out of memory"),
+            ShareError::Thread => f.write_str("the executor gave up"),
         }
     }
 }

@@ -5,5 +5,6 @@ pub mod Fits
 pub mod Laws
 pub mod NetRun
 pub mod Over
+pub mod RunErrors
 pub mod Stamps
 pub mod Stands

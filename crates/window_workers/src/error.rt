@@ -1,6 +1,6 @@
 //! Why there is no report.
 
-ghost use Rattle.std.specs.Prelude.{◌≡◌};
+ghost use Rattle.std.specs.Prelude.{◌≡◌, Some};
 ghost use Rattle.window_workers.specs.declared.error.RunError.TheVariants.{Memory};
 ghost use Rattle.window_workers.specs.Fits.{of_refused};
 
@@ -26,13 +26,17 @@ pub enum RunError {
 }
 
 impl fmt::Display for RunError {
+    ghost use Rattle.window_workers.specs.RunErrors.{text_of_error};
+
+    ghost output = { λ e. Some (text_of_error e) };
+
     fn fmt<W: fmt::Write>(&self, f: &mut fmt::Formatter<W>) -> fmt::Result {
         match self {
-            RunError::Workers => write!(f, "run fault 1"),
-            RunError::CutLength => write!(f, "run fault 2"),
-            RunError::CutWorker => write!(f, "run fault 3"),
-            RunError::Memory => write!(f, "out of memory"),
-            RunError::Thread => write!(f, "run fault 5"),
+            RunError::Workers => f.write_str("run fault 1"),
+            RunError::CutLength => f.write_str("run fault 2"),
+            RunError::CutWorker => f.write_str("run fault 3"),
+            RunError::Memory => f.write_str("out of memory"),
+            RunError::Thread => f.write_str("run fault 5"),
         }
     }
 }

@@ -1,7 +1,8 @@
 //! The workers before the first window.
 
-ghost use Rattle.std.specs.Prelude.{◌≡◌, ◌≤◌, length, IfOk};
+ghost use Rattle.std.specs.Prelude.{◌≡◌, ◌≤◌, length, IfOk, IfErr};
 ghost use Rattle.std.specs.List.{AllZip};
+ghost use Rattle.fork_join.specs.declared.work.Refused.TheVariants.{Memory};
 ghost use Rattle.net_scenario.specs.Net.{net_of};
 ghost use Rattle.copy_exchange.specs.Inboxes.{IsFresh};
 ghost use Rattle.worker_crew.specs.Crew.{IsAt};
@@ -18,7 +19,8 @@ use worker_share::Share;
 /// The shares of so many workers: each mote wakes at 0.
 fn first_shares(alloc: Global, net: &Net, of: &[u16], workers: u16) -> Result<Vec<Share>, Refused>
     requires { length of.now ≡ length (net_of net.now).motes }
-    ensures { let n = net_of net.now in IfOk result (λ shares. AreFirst n of.now workers shares.items) }
+    ensures first { let n = net_of net.now in IfOk result (λ shares. AreFirst n of.now workers shares.items) }
+    ensures err { IfErr result (λ e. e ≡ Memory) }
 {
     let mut shares = Vec::new(alloc);
     for worker in 0..workers {
@@ -46,6 +48,7 @@ impl Crew {
         requires fresh { AllZip IsFresh inboxes.items takers.items }
         ensures at { IfOk result (λ crew. IsAt (net_of net.now) of.now 0 crew) }
         ensures inboxes { IfOk result (λ crew. crew.inboxes.items ≡ inboxes.items) }
+        ensures err { IfErr result (λ e. e ≡ Memory) }
     {
         let shares = first_shares(alloc, net, of, inboxes.len() as u16)?;
         Ok(Crew {

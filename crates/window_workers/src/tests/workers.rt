@@ -220,12 +220,13 @@ fn refused_inboxes(rt: HostRuntime) -> Result<(), Fail> {
     Ok(())
 }
 
-/// Each turn of one worker waits, for a while, until the other worker is inside its turn of the same moment.
+/// Each poll with a turn of one worker waits before the turn, for a while, until the other worker is there in a poll with a turn of the
+/// same moment.
 #[derive(Drop)]
 struct Meeting {
-    /// Whether a worker is inside its turn of a moment: at 2 * moment + worker.
+    /// Whether a worker came to its turn of a moment: at 2 * moment + worker.
     inside: [AtomicU64; 6],
-    /// How often that turn saw the other worker inside.
+    /// How often the other worker was seen there before that turn.
     seen: [AtomicU64; 6],
 }
 
@@ -274,7 +275,7 @@ fn busy_cut(alloc: Global) -> Result<Cut, AllocError> {
     Ok(cut)
 }
 
-/// In each of the three windows each worker's turn, which is one, saw the other worker inside its own.
+/// In each of the three windows each worker, which has one turn there, saw the other one come before it took its turn.
 fn all_met<R: Abort>(rt: &R, gate: &Meeting) {
     for seen in &gate.seen {
         assert_eq!(rt; seen.load(SeqCst), 1);
@@ -282,7 +283,7 @@ fn all_met<R: Abort>(rt: &R, gate: &Meeting) {
 }
 
 #[test]
-fn turns_of_workers_overlap(rt: HostRuntime) -> Result<(), Fail> {
+fn polls_of_workers_overlap(rt: HostRuntime) -> Result<(), Fail> {
     let alloc = rt.alloc();
     let net = read_scenario(alloc, BUSY_PAIR)?;
     let gate = Meeting::new();
@@ -293,13 +294,65 @@ fn turns_of_workers_overlap(rt: HostRuntime) -> Result<(), Fail> {
 }
 
 #[test]
-fn turns_overlap_with_inboxes(rt: HostRuntime) -> Result<(), Fail> {
+fn polls_overlap_with_inboxes(rt: HostRuntime) -> Result<(), Fail> {
     let alloc = rt.alloc();
     let net = read_scenario(alloc, BUSY_PAIR)?;
     let gate = Meeting::new();
     let pairs = make_inboxes(alloc, 2)?;
     let (report, _pairs) = run_inboxes(&rt, alloc, &net, &busy_cut(alloc)?, &gate, pairs)?;
     all_met(&rt, &gate);
+    assert_eq!(rt; told(alloc, &report)?, told_by_one(alloc, &net)?);
+    Ok(())
+}
+
+/// A mote more for the busy pair, which hears no other.
+const THIRD_MOTE: &str = "[[mote]]\nx = 40\ny = 0\nprogram = \"p\"\n";
+
+/// Each of three workers waits before its turn of a moment, for a while, until all three came to theirs.
+#[derive(Drop)]
+struct Rendezvous {
+    /// How many workers came to their turn of a moment.
+    came: [AtomicU64; 3],
+    /// How many of them saw all three there.
+    met: [AtomicU64; 3],
+}
+
+fn three_zeros() -> [AtomicU64; 3] {
+    [AtomicU64::new(0), AtomicU64::new(0), AtomicU64::new(0)]
+}
+
+impl Gate for Rendezvous {
+    fn inside(&self, _worker: u16, moment: u64, _mote: u16) {
+        if moment > 2 {
+            return;
+        }
+        let place = moment as usize;
+        self.came[place].fetch_add(1, SeqCst);
+        for _ in 0..50_000_000u64 {
+            if self.came[place].load(SeqCst) == 3 {
+                self.met[place].fetch_add(1, SeqCst);
+                return;
+            }
+        }
+    }
+}
+
+/// Three workers with a mote each meet in each of three windows.
+#[test]
+fn polls_of_three_workers_overlap(rt: HostRuntime) -> Result<(), Fail> {
+    let alloc = rt.alloc();
+    let text = format!(in alloc; "{BUSY_PAIR}{THIRD_MOTE}")?;
+    let net = read_scenario(alloc, &text)?;
+    let mut cut = Cut::block(alloc, 3, 3)?;
+    cut.longest = 1;
+    let gate = Rendezvous {
+        came: three_zeros(),
+        met: three_zeros(),
+    };
+    let report = run_workers(&rt, alloc, &net, 3, &cut, &gate)?;
+    for met in &gate.met {
+        assert_eq!(rt; met.load(SeqCst), 3);
+    }
     assert_eq!(rt; told(alloc, &report)?, told_by_one(alloc, &net)?);
     Ok(())
 }
@@ -351,6 +404,25 @@ fn starts_are_counted(rt: HostRuntime) -> Result<(), Fail> {
             refuses: 2,
         };
         run_workers(&rt, alloc, &net, 2, &cut, &gate)?;
+        assert_eq!(rt; gate.asked.load(SeqCst), starts, "{longest}");
+    }
+    Ok(())
+}
+
+/// Each of 16 workers is started in each window, also the 13 that have no mote: in three windows of one moment, or in one.
+#[test]
+fn workers_without_motes_are_started(rt: HostRuntime) -> Result<(), Fail> {
+    let alloc = rt.alloc();
+    let text = format!(in alloc; "{BUSY_PAIR}{THIRD_MOTE}")?;
+    let net = read_scenario(alloc, &text)?;
+    let mut cut = Cut::block(alloc, 3, 16)?;
+    for (longest, starts) in [(1, 48), (0, 16)] {
+        cut.longest = longest;
+        let gate = Doorkeeper {
+            asked: AtomicU64::new(0),
+            refuses: 16,
+        };
+        run_workers(&rt, alloc, &net, 16, &cut, &gate)?;
         assert_eq!(rt; gate.asked.load(SeqCst), starts, "{longest}");
     }
     Ok(())

@@ -24,6 +24,9 @@ returns c =
     let inv = c.loop-worker.invariant in
     let all : c.loop-worker.worker ≡ c.args.workers = omega (arith, c.loop-worker-test.false, c.loop-worker.auto.worker-end) in
     record {
-      count = inv.count ∙ all;
-      each = λ v share low. inv.each v share (omega arith);
+      first = record {
+        count = inv.count ∙ all;
+        each = λ v share low. inv.each v share (omega arith);
+      };
+      err = tt;
     }
