@@ -3,7 +3,7 @@ use Rattle.std.proofs.Common.{◌≡◌, ◌≤◌, ℕ, List, [], ◌∷◌, ma
 use Rattle.std.proofs.lemmas.List.{length-map}
 use Rattle.toml.specs.Data.{Members}
 use Rattle.radio_medium.specs.Medium.{IsWithinLimits}
-use Rattle.radio_medium.specs.declared.place.Position.{Position}
+use Rattle.radio_medium.specs.declared.place.Place.{Place}
 use Rattle.net_scenario.specs.Document.{version_of, natural, integer_at, table_at, tables_at, first_some}
 use Rattle.net_scenario.specs.Limits.{latest_end}
 use Rattle.net_scenario.specs.Net.{place_told, loss_of, radio_told}
@@ -13,7 +13,7 @@ use Rattle.net_scenario.proofs.Each.{Faultless, or_none}
 use Rattle.net_scenario.proofs.Keeps.{keeps_all, number_kept, natural_within, signed_within}
 use Rattle.net_scenario.proofs.Reading.{few_motes}
 
-abbrev pub IsNear : Position → Type 0
+abbrev pub IsNear : Place → Type 0
 IsNear p = (unsigned_abs p.x ≤ 30000) × (unsigned_abs p.y ≤ 30000)
 
 near : (ms : Members) → keys_fault mote_rules ms ≡ None → IsNear (place_told ms)

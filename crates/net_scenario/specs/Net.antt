@@ -5,7 +5,7 @@ use Rattle.std.specs.Str.{bytes_eq}
 use Rattle.toml.specs.Data.{Members}
 use Rattle.mote_program.specs.Code.{Tree}
 use Rattle.radio_medium.specs.Medium.{Radio}
-use Rattle.radio_medium.specs.declared.place.Position.{Position}
+use Rattle.radio_medium.specs.declared.place.Place.{Place}
 use Rattle.radio_medium.specs.declared.place.Loss.{Loss}
 use Rattle.net_scenario.specs.declared.error.TableFault.{TableFault}
 use Rattle.net_scenario.specs.declared.error.TableFault.TheVariants.{UnknownProgram}
@@ -51,7 +51,7 @@ mote_of_table queue trees ms = record {
   queue = queue_of queue (text_at (codes "program") ms);
 }
 
-abbrev pub place_told : Members → Position
+abbrev pub place_told : Members → Place
 place_told ms = record { x = number_at (codes "x") ms; y = number_at (codes "y") ms }
 
 abbrev pub loss_of : Members → Loss

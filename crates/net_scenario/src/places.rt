@@ -6,16 +6,16 @@ ghost use Rattle.net_scenario.specs.Document.{first_some, tables_in};
 ghost use Rattle.net_scenario.specs.Net.{place_told, loss_of};
 
 use crate::values::{integer_at, natural_at};
-use radio_medium::{Loss, Position};
+use radio_medium::{Loss, Place};
 use std::alloc::{AllocError, Global};
 use toml::{Table, Value};
 
 /// The place of a mote.
-fn place_told(table: &Table) -> Position
+fn place_told(table: &Table) -> Place
     requires { keys_fault mote_rules (table_view table.now) ≡ None }
     ensures { result ≡ place_told (table_view table.now) }
 {
-    Position {
+    Place {
         x: integer_at(table, "x"),
         y: integer_at(table, "y"),
     }
@@ -23,7 +23,7 @@ fn place_told(table: &Table) -> Position
 
 /// The places of the motes among the items, in order.
 #[tactic(auto, using(crate::proofs::Each::after_item, crate::proofs::Each::tables_after_item))]
-pub fn places_of(alloc: Global, items: &[Value]) -> Result<Vec<Position>, AllocError>
+pub fn places_of(alloc: Global, items: &[Value]) -> Result<Vec<Place>, AllocError>
     requires { first_some (keys_fault mote_rules) (tables_in (items_view items.now)) ≡ None }
     ensures { IfOk result (λ v. v.items ≡ map place_told (tables_in (items_view items.now))) }
 {

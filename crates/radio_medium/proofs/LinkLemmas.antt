@@ -13,7 +13,7 @@ use Rattle.std.proofs.lemmas.List.FromFn.{map-range_with_len_more, length-map-ra
 use Rattle.process_kernel.specs.declared.line.Sent.{Sent}
 use Rattle.radio_medium.specs.declared.link.Link.{Link}
 use Rattle.radio_medium.specs.declared.place.Loss.{Loss}
-use Rattle.radio_medium.specs.declared.place.Position.{Position}
+use Rattle.radio_medium.specs.declared.place.Place.{Place}
 use Rattle.radio_medium.specs.declared.reach.Reach.{Reach}
 use Rattle.radio_medium.specs.Medium.{Radio, IsWithinLimits, square_distance, square, motes, hears, delay, delays, receivers, loses, place_at, every_of, fate, fates, has_bad_loss, medium_fault}
 use Rattle.radio_medium.specs.Links.{IsMedium, radio_from, link_of, links_of, fate_by, IsFit, with_least}
@@ -63,13 +63,13 @@ unfolding delays
 delays-links radio every = delays_of_all radio every (motes radio)
 
 -- who hears whom doesn't depend on the losses
-pub links-losses : (places : List Position) (reach : Reach) (losses : List Loss) (table : ℕ → ℕ → Option ℕ) → ((s r : ℕ) → table s r ≡ every_of losses s r)
+pub links-losses : (places : List Place) (reach : Reach) (losses : List Loss) (table : ℕ → ℕ → Option ℕ) → ((s r : ℕ) → table s r ≡ every_of losses s r)
     → links_of (radio_from places reach []) table ≡ links_of (radio_from places reach losses) (every_of losses)
 unfolding links_of receivers hears delay
 links-losses places reach losses table same = let is : table ≡ every_of losses = fun_ext (λ s. fun_ext (λ r. same s r)) in rw is refl
 
 -- the places of motes are near, also that of a mote which isn't there
-record IsNear (p : Position) : Type 0 where
+record IsNear (p : Place) : Type 0 where
   x : unsigned_abs p.x ≤ 30000
   y : unsigned_abs p.y ≤ 30000
 
@@ -86,7 +86,7 @@ gap_le x y = omega (arith, ints)
 square_le : (n : ℕ) → n ≤ 60000 → square n ≤ 3600000000
 square_le n h = let first : n * n ≤ n * 60000 = mul-le-mul_left n h in omega arith
 
-distance_bound : (a b : Position) → IsNear a → IsNear b → square_distance a b < 2 ^ 33
+distance_bound : (a b : Place) → IsNear a → IsNear b → square_distance a b < 2 ^ 33
 unfolding square_distance
 distance_bound a b p q =
     let dx : unsigned_abs (a.x -ℤ b.x) ≤ unsigned_abs a.x + unsigned_abs b.x = gap_le a.x b.x in
@@ -159,7 +159,7 @@ unfolding fates links_of
 fates-links radio sent = fates_of radio sent (receivers radio sent.sender)
 
 -- all that a medium keeps
-pub made : (places : List Position) (reach : Reach) (losses : List Loss) (table : ℕ → ℕ → Option ℕ) (all : List (List Link)) (least : Option ℕ)
+pub made : (places : List Place) (reach : Reach) (losses : List Loss) (table : ℕ → ℕ → Option ℕ) (all : List (List Link)) (least : Option ℕ)
     → IsWithinLimits (radio_from places reach losses) → (reach.base ≡ 0 → ⊥) → (reach.per ≡ 0 → ⊥)
     → has_bad_loss (length places) losses ≡ false → ((s r : ℕ) → table s r ≡ every_of losses s r)
     → all ≡ map (links_of (radio_from places reach []) table) (motes (radio_from places reach []))

@@ -11,12 +11,12 @@ use Rattle.radio_medium.specs.declared.error.MediumError.TheVariants.{Memory, Ba
 use Rattle.radio_medium.specs.declared.fate.Fate.{Fate}
 use Rattle.radio_medium.specs.declared.link.Link.{Link}
 use Rattle.radio_medium.specs.declared.place.Loss.{Loss}
-use Rattle.radio_medium.specs.declared.place.Position.{Position}
+use Rattle.radio_medium.specs.declared.place.Place.{Place}
 use Rattle.radio_medium.specs.declared.reach.Reach.{Reach}
 use Rattle.radio_medium.specs.Medium.{Radio, IsWithinLimits, motes, receivers, delay, delays, every_of, is_for_pair, is_good, is_lost, has_bad_loss, medium_fault}
 
 -- the medium of these places and this reach, with these losses
-abbrev pub radio_from : List Position → Reach → List Loss → Radio
+abbrev pub radio_from : List Place → Reach → List Loss → Radio
 radio_from places reach losses = record { places = places; range = reach.range; base = reach.base; per = reach.per; losses = losses }
 
 -- of how many packets one is lost, by sender and receiver

@@ -8,12 +8,12 @@ use Rattle.radio_medium.specs.declared.error.MediumError.{MediumError}
 use Rattle.radio_medium.specs.declared.error.MediumError.TheVariants.{Memory, ZeroBase, ZeroPer, BadLoss}
 use Rattle.radio_medium.specs.declared.fate.Fate.{Fate}
 use Rattle.radio_medium.specs.declared.place.Loss.{Loss}
-use Rattle.radio_medium.specs.declared.place.Position.{Position}
+use Rattle.radio_medium.specs.declared.place.Place.{Place}
 
 -- where each mote stands, how far a packet is heard, how long it takes, and which copies are lost;
 -- a contract sees a `Medium` as this record
 pub record Radio : Type 0 where
-  pub places : List Position
+  pub places : List Place
   pub range : ℕ
   pub base : ℕ
   pub per : ℕ
@@ -22,7 +22,7 @@ pub record Radio : Type 0 where
 -- the limits within which a medium can be made
 pub record IsWithinLimits (radio : Radio) : Type 0 where
   pub motes : length radio.places ≤ 1000
-  pub places : All (λ (p : Position). (unsigned_abs p.x ≤ 30000) × (unsigned_abs p.y ≤ 30000)) radio.places
+  pub places : All (λ (p : Place). (unsigned_abs p.x ≤ 30000) × (unsigned_abs p.y ≤ 30000)) radio.places
   pub range : radio.range ≤ 100000
   pub base : radio.base ≤ 1000000
   pub per : radio.per ≤ 1000000
@@ -31,7 +31,7 @@ abbrev pub square : ℕ → ℕ
 square n = n * n
 
 -- the square of the distance between two places
-unfoldable pub square_distance : Position → Position → ℕ
+unfoldable pub square_distance : Place → Place → ℕ
 square_distance a b = square (unsigned_abs (a.x -ℤ b.x)) + square (unsigned_abs (a.y -ℤ b.y))
 
 -- the numbers of the motes
@@ -41,7 +41,7 @@ motes radio = range_with_len 0 (length radio.places)
 abbrev pub is_mote : Radio → ℕ → Bool
 is_mote radio k = nat_lt k (length radio.places)
 
-abbrev pub place_at : Radio → ℕ → Position
+abbrev pub place_at : Radio → ℕ → Place
 place_at radio k = slice_index_or radio.places k (record { x = pos 0; y = pos 0 })
 
 -- mote r hears mote s: they are two motes, and r stands within the range of s

@@ -15,7 +15,7 @@ pub use copy::RadioCopy;
 pub use error::MediumError;
 pub use fate::Fate;
 pub use medium::Medium;
-pub use place::{Loss, Position};
+pub use place::{Loss, Place};
 
 #[cfg(test)]
 mod tests;

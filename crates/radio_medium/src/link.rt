@@ -8,7 +8,7 @@ ghost use Rattle.radio_medium.specs.Links.{EveryByPair, every_at, radio_from, li
 use crate::copy::RadioCopy;
 use crate::fate::Fate;
 use crate::losses::EveryByPair;
-use crate::place::Position;
+use crate::place::Place;
 use crate::reach::Reach;
 use process_kernel::Sent;
 use std::alloc::{AllocError, Global};
@@ -103,7 +103,7 @@ fn copy_with(fate: Fate, sent: &Sent) -> Option<RadioCopy>
 /// For each mote the ways to those that hear it, by rising number.
 pub(crate) fn all_links(
     alloc: Global,
-    places: &[Position],
+    places: &[Place],
     reach: Reach,
     every: &EveryByPair,
 ) -> Result<Vec<Vec<Link>>, AllocError>
@@ -121,7 +121,7 @@ pub(crate) fn all_links(
 /// The ways from a mote to those that hear it, by rising number.
 fn links_from(
     alloc: Global,
-    places: &[Position],
+    places: &[Place],
     reach: Reach,
     every: &EveryByPair,
     sender: u16,
@@ -143,7 +143,7 @@ fn links_from(
 /// The way from one mote to another, if that one hears it.
 #[tactic(auto, using(crate::proofs::Hearing::hears_between), unfolding(crate::specs::Medium::delay))]
 fn link_between(
-    places: &[Position],
+    places: &[Place],
     reach: Reach,
     every: &EveryByPair,
     sender: u16,

@@ -9,7 +9,7 @@ use crate::error::MediumError;
 use crate::fate::Fate;
 use crate::link::{Link, all_links, copies_along, fates_along, least_delay};
 use crate::losses::gathered;
-use crate::place::{Loss, Position};
+use crate::place::{Loss, Place};
 use crate::reach::Reach;
 use process_kernel::Sent;
 use std::alloc::{AllocError, Global};
@@ -20,7 +20,7 @@ use std::marker::Model;
 #[derive(Drop)]
 pub struct Medium {
     alloc: Global,
-    places: Vec<Position>,
+    places: Vec<Place>,
     reach: Reach,
     losses: Vec<Loss>,
     /// For each mote the ways to those that hear it, by rising number.
@@ -46,7 +46,7 @@ impl Medium {
     /// takes `base` moments and one more for each whole `per` in the square of the distance.
     pub fn new(
         alloc: Global,
-        places: &[Position],
+        places: &[Place],
         range: u32,
         base: u32,
         per: u32,

@@ -5,15 +5,15 @@ ghost use Rattle.radio_medium.specs.Medium.{square_distance};
 
 /// Where a mote stands. Places, distances and ranges have one unit.
 #[derive(Clone, Copy, Debug, PartialEq, Eq)]
-pub struct Position {
+pub struct Place {
     pub x: i32,
     pub y: i32,
 }
 
-impl Position {
+impl Place {
     /// The square of the distance to another place.
     #[tactic(auto, unfolding(crate::specs::Medium::square_distance))]
-    pub(crate) fn square_distance(self, other: Position) -> u64
+    pub(crate) fn square_distance(self, other: Place) -> u64
         requires x { unsigned_abs self.x ≤ 30000 }
         requires y { unsigned_abs self.y ≤ 30000 }
         requires other_x { unsigned_abs other.x ≤ 30000 }

@@ -35,7 +35,7 @@ fn two_motes(alloc: Global, range: u32, losses: &[Loss]) -> Result<Medium, Mediu
     requires { range ≤ 100000 }
     ensures { IfOk result (λ medium. length medium.places ≡ 2) }
 {
-    let places = [Position { x: 0, y: 0 }, Position { x: 3, y: 4 }];
+    let places = [Place { x: 0, y: 0 }, Place { x: 3, y: 4 }];
     Medium::new(alloc, &places, range, 2, 10, losses)
 }
 
@@ -44,10 +44,10 @@ fn four_motes(alloc: Global, losses: &[Loss]) -> Result<Medium, MediumError>
     ensures { IfOk result (λ medium. length medium.places ≡ 4) }
 {
     let places = [
-        Position { x: -2, y: 0 },
-        Position { x: 0, y: 0 },
-        Position { x: -1, y: 0 },
-        Position { x: 0, y: 3 },
+        Place { x: -2, y: 0 },
+        Place { x: 0, y: 0 },
+        Place { x: -1, y: 0 },
+        Place { x: 0, y: 3 },
     ];
     Medium::new(alloc, &places, 3, 2, 1, losses)
 }

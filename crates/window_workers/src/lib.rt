@@ -14,7 +14,10 @@ mod workers;
 
 pub use error::RunError;
 pub use fits::MOST_WORKERS;
+pub use net_report::{LogLine, Report};
 pub use serial::run_serial;
+pub use window_run::{Gate, MoteWindow, NoGate, WindowOut};
+pub use worker_cut::Cut;
 pub use workers::{run_inboxes, run_workers};
 
 #[cfg(test)]

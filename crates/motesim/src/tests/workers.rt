@@ -12,7 +12,7 @@ use std::sync::atomic::AtomicU64;
 use std::sync::atomic::Ordering::SeqCst;
 use std::test::Fail;
 use std::thread::Threads;
-use window_workers::Gate;
+use window_run::Gate;
 
 /// Counts the starts of threads that it is asked for.
 #[derive(Drop)]
