@@ -22,6 +22,9 @@ use net_scenario::Net;
 use process_kernel::{Arrival, Line};
 use std::alloc::{AllocError, Global};
 
+/// How many lines a long trace has.
+const LONG: usize = 16_384;
+
 /// The motes, each with its trace; the packets that were sent; and what is to come.
 #[derive(Drop)]
 pub struct Engine {
@@ -75,6 +78,18 @@ fn wake_at(motes: &[Mote], number: u16) -> Option<u64>
     motes[usize::from(number)].wake()
 }
 
+/// Makes room for lines more, where there is none. A short trace gets room for four times its lines, since they are copied then;
+/// a long one grows as a list does.
+fn make_room(trace: &mut Vec<Line>, more: usize) -> Result<(), AllocError>
+    ensures { trace.new.items ≡ trace.old.items }
+{
+    let len = trace.len();
+    if trace.capacity() - len < more && len < LONG {
+        trace.reserve(more.max(len * 3))?;
+    }
+    Ok(())
+}
+
 /// Moves lines to the end of a mote's trace.
 fn add_lines(
     traces: &mut Vec<Vec<Line>>,
@@ -84,7 +99,9 @@ fn add_lines(
     requires { number < length traces.old.items }
     ensures { OnOk result (AddsLines number lines.old.items traces.old.items traces.new.items) }
 {
-    traces[usize::from(number)].append(lines)?;
+    let trace = &mut traces[usize::from(number)];
+    make_room(trace, lines.len())?;
+    trace.append(lines)?;
     Ok(())
 }
 
