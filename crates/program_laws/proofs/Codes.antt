@@ -1,9 +1,7 @@
 -- The codes of a program, over the numbers of its names.
 use Rattle.std.proofs.Common.{◌≡◌, ℕ, zero, suc, ◌+◌, List, [], ◌∷◌, ◌++◌, length, map, slice_get, refl, sym, ap, subst, ◌∙◌, append_assoc, arith, Option, Some, None, option_map}
-use Rattle.std.specs.List.{All}
 use Rattle.std.specs.Option.{ForSome}
 use Rattle.std.proofs.lemmas.List.{append-nil, length-append}
-use Rattle.std.proofs.lemmas.List.Elements.{All-nil, All-cons}
 use Rattle.mote_program.specs.Code.{Code, Tree}
 use Rattle.mote_program.specs.Grammar.{Mark, etimer_marks, ctimer_marks, thread_marks, code_marks, codes_marks}
 use Rattle.mote_program.specs.InScope.{Names, no_names, names_of}
@@ -131,8 +129,10 @@ code_sound t f k p after h =
     let body = body_stands n4 c.body after on_exit.1 in
     (code_declared t f k c callbacks.0 threads.0 on_poll.0 on_exit.0 body.0, body.1.1)
 
-pub codes_declared : (t : Tree) (f k : ℕ) (ps : List (Name × CodeShape)) (after : List Mark) → AreSound (names_at t f) (codes_marks ps after) → All (IsDeclaredIn t) (codes_in k (names_at t f) (values_of ps))
-codes_declared t f k [] after h = All-nil (IsDeclaredIn t)
-codes_declared t f k (p ∷ ps) after h =
-    let q = code_sound t f k p (codes_marks ps after) h in
-    All-cons (IsDeclaredIn t) (code_at t f k p.1) _ q.0 (codes_declared t (f + length (timers_of p.1)) (k + 1) ps after q.1)
+pub codes_declared : (t : Tree) (f k : ℕ) (ps : List (Name × CodeShape)) (after : List Mark) → AreSound (names_at t f) (codes_marks ps after) →
+    (j : ℕ) (c : Code) → slice_get (codes_in k (names_at t f) (values_of ps)) j ≡ Some c → IsDeclaredIn t c
+codes_declared t f k [] after h j c e = absurd cc
+codes_declared t f k (p ∷ ps) after h zero c e =
+    let same : code_at t f k p.1 ≡ c = cc in
+    subst (IsDeclaredIn t) same (code_sound t f k p (codes_marks ps after) h).0
+codes_declared t f k (p ∷ ps) after h (suc j) c e = codes_declared t (f + length (timers_of p.1)) (k + 1) ps after (code_sound t f k p (codes_marks ps after) h).1 j c e

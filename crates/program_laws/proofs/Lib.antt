@@ -1,3 +1,4 @@
+pub mod Callers
 pub mod Changed
 pub mod Codes
 pub mod Complete

@@ -34,7 +34,7 @@ shape_declared p program =
     let autostart = autostart_below n p.autostart m2 others in
     let receiver = receiver_below n p.receiver m3 autostart.1 in
     record {
-      codes = codes_declared (tree_of_shape p) 0 0 (p.first ∷ p.others) [] receiver.1;
+      each = codes_declared (tree_of_shape p) 0 0 (p.first ∷ p.others) [] receiver.1;
       autostart = autostart.0;
       receiver = receiver.0;
     }

@@ -12,7 +12,7 @@ use Rattle.program_laws.specs.Trees.{only, first_code, second_code, second_there
 
 -- of the second process
 second : (callback thread body : Body ℕ) → IsDeclared (tree_with callback thread body) → IsDeclaredIn (tree_with callback thread body) (second_code callback thread body)
-second callback thread body h = h.codes 1 first_code (omega arith)
+second callback thread body h = h.each 1 (second_code callback thread body) refl
 
 any : Class × ℕ
 any = (a_variable, 0)
@@ -59,8 +59,13 @@ second_declared = record {
   on_poll = λ b e. absurd cc;
   on_exit = λ b e. absurd cc;
   body = named_in (of_process names_what_is_there second_there) second_there.body
-  (omega arith, (omega arith, (omega arith, (omega arith, ((omega arith, omega arith), ((omega arith, omega arith), (omega arith, tt)))))));
+      (omega arith, (omega arith, (omega arith, (omega arith, ((omega arith, omega arith), ((omega arith, omega arith), (omega arith, tt)))))));
 }
+
+each_declared : (k : ℕ) (c : Code) → slice_get names_what_is_there.codes k ≡ Some c → IsDeclaredIn names_what_is_there c
+each_declared zero c e = let same : first_code ≡ c = cc in subst (IsDeclaredIn names_what_is_there) same first_declared
+each_declared (suc zero) c e = let same : second_there ≡ c = cc in subst (IsDeclaredIn names_what_is_there) same second_declared
+each_declared (suc (suc k)) c e = absurd cc
 
 first_complete : IsCompleteIn names_what_is_there first_code
 first_complete = record { starts = refl; callbacks = refl; thread_bodies = refl; timers = timers }
@@ -78,19 +83,19 @@ second_complete = record { starts = refl; callbacks = refl; thread_bodies = refl
     timers (suc (suc zero)) low high = refl
     timers (suc (suc (suc i))) low high = absurd (omega (arith, high))
 
-each_there : (k : ℕ) (c : Code) → slice_get names_what_is_there.codes k ≡ Some c → (c.number ≡ k) × IsCompleteIn names_what_is_there c
-each_there zero c e = let same : first_code ≡ c = cc in subst (λ d. (d.number ≡ 0) × IsCompleteIn names_what_is_there d) same (refl, first_complete)
-each_there (suc zero) c e = let same : second_there ≡ c = cc in subst (λ d. (d.number ≡ 1) × IsCompleteIn names_what_is_there d) same (refl, second_complete)
-each_there (suc (suc k)) c e = absurd cc
+each_complete : (k : ℕ) (c : Code) → slice_get names_what_is_there.codes k ≡ Some c → (c.number ≡ k) × IsCompleteIn names_what_is_there c
+each_complete zero c e = let same : first_code ≡ c = cc in subst (λ d. (d.number ≡ 0) × IsCompleteIn names_what_is_there d) same (refl, first_complete)
+each_complete (suc zero) c e = let same : second_there ≡ c = cc in subst (λ d. (d.number ≡ 1) × IsCompleteIn names_what_is_there d) same (refl, second_complete)
+each_complete (suc (suc k)) c e = absurd cc
 
 pub declares : TreesThatDeclare
 declares = record {
   declared = record {
-    codes = All-from_recursion (IsDeclaredIn names_what_is_there) names_what_is_there.codes (first_declared, (second_declared, tt));
+    each = each_declared;
     autostart = All-from_recursion (λ p. p < 2) (1 ∷ []) (omega arith, tt);
     receiver = λ p e. let same : 0 ≡ p = cc in omega (arith, same);
   };
-  complete = record { counts = refl; codes = refl; each = each_there };
+  complete = record { counts = refl; codes = refl; each = each_complete };
 }
 
 pub lacking : TreesThatLack

@@ -59,6 +59,6 @@ pub record IsDeclaredIn (t : Tree) (c : Code) : Type 0 where
 
 -- The names in a program are declared: those in the blocks of each process, those of the processes that start at boot, and that of the one that packets go to.
 pub record IsDeclared (t : Tree) : Type 0 where
-  pub codes : All (IsDeclaredIn t) t.codes
+  pub each : (k : ℕ) (c : Code) → slice_get t.codes k ≡ Some c → IsDeclaredIn t c
   pub autostart : All (λ p. p < length t.processes) t.autostart
   pub receiver : ForSome t.receiver (λ p. p < length t.processes)
