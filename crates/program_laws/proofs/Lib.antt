@@ -3,6 +3,7 @@ pub mod Changed
 pub mod Codes
 pub mod Complete
 pub mod Head
+pub mod Listed
 pub mod Marks
 pub mod Numbers
 pub mod Programs

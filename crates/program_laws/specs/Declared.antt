@@ -45,7 +45,7 @@ of_process t c = record {
 abbrev pub at_callback : Tree → Code → (place : ℕ) → Declarations
 at_callback t c k = record (of_process t c) { timers = length c.etimers + (k + 1); threads = 0 }
 
--- before the block of a thread, which is none that it may name
+-- before the block of a thread: the earlier threads, and not itself
 abbrev pub at_thread : Tree → Code → (thread : ℕ) → Declarations
 at_thread t c k = record (of_process t c) { threads = k }
 

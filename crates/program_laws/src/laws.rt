@@ -3,7 +3,7 @@
 ghost use Rattle.mote_program.specs.Program.{tree_of};
 ghost use Rattle.program_laws.specs.Complete.{IsComplete};
 ghost use Rattle.program_laws.specs.Declared.{IsDeclared};
-ghost use Rattle.program_laws.specs.Laws.{NamesAreDeclared, DeclarationsAreComplete};
+ghost use Rattle.program_laws.specs.Laws.{NamesAreDeclared, DeclarationsAreComplete, EachNameIsListed};
 ghost use Rattle.program_laws.specs.Trees.{TreesThatDeclare, TreesThatDoNot, TreesThatLack};
 
 use mote_program::Program;
@@ -21,6 +21,11 @@ pub fn what_a_text_names_is_declared()
 pub fn names_are_declared(program: &Program)
     ensures declared { IsDeclared (tree_of program.now) }
     ensures complete { IsComplete (tree_of program.now) }
+{}
+
+/// The list of what a block names leaves out none of its names: where two ways to number names agree on the list, they make the same block.
+pub fn each_name_is_listed()
+    ensures { EachNameIsListed }
 {}
 
 /// Both properties hold of a small tree that names something of each class, and fail at small trees that break one thing each.
