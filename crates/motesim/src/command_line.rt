@@ -32,9 +32,9 @@ fn cut_named(name: &str) -> CutKind
 /// The options for so many workers and the cut of this name. Without a name it is the cut in blocks.
 fn options_for(workers: Option<u16>, cut: Option<&str>) -> Options
     ensures workers { result.workers ≡ workers }
-    ensures unnamed { cut ≡ None → result.cut ≡ kind.Block }
-    ensures block { IfSome cut (λ name. name.now ≡ codes "block" → result.cut ≡ kind.Block) }
-    ensures stripe { IfSome cut (λ name. name.now ≡ codes "stripe" → result.cut ≡ kind.Stripe) }
+    ensures unnamed { cut.entry ≡ None → result.cut ≡ kind.Block }
+    ensures block { IfSome cut.entry (λ name. name.now ≡ codes "block" → result.cut ≡ kind.Block) }
+    ensures stripe { IfSome cut.entry (λ name. name.now ≡ codes "stripe" → result.cut ≡ kind.Stripe) }
 {
     let cut = match cut {
         Some(name) => cut_named(name),
