@@ -2,13 +2,14 @@
 
 mod command_faults;
 mod cuts;
+mod failing_streams;
 mod fault_lines;
 mod motes;
 mod nets;
 mod queues;
 mod refused_start;
 mod scenarios;
-mod streams;
+mod spoiled;
 mod with_workers;
 mod workers_of_the_command;
 
