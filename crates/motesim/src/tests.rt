@@ -2,6 +2,7 @@
 
 mod command_faults;
 mod cuts;
+mod failing_streams;
 mod fault_lines;
 mod motes;
 mod nets;
@@ -9,7 +10,7 @@ mod queues;
 mod refused_start;
 mod scenario_file;
 mod scenarios;
-mod streams;
+mod spoiled;
 mod with_workers;
 mod workers;
 mod workers_of_the_command;

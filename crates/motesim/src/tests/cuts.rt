@@ -1,6 +1,6 @@
-//! Which worker runs which mote.
+//! Which worker runs which mote, and what the words of the command line ask for.
 
-use crate::command_line::asked_by;
+use crate::command_line::{Asked, asked_by};
 use crate::options::{CutKind, Options};
 use crate::simulate::simulate;
 use crate::tests::PRINT_THEN_YIELD;
@@ -81,19 +81,35 @@ fn turns_in_stripes(rt: HostRuntime) -> Result<(), Fail> {
     expect_turns(&rt, CutKind::Stripe, [1, 0, 1, 0, 0, 1, 0, 1])
 }
 
+/// What the words ask for where they have no fault.
+fn asked<'a>(file: Option<&'a str>, workers: Option<u16>, cut: CutKind) -> Asked<'a> {
+    Asked {
+        file,
+        options: Options { workers, cut },
+    }
+}
+
 #[test]
-fn cuts_of_the_words(rt: HostRuntime) -> Result<(), Fail> {
-    let cases: [(&[&str], CutKind); 4] = [
-        (&["motesim"], CutKind::Block),
-        (&["motesim", "--workers", "2"], CutKind::Block),
-        (&["motesim", "--cut", "block"], CutKind::Block),
-        (&["motesim", "--cut=stripe"], CutKind::Stripe),
+fn what_the_words_ask_for(rt: HostRuntime) -> Result<(), Fail> {
+    let block = CutKind::Block;
+    let stripe = CutKind::Stripe;
+    let file = Some("a.toml");
+    let cases: [(&[&str], Asked); 6] = [
+        (&["motesim"], asked(None, None, block)),
+        (&["motesim", "--workers", "2"], asked(None, Some(2), block)),
+        (&["motesim", "--cut", "block"], asked(None, None, block)),
+        (&["motesim", "--cut=stripe"], asked(None, None, stripe)),
+        (&["motesim", "a.toml"], asked(file, None, block)),
+        (
+            &["motesim", "--workers=16", "a.toml", "--cut", "stripe"],
+            asked(file, Some(16), stripe),
+        ),
     ];
-    for (words, cut) in cases {
+    for (words, wanted) in cases {
         let Ok(asked) = asked_by(rt.alloc(), words) else {
             return Err(Fail::from("the words have a fault"));
         };
-        assert_eq!(rt; asked.options.cut, cut, "{words:?}");
+        assert_eq!(rt; asked, wanted, "{words:?}");
     }
     Ok(())
 }

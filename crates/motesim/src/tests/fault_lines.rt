@@ -2,7 +2,7 @@
 
 use crate::command::{run_command, status_of};
 use crate::simulate::SimError;
-use crate::tests::streams::{Failing, Narrow};
+use crate::tests::failing_streams::{Failing, Narrow};
 use crate::tests::{PRINT_THEN_YIELD, PRINT_THEN_YIELD_REPORT, changed, scenario_of};
 use std::io;
 use std::io::Read;
@@ -108,6 +108,18 @@ fn faults_of_the_program(rt: HostRuntime) -> Result<(), Fail> {
         (
             "process a;\ncode a { body { print 65536; } }",
             "motesim: program p fault 5 line 2\n",
+        ),
+        (
+            "process a;\ncode a { onpoll {\nyield; } body { } }",
+            "motesim: program p fault 6 line 3\n",
+        ),
+        (
+            "process a;\ncode a { body {\n\nprint !!!!!!!!!!!!!!!!!!!!!!!!!!!!!!!!1; } }",
+            "motesim: program p fault 7 line 4\n",
+        ),
+        (
+            "process a;\ncode a { thread b { } thread c { } thread d { } thread e { } thread f { } thread g { } thread h { }\nthread i { } body { } }",
+            "motesim: program p fault 8 line 3\n",
         ),
         (
             "process a;\n\n\ncode a { body { a = 1; } }",

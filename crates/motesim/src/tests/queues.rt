@@ -33,8 +33,17 @@ fn posts(alloc: Global, count: u16) -> Result<String, AllocError> {
     Ok(lines)
 }
 
+/// The lines of posts of `msg` to a, whose words count up, that meet a full queue.
+fn refused_posts(alloc: Global, from: u16, to: u16) -> Result<String, AllocError> {
+    let mut lines = String::new(alloc);
+    for number in from..to {
+        lines = format!(in alloc; "{lines}0 full a msg {number}\n")?;
+    }
+    Ok(lines)
+}
+
 #[test]
-fn queue_of_33(rt: HostRuntime) -> Result<(), Fail> {
+fn queue_of_33_and_1(rt: HostRuntime) -> Result<(), Fail> {
     let alloc = rt.alloc();
     let posts = posts(alloc, 33)?;
     let drops = counted(alloc, 1, 33, "drop")?;
@@ -42,6 +51,12 @@ fn queue_of_33(rt: HostRuntime) -> Result<(), Fail> {
         "{STARTS}{posts}0 print a 0\n0 take 0 a\n0 print a 0\n0 leave a\n{drops}medium\nleft 0\n"
     )?;
     let report = report_with(alloc, 33, THIRTY_THREE)?;
+    assert_eq!(rt; report.as_slice(), wanted.as_bytes());
+    let refused = refused_posts(alloc, 1, 33)?;
+    let wanted = format!(in alloc;
+        "{STARTS}0 post 0 a msg 0\n{refused}0 print a 1\n0 take 0 a\n0 print a 0\n0 leave a\nmedium\nleft 0\n"
+    )?;
+    let report = report_with(alloc, 1, THIRTY_THREE)?;
     assert_eq!(rt; report.as_slice(), wanted.as_bytes());
     Ok(())
 }

@@ -2,11 +2,11 @@
 
 use crate::options::{CutKind, Options};
 use crate::simulate::{SimError, simulate};
+use crate::tests::failing_streams::{Failing, Narrow};
 use crate::tests::nets::{
     Net, PACKET_AFTER_TIMER, PACKET_JUST_IN_TIME, PACKET_PAST_THE_END, RING_OVERFLOWS, TWO_SENDERS,
     TWO_SENDERS_APART, TWO_SENDERS_COLLIDE, scenario_of,
 };
-use crate::tests::streams::{Failing, Narrow};
 use crate::tests::{PRINT_THEN_YIELD, PRINT_THEN_YIELD_REPORT, report_of};
 use net_scenario::ScenarioError;
 use std::process::Abort;

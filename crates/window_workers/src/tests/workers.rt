@@ -153,7 +153,7 @@ fn longest_windows(rt: HostRuntime) -> Result<(), Fail> {
 
 /// Most workers have no mote.
 #[test]
-fn sixteen_workers_on_three_motes(rt: HostRuntime) -> Result<(), Fail> {
+fn more_workers_than_motes(rt: HostRuntime) -> Result<(), Fail> {
     let alloc = rt.alloc();
     let net = read_scenario(alloc, THREE_APART)?;
     let cut = Cut::block(alloc, 3, 16)?;
