@@ -1,21 +1,19 @@
 -- How the reading goes on from the first token of an expression.
-use Rattle.std.proofs.Common.{◌≡◌, ℕ, ◌+◌, ◌<◌, ◌≤◌, List, [], ◌∷◌, drop, length, subst, refl, sym, ap, ◌∙◌, arith, Some, None, Bool, true, false, nat_lt}
+use Rattle.std.proofs.Common.{◌≡◌, ℕ, ◌+◌, ◌<◌, ◌≤◌, List, [], ◌∷◌, drop, length, refl, sym, ap, ◌∙◌, arith, Some, None, Bool, true, false, nat_lt}
 use Rattle.std.proofs.lemmas.Bool.{ltb-true, ltb-false}
 use Rattle.mote_program.specs.Faults.{Scope}
 use Rattle.mote_program.specs.Forms as form
 use Rattle.mote_program.specs.Forms.{Operand, word_of, tells_of, alone}
-use Rattle.mote_program.specs.Grammar.{Context, inner, key, sign, valued, opening, operand_mark, expression_marks}
+use Rattle.mote_program.specs.Grammar.{Context, inner, key, sign, valued, opening, operand_mark}
 use Rattle.mote_program.specs.Machine.{Pending, tell, fault, first, first_broken, word_step, expression, operand, operator, open_sign, close}
-use Rattle.mote_program.specs.InScope.{Names, name_in, number_in}
+use Rattle.mote_program.specs.InScope.{Names}
 use Rattle.mote_program.specs.Shapes.{Name, OperandShape}
-use Rattle.mote_program.specs.Steps.{ReadsSign, Reads, Numbered, Extends}
+use Rattle.mote_program.specs.Steps.{ReadsSign, Reads}
 use Rattle.mote_program.specs.Tokens as token
 use Rattle.mote_program.specs.Tokens.{Token}
-use Rattle.mote_program.specs.Tree.{a_variable, expression_of, expression_map, negation, binary}
+use Rattle.mote_program.specs.Tree.{a_variable}
 use Rattle.mote_program.specs.declared.error.ReadErrorKind.TheVariants.{NumberTooLarge, TooDeep}
 use Rattle.mote_program.specs.declared.keyword.Keyword.{Keyword}
-use Rattle.mote_program.specs.declared.tree.Expr.{Expr}
-use Rattle.mote_program.specs.declared.tree.Operator.{Operator}
 use Rattle.mote_program.proofs.NameSteps.{taken, broken, front_of}
 
 pub word_start : (s : Scope) (c : Context) (f : Pending) (old : List Token) (k : Keyword) (o : Operand) → first old ≡ Some (token.Keyword k) → word_of k ≡ tells_of o →
@@ -91,47 +89,4 @@ told_reads s c k o v old m0 m1 m2 new is e from r1 r2 r3 = record {
       ∙ r1.goes_on s (operand c o ∷ close ∷ f) ∙ r2.goes_on (close ∷ f) ∙ r3.goes_on s f;
 }
 
-abbrev InScope : Scope → Context → Expr → List Token → List Token → Type 0
-InScope s c e old new = Reads s s (expression c) (λ n ms. expression_marks c (expression_map (name_in n) (expression_of e)) ms) old new
-
-pub bang_reads : (s : Scope) (c c1 : Context) (e e' : Expr) (old m0 new : List Token) → c1 ≡ inner c → e' ≡ e → first old ≡ Some token.Bang → c.level < 32 → m0 ≡ drop 1 old → InScope s c1 e m0 new →
-    Reads s s (expression c) (λ n ms. expression_marks c (negation (expression_map (name_in n) (expression_of e'))) ms) old new
-bang_reads s c c1 e e' old m0 new h q is low from r1 =
-    let r : InScope s (inner c) e' m0 new = subst (λ z. InScope s z e' m0 new) h (subst (λ z. InScope s c1 z m0 new) (sym q) r1) in
-    record {
-      spelled = λ n g ms p. front_of old token.Bang is ∙ ap (λ ts. token.Bang ∷ ts) (sym from ∙ r.spelled n g ms p);
-      goes_on = λ f. bang_start s c f old is low ∙ ap (λ ts. tell s (expression (inner c) ∷ f) ts) (sym from) ∙ r.goes_on f;
-    }
-
-pub open_reads : (s s1 : Scope) (c c1 c2 : Context) (o : Operator) (a a' b b' : Expr) (old m0 m1 m2 m3 new : List Token) → s1 ≡ s → c1 ≡ inner c → c2 ≡ inner c → a' ≡ a → b' ≡ b → first old ≡ Some token.Open → c.level < 32 → m0 ≡ drop 1 old →
-    InScope s c1 a m0 m1 → ReadsSign operator (token.Op o) m1 m2 → InScope s1 c2 b m2 m3 → ReadsSign close token.Close m3 new →
-    Reads s s (expression c) (λ n ms. expression_marks c (binary o (expression_map (name_in n) (expression_of a')) (expression_map (name_in n) (expression_of b'))) ms) old new
-open_reads s s1 c c1 c2 o a a' b b' old m0 m1 m2 m3 new g h1 h2 p q is low from ra r2 rb r3 =
-    let r : InScope s (inner c) a' m0 m1 = subst (λ z. InScope s z a' m0 m1) h1 (subst (λ z. InScope s c1 z m0 m1) (sym p) ra) in
-    let t : InScope s (inner c) b' m2 m3 = subst (λ z. InScope s z b' m2 m3) h2 (subst (λ z. InScope s c2 z m2 m3) (sym q) (subst (λ z. InScope z c2 b m2 m3) g rb)) in
-    record {
-      spelled = λ n e ms u.
-          let x3 = r3.spelled ∙ ap (λ ts. token.Close ∷ ts) (sym u) in
-          let x2 = t.spelled n e (sign token.Close ∷ ms) (sym x3) in
-          let x1 = r2.spelled ∙ ap (λ ts. token.Op o ∷ ts) x2 in
-          front_of old token.Open is ∙ ap (λ ts. token.Open ∷ ts) (sym from ∙ r.spelled n e (sign (token.Op o) ∷ expression_marks (inner c) (expression_map (name_in n) (expression_of b')) (sign token.Close ∷ ms)) (sym x1));
-      goes_on = λ f.
-          open_start s c f old is low ∙ ap (λ ts. tell s (expression (inner c) ∷ operator ∷ expression (inner c) ∷ close ∷ f) ts) (sym from)
-          ∙ r.goes_on (operator ∷ expression (inner c) ∷ close ∷ f) ∙ r2.goes_on s (expression (inner c) ∷ close ∷ f) ∙ t.goes_on (close ∷ f) ∙ r3.goes_on s f;
-    }
-
-abbrev Again : Names → Expr → Type 0
-Again n e = Numbered n (λ n'. expression_map (number_in n') (expression_map (name_in n') (expression_of e))) (expression_of e)
-
-pub bang_numbered : (n : Names) (e e' : Expr) → e' ≡ e → Again n e → (n' : Names) → Extends n n' → negation (expression_map (number_in n') (expression_map (name_in n') (expression_of e'))) ≡ negation (expression_of e')
-bang_numbered n e e' q r n' h = ap negation ((subst (Again n) (sym q) r) n' h)
-
-pub open_numbered : (n n1 : Names) (o : Operator) (a a' b b' : Expr) → n1 ≡ n → a' ≡ a → b' ≡ b → Again n a → Again n1 b → (n' : Names) → Extends n n' →
-    binary o (expression_map (number_in n') (expression_map (name_in n') (expression_of a'))) (expression_map (number_in n') (expression_map (name_in n') (expression_of b'))) ≡ binary o (expression_of a') (expression_of b')
-open_numbered n n1 o a a' b b' g p q ra rb n' h =
-    ap (λ z. binary o z (expression_map (number_in n') (expression_map (name_in n') (expression_of b')))) ((subst (Again n) (sym p) ra) n' h)
-    ∙ ap (binary o (expression_of a')) ((subst (Again n) (sym q) (subst (λ z. Again z b) g rb)) n' h)
-
 pub ruleset word_steps = (word_start)
-
-pub ruleset expression_steps = (variable_start, open_start, bang_start, word_start)

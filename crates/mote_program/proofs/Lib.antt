@@ -21,6 +21,7 @@ pub mod NameSteps
 pub mod OwnTokens
 pub mod PieceLaws
 pub mod PlaceLaws
+pub mod PlainLaws
 pub mod Printing
 pub mod ProgramLaws
 pub mod ReadAgain
@@ -35,4 +36,5 @@ pub mod Texts
 pub mod Told
 pub mod TreeLaws
 pub mod Turns
+pub mod ValueLaws
 pub mod WordLaws

@@ -14,6 +14,7 @@ pub mod Kinds
 pub mod Machine
 pub mod Names
 pub mod Numbers
+pub mod Plain
 pub mod ProcessText
 pub mod Program
 pub mod Reading
@@ -25,4 +26,5 @@ pub mod Steps
 pub mod Text
 pub mod Tokens
 pub mod Tree
+pub mod Values
 pub mod Words

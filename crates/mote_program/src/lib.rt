@@ -17,6 +17,7 @@ mod lexer;
 mod lists;
 mod named_blocks;
 pub mod names;
+mod plain;
 mod printer;
 pub mod process_text;
 pub mod program;
@@ -30,6 +31,7 @@ mod token;
 pub mod tree;
 mod unread;
 mod unread_code;
+mod value_word;
 mod words;
 
 pub use error::{ReadError, ReadErrorKind};

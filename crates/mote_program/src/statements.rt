@@ -6,6 +6,7 @@ ghost use Rattle.mote_program.specs.Forms.{beginning, waits, action, ends, takes
 ghost use Rattle.mote_program.specs.Grammar.{begins_with, sign, named, used, operand_mark, into_marks, expression_marks, action_marks, statement_marks, else_marks, block_marks};
 ghost use Rattle.mote_program.specs.InScope.{name_in, number_in};
 ghost use Rattle.mote_program.specs.Machine.{first, into_end, items, items_else, block};
+ghost use Rattle.mote_program.specs.Plain.{bare_keyword, valued_keyword, about_keyword};
 ghost use Rattle.mote_program.specs.Scope.{expression_fits, into_fits, action_fits, statement_fits, other_fits, block_fits};
 ghost use Rattle.mote_program.specs.Steps.{scope_of, context_of, class_of, fixed, IsStatement, IsPlain, IsInside, Begins, IsTarget, Reads, ReadsStatement, ReadsElse, Fails, Numbered, Fits};
 ghost use Rattle.mote_program.specs.Tokens as token;
@@ -15,6 +16,7 @@ use crate::cursor::Sign;
 use crate::error::ReadErrorKind;
 use crate::fault::Refusal;
 use crate::keyword::Keyword;
+use crate::plain::{About, Bare, Plain, Valued};
 use crate::reader::Reader;
 use crate::scope::{Class, Context, Found, LEVELS};
 use crate::token::Token;
@@ -117,60 +119,57 @@ impl Reader<'_> {
     }
 
     /// A statement that is its keyword alone.
-    fn bare(&mut self, place: &Context, keyword: Keyword) -> Result<(), Refusal>
-        requires here { first self.old.cursor ≡ Some (token.Keyword keyword) }
-        requires form { beginning keyword ≡ action ends }
+    fn bare(&mut self, place: &Context, bare: Bare) -> Result<Action, Refusal>
+        requires here { first self.old.cursor ≡ Some (token.Keyword (bare_keyword bare)) }
         ensures names { fixed self.new.scope ≡ fixed self.old.scope }
         ensures shorter { OnOk result (length self.new.cursor < length self.old.cursor) }
         ensures counts { OnOk result (self.old.scope.statements < self.new.scope.statements) }
-        ensures ok { OnOk result (ReadsStatement (scope_of self.old.scope) (scope_of self.new.scope) (context_of place.now)
-            (λ n ms. begins_with (context_of place.now) keyword ∷ sign token.Semicolon ∷ ms) self.old.cursor self.new.cursor) }
+        ensures ok { IfOk result (λ a. ReadsStatement (scope_of self.old.scope) (scope_of self.new.scope) (context_of place.now)
+            (λ n ms. action_marks (context_of place.now) (action_map (name_in n) (action_of a)) ms) self.old.cursor self.new.cursor) }
+        ensures numbered { IfOk result (λ a. Numbered (scope_of self.old.scope).names (λ n. action_map (number_in n) (action_map (name_in n) (action_of a))) (action_of a)) }
+        ensures fits { IfOk result (λ a. Fits (scope_of self.old.scope).names (context_of place.now).thread (λ w. action_fits w (action_of a))) }
         ensures err { Fails (scope_of self.old.scope) (items (context_of place.now)) self.old.cursor result }
     {
-        self.begin(place, keyword)?;
+        self.begin(place, bare.keyword())?;
         self.cursor.sign(Sign::Semicolon)?;
-        Ok(())
+        Ok(bare.action())
     }
 
     /// A statement that is its keyword and an expression.
-    fn valued(&mut self, place: &Context, keyword: Keyword) -> Result<Expr, Refusal>
+    fn valued(&mut self, place: &Context, valued: Valued) -> Result<Action, Refusal>
         requires shallow { place.now.level ≤ LEVELS }
-        requires here { first self.old.cursor ≡ Some (token.Keyword keyword) }
-        requires form { beginning keyword ≡ action (values ends) }
+        requires here { first self.old.cursor ≡ Some (token.Keyword (valued_keyword valued)) }
         ensures names { fixed self.new.scope ≡ fixed self.old.scope }
         ensures shorter { OnOk result (length self.new.cursor < length self.old.cursor) }
         ensures counts { OnOk result (self.old.scope.statements < self.new.scope.statements) }
-        ensures ok { IfOk result (λ e. ReadsStatement (scope_of self.old.scope) (scope_of self.new.scope) (context_of place.now)
-            (λ n ms. begins_with (context_of place.now) keyword ∷ expression_marks (context_of place.now) (expression_map (name_in n) (expression_of e)) (sign token.Semicolon ∷ ms))
-            self.old.cursor self.new.cursor) }
-        ensures numbered { IfOk result (λ e. Numbered (scope_of self.old.scope).names (λ n. expression_map (number_in n) (expression_map (name_in n) (expression_of e))) (expression_of e)) }
-        ensures fits { IfOk result (λ e. Fits (scope_of self.old.scope).names (context_of place.now).thread (λ w. expression_fits w (expression_of e))) }
+        ensures ok { IfOk result (λ a. ReadsStatement (scope_of self.old.scope) (scope_of self.new.scope) (context_of place.now)
+            (λ n ms. action_marks (context_of place.now) (action_map (name_in n) (action_of a)) ms) self.old.cursor self.new.cursor) }
+        ensures numbered { IfOk result (λ a. Numbered (scope_of self.old.scope).names (λ n. action_map (number_in n) (action_map (name_in n) (action_of a))) (action_of a)) }
+        ensures fits { IfOk result (λ a. Fits (scope_of self.old.scope).names (context_of place.now).thread (λ w. action_fits w (action_of a))) }
         ensures err { Fails (scope_of self.old.scope) (items (context_of place.now)) self.old.cursor result }
     {
-        self.begin(place, keyword)?;
+        self.begin(place, valued.keyword())?;
         let value = self.expression(place)?;
         self.cursor.sign(Sign::Semicolon)?;
-        Ok(value)
+        Ok(valued.action(value))
     }
 
-    /// A statement that is its keyword and a name of this class.
-    fn about(&mut self, place: &Context, keyword: Keyword, class: Class) -> Result<u8, Refusal>
-        requires here { first self.old.cursor ≡ Some (token.Keyword keyword) }
-        requires form { beginning keyword ≡ action (takes (form.name (class_of class)) ends) }
+    /// A statement that is its keyword and a name.
+    fn about(&mut self, place: &Context, about: About) -> Result<Action, Refusal>
+        requires here { first self.old.cursor ≡ Some (token.Keyword (about_keyword about)) }
         ensures names { fixed self.new.scope ≡ fixed self.old.scope }
         ensures shorter { OnOk result (length self.new.cursor < length self.old.cursor) }
         ensures counts { OnOk result (self.old.scope.statements < self.new.scope.statements) }
-        ensures ok { IfOk result (λ i. ReadsStatement (scope_of self.old.scope) (scope_of self.new.scope) (context_of place.now)
-            (λ n ms. begins_with (context_of place.now) keyword ∷ operand_mark (context_of place.now) (form.name (class_of class)) (name_in n (class_of class) i) ∷ sign token.Semicolon ∷ ms)
-            self.old.cursor self.new.cursor) }
-        ensures numbered { IfOk result (λ i. Numbered (scope_of self.old.scope).names (λ n. number_in n (class_of class) (name_in n (class_of class) i)) i) }
-        ensures fits { IfOk result (λ i. Fits (scope_of self.old.scope).names (context_of place.now).thread (λ w. w (class_of class) i)) }
+        ensures ok { IfOk result (λ a. ReadsStatement (scope_of self.old.scope) (scope_of self.new.scope) (context_of place.now)
+            (λ n ms. action_marks (context_of place.now) (action_map (name_in n) (action_of a)) ms) self.old.cursor self.new.cursor) }
+        ensures numbered { IfOk result (λ a. Numbered (scope_of self.old.scope).names (λ n. action_map (number_in n) (action_map (name_in n) (action_of a))) (action_of a)) }
+        ensures fits { IfOk result (λ a. Fits (scope_of self.old.scope).names (context_of place.now).thread (λ w. action_fits w (action_of a))) }
         ensures err { Fails (scope_of self.old.scope) (items (context_of place.now)) self.old.cursor result }
     {
-        self.begin(place, keyword)?;
-        let number = self.name(place, class)?;
+        self.begin(place, about.keyword())?;
+        let number = self.name(place, about.class())?;
         self.cursor.sign(Sign::Semicolon)?;
-        Ok(number)
+        Ok(about.action(number))
     }
 
     fn post(&mut self, place: &Context) -> Result<Action, Refusal>
@@ -271,6 +270,7 @@ impl Reader<'_> {
     }
 
     /// A statement that begins with a keyword and has no block.
+    #[tactic(auto, using(crate::proofs::PlainLaws::no_action))]
     fn action(&mut self, place: &Context, keyword: Keyword) -> Result<Action, Refusal>
         requires shallow { place.now.level ≤ LEVELS }
         requires here { first self.old.cursor ≡ Some (token.Keyword keyword) }
@@ -284,48 +284,15 @@ impl Reader<'_> {
         ensures fits { IfOk result (λ a. Fits (scope_of self.old.scope).names (context_of place.now).thread (λ w. action_fits w (action_of a))) }
         ensures err { Fails (scope_of self.old.scope) (items (context_of place.now)) self.old.cursor result }
     {
-        match keyword {
-            Keyword::Print => Ok(Action::Print(self.valued(place, Keyword::Print)?)),
-            Keyword::Send => Ok(Action::Send(self.valued(place, Keyword::Send)?)),
-            Keyword::WaitUntil => Ok(Action::WaitUntil(self.valued(place, Keyword::WaitUntil)?)),
-            Keyword::WaitWhile => Ok(Action::WaitWhile(self.valued(place, Keyword::WaitWhile)?)),
-            Keyword::Yield => {
-                self.bare(place, Keyword::Yield)?;
-                Ok(Action::Yield)
-            }
-            Keyword::YieldUntil => Ok(Action::YieldUntil(self.valued(place, Keyword::YieldUntil)?)),
-            Keyword::Spawn => Ok(Action::Spawn(self.about(place, Keyword::Spawn, Class::Thread)?)),
-            Keyword::Restart => {
-                self.bare(place, Keyword::Restart)?;
-                Ok(Action::Restart)
-            }
-            Keyword::Exit => {
-                self.bare(place, Keyword::Exit)?;
-                Ok(Action::Exit)
-            }
-            Keyword::Pause => {
-                self.bare(place, Keyword::Pause)?;
-                Ok(Action::Pause)
-            }
-            Keyword::Acquire => {
-                Ok(Action::Acquire(self.about(place, Keyword::Acquire, Class::Semaphore)?))
-            }
-            Keyword::Signal => {
-                Ok(Action::Signal(self.about(place, Keyword::Signal, Class::Semaphore)?))
-            }
-            Keyword::Post => self.post(place),
-            Keyword::Broadcast => self.broadcast(place),
-            Keyword::Synch => self.synch(place),
-            Keyword::Poll => Ok(Action::Poll(self.about(place, Keyword::Poll, Class::Process)?)),
-            Keyword::Start => Ok(Action::Start(self.about(place, Keyword::Start, Class::Process)?)),
-            Keyword::Kill => Ok(Action::Kill(self.about(place, Keyword::Kill, Class::Process)?)),
-            Keyword::Set => self.set(place),
-            Keyword::Reset => Ok(Action::Reset(self.about(place, Keyword::Reset, Class::Timer)?)),
-            Keyword::RestartTimer => {
-                Ok(Action::RestartTimer(self.about(place, Keyword::RestartTimer, Class::Timer)?))
-            }
-            Keyword::Stop => Ok(Action::Stop(self.about(place, Keyword::Stop, Class::Timer)?)),
-            _ => Err(self.cursor.unfit()),
+        match Plain::of(keyword) {
+            Some(Plain::Bare(bare)) => self.bare(place, bare),
+            Some(Plain::Valued(valued)) => self.valued(place, valued),
+            Some(Plain::About(about)) => self.about(place, about),
+            Some(Plain::Post) => self.post(place),
+            Some(Plain::Broadcast) => self.broadcast(place),
+            Some(Plain::Synch) => self.synch(place),
+            Some(Plain::Set) => self.set(place),
+            None => Err(self.cursor.unfit()),
         }
     }
 

@@ -147,6 +147,13 @@ fn name<'a>(word: &'a [u8]) -> Token<'a>
     }
 }
 
+/// The token of a keyword.
+fn keyword<'a>(word: &[u8]) -> Option<Token<'a>>
+    ensures { option_map token_of result ≡ spec.lookup spec.keywords word.now }
+{
+    lookup(&KEYWORDS, word)
+}
+
 /// The token of a word.
 pub(crate) fn word_token<'a>(word: &'a [u8]) -> Token<'a>
     requires { list_all spec.is_word_byte word.now ≡ true }
@@ -155,7 +162,7 @@ pub(crate) fn word_token<'a>(word: &'a [u8]) -> Token<'a>
     if is_number(word) {
         return Token::Number(number_value(word));
     }
-    match lookup(&KEYWORDS, word) {
+    match keyword(word) {
         Some(token) => token,
         None => name(word),
     }

@@ -1,5 +1,4 @@
 use Rattle.std.proofs.Common.{sym}
-use Rattle.mote_program.specs.Words.{keywords}
 use Rattle.mote_program.proofs.WordLaws.{number_token, table_token, other_token}
 use Rattle.mote_program.proofs.words.word_token.Goals as goal
 
@@ -7,9 +6,7 @@ pub returns-then-is_number : goal.returns-then-is_number
 returns-then-is_number c = number_token _ _ (sym c.if-is_number.ensures.number) c.number_value.ensures
 
 pub returns-in-Some : goal.returns-in-Some
-unfolding keywords
 returns-in-Some c = table_token _ _ (sym c.if-is_number.ensures.number) (sym c.in-Some.ensures)
 
 pub returns-in-None : goal.returns-in-None
-unfolding keywords
 returns-in-None c = other_token _ _ (sym c.if-is_number.ensures.number) (sym c.in-None.ensures) c.name.ensures
