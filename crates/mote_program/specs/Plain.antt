@@ -1,6 +1,9 @@
 -- The statements without a block that begin with a keyword, by what follows it: their keywords, and what they are in a tree.
-use Rattle.std.specs.Prelude.{ℕ}
-use Rattle.mote_program.specs.Forms.{Beginning, action}
+use Rattle.std.specs.Prelude.{ℕ, Option, Some}
+use Rattle.mote_program.specs.Forms.{Beginning, action, beginning}
+use Rattle.mote_program.specs.Steps.{IsPlain}
+use Rattle.mote_program.specs.Tokens as token
+use Rattle.mote_program.specs.Tokens.{Token}
 use Rattle.mote_program.specs.Tree as tree
 use Rattle.mote_program.specs.Tree.{Class, a_semaphore, a_process, a_timer, a_thread, Expression, Action}
 use Rattle.mote_program.specs.declared.keyword.Keyword.{Keyword}
@@ -18,6 +21,12 @@ use Rattle.mote_program.specs.declared.plain.Plain.TheVariants as plain
 abbrev pub IsNoAction : Beginning → Type 0
 IsNoAction (action f) = ⊥
 IsNoAction b = Unit {0}
+
+-- the first token of a statement without a block, or one that begins no statement
+abbrev pub BeginsPlain : Option Token → Type 0
+BeginsPlain (Some token.CloseBrace) = ⊥
+BeginsPlain (Some (token.Keyword k)) = IsPlain (beginning k)
+BeginsPlain t = Unit {0}
 
 abbrev pub bare_keyword : Bare → Keyword
 bare_keyword bare.Yield = word.Yield

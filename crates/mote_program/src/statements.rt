@@ -1,16 +1,15 @@
 //! Statements and blocks as they are read.
-ghost use Rattle.std.specs.Prelude.{◌≡◌, ◌∷◌, [], ◌+◌, ◌≤◌, ◌<◌, length, IfOk, OnOk, Some};
+ghost use Rattle.std.specs.Prelude.{◌≡◌, ◌+◌, ◌≤◌, ◌<◌, length, IfOk, OnOk, Some};
 ghost use Rattle.std.proofs.Common.{option_map};
-ghost use Rattle.mote_program.specs.Forms as form;
-ghost use Rattle.mote_program.specs.Forms.{beginning, waits, action, ends, takes, values};
-ghost use Rattle.mote_program.specs.Grammar.{begins_with, sign, named, used, operand_mark, into_marks, expression_marks, action_marks, statement_marks, else_marks, block_marks};
+ghost use Rattle.mote_program.specs.Forms.{beginning, waits};
+ghost use Rattle.mote_program.specs.Grammar.{into_marks, action_marks, statement_marks, else_marks, block_marks};
 ghost use Rattle.mote_program.specs.InScope.{name_in, number_in};
 ghost use Rattle.mote_program.specs.Machine.{first, into_end, items, items_else, block};
-ghost use Rattle.mote_program.specs.Plain.{bare_keyword, valued_keyword, about_keyword};
-ghost use Rattle.mote_program.specs.Scope.{expression_fits, into_fits, action_fits, statement_fits, other_fits, block_fits};
-ghost use Rattle.mote_program.specs.Steps.{scope_of, context_of, class_of, fixed, IsStatement, IsPlain, IsInside, Begins, IsTarget, Reads, ReadsStatement, ReadsElse, Fails, Numbered, Fits};
+ghost use Rattle.mote_program.specs.Plain.{BeginsPlain, bare_keyword, valued_keyword, about_keyword};
+ghost use Rattle.mote_program.specs.Scope.{into_fits, action_fits, statement_fits, other_fits, block_fits};
+ghost use Rattle.mote_program.specs.Steps.{scope_of, context_of, fixed, IsStatement, IsPlain, IsInside, Begins, IsTarget, Reads, ReadsStatement, ReadsElse, Fails, Numbered, Fits};
 ghost use Rattle.mote_program.specs.Tokens as token;
-ghost use Rattle.mote_program.specs.Tree.{a_variable, expression_of, expression_map, action_of, action_map, statement_of, statement_map, block_of, body_map, otherwise_of, otherwise_map, height, inner_height, other_height, size, inner_size, other_size};
+ghost use Rattle.mote_program.specs.Tree.{a_variable, action_of, action_map, statement_of, statement_map, block_of, body_map, otherwise_of, otherwise_map, height, inner_height, other_height, size, inner_size, other_size};
 
 use crate::cursor::Sign;
 use crate::error::ReadErrorKind;
@@ -20,7 +19,7 @@ use crate::plain::{About, Bare, Plain, Valued};
 use crate::reader::Reader;
 use crate::scope::{Class, Context, Found, LEVELS};
 use crate::token::Token;
-use crate::tree::{Action, Block, Expr, Stmt};
+use crate::tree::{Action, Block, Stmt};
 
 /// How many statements a program may have.
 const STATEMENTS: usize = 4_096;
@@ -296,6 +295,26 @@ impl Reader<'_> {
         }
     }
 
+    /// A statement without a block.
+    fn plain(&mut self, place: &Context) -> Result<Action, Refusal>
+        requires shallow { place.now.level ≤ LEVELS }
+        requires plain { BeginsPlain (first self.old.cursor) }
+        ensures names { fixed self.new.scope ≡ fixed self.old.scope }
+        ensures shorter { OnOk result (length self.new.cursor < length self.old.cursor) }
+        ensures counts { OnOk result (self.old.scope.statements < self.new.scope.statements) }
+        ensures ok { IfOk result (λ a. ReadsStatement (scope_of self.old.scope) (scope_of self.new.scope) (context_of place.now)
+            (λ n ms. action_marks (context_of place.now) (action_map (name_in n) (action_of a)) ms) self.old.cursor self.new.cursor) }
+        ensures numbered { IfOk result (λ a. Numbered (scope_of self.old.scope).names (λ n. action_map (number_in n) (action_map (name_in n) (action_of a))) (action_of a)) }
+        ensures fits { IfOk result (λ a. Fits (scope_of self.old.scope).names (context_of place.now).thread (λ w. action_fits w (action_of a))) }
+        ensures err { Fails (scope_of self.old.scope) (items (context_of place.now)) self.old.cursor result }
+    {
+        match self.cursor.peek() {
+            Some(Token::Name(name)) => self.assign(place, name),
+            Some(Token::Keyword(keyword)) => self.action(place, keyword),
+            _ => Err(self.cursor.unfit()),
+        }
+    }
+
     #[cycle(statement)]
     fn branch(&mut self, place: &Context) -> Result<Stmt, Refusal>
         requires low { place.now.level ≤ LEVELS }
@@ -353,11 +372,9 @@ impl Reader<'_> {
         ensures err { Fails (scope_of self.old.scope) (items (context_of place.now)) self.old.cursor result }
     {
         match self.cursor.peek() {
-            Some(Token::Name(name)) => Ok(Stmt::Do(self.assign(place, name)?)),
             Some(Token::Keyword(Keyword::If)) => self.branch(place),
             Some(Token::Keyword(Keyword::While)) => self.repeat(place),
-            Some(Token::Keyword(keyword)) => Ok(Stmt::Do(self.action(place, keyword)?)),
-            _ => Err(self.cursor.unfit()),
+            _ => Ok(Stmt::Do(self.plain(place)?)),
         }
     }
 

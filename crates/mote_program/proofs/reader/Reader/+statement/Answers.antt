@@ -83,15 +83,11 @@ otherwise-returns-in_ok-block-in-Some-Keyword-Else-clause-ok t c =
 pub otherwise-returns-in_ok-block-in-Some-Keyword-Else-clause-numbered : goal.otherwise-returns-in_ok-block-in-Some-Keyword-Else-clause-numbered
 otherwise-returns-in_ok-block-in-Some-Keyword-Else-clause-numbered t c = λ n h. ap otherwise (c.in_ok-block-in-Some-Keyword-Else.ensures.numbered n h)
 
-pub statement-returns-in_ok-assign-in-Some-Name-clause-numbered : goal.statement-returns-in_ok-assign-in-Some-Name-clause-numbered
-statement-returns-in_ok-assign-in-Some-Name-clause-numbered t c = λ n h.
-    subst (λ z. statement_map (number_in n) (statement_map (name_in n) z) ≡ z) (sym (does_of-Do c.in_ok-assign-in-Some-Name.field-0)) (ap does (c.in_ok-assign-in-Some-Name.ensures.numbered n h))
+pub statement-returns-in_ok-plain-in_default-clause-ok : goal.statement-returns-in_ok-plain-in_default-clause-ok
+statement-returns-in_ok-plain-in_default-clause-ok t c =
+    subst (λ z. ReadsStatement (scope_of c.args.self.now.scope) (scope_of c.plain.new.self.scope) (context_of c.args.place.now) (λ n ms. statement_marks (context_of c.args.place.now) (statement_map (name_in n) z) ms) c.args.self.now.cursor c.plain.new.self.cursor)
+    (sym (does_of-Do c.in_ok-plain-in_default.field-0)) (record { spelled = c.in_ok-plain-in_default.ensures.ok.spelled; goes_on = c.in_ok-plain-in_default.ensures.ok.goes_on })
 
-pub statement-returns-in_ok-action-in-Some-Keyword-clause-ok : goal.statement-returns-in_ok-action-in-Some-Keyword-clause-ok
-statement-returns-in_ok-action-in-Some-Keyword-clause-ok t c =
-    subst (λ z. ReadsStatement (scope_of c.args.self.now.scope) (scope_of c.action.new.self.scope) (context_of c.args.place.now) (λ n ms. statement_marks (context_of c.args.place.now) (statement_map (name_in n) z) ms) c.args.self.now.cursor c.action.new.self.cursor)
-    (sym (does_of-Do c.in_ok-action-in-Some-Keyword.field-0)) (record { spelled = c.in_ok-action-in-Some-Keyword.ensures.ok.spelled; goes_on = c.in_ok-action-in-Some-Keyword.ensures.ok.goes_on })
-
-pub statement-returns-in_ok-action-in-Some-Keyword-clause-numbered : goal.statement-returns-in_ok-action-in-Some-Keyword-clause-numbered
-statement-returns-in_ok-action-in-Some-Keyword-clause-numbered t c = λ n h.
-    subst (λ z. statement_map (number_in n) (statement_map (name_in n) z) ≡ z) (sym (does_of-Do c.in_ok-action-in-Some-Keyword.field-0)) (ap does (c.in_ok-action-in-Some-Keyword.ensures.numbered n h))
+pub statement-returns-in_ok-plain-in_default-clause-numbered : goal.statement-returns-in_ok-plain-in_default-clause-numbered
+statement-returns-in_ok-plain-in_default-clause-numbered t c = λ n h.
+    subst (λ z. statement_map (number_in n) (statement_map (name_in n) z) ≡ z) (sym (does_of-Do c.in_ok-plain-in_default.field-0)) (ap does (c.in_ok-plain-in_default.ensures.numbered n h))
