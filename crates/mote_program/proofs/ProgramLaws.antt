@@ -13,7 +13,7 @@ use Rattle.mote_program.specs.Head.{with_all, line_marks, itself}
 use Rattle.mote_program.specs.InScope.{Names, no_names, with_new, number_in, name_in}
 use Rattle.mote_program.specs.Machine.{whole, tell, from_events, codes_form}
 use Rattle.mote_program.specs.Numbers.{named_of, values_of, codes_in, timers_from, timer_of, program_names, tree_of_shape}
-use Rattle.mote_program.specs.Reading.{AreLexed, IsTreeOfTokens, WasRead}
+use Rattle.mote_program.specs.Reading.{AreLexed, IsTreeOfTokens, WasRead, IsMade}
 use Rattle.mote_program.specs.ShapeOf.{code_shape, no_code, shape_of}
 use Rattle.mote_program.specs.Shapes.{Name, CodeShape, ProgramShape}
 use Rattle.mote_program.specs.Tokens as token
@@ -50,10 +50,11 @@ head_names events semaphores processes = record no_names { events = events; sema
 -- the head is read from the beginning of the text on
 pub record HeadIsRead (text m5 : List Token) (s4 : Scope) (counts autostart : List ℕ) (receiver : Option ℕ) : Type 0 where
   pub s0 : Scope
-  pub t0 : List Token
   pub begins : s0 ≡ nothing_yet
-  pub text_is : t0 ≡ text
-  pub read : ReadsHead counts autostart receiver s0 s4 t0 m5
+  pub read : ReadsHead counts autostart receiver s0 s4 text m5
+
+pub head_read : (text m5 : List Token) (s0 s4 : Scope) (counts autostart : List ℕ) (receiver : Option ℕ) → s0 ≡ nothing_yet → ReadsHead counts autostart receiver s0 s4 text m5 → HeadIsRead text m5 s4 counts autostart receiver
+head_read text m5 s0 s4 counts autostart receiver e r = record { s0 = s0; begins = e; read = r }
 
 module _ (text m5 : List Token) (s4 : Scope) (counts autostart : List ℕ) (receiver : Option ℕ) (h : HeadIsRead text m5 s4 counts autostart receiver) where
   pub names_read : s4.names ≡ head_names h.read.events.0 (named_of h.read.semaphores.0) (h.read.processes.first ∷ h.read.processes.others)
@@ -68,7 +69,7 @@ module _ (text m5 : List Token) (s4 : Scope) (counts autostart : List ℕ) (rece
 
   pub head_goes : tell nothing_yet (from_events ∷ []) text ≡ tell s4 (codes_form s4.names.processes []) m5
   head_goes =
-      ap (λ s. tell s (from_events ∷ []) text) (sym h.begins) ∙ ap (λ t. tell h.s0 (from_events ∷ []) t) (sym h.text_is)
+      ap (λ s. tell s (from_events ∷ []) text) (sym h.begins)
       ∙ h.read.events.1.goes_on [] ∙ h.read.semaphores.2.goes_on [] ∙ h.read.processes.goes_on [] ∙ h.read.starting.goes_on h.read.processes.first h.read.processes.others []
       ∙ h.read.receiving.goes_on h.read.processes.first h.read.processes.others [] ∙ ap (λ n. tell s4 (codes_form n.processes []) m5) (sym names_read)
 
@@ -110,7 +111,7 @@ shape_put_back es ss p ps st r e s qs c a rc k t h1 h2 h3 h4 h5 h6 h7 =
     ∙ sym (ap (λ z. shape_of (tree_with z s c qs a rc k t)) h1 ∙ ap (λ z. shape_of (tree_with es z c qs a rc k t)) h2 ∙ ap (λ z. shape_of (tree_with es (named_of ss) z qs a rc k t)) h3 ∙ ap (λ z. shape_of (tree_with es (named_of ss) (values_of ss) z a rc k t)) h4)
 
 -- what was read of a text's tokens
-pub was_read : (tokens : List Token) (tree : Tree) → AreLexed tokens → (q : IsTreeOfTokens tokens tree) → q.shape ≡ shape_of tree → WasRead tree
+was_read : (tokens : List Token) (tree : Tree) → AreLexed tokens → (q : IsTreeOfTokens tokens tree) → q.shape ≡ shape_of tree → WasRead tree
 was_read tokens tree lexed q e = ∣ record { tokens = tokens; lexed = lexed; program = subst (λ s. IsProgram s tokens) e q.program; numbered = q.numbered ∙ ap tree_of_shape e } ∣₁
 
 same_first : {A : Type 0} (x y : A) (xs ys : List A) → x ∷ xs ≡ y ∷ ys → x ≡ y
@@ -145,9 +146,9 @@ module _ (text m5 : List Token) (s4 s5 : Scope) (counts autostart : List ℕ) (r
   spelled_text : text ≡ tokens (event_marks h.read.events.0 (semaphore_marks h.read.semaphores.0 (key word.Process ∷ named h.read.processes.first (role.new a_process h.read.processes.first) ∷ line_marks h.read.processes.others behind_line)))
   spelled_text =
       let marks = key word.Process ∷ named h.read.processes.first (role.new a_process h.read.processes.first) ∷ line_marks h.read.processes.others behind_line in
-      sym h.text_is ∙ h.read.events.1.spelled (semaphore_marks h.read.semaphores.0 marks) (sym (h.read.semaphores.2.spelled marks (sym spelled_line)))
+      h.read.events.1.spelled (semaphore_marks h.read.semaphores.0 marks) (sym (h.read.semaphores.2.spelled marks (sym spelled_line)))
 
-  pub tree_read : (p : Name × CodeShape) (ps : List (Name × CodeShape)) → r.shapes ≡ p ∷ ps → (timers : List Timer) → timers ≡ all_timers trees →
+  tree_read : (p : Name × CodeShape) (ps : List (Name × CodeShape)) → r.shapes ≡ p ∷ ps → (timers : List Timer) → timers ≡ all_timers trees →
       let tree = tree_with s5.names.events s5.names.semaphores counts s5.names.processes autostart receiver trees timers in
       (q : IsTreeOfTokens text tree) × (q.shape ≡ shape_of tree)
   tree_read p ps is timers e =
@@ -189,7 +190,7 @@ module _ (text m5 : List Token) (s4 s5 : Scope) (counts autostart : List ℕ) (r
             (ap values_of (sym is) ∙ r.put_back ∙ ap (λ n. map (code_shape n) trees) names),
       )
 
-  pub some_process : (p : Name × CodeShape) × (ps : List (Name × CodeShape)) × (r.shapes ≡ p ∷ ps)
+  some_process : (p : Name × CodeShape) × (ps : List (Name × CodeShape)) × (r.shapes ≡ p ∷ ps)
   some_process = go r.shapes refl
     where
       go : (shapes : List (Name × CodeShape)) → r.shapes ≡ shapes → (p : Name × CodeShape) × (ps : List (Name × CodeShape)) × (r.shapes ≡ p ∷ ps)
@@ -208,19 +209,19 @@ all_owned k n (c ∷ cs) h =
     All-append P (map (λ x. timer_of k false) c.etimers) (map (λ t. timer_of k true) c.ctimers ++ timers_from (k + 1) cs) (all_same P (timer_of k false) low c.etimers)
     (All-append P (map (λ t. timer_of k true) c.ctimers) (timers_from (k + 1) cs) (all_same P (timer_of k true) low c.ctimers) (all_owned (k + 1) n cs (omega arith)))
 
-module _ (text m5 : List Token) (s4 s5 : Scope) (counts autostart : List ℕ) (receiver : Option ℕ) (trees : List Code) (h : HeadIsRead text m5 s4 counts autostart receiver) (m6 : List Token) (r : HasCodes trees [] s4 s5 m5 m6) where
+module _ (text m5 : List Token) (s4 s5 : Scope) (counts autostart : List ℕ) (receiver : Option ℕ) (trees : List Code) (h : HeadIsRead text m5 s4 counts autostart receiver) (r : HasCodes trees [] s4 s5 m5 []) where
   processes_kept : s5.names.processes ≡ s4.names.processes
   processes_kept = ap (λ (n : Names). n.processes) r.names ∙ behind_processes s4.names (values_of r.shapes)
 
-  pub each_count : length counts ≡ length s5.names.semaphores
+  each_count : length counts ≡ length s5.names.semaphores
   each_count =
       ap length h.read.semaphores.1 ∙ length-map h.read.semaphores.0 (λ p. p.1) ∙ sym (length-map h.read.semaphores.0 (λ p. p.0))
       ∙ ap (λ (n : Names). length n.semaphores) (sym (names_read text m5 s4 counts autostart receiver h)) ∙ ap length (sym (behind_semaphores s4.names (values_of r.shapes))) ∙ ap (λ (n : Names). length n.semaphores) (sym r.names)
 
-  pub started : All (λ i. i < length s5.names.processes) autostart
+  started : All (λ i. i < length s5.names.processes) autostart
   started = subst (λ xs. All (λ i. i < length xs) autostart) (ap (λ (s : Scope). s.names.processes) (sym h.read.starting.added) ∙ sym processes_kept) h.read.starting.within
 
-  pub received : IfSome receiver (λ i. i < length s5.names.processes)
+  received : IfSome receiver (λ i. i < length s5.names.processes)
   received = subst (λ xs. IfSome receiver (λ i. i < length xs)) (sym processes_kept) h.read.receiving.within
 
   each_tree : length trees ≡ length r.shapes
@@ -229,20 +230,56 @@ module _ (text m5 : List Token) (s4 s5 : Scope) (counts autostart : List ℕ) (r
   each_process : length s5.names.processes ≡ length r.shapes
   each_process = ap length (processes_kept ∙ r.named ∙ append-nil (named_of r.shapes)) ∙ length-map r.shapes (λ p. p.0)
 
-  pub each_code : length trees ≡ length s5.names.processes
+  each_code : length trees ≡ length s5.names.processes
   each_code = each_tree ∙ sym each_process
 
   timers_are : (timers : List Timer) → timers ≡ all_timers trees → timers ≡ timers_from 0 (values_of r.shapes)
   timers_are timers e = e ∙ ap all_timers r.numbered ∙ timers_of_all 0 s4.names (values_of r.shapes)
 
-  pub few_timers : (timers : List Timer) → timers ≡ all_timers trees → s5.names.first_timer ≤ 64 → length timers ≤ 64
+  few_timers : (timers : List Timer) → timers ≡ all_timers trees → s5.names.first_timer ≤ 64 → length timers ≤ 64
   few_timers timers e low =
       omega (arith, ap length (timers_are timers e), behind_first_timer 0 s4.names (values_of r.shapes), ap (λ (n : Names). n.first_timer) r.names, ap (λ (n : Names). n.first_timer) (names_read text m5 s4 counts autostart receiver h), low)
 
-  pub owned : (timers : List Timer) → timers ≡ all_timers trees → All (λ t. t.process < length s5.names.processes) timers
+  owned : (timers : List Timer) → timers ≡ all_timers trees → All (λ t. t.process < length s5.names.processes) timers
   owned timers e =
       subst (λ ts. All (λ t. t.process < length s5.names.processes) ts) (sym (timers_are timers e))
       (all_owned 0 (length s5.names.processes) (values_of r.shapes) (omega (arith, each_process, length-map r.shapes (λ p. p.1))))
+
+-- head and codes are read, and the text ends behind them
+pub record AllRead (text : List Token) (s5 : Scope) (counts autostart : List ℕ) (receiver : Option ℕ) (trees : List Code) : Type 0 where
+  pub m5 : List Token
+  pub s4 : Scope
+  pub head : HeadIsRead text m5 s4 counts autostart receiver
+  pub codes : HasCodes trees [] s4 s5 m5 []
+
+pub all_read : (text m5 : List Token) (s4 s5 : Scope) (counts autostart : List ℕ) (receiver : Option ℕ) (trees : List Code) → HeadIsRead text m5 s4 counts autostart receiver → HasCodes trees [] s4 s5 m5 [] → AllRead text s5 counts autostart receiver trees
+all_read text m5 s4 s5 counts autostart receiver trees h r = record { m5 = m5; s4 = s4; head = h; codes = r }
+
+module _ (text : List Token) (s5 : Scope) (counts autostart : List ℕ) (receiver : Option ℕ) (trees : List Code) (a : AllRead text s5 counts autostart receiver trees) (timers : List Timer) (e : timers ≡ all_timers trees) where
+  abbrev tree : Tree
+  tree = tree_with s5.names.events s5.names.semaphores counts s5.names.processes autostart receiver trees timers
+
+  tree_and_shape : (q : IsTreeOfTokens text tree) × (q.shape ≡ shape_of tree)
+  tree_and_shape =
+      let some = some_process text a.m5 a.s4 s5 counts autostart receiver trees a.head a.codes in
+      tree_read text a.m5 a.s4 s5 counts autostart receiver trees a.head a.codes some.0 some.1 some.2 timers e
+
+  pub is_tree : IsTreeOfTokens text tree
+  is_tree = tree_and_shape.0
+
+  pub is_made : AreLexed text → length s5.names.events ≤ 117 → length s5.names.semaphores ≤ 64 → length s5.names.processes ≤ 64 → s5.names.first_timer ≤ 64 → IsMade tree
+  is_made lexed few_events few_semaphores few_processes low = record {
+    few_events = few_events;
+    few_semaphores = few_semaphores;
+    each_count = each_count text a.m5 a.s4 s5 counts autostart receiver trees a.head a.codes;
+    few_processes = few_processes;
+    started = started text a.m5 a.s4 s5 counts autostart receiver trees a.head a.codes;
+    received = λ x is. subst (λ o. IfSome o (λ i. i < length s5.names.processes)) is (received text a.m5 a.s4 s5 counts autostart receiver trees a.head a.codes);
+    each_code = each_code text a.m5 a.s4 s5 counts autostart receiver trees a.head a.codes;
+    few_timers = few_timers text a.m5 a.s4 s5 counts autostart receiver trees a.head a.codes timers e low;
+    owned = owned text a.m5 a.s4 s5 counts autostart receiver trees a.head a.codes timers e;
+    was_read = was_read text tree lexed tree_and_shape.0 tree_and_shape.1;
+  }
 
 -- no names of a code are in scope behind the head
 pub no_own_names : (text m5 : List Token) (s4 : Scope) (counts autostart : List ℕ) (receiver : Option ℕ) → HeadIsRead text m5 s4 counts autostart receiver → (s4.names.variables ≡ []) × (s4.names.timers ≡ []) × (s4.names.threads ≡ [])

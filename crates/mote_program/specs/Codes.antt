@@ -1,16 +1,19 @@
 -- What reading the codes of a program gives.
 use Rattle.std.specs.Prelude.{◌≡◌, ℕ, List, [], ◌∷◌, ◌++◌, length, map, replicate, false, true, Option}
-use Rattle.mote_program.specs.Code.{Code}
+use Rattle.mote_program.specs.Code.{Code, Tree}
 use Rattle.mote_program.specs.Faults.{Scope}
 use Rattle.mote_program.specs.Grammar.{Mark, tokens, codes_marks, event_marks, semaphore_marks}
 use Rattle.mote_program.specs.Head.{ReadsNames, ReadsValues, ReadsProcesses, ReadsAutostart, ReadsReceiver}
 use Rattle.mote_program.specs.InScope.{Names, outside}
 use Rattle.mote_program.specs.Machine.{Pending, tell, codes_form, from_events, from_semaphores}
 use Rattle.mote_program.specs.Numbers.{named_of, values_of, inside, codes_in, timer_of}
+use Rattle.mote_program.specs.ProcessText.{code_of}
 use Rattle.mote_program.specs.ShapeOf.{code_shape}
 use Rattle.mote_program.specs.Shapes.{Name, CodeShape}
 use Rattle.mote_program.specs.Tokens.{Token}
 use Rattle.mote_program.specs.Tree.{an_event, a_semaphore}
+use Rattle.mote_program.specs.declared.codes.Parts.{Parts}
+use Rattle.mote_program.specs.declared.scope.Scope.{Scope as ScopeRead}
 use Rattle.mote_program.specs.declared.timer.Timer.{Timer}
 
 -- the names in scope behind some codes
@@ -50,3 +53,16 @@ timers_of_code c = replicate (length c.etimers) (timer_of c.number false) ++ rep
 abbrev pub all_timers : List Code → List Timer
 all_timers [] = []
 all_timers (c ∷ cs) = timers_of_code c ++ all_timers cs
+
+-- what the names in scope behind a text and its parts stand for
+abbrev pub tree_with : ScopeRead → Parts → Tree
+tree_with s p = record {
+  events = s.events;
+  semaphores = s.semaphores;
+  counts = p.head.counts.items;
+  processes = s.processes;
+  autostart = p.head.autostart.items;
+  receiver = p.head.receiver;
+  codes = map code_of p.codes.items;
+  timers = p.timers.items;
+}

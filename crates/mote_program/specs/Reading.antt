@@ -1,5 +1,7 @@
 -- The tree of a text, and the told fault of one that has none.
-use Rattle.std.specs.Prelude.{◌≡◌, ℕ, List, ◌++◌, length, slice_get, Some, ◌⊎◌}
+use Rattle.std.specs.List.{All}
+use Rattle.std.specs.Option.{ForSome}
+use Rattle.std.specs.Prelude.{◌≡◌, ◌<◌, ◌≤◌, ℕ, List, ◌++◌, length, slice_get, Some, ◌⊎◌}
 use Rattle.mote_program.specs.Code.{Tree}
 use Rattle.mote_program.specs.Faults.{IsProgram, IsTold}
 use Rattle.mote_program.specs.Numbers.{tree_of_shape}
@@ -38,6 +40,19 @@ pub record IsOfText (tree : Tree) : Type 0 where
 -- a program is made of some text
 abbrev pub WasRead : Tree → Type 0
 WasRead tree = ∥ IsOfText tree ∥₁
+
+-- a tree of some text, within the bounds of programs
+pub record IsMade (tree : Tree) : Type 0 where
+  pub few_events : length tree.events ≤ 117
+  pub few_semaphores : length tree.semaphores ≤ 64
+  pub each_count : length tree.counts ≡ length tree.semaphores
+  pub few_processes : length tree.processes ≤ 64
+  pub started : All (λ i. i < length tree.processes) tree.autostart
+  pub received : ForSome tree.receiver (λ i. i < length tree.processes)
+  pub each_code : length tree.codes ≡ length tree.processes
+  pub few_timers : length tree.timers ≤ 64
+  pub owned : All (λ t. t.process < length tree.processes) tree.timers
+  pub was_read : WasRead tree
 
 -- the text's told fault is of this kind, and its token, or the end, stands on this line
 pub record IsToldOf (text : List ℕ) (kind : ReadErrorKind) (line : ℕ) : Type 0 where

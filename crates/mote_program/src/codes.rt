@@ -1,11 +1,11 @@
 //! The codes of a program, and the program.
 ghost use Rattle.std.specs.Prelude.{◌≡◌, ◌≤◌, ◌<◌, ◌++◌, ◌∷◌, [], length, map, replicate, List, IfOk, OnOk};
-ghost use Rattle.mote_program.specs.Codes.{HasCodes, ReadsHead, all_timers};
+ghost use Rattle.mote_program.specs.Codes.{HasCodes, ReadsHead, all_timers, tree_with};
 ghost use Rattle.mote_program.specs.Head.{FailsIn};
 ghost use Rattle.mote_program.specs.Machine as machine;
 ghost use Rattle.mote_program.specs.Faults.{nothing_yet, Scope};
 ghost use Rattle.mote_program.specs.Program.{code_of, tree_of};
-ghost use Rattle.mote_program.specs.Reading.{AreLexed, IsTreeOfTokens};
+ghost use Rattle.mote_program.specs.Reading.{AreLexed, IsTreeOfTokens, IsMade};
 ghost use Rattle.mote_program.specs.Tokens.{token_of};
 ghost use Rattle.mote_program.specs.Steps.{scope_of};
 ghost use Rattle.mote_program.specs.declared.fault.Fault.{Fault};
@@ -112,6 +112,66 @@ impl Reader<'_> {
     }
 }
 
+/// What a text holds beside the names that are in scope behind it: what stands before the codes, the codes, and their timers.
+#[derive(Drop)]
+struct Parts {
+    head: Head,
+    codes: Vec<ProcessText>,
+    timers: Vec<Timer>,
+}
+
+impl Reader<'_> {
+    /// The codes, behind which the text ends.
+    fn last_codes(&mut self) -> Result<Vec<ProcessText>, Refusal>
+        requires variables { self.old.scope.variables ≡ [] }
+        requires etimers { self.old.scope.etimers ≡ [] }
+        requires ctimers { self.old.scope.ctimers ≡ [] }
+        requires threads { self.old.scope.threads ≡ [] }
+        ensures ok { IfOk result (λ codes. HasCodes (map code_of codes.items) [] (scope_of self.old.scope) (scope_of self.new.scope) self.old.cursor []) }
+        ensures err { (f : Fault) → result ≡ Err (Refusal.Fault f) →
+            machine.tell (scope_of self.old.scope) (machine.codes_form self.old.scope.processes []) self.old.cursor ≡ machine.fault f.kind f.left }
+    {
+        let codes = self.codes()?;
+        self.cursor.end()?;
+        Ok(codes)
+    }
+
+    /// All parts of a text, from its first token on.
+    fn parts(&mut self) -> Result<Parts, Refusal>
+        requires fresh { scope_of self.old.scope ≡ nothing_yet }
+        requires lexed { AreLexed self.old.cursor }
+        ensures made { IfOk result (λ p. IsMade (tree_with self.new.scope p)) }
+        ensures tree { IfOk result (λ p. IsTreeOfTokens self.old.cursor (tree_with self.new.scope p)) }
+        ensures err { (f : Fault) → result ≡ Err (Refusal.Fault f) → machine.tell nothing_yet (machine.from_events ∷ []) self.old.cursor ≡ machine.fault f.kind f.left }
+    {
+        let head = self.head()?;
+        let codes = self.last_codes()?;
+        let timers = timers(self.alloc, &codes)?;
+        Ok(Parts {
+            head,
+            codes,
+            timers,
+        })
+    }
+
+    /// The program of the parts, with the names that are in scope behind them.
+    fn into_program(self, parts: Parts) -> Program
+        requires { IsMade (tree_with self.scope parts) }
+        ensures { tree_of result ≡ tree_with self.entry.scope parts }
+    {
+        Program::new(
+            self.scope.events,
+            self.scope.semaphores,
+            parts.head.counts,
+            self.scope.processes,
+            parts.head.autostart,
+            parts.head.receiver,
+            parts.codes,
+            parts.timers,
+        )
+    }
+}
+
 /// The program that the tokens are, or their first fault.
 pub(crate) fn program<'a>(alloc: Global, tokens: &'a [Token<'a>]) -> Result<Program, Refusal>
     requires { AreLexed (map token_of tokens.now) }
@@ -124,16 +184,6 @@ pub(crate) fn program<'a>(alloc: Global, tokens: &'a [Token<'a>]) -> Result<Prog
         cursor: Cursor::new(tokens),
         scope: ScopeRead::new(alloc),
     };
-    let head = reader.head()?;
-    let codes = reader.codes()?;
-    reader.cursor.end()?;
-    let timers = timers(alloc, &codes)?;
-    Ok(Program::new(
-        reader.scope,
-        head.counts,
-        head.autostart,
-        head.receiver,
-        codes,
-        timers,
-    ))
+    let parts = reader.parts()?;
+    Ok(reader.into_program(parts))
 }

@@ -3,12 +3,11 @@ ghost use Rattle.std.specs.Prelude.{◌≡◌, ◌<◌, ◌≤◌, length, map, 
 ghost use Rattle.std.specs.Option.{ForSome};
 ghost use Rattle.std.specs.List.{All};
 ghost use Rattle.mote_program.specs.ProcessText.{code_of};
-ghost use Rattle.mote_program.specs.Reading.{WasRead};
+ghost use Rattle.mote_program.specs.Reading.{WasRead, IsMade};
 
 use crate::event_name::FIRST_DECLARED;
 use crate::names::Names;
 use crate::process_text::ProcessText;
-use crate::scope::Scope;
 use crate::timer::Timer;
 
 /// A program: its declared events and semaphores, its processes in the order of its `process` line, those that start at
@@ -49,34 +48,30 @@ impl Program {
     ghost use Rattle.mote_program.specs.Program.{tree_of};
 
     pub(crate) fn new(
-        scope: Scope,
+        events: Names,
+        semaphores: Names,
         counts: Vec<u16>,
+        processes: Names,
         autostart: Vec<u8>,
         receiver: Option<u8>,
         codes: Vec<ProcessText>,
         timers: Vec<Timer>,
     ) -> Program
-        requires each_count { length counts.items ≡ length scope.semaphores }
-        requires started { All (λ i. i < length scope.processes) autostart.items }
-        requires received { ForSome receiver (λ i. i < length scope.processes) }
-        requires each_code { length codes.items ≡ length scope.processes }
-        requires few_timers { length timers.items ≤ 64 }
-        requires owned { All (λ t. t.process < length scope.processes) timers.items }
-        requires was_read { WasRead (record {
-          events = scope.events;
-          semaphores = scope.semaphores;
+        requires { IsMade (record {
+          events = events;
+          semaphores = semaphores;
           counts = counts.items;
-          processes = scope.processes;
+          processes = processes;
           autostart = autostart.items;
           receiver = receiver;
           codes = map code_of codes.items;
           timers = timers.items;
         }) }
         ensures { tree_of result ≡ record {
-          events = scope.events;
-          semaphores = scope.semaphores;
+          events = events;
+          semaphores = semaphores;
           counts = counts.items;
-          processes = scope.processes;
+          processes = processes;
           autostart = autostart.items;
           receiver = receiver;
           codes = map code_of codes.items;
@@ -84,10 +79,10 @@ impl Program {
         } }
     {
         Program {
-            events: scope.events,
-            semaphores: scope.semaphores,
+            events,
+            semaphores,
             counts,
-            processes: scope.processes,
+            processes,
             autostart,
             receiver,
             codes,
