@@ -8,7 +8,7 @@ ONE_JOB = ['--jobs', '1']
 
 
 class Verdict(NamedTuple):
-    """Whether the prover refused a wrong body, and what it said."""
+    """Whether the prover refused a wrong body, and what to say of it."""
     is_refused: bool
     said: str
 
@@ -17,7 +17,7 @@ def verdicts(bodies, group):
     """The verdict on each edit of a group, by its file."""
     refused = refused_together(bodies, group) if group[0].functions else {}
     left = [edit.file for edit in group if edit.file not in refused]
-    found = {file: Verdict(True, why) for file, why in refused.items()}
+    found = {file: Verdict(True, 'refused: %s' % why) for file, why in refused.items()}
     for file, (is_refused, said) in zip(left, rt.must_fail_all(bodies.crate, left, ONE_JOB)):
         found[file] = Verdict(is_refused, said.partition('.edit: ')[2])
     return found
