@@ -1,0 +1,147 @@
+"""The functions of a source file: where their bodies stand, and what a check calls them."""
+from typing import NamedTuple, Optional
+
+ITEMS = ('fn', 'mod', 'trait')
+NO_NAMES = ('mut', 'const', 'dyn', 'fn')
+
+
+class Function(NamedTuple):
+    """The first and the last line of a function's body, from 0; its path as a check prints it, of a method from its type on; and the cycle
+    of calls that it says it is in. The path of a trait's method is a guess, made of the names of the type and the trait."""
+    first: int
+    last: int
+    path: str
+    cycle: Optional[str] = None
+    is_guess: bool = False
+
+
+class Item(NamedTuple):
+    """A function, a module, a trait or an impl; of an impl all words of its head stand for its name."""
+    kind: str
+    name: object
+    cycle: Optional[str] = None
+
+
+class Brace(NamedTuple):
+    """An open brace: the item that it begins, if it does; its line; and how many brackets are open around it."""
+    item: Optional[Item]
+    line: int
+    depth: int
+
+
+def module_of(path):
+    """The modules that a file's path names, as a, b of src/a/b.rt."""
+    return [part for part in path[:-len('.rt')].split('/')[1:] if part not in ('lib', 'main', 'mod')]
+
+
+def names_in(words):
+    """The names of a type or a trait without the paths before them and lifetimes, as From and AllocError of From<alloc::AllocError>."""
+    names, before = [], ''
+    for word in words:
+        if word in (':', '::'):
+            if before.isidentifier() and names:
+                names.pop()
+            before = ''
+            continue
+        if word.isidentifier() and before != "'" and word not in NO_NAMES:
+            names.append(word)
+        before = word
+    return names
+
+
+def without_generics(head):
+    """The names of an impl's parameters, and its head behind them."""
+    if head[:1] != ['<']:
+        return [], head
+    depth = 0
+    for at, word in enumerate(head):
+        depth += (word == '<') - (word == '>')
+        if not depth:
+            return names_in(head[1:at]), head[at + 1:]
+    return [], head
+
+
+def owner_of(head):
+    """What the functions of an impl have before their names, and whether that is a guess."""
+    parameters, head = without_generics(head)
+    if 'where' in head:
+        head = head[:head.index('where')]
+    if 'for' not in head:
+        return (names_in(head) or [''])[0], False
+    cut = head.index('for')
+    names = [name for name in names_in(head[cut + 1:]) + names_in(head[:cut]) if name not in parameters]
+    return ''.join(name[:1].upper() + name[1:] for name in names), True
+
+
+class Reader:
+    """Goes over the tokens of a file once, and notes each function that stands in no other."""
+
+    def __init__(self, path, rows):
+        self.module, self.rows = module_of(path), rows
+        self.found, self.open = [], []
+        self.head = self.cycle = None
+        self.depth = 0
+
+    def functions(self):
+        for at in range(len(self.rows)):
+            self.take(at)
+        return self.found
+
+    def word(self, at):
+        return self.rows[at][1] if at < len(self.rows) else ''
+
+    def may_begin_item(self):
+        return not self.depth and not any(brace.item and brace.item.kind == 'fn' for brace in self.open)
+
+    def take(self, at):
+        line, word = self.rows[at]
+        if word in ('(', '['):
+            self.depth += 1
+        elif word in (')', ']'):
+            self.depth -= 1
+        elif word == 'cycle' and self.word(at + 1) == '(':
+            self.cycle = self.word(at + 2)
+        elif word in ITEMS and self.word(at + 1).isidentifier() and self.may_begin_item():
+            self.head, self.cycle = Item(word, self.word(at + 1), self.cycle), None
+        elif word == 'impl' and not self.head and self.may_begin_item():
+            self.head = Item('impl', self.words_before_brace(at + 1))
+        elif word == ';' and not self.depth:
+            self.head = None
+        elif word == '{':
+            self.begin(line)
+        elif word == '}':
+            self.end(line)
+
+    def words_before_brace(self, at):
+        end = next(here for here in range(at, len(self.rows)) if self.word(here) == '{')
+        return [word for _, word in self.rows[at:end]]
+
+    def begin(self, line):
+        """A brace begins the item whose head was read, unless it stands in brackets of that head, where it is an expression's."""
+        is_items = self.head and not self.depth
+        self.open.append(Brace(self.head if is_items else None, line, self.depth))
+        self.head, self.depth = None if is_items else self.head, 0
+
+    def end(self, line):
+        brace = self.open.pop()
+        self.depth = brace.depth
+        if brace.item and brace.item.kind == 'fn':
+            around, is_guess = self.around()
+            path = '::'.join(around + [brace.item.name])
+            self.found.append(Function(brace.line + 1, line - 1, path, brace.item.cycle, is_guess))
+
+    def around(self):
+        """What stands before the name of a function here. A method's module is its type's, which may be another file's, so it is left out."""
+        around, is_guess = list(self.module), False
+        for item in (brace.item for brace in self.open if brace.item):
+            if item.kind == 'impl':
+                owner, is_guess = owner_of(item.name)
+                around = [owner]
+            else:
+                around.append(item.name)
+        return around, is_guess
+
+
+def functions_in(path, rows):
+    """The functions of a file of a crate, src/.., given the line and the text of each token of its code."""
+    return Reader(path, rows).functions()

@@ -1,0 +1,76 @@
+"""Tries wrong bodies of one crate: many in one check, and what that leaves open each by itself."""
+from typing import NamedTuple
+
+from bodies.faults import UNEXPLAINED, is_of, own_faults
+from bodies.kit import rt, rtlib
+
+ONE_JOB = ['--jobs', '1']
+
+
+class Verdict(NamedTuple):
+    """Whether the prover refused a wrong body, and what to say of it."""
+    is_refused: bool
+    said: str
+
+
+def verdicts(bodies, group):
+    """The verdict on each edit of a group, by its file."""
+    refused = refused_together(bodies, group) if group[0].functions else {}
+    left = [edit.file for edit in group if edit.file not in refused]
+    found = {file: Verdict(True, 'refused: %s' % why) for file, why in refused.items()}
+    for file, (is_refused, said) in zip(left, rt.must_fail_all(bodies.crate, left, ONE_JOB)):
+        found[file] = Verdict(is_refused, said.partition('.edit: ')[2])
+    return found
+
+
+def refused_together(bodies, group):
+    """Which edits of a group a check of them all refuses. Those that it leaves open are tried again with fewer others, down to one by itself."""
+    refused = told_of(bodies, group)
+    left = [edit for edit in group if edit.file not in refused]
+    if not left or len(group) == 1:
+        return refused
+    half = (len(left) + 1) // 2 if len(left) == len(group) else len(left)
+    for some in [left[:half], left[half:]]:
+        if some:
+            refused.update(refused_together(bodies, some))
+    return refused
+
+
+def told_of(bodies, group):
+    """What one check of all these edits says against each, or nothing where it says nothing of the proofs, or refuses a function that no
+    edit stands in for more than what that calls."""
+    lines = lines_of(bodies, group)
+    if not lines:
+        return {}
+    functions = [function for edit in group for function in edit.functions]
+    faults = own_faults(lines, {it.path: it.cycle for it in functions if it.cycle})
+    told = {}
+    for edit in group:
+        for name in [name for name in faults if any(is_of(name, it.path) for it in edit.functions)]:
+            why = faults.pop(name)
+            if len(group) == 1 or why != UNEXPLAINED:
+                told.setdefault(edit.file, '%s: %s' % (name, why))
+    # (the functions of a cycle are refused together)
+    together = bodies.in_cycles({it.cycle for it in functions if it.cycle})
+    others = [name for name in faults if not any(is_of(name, it.path) for it in together)]
+    return {} if others and all(edit.is_inside for edit in group) else told
+
+
+def lines_of(bodies, group):
+    """What a check of a copy of the crate with all these edits says of their functions, or nothing where it doesn't get as far as the proofs."""
+    texts = bodies.with_all(group)
+    ran = check_functions(bodies.crate, texts, [function for edit in group for function in edit.functions])
+    lines = ran.stdout.rstrip('\n').split('\n')
+    reached = ran.returncode == 1 and lines[-1].startswith(('only=', 'logic=not-proved'))
+    if not reached or rtlib.STALE.search(ran.stdout) or any(rt.unread(line, texts) for line in lines):
+        return []
+    return lines
+
+
+def check_functions(crate, texts, functions):
+    """Checks these functions and what they call; or all of the crate, where a path that was guessed names none."""
+    only = [word for function in functions for word in ('--only', function.path)]
+    ran = rt.checked(crate, texts, ONE_JOB + only, None)
+    if ran.returncode == 2 and any(function.is_guess for function in functions):
+        return rt.checked(crate, texts, ONE_JOB, None)
+    return ran

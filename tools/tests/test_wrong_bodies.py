@@ -1,0 +1,99 @@
+"""Tests of how tools/wrong_bodies reads source files and what a check says: python3 -B -m unittest discover tools/tests"""
+import re
+import sys
+import unittest
+from pathlib import Path
+
+sys.path.insert(0, str(Path(__file__).resolve().parent.parent))
+
+from bodies.faults import is_of, own_faults
+from bodies.functions import Function, functions_in, names_in
+
+
+def rows(text):
+    """The tokens of a text as the kit lists them, for code as plain as that of these tests."""
+    lines = enumerate(text.split('\n'))
+    return [(number, word) for number, line in lines for word in re.findall(r"\w+|::|'|[^\w\s]", line)]
+
+
+def functions(text, path='src/queue.rt'):
+    return functions_in(path, rows(text))
+
+
+class FunctionsOfAFile(unittest.TestCase):
+    def test_function_of_a_module(self):
+        self.assertEqual(functions('fn post(n: u8)\n{\n  n\n}'), [Function(2, 2, 'queue::post')])
+
+    def test_root_has_no_module(self):
+        self.assertEqual(functions('fn main() {\n  1\n}', 'src/main.rt'), [Function(1, 1, 'main')])
+
+    def test_module_in_a_file(self):
+        self.assertEqual(functions('mod inner {\nfn one() {\n1\n}\n}')[0].path, 'queue::inner::one')
+
+    def test_method_stands_under_its_type(self):
+        text = "impl<'a, T: Copy> a::Queue<'a, T> {\nfn len(&self) -> u8 {\n1\n}\n}"
+        self.assertEqual(functions(text), [Function(2, 2, 'Queue::len')])
+
+    def test_method_of_a_trait_is_a_guess(self):
+        text = 'impl<T> From<io::Error> for Fault<T> where T: Copy {\nfn from() {\n1\n}\n}'
+        self.assertEqual(functions(text), [Function(2, 2, 'FaultFromError::from', None, True)])
+
+    def test_function_in_a_function_is_no_other(self):
+        self.assertEqual(functions('fn outer() {\nfn inner() {\n1\n}\n}'), [Function(1, 3, 'queue::outer')])
+
+    def test_cycle(self):
+        self.assertEqual(functions('#[cycle(turns)]\nfn one() {\n1\n}\nfn two() {\n2\n}'),
+                         [Function(2, 2, 'queue::one', 'turns'), Function(5, 5, 'queue::two')])
+
+    def test_braces_in_a_head(self):
+        self.assertEqual(functions('fn one(bytes: [u8; { 1 + 1 }]) {\n1\n}'), [Function(1, 1, 'queue::one')])
+
+    def test_function_without_a_body(self):
+        self.assertEqual(functions('trait Gate {\nfn start(&self) -> u8;\n}\nfn one() {\n1\n}'), [Function(4, 4, 'queue::one')])
+
+    def test_names_without_paths_and_lifetimes(self):
+        self.assertEqual(names_in(rows_words("From<'a, alloc::AllocError>")), ['From', 'AllocError'])
+
+
+def rows_words(text):
+    return [word for _, word in rows(text)]
+
+
+class WhatACheckSays(unittest.TestCase):
+    def test_name_of_a_function(self):
+        self.assertTrue(is_of('event_queue::queue::EventQueue::post', 'EventQueue::post'))
+        self.assertTrue(is_of('event_queue::queue::fn::EventQueue::post::map_err', 'EventQueue::post'))
+        self.assertFalse(is_of('event_queue::queue::EventQueue::post_all', 'EventQueue::post'))
+
+    def test_open_goal_is_an_own_fault(self):
+        lines = ['fn c::queue::post: no proof: expected answers in ./proofs/queue/post/Answers.antt; `search` did not prove `returns`']
+        self.assertEqual(list(own_faults(lines, {})), ['c::queue::post'])
+
+    def test_refused_for_what_it_calls(self):
+        lines = ['fn c::queue::post: not proved: it calls c::queue::take, which is not proved']
+        self.assertEqual(own_faults(lines, {}), {})
+
+    def test_error_in_its_own_proof(self):
+        error = 'proofs/queue/post/Answers.antt:4:2: error: the two sides differ'
+        self.assertEqual(own_faults([error, 'fn c::queue::post: not proved'], {}), {'c::queue::post': error})
+
+    def test_error_in_the_proof_of_its_cycle(self):
+        error = 'proofs/queue/+turns/Answers.antt:4:2: error: the two sides differ'
+        said = 'fn c::queue::post: not proved: it calls c::queue::take'
+        self.assertEqual(own_faults([error, said], {'queue::post': 'turns'}), {'c::queue::post': error})
+
+    def test_error_in_the_proof_of_another(self):
+        lines = ['proofs/queue/take/Answers.antt:4:2: error: differs', 'fn c::queue::post: not proved: it calls c::queue::take']
+        self.assertEqual(own_faults(lines, {}), {})
+
+    def test_import_that_was_not_admitted(self):
+        lines = ['proofs/queue/post/Answers.antt:1:2: error: it was not admitted', 'fn c::queue::post: not proved: it calls c::queue::take']
+        self.assertEqual(own_faults(lines, {}), {})
+
+    def test_proof_that_names_what_is_gone(self):
+        lines = ['proofs/queue/post/Answers.antt:4:2: error: it has no field `take`', 'fn c::queue::post: not proved']
+        self.assertIn('only because a proof file names', own_faults(lines, {})['c::queue::post'])
+
+
+if __name__ == '__main__':
+    unittest.main()
