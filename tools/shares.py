@@ -32,5 +32,5 @@ def shares(crates):
     known = proof_seconds(PAGE.read_text('utf-8')) if PAGE.is_file() else {}
     known = {it: known[it] for it in crates if known.get(it)}
     lines = {it: lines_of(it) for it in crates}
-    a_line = sum(known.values()) / max(sum(lines[it] for it in known), 1) or 0.02
+    a_line = sum(known.values()) / max(sum(lines[it] for it in known), 1) or 0.05
     return {it: known.get(it) or 5 + lines[it] * a_line for it in crates}
