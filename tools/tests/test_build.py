@@ -1,0 +1,62 @@
+"""What build foretells, and what it reads of a check."""
+import importlib.machinery
+import importlib.util
+import sys
+import tempfile
+import types
+import unittest
+from pathlib import Path
+
+sys.dont_write_bytecode = True
+TOOLS = Path(__file__).resolve().parent.parent
+
+
+def load(name):
+    loader = importlib.machinery.SourceFileLoader(name, str(TOOLS / name))
+    made = importlib.util.module_from_spec(importlib.util.spec_from_loader(name, loader))
+    loader.exec_module(made)
+    return made
+
+
+build = load('build')
+
+
+def crate(name, *below):
+    return types.SimpleNamespace(name=name, below=lambda: list(below))
+
+
+LOW, SIDE = crate('low'), crate('side')
+MIDDLE = crate('middle', LOW)
+TOP = crate('top', LOW, MIDDLE, SIDE)
+CRATES = [LOW, SIDE, MIDDLE, TOP]
+SECONDS = {'low': 100, 'side': 20, 'middle': 50, 'top': 30}
+
+
+class Foretold(unittest.TestCase):
+    def test_a_chain_has_all_that_wait_for_a_crate(self):
+        self.assertEqual(build.chains(CRATES, SECONDS), {'low': 180, 'side': 50, 'middle': 80, 'top': 30})
+
+    def test_what_is_left_is_the_longest_chain_or_the_work(self):
+        self.assertEqual(build.Progress(CRATES, SECONDS, 4).left_by_shares(), 180)
+        self.assertEqual(build.Progress(CRATES, SECONDS, 1).left_by_shares(), 200)
+
+    def test_a_crate_that_is_done_leaves_nothing(self):
+        progress = build.Progress(CRATES, SECONDS, 4)
+        progress.done.append('low')
+        self.assertEqual(progress.left_by_shares(), 80)
+
+
+class Logs(unittest.TestCase):
+    def test_a_log_tells_how_much_is_checked(self):
+        with tempfile.TemporaryDirectory() as room:
+            log = build.Log(types.SimpleNamespace(folder=room))
+            for line, share in [('anything', 0), ('so far: 1 of 4 functions checked\n', 0.25), ('checked low::f, 3 of 4\n', 0.75),
+                                ('axioms (2 of the 22 declared)\n', 0.75)]:
+                log.write(line)
+                self.assertEqual(log.share, share)
+            log.file.close()
+            self.assertEqual(log.path.read_text().count('\n'), 3)
+
+
+if __name__ == '__main__':
+    unittest.main()
