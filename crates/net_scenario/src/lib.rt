@@ -27,8 +27,6 @@ mod programs;
 mod queues;
 mod read;
 mod rules;
-#[cfg(test)]
-mod tests;
 mod values;
 mod version;
 

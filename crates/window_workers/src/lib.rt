@@ -19,6 +19,3 @@ pub use serial::run_serial;
 pub use window_run::{Gate, MoteWindow, NoGate, WindowOut};
 pub use worker_cut::Cut;
 pub use workers::{run_inboxes, run_workers};
-
-#[cfg(test)]
-mod tests;

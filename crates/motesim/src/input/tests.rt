@@ -1,4 +1,5 @@
 use super::{InputError, read_text};
+use std::alloc::{AllocError, Global};
 use std::io;
 use std::io::Read;
 use std::test::Fail;
@@ -20,56 +21,16 @@ impl Read for Failing {
     }
 }
 
-#[test]
-fn reads_a_text(rt: HostRuntime) -> Result<(), Fail> {
-    let mut input = "version = 1\n# é\n".as_bytes();
-    assert_eq!(rt;
-        read_text(rt.alloc(), &mut input)?.as_str(),
-        "version = 1\n# é\n"
-    );
-    let mut empty = b"".as_slice();
-    assert_eq!(rt; read_text(rt.alloc(), &mut empty)?.as_str(), "");
-    Ok(())
-}
-
-#[test]
-fn reads_up_to_the_limit(rt: HostRuntime) -> Result<(), Fail> {
-    let mut longest = io::repeat(b'#').take(1_048_576);
-    assert_eq!(rt; read_text(rt.alloc(), &mut longest)?.len(), 1_048_576);
-    let mut longer = io::repeat(b'#').take(1_048_577);
-    assert_eq!(rt;
-        read_text(rt.alloc(), &mut longer),
-        Err(InputError::TooLong)
-    );
-    Ok(())
-}
-
-#[test]
-fn stops_at_a_reader_without_end(rt: HostRuntime) {
-    assert_eq!(rt;
-        read_text(rt.alloc(), &mut io::repeat(b' ')),
-        Err(InputError::TooLong)
-    );
-    assert_eq!(rt;
-        read_text(rt.alloc(), &mut io::repeat(0xff)),
-        Err(InputError::TooLong)
-    );
-}
-
-#[test]
-fn refuses_what_is_no_text(rt: HostRuntime) {
-    let mut bytes = b"end = \xff".as_slice();
-    assert_eq!(rt; read_text(rt.alloc(), &mut bytes), Err(InputError::NotText));
+/// Whether such a reader is told.
+fn is_told(alloc: Global, left: usize) -> bool {
+    let mut failing = Failing { left };
+    matches!(read_text(alloc, &mut failing), Err(InputError::Read))
 }
 
 #[test]
 fn tells_a_failing_reader(rt: HostRuntime) {
     for left in 0..20 {
-        assert_eq!(rt;
-            read_text(rt.alloc(), &mut Failing { left }),
-            Err(InputError::Read),
-            "after {left} bytes"
-        );
+        assert!(rt; is_told(rt.alloc(), left), "after {left} bytes");
     }
 }
 
@@ -89,27 +50,52 @@ impl Read for Sparing<'_> {
     }
 }
 
+/// Digits and letters, again and again, of which those that stand 4,096 apart differ.
+fn digits_and_letters(alloc: Global) -> Result<Vec<u8>, AllocError> {
+    let mut bytes = Vec::new(alloc);
+    for _ in 0..200 {
+        bytes.extend_from_slice(b"0123456789ABCDEFGHIJKLMNOPQRSTUVWXYZabcdefghijklmnopqrstuvwxyz")?;
+    }
+    Ok(bytes)
+}
+
+/// Whether these bytes are read as they are.
+fn reads(alloc: Global, bytes: &[u8]) -> bool {
+    let mut rest = bytes;
+    match read_text(alloc, &mut rest) {
+        Ok(text) => text.as_bytes() == bytes,
+        Err(_) => false,
+    }
+}
+
+/// Whether these bytes are read as they are, so many at most at a time.
+fn reads_sparingly(alloc: Global, bytes: &[u8], most: usize) -> bool {
+    let mut sparing = Sparing { rest: bytes, most };
+    match read_text(alloc, &mut sparing) {
+        Ok(text) => text.as_bytes() == bytes,
+        Err(_) => false,
+    }
+}
+
+/// Whether so many of the bytes are read, by all three readers.
+fn reads_front(alloc: Global, bytes: &[u8], length: usize) -> bool {
+    match bytes.get(..length) {
+        Some(front) => {
+            reads(alloc, front)
+                && reads_sparingly(alloc, front, 1_000)
+                && reads_sparingly(alloc, front, 4_096)
+        }
+        None => false,
+    }
+}
+
 #[test]
 fn reads_whole_chunks_and_one_byte_to_either_side(rt: HostRuntime) -> Result<(), Fail> {
-    let mut text = String::new(rt.alloc());
-    for k in 0..3_000u32 {
-        let line = format!(in rt.alloc(); "{k}\n")?;
-        text.push_str(line.as_str())?;
-    }
-    let bytes = text.as_bytes();
-    for len in [
+    let bytes = digits_and_letters(rt.alloc())?;
+    for length in [
         4_095usize, 4_096, 4_097, 8_191, 8_192, 8_193, 12_287, 12_288, 12_289,
     ] {
-        let Some(front) = bytes.get(..len) else {
-            return Err(Fail::from("the text is too short"));
-        };
-        let whole = read_text(rt.alloc(), &mut &front[..])?;
-        assert_eq!(rt; whole.as_bytes(), front, "{len} bytes");
-        for most in [1_000, 4_096] {
-            let mut sparing = Sparing { rest: front, most };
-            let whole = read_text(rt.alloc(), &mut sparing)?;
-            assert_eq!(rt; whole.as_bytes(), front, "{len} bytes by {most}");
-        }
+        assert!(rt; reads_front(rt.alloc(), &bytes, length), "{length} bytes");
     }
     Ok(())
 }

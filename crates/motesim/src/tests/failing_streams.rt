@@ -1,10 +1,10 @@
-//! Failing readers and writers, and the ends of what is read.
+//! Failing readers and writers.
 
 use crate::simulate::{SimError, simulate_serial};
-use crate::tests::{PRINT_THEN_YIELD, PRINT_THEN_YIELD_REPORT, report_of};
+use crate::tests::{PRINT_THEN_YIELD, PRINT_THEN_YIELD_REPORT};
+use std::alloc::Global;
 use std::io;
 use std::io::{Read, Write};
-use std::test::Fail;
 use trace_printer::PrintError;
 
 /// A reader that gives at most 16 bytes a call, and fails after some calls.
@@ -59,82 +59,72 @@ impl Write for Narrow {
     }
 }
 
-#[test]
-fn failing_reader(rt: HostRuntime) -> Result<(), Fail> {
-    // Thirteen calls give the bytes, and one more their end.
-    let mut failures = 0;
-    for calls in 0..30usize {
-        let mut reader = Failing {
-            rest: PRINT_THEN_YIELD.as_bytes(),
-            calls,
-        };
-        let mut output = Vec::new(rt.alloc());
-        match simulate_serial(rt.alloc(), &mut reader, &mut output) {
-            Ok(()) => assert_eq!(rt; output.as_slice(), PRINT_THEN_YIELD_REPORT.as_bytes()),
-            Err(fault) => {
-                assert_eq!(rt; fault, SimError::Read);
-                assert!(rt; output.is_empty());
-                failures = calls + 1;
-            }
-        }
-    }
-    assert_eq!(rt; failures, PRINT_THEN_YIELD.len().div_ceil(16) + 1);
-    Ok(())
+/// Whether bytes are a front of the report of `PRINT_THEN_YIELD`, of this length.
+pub(crate) fn is_front(bytes: &[u8], length: usize) -> bool {
+    bytes.len() == length && PRINT_THEN_YIELD_REPORT.as_bytes().starts_with(bytes)
 }
 
+/// Whether a reader that fails after so many calls is answered `Read`, and nothing is written.
+fn is_refused(alloc: Global, calls: usize) -> bool {
+    let mut reader = Failing {
+        rest: PRINT_THEN_YIELD.as_bytes(),
+        calls,
+    };
+    let mut output = Vec::new(alloc);
+    let answer = simulate_serial(alloc, &mut reader, &mut output);
+    matches!(answer, Err(SimError::Read)) && output.is_empty()
+}
+
+/// Whether a reader that would fail after so many calls gives the report.
+fn is_reported(alloc: Global, calls: usize) -> bool {
+    let mut reader = Failing {
+        rest: PRINT_THEN_YIELD.as_bytes(),
+        calls,
+    };
+    let mut output = Vec::new(alloc);
+    let answer = simulate_serial(alloc, &mut reader, &mut output);
+    answer.is_ok() && output.as_slice() == PRINT_THEN_YIELD_REPORT.as_bytes()
+}
+
+/// Twelve calls give the bytes, and one more their end.
 #[test]
-fn failing_writer(rt: HostRuntime) -> Result<(), Fail> {
-    let whole = PRINT_THEN_YIELD_REPORT.as_bytes();
-    for fails in [true, false] {
-        for calls in 0..whole.len() {
-            let mut writer = Narrow {
-                bytes: Vec::new(rt.alloc()),
-                calls,
-                fails,
-            };
-            let answer = simulate_serial(rt.alloc(), &mut PRINT_THEN_YIELD.as_bytes(), &mut writer);
-            assert_eq!(rt; answer, Err(SimError::Print(PrintError::Write)));
-            assert_eq!(rt; writer.bytes.as_slice(), &whole[..calls]);
-        }
+fn failing_reader(rt: HostRuntime) {
+    assert_eq!(rt; PRINT_THEN_YIELD.len().div_ceil(16), 12);
+    for calls in 0..13usize {
+        assert!(rt; is_refused(rt.alloc(), calls), "{calls}");
     }
+    for calls in 13..30usize {
+        assert!(rt; is_reported(rt.alloc(), calls), "{calls}");
+    }
+}
+
+/// Whether a writer that fails after so many calls, or takes nothing then, is answered `Write` and has got a byte a call.
+fn is_cut_short(alloc: Global, calls: usize, fails: bool) -> bool {
     let mut writer = Narrow {
-        bytes: Vec::new(rt.alloc()),
-        calls: whole.len(),
+        bytes: Vec::new(alloc),
+        calls,
+        fails,
+    };
+    let answer = simulate_serial(alloc, &mut PRINT_THEN_YIELD.as_bytes(), &mut writer);
+    matches!(answer, Err(SimError::Print(PrintError::Write))) && is_front(&writer.bytes, calls)
+}
+
+/// Whether a writer that would fail after so many calls gets the whole report.
+fn is_whole(alloc: Global, calls: usize) -> bool {
+    let mut writer = Narrow {
+        bytes: Vec::new(alloc),
+        calls,
         fails: true,
     };
-    simulate_serial(rt.alloc(), &mut PRINT_THEN_YIELD.as_bytes(), &mut writer)?;
-    assert_eq!(rt; writer.bytes.as_slice(), whole);
-    Ok(())
+    let answer = simulate_serial(alloc, &mut PRINT_THEN_YIELD.as_bytes(), &mut writer);
+    answer.is_ok() && is_front(&writer.bytes, PRINT_THEN_YIELD_REPORT.len())
 }
 
 #[test]
-fn ends_of_the_input(rt: HostRuntime) -> Result<(), Fail> {
-    let mut text = String::from_str(rt.alloc(), PRINT_THEN_YIELD)?;
-    text.push('#')?;
-    for _ in 0..1_048_576usize {
-        if text.len() < 1_048_576 {
-            text.push('x')?;
-        }
+fn failing_writer(rt: HostRuntime) {
+    for calls in 0..PRINT_THEN_YIELD_REPORT.len() {
+        assert!(rt; is_cut_short(rt.alloc(), calls, true), "{calls}");
+        assert!(rt; is_cut_short(rt.alloc(), calls, false), "{calls}");
     }
-    assert_eq!(rt; text.len(), 1_048_576);
-    let report = report_of(rt.alloc(), text.as_str())?;
-    assert_eq!(rt; report.as_slice(), PRINT_THEN_YIELD_REPORT.as_bytes());
-    text.push('x')?;
-    assert_eq!(rt;
-        report_of(rt.alloc(), text.as_str()),
-        Err(SimError::TooLong)
-    );
-    let mut output = Vec::new(rt.alloc());
-    assert_eq!(rt;
-        simulate_serial(rt.alloc(), &mut io::repeat(b' '), &mut output),
-        Err(SimError::TooLong)
-    );
-    let mut bytes = PRINT_THEN_YIELD.as_bytes().to_vec(rt.alloc())?;
-    bytes.push(0xff)?;
-    assert_eq!(rt;
-        simulate_serial(rt.alloc(), &mut bytes.as_slice(), &mut output),
-        Err(SimError::NotText)
-    );
-    assert!(rt; output.is_empty());
-    Ok(())
+    assert!(rt; is_whole(rt.alloc(), PRINT_THEN_YIELD_REPORT.len()));
 }

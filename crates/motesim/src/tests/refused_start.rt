@@ -2,10 +2,15 @@
 
 use crate::options::{CutKind, Options};
 use crate::simulate::{SimError, simulate};
-use crate::tests::nets::{TWO_SENDERS, scenario_of};
-use std::test::Fail;
+use std::random::RandomSource;
+use std::sync::Wait;
+use std::thread::Threads;
 use window_run::Gate;
 use window_workers::RunError;
+
+/// A receiver between two senders.
+const TWO_SENDERS: &str =
+    "version = 1\nend = 9\n[medium]\nrange = 5\nbase = 2\nper = 100\n[programs]\ns = \"process a; autostart a; code a { body { send (self + 5); } }\"\nr = \"process r; autostart r; receiver r; code r { body { while 1 { yield; if is(packet) { print from; print data; } } } }\"\n[[mote]]\nx = 0\ny = 0\nprogram = \"s\"\n[[mote]]\nx = 5\ny = 0\nprogram = \"r\"\n[[mote]]\nx = 10\ny = 0\nprogram = \"s\"\n";
 
 /// A gate that lets no thread of one worker start.
 #[derive(Clone, Copy)]
@@ -21,22 +26,26 @@ impl Gate for Shut {
     }
 }
 
+/// Whether two workers, of which this one isn't let start, answer `Thread`, and nothing is written.
+fn is_refused<T>(rt: &T, worker: u16, cut: CutKind) -> bool
+where
+    T: AllocGlobal + Threads + Wait + RandomSource + Sync,
+{
+    let options = Options {
+        workers: Some(2),
+        cut,
+    };
+    let gate = Shut { worker };
+    let mut output = Vec::new(rt.alloc());
+    let mut input = TWO_SENDERS.as_bytes();
+    let answer = simulate(rt, rt.alloc(), &mut input, &mut output, &options, &gate);
+    matches!(answer, Err(SimError::Run(RunError::Thread))) && output.is_empty()
+}
+
 #[test]
-fn nothing_is_written(rt: HostRuntime) -> Result<(), Fail> {
-    let scenario = scenario_of(rt.alloc(), &TWO_SENDERS)?;
+fn nothing_is_written(rt: HostRuntime) {
     for worker in [0, 1u16] {
-        for cut in [CutKind::Block, CutKind::Stripe] {
-            let options = Options {
-                workers: Some(2),
-                cut,
-            };
-            let gate = Shut { worker };
-            let mut output = Vec::new(rt.alloc());
-            let mut input = scenario.as_bytes();
-            let answer = simulate(&rt, rt.alloc(), &mut input, &mut output, &options, &gate);
-            assert_eq!(rt; answer, Err(SimError::Run(RunError::Thread)));
-            assert!(rt; output.is_empty());
-        }
+        assert!(rt; is_refused(&rt, worker, CutKind::Block), "{worker}");
+        assert!(rt; is_refused(&rt, worker, CutKind::Stripe), "{worker}");
     }
-    Ok(())
 }

@@ -4,13 +4,11 @@ use crate::command::simulate_asked;
 use crate::command_line::{Asked, asked_by};
 use crate::options::{CutKind, Options};
 use crate::tests::{PRINT_THEN_YIELD, PRINT_THEN_YIELD_REPORT};
-use std::process::Abort;
 use std::random::RandomSource;
 use std::rt::Files;
 use std::sync::Wait;
 use std::sync::atomic::AtomicU64;
 use std::sync::atomic::Ordering::SeqCst;
-use std::test::Fail;
 use std::thread::Threads;
 use window_run::Gate;
 
@@ -29,42 +27,51 @@ impl Gate for Starts {
     }
 }
 
-/// One mote with one turn, so one window, in which each worker that there is gets a thread.
-fn expect_starts<T>(rt: &T, asked: &Asked<'_>, starts: u64) -> Result<(), Fail>
+/// How many starts are asked for where the report is due and comes. It is one mote with one turn, so one window, in which
+/// each worker that there is gets a thread.
+fn starts<T>(rt: &T, asked: &Asked<'_>) -> Option<u64>
 where
-    T: AllocGlobal + Files + Threads + Wait + RandomSource + Sync + Abort,
+    T: AllocGlobal + Files + Threads + Wait + RandomSource + Sync,
 {
     let gate = Starts {
         asked: AtomicU64::new(0),
     };
     let mut input = PRINT_THEN_YIELD.as_bytes();
     let mut output = Vec::new(rt.alloc());
-    simulate_asked(rt, asked, &mut input, &mut output, &gate)?;
-    assert_eq!(rt; gate.asked.load(SeqCst), starts, "{asked:?}");
-    assert_eq!(rt; output.as_slice(), PRINT_THEN_YIELD_REPORT.as_bytes());
-    Ok(())
+    let answer = simulate_asked(rt, asked, &mut input, &mut output, &gate);
+    if answer.is_ok() && output.as_slice() == PRINT_THEN_YIELD_REPORT.as_bytes() {
+        Some(gate.asked.load(SeqCst))
+    } else {
+        None
+    }
 }
 
 #[test]
-fn workers_of_the_options(rt: HostRuntime) -> Result<(), Fail> {
-    for (workers, starts) in [(None, 0), (Some(1), 1), (Some(3), 3), (Some(16), 16)] {
+fn workers_of_the_options(rt: HostRuntime) {
+    for (workers, wanted) in [(None, 0), (Some(1), 1), (Some(3), 3), (Some(16), 16)] {
         for cut in [CutKind::Block, CutKind::Stripe] {
             let options = Options { workers, cut };
-            expect_starts(
-                &rt,
-                &Asked {
-                    file: None,
-                    options,
-                },
-                starts,
-            )?;
+            let asked = Asked {
+                file: None,
+                options,
+            };
+            assert_eq!(rt; starts(&rt, &asked), Some(wanted), "{asked:?}");
         }
     }
-    Ok(())
+}
+
+/// The number of workers that these words ask for, and how many starts.
+fn starts_by<T>(rt: &T, words: &[&str]) -> Option<(Option<u16>, u64)>
+where
+    T: AllocGlobal + Files + Threads + Wait + RandomSource + Sync,
+{
+    let asked = asked_by(rt.alloc(), words).ok()?;
+    let starts = starts(rt, &asked)?;
+    Some((asked.options.workers, starts))
 }
 
 #[test]
-fn workers_of_the_words(rt: HostRuntime) -> Result<(), Fail> {
+fn workers_of_the_words(rt: HostRuntime) {
     let cases: [(&[&str], Option<u16>, u64); 6] = [
         (&["motesim"], None, 0),
         (&["motesim", "--cut", "stripe"], None, 0),
@@ -74,11 +81,6 @@ fn workers_of_the_words(rt: HostRuntime) -> Result<(), Fail> {
         (&["motesim", "--workers", "04"], Some(4), 4),
     ];
     for (words, workers, starts) in cases {
-        let Ok(asked) = asked_by(rt.alloc(), words) else {
-            return Err(Fail::from("the words have a fault"));
-        };
-        assert_eq!(rt; asked.options.workers, workers, "{words:?}");
-        expect_starts(&rt, &asked, starts)?;
+        assert_eq!(rt; starts_by(&rt, words), Some((workers, starts)), "{words:?}");
     }
-    Ok(())
 }

@@ -1,0 +1,18 @@
+"""A text of 1,048,576 bytes, of which most are a comment."""
+
+
+def scenario():
+    text = """version = 1
+end = 5
+[medium]
+range = 10
+base = 1
+per = 100
+[programs]
+p = "process a; autostart a; code a { body { print 1; yield; print 2; } }"
+[[mote]]
+x = 0
+y = 0
+program = "p"
+"""
+    return text + '#' + (1048576 - len(text) - 1) * 'x'

@@ -1,0 +1,5 @@
+"""A byte too many, and none of them is a text."""
+
+
+def scenario():
+    return 1048577 * b'\xff'
