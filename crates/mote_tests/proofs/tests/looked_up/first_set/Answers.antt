@@ -2,7 +2,7 @@ use Rattle.std.proofs.Common.{◌<◌, length, sym, subst}
 use Rattle.mote_program.specs.Program.{tree_of, code_of}
 use Rattle.mote_program.specs.Tree.{block_of}
 use Rattle.program_laws.proofs.Callers.{first_set}
-use Rattle.program_laws.proofs.tests.first_set.Goals as goal
+use Rattle.mote_tests.proofs.tests.looked_up.first_set.Goals as goal
 
 -- the place is that of a variable, and there is a value for each
 pub bounds-starts-from : goal.bounds-starts-from

@@ -1,5 +1,4 @@
-//! Texts of programs whose faults and trees were told by hand. They stand one crate above the reader, since a crate with tests is
-//! proved twice, and the reader is the largest.
+//! Texts of programs whose faults and trees were told by hand.
 
 use mote_program::read;
 use std::alloc::Global;
