@@ -6,7 +6,7 @@ use Rattle.copy_inbox.specs.Handles.{InboxId, TakerView}
 use Rattle.copy_exchange.specs.declared.courier.Courier.{Courier}
 use Rattle.copy_exchange.specs.Couriers.{IsCourier, SetsOut, Together, Returns, AllReturn}
 use Rattle.copy_exchange.proofs.Lists.{each_map}
-use Rattle.copy_exchange.proofs.tests.a_window.Goals as goal
+use Rattle.net_tests.proofs.tests.exchange.a_window.Goals as goal
 
 -- these are all couriers, in order
 record Pair (cs : List Courier) (a b : Courier) : Type 0 where

@@ -6,7 +6,9 @@ ghost use Rattle.copy_inbox.specs.Handles.{TakerView};
 ghost use Rattle.copy_exchange.specs.Couriers.{IsCourier, SetsOut, Returns};
 ghost use Rattle.copy_exchange.specs.Inboxes.{Settled};
 
-use super::*;
+use copy_exchange::{
+    Courier, close_inboxes, couriers, gathered, known, make_inboxes, paired, parted,
+};
 use copy_inbox::{Inbox, InboxError, Taker};
 use radio_medium::RadioCopy;
 use std::alloc::Global;
@@ -84,7 +86,8 @@ fn known_in(inboxes: &[Inbox], takers: &[Taker]) -> (u64, u64)
     )
 }
 
-/// What is delivered in one window is taken in the next, and nothing else: not what the other worker delivers there before.
+/// What is delivered in one window is taken in the next, and nothing else: not what the other worker delivers
+/// there before.
 #[test]
 fn two_windows(rt: HostRuntime) -> Result<(), Fail> {
     let alloc = rt.alloc();

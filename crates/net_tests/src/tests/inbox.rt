@@ -1,8 +1,8 @@
-// Runs of an inbox, in one thread and in several.
+//! Runs of an inbox, in one thread and in several.
 
 ghost use Rattle.std.specs.Prelude.{◌≡◌};
 
-use super::*;
+use copy_inbox::{Inbox, InboxError, Sender, Taker};
 use radio_medium::RadioCopy;
 use std::alloc::Global;
 use std::sync::Wait;

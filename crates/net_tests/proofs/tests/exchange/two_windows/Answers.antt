@@ -4,7 +4,7 @@ use Rattle.copy_inbox.specs.Handles.{InboxId, TakerView, AllGathered}
 use Rattle.copy_exchange.specs.Inboxes.{Settled}
 use Rattle.copy_exchange.proofs.Lists.{each_map}
 use Rattle.copy_exchange.proofs.Windows.{fresh_settled}
-use Rattle.copy_exchange.proofs.tests.two_windows.Goals as goal
+use Rattle.net_tests.proofs.tests.exchange.two_windows.Goals as goal
 
 abbrev Ended : InboxId × TakerView → Type 0
 Ended pair = (pair.1.inbox ≡ pair.0) × AllGathered pair.1.desk

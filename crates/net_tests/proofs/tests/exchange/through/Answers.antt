@@ -8,7 +8,7 @@ use Rattle.copy_exchange.specs.Couriers.{Leaves}
 use Rattle.copy_exchange.proofs.Lists.{each_map}
 use Rattle.copy_exchange.proofs.Parts.{from-cons}
 use Rattle.copy_exchange.proofs.Windows.{returns_from}
-use Rattle.copy_exchange.proofs.tests.through.Goals as goal
+use Rattle.net_tests.proofs.tests.exchange.through.Goals as goal
 
 -- a copy of one worker's mote for the other's
 abbrev Across : (worker : ℕ) → RadioCopy → Type 0
