@@ -9,6 +9,3 @@ mod window;
 pub use courier::Courier;
 pub use inboxes::{close_inboxes, known, make_inboxes, paired, parted};
 pub use window::{couriers, gathered};
-
-#[cfg(test)]
-mod tests;

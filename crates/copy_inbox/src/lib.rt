@@ -7,6 +7,3 @@ mod items;
 mod rule;
 
 pub use inbox::{Inbox, InboxError, Sender, Taker};
-
-#[cfg(test)]
-mod tests;

@@ -4,6 +4,3 @@
 mod queue;
 
 pub use queue::{EventQueue, Full, Posted};
-
-#[cfg(test)]
-mod tests;

@@ -6,6 +6,3 @@ mod work;
 
 pub use fork::fork_join;
 pub use work::{Refused, Work};
-
-#[cfg(test)]
-mod tests;

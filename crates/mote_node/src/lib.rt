@@ -7,6 +7,3 @@ mod turn;
 
 pub use laws::{halted_rests, turns_rise, wakes_in_time, wakes_later};
 pub use mote::{Mote, MoteError, TurnOut};
-
-#[cfg(test)]
-mod tests;

@@ -9,6 +9,3 @@ mod timers;
 
 pub use callbacks::Callbacks;
 pub use timers::Timers;
-
-#[cfg(test)]
-mod tests;

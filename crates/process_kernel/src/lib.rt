@@ -23,6 +23,3 @@ mod timer;
 pub use kernel::{Kernel, KernelError, Ran};
 pub use laws::{halted_for_good, left_is_pending};
 pub use line::{Arrival, Line, Out, Sent, What};
-
-#[cfg(test)]
-mod tests;

@@ -26,6 +26,3 @@ pub use state::PtState;
 pub use step::{Op, Step};
 pub use thread::Thread;
 pub use vars::Vars;
-
-#[cfg(test)]
-mod tests;

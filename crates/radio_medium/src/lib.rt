@@ -16,6 +16,3 @@ pub use error::MediumError;
 pub use fate::Fate;
 pub use medium::Medium;
 pub use place::{Loss, Place};
-
-#[cfg(test)]
-mod tests;

@@ -11,6 +11,3 @@ mod words;
 
 pub use error::PrintError;
 pub use report::write_report;
-
-#[cfg(test)]
-mod tests;

@@ -17,6 +17,3 @@ pub use out::WindowOut;
 pub use own::OwnWindow;
 pub use share::{Resident, Residents, ShareError};
 pub use worker::{ShareWindow, run_share};
-
-#[cfg(test)]
-mod tests;

@@ -1,0 +1,246 @@
+//! Kernels of whole programs, with their answers and lines worked by hand.
+
+use super::{SENDER, write_lines, write_sends};
+use mote_program::{Proc, Program, read};
+use process_kernel::{Arrival, Kernel, KernelError, Line, Out, Ran, What};
+use std::alloc::Global;
+use std::test::Fail;
+
+const RUNAWAY: &str =
+    "process a; autostart a; code a { var x = 0; body { while 1 { x = (x + 1); } } }";
+
+const RECEIVER: &str =
+    "process r; autostart r; receiver r; code r { body { while 1 { yield; if is(packet) { print from; print data; } } } }";
+
+const BUSY_FOR_EVER: &str =
+    "process a; autostart a; code a { var i = 0; body { while 1 { print i; send i; i = (i + 1); poll a; yield; } } }";
+
+/// The kernel of mote 7 with its program, and what it wrote.
+#[derive(Drop)]
+struct Bench {
+    program: Program,
+    kernel: Kernel,
+    out: Out,
+}
+
+/// What is done to a kernel.
+#[derive(Clone, Copy)]
+enum Act {
+    /// Its readers are asked: its number, and whether it is booted, halted and pending.
+    Look,
+    /// It is booted at moment 0.
+    Boot,
+    /// So many packets of mote 3 are put into its ring, with their numbers as their values.
+    Packets(u16),
+    /// A process is to be polled.
+    Poll(Proc),
+    /// It is run at this moment until nothing is left.
+    RunOut(u16),
+}
+
+fn new_bench(alloc: Global, text: &str) -> Result<Bench, Fail> {
+    let program = read(alloc, text)?;
+    let kernel = Kernel::new(alloc, &program, 7, 32)?;
+    let out = Out {
+        lines: Vec::new(alloc),
+        sends: Vec::new(alloc),
+    };
+    Ok(Bench {
+        program,
+        kernel,
+        out,
+    })
+}
+
+impl Bench {
+    fn boot(&mut self) -> Result<Ran, KernelError> {
+        self.kernel.boot(&self.program, 0, &mut self.out)
+    }
+
+    fn run(&mut self, now: u16) -> Result<Ran, KernelError> {
+        self.kernel
+            .run(&self.program, u64::from(now), &mut self.out)
+    }
+
+    /// The last answer of at most 64 runs at this moment.
+    fn run_out(&mut self, now: u16) -> Result<Ran, KernelError> {
+        for _ in 0..64u8 {
+            let ran = self.run(now)?;
+            if ran == Ran::Left(0) || ran == Ran::Halted {
+                return Ok(ran);
+            }
+        }
+        self.run(now)
+    }
+
+    /// How many of so many packets the ring takes.
+    fn packets_taken(&mut self, count: u16) -> u32 {
+        let mut taken = 0u32;
+        for number in 0..count {
+            let packet = Arrival {
+                sender: 3,
+                number: u64::from(number),
+                value: number,
+            };
+            taken = taken.wrapping_add(u32::from(self.kernel.accept_packet(packet)));
+        }
+        taken
+    }
+
+    fn write_look(&self, text: &mut String) -> Result<(), Fail> {
+        let number = self.kernel.number();
+        let booted = self.kernel.is_booted();
+        let halted = self.kernel.is_halted();
+        let pending = self.kernel.pending();
+        let next = self.kernel.next_expiration();
+        write!(text, "{number} {booted} {halted} {pending} {next:?}|")?;
+        Ok(())
+    }
+
+    /// Does it, and writes down what is answered.
+    fn write_act(&mut self, text: &mut String, act: Act) -> Result<(), Fail> {
+        match act {
+            Act::Look => self.write_look(text)?,
+            Act::Boot => {
+                let ran = self.boot()?;
+                write!(text, "{ran:?}|")?;
+            }
+            Act::Packets(count) => {
+                let taken = self.packets_taken(count);
+                write!(text, "{taken} taken|")?;
+            }
+            Act::Poll(process) => self.kernel.poll(process),
+            Act::RunOut(now) => {
+                let ran = self.run_out(now)?;
+                write!(text, "{ran:?}|")?;
+            }
+        }
+        Ok(())
+    }
+
+    /// Writes down the lines and packets since this was last done.
+    fn write_out(&mut self, text: &mut String) -> Result<(), Fail> {
+        write_lines(text, &self.out.lines)?;
+        write_sends(text, &self.out.sends)?;
+        self.out.lines.clear();
+        self.out.sends.clear();
+        Ok(())
+    }
+}
+
+/// Does all this to a new kernel, and writes down the answer to each and its lines and packets.
+fn write_acts(alloc: Global, text: &mut String, program: &str, acts: &[Act]) -> Result<(), Fail> {
+    let mut bench = new_bench(alloc, program)?;
+    for act in acts {
+        bench.write_act(text, *act)?;
+        bench.write_out(text)?;
+    }
+    Ok(())
+}
+
+/// What is written of that.
+fn told(alloc: Global, program: &str, acts: &[Act]) -> Result<String, Fail> {
+    let mut text = String::new(alloc);
+    write_acts(alloc, &mut text, program, acts)?;
+    Ok(text)
+}
+
+#[test]
+fn a_boot(rt: HostRuntime) -> Result<(), Fail> {
+    let told = told(rt.alloc(), SENDER, &[Act::Look, Act::Boot, Act::Look])?;
+    assert_eq!(rt;
+        told.as_str(),
+        "7 false false false None|Left(0)|0 Start(Etimer)|0 Start(Ctimer)|0 Start(Radio)|0 Start(Own(0))|0 Send(0, 12)|sent 0 7 0 12|7 true false false None|"
+    );
+    Ok(())
+}
+
+/// A mote that has halted stays so, and writes nothing more.
+#[test]
+fn halted_for_good(rt: HostRuntime) -> Result<(), Fail> {
+    let told = told(rt.alloc(), RUNAWAY, &[Act::Boot, Act::Look, Act::RunOut(1)])?;
+    assert_eq!(rt;
+        told.as_str(),
+        "Halted|0 Start(Etimer)|0 Start(Ctimer)|0 Start(Radio)|0 Start(Own(0))|0 Halt|7 true true false None|Halted|"
+    );
+    Ok(())
+}
+
+/// The ring holds eight packets, and the ninth and tenth are refused.
+#[test]
+fn ring_of_eight(rt: HostRuntime) -> Result<(), Fail> {
+    let acts = [
+        Act::Boot,
+        Act::Packets(10),
+        Act::Look,
+        Act::Poll(Proc::Radio),
+        Act::Look,
+        Act::RunOut(2),
+    ];
+    let told = told(rt.alloc(), RECEIVER, &acts)?;
+    assert_eq!(rt;
+        told.as_str(),
+        "Left(0)|0 Start(Etimer)|0 Start(Ctimer)|0 Start(Radio)|0 Start(Own(0))|8 taken|7 true false false None|7 true false true None|Left(0)|2 Post(0, One(Own(0)), 138, 0)|2 Post(1, One(Own(0)), 138, 1)|2 Post(2, One(Own(0)), 138, 2)|2 Post(3, One(Own(0)), 138, 3)|2 Post(4, One(Own(0)), 138, 4)|2 Post(5, One(Own(0)), 138, 5)|2 Post(6, One(Own(0)), 138, 6)|2 Post(7, One(Own(0)), 138, 7)|2 Take(0, Own(0))|2 Print(Own(0), 3)|2 Print(Own(0), 0)|2 Take(1, Own(0))|2 Print(Own(0), 3)|2 Print(Own(0), 1)|2 Take(2, Own(0))|2 Print(Own(0), 3)|2 Print(Own(0), 2)|2 Take(3, Own(0))|2 Print(Own(0), 3)|2 Print(Own(0), 3)|2 Take(4, Own(0))|2 Print(Own(0), 3)|2 Print(Own(0), 4)|2 Take(5, Own(0))|2 Print(Own(0), 3)|2 Print(Own(0), 5)|2 Take(6, Own(0))|2 Print(Own(0), 3)|2 Print(Own(0), 6)|2 Take(7, Own(0))|2 Print(Own(0), 3)|2 Print(Own(0), 7)|"
+    );
+    Ok(())
+}
+
+/// Nobody receives the packets of a program that has no receiver.
+#[test]
+fn deaf(rt: HostRuntime) -> Result<(), Fail> {
+    let acts = [
+        Act::Boot,
+        Act::Packets(1),
+        Act::Poll(Proc::Radio),
+        Act::RunOut(2),
+    ];
+    let told = told(rt.alloc(), SENDER, &acts)?;
+    assert_eq!(rt;
+        told.as_str(),
+        "Left(0)|0 Start(Etimer)|0 Start(Ctimer)|0 Start(Radio)|0 Start(Own(0))|0 Send(0, 12)|sent 0 7 0 12|1 taken|Left(0)|2 Deaf(3, 0)|"
+    );
+    Ok(())
+}
+
+/// A line that stands before those of the kernel.
+const BEFORE: Line = Line {
+    at: 9,
+    what: What::Lost(1, 2),
+};
+
+/// The first error of a boot and at most 50 runs.
+fn first_error(bench: &mut Bench) -> Option<KernelError> {
+    if let Err(error) = bench.boot() {
+        return Some(error);
+    }
+    for now in 1..50u16 {
+        if let Err(error) = bench.run(now) {
+            return Some(error);
+        }
+    }
+    None
+}
+
+/// The first error, and those of two runs after that.
+fn three_errors(bench: &mut Bench) -> [Option<KernelError>; 3] {
+    let first = first_error(bench);
+    let second = bench.run(60).err();
+    [first, second, bench.run(61).err()]
+}
+
+/// Whether each call fails that comes after one that found no memory, and what was written before is still there.
+fn fails_for_good(bench: &mut Bench) -> bool {
+    let errors = three_errors(bench);
+    let failed = Some(KernelError::Failed);
+    let kept = bench.out.lines.first().copied() == Some(BEFORE);
+    kept && (errors[0].is_none() || errors == [Some(KernelError::Memory), failed, failed])
+}
+
+/// With each allocation refused in turn this is looked at; with ample memory there is no error.
+#[test]
+fn refused_memory_is_for_good(rt: HostRuntime) -> Result<(), Fail> {
+    let mut bench = new_bench(rt.alloc(), BUSY_FOR_EVER)?;
+    bench.out.lines.push(BEFORE)?;
+    assert!(rt; fails_for_good(&mut bench));
+    Ok(())
+}

@@ -1,0 +1,124 @@
+//! Turns of motes, with their lines worked by hand.
+
+use super::{PRINT_THEN_YIELD, SENDER, write_lines, write_sends};
+use mote_node::{Mote, MoteError, TurnOut};
+use mote_program::{Program, read};
+use process_kernel::Arrival;
+use std::alloc::{AllocError, Global};
+use std::test::Fail;
+
+/// A mote with its program.
+#[derive(Drop)]
+struct Bench {
+    program: Program,
+    mote: Mote,
+}
+
+/// The moment of a turn, and the packet that arrives then, if there is one.
+type Turn = (u16, Option<Arrival>);
+
+const PACKET: Arrival = Arrival {
+    sender: 4,
+    number: 0,
+    value: 9,
+};
+
+fn new_bench(alloc: Global, text: &str) -> Result<Bench, Fail> {
+    let program = read(alloc, text)?;
+    let mote = Mote::new(alloc, 7, &program, 32)?;
+    Ok(Bench { program, mote })
+}
+
+impl Bench {
+    fn turn(&mut self, turn: Turn) -> Result<TurnOut, MoteError> {
+        let moment = u64::from(turn.0);
+        match turn.1 {
+            Some(packet) => self.mote.turn(&self.program, moment, &[packet]),
+            None => self.mote.turn(&self.program, moment, &[]),
+        }
+    }
+
+    /// Takes a turn, and writes down what it gives.
+    fn write_turn(&mut self, text: &mut String, turn: Turn) -> Result<(), AllocError> {
+        match self.turn(turn) {
+            Ok(out) => write_out(text, &out)?,
+            Err(error) => write!(text, "{error:?}|")?,
+        }
+        let wake = self.mote.wake();
+        write!(text, "{wake:?}|")
+    }
+}
+
+/// Writes down the lines and packets of a turn, and when the mote wakes next.
+fn write_out(text: &mut String, out: &TurnOut) -> Result<(), AllocError> {
+    write_lines(text, &out.lines)?;
+    write_sends(text, &out.sends)?;
+    let wake = out.wake;
+    write!(text, "wake {wake:?}|")
+}
+
+/// Takes these turns with a new mote, and writes down what each gives and when the mote says that it wakes next.
+fn write_turns(
+    alloc: Global,
+    text: &mut String,
+    program: &str,
+    turns: &[Turn],
+) -> Result<(), Fail> {
+    let mut bench = new_bench(alloc, program)?;
+    let wake = bench.mote.wake();
+    write!(text, "{wake:?}|")?;
+    for turn in turns {
+        bench.write_turn(text, *turn)?;
+    }
+    Ok(())
+}
+
+/// What is written of that.
+fn told(alloc: Global, program: &str, turns: &[Turn]) -> Result<String, Fail> {
+    let mut text = String::new(alloc);
+    write_turns(alloc, &mut text, program, turns)?;
+    Ok(text)
+}
+
+/// A turn at a moment that isn't above the last turn's is refused, and the next one that is above it isn't.
+#[test]
+fn moments_rise(rt: HostRuntime) -> Result<(), Fail> {
+    let turns = [(0, None), (0, None), (1, None)];
+    let told = told(rt.alloc(), PRINT_THEN_YIELD, &turns)?;
+    assert_eq!(rt;
+        told.as_str(),
+        "Some(0)|0 Start(Etimer)|0 Start(Ctimer)|0 Start(Radio)|0 Start(Own(0))|0 Print(Own(0), 1)|wake None|None|Past|None|wake None|None|"
+    );
+    Ok(())
+}
+
+#[test]
+fn mote_by_hand(rt: HostRuntime) -> Result<(), Fail> {
+    let turns = [(0, None), (2, Some(PACKET))];
+    let told = told(rt.alloc(), SENDER, &turns)?;
+    assert_eq!(rt;
+        told.as_str(),
+        "Some(0)|0 Start(Etimer)|0 Start(Ctimer)|0 Start(Radio)|0 Start(Own(0))|0 Send(0, 12)|sent 0 7 0 12|wake None|None|2 Recv(4, 0, 9)|2 Deaf(4, 0)|wake None|None|"
+    );
+    Ok(())
+}
+
+/// Whether a mote whose turn found no memory fails for good, and never wakes.
+fn fails_for_good(bench: &mut Bench) -> bool {
+    match bench.turn((0, Some(PACKET))).err() {
+        Some(MoteError::Memory) => {
+            let later = bench.turn((1, None)).err();
+            later == Some(MoteError::Failed) && bench.mote.wake().is_none()
+        }
+        Some(_) => false,
+        None => bench.mote.wake().is_none(),
+    }
+}
+
+/// With each allocation refused in turn this is looked at; with ample memory the turn succeeds.
+#[test]
+fn a_refused_turn_fails_for_good(rt: HostRuntime) -> Result<(), Fail> {
+    let mut bench = new_bench(rt.alloc(), SENDER)?;
+    assert!(rt; fails_for_good(&mut bench));
+    Ok(())
+}

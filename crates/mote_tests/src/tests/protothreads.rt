@@ -1,0 +1,425 @@
+//! Whole protothreads, by `advance` alone.
+
+ghost use Rattle.std.specs.Prelude.{[], ◌∷◌};
+
+use mote_program::{Event, ProcessText, read};
+use protothread::{Fuel, Look, Op, Part, PtState, Semaphore, Step, Thread, Vars};
+use std::alloc::{AllocError, Global};
+use std::test::Fail;
+
+/// One fixed state of a mote: one timer that nobody owns, one process that runs, and one semaphore.
+#[derive(Clone, Copy)]
+struct Fixed {
+    moment: u64,
+    mote: u16,
+    timer: u16,
+    process: u8,
+    count: u16,
+}
+
+const FIXED: Fixed = Fixed {
+    moment: 65_541,
+    mote: 9,
+    timer: 6,
+    process: 2,
+    count: 4,
+};
+
+impl Look for Fixed {
+    ghost looks = { λ f. record { moment = f.moment; mote = f.mote; expired = f.timer ∷ []; running = f.process ∷ []; counts = f.count ∷ [] } };
+
+    fn now(&self) -> u16 {
+        (self.moment % 65_536) as u16
+    }
+
+    fn mote(&self) -> u16 {
+        self.mote
+    }
+
+    fn expired(&self, timer: u16) -> bool {
+        timer == self.timer
+    }
+
+    fn running(&self, process: u8) -> bool {
+        process == self.process
+    }
+
+    fn count(&self, semaphore: u8) -> u16 {
+        if semaphore == 0 { self.count } else { 0 }
+    }
+}
+
+/// What is done with a thread of a program's first process.
+#[derive(Clone, Copy)]
+enum Act {
+    /// It is advanced with an event of this number and word, which mote 3 sent.
+    Event(u8, u16),
+    /// What it asked for is answered.
+    Answer(u16),
+    /// A thread of this part, at its beginning, takes its place.
+    Begin(Part),
+    /// It has so many units from now on.
+    Units(u32),
+}
+
+/// INIT of `process.h`.
+const INIT: Act = Act::Event(0x81, 0);
+
+/// MSG of `process.h`, with a word.
+const fn message(word: u16) -> Act {
+    Act::Event(0x86, word)
+}
+
+/// A thread with its variables and units.
+#[derive(Drop)]
+struct Bench {
+    thread: Thread,
+    vars: Vars,
+    fuel: Fuel,
+}
+
+impl Bench {
+    fn advance(&mut self, code: &ProcessText, number: u8, word: u16) -> Step {
+        let event = Event {
+            number,
+            word,
+            sender: 3,
+        };
+        self.thread
+            .advance(code, &event, &mut self.vars, &FIXED, &mut self.fuel)
+    }
+
+    /// Does it, and writes down each step with the units that are left.
+    fn write_act(
+        &mut self,
+        text: &mut String,
+        code: &ProcessText,
+        act: Act,
+    ) -> Result<(), AllocError> {
+        match act {
+            Act::Event(number, word) => {
+                let step = self.advance(code, number, word);
+                let left = self.fuel.left();
+                write!(text, "{step:?} {left}|")?;
+            }
+            Act::Answer(answer) => self.thread.answer(&mut self.vars, answer),
+            Act::Begin(part) => self.thread = Thread::fresh(part),
+            Act::Units(units) => self.fuel = Fuel::new(units),
+        }
+        Ok(())
+    }
+}
+
+/// Does all this with a thread of the body, and writes down its steps.
+fn write_acts(
+    text: &mut String,
+    code: &ProcessText,
+    units: u32,
+    acts: &[Act],
+) -> Result<(), AllocError> {
+    let mut bench = Bench {
+        thread: Thread::fresh(Part::Body),
+        vars: Vars::new(code),
+        fuel: Fuel::new(units),
+    };
+    for act in acts {
+        bench.write_act(text, code, *act)?;
+    }
+    Ok(())
+}
+
+/// What is written of that.
+fn told(alloc: Global, program: &str, units: u32, acts: &[Act]) -> Result<String, Fail> {
+    let program = read(alloc, program)?;
+    let mut text = String::new(alloc);
+    if program.processes() > 0 {
+        write_acts(&mut text, program.process(0), units, acts)?;
+    }
+    Ok(text)
+}
+
+#[test]
+fn states_have_their_numbers(rt: HostRuntime) {
+    for (state, number, scheduled) in [
+        (PtState::Waiting, 0, true),
+        (PtState::Yielded, 1, true),
+        (PtState::Exited, 2, false),
+        (PtState::Ended, 3, false),
+    ] {
+        assert!(rt; state.number() == number && state.scheduled() == scheduled);
+    }
+}
+
+#[test]
+fn looks_are_of_one_state(rt: HostRuntime) {
+    assert!(rt; FIXED.now() == 5 && FIXED.mote() == 9 && FIXED.count(0) == 4);
+    assert!(rt; FIXED.expired(6) && !FIXED.expired(7));
+    assert!(rt; FIXED.running(2) && !FIXED.running(0));
+}
+
+#[test]
+fn goes_from_wait_to_wait(rt: HostRuntime) -> Result<(), Fail> {
+    let program = "process a; code a { body { print 1; yield; print 2; } }";
+    let told = told(rt.alloc(), program, 100, &[INIT; 5])?;
+    assert_eq!(rt;
+        told.as_str(),
+        "Op(Print(1)) 99|Done(Yielded) 98|Op(Print(2)) 96|Done(Ended) 96|Op(Print(1)) 95|"
+    );
+    Ok(())
+}
+
+/// The first event has the word 0 already, and the thread yields nevertheless.
+#[test]
+fn yield_until_yields_once_at_least(rt: HostRuntime) -> Result<(), Fail> {
+    let program = "process a; code a { body { yield_until (data == 0); print 1; } }";
+    let acts = [message(0), message(1), message(0), message(0)];
+    let told = told(rt.alloc(), program, 100, &acts)?;
+    assert_eq!(rt;
+        told.as_str(),
+        "Done(Yielded) 99|Done(Yielded) 98|Op(Print(1)) 96|Done(Ended) 96|"
+    );
+    Ok(())
+}
+
+/// The loop ends no sooner with more units. What its variable has, `onexit` prints.
+#[test]
+fn an_endless_loop_runs_away(rt: HostRuntime) -> Result<(), Fail> {
+    let program =
+        "process a; code a { var x = 0; onexit { print x; } body { while 1 { x = (x + 1); } } }";
+    let acts = [INIT, Act::Units(100), INIT, Act::Begin(Part::OnExit), INIT];
+    let told = told(rt.alloc(), program, 9_996, &acts)?;
+    assert_eq!(rt; told.as_str(), "Runaway 0|Runaway 100|Op(Print(4998)) 99|");
+    Ok(())
+}
+
+/// Of 10,000 units the first call at boot has 9,996: the three system processes and the process itself were called.
+#[test]
+fn a_loop_ends_within_its_units(rt: HostRuntime) -> Result<(), Fail> {
+    let program =
+        "process a; code a { var i = 0; body { while (i < 4996) { i = (i + 1); } print i; yield; } }";
+    let told = told(rt.alloc(), program, 9_996, &[INIT; 2])?;
+    assert_eq!(rt; told.as_str(), "Op(Print(4996)) 2|Done(Yielded) 1|");
+    Ok(())
+}
+
+/// With one pass more there are no units left to yield.
+#[test]
+fn a_loop_ends_without_units(rt: HostRuntime) -> Result<(), Fail> {
+    let program =
+        "process a; code a { var i = 0; body { while (i < 4997) { i = (i + 1); } print i; yield; } }";
+    let told = told(rt.alloc(), program, 9_996, &[INIT; 2])?;
+    assert_eq!(rt; told.as_str(), "Op(Print(4997)) 0|Runaway 0|");
+    Ok(())
+}
+
+#[test]
+fn an_if_has_two_ways(rt: HostRuntime) -> Result<(), Fail> {
+    let program =
+        "process a; code a { body { if 0 { print 1; } else { print 2; } if 7 { print 3; } else { print 4; } if 0 { print 5; } print 6; } }";
+    let told = told(rt.alloc(), program, 10, &[INIT; 4])?;
+    assert_eq!(rt;
+        told.as_str(),
+        "Op(Print(2)) 8|Op(Print(3)) 6|Op(Print(6)) 4|Done(Ended) 4|"
+    );
+    Ok(())
+}
+
+const COUNTER: &str = "process a; code a { var n = 5; body { n = (n + 1); yield; print n; } }";
+
+#[test]
+fn variables_outlive_the_body(rt: HostRuntime) -> Result<(), Fail> {
+    let told = told(rt.alloc(), COUNTER, 10, &[INIT; 5])?;
+    assert_eq!(rt;
+        told.as_str(),
+        "Done(Yielded) 8|Op(Print(6)) 6|Done(Ended) 6|Done(Yielded) 4|Op(Print(7)) 2|"
+    );
+    Ok(())
+}
+
+/// The first value of a process's only variable.
+fn first_value(code: &ProcessText) -> Option<u16> {
+    if code.starts().len() != 1 {
+        return None;
+    }
+    Some(Vars::new(code).get(0))
+}
+
+#[test]
+fn a_first_value(rt: HostRuntime) -> Result<(), Fail> {
+    let program = read(rt.alloc(), COUNTER)?;
+    assert!(rt; program.processes() == 1);
+    assert!(rt; first_value(program.process(0)) == Some(5));
+    Ok(())
+}
+
+/// A loop of a loop that waits inside an `if`, three levels deep.
+#[test]
+fn goes_on_where_it_stood(rt: HostRuntime) -> Result<(), Fail> {
+    let program =
+        "process a; code a { var i = 0; body { while (i < 2) { i = (i + 1); if (i == 2) { print 8; } else { while data { yield; print i; } } print 9; } } }";
+    let acts = [
+        message(1),
+        message(1),
+        message(1),
+        message(0),
+        message(0),
+        message(0),
+        message(0),
+        message(0),
+    ];
+    let told = told(rt.alloc(), program, 100, &acts)?;
+    assert_eq!(rt;
+        told.as_str(),
+        "Done(Yielded) 95|Op(Print(1)) 93|Done(Yielded) 91|Op(Print(1)) 89|Op(Print(9)) 87|Op(Print(8)) 83|Op(Print(9)) 82|Done(Ended) 81|"
+    );
+    Ok(())
+}
+
+/// What a thread of the body prints at once, for the only unit that it has.
+fn printed(code: &ProcessText) -> Option<u16> {
+    let mut bench = Bench {
+        thread: Thread::fresh(Part::Body),
+        vars: Vars::new(code),
+        fuel: Fuel::new(1),
+    };
+    match bench.advance(code, 0x86, 258) {
+        Step::Op(Op::Print(value)) if bench.fuel.left() == 0 => Some(value),
+        _ => None,
+    }
+}
+
+/// The value of an expression, as it is printed.
+fn value_of(alloc: Global, expression: &str) -> Result<Option<u16>, Fail> {
+    let text = format!(in alloc; "process a; code a {{ body {{ print {expression}; }} }}")?;
+    let program = read(alloc, text.as_str())?;
+    if program.processes() == 0 {
+        return Ok(None);
+    }
+    Ok(printed(program.process(0)))
+}
+
+#[test]
+fn values_are_of_16_bits(rt: HostRuntime) -> Result<(), Fail> {
+    for (expression, value) in [
+        ("(65535 + 2)", 1),
+        ("(1 - 2)", 65_535),
+        ("(257 * 256)", 256),
+        ("(7 / 2)", 3),
+        ("(7 / 0)", 0),
+        ("(7 % 4)", 3),
+        ("(7 % 0)", 0),
+        ("(2 == 2)", 1),
+        ("(2 != 2)", 0),
+        ("(2 < 3)", 1),
+        ("(3 <= 2)", 0),
+        ("(3 > 3)", 0),
+        ("(3 >= 3)", 1),
+        ("(2 && 4)", 1),
+        ("(2 && 0)", 0),
+        ("(0 || 4)", 1),
+        ("(0 || 0)", 0),
+        ("!0", 1),
+        ("!5", 0),
+        ("data", 258),
+        ("from", 3),
+        ("now", 5),
+        ("self", 9),
+    ] {
+        assert!(rt;
+            value_of(rt.alloc(), expression)? == Some(value),
+            "{expression}"
+        );
+    }
+    Ok(())
+}
+
+#[test]
+fn a_semaphore_wraps(rt: HostRuntime) {
+    let mut semaphore = Semaphore::new(0);
+    assert!(rt; !semaphore.take() && semaphore.count() == 0);
+    for _ in 0..65_536u32 {
+        semaphore.signal();
+    }
+    assert!(rt; semaphore.count() == 0);
+    semaphore.signal();
+    assert!(rt; semaphore.take() && !semaphore.take());
+}
+
+/// The three calls of the body answer 0, 0 and 3. Each later call pays for the two spawns that it passes.
+#[test]
+fn spawn_and_restart(rt: HostRuntime) -> Result<(), Fail> {
+    let program =
+        "process a; autostart a; code a { var n = 0; thread c { n = (n + 1); if (n == 1) { poll a; yield; poll a; restart; } print n; exit; print 8; } thread d { spawn c; print 7; } body { spawn d; print 6; } }";
+    let told = told(rt.alloc(), program, 100, &[INIT; 8])?;
+    assert_eq!(rt;
+        told.as_str(),
+        "Op(Poll(Own(0))) 95|Done(Waiting) 94|Op(Poll(Own(0))) 90|Done(Waiting) 89|Op(Print(2)) 84|Op(Print(7)) 82|Op(Print(6)) 81|Done(Ended) 81|"
+    );
+    Ok(())
+}
+
+/// The answer of the post isn't asked for, and any CONTINUE ends the wait.
+#[test]
+fn a_pause_waits_for_continue(rt: HostRuntime) -> Result<(), Fail> {
+    let program = "process a; code a { var v = 7; body { pause; print v; exit; print 9; } }";
+    let go_on = Act::Event(0x85, 3);
+    let acts = [INIT, Act::Answer(1), INIT, INIT, go_on, go_on];
+    let told = told(rt.alloc(), program, 10, &acts)?;
+    assert_eq!(rt;
+        told.as_str(),
+        "Op(Post(One(Own(0)), 133, 0)) 9|Done(Yielded) 9|Done(Yielded) 8|Op(Print(7)) 6|Done(Exited) 5|"
+    );
+    Ok(())
+}
+
+/// Only the variable behind `into` is told the answer.
+#[test]
+fn an_answer_goes_into_its_variable(rt: HostRuntime) -> Result<(), Fail> {
+    let program =
+        "event e; process a, b; code a { var v = 7; body { post b e 5 into v; print v; broadcast msg 6; print v; synch b exit 2; } } code b { body { } }";
+    let acts = [INIT, Act::Answer(1), INIT, INIT, Act::Answer(0), INIT, INIT];
+    let told = told(rt.alloc(), program, 10, &acts)?;
+    assert_eq!(rt;
+        told.as_str(),
+        "Op(Post(One(Own(1)), 139, 5)) 9|Op(Print(1)) 8|Op(Post(All, 134, 6)) 7|Op(Print(1)) 6|Op(Synch(Own(1), 131, 2)) 5|"
+    );
+    Ok(())
+}
+
+/// The look has a count of 4 for semaphore 0, and of 0 for any other.
+#[test]
+fn acquire_waits_at_0(rt: HostRuntime) -> Result<(), Fail> {
+    let program =
+        "semaphore s = 4; semaphore t = 0; process a; code a { body { acquire s; signal t; acquire t; } }";
+    let told = told(rt.alloc(), program, 10, &[INIT; 4])?;
+    assert_eq!(rt;
+        told.as_str(),
+        "Op(Take(0)) 9|Op(Signal(1)) 8|Done(Waiting) 7|Done(Waiting) 6|"
+    );
+    Ok(())
+}
+
+/// A part that the text lacks is an empty block.
+#[test]
+fn absent_parts_are_empty(rt: HostRuntime) -> Result<(), Fail> {
+    let program =
+        "process a; code a { ctimer c { print 5; } onexit { print 6; } body { print 7; } }";
+    let acts = [
+        Act::Begin(Part::OnPoll),
+        INIT,
+        Act::Begin(Part::Callback(1)),
+        INIT,
+        Act::Begin(Part::Callback(0)),
+        INIT,
+        Act::Begin(Part::OnExit),
+        INIT,
+        Act::Begin(Part::Body),
+        INIT,
+    ];
+    let told = told(rt.alloc(), program, 10, &acts)?;
+    assert_eq!(rt;
+        told.as_str(),
+        "Done(Ended) 10|Done(Ended) 10|Op(Print(5)) 9|Op(Print(6)) 8|Op(Print(7)) 7|"
+    );
+    Ok(())
+}

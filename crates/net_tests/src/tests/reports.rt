@@ -1,0 +1,204 @@
+//! Reports with their texts, worked by hand.
+
+ghost use Rattle.std.specs.Prelude.{◌≡◌, length, IfOk, vec_len};
+ghost use Rattle.net_scenario.specs.Net.{net_of};
+
+use mote_program::{Proc, Target};
+use net_report::{LogLine, Report};
+use net_scenario::{Net, read_scenario};
+use process_kernel::{Line, Sent, What};
+use radio_medium::Fate;
+use std::alloc::{AllocError, Global};
+use std::test::Fail;
+use trace_printer::{PrintError, write_report};
+
+/// One mote, whose program has two events and two processes.
+const TWO_PROCESSES: &str =
+    "version = 1\nend = 5\n[medium]\nrange = 10\nbase = 1\nper = 100\n[programs]\np = \"event e; event f; process a, b; code a { body { } } code b { body { } }\"\n[[mote]]\nx = 0\ny = 0\nprogram = \"p\"\n";
+
+/// Two motes with programs of their own.
+const TWO_MOTES: &str =
+    "version = 1\nend = 5\n[medium]\nrange = 10\nbase = 1\nper = 100\n[programs]\np = \"process a; code a { body { } }\"\nq_2 = \"process c; code c { body { } }\"\n[[mote]]\nx = 0\ny = 0\nprogram = \"p\"\n[[mote]]\nx = 0\ny = 0\nprogram = \"q_2\"\n";
+
+const A: Proc = Proc::Own(0);
+
+const ALL: Target = Target::All;
+
+fn line(at: u64, what: What) -> Line {
+    Line { at, what }
+}
+
+/// The report of one mote with this trace.
+pub(crate) fn report_of_one(alloc: Global, trace: &[Line]) -> Result<Report, AllocError>
+    ensures { IfOk result (λ r. vec_len r.traces ≡ 1) }
+{
+    let trace = Vec::from_slice(alloc, trace)?;
+    let mut traces = Vec::new(alloc);
+    traces.push(trace)?;
+    Ok(Report {
+        traces,
+        medium: Vec::new(alloc),
+        left: 0,
+    })
+}
+
+/// Whether a report is written as this text.
+fn is_written(alloc: Global, net: &Net, report: &Report, text: &str) -> Result<bool, PrintError>
+    requires { vec_len report.now.traces ≡ length (net_of net.now).motes }
+{
+    let mut output = Vec::new(alloc);
+    write_report(alloc, net, report, &mut output)?;
+    Ok(output.as_slice() == text.as_bytes())
+}
+
+/// Whether the trace of one mote is written as these lines.
+fn is_trace(alloc: Global, net: &Net, trace: &[Line], lines: &str) -> Result<bool, Fail>
+    requires { length (net_of net.now).motes ≡ 1 }
+{
+    let report = report_of_one(alloc, trace)?;
+    let text = format!(in alloc; "mote 0 p\n{lines}medium\nleft 0\n")?;
+    Ok(is_written(alloc, net, &report, text.as_str())?)
+}
+
+#[test]
+fn lines_of_processes(rt: HostRuntime) -> Result<(), Fail> {
+    let net = read_scenario(rt.alloc(), TWO_PROCESSES)?;
+    assert!(rt; net.motes() == 1);
+    let trace = [
+        line(0, What::Start(A)),
+        line(0, What::Start(Proc::Etimer)),
+        line(0, What::Start(Proc::Ctimer)),
+        line(0, What::Start(Proc::Radio)),
+        line(5, What::Leave(A)),
+        line(2, What::Print(A, 192)),
+        line(0, What::Busy(Proc::Own(1))),
+        line(0, What::Halt),
+    ];
+    let lines =
+        "0 start a\n0 start etimer\n0 start ctimer\n0 start radio\n5 leave a\n2 print a 192\n0 busy b\n0 halt\n";
+    assert!(rt; is_trace(rt.alloc(), &net, &trace, lines)?);
+    Ok(())
+}
+
+#[test]
+fn lines_of_events(rt: HostRuntime) -> Result<(), Fail> {
+    let net = read_scenario(rt.alloc(), TWO_PROCESSES)?;
+    assert!(rt; net.motes() == 1);
+    let to_a = Target::One(A);
+    let trace = [
+        line(0, What::Post(0, to_a, 0x86, 7)),
+        line(0, What::Post(3, ALL, 0x89, 7)),
+        line(2, What::Post(1, Target::One(Proc::Ctimer), 0x88, 1)),
+        line(0, What::Full(to_a, 0x86, 32)),
+        line(0, What::Take(32, A)),
+        line(0, What::Drop(0, Proc::Radio)),
+    ];
+    let lines =
+        "0 post 0 a msg 7\n0 post 3 all com 7\n2 post 1 ctimer timer 1\n0 full a msg 32\n0 take 32 a\n0 drop 0 radio\n";
+    assert!(rt; is_trace(rt.alloc(), &net, &trace, lines)?);
+    Ok(())
+}
+
+#[test]
+fn words_of_events(rt: HostRuntime) -> Result<(), Fail> {
+    let net = read_scenario(rt.alloc(), TWO_PROCESSES)?;
+    assert!(rt; net.motes() == 1);
+    let trace = [
+        line(0, What::Full(ALL, 0x81, 0)),
+        line(0, What::Full(ALL, 0x82, 0)),
+        line(0, What::Full(ALL, 0x83, 0)),
+        line(0, What::Full(ALL, 0x85, 0)),
+        line(0, What::Full(ALL, 0x87, 1)),
+        line(0, What::Full(ALL, 0x8a, 5)),
+        line(0, What::Full(ALL, 0x8c, 9)),
+    ];
+    let lines =
+        "0 full all init 0\n0 full all poll 0\n0 full all exit 0\n0 full all continue 0\n0 full all exited 1\n0 full all packet 5\n0 full all f 9\n";
+    assert!(rt; is_trace(rt.alloc(), &net, &trace, lines)?);
+    Ok(())
+}
+
+#[test]
+fn lines_of_packets(rt: HostRuntime) -> Result<(), Fail> {
+    let net = read_scenario(rt.alloc(), TWO_PROCESSES)?;
+    assert!(rt; net.motes() == 1);
+    let trace = [
+        line(0, What::Send(0, 5)),
+        line(2, What::Recv(2, 0, 7)),
+        line(3, What::Lost(0, 8)),
+        line(2, What::Deaf(4, 0)),
+        line(2, What::Collide(2, 0)),
+    ];
+    let lines = "0 send 0 5\n2 recv 2 0 7\n3 lost 0 8\n2 deaf 4 0\n2 collide 2 0\n";
+    assert!(rt; is_trace(rt.alloc(), &net, &trace, lines)?);
+    Ok(())
+}
+
+/// The traces of a mote that halts and one that ends.
+fn two_traces(alloc: Global) -> Result<Vec<Vec<Line>>, AllocError>
+    ensures { IfOk result (λ traces. vec_len traces ≡ 2) }
+{
+    let first = Vec::from_slice(alloc, &[line(0, What::Start(A)), line(0, What::Halt)])?;
+    let second = Vec::from_slice(
+        alloc,
+        &[
+            line(0, What::Print(A, 65535)),
+            line(1000000, What::Leave(A)),
+            line(1000000, What::Leave(Proc::Radio)),
+        ],
+    )?;
+    Ok(vec![in alloc; first, second]?)
+}
+
+fn log_line(alloc: Global, sent: Sent, fates: &[Fate]) -> Result<LogLine, AllocError> {
+    let fates = Vec::from_slice(alloc, fates)?;
+    Ok(LogLine { sent, fates })
+}
+
+/// A packet with a copy that arrives and one that is lost, and a packet that nobody hears.
+fn two_packets(alloc: Global) -> Result<Vec<LogLine>, AllocError> {
+    let heard = Sent {
+        at: 2,
+        sender: 1,
+        number: 0,
+        value: 9,
+    };
+    let unheard = Sent {
+        at: 7,
+        sender: 0,
+        number: 40,
+        value: 65535,
+    };
+    let fates = [Fate { to: 0, at: Some(5) }, Fate { to: 3, at: None }];
+    let first = log_line(alloc, heard, &fates)?;
+    let second = log_line(alloc, unheard, &[])?;
+    Ok(vec![in alloc; first, second]?)
+}
+
+fn report_of_two(alloc: Global) -> Result<Report, AllocError>
+    ensures { IfOk result (λ r. vec_len r.traces ≡ 2) }
+{
+    let traces = two_traces(alloc)?;
+    let medium = two_packets(alloc)?;
+    Ok(Report {
+        traces,
+        medium,
+        left: 12,
+    })
+}
+
+#[test]
+fn numbers_its_motes(rt: HostRuntime) -> Result<(), Fail> {
+    let net = read_scenario(rt.alloc(), TWO_MOTES)?;
+    assert!(rt; net.motes() == 2);
+    let report = report_of_two(rt.alloc())?;
+    let wanted =
+        "mote 0 p\n0 start a\n0 halt\nmote 1 q_2\n0 print c 65535\n1000000 leave c\n1000000 leave radio\nmedium\n2 1 0 9 0@5 3@lost\n7 0 40 65535\nleft 12\n";
+    assert!(rt; is_written(rt.alloc(), &net, &report, wanted)?);
+    Ok(())
+}
+
+#[test]
+fn faults_have_their_numbers(rt: HostRuntime) {
+    assert!(rt; PrintError::Write.number() == 1 && PrintError::Memory.number() == 2);
+}

@@ -1,0 +1,154 @@
+//! The windows of two motes of one worker.
+
+ghost use Rattle.std.specs.Prelude.{◌≡◌, ◌≤◌, ◌<◌, true, length, IfOk};
+ghost use Rattle.net_scenario.specs.Net.{net_of};
+ghost use Rattle.window_run.specs.Shares.{AreInNet};
+ghost use Rattle.window_run.specs.Window.{is_rising};
+
+use super::{write_lines, write_sends};
+use mote_node::{Mote, MoteError};
+use net_scenario::{Net, read_scenario};
+use radio_medium::RadioCopy;
+use std::alloc::{AllocError, Global};
+use std::random::RandomSource;
+use std::sync::Wait;
+use std::sync::atomic::AtomicU64;
+use std::sync::atomic::Ordering::SeqCst;
+use std::test::Fail;
+use window_run::{Gate, NoGate, Resident, Residents, ShareError, WindowOut, run_share};
+
+/// A mote that sends one packet, and one that hears it 2 moments later.
+const SENDER_AND_RECEIVER: &str =
+    "version = 1\nend = 9\n[medium]\nrange = 5\nbase = 2\nper = 100\n[programs]\ns = \"process a; autostart a; code a { body { send (self + 5); } }\"\nr = \"process r; autostart r; receiver r; code r { body { while 1 { yield; if is(packet) { print from; print data; } } } }\"\n[[mote]]\nx = 0\ny = 0\nprogram = \"s\"\n[[mote]]\nx = 5\ny = 0\nprogram = \"r\"\n";
+
+/// Two motes with a turn at every moment.
+const BUSY_PAIR: &str =
+    "version = 1\nend = 9\n[medium]\nrange = 10\nbase = 1\nper = 100\n[programs]\np = \"process a; autostart a; code a { body { poll a; while 1 { yield; poll a; } } }\"\n[[mote]]\nx = 0\ny = 0\nprogram = \"p\"\n[[mote]]\nx = 20\ny = 0\nprogram = \"p\"\n";
+
+/// A new mote of a net, with the copies that come to it.
+fn resident(
+    alloc: Global,
+    net: &Net,
+    number: u16,
+    copies: Vec<RadioCopy>,
+) -> Result<Resident, MoteError>
+    requires there { number < length (net_of net.now).motes }
+    requires rising { is_rising copies.items ≡ true }
+    ensures { IfOk result (λ resident. resident.number ≡ number) }
+{
+    let mote = Mote::new(alloc, number, net.program(number), 32)?;
+    Ok(Resident {
+        number,
+        mote,
+        copies,
+    })
+}
+
+/// One worker with motes 0 and 1 of a net, and the copies that come to mote 1.
+fn share_of_two(alloc: Global, net: &Net, copies: Vec<RadioCopy>) -> Result<Residents, ShareError>
+    requires there { 2 ≤ length (net_of net.now).motes }
+    requires rising { is_rising copies.items ≡ true }
+    ensures { IfOk result (λ share. AreInNet (net_of net.now) share.residents.items) }
+{
+    let mut residents = Vec::with_capacity(alloc, 2)?;
+    residents.push_reserved(resident(alloc, net, 0, Vec::new(alloc))?);
+    residents.push_reserved(resident(alloc, net, 1, copies)?);
+    Ok(Residents {
+        worker: 0,
+        residents,
+    })
+}
+
+/// The copy that comes to mote 1.
+fn one_copy(alloc: Global) -> Result<Vec<RadioCopy>, AllocError>
+    ensures { IfOk result (λ copies. is_rising copies.items ≡ true) }
+{
+    let copy = RadioCopy {
+        at: 2,
+        to: 1,
+        sender: 0,
+        number: 0,
+        value: 5,
+    };
+    Ok(vec![in alloc; copy]?)
+}
+
+/// What the two motes give, to one of which a copy comes.
+fn outs_with_a_copy<R: Wait + RandomSource + AllocGlobal>(
+    rt: &R,
+    net: &Net,
+) -> Result<Vec<WindowOut>, ShareError>
+    requires { 2 ≤ length (net_of net.now).motes }
+{
+    let copies = one_copy(rt.alloc())?;
+    let share = share_of_two(rt.alloc(), net, copies)?;
+    run_share(rt, rt.alloc(), net, share, 5, &NoGate)
+}
+
+/// Writes down the lines and packets of each mote.
+fn write_outs(text: &mut String, outs: &[WindowOut]) -> Result<(), AllocError> {
+    for out in outs {
+        text.push_str("mote|")?;
+        write_lines(text, &out.lines)?;
+        write_sends(text, &out.sends)?;
+    }
+    Ok(())
+}
+
+/// What is written of them.
+fn told(alloc: Global, outs: &[WindowOut]) -> Result<String, AllocError> {
+    let mut text = String::new(alloc);
+    write_outs(&mut text, outs)?;
+    Ok(text)
+}
+
+#[test]
+fn a_share_of_two_motes(rt: HostRuntime) -> Result<(), Fail> {
+    let net = read_scenario(rt.alloc(), SENDER_AND_RECEIVER)?;
+    assert!(rt; net.motes() == 2);
+    let outs = outs_with_a_copy(&rt, &net)?;
+    let told = told(rt.alloc(), outs.as_slice())?;
+    assert_eq!(rt;
+        told.as_str(),
+        "mote|0 Start(Etimer)|0 Start(Ctimer)|0 Start(Radio)|0 Start(Own(0))|0 Send(0, 5)|0 Leave(Own(0))|sent 0 0 0 5|mote|0 Start(Etimer)|0 Start(Ctimer)|0 Start(Radio)|0 Start(Own(0))|2 Recv(0, 0, 5)|2 Post(0, One(Own(0)), 138, 5)|2 Take(0, Own(0))|2 Print(Own(0), 0)|2 Print(Own(0), 5)|"
+    );
+    Ok(())
+}
+
+/// Writes down the motes in the order of their turns, each as a digit.
+#[derive(Drop)]
+struct Diary {
+    motes: AtomicU64,
+}
+
+impl Gate for Diary {
+    fn inside(&self, _worker: u16, _moment: u64, mote: u16) {
+        let before = self.motes.load(SeqCst);
+        let after = before.wrapping_mul(10).wrapping_add(u64::from(mote) + 1);
+        self.motes.store(after, SeqCst);
+    }
+}
+
+/// The motes in the order of their turns at 0, 1 and 2, and how many give something.
+fn order_of_turns<R: Wait + RandomSource + AllocGlobal>(
+    rt: &R,
+    net: &Net,
+) -> Result<(u64, usize), ShareError>
+    requires { 2 ≤ length (net_of net.now).motes }
+{
+    let share = share_of_two(rt.alloc(), net, Vec::new(rt.alloc()))?;
+    let diary = Diary {
+        motes: AtomicU64::new(0),
+    };
+    let outs = run_share(rt, rt.alloc(), net, share, 3, &diary)?;
+    Ok((diary.motes.load(SeqCst), outs.len()))
+}
+
+/// The motes of one worker take their turns alternately.
+#[test]
+fn motes_alternate(rt: HostRuntime) -> Result<(), Fail> {
+    let net = read_scenario(rt.alloc(), BUSY_PAIR)?;
+    assert!(rt; net.motes() == 2);
+    assert!(rt; order_of_turns(&rt, &net)? == (121212, 2));
+    Ok(())
+}
