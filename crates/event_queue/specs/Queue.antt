@@ -1,7 +1,7 @@
 -- What a contract sees of an `EventQueue`.
 use Rattle.std.specs.Prelude.{ℕ, ◌+◌, List, [], ◌∷◌, ◌++◌, drop}
-use Rattle.mote_program.specs.declared.event.Event.{Event}
-use Rattle.mote_program.specs.declared.event.Target.{Target}
+use Rattle.program_tree.specs.declared.event.Event.{Event}
+use Rattle.program_tree.specs.declared.event.Target.{Target}
 use Rattle.event_queue.specs.declared.queue.Posted.{Posted}
 
 -- the events that wait, the oldest first, how many were ever accepted, and how many may wait

@@ -4,7 +4,7 @@ ghost use Rattle.std.specs.Prelude.{◌≡◌, ◌+◌, ◌^◌, ◌<◌, ◌≤
 ghost use Rattle.event_queue.specs.Queue.{empty_queue, with_posted, without_front};
 
 use circular_buffer::HeapCircularBuffer;
-use mote_program::{Event, Target};
+use program_tree::{Event, Target};
 use std::alloc::{AllocError, Global};
 use std::error::Error;
 use std::fmt;

@@ -1,12 +1,12 @@
 -- Each call keeps that what is told of a process are its lives, however deep calls nest.
 use Rattle.std.proofs.Common.{ℕ, zero, suc, ◌≡◌, ◌⊎◌, inl, inr, not, ◌&&◌, ◌||◌, ◌==◌, nat_lt, Bool, true, false, if◌then◌else◌, List, [], ◌∷◌, ◌++◌, Option, Some, None, slice_get, unwrap_or, refl, sym, ap, ◌∙◌, subst, append_assoc}
-use Rattle.mote_program.specs.declared.event.Proc.{Proc}
-use Rattle.mote_program.specs.declared.event.Proc.TheVariants.{Own, Etimer, Ctimer, Radio}
-use Rattle.mote_program.specs.declared.event.Target.TheVariants.{One}
-use Rattle.mote_program.specs.declared.event.Event.{Event}
-use Rattle.mote_program.specs.declared.event.SystemEvent.TheVariants.{Poll, Exit, Exited, Timer, Init}
-use Rattle.mote_program.specs.declared.timer.Timer.{Timer as TimerOfProgram}
-use Rattle.mote_program.specs.Code.{Code, Tree}
+use Rattle.program_tree.specs.declared.event.Proc.{Proc}
+use Rattle.program_tree.specs.declared.event.Proc.TheVariants.{Own, Etimer, Ctimer, Radio}
+use Rattle.program_tree.specs.declared.event.Target.TheVariants.{One}
+use Rattle.program_tree.specs.declared.event.Event.{Event}
+use Rattle.program_tree.specs.declared.event.SystemEvent.TheVariants.{Poll, Exit, Exited, Timer, Init}
+use Rattle.program_tree.specs.declared.timer.Timer.{Timer as TimerOfProgram}
+use Rattle.program_tree.specs.Code.{Code, Tree}
 use Rattle.mote_timers.specs.Timer.{is_due}
 use Rattle.mote_timers.specs.TimerLists.{timer_at}
 use Rattle.protothread.specs.declared.part.Part.TheVariants.{Body, OnPoll, OnExit, Callback}

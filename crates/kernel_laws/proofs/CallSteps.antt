@@ -1,9 +1,9 @@
 -- What each small step is, all calls are, however deep they nest: a run of the delivery machine.
 use Rattle.std.proofs.Common.{ℕ, ◌≡◌, ◌==◌, false, List, refl}
-use Rattle.mote_program.specs.declared.event.Proc.{Proc}
-use Rattle.mote_program.specs.declared.event.Target.TheVariants.{One}
-use Rattle.mote_program.specs.declared.event.SystemEvent.TheVariants.{Exit}
-use Rattle.mote_program.specs.Events.{system_number}
+use Rattle.program_tree.specs.declared.event.Proc.{Proc}
+use Rattle.program_tree.specs.declared.event.Target.TheVariants.{One}
+use Rattle.program_tree.specs.declared.event.SystemEvent.TheVariants.{Exit}
+use Rattle.program_tree.specs.Events.{system_number}
 use Rattle.process_kernel.specs.declared.line.What.TheVariants as what
 use Rattle.process_kernel.specs.declared.process.ProcessState.TheVariants.{Running, Called}
 use Rattle.process_kernel.specs.State.{State, Went}

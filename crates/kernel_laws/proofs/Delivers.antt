@@ -9,12 +9,12 @@ use Rattle.handed_on.specs.Delivery.{DeliveryMachine, take_or_drop, DeliveryRuns
 use Rattle.handed_on.specs.View.{machine_at}
 use Rattle.handed_on.proofs.Joined.{runs_joined, halts_joined}
 use Rattle.handed_on.proofs.Views.{gives, begins, walks, numbers}
-use Rattle.mote_program.specs.declared.event.Proc.{Proc}
-use Rattle.mote_program.specs.declared.event.Proc.TheVariants.{Own, Etimer, Ctimer, Radio}
-use Rattle.mote_program.specs.declared.event.Target.{Target}
-use Rattle.mote_program.specs.declared.event.Target.TheVariants.{One, All as ToEach}
-use Rattle.mote_program.specs.declared.event.SystemEvent.TheVariants.{Init, Poll, Exit}
-use Rattle.mote_program.specs.Events.{system_number}
+use Rattle.program_tree.specs.declared.event.Proc.{Proc}
+use Rattle.program_tree.specs.declared.event.Proc.TheVariants.{Own, Etimer, Ctimer, Radio}
+use Rattle.program_tree.specs.declared.event.Target.{Target}
+use Rattle.program_tree.specs.declared.event.Target.TheVariants.{One, All as ToEach}
+use Rattle.program_tree.specs.declared.event.SystemEvent.TheVariants.{Init, Poll, Exit}
+use Rattle.program_tree.specs.Events.{system_number}
 use Rattle.event_queue.specs.declared.queue.Posted.{Posted}
 use Rattle.process_kernel.specs.declared.line.Line.{Line}
 use Rattle.process_kernel.specs.declared.line.What.TheVariants as what

@@ -3,12 +3,12 @@ use Rattle.std.proofs.Common.{ℕ, ◌<◌, suc, ◌≡◌, ◌+◌, inl, inr, n
 use Rattle.std.proofs.Math.ListN.{replicate}
 use Rattle.std.proofs.lemmas.List.{append_cancel_left, length-replicate}
 use Rattle.std.proofs.lemmas.Bool.Decides.{nat_tests}
-use Rattle.mote_program.specs.declared.event.Proc.{Proc}
-use Rattle.mote_program.specs.declared.event.Proc.TheVariants.{Etimer, Radio}
-use Rattle.mote_program.specs.declared.event.Target.{Target}
-use Rattle.mote_program.specs.declared.event.Target.TheVariants.{One}
-use Rattle.mote_program.specs.declared.event.SystemEvent.TheVariants.{Poll, Timer}
-use Rattle.mote_program.specs.Events.{system_number}
+use Rattle.program_tree.specs.declared.event.Proc.{Proc}
+use Rattle.program_tree.specs.declared.event.Proc.TheVariants.{Etimer, Radio}
+use Rattle.program_tree.specs.declared.event.Target.{Target}
+use Rattle.program_tree.specs.declared.event.Target.TheVariants.{One}
+use Rattle.program_tree.specs.declared.event.SystemEvent.TheVariants.{Poll, Timer}
+use Rattle.program_tree.specs.Events.{system_number}
 use Rattle.mote_timers.specs.TimerLists.{new_timers}
 use Rattle.process_kernel.specs.declared.line.Line.{Line}
 use Rattle.process_kernel.specs.declared.line.Sent.{Sent}

@@ -1,15 +1,15 @@
 -- What each small step of the kernel keeps, each call keeps, however deep calls nest, and each boot and kernel run.
 use Rattle.std.proofs.Common.{ℕ, zero, suc, ◌≡◌, Bool, true, false, not, ◌&&◌, ◌||◌, ◌==◌, nat_lt, if◌then◌else◌, List, [], ◌∷◌, Option, Some, None, slice_get, refl, arith, map}
 use Rattle.std.proofs.lemmas.Bool.Decides.{nat_tests}
-use Rattle.mote_program.specs.declared.event.Proc.{Proc}
-use Rattle.mote_program.specs.declared.event.Proc.TheVariants.{Own, Etimer, Ctimer, Radio}
-use Rattle.mote_program.specs.declared.event.Target.{Target}
-use Rattle.mote_program.specs.declared.event.Target.TheVariants.{One, All as ToEach}
-use Rattle.mote_program.specs.declared.event.Event.{Event}
-use Rattle.mote_program.specs.declared.event.SystemEvent.TheVariants.{Poll, Exit, Exited, Timer}
-use Rattle.mote_program.specs.Events.{system_number}
-use Rattle.mote_program.specs.declared.timer.Timer.{Timer as TimerOfProgram}
-use Rattle.mote_program.specs.Code.{Code}
+use Rattle.program_tree.specs.declared.event.Proc.{Proc}
+use Rattle.program_tree.specs.declared.event.Proc.TheVariants.{Own, Etimer, Ctimer, Radio}
+use Rattle.program_tree.specs.declared.event.Target.{Target}
+use Rattle.program_tree.specs.declared.event.Target.TheVariants.{One, All as ToEach}
+use Rattle.program_tree.specs.declared.event.Event.{Event}
+use Rattle.program_tree.specs.declared.event.SystemEvent.TheVariants.{Poll, Exit, Exited, Timer}
+use Rattle.program_tree.specs.Events.{system_number}
+use Rattle.program_tree.specs.declared.timer.Timer.{Timer as TimerOfProgram}
+use Rattle.program_tree.specs.Code.{Code}
 use Rattle.event_queue.specs.Queue.{without_front}
 use Rattle.event_queue.specs.declared.queue.Posted.{Posted}
 use Rattle.mote_timers.specs.Timer.{is_due}

@@ -1,8 +1,8 @@
 -- A kernel run in which a poll of the radio process waits leaves no packet in the ring.
 use Rattle.std.proofs.Common.{ℕ, suc, ◌≡◌, ◌+◌, ◌-◌, ◌==◌, ◌||◌, inl, inr, Bool, true, false, if◌then◌else◌, List, [], Option, refl, sym, ◌∙◌, subst, arith}
 use Rattle.std.proofs.lemmas.List.Elements.{All-head, All-tail}
-use Rattle.mote_program.specs.declared.event.Proc.TheVariants.{Radio}
-use Rattle.mote_program.specs.declared.event.SystemEvent.TheVariants.{Poll, Exit}
+use Rattle.program_tree.specs.declared.event.Proc.TheVariants.{Radio}
+use Rattle.program_tree.specs.declared.event.SystemEvent.TheVariants.{Poll, Exit}
 use Rattle.protothread.specs.declared.state.PtState.TheVariants.{Yielded}
 use Rattle.process_kernel.specs.declared.process.ProcessState.TheVariants.{Called}
 use Rattle.process_kernel.specs.declared.line.Arrival.{Arrival}

@@ -1,7 +1,7 @@
 -- The life so far of a process, from which it goes on.
 use Rattle.std.proofs.Common.{ℕ, ◌≡◌, ◌<◌, List, [], ◌∷◌, ◌++◌, refl, sym, ap, subst, append_assoc, append-nil}
-use Rattle.mote_program.specs.declared.event.Proc.TheVariants.{Own}
-use Rattle.mote_program.specs.Code.{Code}
+use Rattle.program_tree.specs.declared.event.Proc.TheVariants.{Own}
+use Rattle.program_tree.specs.Code.{Code}
 use Rattle.protothread.specs.declared.part.Part.TheVariants.{Body}
 use Rattle.protothread.specs.declared.state.PtState.{PtState}
 use Rattle.protothread.specs.declared.state.PtState.TheVariants.{Exited, Ended}

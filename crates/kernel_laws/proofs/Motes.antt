@@ -5,7 +5,7 @@ use Rattle.handed_on.specs.HandedOn as handed
 use Rattle.handed_on.specs.View as view
 use Rattle.handed_on.specs.View.{HasHalted}
 use Rattle.handed_on.proofs.Views.{goes_further, goes_to_halt, other_moves, goes_with_hands_on, halted_hands_on, goes_with_halts_last, halted_halts_last, goes_with_starts, halted_starts}
-use Rattle.mote_program.specs.declared.event.Proc.{Proc}
+use Rattle.program_tree.specs.declared.event.Proc.{Proc}
 use Rattle.process_kernel.specs.declared.line.Line.{Line}
 use Rattle.process_kernel.specs.declared.line.What.{What}
 use Rattle.process_kernel.specs.declared.line.What.TheVariants as what

@@ -2,8 +2,8 @@
 use Rattle.std.proofs.Common.{ℕ, ◌≡◌, ◌+◌, ◌<◌, ◌||◌, ◌==◌, Bool, true, false, nat_lt, if◌then◌else◌, [], ◌∷◌, ◌++◌, Some, slice_get, slice_set, refl, ap, ◌∙◌, arith}
 use Rattle.std.proofs.lemmas.List.{length-set}
 use Rattle.std.proofs.lemmas.Bool.Decides.{nat_tests}
-use Rattle.mote_program.specs.declared.event.Proc.TheVariants.{Own}
-use Rattle.mote_program.specs.Code.{Code}
+use Rattle.program_tree.specs.declared.event.Proc.TheVariants.{Own}
+use Rattle.program_tree.specs.Code.{Code}
 use Rattle.protothread.specs.declared.part.Part.TheVariants.{Body}
 use Rattle.protothread.specs.Remainder.{Remainder, fresh_of}
 use Rattle.process_kernel.specs.declared.line.What.TheVariants as what

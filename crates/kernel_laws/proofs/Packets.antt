@@ -1,11 +1,11 @@
 -- The radio's poll: each packet of the ring is told of, in order.
 use Rattle.std.proofs.Common.{ℕ, ◌≡◌, ◌^◌, nat_le, length, Bool, true, false, if◌then◌else◌, List, [], ◌∷◌, ◌++◌, Option, Some, None, refl, sym, subst, ◌∙◌, append_assoc, append-nil}
-use Rattle.mote_program.specs.declared.event.Proc.TheVariants.{Own}
-use Rattle.mote_program.specs.declared.event.Target.{Target}
-use Rattle.mote_program.specs.declared.event.Target.TheVariants.{One}
-use Rattle.mote_program.specs.declared.event.Event.{Event}
-use Rattle.mote_program.specs.declared.event.SystemEvent.TheVariants.{Poll, Packet}
-use Rattle.mote_program.specs.Events.{system_number}
+use Rattle.program_tree.specs.declared.event.Proc.TheVariants.{Own}
+use Rattle.program_tree.specs.declared.event.Target.{Target}
+use Rattle.program_tree.specs.declared.event.Target.TheVariants.{One}
+use Rattle.program_tree.specs.declared.event.Event.{Event}
+use Rattle.program_tree.specs.declared.event.SystemEvent.TheVariants.{Poll, Packet}
+use Rattle.program_tree.specs.Events.{system_number}
 use Rattle.process_kernel.specs.declared.line.Arrival.{Arrival}
 use Rattle.process_kernel.specs.declared.line.What.{What}
 use Rattle.process_kernel.specs.declared.line.What.TheVariants as what

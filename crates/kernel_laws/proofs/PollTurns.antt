@@ -1,9 +1,9 @@
 -- The turn of a process in the polls, and the turns before it.
 use Rattle.std.proofs.Common.{◌≡◌, ◌||◌, Bool, true, false, if◌then◌else◌, List, [], ◌∷◌, ◌++◌, refl, sym, ap, subst, arith}
 use Rattle.std.proofs.lemmas.Bool.Decides.{nat_tests}
-use Rattle.mote_program.specs.declared.event.Proc.{Proc}
-use Rattle.mote_program.specs.declared.event.Proc.TheVariants.{Own, Etimer, Ctimer, Radio}
-use Rattle.mote_program.specs.declared.event.SystemEvent.TheVariants.{Poll}
+use Rattle.program_tree.specs.declared.event.Proc.{Proc}
+use Rattle.program_tree.specs.declared.event.Proc.TheVariants.{Own, Etimer, Ctimer, Radio}
+use Rattle.program_tree.specs.declared.event.SystemEvent.TheVariants.{Poll}
 use Rattle.process_kernel.specs.declared.process.Member.{Member}
 use Rattle.process_kernel.specs.Members.{place_of, is_same, stands_in, holds_member}
 use Rattle.process_kernel.specs.State.{State, Went, Ends, Goes, ◌>>=◌}

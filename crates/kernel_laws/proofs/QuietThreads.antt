@@ -1,9 +1,9 @@
 -- A thread of a quiet block prints nothing and keeps the variables.
 use Rattle.std.proofs.Common.{ℕ, zero, suc, ◌≡◌, ◌-◌, Bool, true, false, ◌&&◌, if◌then◌else◌, List, [], ◌∷◌, ◌++◌, Option, None, Some, slice_get, refl, ap, ◌∙◌}
 use Rattle.std.specs.Prelude.{nat_lt, nat_le, not, slice_index, length, ◌==◌, ◌+◌}
-use Rattle.mote_program.specs.declared.event.Event.{Event}
-use Rattle.mote_program.specs.Tree.{Action, assign, print, send, wait_until, wait_while, yield, yield_until, spawn, restart, exit, pause, acquire, signal, post, broadcast, synch, poll, start, kill, set, reset, restart_timer, stop, Statement, does, branch, while, Body, end, next, Otherwise, nothing, otherwise, listed}
-use Rattle.mote_program.specs.Code.{Code, callback_at}
+use Rattle.program_tree.specs.declared.event.Event.{Event}
+use Rattle.program_tree.specs.Tree.{Action, assign, print, send, wait_until, wait_while, yield, yield_until, spawn, restart, exit, pause, acquire, signal, post, broadcast, synch, poll, start, kill, set, reset, restart_timer, stop, Statement, does, branch, while, Body, end, next, Otherwise, nothing, otherwise, listed}
+use Rattle.program_tree.specs.Code.{Code, callback_at}
 use Rattle.protothread.specs.declared.part.Part.{Part}
 use Rattle.protothread.specs.declared.part.Part.TheVariants.{OnPoll, OnExit, Callback}
 use Rattle.protothread.specs.declared.thread.Mark.{Mark}

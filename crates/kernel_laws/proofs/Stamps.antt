@@ -1,10 +1,10 @@
 -- Each small step of the kernel writes lines and packets that bear its moment.
 use Rattle.std.proofs.Common.{ℕ, zero, suc, ◌≡◌, ◌+◌, ◌^◌, Bool, true, false, nat_le, if◌then◌else◌, List, [], ◌∷◌, length, refl, sym, ap, ◌∙◌, subst, arith, ◌++◌, append_assoc, append-nil}
 use Rattle.std.proofs.lemmas.List.{map-append, length-append}
-use Rattle.mote_program.specs.declared.event.Proc.{Proc}
-use Rattle.mote_program.specs.declared.event.Proc.TheVariants.{Own, Etimer, Ctimer, Radio}
-use Rattle.mote_program.specs.declared.event.Target.{Target}
-use Rattle.mote_program.specs.declared.event.Event.{Event}
+use Rattle.program_tree.specs.declared.event.Proc.{Proc}
+use Rattle.program_tree.specs.declared.event.Proc.TheVariants.{Own, Etimer, Ctimer, Radio}
+use Rattle.program_tree.specs.declared.event.Target.{Target}
+use Rattle.program_tree.specs.declared.event.Event.{Event}
 use Rattle.mote_timers.specs.TimerLists.{TimerLists}
 use Rattle.process_kernel.specs.declared.line.What.{What}
 use Rattle.process_kernel.specs.declared.line.What.TheVariants as what

@@ -8,10 +8,10 @@ use Rattle.handed_on.specs.HandedOn as handed
 use Rattle.handed_on.specs.HandedOn.{without}
 use Rattle.handed_on.proofs.Views as views
 use Rattle.handed_on.proofs.Views.{Moves, stands_still, moves_joined, stops_joined, other_moves, start_moves, leave_moves, post_moves, halt_stops}
-use Rattle.mote_program.specs.declared.event.Proc.{Proc}
-use Rattle.mote_program.specs.declared.event.Proc.TheVariants.{Own, Etimer, Ctimer, Radio}
-use Rattle.mote_program.specs.declared.event.Target.{Target}
-use Rattle.mote_program.specs.declared.event.Event.{Event}
+use Rattle.program_tree.specs.declared.event.Proc.{Proc}
+use Rattle.program_tree.specs.declared.event.Proc.TheVariants.{Own, Etimer, Ctimer, Radio}
+use Rattle.program_tree.specs.declared.event.Target.{Target}
+use Rattle.program_tree.specs.declared.event.Event.{Event}
 use Rattle.event_queue.specs.Queue.{with_posted}
 use Rattle.mote_timers.specs.TimerLists.{TimerLists}
 use Rattle.process_kernel.specs.declared.line.Line.{Line}

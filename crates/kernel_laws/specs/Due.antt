@@ -1,13 +1,13 @@
 -- Timers that are due, and the poll of etimer that serves them.
 use Rattle.std.specs.Prelude.{ℕ, ◌≡◌, ◌⊎◌, ◌+◌, true, false, List, ◌∷◌, ◌++◌, Some, IsSome}
-use Rattle.mote_program.specs.declared.event.Proc.{Proc}
-use Rattle.mote_program.specs.declared.event.Proc.TheVariants.{Etimer, Radio}
-use Rattle.mote_program.specs.declared.event.Target.{Target}
-use Rattle.mote_program.specs.declared.event.Target.TheVariants.{One}
-use Rattle.mote_program.specs.declared.event.Event.{Event}
-use Rattle.mote_program.specs.declared.event.SystemEvent.TheVariants.{Timer}
-use Rattle.mote_program.specs.Events.{system_number}
-use Rattle.mote_program.specs.Code.{Tree}
+use Rattle.program_tree.specs.declared.event.Proc.{Proc}
+use Rattle.program_tree.specs.declared.event.Proc.TheVariants.{Etimer, Radio}
+use Rattle.program_tree.specs.declared.event.Target.{Target}
+use Rattle.program_tree.specs.declared.event.Target.TheVariants.{One}
+use Rattle.program_tree.specs.declared.event.Event.{Event}
+use Rattle.program_tree.specs.declared.event.SystemEvent.TheVariants.{Timer}
+use Rattle.program_tree.specs.Events.{system_number}
+use Rattle.program_tree.specs.Code.{Tree}
 use Rattle.mote_timers.specs.Numbers.{is_member}
 use Rattle.mote_timers.specs.Timer.{is_due}
 use Rattle.mote_timers.specs.TimerLists.{TimerLists, timer_at}

@@ -5,7 +5,7 @@ use Rattle.handed_on.specs.HandedOn.{HandedOn}
 use Rattle.handed_on.specs.StartsAndHalts.{HaltIsLast, StartsTheUnlisted}
 use Rattle.handed_on.specs.View as view
 use Rattle.handed_on.specs.View.{HasHalted}
-use Rattle.mote_program.specs.declared.event.Proc.TheVariants.{Etimer}
+use Rattle.program_tree.specs.declared.event.Proc.TheVariants.{Etimer}
 use Rattle.process_kernel.specs.declared.line.Line.{Line}
 use Rattle.process_kernel.specs.declared.line.What.{What}
 use Rattle.process_kernel.specs.declared.line.What.TheVariants as what

@@ -1,11 +1,11 @@
 -- The processes that leave: those of the program alone.
 use Rattle.std.specs.Prelude.{ℕ, ◌≡◌}
-use Rattle.mote_program.specs.declared.event.Proc.{Proc}
-use Rattle.mote_program.specs.declared.event.Proc.TheVariants.{Own, Etimer, Ctimer, Radio}
-use Rattle.mote_program.specs.declared.event.Target.{Target}
-use Rattle.mote_program.specs.declared.event.Target.TheVariants.{One, All}
-use Rattle.mote_program.specs.declared.event.SystemEvent.TheVariants.{Exit}
-use Rattle.mote_program.specs.Events.{system_number}
+use Rattle.program_tree.specs.declared.event.Proc.{Proc}
+use Rattle.program_tree.specs.declared.event.Proc.TheVariants.{Own, Etimer, Ctimer, Radio}
+use Rattle.program_tree.specs.declared.event.Target.{Target}
+use Rattle.program_tree.specs.declared.event.Target.TheVariants.{One, All}
+use Rattle.program_tree.specs.declared.event.SystemEvent.TheVariants.{Exit}
+use Rattle.program_tree.specs.Events.{system_number}
 
 abbrev pub IsOwn : Proc → Type 0
 IsOwn (Own p) = Unit {0}

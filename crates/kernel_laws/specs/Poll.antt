@@ -1,6 +1,6 @@
 -- A process that is asked to be polled, and its turn in the polls.
 use Rattle.std.specs.Prelude.{◌≡◌, nat_lt, true, false, if◌then◌else◌, List, [], ◌∷◌, length}
-use Rattle.mote_program.specs.declared.event.Proc.{Proc}
+use Rattle.program_tree.specs.declared.event.Proc.{Proc}
 use Rattle.process_kernel.specs.declared.process.Member.{Member}
 use Rattle.process_kernel.specs.Members.{place_of, is_same}
 use Rattle.process_kernel.specs.State.{State, Went}

@@ -1,11 +1,11 @@
 -- What a process prints, and what its body says.
 use Rattle.std.specs.Prelude.{ℕ, ◌≡◌, ◌&&◌, ◌<◌, Bool, true, false, List, [], ◌∷◌, ◌++◌, Option, None, Some, slice_get}
 use Rattle.std.specs.List.{filter}
-use Rattle.mote_program.specs.declared.event.Proc.{Proc}
-use Rattle.mote_program.specs.declared.event.Proc.TheVariants.{Own}
-use Rattle.mote_program.specs.declared.event.SystemEvent.TheVariants.{Init}
-use Rattle.mote_program.specs.Tree.{Action, assign, print, spawn, post, broadcast, Statement, does, branch, while, Body, end, next, Otherwise, nothing, otherwise, listed}
-use Rattle.mote_program.specs.Code.{Code, Tree}
+use Rattle.program_tree.specs.declared.event.Proc.{Proc}
+use Rattle.program_tree.specs.declared.event.Proc.TheVariants.{Own}
+use Rattle.program_tree.specs.declared.event.SystemEvent.TheVariants.{Init}
+use Rattle.program_tree.specs.Tree.{Action, assign, print, spawn, post, broadcast, Statement, does, branch, while, Body, end, next, Otherwise, nothing, otherwise, listed}
+use Rattle.program_tree.specs.Code.{Code, Tree}
 use Rattle.protothread.specs.declared.state.PtState.TheVariants.{Yielded}
 use Rattle.protothread.specs.declared.step.Op.TheVariants as op
 use Rattle.protothread.specs.Reading.{Sight, Happening, operates, gives_up, Completion, done, restarts, exits, stands, ReadsThread}

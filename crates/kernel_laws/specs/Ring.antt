@@ -1,9 +1,9 @@
 -- The receive ring of a mote beside its lines: which packets wait, and which line each of them gets.
 use Rattle.std.specs.Prelude.{ℕ, ◌≡◌, ◌⊎◌, ◌<◌, ◌≤◌, false, List, [], ◌∷◌, ◌++◌, length, Option}
 use Rattle.std.specs.List.{All}
-use Rattle.mote_program.specs.declared.event.Proc.{Proc}
-use Rattle.mote_program.specs.declared.event.Proc.TheVariants.{Radio}
-use Rattle.mote_program.specs.declared.event.Event.{Event}
+use Rattle.program_tree.specs.declared.event.Proc.{Proc}
+use Rattle.program_tree.specs.declared.event.Proc.TheVariants.{Radio}
+use Rattle.program_tree.specs.declared.event.Event.{Event}
 use Rattle.process_kernel.specs.declared.line.Arrival.{Arrival}
 use Rattle.process_kernel.specs.declared.line.Line.{Line}
 use Rattle.process_kernel.specs.declared.line.Sent.{Sent}

@@ -4,8 +4,8 @@ use Rattle.handed_on.specs.HandedOn as handed
 use Rattle.handed_on.specs.HandedOn.{Incarnation, ToOne, ToAll}
 use Rattle.handed_on.specs.Delivery.{Waiting}
 use Rattle.handed_on.specs.View.{View}
-use Rattle.mote_program.specs.declared.event.Target.{Target}
-use Rattle.mote_program.specs.declared.event.Target.TheVariants.{One, All}
+use Rattle.program_tree.specs.declared.event.Target.{Target}
+use Rattle.program_tree.specs.declared.event.Target.TheVariants.{One, All}
 use Rattle.event_queue.specs.declared.queue.Posted.{Posted}
 use Rattle.process_kernel.specs.declared.line.Line.{Line}
 use Rattle.process_kernel.specs.declared.line.What.{What}

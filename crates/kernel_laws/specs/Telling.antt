@@ -1,10 +1,10 @@
 -- How a process stands behind the lines that tell of its lives, which each call of its kernel keeps.
 use Rattle.std.specs.Prelude.{ℕ, ◌≡◌, ◌⊎◌, Bool, true, false, nat_lt, List, [], ◌∷◌, ◌++◌, length, Option, Some, slice_get}
-use Rattle.mote_program.specs.declared.event.Proc.{Proc}
-use Rattle.mote_program.specs.declared.event.Proc.TheVariants.{Own}
-use Rattle.mote_program.specs.declared.event.Event.{Event}
-use Rattle.mote_program.specs.declared.event.SystemEvent.TheVariants.{Init}
-use Rattle.mote_program.specs.Code.{Code, Tree}
+use Rattle.program_tree.specs.declared.event.Proc.{Proc}
+use Rattle.program_tree.specs.declared.event.Proc.TheVariants.{Own}
+use Rattle.program_tree.specs.declared.event.Event.{Event}
+use Rattle.program_tree.specs.declared.event.SystemEvent.TheVariants.{Init}
+use Rattle.program_tree.specs.Code.{Code, Tree}
 use Rattle.protothread.specs.Remainder.{Remainder}
 use Rattle.protothread.specs.Reading.{Sight, Happening, Completion}
 use Rattle.protothread.specs.Runs.{Runs}

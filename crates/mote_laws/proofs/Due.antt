@@ -2,12 +2,12 @@
 use Rattle.std.proofs.Common.{ℕ, zero, suc, ◌≡◌, ◌+◌, ◌⊎◌, inl, inr, ◌==◌, ◌||◌, ◌&&◌, nat_lt, nat_le, max, min, Bool, true, false, if◌then◌else◌, List, [], ◌∷◌, ◌++◌, length, map, Option, Some, None, option_map, refl, sym, ap, ◌∙◌, subst, append_assoc, arith}
 use Rattle.std.specs.Option.{option_map_or}
 use Rattle.std.proofs.lemmas.Bool.Decides.{nat_tests}
-use Rattle.mote_program.specs.declared.event.Proc.{Proc}
-use Rattle.mote_program.specs.declared.event.Proc.TheVariants.{Etimer, Radio}
-use Rattle.mote_program.specs.declared.event.Target.TheVariants.{One}
-use Rattle.mote_program.specs.declared.event.SystemEvent.TheVariants.{Timer}
-use Rattle.mote_program.specs.Events.{system_number}
-use Rattle.mote_program.specs.Code.{Tree}
+use Rattle.program_tree.specs.declared.event.Proc.{Proc}
+use Rattle.program_tree.specs.declared.event.Proc.TheVariants.{Etimer, Radio}
+use Rattle.program_tree.specs.declared.event.Target.TheVariants.{One}
+use Rattle.program_tree.specs.declared.event.SystemEvent.TheVariants.{Timer}
+use Rattle.program_tree.specs.Events.{system_number}
+use Rattle.program_tree.specs.Code.{Tree}
 use Rattle.mote_timers.specs.Numbers.{is_member}
 use Rattle.mote_timers.specs.Timer.{expiration, is_due}
 use Rattle.mote_timers.specs.TimerLists.{TimerLists, timer_at, new_timers, least, next_expiration_of}

@@ -1,7 +1,7 @@
 -- Each step of a turn keeps that each timer on the list has an owner.
 use Rattle.std.proofs.Common.{ℕ, zero, suc, ◌&&◌, Bool, true, false, if◌then◌else◌, List, [], sym, subst}
-use Rattle.mote_program.specs.declared.event.Proc.TheVariants.{Etimer}
-use Rattle.mote_program.specs.Code.{Tree}
+use Rattle.program_tree.specs.declared.event.Proc.TheVariants.{Etimer}
+use Rattle.program_tree.specs.Code.{Tree}
 use Rattle.mote_timers.specs.TimerLists.{new_timers, next_expiration_of}
 use Rattle.process_kernel.specs.declared.kernel.Ran.{Ran}
 use Rattle.process_kernel.specs.declared.kernel.Ran.TheVariants as ran

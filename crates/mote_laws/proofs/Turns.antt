@@ -1,6 +1,6 @@
 -- Each step of a turn keeps that the lines go with the mote.
 use Rattle.std.proofs.Common.{ℕ, zero, suc, ◌≡◌, not, ◌&&◌, nat_le, Bool, true, false, if◌then◌else◌, List, [], ◌∷◌, ◌++◌, length, refl, sym, ap, ◌∙◌, subst, append_assoc, append-nil}
-use Rattle.mote_program.specs.declared.event.Proc.TheVariants.{Etimer, Radio}
+use Rattle.program_tree.specs.declared.event.Proc.TheVariants.{Etimer, Radio}
 use Rattle.mote_timers.specs.TimerLists.{next_expiration_of}
 use Rattle.process_kernel.specs.declared.kernel.Ran.{Ran}
 use Rattle.process_kernel.specs.declared.kernel.Ran.TheVariants as ran

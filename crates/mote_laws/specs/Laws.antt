@@ -1,6 +1,6 @@
 -- The laws of a mote's lines, turn by turn.
 use Rattle.std.specs.Prelude.{ℕ, Bool, List, [], ◌++◌}
-use Rattle.mote_program.specs.Code.{Tree}
+use Rattle.program_tree.specs.Code.{Tree}
 use Rattle.process_kernel.specs.declared.line.Arrival.{Arrival}
 use Rattle.process_kernel.specs.declared.line.Line.{Line}
 use Rattle.kernel_laws.specs.Going.{GoesWith, IsInOrder}

@@ -2,7 +2,7 @@
 use Rattle.std.proofs.Common.{ℕ, ◌≡◌, ◌≤◌, ◌+◌, Bool, true, false, ◌||◌, nat_lt, List, [], ◌∷◌, length, drop, option_map, Option, Some, None, refl, sym, ap, ◌∙◌, subst, IfSome, if◌then◌else◌, arith, length-append}
 use Rattle.std.proofs.lemmas.Bool.Decides.{nat_tests}
 use Rattle.std.proofs.lemmas.Grind.{common_steps}
-use Rattle.mote_program.specs.declared.event.Proc.TheVariants.{Radio}
+use Rattle.program_tree.specs.declared.event.Proc.TheVariants.{Radio}
 use Rattle.process_kernel.specs.declared.line.Arrival.{Arrival}
 use Rattle.process_kernel.specs.declared.line.Out.{Out}
 use Rattle.process_kernel.specs.Mote.{Mote, has_room, with_packet, with_poll}

@@ -1,6 +1,6 @@
 -- The steps of a turn, put together.
 use Rattle.std.proofs.Common.{ℕ, ◌≡◌, Bool, true, false, List, option_map, Option, Some, None, refl, sym, ap, ◌∙◌, subst, IfSome, IsSome, if◌then◌else◌}
-use Rattle.mote_program.specs.Code.{Tree}
+use Rattle.program_tree.specs.Code.{Tree}
 use Rattle.process_kernel.specs.declared.kernel.Kernel.{Kernel}
 use Rattle.process_kernel.specs.declared.line.Arrival.{Arrival}
 use Rattle.process_kernel.specs.declared.line.Out.{Out}

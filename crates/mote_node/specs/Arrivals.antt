@@ -1,6 +1,6 @@
 -- The packets that arrive at a turn.
 use Rattle.std.specs.Prelude.{ℕ, nat_lt, nat_le, Bool, not, ◌&&◌, List, [], ◌∷◌, length, map, if◌then◌else◌}
-use Rattle.mote_program.specs.declared.event.Proc.TheVariants.{Radio}
+use Rattle.program_tree.specs.declared.event.Proc.TheVariants.{Radio}
 use Rattle.process_kernel.specs.declared.line.Arrival.{Arrival}
 use Rattle.process_kernel.specs.declared.line.Line.{Line}
 use Rattle.process_kernel.specs.declared.line.What.TheVariants as what

@@ -1,6 +1,6 @@
 -- A node of a net: a mote with its clock.
 use Rattle.std.specs.Prelude.{ℕ, nat_le, Bool, false, Option, Some, None}
-use Rattle.mote_program.specs.Code.{Tree}
+use Rattle.program_tree.specs.Code.{Tree}
 use Rattle.process_kernel.specs.Mote.{Mote, unbooted}
 
 -- the mote; the moment of its last turn, or none before the first; and whether packets that arrive together are lost

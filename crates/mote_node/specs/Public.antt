@@ -1,6 +1,6 @@
 -- What the calls of a `Mote` tell.
 use Rattle.std.specs.Prelude.{ℕ, Bool, false, if◌then◌else◌, Option, Some, None, option_map}
-use Rattle.mote_program.specs.Code.{Tree}
+use Rattle.program_tree.specs.Code.{Tree}
 use Rattle.process_kernel.specs.Mote.{Mote}
 use Rattle.process_kernel.specs.Public.{mote_in}
 use Rattle.mote_node.specs.declared.mote.Mote.{Mote as MoteOfCode}

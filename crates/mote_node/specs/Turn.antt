@@ -1,6 +1,6 @@
 -- A turn of a node.
 use Rattle.std.specs.Prelude.{ℕ, zero, suc, nat_le, Bool, false, ◌&&◌, List, [], Option, Some, None, if◌then◌else◌}
-use Rattle.mote_program.specs.declared.event.Proc.TheVariants.{Etimer}
+use Rattle.program_tree.specs.declared.event.Proc.TheVariants.{Etimer}
 use Rattle.mote_timers.specs.TimerLists.{next_expiration_of}
 use Rattle.process_kernel.specs.declared.kernel.Ran.{Ran}
 use Rattle.process_kernel.specs.declared.kernel.Ran.TheVariants as ran

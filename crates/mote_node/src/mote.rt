@@ -1,16 +1,16 @@
 //! A mote with its clock: one turn after another.
 
 ghost use Rattle.std.specs.Prelude.{◌≡◌, ◌≤◌, ◌^◌, ◌↔◌, true, false, IsTrue, IsSome, IfSome, IfOk, IfErr, Some, None, Err, [], option_map, OnOk, OnErr};
-ghost use Rattle.mote_program.specs.Code.{Tree};
-ghost use Rattle.mote_program.specs.Program.{tree_of};
+ghost use Rattle.program_tree.specs.Code.{Tree};
+ghost use Rattle.program_tree.specs.Program.{tree_of};
 ghost use Rattle.process_kernel.specs.Public.{mote_in};
 ghost use Rattle.mote_node.specs.Node.{is_past};
 ghost use Rattle.mote_node.specs.Wake.{wake_after};
 ghost use Rattle.std.proofs.Props.{props};
 
 use crate::turn::turn_in_net;
-use mote_program::Program;
 use process_kernel::{Arrival, Kernel, KernelError, Line, Out, Sent};
+use program_tree::Program;
 use std::alloc::{AllocError, Global};
 use std::error::Error;
 use std::{fmt, mem};

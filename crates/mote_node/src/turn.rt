@@ -1,16 +1,16 @@
 //! The steps of a turn, over a kernel and what it writes in the turn.
 
 ghost use Rattle.std.specs.Prelude.{◌≡◌, ◌≤◌, ◌^◌, ◌++◌, map, option_map, OnOk, IfOk, IfSome};
-ghost use Rattle.mote_program.specs.Code.{Tree};
-ghost use Rattle.mote_program.specs.Program.{tree_of};
+ghost use Rattle.program_tree.specs.Code.{Tree};
+ghost use Rattle.program_tree.specs.Program.{tree_of};
 ghost use Rattle.process_kernel.specs.Mote.{has_room};
 ghost use Rattle.process_kernel.specs.Public.{mote_in};
 ghost use Rattle.mote_node.specs.Arrivals.{hear, hear_all, collision_line};
 ghost use Rattle.mote_node.specs.Steps.{GoesOn};
 ghost use Rattle.mote_node.specs.Turn.{boot_due, poll_due, most_runs, runs_of, mote_turn, net_turn};
 
-use mote_program::{Proc, Program};
 use process_kernel::{Arrival, Kernel, Line, Out, Ran, What};
+use program_tree::{Proc, Program};
 use std::alloc::AllocError;
 
 /// The most kernel runs of a turn; the boot is none of them.

@@ -6,8 +6,8 @@ use Rattle.std.specs.Option.{IsSomeAnd, is_some, option_map_or}
 use Rattle.std.proofs.lemmas.Bool.{cond_both, leb-true, leb-false, ne_eqb, false_from_ne_true, not_from_false, false≢true}
 use Rattle.std.proofs.lemmas.Bool.Decides.{nat_tests}
 use Rattle.std.proofs.lemmas.List.{get_or-set_other, get_or-set_same, length-set}
-use Rattle.mote_program.specs.declared.event.Proc.{Proc}
-use Rattle.mote_program.specs.declared.event.Proc.TheVariants.{Own, Etimer, Ctimer, Radio}
+use Rattle.program_tree.specs.declared.event.Proc.{Proc}
+use Rattle.program_tree.specs.declared.event.Proc.TheVariants.{Own, Etimer, Ctimer, Radio}
 use Rattle.mote_timers.specs.Numbers.{is_member}
 use Rattle.mote_timers.specs.Processes.{is_same}
 use Rattle.mote_timers.specs.Timer.{expiration}

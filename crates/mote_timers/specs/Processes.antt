@@ -1,7 +1,7 @@
 -- Processes by their places in the tables of a mote.
 use Rattle.std.specs.Prelude.{ℕ, ◌+◌, ◌==◌, Bool}
-use Rattle.mote_program.specs.declared.event.Proc.{Proc}
-use Rattle.mote_program.specs.declared.event.Proc.TheVariants.{Own, Etimer, Ctimer, Radio}
+use Rattle.program_tree.specs.declared.event.Proc.{Proc}
+use Rattle.program_tree.specs.declared.event.Proc.TheVariants.{Own, Etimer, Ctimer, Radio}
 
 -- the system processes come first, then those of the program in their order
 abbrev pub place_of : Proc → ℕ

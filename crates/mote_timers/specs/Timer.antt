@@ -1,7 +1,7 @@
 -- Timers, and what each call makes of them.
 use Rattle.std.specs.Prelude.{ℕ, ◌+◌, nat_le, Bool, false, None}
 use Rattle.std.specs.Option.{option_map_or}
-use Rattle.mote_program.specs.declared.event.Proc.{Proc}
+use Rattle.program_tree.specs.declared.event.Proc.{Proc}
 use Rattle.mote_timers.specs.declared.timer.Timer.{Timer}
 use Rattle.mote_timers.specs.Processes.{is_same}
 

@@ -1,7 +1,7 @@
 -- Calls of a `Timers`, one after another.
 use Rattle.std.specs.Prelude.{◌≡◌, ℕ, ◌+◌, ◌≤◌, ◌<◌, ◌↔◌, nat_eq, List, [], ◌∷◌, length, Some, None, IsTrue, IsSome, IsSomeAnd}
 use Rattle.std.specs.List.{IsDistinct}
-use Rattle.mote_program.specs.declared.event.Proc.{Proc}
+use Rattle.program_tree.specs.declared.event.Proc.{Proc}
 use Rattle.mote_timers.specs.Numbers.{is_member}
 use Rattle.mote_timers.specs.Timer.{expiration}
 use Rattle.mote_timers.specs.TimerLists.{TimerLists, timer_at, new_timers, set_timer, reset_timer, restart_timer, stop_timer, purge_timers, first_due, next_expiration_of}

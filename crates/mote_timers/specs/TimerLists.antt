@@ -2,7 +2,7 @@
 use Rattle.std.specs.Prelude.{◌≡◌, ℕ, ◌≤◌, ◌^◌, ◌==◌, min, not, List, [], ◌∷◌, All, length, map, filter, find, replicate, slice_index_or, slice_set, Option, Some, None, IsSome}
 use Rattle.std.specs.List.{after_first}
 use Rattle.std.specs.Option.{option_map_or}
-use Rattle.mote_program.specs.declared.event.Proc.{Proc}
+use Rattle.program_tree.specs.declared.event.Proc.{Proc}
 use Rattle.mote_timers.specs.declared.timer.Timer.{Timer}
 use Rattle.mote_timers.specs.Numbers.{Numbers, with_member, without_member}
 use Rattle.mote_timers.specs.Timer.{unset, expiration, is_due, is_owned_by}

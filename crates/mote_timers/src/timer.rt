@@ -3,7 +3,7 @@
 ghost use Rattle.std.specs.Prelude.{◌≡◌, ◌≤◌, ◌^◌};
 ghost use Rattle.mote_timers.specs.Timer.{expiration, is_due, is_owned_by};
 
-use mote_program::Proc;
+use program_tree::Proc;
 
 /// A timer: its start in moments, its interval in moments, and the process that is told when it is due
 /// (`struct timer` of `timer.h`, and `p` of `struct etimer`).

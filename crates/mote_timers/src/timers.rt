@@ -9,7 +9,7 @@ ghost use Rattle.mote_timers.specs.Timer.{expiration, is_due, is_owned_by};
 
 use crate::number_list::NumberList;
 use crate::timer::{LATEST_START, Timer};
-use mote_program::Proc;
+use program_tree::Proc;
 use std::alloc::{AllocError, Global};
 use std::marker::Model;
 

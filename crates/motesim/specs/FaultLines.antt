@@ -1,6 +1,6 @@
 -- The line that tells a fault, behind the name of the program.
 use Rattle.std.specs.Prelude.{ℕ, List, ◌++◌, codes, decimal}
-use Rattle.mote_program.specs.Kinds.{kind_number}
+use Rattle.program_tree.specs.Kinds.{kind_number}
 use Rattle.radio_medium.specs.Errors.{medium_fault_number}
 use Rattle.radio_medium.specs.declared.error.MediumError.TheVariants as medium
 use Rattle.net_scenario.specs.Errors.{scenario_fault_number}

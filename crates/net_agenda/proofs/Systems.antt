@@ -1,6 +1,6 @@
 -- A net runs forward, and a mote tells when it wakes next.
 use Rattle.std.proofs.Common.{◌≡◌, ℕ, ◌<◌, List, length, map, subst, refl, Option, Some, None, option_map, unwrap_or, slice_get}
-use Rattle.mote_program.specs.Code.{Tree}
+use Rattle.program_tree.specs.Code.{Tree}
 use Rattle.mote_node.specs.Node.{Node}
 use Rattle.mote_node.specs.Turn.{turn_of}
 use Rattle.mote_node.specs.Wake.{wake_of}

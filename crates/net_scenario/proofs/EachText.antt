@@ -3,10 +3,10 @@ use Rattle.std.proofs.Common.{◌≡◌, ◌⊎◌, ℕ, Bool, true, false, if�
 use Rattle.std.specs.Option.{option_map_or}
 use Rattle.toml.specs.Data.{Members}
 use Rattle.toml.specs.Parse.{parse_document}
-use Rattle.mote_program.specs.Code.{Tree}
-use Rattle.mote_program.specs.Reading.{IsTreeOf, IsToldOf, HasTreeOrFault}
-use Rattle.mote_program.specs.declared.error.ReadError.{ReadError}
-use Rattle.mote_program.specs.declared.error.ReadErrorKind.{ReadErrorKind}
+use Rattle.program_tree.specs.Code.{Tree}
+use Rattle.program_tree.specs.Reading.{IsTreeOf, IsToldOf, HasTreeOrFault}
+use Rattle.program_tree.specs.declared.error.ReadError.{ReadError}
+use Rattle.program_tree.specs.declared.error.ReadErrorKind.{ReadErrorKind}
 use Rattle.radio_medium.specs.Medium.{medium_fault}
 use Rattle.radio_medium.specs.declared.error.MediumError.{MediumError}
 use Rattle.net_scenario.specs.declared.error.ScenarioError.{ScenarioError}

@@ -8,7 +8,7 @@ use Rattle.std.proofs.lemmas.Slice.Eq.{bytes_eq-Decides}
 use borrow.Author.Tests.{ltb-true, leb-true}
 use Rattle.toml.specs.Data.{Members}
 use Rattle.net_scenario.specs.Document.{text_at}
-use Rattle.mote_program.specs.Program.{tree_of}
+use Rattle.program_tree.specs.Program.{tree_of}
 use Rattle.net_scenario.specs.declared.net.Mote.{Mote}
 use Rattle.net_scenario.specs.declared.programs.NamedProgram.{NamedProgram}
 use Rattle.net_scenario.specs.Programs.{NamedTree, named_tree}

@@ -1,10 +1,10 @@
 -- A text tells at most one net, at most one fault, and never both.
 use Rattle.std.proofs.Common.{◌≡◌, ℕ, List, [], ◌∷◌, ◌++◌, refl, sym, ap, ◌∙◌, subst, Err}
 use Rattle.toml.specs.Data.{Members}
-use Rattle.mote_program.specs.Code.{Tree}
-use Rattle.mote_program.specs.Reading.{IsTreeOf, IsToldOf}
-use Rattle.mote_program.specs.declared.error.ReadError.{ReadError}
-use Rattle.mote_program.specs.declared.error.ReadErrorKind.{ReadErrorKind}
+use Rattle.program_tree.specs.Code.{Tree}
+use Rattle.program_tree.specs.Reading.{IsTreeOf, IsToldOf}
+use Rattle.program_tree.specs.declared.error.ReadError.{ReadError}
+use Rattle.program_tree.specs.declared.error.ReadErrorKind.{ReadErrorKind}
 use Rattle.radio_medium.specs.declared.error.MediumError.{MediumError}
 use Rattle.net_scenario.specs.declared.error.ScenarioError.{ScenarioError}
 use Rattle.net_scenario.specs.declared.error.ScenarioError.TheVariants.{Toml, MissingKey, UnknownKey, WrongKind, OutOfRange, UnknownProgram, Program, Medium, Memory}

@@ -1,7 +1,7 @@
 -- Reading the programs of a table, one at a time.
 use Rattle.std.proofs.Common.{◌≡◌, map, List, [], ◌∷◌, ◌++◌, refl, sym, ◌∙◌, append_assoc, append-nil, Ok, Err}
 use Rattle.std.proofs.lemmas.List.{map-append}
-use Rattle.mote_program.specs.Reading.{IsTreeOf}
+use Rattle.program_tree.specs.Reading.{IsTreeOf}
 use Rattle.net_scenario.specs.declared.programs.NamedProgram.{NamedProgram}
 use Rattle.net_scenario.specs.declared.error.ScenarioError.{ScenarioError}
 use Rattle.net_scenario.specs.declared.error.ScenarioError.TheVariants.{Toml, MissingKey, UnknownKey, WrongKind, OutOfRange, UnknownProgram, Program, Medium, Memory}

@@ -1,8 +1,8 @@
 -- What a text tells: one net or one fault, and never both.
 use Rattle.std.specs.Prelude.{◌≡◌, ◌⊎◌, ℕ, List}
-use Rattle.mote_program.specs.Code.{Tree}
-use Rattle.mote_program.specs.Reading.{IsTreeOf, IsToldOf}
-use Rattle.mote_program.specs.declared.error.ReadErrorKind.{ReadErrorKind}
+use Rattle.program_tree.specs.Code.{Tree}
+use Rattle.program_tree.specs.Reading.{IsTreeOf, IsToldOf}
+use Rattle.program_tree.specs.declared.error.ReadErrorKind.{ReadErrorKind}
 use Rattle.net_scenario.specs.declared.error.ScenarioError.{ScenarioError}
 use Rattle.net_scenario.specs.Net.{NetTold}
 use Rattle.net_scenario.specs.Reading.{TellsNet, TellsFault}

@@ -5,10 +5,10 @@ use Rattle.std.specs.List.Sorted.{IsStrictlySortedBy}
 use Rattle.std.specs.Ordering.{nat_cmp}
 use Rattle.std.specs.declared.alloc.Global.{Global}
 use Rattle.toml.specs.Data.{Members, no_members, member, as_str}
-use Rattle.mote_program.specs.Code.{Tree}
-use Rattle.mote_program.specs.Program.{tree_of}
-use Rattle.mote_program.specs.Reading.{IsTreeOf, IsToldOf}
-use Rattle.mote_program.specs.declared.error.ReadError.{ReadError}
+use Rattle.program_tree.specs.Code.{Tree}
+use Rattle.program_tree.specs.Program.{tree_of}
+use Rattle.program_tree.specs.Reading.{IsTreeOf, IsToldOf}
+use Rattle.program_tree.specs.declared.error.ReadError.{ReadError}
 use Rattle.net_scenario.specs.declared.programs.NamedProgram.{NamedProgram}
 use Rattle.net_scenario.specs.declared.error.ScenarioError.{ScenarioError}
 use Rattle.net_scenario.specs.declared.error.ScenarioError.TheVariants.{Program, Memory}

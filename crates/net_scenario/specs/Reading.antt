@@ -7,7 +7,7 @@ use Rattle.toml.specs.Data.{Members}
 use Rattle.toml.specs.Parse.{parse_document}
 use Rattle.toml.specs.View.{table_view}
 use Rattle.toml.specs.declared.value.Value.{Value}
-use Rattle.mote_program.specs.declared.error.ReadError.{ReadError}
+use Rattle.program_tree.specs.declared.error.ReadError.{ReadError}
 use Rattle.radio_medium.specs.Medium.{Radio, medium_fault}
 use Rattle.radio_medium.specs.declared.error.MediumError.{MediumError}
 use Rattle.net_scenario.specs.declared.error.ScenarioError.{ScenarioError}

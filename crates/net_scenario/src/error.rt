@@ -2,7 +2,7 @@
 ghost use Rattle.std.specs.Prelude.{◌≡◌};
 
 use crate::program_name::ProgramName;
-use mote_program::ReadError;
+use program_tree::ReadError;
 use radio_medium::MediumError;
 use std::alloc::{AllocError, AllocFailed};
 

@@ -5,7 +5,7 @@ ghost use Rattle.net_scenario.specs.Limits.{latest_end, fewest_motes, most_motes
 ghost use Rattle.net_scenario.specs.Motes.{is_mote_of};
 
 use crate::programs::NamedProgram;
-use mote_program::Program;
+use program_tree::Program;
 use radio_medium::Medium;
 
 /// A mote: the place of its program among the programs of the net, and how many events its queue holds.
@@ -32,7 +32,7 @@ pub struct Net {
 }
 
 impl Net {
-    ghost use Rattle.mote_program.specs.Program.{tree_of};
+    ghost use Rattle.program_tree.specs.Program.{tree_of};
     ghost use Rattle.net_scenario.specs.Net.{net_of, mote_told};
 
     /// The net of these parts, of which each mote's program is one.

@@ -6,7 +6,8 @@ ghost use Rattle.net_scenario.specs.Programs.{texts_of, AreInOrder, ReadsProgram
 use crate::error::ScenarioError;
 use crate::program_name::ProgramName;
 use crate::values::text_of;
-use mote_program::{Program, ReadErrorKind, read};
+use mote_program::read;
+use program_tree::{Program, ReadErrorKind};
 use std::alloc::Global;
 use toml::Table;
 

@@ -1,6 +1,6 @@
 -- What a boot or a run of a kernel gives.
 use Rattle.std.proofs.Common.{ℕ, ◌≡◌, Bool, true, false, List, [], append-nil, Result, Ok, Err, refl, sym, ap, ◌∙◌}
-use Rattle.mote_program.specs.Code.{Tree}
+use Rattle.program_tree.specs.Code.{Tree}
 use Rattle.process_kernel.specs.declared.line.Line.{Line}
 use Rattle.process_kernel.specs.declared.line.Sent.{Sent}
 use Rattle.process_kernel.specs.declared.line.Out.{Out}

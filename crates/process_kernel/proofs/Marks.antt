@@ -3,7 +3,7 @@ use Rattle.std.proofs.Common.{ℕ, zero, suc, ◌≡◌, ◌+◌, ◌≤◌, ◌
 use Rattle.std.specs.Prelude.{if◌then◌else◌, nat_lt}
 use Rattle.std.specs.List.{position, position_or_len}
 use Rattle.std.proofs.lemmas.Bool.{cond_both, ltb-false}
-use Rattle.mote_program.specs.declared.event.SystemEvent.TheVariants.{Poll}
+use Rattle.program_tree.specs.declared.event.SystemEvent.TheVariants.{Poll}
 use Rattle.process_kernel.specs.declared.process.Member.{Member}
 use Rattle.process_kernel.specs.State.{State, Goes, ◌>>=◌}
 use Rattle.process_kernel.specs.Processes.{flag_at, is_on_list, with_mark}

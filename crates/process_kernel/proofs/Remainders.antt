@@ -1,7 +1,7 @@
 -- What the threads of a mote have still to do, one by one.
 use Rattle.std.proofs.Common.{ℕ, zero, suc, ◌≡◌, ◌<◌, ◌≤◌, List, [], ◌∷◌, length, Some, refl, ap, arith}
 use Rattle.std.specs.Prelude.{slice_get, slice_set, slice_index_or, unwrap_or}
-use Rattle.mote_program.specs.Code.{Code}
+use Rattle.program_tree.specs.Code.{Code}
 use Rattle.protothread.specs.Remainder.{Remainder, fresh_of}
 use Rattle.protothread.specs.declared.part.Part.TheVariants.{Body}
 use Rattle.process_kernel.specs.ProcessList.{fresh_at}

@@ -4,10 +4,10 @@ use Rattle.std.specs.List.{after_first, position_or_len, find}
 use Rattle.std.proofs.lemmas.Bool.{cond_both, not-true, eqb-true, eq-eqb, false≢true, false_from_ne_true}
 use Rattle.std.proofs.Common.{◌*◌, if◌then◌else◌, filter, Err}
 use Rattle.std.proofs.Math.Nat.{mul-le-mul_left}
-use Rattle.mote_program.specs.declared.event.Proc.{Proc}
-use Rattle.mote_program.specs.declared.event.Proc.TheVariants.{Etimer}
-use Rattle.mote_program.specs.declared.event.Target.TheVariants.{One}
-use Rattle.mote_program.specs.declared.event.SystemEvent.TheVariants.{Timer}
+use Rattle.program_tree.specs.declared.event.Proc.{Proc}
+use Rattle.program_tree.specs.declared.event.Proc.TheVariants.{Etimer}
+use Rattle.program_tree.specs.declared.event.Target.TheVariants.{One}
+use Rattle.program_tree.specs.declared.event.SystemEvent.TheVariants.{Timer}
 use Rattle.mote_timers.specs.Numbers.{is_member, without_member}
 use Rattle.mote_timers.specs.Timer.{is_due}
 use Rattle.mote_timers.specs.TimerLists.{TimerLists, timer_at, behind, first_due, stop_timer}

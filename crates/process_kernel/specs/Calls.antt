@@ -1,10 +1,10 @@
 -- The two calls that recurse, and the walk over the process list.
 use Rattle.std.specs.Prelude.{ℕ, ◌==◌, Bool, not, ◌&&◌, List, [], ◌∷◌, if◌then◌else◌}
-use Rattle.mote_program.specs.declared.event.Proc.{Proc}
-use Rattle.mote_program.specs.declared.event.Event.{Event}
-use Rattle.mote_program.specs.declared.event.SystemEvent.{SystemEvent}
-use Rattle.mote_program.specs.Code.{Code}
-use Rattle.mote_program.specs.Events.{system_number}
+use Rattle.program_tree.specs.declared.event.Proc.{Proc}
+use Rattle.program_tree.specs.declared.event.Event.{Event}
+use Rattle.program_tree.specs.declared.event.SystemEvent.{SystemEvent}
+use Rattle.program_tree.specs.Code.{Code}
+use Rattle.program_tree.specs.Events.{system_number}
 use Rattle.protothread.specs.declared.state.PtState.{PtState}
 use Rattle.protothread.specs.Remainder.{Remainder}
 use Rattle.process_kernel.specs.declared.process.Member.{Member}

@@ -1,7 +1,7 @@
 -- The ctimer process.
 use Rattle.std.specs.Prelude.{ℕ, Bool, ◌&&◌, slice_get, Some, None, if◌then◌else◌}
-use Rattle.mote_program.specs.declared.event.Event.{Event}
-use Rattle.mote_program.specs.declared.event.SystemEvent.TheVariants.{Timer}
+use Rattle.program_tree.specs.declared.event.Event.{Event}
+use Rattle.program_tree.specs.declared.event.SystemEvent.TheVariants.{Timer}
 use Rattle.protothread.specs.declared.part.Part.TheVariants.{Callback}
 use Rattle.protothread.specs.Remainder.{fresh_of}
 use Rattle.mote_timers.specs.Numbers.{is_member, without_member}

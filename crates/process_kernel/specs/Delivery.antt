@@ -1,8 +1,8 @@
 -- The delivery of an event.
 use Rattle.std.specs.Prelude.{Bool, List, [], ◌∷◌, if◌then◌else◌}
-use Rattle.mote_program.specs.declared.event.Proc.{Proc}
-use Rattle.mote_program.specs.declared.event.Target.{Target}
-use Rattle.mote_program.specs.declared.event.Target.TheVariants.{One, All}
+use Rattle.program_tree.specs.declared.event.Proc.{Proc}
+use Rattle.program_tree.specs.declared.event.Target.{Target}
+use Rattle.program_tree.specs.declared.event.Target.TheVariants.{One, All}
 use Rattle.event_queue.specs.declared.queue.Posted.{Posted}
 use Rattle.process_kernel.specs.declared.line.What.TheVariants as what
 use Rattle.process_kernel.specs.declared.process.Member.{Member}

@@ -1,10 +1,10 @@
 -- The etimer process.
 use Rattle.std.specs.Prelude.{ℕ, zero, suc, nat_lt, List, [], ◌∷◌, length, Option, Some, None, if◌then◌else◌}
-use Rattle.mote_program.specs.declared.event.Proc.{Proc}
-use Rattle.mote_program.specs.declared.event.Proc.TheVariants.{Own, Etimer}
-use Rattle.mote_program.specs.declared.event.Target.TheVariants.{One}
-use Rattle.mote_program.specs.declared.event.Event.{Event}
-use Rattle.mote_program.specs.declared.event.SystemEvent.TheVariants.{Poll, Exited, Timer}
+use Rattle.program_tree.specs.declared.event.Proc.{Proc}
+use Rattle.program_tree.specs.declared.event.Proc.TheVariants.{Own, Etimer}
+use Rattle.program_tree.specs.declared.event.Target.TheVariants.{One}
+use Rattle.program_tree.specs.declared.event.Event.{Event}
+use Rattle.program_tree.specs.declared.event.SystemEvent.TheVariants.{Poll, Exited, Timer}
 use Rattle.mote_timers.specs.Timer.{is_due}
 use Rattle.mote_timers.specs.TimerLists.{timer_at, stop_timer, purge_timers}
 use Rattle.process_kernel.specs.State.{State, Went, Goes, ◌>>=◌}

@@ -1,8 +1,8 @@
 -- The exit of a process.
 use Rattle.std.specs.Prelude.{ℕ, if◌then◌else◌}
-use Rattle.mote_program.specs.declared.event.Proc.{Proc}
-use Rattle.mote_program.specs.declared.event.Proc.TheVariants.{Own, Etimer, Ctimer, Radio}
-use Rattle.mote_program.specs.declared.event.SystemEvent.TheVariants.{Exit, Exited}
+use Rattle.program_tree.specs.declared.event.Proc.{Proc}
+use Rattle.program_tree.specs.declared.event.Proc.TheVariants.{Own, Etimer, Ctimer, Radio}
+use Rattle.program_tree.specs.declared.event.SystemEvent.TheVariants.{Exit, Exited}
 use Rattle.process_kernel.specs.Members.{is_same}
 use Rattle.process_kernel.specs.State.{State, Went, Goes, ◌>>=◌}
 use Rattle.process_kernel.specs.Processes.{is_listed}

@@ -1,7 +1,7 @@
 -- The kill of a process.
 use Rattle.std.specs.Prelude.{ℕ, if◌then◌else◌}
-use Rattle.mote_program.specs.declared.event.Proc.{Proc}
-use Rattle.mote_program.specs.declared.event.Proc.TheVariants.{Own}
+use Rattle.program_tree.specs.declared.event.Proc.{Proc}
+use Rattle.program_tree.specs.declared.event.Proc.TheVariants.{Own}
 use Rattle.process_kernel.specs.declared.line.What.TheVariants as what
 use Rattle.process_kernel.specs.State.{State, Went}
 use Rattle.process_kernel.specs.Processes.{is_busy}

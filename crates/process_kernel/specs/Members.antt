@@ -1,7 +1,7 @@
 -- What holds of every process list.
 use Rattle.std.specs.Prelude.{ℕ, ◌<◌, ◌==◌, Bool, true, not, ◌&&◌, IsTrue, List, [], ◌∷◌, All}
 use Rattle.std.specs.List.{list_any}
-use Rattle.mote_program.specs.declared.event.Proc.{Proc}
+use Rattle.program_tree.specs.declared.event.Proc.{Proc}
 pub use Rattle.mote_timers.specs.Processes.{place_of, is_same}
 use Rattle.process_kernel.specs.declared.process.Member.{Member}
 

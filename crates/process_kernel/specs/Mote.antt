@@ -1,7 +1,7 @@
 -- A mote between its runs.
 use Rattle.std.specs.Prelude.{ℕ, ◌+◌, Bool, false, [], ◌∷◌, ◌++◌, ◌||◌, nat_lt, length, map, replicate}
-use Rattle.mote_program.specs.declared.event.Proc.{Proc}
-use Rattle.mote_program.specs.Code.{Tree}
+use Rattle.program_tree.specs.declared.event.Proc.{Proc}
+use Rattle.program_tree.specs.Code.{Tree}
 use Rattle.protothread.specs.declared.part.Part.TheVariants.{Body}
 use Rattle.protothread.specs.Remainder.{fresh_of}
 use Rattle.event_queue.specs.Queue.{empty_queue}

@@ -1,6 +1,6 @@
 -- The polls.
 use Rattle.std.specs.Prelude.{false, ◌&&◌, List, [], ◌∷◌, if◌then◌else◌}
-use Rattle.mote_program.specs.declared.event.SystemEvent.TheVariants.{Poll}
+use Rattle.program_tree.specs.declared.event.SystemEvent.TheVariants.{Poll}
 use Rattle.process_kernel.specs.declared.process.Member.{Member}
 use Rattle.process_kernel.specs.State.{State, Went, Goes, ◌>>=◌}
 use Rattle.process_kernel.specs.Processes.{is_on_list, is_marked, with_mark}

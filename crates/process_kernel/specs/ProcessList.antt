@@ -1,8 +1,8 @@
 -- How the process list grows and shrinks.
 use Rattle.std.specs.Prelude.{ℕ, zero, suc, ◌+◌, not, true, false, List, [], ◌∷◌, filter, slice_set}
-use Rattle.mote_program.specs.Code.{Code}
-use Rattle.mote_program.specs.declared.event.Proc.{Proc}
-use Rattle.mote_program.specs.declared.event.Proc.TheVariants.{Own, Etimer, Ctimer, Radio}
+use Rattle.program_tree.specs.Code.{Code}
+use Rattle.program_tree.specs.declared.event.Proc.{Proc}
+use Rattle.program_tree.specs.declared.event.Proc.TheVariants.{Own, Etimer, Ctimer, Radio}
 use Rattle.protothread.specs.declared.part.Part.TheVariants.{Body}
 use Rattle.protothread.specs.Remainder.{Remainder, fresh_of}
 use Rattle.process_kernel.specs.declared.line.What.TheVariants as what

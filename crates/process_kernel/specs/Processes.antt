@@ -1,6 +1,6 @@
 -- What is said of a process, and of its incarnations.
 use Rattle.std.specs.Prelude.{nat_lt, Bool, true, false, ◌||◌, List, length, unwrap_or, slice_get, slice_set}
-use Rattle.mote_program.specs.declared.event.Proc.{Proc}
+use Rattle.program_tree.specs.declared.event.Proc.{Proc}
 use Rattle.process_kernel.specs.declared.process.ProcessState.{ProcessState}
 use Rattle.process_kernel.specs.declared.process.ProcessState.TheVariants.{Off, Running, Called}
 use Rattle.process_kernel.specs.declared.process.Member.{Member}

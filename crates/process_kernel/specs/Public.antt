@@ -1,6 +1,6 @@
 -- What the calls of a `Kernel` tell.
 use Rattle.std.specs.Prelude.{ℕ, ◌≡◌, ◌+◌, ◌++◌, true, false, List, Option, Some, None, Result, Ok, Err, if◌then◌else◌}
-use Rattle.mote_program.specs.Code.{Tree}
+use Rattle.program_tree.specs.Code.{Tree}
 use Rattle.process_kernel.specs.declared.line.Line.{Line}
 use Rattle.process_kernel.specs.declared.line.Sent.{Sent}
 use Rattle.process_kernel.specs.declared.line.Out.{Out}

@@ -1,10 +1,10 @@
 -- What a process does with an event.
 use Rattle.std.specs.Prelude.{ℕ, slice_get, unwrap_or, Some, None, if◌then◌else◌}
-use Rattle.mote_program.specs.declared.event.Proc.{Proc}
-use Rattle.mote_program.specs.declared.event.Proc.TheVariants.{Own, Etimer, Ctimer, Radio}
-use Rattle.mote_program.specs.declared.event.Event.{Event}
-use Rattle.mote_program.specs.declared.event.SystemEvent.TheVariants.{Poll, Exit}
-use Rattle.mote_program.specs.Code.{Code}
+use Rattle.program_tree.specs.declared.event.Proc.{Proc}
+use Rattle.program_tree.specs.declared.event.Proc.TheVariants.{Own, Etimer, Ctimer, Radio}
+use Rattle.program_tree.specs.declared.event.Event.{Event}
+use Rattle.program_tree.specs.declared.event.SystemEvent.TheVariants.{Poll, Exit}
+use Rattle.program_tree.specs.Code.{Code}
 use Rattle.protothread.specs.declared.state.PtState.{PtState}
 use Rattle.protothread.specs.declared.state.PtState.TheVariants.{Yielded, Ended}
 use Rattle.protothread.specs.declared.part.Part.TheVariants.{Body, OnPoll, OnExit}

@@ -1,6 +1,6 @@
 -- The state of a mote's kernel, and how a step of it ends.
 use Rattle.std.specs.Prelude.{ℕ, Bool, List}
-use Rattle.mote_program.specs.Code.{Tree}
+use Rattle.program_tree.specs.Code.{Tree}
 use Rattle.protothread.specs.Remainder.{Remainder}
 use Rattle.event_queue.specs.Queue.{Queue}
 use Rattle.mote_timers.specs.TimerLists.{TimerLists}

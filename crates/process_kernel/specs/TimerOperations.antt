@@ -1,9 +1,9 @@
 -- What a program does with its timers.
 use Rattle.std.specs.Prelude.{ℕ, nat_lt, Bool, false, if◌then◌else◌, length, slice_get, Some, None}
-use Rattle.mote_program.specs.declared.event.Proc.{Proc}
-use Rattle.mote_program.specs.declared.event.Proc.TheVariants.{Own, Etimer, Ctimer}
+use Rattle.program_tree.specs.declared.event.Proc.{Proc}
+use Rattle.program_tree.specs.declared.event.Proc.TheVariants.{Own, Etimer, Ctimer}
 use Rattle.mote_timers.specs.Numbers.{with_member, without_member}
-use Rattle.mote_program.specs.Code.{Tree}
+use Rattle.program_tree.specs.Code.{Tree}
 use Rattle.mote_timers.specs.TimerLists.{set_timer, reset_timer, restart_timer, stop_timer}
 use Rattle.process_kernel.specs.State.{State}
 use Rattle.process_kernel.specs.Posts.{poll_of}

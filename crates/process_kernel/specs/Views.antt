@@ -1,7 +1,7 @@
 -- What the types of `src/machine.rt` and `src/look.rt` stand for, where the program of the mote is this.
 use Rattle.std.specs.Prelude.{ℕ, ◌≡◌, ◌+◌, ◌<◌, ◌≤◌, ◌++◌, ◌^◌, Bool, IsTrue, List, [], ◌∷◌, Option, Some, None, Box, Result, Ok, Err}
 use Rattle.std.specs.declared.alloc.Global.{Global}
-use Rattle.mote_program.specs.Code.{Code, Tree}
+use Rattle.program_tree.specs.Code.{Code, Tree}
 use Rattle.protothread.specs.declared.state.PtState.{PtState}
 use Rattle.protothread.specs.declared.thread.Thread.{Thread}
 use Rattle.protothread.specs.declared.part.Part.TheVariants.{Body}
@@ -15,8 +15,8 @@ use Rattle.process_kernel.specs.declared.machine.Machine.{Machine}
 use Rattle.process_kernel.specs.declared.machine.Stop.{Stop}
 use Rattle.process_kernel.specs.declared.machine.Stop.TheVariants.{Halted, Memory}
 use Rattle.process_kernel.specs.declared.look.Shown.{Shown}
-use Rattle.mote_program.specs.declared.event.Event.{Event}
-use Rattle.mote_program.specs.declared.event.Proc.{Proc}
+use Rattle.program_tree.specs.declared.event.Event.{Event}
+use Rattle.program_tree.specs.declared.event.Proc.{Proc}
 use Rattle.protothread.specs.declared.part.Part.{Part}
 use Rattle.process_kernel.specs.Looks.{looks_at}
 use Rattle.process_kernel.specs.Processes.{is_running_state, state_at}

@@ -1,8 +1,8 @@
 //! Protothreads: their steps, and the answers that they are told.
 
 ghost use Rattle.std.specs.Prelude.{◌≡◌};
-ghost use Rattle.mote_program.specs.Code.{Code, Tree};
-ghost use Rattle.mote_program.specs.Program.{code_of};
+ghost use Rattle.program_tree.specs.Code.{Code, Tree};
+ghost use Rattle.program_tree.specs.Program.{code_of};
 ghost use Rattle.protothread.specs.Frames.{remainder_of};
 ghost use Rattle.protothread.specs.Step.{PaysFor};
 ghost use Rattle.process_kernel.specs.Thread.{stepped_of};
@@ -12,7 +12,7 @@ ghost use Rattle.process_kernel.specs.Views.{state_of, Grows, KeepsCounts};
 
 use crate::look::Shown;
 use crate::machine::Machine;
-use mote_program::{Event, ProcessText};
+use program_tree::{Event, ProcessText};
 use protothread::{PtState, Step, Thread};
 
 impl Machine {

@@ -1,13 +1,13 @@
 //! The boot of a mote.
 
 ghost use Rattle.std.specs.Prelude.{◌≡◌, ◌<◌, ◌≤◌, ℕ, OnOk, length, map};
-ghost use Rattle.mote_program.specs.Program.{tree_of};
+ghost use Rattle.program_tree.specs.Program.{tree_of};
 ghost use Rattle.process_kernel.specs.Call.{calls_of};
 ghost use Rattle.process_kernel.specs.Boot.{starts_of, boot_of};
 ghost use Rattle.process_kernel.specs.Views.{state_of, Tells, Grows, HasRoom, Spends};
 
 use crate::machine::{Machine, Stop};
-use mote_program::{Proc, Program};
+use program_tree::{Proc, Program};
 
 impl Machine {
     /// Starts processes of the program, in order.

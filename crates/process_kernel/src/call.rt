@@ -1,7 +1,7 @@
 //! The call of a process, and what the process does with the event.
 
 ghost use Rattle.std.specs.Prelude.{◌≡◌, ◌<◌, ℕ, Some, OnOk, slice_get};
-ghost use Rattle.mote_program.specs.Program.{tree_of, code_of};
+ghost use Rattle.program_tree.specs.Program.{tree_of, code_of};
 ghost use Rattle.protothread.specs.Frames.{remainder_of};
 ghost use Rattle.process_kernel.specs.Call.{calls_of, has_ended as is_an_end};
 ghost use Rattle.process_kernel.specs.Ctimer.{callback_of, ctimer_of};
@@ -11,7 +11,7 @@ ghost use Rattle.process_kernel.specs.Views.{state_of, Tells, Grows, HasRoom, Sp
 use crate::event::is_event;
 use crate::machine::{Machine, Stop};
 use crate::process::ProcessState;
-use mote_program::{Event, Proc, ProcessText, Program, SystemEvent};
+use program_tree::{Event, Proc, ProcessText, Program, SystemEvent};
 use protothread::{Part, PtState, Step, Thread};
 
 /// Whether it is the answer of a thread that exited by itself or has ended.

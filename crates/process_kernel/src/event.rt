@@ -3,7 +3,7 @@
 ghost use Rattle.std.specs.Prelude.{◌≡◌};
 ghost use Rattle.process_kernel.specs.Calls.{told, is_system_event as has_number_of};
 
-use mote_program::{Event, SystemEvent};
+use program_tree::{Event, SystemEvent};
 
 /// An event of the kernel's own, with a word.
 pub fn told(event: SystemEvent, word: u16) -> Event

@@ -1,14 +1,14 @@
 //! The kernel of a mote.
 
 ghost use Rattle.std.specs.Prelude.{◌≡◌, ◌≤◌, ◌^◌, IfOk, IfErr, IfSome, Some, if◌then◌else◌, option_map};
-ghost use Rattle.mote_program.specs.Code.{Tree};
-ghost use Rattle.mote_program.specs.Program.{tree_of};
+ghost use Rattle.program_tree.specs.Code.{Tree};
+ghost use Rattle.program_tree.specs.Program.{tree_of};
 ghost use Rattle.mote_timers.specs.TimerLists.{next_expiration_of};
 ghost use Rattle.process_kernel.specs.Mote.{unbooted, with_poll, with_packet, has_room, is_pending};
 
 use crate::line::{Arrival, Out};
 use crate::machine::{Machine, Stop};
-use mote_program::{Proc, Program};
+use program_tree::{Proc, Program};
 use std::alloc::Global;
 use std::error::Error;
 use std::{fmt, mem};

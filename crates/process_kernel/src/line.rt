@@ -1,6 +1,6 @@
 //! What a kernel is handed and what it gives: packets that arrive, the lines of its trace, and packets that are sent.
 
-use mote_program::{Proc, Target};
+use program_tree::{Proc, Target};
 
 /// A packet that arrives: the mote that sent it, its number there, and its value.
 #[derive(Clone, Copy, Debug, Default, PartialEq, Eq)]

@@ -1,7 +1,7 @@
 //! How the process list grows and shrinks.
 
 ghost use Rattle.std.specs.Prelude.{◌≡◌, ◌<◌, ◌≤◌, ◌+◌, ◌^◌, ◌∷◌, false, not, OnOk, IfOk, IfErr, Some, drop, filter, length, slice_get};
-ghost use Rattle.mote_program.specs.Code.{Tree, Code};
+ghost use Rattle.program_tree.specs.Code.{Tree, Code};
 ghost use Rattle.protothread.specs.Frames.{remainder_of};
 ghost use Rattle.process_kernel.specs.Members.{is_same as are_same, place_of, stands_in};
 ghost use Rattle.process_kernel.specs.ProcessList.{put_remainder, enlist_of, exiting_of, unlisted_of, leave_of, numbered_from, with_fresh_body, with_fresh_process};
@@ -13,7 +13,7 @@ use crate::machine::{MOST_PROCESSES, Machine, Stop};
 use crate::process::{Member, ProcessState};
 use crate::table::is_same;
 use arrayvec::ArrayVec;
-use mote_program::Proc;
+use program_tree::Proc;
 use protothread::{Part, Thread};
 
 /// The members that are not of this process.

@@ -1,7 +1,7 @@
 //! The operations of the current process: starts, kills and exits, and the walk over the process list.
 
 ghost use Rattle.std.specs.Prelude.{◌≡◌, ◌<◌, ℕ, OnOk};
-ghost use Rattle.mote_program.specs.Program.{tree_of, code_of};
+ghost use Rattle.program_tree.specs.Program.{tree_of, code_of};
 ghost use Rattle.protothread.specs.Frames.{remainder_of};
 ghost use Rattle.process_kernel.specs.Call.{calls_of};
 ghost use Rattle.process_kernel.specs.Calls.{walk_of};
@@ -16,7 +16,7 @@ use crate::line::What;
 use crate::machine::{Machine, Stop};
 use crate::process::Member;
 use crate::table::is_same;
-use mote_program::{Event, Proc, ProcessText, Program, SystemEvent};
+use program_tree::{Event, Proc, ProcessText, Program, SystemEvent};
 use protothread::{Op, Thread};
 
 /// An event that a program posts. It has no sender.

@@ -1,7 +1,7 @@
 //! Lines, work, posts, polls and packets.
 
 ghost use Rattle.std.specs.Prelude.{◌≡◌, ◌+◌, ◌^◌, ◌++◌, ◌∷◌, [], OnOk};
-ghost use Rattle.mote_program.specs.Code.{Tree};
+ghost use Rattle.program_tree.specs.Code.{Tree};
 ghost use Rattle.process_kernel.specs.State.{Goes};
 ghost use Rattle.process_kernel.specs.Writes.{write_of, spend_of, halted_of};
 ghost use Rattle.process_kernel.specs.Posts.{post_of, poll_of, send_of};
@@ -11,7 +11,7 @@ ghost use Rattle.process_kernel.specs.Views.{state_of, Tells, Grows, KeepsCounts
 use crate::line::{Line, Sent, What};
 use crate::machine::{Machine, Stop};
 use crate::table::is_alive;
-use mote_program::{Event, Proc, Target};
+use program_tree::{Event, Proc, Target};
 
 /// How many events a mote accepts, and how many packets it sends, before it halts.
 const LIMIT: u64 = 1 << 62;

@@ -1,6 +1,6 @@
 //! The processes of a mote: their states, and their incarnations on the process list.
 
-use mote_program::Proc;
+use program_tree::Proc;
 
 /// The state of a process (`PROCESS_STATE_NONE` and its kin of `process.c`).
 #[derive(Clone, Copy, Debug, PartialEq, Eq)]

@@ -1,15 +1,15 @@
 //! The radio process.
 
 ghost use Rattle.std.specs.Prelude.{◌≡◌, ◌++◌, [], ◌∷◌, if◌then◌else◌, drop, nat_lt, length, slice_get, OnOk};
-ghost use Rattle.mote_program.specs.Code.{Tree};
-ghost use Rattle.mote_program.specs.Program.{tree_of};
+ghost use Rattle.program_tree.specs.Code.{Tree};
+ghost use Rattle.program_tree.specs.Program.{tree_of};
 ghost use Rattle.process_kernel.specs.Radio.{packet_of, hand_to, empty_ring, radio_of};
 ghost use Rattle.process_kernel.specs.Views.{state_of, Tells, Grows, KeepsCounts};
 
 use crate::event::is_event;
 use crate::line::{Arrival, What};
 use crate::machine::{Machine, Stop};
-use mote_program::{Event, Proc, Program, SystemEvent, Target};
+use program_tree::{Event, Proc, Program, SystemEvent, Target};
 
 /// A packet as an event: its value, and the mote that sent it.
 fn packet_event(packet: &Arrival) -> Event

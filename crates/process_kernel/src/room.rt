@@ -1,7 +1,7 @@
 //! All that a kernel needs room for, made at once.
 
 ghost use Rattle.std.specs.Prelude.{◌≡◌, ◌≤◌, IfOk, length, map};
-ghost use Rattle.mote_program.specs.Program.{tree_of};
+ghost use Rattle.program_tree.specs.Program.{tree_of};
 ghost use Rattle.protothread.specs.Remainder.{fresh_of};
 ghost use Rattle.process_kernel.specs.Mote.{unbooted};
 ghost use Rattle.process_kernel.specs.Views.{state_of, remainders_of};
@@ -12,8 +12,8 @@ use crate::process::ProcessState;
 use arrayvec::ArrayVec;
 use circular_buffer::HeapCircularBuffer;
 use event_queue::EventQueue;
-use mote_program::Program;
 use mote_timers::{Callbacks, Timers};
+use program_tree::Program;
 use protothread::{Fuel, Part, Semaphore, Thread, Vars};
 use std::alloc::{AllocError, Global};
 

@@ -1,8 +1,8 @@
 //! Kernel runs: polls, and the delivery of events.
 
 ghost use Rattle.std.specs.Prelude.{◌≡◌, ◌<◌, ◌≤◌, ◌+◌, ◌^◌, ℕ, OnOk, if◌then◌else◌, drop, length, position};
-ghost use Rattle.mote_program.specs.Code.{Tree};
-ghost use Rattle.mote_program.specs.Program.{tree_of};
+ghost use Rattle.program_tree.specs.Code.{Tree};
+ghost use Rattle.program_tree.specs.Program.{tree_of};
 ghost use Rattle.process_kernel.specs.Call.{calls_of};
 ghost use Rattle.process_kernel.specs.Processes.{flag_at};
 ghost use Rattle.process_kernel.specs.ProcessList.{numbered_from};
@@ -17,7 +17,7 @@ use crate::machine::{Machine, Stop};
 use crate::process::Member;
 use arrayvec::ArrayVec;
 use event_queue::Posted;
-use mote_program::{Proc, Program, SystemEvent, Target};
+use program_tree::{Proc, Program, SystemEvent, Target};
 use protothread::Fuel;
 
 /// How many processes are few, and some: a walk over so many makes a short copy of the list, since a call pays for all the room

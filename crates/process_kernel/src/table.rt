@@ -1,14 +1,14 @@
 //! The tables of processes.
 
 ghost use Rattle.std.specs.Prelude.{◌≡◌, ◌||◌, nat_lt, length, slice_get, unwrap_or};
-ghost use Rattle.mote_program.specs.Code.{Tree};
+ghost use Rattle.program_tree.specs.Code.{Tree};
 ghost use Rattle.process_kernel.specs.Members.{place_of, is_same as are_same, holds_member, stands_in};
 ghost use Rattle.process_kernel.specs.Processes.{state_at as state_of_process, flag_at, is_running_state, is_called_state, with_state, with_exiting, with_mark, is_alive as lives};
 ghost use Rattle.process_kernel.specs.Views.{state_of, Grows, KeepsCounts, KeepsLists};
 
 use crate::machine::Machine;
 use crate::process::{Member, ProcessState};
-use mote_program::Proc;
+use program_tree::Proc;
 
 /// The place of a process in the tables.
 pub fn place_of(process: Proc) -> usize

@@ -1,8 +1,8 @@
 //! Timers: what a program does with them, and the etimer process.
 
 ghost use Rattle.std.specs.Prelude.{◌≡◌, ◌<◌, OnOk, if◌then◌else◌};
-ghost use Rattle.mote_program.specs.Code.{Tree};
-ghost use Rattle.mote_program.specs.Program.{tree_of};
+ghost use Rattle.program_tree.specs.Code.{Tree};
+ghost use Rattle.program_tree.specs.Program.{tree_of};
 ghost use Rattle.mote_timers.specs.Numbers.{with_member, without_member};
 ghost use Rattle.process_kernel.specs.Ctimer.{waits_for};
 ghost use Rattle.process_kernel.specs.TimerOperations.{is_callback as is_of_callback, owner_of, timer_is_set, set_of, reset_of, restart_of, stop_of};
@@ -11,7 +11,7 @@ ghost use Rattle.process_kernel.specs.Views.{state_of, Tells, Grows, KeepsCounts
 
 use crate::event::{is_event, told};
 use crate::machine::{Machine, Stop};
-use mote_program::{Event, Proc, Program, SystemEvent, Target};
+use program_tree::{Event, Proc, Program, SystemEvent, Target};
 
 /// Whether it is a callback timer of the program.
 fn is_callback(program: &Program, timer: u16) -> bool

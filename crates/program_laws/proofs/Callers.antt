@@ -1,13 +1,13 @@
 -- For a caller that reads statements.
 use Rattle.std.proofs.Common.{◌≡◌, ℕ, ◌<◌, List, [], ◌∷◌, length, map, slice_get, sym, subst, ap, ◌∙◌, arith, Some}
-use Rattle.mote_program.specs.Code.{Code, Tree}
-use Rattle.mote_program.specs.Tree.{a_variable, Statement, does, assign, Body, end, next, listed, statement_of, expression_of, Expression}
-use Rattle.mote_program.specs.declared.tree.Action.{Action}
-use Rattle.mote_program.specs.declared.tree.Action.TheVariants as action
-use Rattle.mote_program.specs.declared.tree.Expr.{Expr}
-use Rattle.mote_program.specs.declared.tree.Stmt.{Stmt}
-use Rattle.mote_program.specs.declared.tree.Stmt.TheVariants as stmt
-use Rattle.mote_program.proofs.TreeLaws.{does_of-Do}
+use Rattle.program_tree.specs.Code.{Code, Tree}
+use Rattle.program_tree.specs.Tree.{a_variable, Statement, does, assign, Body, end, next, listed, statement_of, expression_of, Expression}
+use Rattle.program_tree.specs.declared.tree.Action.{Action}
+use Rattle.program_tree.specs.declared.tree.Action.TheVariants as action
+use Rattle.program_tree.specs.declared.tree.Expr.{Expr}
+use Rattle.program_tree.specs.declared.tree.Stmt.{Stmt}
+use Rattle.program_tree.specs.declared.tree.Stmt.TheVariants as stmt
+use Rattle.program_tree.proofs.TreeLaws.{does_of-Do}
 use Rattle.program_laws.specs.Declared.{NamesDeclared, of_process, IsDeclared}
 
 -- the variable that the first statement of a block sets

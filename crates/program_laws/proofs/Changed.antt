@@ -1,9 +1,9 @@
 -- A tree whose names are changed names the changed names.
 use Rattle.std.proofs.Common.{◌≡◌, List, ◌∷◌, ◌++◌, map, refl, sym, ap, ◌∙◌, Option, Some, None, option_map}
 use Rattle.std.proofs.lemmas.List.{map-append}
-use Rattle.mote_program.specs.EventNames as event
-use Rattle.mote_program.specs.EventNames.{CastEvent, SentEvent, AnyEvent, cast_map, sent_map, any_map}
-use Rattle.mote_program.specs.Tree.{Class, an_event, a_process, a_variable, a_timer, Expression, is, negation, binary, Action, assign, print, send, wait_until, wait_while, yield_until, post, broadcast, synch, set, Statement, does, branch, while, Body, end, next, Otherwise, nothing, otherwise, expression_map, action_map, statement_map, body_map, otherwise_map}
+use Rattle.program_tree.specs.EventNames as event
+use Rattle.program_tree.specs.EventNames.{CastEvent, SentEvent, AnyEvent, cast_map, sent_map, any_map}
+use Rattle.program_tree.specs.Tree.{Class, an_event, a_process, a_variable, a_timer, Expression, is, negation, binary, Action, assign, print, send, wait_until, wait_while, yield_until, post, broadcast, synch, set, Statement, does, branch, while, Body, end, next, Otherwise, nothing, otherwise, expression_map, action_map, statement_map, body_map, otherwise_map}
 use Rattle.program_laws.specs.Named.{named_by_cast, named_by_sent, named_by_any, named_by_expression, named_by_into, named_by_action, named_by_statement, named_by_block, named_by_otherwise}
 
 abbrev pub change : {A B : Type 0} → (Class → A → B) → Class × A → Class × B

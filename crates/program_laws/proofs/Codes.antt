@@ -2,13 +2,13 @@
 use Rattle.std.proofs.Common.{◌≡◌, ℕ, zero, suc, ◌+◌, List, [], ◌∷◌, ◌++◌, length, map, slice_get, refl, sym, ap, subst, ◌∙◌, append_assoc, arith, Option, Some, None, option_map}
 use Rattle.std.specs.Option.{ForSome}
 use Rattle.std.proofs.lemmas.List.{append-nil, length-append}
-use Rattle.mote_program.specs.Code.{Code, Tree}
-use Rattle.mote_program.specs.Grammar.{Mark, etimer_marks, ctimer_marks, thread_marks, code_marks, codes_marks}
-use Rattle.mote_program.specs.InScope.{Names, no_names, names_of}
-use Rattle.mote_program.specs.Numbers.{block_in, named_of, values_of, timers_of, inside, code_in, codes_in}
-use Rattle.mote_program.specs.Shapes.{Name, Named, CodeShape}
-use Rattle.mote_program.specs.Steps.{Extends, IsFront}
-use Rattle.mote_program.specs.Tree.{Class, an_event, a_semaphore, a_process, a_variable, a_timer, a_thread, Body}
+use Rattle.program_tree.specs.Code.{Code, Tree}
+use Rattle.program_tree.specs.Grammar.{Mark, etimer_marks, ctimer_marks, thread_marks, code_marks, codes_marks}
+use Rattle.program_tree.specs.InScope.{Names, no_names, names_of}
+use Rattle.program_tree.specs.Numbers.{block_in, named_of, values_of, timers_of, inside, code_in, codes_in}
+use Rattle.program_tree.specs.Shapes.{Name, Named, CodeShape}
+use Rattle.program_reader.specs.Steps.{Extends, IsFront}
+use Rattle.program_tree.specs.Tree.{Class, an_event, a_semaphore, a_process, a_variable, a_timer, a_thread, Body}
 use Rattle.program_laws.specs.Declared.{Declarations, NamesDeclared, of_process, at_thread, IsDeclaredIn}
 use Rattle.program_laws.proofs.Marks.{AreSound}
 use Rattle.program_laws.proofs.Numbers.{counts_of, Counts, counted, counted_before, numbers_declared}

@@ -2,11 +2,11 @@
 use Rattle.std.proofs.Common.{◌≡◌, ℕ, zero, suc, ◌+◌, ◌-◌, ◌<◌, ◌≤◌, nat_le, List, [], ◌∷◌, ◌++◌, length, map, slice_get, refl, sym, ap, subst, ◌∙◌, append_assoc, arith, Bool, true, false, Some}
 use Rattle.std.proofs.lemmas.Bool.{leb-true, leb-false, le-leb, lt-leb}
 use Rattle.std.proofs.lemmas.List.{length-append, length-map}
-use Rattle.mote_program.specs.Code.{Code, Tree}
-use Rattle.mote_program.specs.InScope.{Names, outside}
-use Rattle.mote_program.specs.Numbers.{block_in, named_of, values_of, timers_of, inside, codes_in, timer_of, timers_from, codes_of, program_names, tree_of_shape}
-use Rattle.mote_program.specs.Shapes.{CodeShape, ProgramShape}
-use Rattle.mote_program.specs.declared.timer.Timer.{Timer}
+use Rattle.program_tree.specs.Code.{Code, Tree}
+use Rattle.program_tree.specs.InScope.{Names, outside}
+use Rattle.program_tree.specs.Numbers.{block_in, named_of, values_of, timers_of, inside, codes_in, timer_of, timers_from, codes_of, program_names, tree_of_shape}
+use Rattle.program_tree.specs.Shapes.{CodeShape, ProgramShape}
+use Rattle.program_tree.specs.declared.timer.Timer.{Timer}
 use Rattle.program_laws.specs.Complete.{IsCompleteIn, IsComplete}
 use Rattle.program_laws.proofs.Codes.{names_at, code_at}
 

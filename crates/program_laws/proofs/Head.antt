@@ -4,12 +4,12 @@ use Rattle.std.specs.List.{All}
 use Rattle.std.specs.Option.{ForSome}
 use Rattle.std.proofs.lemmas.List.{append-nil}
 use Rattle.std.proofs.lemmas.List.Elements.{All-nil, All-cons}
-use Rattle.mote_program.specs.Grammar.{Mark, event_marks, semaphore_marks, process_marks, starting_marks, autostart_marks, receiver_marks}
-use Rattle.mote_program.specs.InScope.{Names, with_new, is_a, number_in}
-use Rattle.mote_program.specs.Numbers.{named_of}
-use Rattle.mote_program.specs.Shapes.{Name, Valued, CodeShape}
-use Rattle.mote_program.specs.Tree.{an_event, a_semaphore, a_process}
-use Rattle.mote_program.proofs.ScopeLaws.{number_found}
+use Rattle.program_tree.specs.Grammar.{Mark, event_marks, semaphore_marks, process_marks, starting_marks, autostart_marks, receiver_marks}
+use Rattle.program_tree.specs.InScope.{Names, with_new, is_a, number_in}
+use Rattle.program_tree.specs.Numbers.{named_of}
+use Rattle.program_tree.specs.Shapes.{Name, Valued, CodeShape}
+use Rattle.program_tree.specs.Tree.{an_event, a_semaphore, a_process}
+use Rattle.program_reader.proofs.ScopeLaws.{number_found}
 use Rattle.program_laws.proofs.Marks.{AreSound}
 use Rattle.program_laws.proofs.Numbers.{counted}
 use Rattle.program_laws.proofs.Stands.{Stands, stands}

@@ -1,12 +1,12 @@
 -- The marks of a program keep the rules on names: each name that is used stands in scope.
 use Rattle.std.proofs.Common.{◌≡◌, List, [], ◌∷◌, ◌++◌, refl, sym, ap, subst, ◌∙◌, append_assoc, Bool, true, false, not, ◌&&◌, ◌||◌, IsTrue}
 use Rattle.std.proofs.lemmas.List.{map-append}
-use Rattle.mote_program.specs.Faults.{Scope, nothing_yet, with_role, with_begun, scope_after, scope_from, scope_of, is_own, role_breaks, begun_breaks, IsProgram}
-use Rattle.mote_program.specs.Grammar.{Role, plain, new, uses, spawns, starts, value, opens, leaves, Begun, none_begins, statement, wait, Mark, tokens, program_marks}
-use Rattle.mote_program.specs.InScope.{Names, with_new, outside, is_a, is_in_scope}
-use Rattle.mote_program.specs.Shapes.{ProgramShape}
-use Rattle.mote_program.specs.Tree.{a_process, a_thread}
-use Rattle.mote_program.specs.declared.error.ReadErrorKind.TheVariants.{UnknownName, BadTarget}
+use Rattle.program_tree.specs.Faults.{Scope, nothing_yet, with_role, with_begun, scope_after, scope_from, scope_of, is_own, role_breaks, begun_breaks, IsProgram}
+use Rattle.program_tree.specs.Grammar.{Role, plain, new, uses, spawns, starts, value, opens, leaves, Begun, none_begins, statement, wait, Mark, tokens, program_marks}
+use Rattle.program_tree.specs.InScope.{Names, with_new, outside, is_a, is_in_scope}
+use Rattle.program_tree.specs.Shapes.{ProgramShape}
+use Rattle.program_tree.specs.Tree.{a_process, a_thread}
+use Rattle.program_tree.specs.declared.error.ReadErrorKind.TheVariants.{UnknownName, BadTarget}
 
 -- a name that is used stands for one of its class
 abbrev pub KeepsRole : Names → Role → Type 0

@@ -5,14 +5,14 @@ use Rattle.std.specs.Str.{bytes_eq}
 use Rattle.std.proofs.lemmas.Bool.{ltb-true, ltb-false}
 use Rattle.std.proofs.lemmas.List.{length-append}
 use Rattle.std.proofs.lemmas.List.Elements.{All-map, All-weaker}
-use Rattle.mote_program.specs.InScope.{Names, with_new, number_in}
-use Rattle.mote_program.specs.Names.{place_of}
-use Rattle.mote_program.specs.Numbers.{block_in}
-use Rattle.mote_program.specs.Shapes.{Name}
-use Rattle.mote_program.specs.Steps.{look, Finds, Extends}
-use Rattle.mote_program.specs.Tree.{Class, an_event, a_semaphore, a_process, a_variable, a_timer, a_thread, Body}
-use Rattle.mote_program.proofs.NameLaws.{name_at, place_below, bytes_same}
-use Rattle.mote_program.proofs.ScopeLaws.{number_found, still_found}
+use Rattle.program_tree.specs.InScope.{Names, with_new, number_in}
+use Rattle.program_tree.specs.Names.{place_of}
+use Rattle.program_tree.specs.Numbers.{block_in}
+use Rattle.program_tree.specs.Shapes.{Name}
+use Rattle.program_reader.specs.Steps.{look, Finds, Extends}
+use Rattle.program_tree.specs.Tree.{Class, an_event, a_semaphore, a_process, a_variable, a_timer, a_thread, Body}
+use Rattle.program_tree.proofs.NameLaws.{name_at, place_below, bytes_same}
+use Rattle.program_reader.proofs.ScopeLaws.{number_found, still_found}
 use Rattle.program_laws.specs.Declared.{Declarations, IsOneOf, NamesDeclared}
 use Rattle.program_laws.specs.Named.{named_by_block}
 use Rattle.program_laws.proofs.Changed.{change, block_changed}

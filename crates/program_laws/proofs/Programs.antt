@@ -1,16 +1,16 @@
 -- The laws of programs: from the shape of a program to its text, and to the program that was read.
 use Rattle.std.proofs.Common.{◌≡◌, ℕ, List, [], ◌∷◌, sym, subst}
-use Rattle.mote_program.specs.Code.{Tree}
-use Rattle.mote_program.specs.Faults.{IsProgram}
-use Rattle.mote_program.specs.Grammar.{Mark, tokens, semaphore_marks, autostart_marks, receiver_marks, codes_marks, program_marks}
-use Rattle.mote_program.specs.InScope.{Names, no_names}
-use Rattle.mote_program.specs.Numbers.{program_names, tree_of_shape}
-use Rattle.mote_program.specs.Program.{tree_of}
-use Rattle.mote_program.specs.Reading.{IsTreeOf}
-use Rattle.mote_program.specs.ShapeOf.{text_of_tree}
-use Rattle.mote_program.specs.Shapes.{ProgramShape}
-use Rattle.mote_program.specs.declared.program.Program.{Program}
-use Rattle.mote_program.proofs.ReadAgain.{read_again}
+use Rattle.program_tree.specs.Code.{Tree}
+use Rattle.program_tree.specs.Faults.{IsProgram}
+use Rattle.program_tree.specs.Grammar.{Mark, tokens, semaphore_marks, autostart_marks, receiver_marks, codes_marks, program_marks}
+use Rattle.program_tree.specs.InScope.{Names, no_names}
+use Rattle.program_tree.specs.Numbers.{program_names, tree_of_shape}
+use Rattle.program_tree.specs.Program.{tree_of}
+use Rattle.program_tree.specs.Reading.{IsTreeOf}
+use Rattle.program_tree.specs.ShapeOf.{text_of_tree}
+use Rattle.program_tree.specs.Shapes.{ProgramShape}
+use Rattle.program_tree.specs.declared.program.Program.{Program}
+use Rattle.program_printer.proofs.ReadAgain.{read_again}
 use Rattle.program_laws.specs.Complete.{IsComplete}
 use Rattle.program_laws.specs.Declared.{IsDeclared}
 use Rattle.program_laws.specs.Laws.{NamesAreDeclared, DeclarationsAreComplete}

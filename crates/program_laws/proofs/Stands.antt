@@ -2,16 +2,16 @@
 use Rattle.std.proofs.Common.{◌≡◌, ℕ, ◌+◌, List, [], ◌∷◌, ◌++◌, refl, ap, true, false, Option, Some, None, is_some, option_map}
 use Rattle.std.specs.List.{All}
 use Rattle.std.proofs.lemmas.List.Elements.{All-nil, All-cons, All-append}
-use Rattle.mote_program.specs.EventNames as event
-use Rattle.mote_program.specs.EventNames.{CastEvent, SentEvent, AnyEvent}
-use Rattle.mote_program.specs.Grammar.{Context, inner, Mark, sign, opening, cast_mark, sent_mark, any_mark, into_marks, expression_marks, action_marks, statement_marks, items_marks, else_marks, block_marks}
-use Rattle.mote_program.specs.InScope.{Names, is_a}
-use Rattle.mote_program.specs.Names.{place_of}
-use Rattle.mote_program.specs.Shapes.{Name}
-use Rattle.mote_program.specs.Steps.{look, Finds, is_own_thread}
-use Rattle.mote_program.specs.Tokens as token
-use Rattle.mote_program.specs.Tree as tree
-use Rattle.mote_program.specs.Tree.{Class, an_event, a_semaphore, a_process, a_variable, a_timer, a_thread, Expression, number, variable, sender, moment, mote, is, fired, expired, gone, running, count, negation, binary, Action, assign, print, send, wait_until, wait_while, yield, yield_until, spawn, restart, exit, pause, acquire, signal, post, broadcast, synch, poll, start, kill, set, reset, restart_timer, stop, Statement, does, branch, while, Body, end, next, Otherwise, nothing, otherwise}
+use Rattle.program_tree.specs.EventNames as event
+use Rattle.program_tree.specs.EventNames.{CastEvent, SentEvent, AnyEvent}
+use Rattle.program_tree.specs.Grammar.{Context, inner, Mark, sign, opening, cast_mark, sent_mark, any_mark, into_marks, expression_marks, action_marks, statement_marks, items_marks, else_marks, block_marks}
+use Rattle.program_tree.specs.InScope.{Names, is_a}
+use Rattle.program_tree.specs.Names.{place_of}
+use Rattle.program_tree.specs.Shapes.{Name}
+use Rattle.program_reader.specs.Steps.{look, Finds, is_own_thread}
+use Rattle.program_tree.specs.Tokens as token
+use Rattle.program_tree.specs.Tree as tree
+use Rattle.program_tree.specs.Tree.{Class, an_event, a_semaphore, a_process, a_variable, a_timer, a_thread, Expression, number, variable, sender, moment, mote, is, fired, expired, gone, running, count, negation, binary, Action, assign, print, send, wait_until, wait_while, yield, yield_until, spawn, restart, exit, pause, acquire, signal, post, broadcast, synch, poll, start, kill, set, reset, restart_timer, stop, Statement, does, branch, while, Body, end, next, Otherwise, nothing, otherwise}
 use Rattle.program_laws.specs.Named.{named_by_cast, named_by_sent, named_by_any, named_by_expression, named_by_into, named_by_action, named_by_statement, named_by_block, named_by_otherwise}
 use Rattle.program_laws.proofs.Marks.{AreSound}
 

@@ -2,9 +2,9 @@
 use Rattle.std.proofs.Common.{◌≡◌, ℕ, zero, suc, ◌+◌, ◌<◌, ◌≤◌, nat_le, [], ◌∷◌, slice_get, refl, subst, arith, Some, true}
 use Rattle.std.specs.List.{AllByRecursion}
 use Rattle.std.proofs.lemmas.List.Elements.{All-from_recursion}
-use Rattle.mote_program.specs.Code.{Code}
-use Rattle.mote_program.specs.Tree.{Body, end, a_variable, Class, variable, print, reset}
-use Rattle.mote_program.specs.declared.timer.Timer.{Timer}
+use Rattle.program_tree.specs.Code.{Code}
+use Rattle.program_tree.specs.Tree.{Body, end, a_variable, Class, variable, print, reset}
+use Rattle.program_tree.specs.declared.timer.Timer.{Timer}
 use Rattle.program_laws.specs.Complete.{IsCompleteIn}
 use Rattle.program_laws.specs.Declared.{Declarations, IsOneOf, NamesDeclared, of_process, at_callback, at_thread, IsDeclaredIn, IsDeclared}
 use Rattle.program_laws.specs.Named.{named_by_block}

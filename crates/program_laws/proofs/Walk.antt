@@ -3,11 +3,11 @@ use Rattle.std.proofs.Common.{◌≡◌, List, [], ◌∷◌, ◌++◌, sym, sub
 use Rattle.std.specs.List.{All}
 use Rattle.std.specs.Option.{ForSome}
 use Rattle.std.proofs.lemmas.List.{append-nil}
-use Rattle.mote_program.specs.Grammar.{at_body, at_simple, at_thread, Mark, variable_marks, etimer_marks, ctimer_marks, thread_marks, content_marks, leaving}
-use Rattle.mote_program.specs.InScope.{Names, with_new}
-use Rattle.mote_program.specs.Numbers.{named_of}
-use Rattle.mote_program.specs.Shapes.{Name, Valued, Named}
-use Rattle.mote_program.specs.Tree.{a_variable, a_timer, a_thread, Body}
+use Rattle.program_tree.specs.Grammar.{at_body, at_simple, at_thread, Mark, variable_marks, etimer_marks, ctimer_marks, thread_marks, content_marks, leaving}
+use Rattle.program_tree.specs.InScope.{Names, with_new}
+use Rattle.program_tree.specs.Numbers.{named_of}
+use Rattle.program_tree.specs.Shapes.{Name, Valued, Named}
+use Rattle.program_tree.specs.Tree.{a_variable, a_timer, a_thread, Body}
 use Rattle.program_laws.specs.Named.{named_by_block}
 use Rattle.program_laws.proofs.Marks.{AreSound}
 use Rattle.program_laws.proofs.Stands.{Stands, block_stands}

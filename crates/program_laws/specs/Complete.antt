@@ -1,6 +1,6 @@
 -- Programs in which each declaration has what it declares.
 use Rattle.std.specs.Prelude.{◌≡◌, ℕ, ◌+◌, ◌<◌, ◌≤◌, nat_le, length, slice_get, Some}
-use Rattle.mote_program.specs.Code.{Code, Tree}
+use Rattle.program_tree.specs.Code.{Code, Tree}
 
 -- Each variable of a process has its first value, each callback timer and each thread its block; and each timer of the process, in the program's list
 -- of timers, is that process's own, and a callback timer where it stands behind the event timers.

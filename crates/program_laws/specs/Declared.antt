@@ -2,8 +2,8 @@
 use Rattle.std.specs.Prelude.{◌≡◌, ℕ, ◌+◌, ◌<◌, ◌≤◌, length, slice_get, Some}
 use Rattle.std.specs.List.{All}
 use Rattle.std.specs.Option.{ForSome}
-use Rattle.mote_program.specs.Code.{Code, Tree}
-use Rattle.mote_program.specs.Tree.{Class, an_event, a_semaphore, a_process, a_variable, a_timer, a_thread, Body}
+use Rattle.program_tree.specs.Code.{Code, Tree}
+use Rattle.program_tree.specs.Tree.{Class, an_event, a_semaphore, a_process, a_variable, a_timer, a_thread, Body}
 use Rattle.program_laws.specs.Named.{named_by_block}
 
 -- How many of each class are declared before a block. Timers are numbered through the program, and a block has those of its process.

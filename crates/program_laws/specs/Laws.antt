@@ -1,9 +1,9 @@
 -- The laws of programs, whatever text they are the trees of.
 use Rattle.std.specs.Prelude.{◌≡◌, ℕ, List}
 use Rattle.std.specs.List.{All}
-use Rattle.mote_program.specs.Code.{Tree}
-use Rattle.mote_program.specs.Reading.{IsTreeOf}
-use Rattle.mote_program.specs.Tree.{Class, Body, body_map}
+use Rattle.program_tree.specs.Code.{Tree}
+use Rattle.program_tree.specs.Reading.{IsTreeOf}
+use Rattle.program_tree.specs.Tree.{Class, Body, body_map}
 use Rattle.program_laws.specs.Complete.{IsComplete}
 use Rattle.program_laws.specs.Declared.{IsDeclared}
 use Rattle.program_laws.specs.Named.{named_by_block}

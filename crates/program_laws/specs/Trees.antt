@@ -1,8 +1,8 @@
 -- Small trees: one whose names are declared, and some that break one thing each, as their names say.
 use Rattle.std.specs.Prelude.{ℕ, true, false, [], ◌∷◌, Some, None, codes}
-use Rattle.mote_program.specs.Code.{Code, Tree}
-use Rattle.mote_program.specs.EventNames as event
-use Rattle.mote_program.specs.Tree.{number, variable, Action, print, broadcast, poll, signal, spawn, reset, does, Body, end, next}
+use Rattle.program_tree.specs.Code.{Code, Tree}
+use Rattle.program_tree.specs.EventNames as event
+use Rattle.program_tree.specs.Tree.{number, variable, Action, print, broadcast, poll, signal, spawn, reset, does, Body, end, next}
 use Rattle.program_laws.specs.Complete.{IsComplete}
 use Rattle.program_laws.specs.Declared.{IsDeclared}
 

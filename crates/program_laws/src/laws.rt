@@ -1,12 +1,12 @@
 //! Laws of programs. Each is the contract of a function that does nothing.
 
-ghost use Rattle.mote_program.specs.Program.{tree_of};
+ghost use Rattle.program_tree.specs.Program.{tree_of};
 ghost use Rattle.program_laws.specs.Complete.{IsComplete};
 ghost use Rattle.program_laws.specs.Declared.{IsDeclared};
 ghost use Rattle.program_laws.specs.Laws.{NamesAreDeclared, DeclarationsAreComplete, EachNameIsListed};
 ghost use Rattle.program_laws.specs.Trees.{TreesThatDeclare, TreesThatDoNot, TreesThatLack};
 
-use mote_program::Program;
+use program_tree::Program;
 
 /// Whatever text has a tree: each variable, process, thread, timer, semaphore and event that the tree names, by its number, is one that is
 /// declared before the block in which it is named; the numbers in `autostart` and of the receiver are those of processes. And each declaration

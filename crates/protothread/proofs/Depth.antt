@@ -4,10 +4,10 @@ use Rattle.std.specs.Prelude.{slice_get, IsTrue}
 use Rattle.std.specs.List.{All}
 use Rattle.std.proofs.lemmas.Option.{slice_get_past, slice_get_within, get_or_from_slice_get}
 use Rattle.std.proofs.lemmas.Bool.{ltb-true}
-use Rattle.mote_program.specs.Tree.{Action, spawn, Statement, does, branch, while, Body, end, next, nothing, otherwise, listed, body_of, height, inner_height, size, inner_size, IsWithinLimits}
-use Rattle.mote_program.specs.Code.{Code}
-use Rattle.mote_program.specs.Scope.{Within, expression_fits, statement_fits, block_fits, other_fits, threads_fit, earlier_threads}
-use Rattle.mote_program.proofs.TreeLaws.{body_of-listed}
+use Rattle.program_tree.specs.Tree.{Action, spawn, Statement, does, branch, while, Body, end, next, nothing, otherwise, listed, body_of, height, inner_height, size, inner_size, IsWithinLimits}
+use Rattle.program_tree.specs.Code.{Code}
+use Rattle.program_tree.specs.Scope.{Within, expression_fits, statement_fits, block_fits, other_fits, threads_fit, earlier_threads}
+use Rattle.program_tree.proofs.TreeLaws.{body_of-listed}
 use Rattle.protothread.specs.declared.frame.Branch.{Branch}
 use Rattle.protothread.specs.declared.frame.Branch.TheVariants.{Then, Else, Loop, Spawned}
 use Rattle.protothread.specs.declared.frame.Frame.{Frame}

@@ -3,8 +3,8 @@ use Rattle.std.proofs.Common.{◌≡◌, ℕ, ◌+◌, Bool, true, false, if◌t
 use Rattle.std.specs.Prelude.{slice_get}
 use Rattle.std.proofs.lemmas.Option.{slice_get_within, get_or_from_slice_get}
 use Rattle.std.proofs.lemmas.List.{drop_more}
-use Rattle.mote_program.specs.Tree.{Statement}
-use Rattle.mote_program.specs.Code.{Code}
+use Rattle.program_tree.specs.Tree.{Statement}
+use Rattle.program_tree.specs.Code.{Code}
 use Rattle.protothread.specs.declared.frame.Branch.{Branch}
 use Rattle.protothread.specs.declared.frame.Branch.TheVariants.{Then, Else, Loop, Spawned}
 use Rattle.protothread.specs.declared.frame.Frame.{Frame}

@@ -1,6 +1,6 @@
 -- A run, one statement at a time: the device by which a run is compared with the reading of its text.
 use Rattle.std.proofs.Common.{◌≡◌, ℕ, zero, suc, ◌-◌, ◌<◌, true, false, nat_lt, List, [], ◌∷◌, refl, sym, arith, subst}
-use Rattle.mote_program.specs.Code.{Code}
+use Rattle.program_tree.specs.Code.{Code}
 use Rattle.protothread.specs.declared.state.PtState.{PtState}
 use Rattle.protothread.specs.declared.state.PtState.TheVariants.{Waiting, Yielded, Exited, Ended}
 use Rattle.protothread.specs.declared.part.Part.{Part}

@@ -1,8 +1,8 @@
 -- Blocks within their limits, as lists of statements.
 use Rattle.std.proofs.Common.{◌≡◌, ℕ, List, [], Option, None, Some, option_map, sym, ◌∙◌, ap, subst, arith}
 use Rattle.std.specs.Prelude.{IfSome}
-use Rattle.mote_program.specs.Tree.{Statement, Body, listed, body_of, IsWithinLimits}
-use Rattle.mote_program.proofs.TreeLaws.{body_of-listed}
+use Rattle.program_tree.specs.Tree.{Statement, Body, listed, body_of, IsWithinLimits}
+use Rattle.program_tree.proofs.TreeLaws.{body_of-listed}
 use Rattle.protothread.specs.Remainder.{statements_of}
 
 pub within_as_list : (b : Body ℕ) (ss : List (Statement ℕ)) → ss ≡ listed b → IsWithinLimits b → IsWithinLimits (body_of ss)

@@ -2,16 +2,16 @@
 -- an exit.
 use Rattle.std.proofs.Common.{ℕ, zero, suc, ◌≡◌, ◌-◌, Bool, true, false, ◌&&◌, if◌then◌else◌, List, arith}
 use Rattle.std.specs.Prelude.{nat_lt, not, slice_index, ◌==◌}
-use Rattle.mote_program.specs.declared.event.Event.{Event}
-use Rattle.mote_program.specs.declared.event.Proc.{Proc}
-use Rattle.mote_program.specs.declared.event.Proc.TheVariants.{Own}
-use Rattle.mote_program.specs.declared.event.Target.TheVariants.{One, All}
-use Rattle.mote_program.specs.declared.event.SystemEvent.TheVariants.{Exit}
-use Rattle.mote_program.specs.Events.{system_number}
-use Rattle.mote_program.specs.EventNames as event_name
-use Rattle.mote_program.specs.EventNames.{CastEvent, cast_number}
-use Rattle.mote_program.specs.Tree.{Action, assign, print, send, wait_until, wait_while, yield, yield_until, spawn, restart, exit, pause, acquire, signal, post, broadcast, synch, poll, start, kill, set, reset, restart_timer, stop, Statement, does, branch, while}
-use Rattle.mote_program.specs.Code.{Code}
+use Rattle.program_tree.specs.declared.event.Event.{Event}
+use Rattle.program_tree.specs.declared.event.Proc.{Proc}
+use Rattle.program_tree.specs.declared.event.Proc.TheVariants.{Own}
+use Rattle.program_tree.specs.declared.event.Target.TheVariants.{One, All}
+use Rattle.program_tree.specs.declared.event.SystemEvent.TheVariants.{Exit}
+use Rattle.program_tree.specs.Events.{system_number}
+use Rattle.program_tree.specs.EventNames as event_name
+use Rattle.program_tree.specs.EventNames.{CastEvent, cast_number}
+use Rattle.program_tree.specs.Tree.{Action, assign, print, send, wait_until, wait_while, yield, yield_until, spawn, restart, exit, pause, acquire, signal, post, broadcast, synch, poll, start, kill, set, reset, restart_timer, stop, Statement, does, branch, while}
+use Rattle.program_tree.specs.Code.{Code}
 use Rattle.protothread.specs.declared.part.Part.{Part}
 use Rattle.protothread.specs.declared.thread.Mark.{Mark}
 use Rattle.protothread.specs.declared.thread.Mark.TheVariants.{AtRest, UnderWay, Pausing, RunAway}

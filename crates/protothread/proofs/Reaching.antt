@@ -2,9 +2,9 @@
 use Rattle.std.proofs.Common.{◌≡◌, ℕ, ◌+◌, ◌-◌, Bool, true, false, if◌then◌else◌, List, [], ◌∷◌, ◌++◌, drop, length, Some, refl, ap, sym, ◌∙◌, arith}
 use Rattle.std.specs.Prelude.{slice_get}
 use Rattle.std.proofs.lemmas.List.{append-nil}
-use Rattle.mote_program.specs.declared.event.Event.{Event}
-use Rattle.mote_program.specs.Tree.{Statement, does, spawn}
-use Rattle.mote_program.specs.Code.{Code}
+use Rattle.program_tree.specs.declared.event.Event.{Event}
+use Rattle.program_tree.specs.Tree.{Statement, does, spawn}
+use Rattle.program_tree.specs.Code.{Code}
 use Rattle.protothread.specs.declared.frame.Branch.{Branch}
 use Rattle.protothread.specs.declared.frame.Branch.TheVariants.{Spawned}
 use Rattle.protothread.specs.declared.frame.Frame.{Frame}

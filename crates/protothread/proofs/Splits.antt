@@ -1,11 +1,11 @@
 -- What a run does is what its text says.
 use Rattle.std.proofs.Common.{◌≡◌, ℕ, zero, suc, ◌<◌, ◌≤◌, Bool, true, false, not, if◌then◌else◌, List, [], ◌∷◌, ◌++◌, Option, None, Some, slice_set, slice_index, refl, ap, sym, ◌∙◌, arith, append_assoc, subst, ◌==◌}
 use Rattle.std.proofs.lemmas.List.{append-nil}
-use Rattle.mote_program.specs.declared.event.Proc.TheVariants.{Own}
-use Rattle.mote_program.specs.declared.event.Target.TheVariants.{One}
-use Rattle.mote_program.specs.EventNames.{sent, cast, continue}
-use Rattle.mote_program.specs.Tree.{Expression, is, Action, wait_until, wait_while, yield, yield_until, spawn, restart, exit, pause, acquire, Statement, does, branch, while, listed}
-use Rattle.mote_program.specs.Code.{Code}
+use Rattle.program_tree.specs.declared.event.Proc.TheVariants.{Own}
+use Rattle.program_tree.specs.declared.event.Target.TheVariants.{One}
+use Rattle.program_tree.specs.EventNames.{sent, cast, continue}
+use Rattle.program_tree.specs.Tree.{Expression, is, Action, wait_until, wait_while, yield, yield_until, spawn, restart, exit, pause, acquire, Statement, does, branch, while, listed}
+use Rattle.program_tree.specs.Code.{Code}
 use Rattle.protothread.specs.declared.state.PtState.{PtState}
 use Rattle.protothread.specs.declared.state.PtState.TheVariants.{Waiting, Yielded, Exited, Ended}
 use Rattle.protothread.specs.declared.part.Part.{Part}

@@ -2,8 +2,8 @@
 use Rattle.std.proofs.Common.{◌≡◌, ℕ, zero, suc, ◌+◌, ◌-◌, ◌<◌, ◌≤◌, ◌⊎◌, inl, inr, Bool, true, false, if◌then◌else◌, List, refl, ap, sym, ◌∙◌, arith, subst}
 use Rattle.std.specs.Prelude.{nat_lt}
 use Rattle.std.proofs.lemmas.Bool.Decides.{nat_tests}
-use Rattle.mote_program.specs.declared.event.Event.{Event}
-use Rattle.mote_program.specs.Code.{Code}
+use Rattle.program_tree.specs.declared.event.Event.{Event}
+use Rattle.program_tree.specs.Code.{Code}
 use Rattle.protothread.specs.declared.part.Part.{Part}
 use Rattle.protothread.specs.declared.thread.Mark.{Mark}
 use Rattle.protothread.specs.declared.thread.Mark.TheVariants.{AtRest, UnderWay, Pausing, RunAway}

@@ -1,7 +1,7 @@
 -- What the frames of a thread mean.
 use Rattle.std.specs.Prelude.{ℕ, zero, suc, ◌+◌, ◌-◌, Bool, true, false, if◌then◌else◌, List, [], ◌∷◌, ◌++◌, drop, Option, Some, slice_get}
-use Rattle.mote_program.specs.Tree.{Statement, spawn, does, branch, while, listed}
-use Rattle.mote_program.specs.Code.{Code}
+use Rattle.program_tree.specs.Tree.{Statement, spawn, does, branch, while, listed}
+use Rattle.program_tree.specs.Code.{Code}
 use Rattle.protothread.specs.declared.frame.Branch.{Branch}
 use Rattle.protothread.specs.declared.frame.Branch.TheVariants.{Then, Else, Loop, Spawned}
 use Rattle.protothread.specs.declared.frame.Frame.{Frame}

@@ -1,8 +1,8 @@
 -- Laws of the step of a protothread.
 use Rattle.std.specs.Prelude.{ℕ, ◌≡◌, ◌≢◌, ◌+◌, List, [], ◌<◌, Bool, true, false, IsTrue, ◌⊎◌}
-use Rattle.mote_program.specs.declared.event.Event.{Event}
-use Rattle.mote_program.specs.Code.{Code}
-use Rattle.mote_program.specs.Tree.{Statement, does, wait_until, wait_while, yield, yield_until, pause, acquire}
+use Rattle.program_tree.specs.declared.event.Event.{Event}
+use Rattle.program_tree.specs.Code.{Code}
+use Rattle.program_tree.specs.Tree.{Statement, does, wait_until, wait_while, yield, yield_until, pause, acquire}
 use Rattle.protothread.specs.declared.step.Step.TheVariants.{Runaway, Done}
 use Rattle.protothread.specs.declared.state.PtState.{PtState}
 use Rattle.protothread.specs.declared.thread.Mark.TheVariants.{AtRest, Pausing}

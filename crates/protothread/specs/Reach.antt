@@ -1,8 +1,8 @@
 -- What the code of a thread does at one statement.
 use Rattle.std.specs.Prelude.{ℕ, ◌+◌, ◌≡◌, ◌≤◌, true, false, List, [], ◌∷◌, ◌++◌, drop, map, Option, None, Some}
-use Rattle.mote_program.specs.declared.event.Event.{Event}
-use Rattle.mote_program.specs.Code.{Code}
-use Rattle.mote_program.specs.Tree.{Statement, does, spawn, statement_of}
+use Rattle.program_tree.specs.declared.event.Event.{Event}
+use Rattle.program_tree.specs.Code.{Code}
+use Rattle.program_tree.specs.Tree.{Statement, does, spawn, statement_of}
 use Rattle.protothread.specs.declared.state.PtState.{PtState}
 use Rattle.protothread.specs.declared.thread.Thread.{Thread}
 use Rattle.protothread.specs.declared.thread.Mark.TheVariants.{AtRest}

@@ -1,14 +1,14 @@
 -- What a thread's block says, read by its structure: the reading knows statements, blocks, threads and what is seen, and
 -- nothing of how a thread keeps its place.
 use Rattle.std.specs.Prelude.{ℕ, ◌≡◌, true, false, List, [], ◌∷◌, ◌++◌, slice_set, Option, None, Some, if◌then◌else◌}
-use Rattle.mote_program.specs.declared.event.Event.{Event}
-use Rattle.mote_program.specs.declared.event.Proc.TheVariants.{Own}
-use Rattle.mote_program.specs.declared.event.SystemEvent.TheVariants.{Continue}
-use Rattle.mote_program.specs.declared.event.Target.TheVariants.{One}
-use Rattle.mote_program.specs.Events.{system_number}
-use Rattle.mote_program.specs.EventNames.{sent, cast, continue}
-use Rattle.mote_program.specs.Tree.{Expression, is, Action, yield, yield_until, spawn, restart, exit, pause, Statement, does, branch, while, Body, Otherwise, listed}
-use Rattle.mote_program.specs.Code.{Code}
+use Rattle.program_tree.specs.declared.event.Event.{Event}
+use Rattle.program_tree.specs.declared.event.Proc.TheVariants.{Own}
+use Rattle.program_tree.specs.declared.event.SystemEvent.TheVariants.{Continue}
+use Rattle.program_tree.specs.declared.event.Target.TheVariants.{One}
+use Rattle.program_tree.specs.Events.{system_number}
+use Rattle.program_tree.specs.EventNames.{sent, cast, continue}
+use Rattle.program_tree.specs.Tree.{Expression, is, Action, yield, yield_until, spawn, restart, exit, pause, Statement, does, branch, while, Body, Otherwise, listed}
+use Rattle.program_tree.specs.Code.{Code}
 use Rattle.protothread.specs.declared.state.PtState.{PtState}
 use Rattle.protothread.specs.declared.state.PtState.TheVariants.{Waiting}
 use Rattle.protothread.specs.declared.deed.Deed.{Deed}

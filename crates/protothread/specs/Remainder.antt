@@ -1,7 +1,7 @@
 -- What a protothread has still to do.
 use Rattle.std.specs.Prelude.{ℕ, Bool, false, List, [], ◌∷◌, Option, None, Some, slice_get}
-use Rattle.mote_program.specs.Tree.{Statement, Body, listed}
-use Rattle.mote_program.specs.Code.{Code, callback_at}
+use Rattle.program_tree.specs.Tree.{Statement, Body, listed}
+use Rattle.program_tree.specs.Code.{Code, callback_at}
 use Rattle.protothread.specs.declared.part.Part.{Part}
 use Rattle.protothread.specs.declared.part.Part.TheVariants as part
 use Rattle.protothread.specs.declared.thread.Mark.{Mark}

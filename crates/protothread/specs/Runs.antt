@@ -1,6 +1,6 @@
 -- Runs of a thread: it is advanced once for each sight, with units of work that suffice, up to an answer 2 or 3.
 use Rattle.std.specs.Prelude.{ℕ, ◌≡◌, ◌<◌, ◌↔◌, List, [], ◌∷◌}
-use Rattle.mote_program.specs.Code.{Code}
+use Rattle.program_tree.specs.Code.{Code}
 use Rattle.protothread.specs.declared.state.PtState.{PtState}
 use Rattle.protothread.specs.declared.state.PtState.TheVariants.{Yielded, Exited, Ended}
 use Rattle.protothread.specs.declared.part.Part.{Part}

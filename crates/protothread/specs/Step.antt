@@ -1,13 +1,13 @@
 -- The step of a protothread: from its remainder to its next operation or its answer.
 use Rattle.std.specs.Prelude.{ℕ, zero, suc, ◌-◌, ◌==◌, nat_lt, Bool, true, false, not, ◌&&◌, if◌then◌else◌, List, [], ◌∷◌, ◌++◌, None, Some, slice_set, slice_index, ◌<◌, ◌≤◌}
-use Rattle.mote_program.specs.declared.event.Event.{Event}
-use Rattle.mote_program.specs.declared.event.Proc.TheVariants.{Own}
-use Rattle.mote_program.specs.declared.event.SystemEvent.TheVariants.{Continue}
-use Rattle.mote_program.specs.declared.event.Target.TheVariants.{One, All}
-use Rattle.mote_program.specs.Tree.{Action, assign, print, send, wait_until, wait_while, yield, yield_until, spawn, restart, exit, pause, acquire, signal, post, broadcast, synch, poll, start, kill, set, reset, restart_timer, stop, Statement, does, branch, while, Otherwise, nothing, otherwise, listed}
-use Rattle.mote_program.specs.Code.{Code}
-use Rattle.mote_program.specs.Events.{system_number}
-use Rattle.mote_program.specs.EventNames.{cast_number, sent_number}
+use Rattle.program_tree.specs.declared.event.Event.{Event}
+use Rattle.program_tree.specs.declared.event.Proc.TheVariants.{Own}
+use Rattle.program_tree.specs.declared.event.SystemEvent.TheVariants.{Continue}
+use Rattle.program_tree.specs.declared.event.Target.TheVariants.{One, All}
+use Rattle.program_tree.specs.Tree.{Action, assign, print, send, wait_until, wait_while, yield, yield_until, spawn, restart, exit, pause, acquire, signal, post, broadcast, synch, poll, start, kill, set, reset, restart_timer, stop, Statement, does, branch, while, Otherwise, nothing, otherwise, listed}
+use Rattle.program_tree.specs.Code.{Code}
+use Rattle.program_tree.specs.Events.{system_number}
+use Rattle.program_tree.specs.EventNames.{cast_number, sent_number}
 use Rattle.protothread.specs.declared.state.PtState.{PtState}
 use Rattle.protothread.specs.declared.state.PtState.TheVariants.{Waiting, Yielded, Exited, Ended}
 use Rattle.protothread.specs.declared.part.Part.{Part}

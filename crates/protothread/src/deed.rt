@@ -1,13 +1,13 @@
 //! What a statement without blocks does.
 ghost use Rattle.std.specs.Prelude.{◌≡◌};
-ghost use Rattle.mote_program.specs.Tree.{action_of};
+ghost use Rattle.program_tree.specs.Tree.{action_of};
 ghost use Rattle.protothread.specs.Step.{deed_of, passes_where as by_test};
 
 use crate::look::Look;
 use crate::step::Op;
 use crate::value::evaluate;
 use crate::vars::Vars;
-use mote_program::{Action, Event, Proc, SystemEvent, Target};
+use program_tree::{Action, Event, Proc, SystemEvent, Target};
 
 /// What a statement does to the thread that stands at it.
 #[derive(Clone, Copy, Debug, PartialEq, Eq)]

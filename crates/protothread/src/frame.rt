@@ -1,11 +1,11 @@
 //! The blocks that a thread stands in.
 ghost use Rattle.std.specs.Prelude.{◌≡◌, count_by, map, option_map};
-ghost use Rattle.mote_program.specs.Tree.{statement_of};
-ghost use Rattle.mote_program.specs.Program.{code_of};
+ghost use Rattle.program_tree.specs.Tree.{statement_of};
+ghost use Rattle.program_tree.specs.Program.{code_of};
 ghost use Rattle.protothread.specs.Frames.{branch_block, inner_block, block_at, is_thread, thread_of};
 ghost use Rattle.protothread.specs.Remainder.{thread_block};
 
-use mote_program::{Action, ProcessText, Stmt};
+use program_tree::{Action, ProcessText, Stmt};
 
 /// Which block of a statement: one of its own, or that of the thread that it spawns.
 #[derive(Clone, Copy, Debug, Default, PartialEq, Eq)]

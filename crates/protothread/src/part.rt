@@ -1,10 +1,10 @@
 //! The parts of a process's text that a thread can run.
 ghost use Rattle.std.specs.Prelude.{◌≡◌, ◌↔◌, IsTrue, [], map, option_map};
-ghost use Rattle.mote_program.specs.Tree.{statement_of, block_of, body_of, IsWithinLimits};
-ghost use Rattle.mote_program.specs.Program.{code_of};
+ghost use Rattle.program_tree.specs.Tree.{statement_of, block_of, body_of, IsWithinLimits};
+ghost use Rattle.program_tree.specs.Program.{code_of};
 ghost use Rattle.protothread.specs.Remainder.{statements_of as listed_if_any};
 
-use mote_program::{Block, ProcessText, Stmt};
+use program_tree::{Block, ProcessText, Stmt};
 
 /// A block of a process's text that a thread runs. One that the text lacks is empty.
 #[derive(Clone, Copy, Debug, PartialEq, Eq)]

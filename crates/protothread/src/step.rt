@@ -1,6 +1,6 @@
 //! What a thread answers when it is advanced.
 use crate::state::PtState;
-use mote_program::{Proc, Target};
+use program_tree::{Proc, Target};
 
 /// An operation that the caller performs for the thread, with its operands evaluated.
 #[derive(Clone, Copy, Debug, PartialEq, Eq)]

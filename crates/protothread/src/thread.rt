@@ -1,8 +1,8 @@
 //! Protothreads.
 ghost use Rattle.std.specs.Prelude.{◌≡◌, ℕ, ◌+◌, ◌^◌, ◌<◌, ◌≤◌, if◌then◌else◌, [], ◌∷◌, ◌++◌, false, length, map, Some, slice_get};
-ghost use Rattle.mote_program.specs.Tree.{Statement, statement_of};
-ghost use Rattle.mote_program.specs.Code.{Code};
-ghost use Rattle.mote_program.specs.Program.{code_of};
+ghost use Rattle.program_tree.specs.Tree.{Statement, statement_of};
+ghost use Rattle.program_tree.specs.Code.{Code};
+ghost use Rattle.program_tree.specs.Program.{code_of};
 ghost use Rattle.protothread.specs.Remainder.{fresh_of};
 ghost use Rattle.protothread.specs.Step.{advanced_of, answered_of, PaysFor};
 ghost use Rattle.protothread.specs.Frames.{block_at, is_thread, spawns, yielding, remainder_of};
@@ -18,7 +18,7 @@ use crate::step::{Op, Step};
 use crate::value::evaluate;
 use crate::vars::Vars;
 use arrayvec::ArrayVec;
-use mote_program::{Event, ProcessText, Stmt};
+use program_tree::{Event, ProcessText, Stmt};
 
 /// How many blocks can be run in one another by spawns: a part, and at most 7 threads, each spawned by a later one.
 const STACKS: u8 = 8;

@@ -1,13 +1,13 @@
 //! The values of expressions.
 ghost use Rattle.std.specs.Prelude.{◌≡◌, ◌==◌};
 ghost use Rattle.std.specs.List.{list_any};
-ghost use Rattle.mote_program.specs.Events.{system_number};
-ghost use Rattle.mote_program.specs.Tree.{expression_of};
+ghost use Rattle.program_tree.specs.Events.{system_number};
+ghost use Rattle.program_tree.specs.Tree.{expression_of};
 ghost use Rattle.protothread.specs.Value.{applied, is_event as has_number_and_word, value};
 
 use crate::look::Look;
 use crate::vars::Vars;
-use mote_program::{Event, Expr, Operator, SystemEvent};
+use program_tree::{Event, Expr, Operator, SystemEvent};
 
 /// The value of an operator between two values.
 fn apply(operator: Operator, left: u16, right: u16) -> u16

@@ -1,9 +1,9 @@
 //! The variables of a process.
 ghost use Rattle.std.specs.Prelude.{◌≡◌, ◌<◌, length, slice_index, slice_set};
-ghost use Rattle.mote_program.specs.Program.{code_of};
+ghost use Rattle.program_tree.specs.Program.{code_of};
 
 use arrayvec::ArrayVec;
-use mote_program::ProcessText;
+use program_tree::ProcessText;
 use std::marker::Model;
 
 /// How many variables a process has at most.

@@ -1,7 +1,7 @@
 -- Texts in pieces: what the next piece is, and what is left behind it.
 use Rattle.std.proofs.Common.{◌≡◌, ◌+◌, ◌<◌, ◌≤◌, append_assoc, append-nil, ℕ, zero, suc, List, [], map, ◌∷◌, ◌++◌, length, get_or, drop, refl, ap, sym, ◌∙◌, add-one, arith, Vec, Global, Some, slice_get, option_map, codes, decimal}
 use Rattle.std.specs.List.{flat_map}
-use Rattle.mote_program.specs.Code.{Tree}
+use Rattle.program_tree.specs.Code.{Tree}
 use Rattle.process_kernel.specs.declared.line.Line.{Line}
 use Rattle.net_scenario.specs.Net.{MoteTold}
 use Rattle.net_report.specs.Report.{lines_in}

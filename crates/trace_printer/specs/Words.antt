@@ -1,13 +1,13 @@
 -- The words of a report's lines.
 use Rattle.std.specs.Prelude.{ℕ, ◌==◌, List, [], ◌∷◌, ◌++◌, if◌then◌else◌, Option, Some, None, codes, decimal, slice_get, unwrap_or}
 use Rattle.std.specs.List.{flat_map}
-use Rattle.mote_program.specs.Code.{Tree, declared_name}
-use Rattle.mote_program.specs.declared.event.Proc.{Proc}
-use Rattle.mote_program.specs.declared.event.Proc.TheVariants.{Own, Etimer, Ctimer, Radio}
-use Rattle.mote_program.specs.declared.event.Target.{Target}
-use Rattle.mote_program.specs.declared.event.Target.TheVariants.{One, All}
-use Rattle.mote_program.specs.declared.event.SystemEvent.TheVariants as event
-use Rattle.mote_program.specs.Events.{system_number, system_word}
+use Rattle.program_tree.specs.Code.{Tree, declared_name}
+use Rattle.program_tree.specs.declared.event.Proc.{Proc}
+use Rattle.program_tree.specs.declared.event.Proc.TheVariants.{Own, Etimer, Ctimer, Radio}
+use Rattle.program_tree.specs.declared.event.Target.{Target}
+use Rattle.program_tree.specs.declared.event.Target.TheVariants.{One, All}
+use Rattle.program_tree.specs.declared.event.SystemEvent.TheVariants as event
+use Rattle.program_tree.specs.Events.{system_number, system_word}
 use Rattle.process_kernel.specs.declared.line.What.{What}
 use Rattle.process_kernel.specs.declared.line.What.TheVariants.{Start, Leave, Post, Full, Take, Drop, Print, Busy, Halt, Send, Recv, Lost, Deaf, Collide}
 use Rattle.radio_medium.specs.declared.fate.Fate.{Fate}

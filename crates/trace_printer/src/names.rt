@@ -1,10 +1,10 @@
 //! The words for processes, targets and events: those of the system, and the names in a mote's program. Each is found by its
 //! number.
 ghost use Rattle.std.specs.Prelude.{◌≡◌, [], slice_get, unwrap_or};
-ghost use Rattle.mote_program.specs.Program.{tree_of};
+ghost use Rattle.program_tree.specs.Program.{tree_of};
 ghost use Rattle.trace_printer.specs.Words.{process_word, target_word, event_word};
 
-use mote_program::{Proc, Program, SystemEvent, Target};
+use program_tree::{Proc, Program, SystemEvent, Target};
 
 // The numbers of the system's events.
 const INIT: u8 = SystemEvent::Init as u8;

@@ -1,7 +1,7 @@
 //! A report, by way of a page.
 ghost use Rattle.std.specs.Prelude.{◌≡◌, ◌++◌, ◌∷◌, [], length, map, vec_len, codes, decimal};
 ghost use Rattle.std.specs.List.{flat_map};
-ghost use Rattle.mote_program.specs.Program.{tree_of};
+ghost use Rattle.program_tree.specs.Program.{tree_of};
 ghost use Rattle.net_scenario.specs.Net.{net_of};
 ghost use Rattle.net_report.specs.Report.{lines_in, told_line, report_of};
 ghost use Rattle.trace_printer.specs.Output.{Writes};
@@ -13,10 +13,10 @@ use crate::error::PrintError;
 use crate::lines::{put_head, put_left, put_medium, put_packet, put_trace_line};
 use crate::output::WriteFault;
 use crate::page::Page;
-use mote_program::Program;
 use net_report::{LogLine, Report};
 use net_scenario::Net;
 use process_kernel::Line;
+use program_tree::Program;
 use std::alloc::Global;
 use std::io::Write;
 

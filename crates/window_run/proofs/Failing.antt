@@ -1,7 +1,7 @@
 -- A window over a mote that had failed.
 use Rattle.std.proofs.Common.{◌≡◌, ℕ, List, [], Option, Some, None, refl, ◌∙◌, ap, subst}
 use Rattle.std.specs.Prelude.{MatchOption, IsSomeAnd}
-use Rattle.mote_program.specs.Code.{Tree}
+use Rattle.program_tree.specs.Code.{Tree}
 use Rattle.process_kernel.specs.declared.line.Line.{Line}
 use Rattle.process_kernel.specs.declared.line.Sent.{Sent}
 use Rattle.mote_node.specs.Node.{Node}

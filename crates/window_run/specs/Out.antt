@@ -1,6 +1,6 @@
 -- What a window gives.
 use Rattle.std.specs.Prelude.{◌≡◌, Option, Some, option_map}
-use Rattle.mote_program.specs.Code.{Tree}
+use Rattle.program_tree.specs.Code.{Tree}
 use Rattle.mote_node.specs.Public.{node_in}
 use Rattle.window_run.specs.declared.out.WindowOut.{WindowOut}
 use Rattle.window_run.specs.Window.{LoneNode, Window, EndsAs}

@@ -1,7 +1,7 @@
 -- The window that an engine stands in.
 use Rattle.std.specs.Prelude.{◌≡◌, ℕ, ◌<◌, List, [], drop, Option, None, option_map}
-use Rattle.mote_program.specs.Code.{Tree}
-use Rattle.mote_program.specs.Program.{tree_of}
+use Rattle.program_tree.specs.Code.{Tree}
+use Rattle.program_tree.specs.Program.{tree_of}
 use Rattle.process_kernel.specs.declared.line.Line.{Line}
 use Rattle.process_kernel.specs.declared.line.Sent.{Sent}
 use Rattle.mote_node.specs.Node.{Node}

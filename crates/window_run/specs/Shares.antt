@@ -1,7 +1,7 @@
 -- What the motes of a worker give.
 use Rattle.std.specs.Prelude.{◌≡◌, ℕ, ◌<◌, ◌≤◌, List, [], length, Option, None, IfSome, MatchOption, slice_get}
 use Rattle.std.specs.List.{AllZip, AllByRecursion}
-use Rattle.mote_program.specs.Code.{Tree}
+use Rattle.program_tree.specs.Code.{Tree}
 use Rattle.mote_node.specs.Public.{node_in}
 use Rattle.radio_medium.specs.declared.copy.RadioCopy.{RadioCopy}
 use Rattle.net_scenario.specs.Net.{MoteTold, NetTold}

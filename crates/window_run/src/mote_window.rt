@@ -3,7 +3,7 @@
 ghost use Rattle.std.specs.Prelude.{◌≡◌, ◌≤◌, ◌^◌, true, None, IsSomeAnd, IfOk, IfErr, ⊤};
 ghost use Rattle.futures.specs.Poll.{IfReady, OnPending};
 ghost use Rattle.futures.specs.Task.{Covers, Keeps};
-ghost use Rattle.mote_program.specs.Program.{tree_of};
+ghost use Rattle.program_tree.specs.Program.{tree_of};
 ghost use Rattle.mote_node.specs.Public.{node_in};
 ghost use Rattle.window_run.specs.Own.{window_in, course_in, course_of};
 ghost use Rattle.window_run.specs.Window.{is_rising, opened};
@@ -15,7 +15,7 @@ use crate::own::OwnWindow;
 use futures::Future;
 use futures::task::{Context, Poll};
 use mote_node::{Mote, MoteError};
-use mote_program::Program;
+use program_tree::Program;
 use radio_medium::RadioCopy;
 use std::alloc::Global;
 

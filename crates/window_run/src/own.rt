@@ -2,7 +2,7 @@
 
 ghost use Rattle.std.specs.Prelude.{◌≡◌, ◌≤◌, ◌^◌, ◌++◌, true, Some, map, vec_len, IfOk, IfErr, IfSome, MatchOption, OnOk, None, []};
 ghost use Rattle.std.specs.List.{take_while};
-ghost use Rattle.mote_program.specs.Program.{tree_of};
+ghost use Rattle.program_tree.specs.Program.{tree_of};
 ghost use Rattle.mote_node.specs.Public.{node_in};
 ghost use Rattle.window_law.specs.Windows.{is_at};
 ghost use Rattle.net_agenda.specs.Buckets.{arrival_of};
@@ -10,8 +10,8 @@ ghost use Rattle.window_run.specs.Window.{Window, HasTurn, IsOver, IsNextOf, is_
 
 use crate::out::WindowOut;
 use mote_node::{Mote, MoteError, TurnOut};
-use mote_program::Program;
 use process_kernel::{Arrival, Line, Sent};
+use program_tree::Program;
 use radio_medium::RadioCopy;
 use std::alloc::{AllocError, Global};
 

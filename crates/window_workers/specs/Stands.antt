@@ -18,7 +18,7 @@ use Rattle.net_agenda.specs.Buckets.{Holds}
 use Rattle.net_agenda.specs.NetSystem.{tree_at}
 use Rattle.window_workers.specs.NetRun.{packet_with_fates}
 use Rattle.window_law.specs.NetStep.{NetState}
-use Rattle.mote_program.specs.Code as code
+use Rattle.program_tree.specs.Code as code
 
 abbrev pub OneNode : NetTold → List Mote → NetState Node Line → (mote : ℕ) → Type 0
 OneNode n motes net k = (d : Mote) → node_in (tree_at n k) (slice_index_or motes k d) ≡ Some (net.states k)

@@ -1,11 +1,11 @@
 //! A net as it runs: its motes, their traces, the medium's log, and what is to come.
 
 ghost use Rattle.std.specs.Prelude.{◌≡◌, ◌<◌, ◌≤◌, ◌^◌, length, slice_index_or, Some, OnOk, IfOk};
-ghost use Rattle.mote_program.specs.Program.{tree_of};
+ghost use Rattle.program_tree.specs.Program.{tree_of};
 ghost use Rattle.mote_node.specs.Node.{Node};
 ghost use Rattle.mote_node.specs.Public.{node_in, wake_in};
 ghost use Rattle.mote_node.specs.declared.mote.Mote.{Mote as MoteOfCode};
-ghost use Rattle.mote_program.specs.Code.{Tree};
+ghost use Rattle.program_tree.specs.Code.{Tree};
 ghost use Rattle.process_kernel.specs.declared.line.Line.{Line};
 ghost use Rattle.net_scenario.specs.Net.{net_of};
 ghost use Rattle.net_agenda.specs.Buckets.{wake_but_at};
@@ -15,11 +15,11 @@ ghost use Rattle.window_workers.specs.Stands.{StandsAt, IsWhole, KeepsWakes, One
 
 use crate::sends::send_all;
 use mote_node::{Mote, TurnOut};
-use mote_program::Program;
 use net_agenda::{Agenda, new_mote};
 use net_report::LogLine;
 use net_scenario::Net;
 use process_kernel::{Arrival, Line};
+use program_tree::Program;
 use std::alloc::{AllocError, Global};
 
 /// How many lines a long trace has.

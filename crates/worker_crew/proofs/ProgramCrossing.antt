@@ -12,21 +12,21 @@ use Rattle.std.specs.contracts.vec.Vec as Vec
 use Rattle.std.specs.contracts.alloc.Global as Heap
 use Rattle.std.specs.contracts.impls.GlobalAllocator.TheImpl.{ghosts}
 use Rattle.std.specs.contracts.option.Option as Option
-use Rattle.mote_program.specs.contracts.process_text.ProcessText as ProcessText
-use Rattle.mote_program.specs.contracts.program.Program as Program
-use Rattle.mote_program.specs.contracts.timer.Timer as Timer
-use Rattle.mote_program.specs.contracts.tree.Action as Action
-use Rattle.mote_program.specs.contracts.tree.Block as Block
-use Rattle.mote_program.specs.contracts.tree.Expr as Expr
-use Rattle.mote_program.specs.contracts.tree.Expr.TheKnot as expr-knot
-use Rattle.mote_program.specs.contracts.tree.Stmt as Stmt
-use Rattle.mote_program.specs.contracts.tree.Stmt.TheKnot as stmt-knot
-use Rattle.mote_program.proofs.event_name.AnyEvent.TheSendSync as event
-use Rattle.mote_program.proofs.event_name.CastEvent.TheSendSync as cast
-use Rattle.mote_program.proofs.event_name.SentEvent.TheSendSync as sent
-use Rattle.mote_program.proofs.names.Names.TheSendSync as names
-use Rattle.mote_program.proofs.timer.Timer.TheSendSync as timer
-use Rattle.mote_program.proofs.tree.Operator.TheSendSync as operator
+use Rattle.program_tree.specs.contracts.process_text.ProcessText as ProcessText
+use Rattle.program_tree.specs.contracts.program.Program as Program
+use Rattle.program_tree.specs.contracts.timer.Timer as Timer
+use Rattle.program_tree.specs.contracts.tree.Action as Action
+use Rattle.program_tree.specs.contracts.tree.Block as Block
+use Rattle.program_tree.specs.contracts.tree.Expr as Expr
+use Rattle.program_tree.specs.contracts.tree.Expr.TheKnot as expr-knot
+use Rattle.program_tree.specs.contracts.tree.Stmt as Stmt
+use Rattle.program_tree.specs.contracts.tree.Stmt.TheKnot as stmt-knot
+use Rattle.program_tree.proofs.event_name.AnyEvent.TheSendSync as event
+use Rattle.program_tree.proofs.event_name.CastEvent.TheSendSync as cast
+use Rattle.program_tree.proofs.event_name.SentEvent.TheSendSync as sent
+use Rattle.program_tree.proofs.names.Names.TheSendSync as names
+use Rattle.program_tree.proofs.timer.Timer.TheSendSync as timer
+use Rattle.program_tree.proofs.tree.Operator.TheSendSync as operator
 
 byte : IsSync builtin.u8
 byte = search sendable

@@ -1,7 +1,7 @@
 -- The motes that are called are the worker's, and give what motes of a net give.
 use Rattle.std.proofs.Common.{◌≡◌, ℕ, ◌<◌, ◌≤◌, Bool, true, List, [], ◌∷◌, ◌++◌, length, map, refl, sym, ap, ◌∙◌, arith, zero-le, Option, Some, None, is_some, IsSome}
 use Rattle.std.specs.List.{AllByRecursion}
-use Rattle.mote_program.specs.Code.{Tree}
+use Rattle.program_tree.specs.Code.{Tree}
 use Rattle.mote_node.specs.declared.mote.Mote.{Mote}
 use Rattle.mote_node.specs.Node.{Node}
 use Rattle.radio_medium.specs.declared.copy.RadioCopy.{RadioCopy}

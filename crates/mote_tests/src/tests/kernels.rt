@@ -1,8 +1,9 @@
 //! Kernels of whole programs, with their answers and lines worked by hand.
 
 use super::{SENDER, write_lines, write_sends};
-use mote_program::{Proc, Program, read};
+use mote_program::read;
 use process_kernel::{Arrival, Kernel, KernelError, Line, Out, Ran, What};
+use program_tree::{Proc, Program};
 use std::alloc::Global;
 use std::test::Fail;
 

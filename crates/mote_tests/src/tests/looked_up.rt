@@ -1,10 +1,11 @@
 //! A caller that goes by a program's numbers.
 
 ghost use Rattle.std.specs.Prelude.{◌<◌, length};
-ghost use Rattle.mote_program.specs.Program.{tree_of};
+ghost use Rattle.program_tree.specs.Program.{tree_of};
 
-use mote_program::{Action, Program, Stmt, read};
+use mote_program::read;
 use program_laws::laws::names_are_declared;
+use program_tree::{Action, Program, Stmt};
 use std::test::Fail;
 
 /// The first value of the variable that the first statement of a process's body sets. Its place is looked up

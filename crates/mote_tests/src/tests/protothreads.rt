@@ -2,7 +2,8 @@
 
 ghost use Rattle.std.specs.Prelude.{[], ◌∷◌};
 
-use mote_program::{Event, ProcessText, read};
+use mote_program::read;
+use program_tree::{Event, ProcessText};
 use protothread::{Fuel, Look, Op, Part, PtState, Semaphore, Step, Thread, Vars};
 use std::alloc::{AllocError, Global};
 use std::test::Fail;

@@ -3,7 +3,7 @@
 ghost use Rattle.std.specs.Prelude.{◌≡◌, ◌≤◌, true};
 
 use event_queue::{EventQueue, Full, Posted};
-use mote_program::{Event, Proc, Target};
+use program_tree::{Event, Proc, Target};
 use std::test::Fail;
 
 const OWN: Target = Target::One(Proc::Own(3));

@@ -2,8 +2,8 @@
 
 ghost use Rattle.std.specs.Prelude.{◌≡◌, ◌<◌, length};
 
-use mote_program::Proc;
 use mote_timers::{Callbacks, Timers};
+use program_tree::Proc;
 use std::test::Fail;
 
 const OWN: Proc = Proc::Own(0);

@@ -4,10 +4,10 @@ ghost use Rattle.std.specs.Prelude.{◌≡◌, length, vec_len, IfOk};
 ghost use Rattle.net_scenario.specs.Net.{net_of};
 
 use super::reports::report_of_one;
-use mote_program::Proc;
 use net_report::Report;
 use net_scenario::{Net, read_scenario};
 use process_kernel::{Line, What};
+use program_tree::Proc;
 use std::alloc::{AllocError, Global};
 use std::io;
 use std::io::Write;

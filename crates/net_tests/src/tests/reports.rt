@@ -3,10 +3,10 @@
 ghost use Rattle.std.specs.Prelude.{◌≡◌, length, IfOk, vec_len};
 ghost use Rattle.net_scenario.specs.Net.{net_of};
 
-use mote_program::{Proc, Target};
 use net_report::{LogLine, Report};
 use net_scenario::{Net, read_scenario};
 use process_kernel::{Line, Sent, What};
+use program_tree::{Proc, Target};
 use radio_medium::Fate;
 use std::alloc::{AllocError, Global};
 use std::test::Fail;

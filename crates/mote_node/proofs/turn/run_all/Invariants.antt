@@ -1,5 +1,5 @@
 use Rattle.std.proofs.Common.{◌≡◌, ◌-◌, Some}
-use Rattle.mote_program.specs.Program.{tree_of}
+use Rattle.program_tree.specs.Program.{tree_of}
 use Rattle.process_kernel.specs.Public.{mote_in}
 use Rattle.mote_node.specs.Underway.{Underway}
 use Rattle.mote_node.specs.Steps.{underway_in}

@@ -1,5 +1,5 @@
 use Rattle.std.proofs.lemmas.Result.{on_ok_weaker}
-use Rattle.mote_program.specs.Program.{tree_of}
+use Rattle.program_tree.specs.Program.{tree_of}
 use Rattle.mote_node.proofs.TurnLemmas.{halted_turn, whole_turn}
 use Rattle.mote_node.proofs.turn.turn_mote.Goals as goal
 

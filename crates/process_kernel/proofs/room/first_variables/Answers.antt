@@ -1,5 +1,5 @@
 use Rattle.std.proofs.Common.{rules}
-use Rattle.mote_program.specs.Program.{tree_of, code_of}
+use Rattle.program_tree.specs.Program.{tree_of, code_of}
 use Rattle.process_kernel.proofs.First.{one_more}
 use Rattle.process_kernel.proofs.room.first_variables.Goals as goal
 

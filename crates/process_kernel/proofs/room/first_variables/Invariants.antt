@@ -1,5 +1,5 @@
 use Rattle.std.proofs.Common.{◌≡◌, ◌++◌, drop, map}
-use Rattle.mote_program.specs.Program.{tree_of}
+use Rattle.program_tree.specs.Program.{tree_of}
 use Rattle.process_kernel.proofs.room.first_variables.Given as goal
 
 abbrev pub invariant-loop-process : goal.invariant-loop-process

@@ -1,5 +1,5 @@
 use Rattle.std.proofs.Common.{rules, ap, ◌∙◌, arith, slice_set, slice_index_or}
-use Rattle.mote_program.specs.declared.event.Proc.TheVariants.{Own}
+use Rattle.program_tree.specs.declared.event.Proc.TheVariants.{Own}
 use Rattle.process_kernel.specs.declared.process.Member.{Member}
 use Rattle.process_kernel.proofs.Lists.{number_more}
 use Rattle.process_kernel.proofs.runs.number.Goals as goal

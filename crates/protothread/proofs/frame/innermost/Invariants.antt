@@ -1,6 +1,6 @@
 use Rattle.std.proofs.Common.{◌≡◌, map, drop}
-use Rattle.mote_program.specs.Tree.{statement_of}
-use Rattle.mote_program.specs.Program.{code_of}
+use Rattle.program_tree.specs.Tree.{statement_of}
+use Rattle.program_tree.specs.Program.{code_of}
 use Rattle.protothread.specs.Frames.{block_at}
 use Rattle.protothread.proofs.frame.innermost.Given as goal
 

@@ -1,7 +1,7 @@
 use Rattle.std.proofs.Common.{arith}
 use Rattle.std.proofs.lemmas.Result.{err_from_is_err_and}
-use Rattle.mote_program.specs.Program.{tree_of}
-use Rattle.mote_program.specs.declared.event.Proc.TheVariants.{Own}
+use Rattle.program_tree.specs.Program.{tree_of}
+use Rattle.program_tree.specs.declared.event.Proc.TheVariants.{Own}
 use Rattle.trace_printer.specs.ReportText.{line_text}
 use Rattle.process_kernel.specs.declared.line.Line.{Line}
 use Rattle.process_kernel.specs.declared.line.What.TheVariants.{Start}

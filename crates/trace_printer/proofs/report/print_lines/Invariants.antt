@@ -1,6 +1,6 @@
 use Rattle.std.proofs.Common.{◌++◌, drop}
 use Rattle.std.specs.List.{flat_map}
-use Rattle.mote_program.specs.Program.{tree_of}
+use Rattle.program_tree.specs.Program.{tree_of}
 use Rattle.trace_printer.specs.Page.{Written}
 use Rattle.trace_printer.specs.ReportText.{line_text}
 use Rattle.trace_printer.proofs.report.print_lines.Given as goal

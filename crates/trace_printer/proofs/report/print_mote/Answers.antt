@@ -1,7 +1,7 @@
 use Rattle.std.proofs.Common.{◌∷◌, [], codes, decimal, refl}
 use Rattle.std.specs.List.{flat_map}
 use Rattle.std.proofs.lemmas.Result.{err_from_is_err_and}
-use Rattle.mote_program.specs.Program.{tree_of}
+use Rattle.program_tree.specs.Program.{tree_of}
 use Rattle.trace_printer.specs.ReportText.{line_text}
 use Rattle.trace_printer.specs.Words.{line_of}
 use Rattle.trace_printer.proofs.Written.{prints_then, stopped_next, written_none}

@@ -1,6 +1,6 @@
 use Rattle.std.proofs.Common.{◌∙◌, ap, sym, option_map, get_or, slice_set}
 use Rattle.std.proofs.lemmas.List.{get_or_default}
-use Rattle.mote_program.specs.Program.{tree_of}
+use Rattle.program_tree.specs.Program.{tree_of}
 use Rattle.mote_node.specs.Public.{node_in}
 use Rattle.mote_node.specs.Turn.{turn_of}
 use Rattle.window_workers.proofs.engine.turn_mote.Goals as goal

@@ -1,5 +1,5 @@
 use Rattle.std.proofs.Common.{IsSome}
-use Rattle.mote_program.specs.Program.{tree_of}
+use Rattle.program_tree.specs.Program.{tree_of}
 use Rattle.process_kernel.specs.Public.{mote_in}
 use Rattle.mote_node.proofs.TurnLemmas.{some_after, some_anyhow}
 use Rattle.mote_node.proofs.mote.Mote.turn_into.Goals as goal

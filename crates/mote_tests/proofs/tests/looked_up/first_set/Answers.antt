@@ -1,6 +1,6 @@
 use Rattle.std.proofs.Common.{◌<◌, length, sym, subst}
-use Rattle.mote_program.specs.Program.{tree_of, code_of}
-use Rattle.mote_program.specs.Tree.{block_of}
+use Rattle.program_tree.specs.Program.{tree_of, code_of}
+use Rattle.program_tree.specs.Tree.{block_of}
 use Rattle.program_laws.proofs.Callers.{first_set}
 use Rattle.mote_tests.proofs.tests.looked_up.first_set.Goals as goal
 

@@ -1,5 +1,5 @@
 use Rattle.std.proofs.Common.{rules, arith, ◌≡◌, ◌<◌, ◌-◌, ◌∙◌, [], Ok, Err, length, refl}
-use Rattle.mote_program.specs.Program.{tree_of, code_of}
+use Rattle.program_tree.specs.Program.{tree_of, code_of}
 use Rattle.protothread.specs.Remainder.{whole_of}
 use Rattle.process_kernel.proofs.Absent.{nothing_runs}
 use Rattle.process_kernel.proofs.Depth.{deeper_call, deeper_run, run_opens, halt_tells}

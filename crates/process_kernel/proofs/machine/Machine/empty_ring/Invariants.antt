@@ -1,5 +1,5 @@
 use Rattle.std.proofs.Common.{◌≡◌, length}
-use Rattle.mote_program.specs.Code.{Tree}
+use Rattle.program_tree.specs.Code.{Tree}
 use Rattle.process_kernel.specs.Radio.{empty_ring}
 use Rattle.process_kernel.specs.Views.{state_of, KeepsCounts, Grows}
 use Rattle.process_kernel.proofs.machine.Machine.empty_ring.Given as goal

@@ -1,6 +1,6 @@
 use Rattle.std.proofs.Common.{rules, ◌≡◌, Some, None}
 use Rattle.std.specs.Prelude.{position}
-use Rattle.mote_program.specs.Program.{tree_of}
+use Rattle.program_tree.specs.Program.{tree_of}
 use Rattle.process_kernel.specs.Call.{calls_of}
 use Rattle.process_kernel.specs.Processes.{flag_at}
 use Rattle.process_kernel.specs.Views.{state_of}

@@ -1,5 +1,5 @@
 use Rattle.std.proofs.Common.{rules}
-use Rattle.mote_program.specs.Program.{tree_of}
+use Rattle.program_tree.specs.Program.{tree_of}
 use Rattle.process_kernel.specs.Polls.{poll_turn_of}
 use Rattle.process_kernel.proofs.machine.Machine.poll_in_turn.Goals as goal
 

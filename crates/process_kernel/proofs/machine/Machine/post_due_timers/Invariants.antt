@@ -1,6 +1,6 @@
 use Rattle.std.proofs.Common.{◌≡◌, ◌≤◌, ◌+◌, ◌*◌, ℕ, IsTrue, length}
 use Rattle.std.specs.Option.{ForSome}
-use Rattle.mote_program.specs.Code.{Tree}
+use Rattle.program_tree.specs.Code.{Tree}
 use Rattle.mote_timers.specs.Numbers.{is_member}
 use Rattle.mote_timers.specs.TimerLists.{behind}
 use Rattle.process_kernel.specs.Etimer.{pass_of, walk_timers, walks_of}

@@ -1,6 +1,6 @@
 use Rattle.std.proofs.Common.{◌≡◌, ◌<◌, ℕ, drop, map}
-use Rattle.mote_program.specs.Program.{tree_of}
-use Rattle.mote_program.specs.declared.event.Proc.TheVariants.{Own}
+use Rattle.program_tree.specs.Program.{tree_of}
+use Rattle.program_tree.specs.declared.event.Proc.TheVariants.{Own}
 use Rattle.process_kernel.specs.Call.{calls_of}
 use Rattle.process_kernel.specs.Boot.{starts_of}
 use Rattle.process_kernel.specs.Views.{state_of, Spends, Grows}

@@ -1,5 +1,5 @@
 use Rattle.std.proofs.Common.{rules}
-use Rattle.mote_program.specs.Program.{tree_of}
+use Rattle.program_tree.specs.Program.{tree_of}
 use Rattle.process_kernel.specs.TimerOperations.{timer_is_set}
 use Rattle.process_kernel.proofs.machine.Machine.timer_is_set.Goals as goal
 

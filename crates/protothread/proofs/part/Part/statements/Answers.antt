@@ -1,6 +1,6 @@
 use Rattle.std.proofs.Common.{ap, sym, ◌∙◌}
-use Rattle.mote_program.specs.Program.{code_of}
-use Rattle.mote_program.specs.Tree.{block_of}
+use Rattle.program_tree.specs.Program.{code_of}
+use Rattle.program_tree.specs.Tree.{block_of}
 use Rattle.protothread.specs.Remainder.{statements_of, whole_of}
 use Rattle.protothread.proofs.Limits.{within_as_list, within_if_any}
 use Rattle.protothread.proofs.part.Part.statements.Goals as goal

@@ -2,9 +2,9 @@ use Rattle.std.proofs.Common.{◌≡◌, ℕ, suc, ◌<◌, ◌≤◌, [], lengt
 use Rattle.std.proofs.lemmas.Option.{slice_get-map, slice_get_read}
 use Rattle.std.proofs.lemmas.List.{length-map}
 use Rattle.std.proofs.lemmas.Grind.{common_steps}
-use Rattle.mote_program.specs.Tree.{Statement, statement_of}
-use Rattle.mote_program.specs.Program.{code_of}
-use Rattle.mote_program.specs.declared.tree.Stmt.{Stmt}
+use Rattle.program_tree.specs.Tree.{Statement, statement_of}
+use Rattle.program_tree.specs.Program.{code_of}
+use Rattle.program_tree.specs.declared.tree.Stmt.{Stmt}
 use Rattle.protothread.specs.declared.thread.Mark.TheVariants.{RunAway}
 use Rattle.protothread.specs.declared.frame.Frame.{Frame}
 use Rattle.protothread.specs.declared.thread.Thread.{Thread}

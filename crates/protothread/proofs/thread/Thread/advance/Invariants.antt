@@ -1,6 +1,6 @@
 use Rattle.std.proofs.Common.{◌≡◌, ◌+◌, ◌*◌, ◌≤◌, length, map}
-use Rattle.mote_program.specs.Tree.{statement_of}
-use Rattle.mote_program.specs.Program.{code_of}
+use Rattle.program_tree.specs.Tree.{statement_of}
+use Rattle.program_tree.specs.Program.{code_of}
 use Rattle.protothread.specs.Frames.{block_at, thread_place, remainder_of}
 use Rattle.protothread.specs.Step.{advanced_of, continued}
 use Rattle.protothread.proofs.thread.Thread.advance.Given as goal

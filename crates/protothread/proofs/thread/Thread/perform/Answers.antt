@@ -1,7 +1,7 @@
 use Rattle.std.proofs.Common.{◌≡◌, [], true, false, map, refl, ap, sym, ◌∙◌, arith, subst}
 use Rattle.std.proofs.lemmas.Grind.{common_steps}
-use Rattle.mote_program.specs.Tree.{statement_of}
-use Rattle.mote_program.specs.Program.{code_of}
+use Rattle.program_tree.specs.Tree.{statement_of}
+use Rattle.program_tree.specs.Program.{code_of}
 use Rattle.protothread.specs.declared.thread.Mark.TheVariants.{AtRest, UnderWay, Pausing}
 use Rattle.protothread.specs.declared.deed.Deed.{Deed}
 use Rattle.protothread.specs.declared.state.PtState.TheVariants.{Waiting}

@@ -1,7 +1,7 @@
 use Rattle.std.proofs.Common.{◌≡◌, ℕ, ◌+◌, ◌++◌, ◌∷◌, true, false, List, map, Some, option_map, refl, ap, sym, ◌∙◌, arith, subst}
-use Rattle.mote_program.specs.Tree.{Statement, does, branch, statement_of, block_of, otherwise_of, expression_of, action_of}
-use Rattle.mote_program.specs.Program.{code_of}
-use Rattle.mote_program.proofs.TreeLaws.{does_of-Do, branch_of-If, while_of-While}
+use Rattle.program_tree.specs.Tree.{Statement, does, branch, statement_of, block_of, otherwise_of, expression_of, action_of}
+use Rattle.program_tree.specs.Program.{code_of}
+use Rattle.program_tree.proofs.TreeLaws.{does_of-Do, branch_of-If, while_of-While}
 use Rattle.protothread.specs.declared.frame.Branch.TheVariants.{Then, Else, Loop}
 use Rattle.protothread.specs.declared.deed.Deed.{Deed}
 use Rattle.protothread.specs.Value.{value, holds}

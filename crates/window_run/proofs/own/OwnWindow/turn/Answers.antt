@@ -1,7 +1,7 @@
 use Rattle.std.proofs.Common.{rules, ◌≡◌, ◌+◌, drop, length, map, None, option_map, sym, ap, ◌∙◌}
 use Rattle.std.specs.List.{take_while}
 use Rattle.std.proofs.lemmas.List.{drop-drop}
-use Rattle.mote_program.specs.Program.{tree_of}
+use Rattle.program_tree.specs.Program.{tree_of}
 use Rattle.mote_node.specs.Public.{node_in, turn_told}
 use Rattle.mote_node.specs.Turn.{turn_of}
 use Rattle.window_law.specs.Windows.{is_at}

@@ -1,7 +1,7 @@
 use Rattle.std.proofs.Common.{◌≡◌, ◌∙◌, ap, not, map, get_or, List, ◌++◌}
 use Rattle.std.specs.List.{filter, flat_map}
-use Rattle.mote_program.specs.Code.{Tree}
-use Rattle.mote_program.specs.Program.{tree_of}
+use Rattle.program_tree.specs.Code.{Tree}
+use Rattle.program_tree.specs.Program.{tree_of}
 use Rattle.mote_node.specs.declared.mote.Mote.{Mote}
 use Rattle.mote_node.specs.Public.{node_in, wake_in}
 use Rattle.net_scenario.specs.Net.{net_of}

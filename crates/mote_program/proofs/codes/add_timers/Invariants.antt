@@ -1,5 +1,0 @@
-use Rattle.std.proofs.Common.{◌≡◌, ◌++◌, replicate}
-use Rattle.mote_program.proofs.codes.add_timers.Given as goal
-
-abbrev pub invariant-loop-added : goal.invariant-loop-added
-invariant-loop-added l = l.timers.items ≡ l.fn.timers.items ++ replicate l._added l.timer

@@ -1,6 +1,0 @@
-use Rattle.std.proofs.Common.{subst}
-use Rattle.mote_program.specs.CodeParts.{ReadsOpening}
-use Rattle.mote_program.proofs.cursor.Cursor.opening_of.Goals as goal
-
-pub returns-clause-ok : goal.returns-clause-ok
-returns-clause-ok c = λ s. subst (λ x. ReadsOpening x s c.args.self.now c.opening.new.self) c.get.ensures (c.in_ok-opening.ensures.ok s)

@@ -1,5 +1,0 @@
-use Rattle.mote_program.proofs.NameLaws.{added}
-use Rattle.mote_program.proofs.names.Names.add.Goals as goal
-
-pub returns-clause-ok : goal.returns-clause-ok
-returns-clause-ok c = added _ _ _ _ _ c.self.view_is c.in_ok-name.ensures.ok c.requires c.in_ok-insert.ensures.keys

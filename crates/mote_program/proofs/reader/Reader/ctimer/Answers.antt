@@ -1,7 +1,0 @@
-use Rattle.mote_program.proofs.BlockLaws.{ctimer_read}
-use Rattle.mote_program.proofs.ExtendLaws.{fixed_names, fixed_starting}
-use Rattle.mote_program.proofs.reader.Reader.ctimer.Goals as goal
-
-pub returns-clause-ok : goal.returns-clause-ok
-returns-clause-ok c =
-    ctimer_read _ _ _ _ _ _ _ _ c.in_ok-new_name.ensures.ok c.in_ok-block.ensures.ok (fixed_names c.block.new.self.scope c.new_name.new.scope c.in_ok-block.ensures.names) (fixed_starting c.block.new.self.scope c.new_name.new.scope c.in_ok-block.ensures.names) c.in_ok-block.ensures.numbered

@@ -1,7 +1,0 @@
-use Rattle.mote_program.proofs.BlockLaws.{on_poll_read}
-use Rattle.mote_program.proofs.ExtendLaws.{fixed_names, fixed_starting}
-use Rattle.mote_program.proofs.reader.Reader.on_poll.Goals as goal
-
-pub returns-clause-ok : goal.returns-clause-ok
-returns-clause-ok c =
-    on_poll_read _ _ _ _ _ _ c.if-not-accept.ensures.there c.if-not-accept.ensures.read c.in_ok-block.ensures.ok (fixed_names c.block.new.self.scope c.args.self.now.scope c.in_ok-block.ensures.names) (fixed_starting c.block.new.self.scope c.args.self.now.scope c.in_ok-block.ensures.names) c.in_ok-block.ensures.numbered

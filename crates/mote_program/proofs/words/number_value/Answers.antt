@@ -1,5 +1,0 @@
-use Rattle.mote_program.proofs.WordLaws.{digit_step}
-use Rattle.mote_program.proofs.words.number_value.Goals as goal
-
-pub loop-digit-preserved : goal.loop-digit-preserved
-loop-digit-preserved c = digit_step _ _ _ _ _ c.requires c.loop-digit-test.true c.loop-digit.invariant c.from.ensures c.min-value.ensures

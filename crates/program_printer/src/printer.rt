@@ -1,0 +1,131 @@
+//! The canonical text of tokens, and of a program.
+ghost use Rattle.std.specs.Prelude.{◌≡◌, ◌++◌, ◌+◌, ◌<◌, ◌^◌, map, IfOk, OnOk, string_bytes};
+ghost use Rattle.program_tree.specs.Canonical.{braces_behind, tells, ends_line, stands_close, line_depth, indentation, gap, canonical_text};
+ghost use Rattle.program_tree.specs.Program.{tree_of};
+ghost use Rattle.program_tree.specs.Reading.{IsTreeOf};
+ghost use Rattle.program_tree.specs.ShapeOf.{text_of_tree};
+ghost use Rattle.program_tree.specs.Tokens.{token_of};
+
+use crate::spelling::spell;
+use crate::unread_code::unread;
+use program_tree::keyword::Keyword;
+use program_tree::program::Program;
+use program_tree::token::Token;
+use std::alloc::{AllocError, Global};
+
+/// How many braces are open behind a token, of those before it.
+fn braces_behind(braces: usize, token: &Token) -> usize
+    requires { braces + 1 < 2 ^ 64 }
+    ensures { result ≡ braces_behind braces (token_of token.now) }
+{
+    match token {
+        Token::OpenBrace => braces + 1,
+        Token::CloseBrace => braces.saturating_sub(1),
+        _ => braces,
+    }
+}
+
+/// Whether a `(` stands close behind the word.
+fn tells(keyword: Keyword) -> bool
+    ensures { result ≡ tells keyword }
+{
+    matches!(
+        keyword,
+        Keyword::Is
+            | Keyword::Fired
+            | Keyword::Expired
+            | Keyword::Gone
+            | Keyword::Running
+            | Keyword::Count
+    )
+}
+
+/// Whether a token ends its line, where these come behind it.
+fn ends_line(token: &Token, rest: &[Token]) -> bool
+    ensures { result ≡ ends_line (token_of token.now) (map token_of rest.now) }
+{
+    match token {
+        Token::Semicolon | Token::OpenBrace => true,
+        Token::CloseBrace => !matches!(rest, [Token::Keyword(Keyword::Else), ..]),
+        _ => false,
+    }
+}
+
+/// Whether no space stands between a token and the next.
+fn stands_close(token: &Token, rest: &[Token]) -> bool
+    ensures { result ≡ stands_close (token_of token.now) (map token_of rest.now) }
+{
+    match (token, rest) {
+        (Token::Open | Token::Bang, _) => true,
+        (_, [Token::Semicolon | Token::Comma | Token::Close, ..]) => true,
+        (Token::Keyword(keyword), [Token::Open, ..]) => tells(*keyword),
+        _ => false,
+    }
+}
+
+/// How many braces are open where a line begins with these tokens: one that closes counts as closed.
+fn line_depth(braces: usize, rest: &[Token]) -> usize
+    ensures { result ≡ line_depth braces (map token_of rest.now) }
+{
+    match rest {
+        [Token::CloseBrace, ..] => braces.saturating_sub(1),
+        _ => braces,
+    }
+}
+
+/// Adds two spaces for each open brace.
+fn indent(text: &mut String, mut depth: usize) -> Result<(), AllocError>
+    ensures { OnOk result (string_bytes text.new ≡ string_bytes text.old ++ indentation depth) }
+{
+    while depth > 0 {
+        text.push_str("  ")?;
+        depth -= 1;
+    }
+    Ok(())
+}
+
+/// Adds what stands behind a token, where so many braces are open.
+fn part(text: &mut String, braces: usize, token: &Token, rest: &[Token]) -> Result<(), AllocError>
+    ensures { OnOk result (string_bytes text.new ≡ string_bytes text.old ++ gap braces (token_of token.now) (map token_of rest.now)) }
+{
+    if ends_line(token, rest) {
+        text.push_str("\n")?;
+        indent(text, line_depth(braces, rest))
+    } else if stands_close(token, rest) {
+        Ok(())
+    } else {
+        text.push_str(" ")
+    }
+}
+
+/// The canonical text of tokens.
+pub(crate) fn print(alloc: Global, mut tokens: &[Token]) -> Result<String, AllocError>
+    ensures { IfOk result (λ t. string_bytes t ≡ canonical_text (map token_of tokens.entry.now)) }
+{
+    let mut text = String::new(alloc);
+    let mut braces = 0;
+    while let [token, rest @ ..] = tokens {
+        spell(alloc, &mut text, token)?;
+        braces = braces_behind(braces, token);
+        part(&mut text, braces, token, rest)?;
+        tokens = rest;
+    }
+    Ok(text)
+}
+
+/// The canonical text of a program. Reading it gives the same program.
+///
+/// Tokens are one space apart, but no space stands before `;`, `,` and `)`, behind `(` and `!`, and between `is`, `fired`,
+/// `expired`, `gone`, `running` or `count` and its `(`. Each `;`, `{` and `}` ends a line, but `} else {` is one line. A line
+/// is indented by two spaces for each brace that is open. Empty blocks are kept. The text ends with LF.
+///
+/// # Errors
+///
+/// Want of memory.
+pub fn print_program(alloc: Global, program: &Program) -> Result<String, AllocError>
+    ensures text { IfOk result (λ t. string_bytes t ≡ text_of_tree (tree_of program.now)) }
+    ensures reads { IfOk result (λ t. IsTreeOf (string_bytes t) (tree_of program.now)) }
+{
+    let tokens = unread(alloc, program)?;
+    print(alloc, &tokens)
+}

@@ -1,0 +1,113 @@
+-- How the reading goes on at a declaration.
+use Rattle.std.proofs.Common.{◌≡◌, ◌<◌, ◌≤◌, nat_lt, arith, ℕ, suc, List, [], ◌∷◌, ◌++◌, length, drop, Bool, true, false, Option, Some, None, is_some, option_map, ◌+◌, refl, ap, sym, ◌∙◌, ◌||◌}
+use Rattle.std.proofs.lemmas.Bool.Decides.{nat_tests}
+use Rattle.program_tree.specs.Faults.{Scope, is_full}
+use Rattle.program_reader.specs.Head.{with_names, IsNew, IsListed, IsValued}
+use Rattle.program_tree.specs.InScope.{Names, with_new, is_in_scope, is_a}
+use Rattle.text_laws.specs.Machine as machine
+use Rattle.text_laws.specs.Machine.{Pending, tell, fault, fault_or, first, first_broken, new_name}
+use Rattle.program_tree.specs.Names.{place_of}
+use Rattle.program_tree.specs.Shapes.{Name}
+use Rattle.program_reader.specs.Steps.{ReadsSign}
+use Rattle.program_tree.specs.Tokens as token
+use Rattle.program_tree.specs.Tokens.{Token}
+use Rattle.program_tree.specs.Tree.{Class, an_event, a_semaphore, a_process, a_variable, a_timer, a_thread}
+use Rattle.program_tree.specs.declared.error.ReadErrorKind.TheVariants.{NameTwice, NumberTooLarge, TooMany}
+use Rattle.program_reader.proofs.NameSteps.{front_of}
+use Rattle.program_reader.proofs.PlaceLaws.{place_left, place_right}
+
+pub is_new : (c : Class) (s s' : Scope) (x : Name) (old new : List Token) → first old ≡ Some (token.Name x) → new ≡ drop 1 old → is_in_scope s.names x ≡ false → is_full s.names c ≡ false → s' ≡ with_names s (with_new s.names c x)
+    → IsNew c s s' x old new
+is_new c s s' x old new is from fresh room added = record {
+  added = added;
+  spelled = front_of old (token.Name x) is ∙ ap (λ ts. token.Name x ∷ ts) (sym from);
+  sound = rw (fresh, room) refl;
+}
+
+pub new_twice : (c : Class) (s : Scope) (x : Name) (old : List Token) (more : Pending) → first old ≡ Some (token.Name x) → is_in_scope s.names x ≡ true → tell s (new_name c ∷ more) old ≡ fault NameTwice (length old)
+new_twice c s x [] more is twice = absurd cc
+new_twice c s x (token.Name y ∷ ts) more is twice = let e : y ≡ x = cc in rw (e, twice) refl
+new_twice c s x (t ∷ ts) more is twice = absurd cc
+
+pub new_many : (c : Class) (s : Scope) (x : Name) (old : List Token) (more : Pending) → first old ≡ Some (token.Name x) → is_in_scope s.names x ≡ false → is_full s.names c ≡ true → tell s (new_name c ∷ more) old ≡ fault TooMany (length old)
+new_many c s x [] more is fresh full = absurd cc
+new_many c s x (token.Name y ∷ ts) more is fresh full = let e : y ≡ x = cc in rw (e, fresh, full) refl
+new_many c s x (t ∷ ts) more is fresh full = absurd cc
+
+or_parts : (a b : Bool) → (a || b) ≡ false → (a ≡ false) × (b ≡ false)
+or_parts true b h = absurd cc
+or_parts false b h = (refl, h)
+
+-- a name in no scope is of no class
+pub of_no_class : (names : Names) (c : Class) (x : Name) → is_in_scope names x ≡ false → is_a names c x ≡ false
+of_no_class names c x h =
+    let p = or_parts _ (is_a names a_thread x) h in
+    let q = or_parts _ (is_a names a_timer x) p.0 in
+    let r = or_parts _ (is_a names a_variable x) q.0 in
+    let s = or_parts _ (is_a names a_process x) r.0 in
+    let t = or_parts (is_a names an_event x) (is_a names a_semaphore x) s.0 in
+    pick c t.0 t.1 s.1 r.1 q.1 p.1
+  where
+    pick : (c : Class) → is_a names an_event x ≡ false → is_a names a_semaphore x ≡ false → is_a names a_process x ≡ false → is_a names a_variable x ≡ false → is_a names a_timer x ≡ false → is_a names a_thread x ≡ false → is_a names c x ≡ false
+    pick an_event a b c d e f = a
+    pick a_semaphore a b c d e f = b
+    pick a_process a b c d e f = c
+    pick a_variable a b c d e f = d
+    pick a_timer a b c d e f = e
+    pick a_thread a b c d e f = f
+
+pub ruleset new_steps = (is_new, new_twice, new_many, of_no_class)
+
+pub number_reads : (n : ℕ) (old new : List Token) → first old ≡ Some (token.Number n) → n ≤ 65535 → new ≡ drop 1 old → ReadsSign machine.number (token.Number n) old new
+number_reads n [] new is h from = absurd cc
+number_reads n (token.Number m ∷ ts) new is h from =
+    let e : m ≡ n = cc in
+    let small : nat_lt 65535 m ≡ false = grind (arith, nat_tests) in
+    record { spelled = ap (λ z. token.Number z ∷ ts) e ∙ ap (λ z. token.Number n ∷ z) (sym from); goes_on = λ s f. rw small (ap (tell s f) (sym from)) }
+number_reads n (t ∷ ts) new is h from = absurd cc
+
+pub number_large : (n : ℕ) (old : List Token) (s : Scope) (more : Pending) → first old ≡ Some (token.Number n) → 65535 < n → tell s (machine.number ∷ more) old ≡ fault NumberTooLarge (length old)
+number_large n [] s more is h = absurd cc
+number_large n (token.Number m ∷ ts) s more is h =
+    let e : m ≡ n = cc in
+    let large : nat_lt 65535 m ≡ true = grind (arith, nat_tests) in
+    rw large refl
+number_large n (t ∷ ts) s more is h = absurd cc
+
+pub ruleset number_steps = (number_reads, number_large)
+
+-- behind a new name
+pub new_goes : (c : Class) (s s' : Scope) (x : Name) (old new : List Token) (f : Pending) → IsNew c s s' x old new → tell s (new_name c ∷ f) old ≡ tell s' f new
+new_goes c s s' x old new f r =
+    ap (tell s (new_name c ∷ f)) r.spelled ∙ ap (λ o. fault_or o (suc (length new)) (tell (with_names s (with_new s.names c x)) f new)) r.sound ∙ ap (λ z. tell z f new) (sym r.added)
+
+pub is_listed : (c : Class) (s s' : Scope) (x : Name) (old m new : List Token) → IsNew c s s' x old m → ReadsSign machine.semicolon token.Semicolon m new → IsListed c s s' old new
+is_listed c s s' x old m new r k = record {
+  name = x;
+  added = r.added;
+  spelled = r.spelled ∙ ap (λ z. token.Name x ∷ z) k.spelled;
+  goes_on = λ f. new_goes c s s' x old m (machine.semicolon ∷ f) r ∙ k.goes_on s' f;
+}
+
+pub is_valued : (c : Class) (s s' : Scope) (values values' : List ℕ) (x : Name) (v : ℕ) (old m0 m1 m2 new : List Token) → IsNew c s s' x old m0 → ReadsSign machine.equals token.Equals m0 m1
+    → ReadsSign machine.number (token.Number v) m1 m2 → ReadsSign machine.semicolon token.Semicolon m2 new → values' ≡ values ++ v ∷ [] → IsValued c s s' values values' old new
+is_valued c s s' values values' x v old m0 m1 m2 new r k1 k2 k3 e = record {
+  name = x;
+  value = v;
+  added = r.added;
+  pushed = e;
+  spelled = r.spelled ∙ ap (λ z. token.Name x ∷ z) (k1.spelled ∙ ap (λ z. token.Equals ∷ z) (k2.spelled ∙ ap (λ z. token.Number v ∷ z) k3.spelled));
+  goes_on = λ f. new_goes c s s' x old m0 (machine.equals ∷ machine.number ∷ machine.semicolon ∷ f) r ∙ k1.goes_on s' (machine.number ∷ machine.semicolon ∷ f) ∙ k2.goes_on s' (machine.semicolon ∷ f) ∙ k3.goes_on s' f;
+}
+
+mapped_none : (n : ℕ) (o : Option ℕ) → is_some (option_map (λ i. n + i) o) ≡ false → o ≡ None
+mapped_none n None h = refl
+mapped_none n (Some i) h = absurd cc
+
+-- a name that isn't among these isn't among the last of them
+pub not_in_second : (xs ys : List Name) (x : Name) → is_some (place_of (xs ++ ys) x) ≡ false → place_of ys x ≡ None
+not_in_second xs ys x h = go (place_of xs x) refl
+  where
+    go : (o : Option ℕ) → place_of xs x ≡ o → place_of ys x ≡ None
+    go None e = mapped_none (length xs) (place_of ys x) (ap is_some (sym (place_right xs ys x e)) ∙ h)
+    go (Some i) e = let k : is_some (place_of (xs ++ ys) x) ≡ true = ap is_some (place_left xs ys x i e) in absurd (cc (k, h))

@@ -1,0 +1,42 @@
+use Rattle.std.proofs.Common.{◌≡◌, ◌+◌, ◌∙◌, ◌∷◌, ◌++◌, [], map, length, refl, Result, Err, sym, ap, subst, arith}
+use Rattle.std.proofs.lemmas.List.{map-append, length-append, length-map}
+use Rattle.std.proofs.lemmas.List.Elements.{All-nil, All-cons, All-append}
+use Rattle.std.proofs.lemmas.Result.{err_from_is_err_and}
+use Rattle.std.specs.List.{All}
+use Rattle.program_tree.specs.Tree.{block_of, IsWithinLimits}
+use Rattle.program_reader.specs.declared.fault.Refusal.{Refusal}
+use Rattle.program_reader.specs.declared.fault.Refusal.TheVariants as refusal
+use Rattle.program_tree.specs.declared.tree.Block.{Block}
+use Rattle.program_reader.proofs.BlockLaws.{thread_more, thread_all, threads_fail, earlier_more}
+use Rattle.program_reader.proofs.reader.Reader.threads.Goals as goal
+
+pub threads-preserved : goal.threads-preserved
+threads-preserved c =
+    let pushed : map block_of c.push.new.self.items ≡ map block_of c.threads.blocks.items ++ block_of c.in_ok-block.block ∷ [] =
+    ap (map block_of) c.in_ok-push.ensures.items ∙ map-append block_of c.threads.blocks.items (c.in_ok-block.block ∷ []) in
+    record {
+      no_longer = omega (arith, c.in_ok-block.ensures.no_longer);
+      etimers = c.in_ok-block.ensures.etimers ∙ c.threads.invariant.etimers;
+      ctimers = c.in_ok-block.ensures.ctimers ∙ c.threads.invariant.ctimers;
+      counted =
+          ap (λ z. length z.threads) c.in_ok-block.ensures.ok.added ∙ length-append c.threads.self.scope.threads (c.in_ok-block.ensures.ok.name ∷ [])
+          ∙ ap (λ k. k + 1) c.threads.invariant.counted ∙ sym (ap length c.in_ok-push.ensures.items ∙ length-append c.threads.blocks.items (c.in_ok-block.block ∷ []));
+      earlier =
+          earlier_more (map block_of c.threads.blocks.items) _ (block_of c.in_ok-block.block) (length c.threads.self.scope.threads) c.threads.invariant.earlier
+          (c.threads.invariant.counted ∙ sym (length-map c.threads.blocks.items block_of)) c.in_ok-block.ensures.earlier pushed;
+      within =
+          subst (λ z. All (λ b. IsWithinLimits (block_of b)) z) (sym c.in_ok-push.ensures.items)
+          (All-append (λ b. IsWithinLimits (block_of b)) c.threads.blocks.items (c.in_ok-block.block ∷ []) c.threads.invariant.within
+          (All-cons (λ b. IsWithinLimits (block_of b)) c.in_ok-block.block [] c.in_ok-block.ensures.within (All-nil (λ b. IsWithinLimits (block_of b)))));
+      reads = thread_more _ _ _ _ _ _ _ _ _ _ c.threads.invariant.reads c.threads-test.ensures.there c.threads-test.ensures.read c.in_ok-block.ensures.ok pushed;
+    }
+
+pub returns-in_err-block-clause-err : goal.returns-in_err-block-clause-err
+returns-in_err-block-clause-err c = λ f e more.
+    let p = err_from_is_err_and c.from_residual.result c.from_residual.ensures.1 in
+    let r : p.0 ≡ refusal.Fault f = cc (p.1, e) in
+    let q : ◌≡◌ {A = Result Block Refusal} (Err c.in_err-block.field-0.0) (Err (refusal.Fault f)) = ap Err (sym p.2 ∙ r) in
+    threads_fail _ _ _ _ _ _ _ more c.threads.invariant.reads c.threads-test.ensures.there c.threads-test.ensures.read (c.in_err-block.ensures.err f q)
+
+pub returns-clause-ok : goal.returns-clause-ok
+returns-clause-ok c = thread_all _ _ _ _ _ _ c.threads.invariant.reads (c.threads-test.ensures.other refl) (c.threads-test.ensures.same refl)

@@ -1,0 +1,12 @@
+use Rattle.std.proofs.Common.{sym}
+use Rattle.text_laws.proofs.WordLaws.{number_token, table_token, other_token}
+use Rattle.program_reader.proofs.words.word_token.Goals as goal
+
+pub returns-then-is_number : goal.returns-then-is_number
+returns-then-is_number c = number_token _ _ (sym c.if-is_number.ensures.number) c.number_value.ensures
+
+pub returns-in-Some : goal.returns-in-Some
+returns-in-Some c = table_token _ _ (sym c.if-is_number.ensures.number) (sym c.in-Some.ensures)
+
+pub returns-in-None : goal.returns-in-None
+returns-in-None c = other_token _ _ (sym c.if-is_number.ensures.number) (sym c.in-None.ensures) c.name.ensures

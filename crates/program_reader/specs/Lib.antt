@@ -1,0 +1,6 @@
+pub mod CodeParts
+pub mod Codes
+pub mod Head
+pub mod Plain
+pub mod Steps
+pub mod Values

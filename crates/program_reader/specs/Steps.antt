@@ -1,0 +1,193 @@
+-- What reading one part of a program gives: its tokens are spelled by its marks, and the machine goes on behind it, whatever
+-- comes after.
+use Rattle.std.specs.Prelude.{◌≡◌, ℕ, ◌+◌, List, ◌∷◌, ◌++◌, Bool, true, false, ◌||◌, Option, Some, option_map, Result, Err}
+pub use Rattle.program_tree.specs.Classes.{class_of}
+use Rattle.program_tree.specs.Faults.{Scope, is_other, is_own}
+use Rattle.program_tree.specs.Forms.{Beginning, no_statement, action, branches, loops, goes_on, beginning}
+use Rattle.program_tree.specs.Grammar.{Context, Mark, tokens}
+use Rattle.program_tree.specs.InScope.{Names, names_of, name_in, is_in_scope}
+use Rattle.text_laws.specs.Machine.{Symbol, Pending, fault, tell, semicolon, equals, open_sign, close, open_brace, expression, block, items, items_else, symbols_of}
+use Rattle.program_tree.specs.Names.{place_of}
+use Rattle.program_tree.specs.Scope.{Within}
+use Rattle.program_tree.specs.Shapes.{Name}
+use Rattle.program_tree.specs.Tokens as token
+use Rattle.program_tree.specs.Tokens.{Token}
+use Rattle.program_tree.specs.Tree.{Class, an_event, a_semaphore, a_process, a_variable, a_timer, a_thread}
+use Rattle.program_reader.specs.declared.cursor.Sign.{Sign}
+use Rattle.program_reader.specs.declared.cursor.Sign.TheVariants as read_sign
+use Rattle.program_reader.specs.declared.fault.Fault.{Fault}
+use Rattle.program_reader.specs.declared.fault.Refusal.{Refusal}
+use Rattle.program_reader.specs.declared.fault.Refusal.TheVariants as refusal
+use Rattle.program_tree.specs.declared.keyword.Keyword.{Keyword}
+use Rattle.program_reader.specs.declared.scope.Context.{Context as ContextRead}
+use Rattle.program_reader.specs.declared.scope.Found.{Found}
+use Rattle.program_reader.specs.declared.scope.Found.TheVariants as found
+use Rattle.program_reader.specs.declared.scope.Scope.{Scope as ScopeRead}
+
+-- What the types of `src/scope.rt` and `src/cursor.rt` stand for.
+
+abbrev pub scope_of : ScopeRead → Scope
+scope_of s = record {
+  names = record {
+    events = s.events;
+    semaphores = s.semaphores;
+    processes = s.processes;
+    variables = s.variables;
+    first_timer = s.first_timer;
+    timers = s.etimers ++ s.ctimers;
+    threads = s.threads;
+  };
+  starting = s.starting;
+  statements = s.statements;
+}
+
+abbrev pub context_of : ContextRead → Context
+context_of c = record { level = c.level; simple = c.simple; thread = option_map (λ x. x.now) c.thread }
+
+-- numbers of events are below this, and those of all others below that
+abbrev pub most_of : Class → ℕ
+most_of an_event = 117
+most_of c = 64
+
+abbrev pub symbol_of : Sign → Symbol
+symbol_of read_sign.Semicolon = semicolon
+symbol_of read_sign.Equals = equals
+symbol_of read_sign.Open = open_sign
+symbol_of read_sign.Close = close
+symbol_of read_sign.OpenBrace = open_brace
+
+abbrev pub token_of_sign : Sign → Token
+token_of_sign read_sign.Semicolon = token.Semicolon
+token_of_sign read_sign.Equals = token.Equals
+token_of_sign read_sign.Open = token.Open
+token_of_sign read_sign.Close = token.Close
+token_of_sign read_sign.OpenBrace = token.OpenBrace
+
+-- Names as they are looked up.
+
+-- the number of a name of a class
+abbrev pub look : Names → Class → Name → Option ℕ
+look n a_timer x = option_map (λ i. n.first_timer + i) (place_of n.timers x)
+look n c x = place_of (names_of n c) x
+
+abbrev pub is_own_thread : Option Name → Class → Name → Bool
+is_own_thread own a_thread x = is_own own x
+is_own_thread own c x = false
+
+-- the name stands for this one, which isn't the thread that is being read
+pub record Finds (n : Names) (own : Option Name) (c : Class) (x : Name) (i : ℕ) : Type 0 where
+  pub found : look n c x ≡ Some i
+  pub other : is_own_thread own c x ≡ false
+
+-- what a name stands for, where one of this class is asked for
+abbrev pub IsFound : Names → Option Name → Class → Name → Found → Type 0
+IsFound n own c x found.Unknown = is_in_scope n x ≡ false
+IsFound n own c x found.Other = (is_in_scope n x ≡ true) × ((is_other n c x || is_own_thread own c x) ≡ true)
+IsFound n own c x (found.Here i) = Finds n own c x i
+
+-- what is in scope stays there, and more may be declared
+abbrev pub IsFront : List Name → List Name → Type 0
+IsFront xs ys = (more : List Name) × (ys ≡ xs ++ more)
+
+pub record Extends (n n' : Names) : Type 0 where
+  pub front : (c : Class) → IsFront (names_of n c) (names_of n' c)
+  pub first_timer : n'.first_timer ≡ n.first_timer
+
+-- all that is found is within
+abbrev pub Covers : Names → Option Name → Within → Type 0
+Covers n own w = (c : Class) (x : Name) (i : ℕ) → Finds n own c x i → w c i ≡ true
+
+-- with its names put back and numbered again the tree is the same, whatever more is declared
+abbrev pub Numbered : {T : Type 0} → Names → (again : Names → T) → T → Type 0
+Numbered n again t = (n' : Names) → Extends n n' → again n' ≡ t
+
+-- what the tree names is in scope
+abbrev pub Fits : Names → Option Name → (fits : Within → Bool) → Type 0
+Fits n own fits = (w : Within) → Covers n own w → fits w ≡ true
+
+-- What is read.
+
+-- a sign that must stand there
+pub record ReadsSign (y : Symbol) (t : Token) (old new : List Token) : Type 0 where
+  pub spelled : old ≡ t ∷ new
+  pub goes_on : (s : Scope) (f : Pending) → tell s (y ∷ f) old ≡ tell s f new
+
+abbrev pub FailsSign : {T : Type 0} → Symbol → List Token → Result T Refusal → Type 0
+FailsSign y old result = (f : Fault) → result ≡ Err (refusal.Fault f) → (s : Scope) (more : Pending) → tell s (y ∷ more) old ≡ fault f.kind f.left
+
+-- a part in which the marks stand so with the names put back
+pub record Reads (s s' : Scope) (y : Symbol) (marks : Names → List Mark → List Mark) (old new : List Token) : Type 0 where
+  pub spelled : (n : Names) → Extends s.names n → (ms : List Mark) → tokens ms ≡ new → old ≡ tokens (marks n ms)
+  pub goes_on : (f : Pending) → tell s (y ∷ f) old ≡ tell s' f new
+
+-- where the result is a fault, it is the first one, whatever comes after the symbol
+abbrev pub Fails : {T : Type 0} → Scope → Symbol → List Token → Result T Refusal → Type 0
+Fails s y old result = (f : Fault) → result ≡ Err (refusal.Fault f) → (more : Pending) → tell s (y ∷ more) old ≡ fault f.kind f.left
+
+-- a statement of a block, of which more comes
+pub record ReadsStatement (s s' : Scope) (c : Context) (marks : Names → List Mark → List Mark) (old new : List Token) : Type 0 where
+  pub spelled : (n : Names) → Extends s.names n → (ms : List Mark) → tokens ms ≡ new → old ≡ tokens (marks n ms)
+  pub goes_on : (f : Pending) → tell s (items c ∷ f) old ≡ tell s' (items c ∷ f) new
+
+-- what follows the first block of an `if`
+pub record ReadsElse (s s' : Scope) (c : Context) (marks : Names → List Mark → List Mark) (old new : List Token) : Type 0 where
+  pub spelled : (n : Names) → Extends s.names n → (ms : List Mark) → tokens ms ≡ new → old ≡ tokens (marks n ms)
+  pub goes_on : (f : Pending) → tell s (items_else c ∷ f) old ≡ tell s' (items c ∷ f) new
+
+-- what the first token of a statement asks for
+abbrev pub pending_of : Context → Beginning → Pending → Pending
+pending_of c no_statement f = f
+pending_of c (action g) f = symbols_of c g (items c ∷ f)
+pending_of c branches f = expression c ∷ block c ∷ items_else c ∷ f
+pending_of c loops f = expression c ∷ block c ∷ items c ∷ f
+pending_of c goes_on f = f
+
+abbrev pub IsStatement : Beginning → Type 0
+IsStatement no_statement = ⊥
+IsStatement goes_on = ⊥
+IsStatement b = Unit {0}
+
+abbrev pub IsPlain : Beginning → Type 0
+IsPlain branches = ⊥
+IsPlain loops = ⊥
+IsPlain b = Unit {0}
+
+-- a block doesn't end here
+abbrev pub IsInside : Option Token → Type 0
+IsInside (Some token.CloseBrace) = ⊥
+IsInside t = Unit {0}
+
+-- the keyword of a statement is read, and the statement counts
+pub record Begins (s s' : Scope) (c : Context) (k : Keyword) (old new : List Token) : Type 0 where
+  pub spelled : old ≡ token.Keyword k ∷ new
+  pub goes_on : (f : Pending) → tell s (items c ∷ f) old ≡ tell s' (pending_of c (beginning k) f) new
+
+-- the variable that a statement assigns to is read, and the statement counts
+pub record IsTarget (s s' : Scope) (c : Context) (i : ℕ) (old new : List Token) : Type 0 where
+  pub spelled : (n : Names) → Extends s.names n → old ≡ token.Name (name_in n a_variable i) ∷ new
+  pub goes_on : (f : Pending) → tell s (items c ∷ f) old ≡ tell s' (equals ∷ expression c ∷ semicolon ∷ items c ∷ f) new
+
+-- all that statements don't change
+pub record Fixed : Type 0 where
+  pub events : List Name
+  pub semaphores : List Name
+  pub processes : List Name
+  pub variables : List Name
+  pub first_timer : ℕ
+  pub etimers : List Name
+  pub ctimers : List Name
+  pub threads : List Name
+  pub starting : List Name
+
+abbrev pub fixed : ScopeRead → Fixed
+fixed s = record {
+  events = s.events;
+  semaphores = s.semaphores;
+  processes = s.processes;
+  variables = s.variables;
+  first_timer = s.first_timer;
+  etimers = s.etimers;
+  ctimers = s.ctimers;
+  threads = s.threads;
+  starting = s.starting;
+}

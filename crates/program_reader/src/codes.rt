@@ -1,0 +1,189 @@
+//! The codes of a program, and the program.
+ghost use Rattle.std.specs.Prelude.{◌≡◌, ◌≤◌, ◌<◌, ◌++◌, ◌∷◌, [], length, map, replicate, List, IfOk, OnOk};
+ghost use Rattle.program_reader.specs.Codes.{HasCodes, ReadsHead, all_timers, tree_with};
+ghost use Rattle.program_reader.specs.Head.{FailsIn};
+ghost use Rattle.text_laws.specs.Machine as machine;
+ghost use Rattle.program_tree.specs.Faults.{nothing_yet, Scope};
+ghost use Rattle.program_tree.specs.Program.{code_of, tree_of};
+ghost use Rattle.program_tree.specs.Reading.{AreLexed, IsTreeOfTokens, IsMade};
+ghost use Rattle.program_tree.specs.Tokens.{token_of};
+ghost use Rattle.program_reader.specs.Steps.{scope_of};
+ghost use Rattle.program_reader.specs.declared.fault.Fault.{Fault};
+
+use crate::cursor::Cursor;
+use crate::fault::Refusal;
+use crate::reader::Reader;
+use crate::scope::Scope as ScopeRead;
+use program_tree::process_text::ProcessText;
+use program_tree::program::Program;
+use program_tree::timer::Timer;
+use program_tree::token::Token;
+use std::alloc::{AllocError, Global};
+
+/// Adds so many timers of one kind.
+fn add_timers(timers: &mut Vec<Timer>, count: usize, timer: Timer) -> Result<(), AllocError>
+    ensures { OnOk result (timers.new.items ≡ timers.old.items ++ replicate count timer) }
+{
+    for _added in 0..count {
+        timers.push(timer)?;
+    }
+    Ok(())
+}
+
+/// The timers of all processes, in the order of the text.
+fn timers(alloc: Global, mut codes: &[ProcessText]) -> Result<Vec<Timer>, AllocError>
+    ensures { IfOk result (λ timers. timers.items ≡ all_timers (map code_of codes.entry.now)) }
+{
+    let mut timers = Vec::new(alloc);
+    while let [code, rest @ ..] = codes {
+        let etimer = Timer {
+            process: code.number,
+            is_callback: false,
+        };
+        add_timers(&mut timers, code.etimers.len(), etimer)?;
+        let ctimer = Timer {
+            process: code.number,
+            is_callback: true,
+        };
+        add_timers(&mut timers, code.ctimers.len(), ctimer)?;
+        codes = rest;
+    }
+    Ok(timers)
+}
+
+impl Reader<'_> {
+    /// The codes of the processes, in their order.
+    fn codes(&mut self) -> Result<Vec<ProcessText>, Refusal>
+        requires variables { self.old.scope.variables ≡ [] }
+        requires etimers { self.old.scope.etimers ≡ [] }
+        requires ctimers { self.old.scope.ctimers ≡ [] }
+        requires threads { self.old.scope.threads ≡ [] }
+        ensures ok { IfOk result (λ codes. HasCodes (map code_of codes.items) [] (scope_of self.old.scope) (scope_of self.new.scope) self.old.cursor self.new.cursor) }
+        ensures err { (f : Fault) → result ≡ Err (Refusal.Fault f) → (more : machine.Pending) →
+            machine.tell (scope_of self.old.scope) (machine.codes_form self.old.scope.processes more) self.old.cursor ≡ machine.fault f.kind f.left }
+    {
+        let mut codes = Vec::new(self.alloc);
+        'codes: while codes.len() < self.scope.processes.len() {
+            let code = self.code(codes.len())?;
+            codes.push(code)?;
+        }
+        Ok(codes)
+    }
+}
+
+impl Cursor<'_> {
+    /// The end of the text.
+    fn end(&self) -> Result<(), Refusal>
+        ensures ok { OnOk result (self.now ≡ []) }
+        ensures err { (f : Fault) → result ≡ Err (Refusal.Fault f) → (s : Scope) → machine.tell s [] self.now ≡ machine.fault f.kind f.left }
+    {
+        if self.left() == 0 {
+            return Ok(());
+        }
+        Err(self.unfit())
+    }
+}
+
+/// What stands before the codes of a program: the first counts of the semaphores, the processes that start at boot, and the one that
+/// packets go to.
+#[derive(Drop)]
+struct Head {
+    counts: Vec<u16>,
+    autostart: Vec<u8>,
+    receiver: Option<u8>,
+}
+
+impl Reader<'_> {
+    /// What stands before the codes.
+    fn head(&mut self) -> Result<Head, Refusal>
+        ensures ok { IfOk result (λ h. ReadsHead h.counts.items h.autostart.items h.receiver (scope_of self.old.scope) (scope_of self.new.scope) self.old.cursor self.new.cursor) }
+        ensures err { FailsIn (scope_of self.old.scope) (machine.from_events ∷ []) self.old.cursor result }
+    {
+        self.events()?;
+        let counts = self.semaphores()?;
+        self.processes()?;
+        let autostart = self.autostart()?;
+        let receiver = self.receiver()?;
+        Ok(Head {
+            counts,
+            autostart,
+            receiver,
+        })
+    }
+}
+
+/// What a text holds beside the names that are in scope behind it: what stands before the codes, the codes, and their timers.
+#[derive(Drop)]
+struct Parts {
+    head: Head,
+    codes: Vec<ProcessText>,
+    timers: Vec<Timer>,
+}
+
+impl Reader<'_> {
+    /// The codes, behind which the text ends.
+    fn last_codes(&mut self) -> Result<Vec<ProcessText>, Refusal>
+        requires variables { self.old.scope.variables ≡ [] }
+        requires etimers { self.old.scope.etimers ≡ [] }
+        requires ctimers { self.old.scope.ctimers ≡ [] }
+        requires threads { self.old.scope.threads ≡ [] }
+        ensures ok { IfOk result (λ codes. HasCodes (map code_of codes.items) [] (scope_of self.old.scope) (scope_of self.new.scope) self.old.cursor []) }
+        ensures err { (f : Fault) → result ≡ Err (Refusal.Fault f) →
+            machine.tell (scope_of self.old.scope) (machine.codes_form self.old.scope.processes []) self.old.cursor ≡ machine.fault f.kind f.left }
+    {
+        let codes = self.codes()?;
+        self.cursor.end()?;
+        Ok(codes)
+    }
+
+    /// All parts of a text, from its first token on.
+    fn parts(&mut self) -> Result<Parts, Refusal>
+        requires fresh { scope_of self.old.scope ≡ nothing_yet }
+        requires lexed { AreLexed self.old.cursor }
+        ensures made { IfOk result (λ p. IsMade (tree_with self.new.scope p)) }
+        ensures tree { IfOk result (λ p. IsTreeOfTokens self.old.cursor (tree_with self.new.scope p)) }
+        ensures err { (f : Fault) → result ≡ Err (Refusal.Fault f) → machine.tell nothing_yet (machine.from_events ∷ []) self.old.cursor ≡ machine.fault f.kind f.left }
+    {
+        let head = self.head()?;
+        let codes = self.last_codes()?;
+        let timers = timers(self.alloc, &codes)?;
+        Ok(Parts {
+            head,
+            codes,
+            timers,
+        })
+    }
+
+    /// The program of the parts, with the names that are in scope behind them.
+    fn into_program(self, parts: Parts) -> Program
+        requires { IsMade (tree_with self.scope parts) }
+        ensures { tree_of result ≡ tree_with self.entry.scope parts }
+    {
+        Program::new(
+            self.scope.events,
+            self.scope.semaphores,
+            parts.head.counts,
+            self.scope.processes,
+            parts.head.autostart,
+            parts.head.receiver,
+            parts.codes,
+            parts.timers,
+        )
+    }
+}
+
+/// The program that the tokens are, or their first fault.
+pub(crate) fn program<'a>(alloc: Global, tokens: &'a [Token<'a>]) -> Result<Program, Refusal>
+    requires { AreLexed (map token_of tokens.now) }
+    ensures ok { IfOk result (λ p. IsTreeOfTokens (map token_of tokens.now) (tree_of p)) }
+    ensures err { (f : Fault) → result ≡ Err (Refusal.Fault f) →
+        machine.tell nothing_yet (machine.from_events ∷ []) (map token_of tokens.now) ≡ machine.fault f.kind f.left }
+{
+    let mut reader = Reader {
+        alloc,
+        cursor: Cursor::new(tokens),
+        scope: ScopeRead::new(alloc),
+    };
+    let parts = reader.parts()?;
+    Ok(reader.into_program(parts))
+}

@@ -1,0 +1,142 @@
+//! The tokens that are still to be read.
+ghost use Rattle.std.specs.Prelude.{◌≡◌, ◌≤◌, false, Some, drop, length, map, option_map, OnOk};
+ghost use Rattle.std.specs.Bool.{OnTrue};
+ghost use Rattle.program_tree.specs.Tokens as token;
+ghost use Rattle.program_tree.specs.Tokens.{token_of};
+ghost use Rattle.text_laws.specs.Machine.{first, unfit_at};
+ghost use Rattle.program_reader.specs.Steps.{ReadsSign, FailsSign, symbol_of, token_of_sign};
+
+use crate::fault::{Fault, Refusal};
+use program_tree::error::ReadErrorKind;
+use program_tree::keyword::Keyword;
+use program_tree::token::Token;
+use std::marker::Model;
+
+/// A sign that must stand at its place.
+#[derive(Clone, Copy, Debug, PartialEq, Eq)]
+pub(crate) enum Sign {
+    Semicolon,
+    Equals,
+    Open,
+    Close,
+    OpenBrace,
+}
+
+/// A place among the tokens of a text. A contract sees the tokens from there on.
+#[derive(Drop)]
+pub(crate) struct Cursor<'a> {
+    rest: &'a [Token<'a>],
+}
+
+impl<'a> Model for Cursor<'a> {
+    ghost use Rattle.std.specs.Prelude.{List, map};
+    ghost use Rattle.program_tree.specs.Tokens.{Token, token_of};
+
+    ghost Value = { List Token };
+
+    ghost view = { λ c. map token_of c.rest.now };
+}
+
+impl<'a> Cursor<'a> {
+    pub(crate) fn new(tokens: &'a [Token<'a>]) -> Self
+        ensures { result ≡ map token_of tokens.now }
+    {
+        Cursor { rest: tokens }
+    }
+
+    /// How many tokens are left.
+    pub(crate) fn left(&self) -> usize
+        ensures { result ≡ length self.now }
+    {
+        self.rest.len()
+    }
+
+    /// The next token, where there is one.
+    pub(crate) fn peek(&self) -> Option<Token<'a>>
+        ensures { option_map token_of result ≡ first self.now }
+    {
+        self.rest.first().copied()
+    }
+
+    pub(crate) fn advance(&mut self)
+        ensures { self.new ≡ drop 1 self.old }
+    {
+        let rest = self.rest;
+        if !rest.is_empty() {
+            self.rest = &rest[1..];
+        }
+    }
+
+    /// The fault of this kind at the next token.
+    pub(crate) fn fault(&self, kind: ReadErrorKind) -> Refusal
+        ensures { result ≡ Refusal.Fault (record { kind = kind; left = length self.now }) }
+    {
+        Refusal::Fault(Fault {
+            kind,
+            left: self.left(),
+        })
+    }
+
+    /// The fault of a token that can't stand here, or of the end.
+    pub(crate) fn unfit(&self) -> Refusal
+        ensures { result ≡ Refusal.Fault (record { kind = unfit_at (first self.now); left = length self.now }) }
+    {
+        match self.peek() {
+            Some(Token::Bad) => self.fault(ReadErrorKind::BadToken),
+            _ => self.fault(ReadErrorKind::Unexpected),
+        }
+    }
+
+    /// Reads a sign.
+    pub(crate) fn sign(&mut self, expected: Sign) -> Result<(), Refusal>
+        ensures no_longer { length self.new ≤ length self.old }
+        ensures ok { OnOk result (ReadsSign (symbol_of expected) (token_of_sign expected) self.old self.new) }
+        ensures err { FailsSign (symbol_of expected) self.old result }
+    {
+        match (expected, self.peek()) {
+            (Sign::Semicolon, Some(Token::Semicolon))
+            | (Sign::Equals, Some(Token::Equals))
+            | (Sign::Open, Some(Token::Open))
+            | (Sign::Close, Some(Token::Close))
+            | (Sign::OpenBrace, Some(Token::OpenBrace)) => {
+                self.advance();
+                Ok(())
+            }
+            _ => Err(self.unfit()),
+        }
+    }
+
+    /// Whether the next token is this keyword, which is read then.
+    pub(crate) fn accept(&mut self, keyword: Keyword) -> bool
+        ensures no_longer { length self.new ≤ length self.old }
+        ensures there { OnTrue result (first self.old ≡ Some (token.Keyword keyword)) }
+        ensures read { OnTrue result (self.new ≡ drop 1 self.old) }
+        ensures other { result ≡ false → first self.old ≡ Some (token.Keyword keyword) → ⊥ }
+        ensures same { result ≡ false → self.new ≡ self.old }
+    {
+        match self.peek() {
+            Some(Token::Keyword(found)) if found == keyword => {
+                self.advance();
+                true
+            }
+            _ => false,
+        }
+    }
+
+    /// Whether the next token is a comma, which is read then.
+    pub(crate) fn comma(&mut self) -> bool
+        ensures no_longer { length self.new ≤ length self.old }
+        ensures there { OnTrue result (first self.old ≡ Some token.Comma) }
+        ensures read { OnTrue result (self.new ≡ drop 1 self.old) }
+        ensures other { result ≡ false → first self.old ≡ Some token.Comma → ⊥ }
+        ensures same { result ≡ false → self.new ≡ self.old }
+    {
+        match self.peek() {
+            Some(Token::Comma) => {
+                self.advance();
+                true
+            }
+            _ => false,
+        }
+    }
+}

@@ -1,0 +1,222 @@
+//! Expressions as they are read.
+ghost use Rattle.std.specs.Prelude.{◌≡◌, ◌∷◌, [], ◌≤◌, Some, length, IfOk};
+ghost use Rattle.program_tree.specs.Grammar.{expression_marks};
+ghost use Rattle.program_reader.specs.Head.{FailsIn};
+ghost use Rattle.program_tree.specs.InScope.{name_in, number_in};
+ghost use Rattle.text_laws.specs.Machine.{first, expression, operator, close};
+ghost use Rattle.program_tree.specs.Scope.{expression_fits};
+ghost use Rattle.program_reader.specs.Steps.{scope_of, context_of, ReadsSign, FailsSign, Reads, Fails, Numbered, Fits};
+ghost use Rattle.program_tree.specs.Tokens as token;
+ghost use Rattle.program_tree.specs.Tree.{expression_of, expression_map, binary};
+ghost use Rattle.program_reader.specs.Values.{telling_keyword, ReadsSides};
+
+use crate::cursor::{Cursor, Sign};
+use crate::fault::Refusal;
+use crate::reader::Reader;
+use crate::scope::{Context, LEVELS};
+use crate::value_word::{Telling, ValueWord};
+use program_tree::class::Class;
+use program_tree::error::ReadErrorKind;
+use program_tree::keyword::Keyword;
+use program_tree::token::Token;
+use program_tree::tree::{Expr, Operator};
+use std::alloc::{AllocError, Global};
+
+/// The largest number.
+const LARGEST: u32 = 65_535;
+
+/// The two sides of an operator.
+#[derive(Drop)]
+struct Sides {
+    left: Expr,
+    operator: Operator,
+    right: Expr,
+}
+
+impl Sides {
+    fn joined(self, alloc: Global) -> Result<Expr, AllocError>
+        ensures { IfOk result (λ e. expression_of e ≡ binary self.operator (expression_of self.left) (expression_of self.right)) }
+    {
+        let left = Box::new(alloc, self.left)?;
+        let right = Box::new(alloc, self.right)?;
+        Ok(Expr::Binary(self.operator, left, right))
+    }
+}
+
+impl Cursor<'_> {
+    /// The operator of an expression in parentheses.
+    fn operator(&mut self) -> Result<Operator, Refusal>
+        ensures no_longer { length self.new ≤ length self.old }
+        ensures ok { IfOk result (λ o. ReadsSign operator (token.Op o) self.old self.new) }
+        ensures err { FailsSign operator self.old result }
+    {
+        match self.peek() {
+            Some(Token::Op(operator)) => {
+                self.advance();
+                Ok(operator)
+            }
+            _ => Err(self.unfit()),
+        }
+    }
+}
+
+impl Reader<'_> {
+    /// A keyword that tells of something, and behind it in parentheses its name.
+    #[tactic(auto, using(crate::proofs::ExpressionSteps::word_steps))]
+    fn told(&mut self, place: &Context, telling: Telling) -> Result<Expr, Refusal>
+        requires here { first self.old.cursor ≡ Some (token.Keyword (telling_keyword telling)) }
+        ensures no_longer { length self.new.cursor ≤ length self.old.cursor }
+        ensures same { self.new.scope ≡ self.old.scope }
+        ensures ok { IfOk result (λ e. Reads (scope_of self.old.scope) (scope_of self.old.scope) (expression (context_of place.now))
+            (λ n ms. expression_marks (context_of place.now) (expression_map (name_in n) (expression_of e)) ms) self.old.cursor self.new.cursor) }
+        ensures numbered { IfOk result (λ e. Numbered (scope_of self.old.scope).names (λ n. expression_map (number_in n) (expression_map (name_in n) (expression_of e))) (expression_of e)) }
+        ensures fits { IfOk result (λ e. Fits (scope_of self.old.scope).names (context_of place.now).thread (λ w. expression_fits w (expression_of e))) }
+        ensures err { Fails (scope_of self.old.scope) (expression (context_of place.now)) self.old.cursor result }
+    {
+        let class = telling.class();
+        self.cursor.advance();
+        self.cursor.sign(Sign::Open)?;
+        let number = self.name(place, class)?;
+        self.cursor.sign(Sign::Close)?;
+        Ok(telling.value(number))
+    }
+
+    /// `is`, and behind it in parentheses an event.
+    #[tactic(auto, using(crate::proofs::ExpressionSteps::word_steps))]
+    fn is(&mut self, place: &Context) -> Result<Expr, Refusal>
+        requires here { first self.old.cursor ≡ Some (token.Keyword Keyword.Is) }
+        ensures no_longer { length self.new.cursor ≤ length self.old.cursor }
+        ensures same { self.new.scope ≡ self.old.scope }
+        ensures ok { IfOk result (λ e. Reads (scope_of self.old.scope) (scope_of self.old.scope) (expression (context_of place.now))
+            (λ n ms. expression_marks (context_of place.now) (expression_map (name_in n) (expression_of e)) ms) self.old.cursor self.new.cursor) }
+        ensures numbered { IfOk result (λ e. Numbered (scope_of self.old.scope).names (λ n. expression_map (number_in n) (expression_map (name_in n) (expression_of e))) (expression_of e)) }
+        ensures fits { IfOk result (λ e. Fits (scope_of self.old.scope).names (context_of place.now).thread (λ w. expression_fits w (expression_of e))) }
+        ensures err { Fails (scope_of self.old.scope) (expression (context_of place.now)) self.old.cursor result }
+    {
+        self.cursor.advance();
+        self.cursor.sign(Sign::Open)?;
+        let event = self.any(place)?;
+        self.cursor.sign(Sign::Close)?;
+        Ok(Expr::Is(event))
+    }
+
+    /// An expression that begins with a keyword.
+    #[tactic(auto, using(crate::proofs::ValueLaws::no_word))]
+    fn word(&mut self, place: &Context, keyword: Keyword) -> Result<Expr, Refusal>
+        requires here { first self.old.cursor ≡ Some (token.Keyword keyword) }
+        ensures no_longer { length self.new.cursor ≤ length self.old.cursor }
+        ensures same { self.new.scope ≡ self.old.scope }
+        ensures ok { IfOk result (λ e. Reads (scope_of self.old.scope) (scope_of self.old.scope) (expression (context_of place.now))
+            (λ n ms. expression_marks (context_of place.now) (expression_map (name_in n) (expression_of e)) ms) self.old.cursor self.new.cursor) }
+        ensures numbered { IfOk result (λ e. Numbered (scope_of self.old.scope).names (λ n. expression_map (number_in n) (expression_map (name_in n) (expression_of e))) (expression_of e)) }
+        ensures fits { IfOk result (λ e. Fits (scope_of self.old.scope).names (context_of place.now).thread (λ w. expression_fits w (expression_of e))) }
+        ensures err { Fails (scope_of self.old.scope) (expression (context_of place.now)) self.old.cursor result }
+    {
+        match ValueWord::of(keyword) {
+            Some(ValueWord::Alone(alone)) => {
+                self.cursor.advance();
+                Ok(alone.value())
+            }
+            Some(ValueWord::Telling(telling)) => self.told(place, telling),
+            Some(ValueWord::Is) => self.is(place),
+            None => Err(self.cursor.unfit()),
+        }
+    }
+
+    /// `!` and what it negates.
+    #[cycle(expression)]
+    #[tactic(auto, using(crate::proofs::ExpressionSteps::bang_start))]
+    fn negation(&mut self, place: &Context) -> Result<Expr, Refusal>
+        requires shallow { place.now.level ≤ LEVELS }
+        requires here { first self.old.cursor ≡ Some token.Bang }
+        ensures no_longer { length self.new.cursor ≤ length self.old.cursor }
+        ensures same { self.new.scope ≡ self.old.scope }
+        ensures ok { IfOk result (λ e. Reads (scope_of self.old.scope) (scope_of self.old.scope) (expression (context_of place.now))
+            (λ n ms. expression_marks (context_of place.now) (expression_map (name_in n) (expression_of e)) ms) self.old.cursor self.new.cursor) }
+        ensures numbered { IfOk result (λ e. Numbered (scope_of self.old.scope).names (λ n. expression_map (number_in n) (expression_map (name_in n) (expression_of e))) (expression_of e)) }
+        ensures fits { IfOk result (λ e. Fits (scope_of self.old.scope).names (context_of place.now).thread (λ w. expression_fits w (expression_of e))) }
+        ensures err { Fails (scope_of self.old.scope) (expression (context_of place.now)) self.old.cursor result }
+    {
+        if place.level == LEVELS {
+            return Err(self.cursor.fault(ReadErrorKind::TooDeep));
+        }
+        self.cursor.advance();
+        let operand = self.expression(&place.inner())?;
+        Ok(Expr::Not(Box::new(self.alloc, operand)?))
+    }
+
+    /// The two sides of an operator, with the operator between them and the sign that closes them.
+    #[cycle(expression)]
+    fn sides(&mut self, place: &Context) -> Result<Sides, Refusal>
+        requires shallow { place.now.level ≤ LEVELS }
+        ensures no_longer { length self.new.cursor ≤ length self.old.cursor }
+        ensures same { self.new.scope ≡ self.old.scope }
+        ensures ok { IfOk result (λ x. ReadsSides (scope_of self.old.scope) (context_of place.now) x.operator (expression_of x.left) (expression_of x.right) self.old.cursor self.new.cursor) }
+        ensures left_numbered { IfOk result (λ x. Numbered (scope_of self.old.scope).names (λ n. expression_map (number_in n) (expression_map (name_in n) (expression_of x.left))) (expression_of x.left)) }
+        ensures right_numbered { IfOk result (λ x. Numbered (scope_of self.old.scope).names (λ n. expression_map (number_in n) (expression_map (name_in n) (expression_of x.right))) (expression_of x.right)) }
+        ensures left_fits { IfOk result (λ x. Fits (scope_of self.old.scope).names (context_of place.now).thread (λ w. expression_fits w (expression_of x.left))) }
+        ensures right_fits { IfOk result (λ x. Fits (scope_of self.old.scope).names (context_of place.now).thread (λ w. expression_fits w (expression_of x.right))) }
+        ensures err { FailsIn (scope_of self.old.scope) (expression (context_of place.now) ∷ operator ∷ expression (context_of place.now) ∷ close ∷ []) self.old.cursor result }
+    {
+        let left = self.expression(place)?;
+        let operator = self.cursor.operator()?;
+        let right = self.expression(place)?;
+        self.cursor.sign(Sign::Close)?;
+        Ok(Sides {
+            left,
+            operator,
+            right,
+        })
+    }
+
+    /// An expression in parentheses.
+    #[cycle(expression)]
+    #[tactic(auto, using(crate::proofs::ExpressionSteps::open_start))]
+    fn binary(&mut self, place: &Context) -> Result<Expr, Refusal>
+        requires shallow { place.now.level ≤ LEVELS }
+        requires here { first self.old.cursor ≡ Some token.Open }
+        ensures no_longer { length self.new.cursor ≤ length self.old.cursor }
+        ensures same { self.new.scope ≡ self.old.scope }
+        ensures ok { IfOk result (λ e. Reads (scope_of self.old.scope) (scope_of self.old.scope) (expression (context_of place.now))
+            (λ n ms. expression_marks (context_of place.now) (expression_map (name_in n) (expression_of e)) ms) self.old.cursor self.new.cursor) }
+        ensures numbered { IfOk result (λ e. Numbered (scope_of self.old.scope).names (λ n. expression_map (number_in n) (expression_map (name_in n) (expression_of e))) (expression_of e)) }
+        ensures fits { IfOk result (λ e. Fits (scope_of self.old.scope).names (context_of place.now).thread (λ w. expression_fits w (expression_of e))) }
+        ensures err { Fails (scope_of self.old.scope) (expression (context_of place.now)) self.old.cursor result }
+    {
+        if place.level == LEVELS {
+            return Err(self.cursor.fault(ReadErrorKind::TooDeep));
+        }
+        self.cursor.advance();
+        let sides = self.sides(&place.inner())?;
+        Ok(sides.joined(self.alloc)?)
+    }
+
+    /// An expression that stands there.
+    #[cycle(expression)]
+    #[tactic(auto, using(crate::proofs::ExpressionSteps::variable_start))]
+    pub(crate) fn expression(&mut self, place: &Context) -> Result<Expr, Refusal>
+        requires shallow { place.now.level ≤ LEVELS }
+        ensures no_longer { length self.new.cursor ≤ length self.old.cursor }
+        ensures same { self.new.scope ≡ self.old.scope }
+        ensures ok { IfOk result (λ e. Reads (scope_of self.old.scope) (scope_of self.old.scope) (expression (context_of place.now))
+            (λ n ms. expression_marks (context_of place.now) (expression_map (name_in n) (expression_of e)) ms) self.old.cursor self.new.cursor) }
+        ensures numbered { IfOk result (λ e. Numbered (scope_of self.old.scope).names (λ n. expression_map (number_in n) (expression_map (name_in n) (expression_of e))) (expression_of e)) }
+        ensures fits { IfOk result (λ e. Fits (scope_of self.old.scope).names (context_of place.now).thread (λ w. expression_fits w (expression_of e))) }
+        ensures err { Fails (scope_of self.old.scope) (expression (context_of place.now)) self.old.cursor result }
+    {
+        match self.cursor.peek() {
+            Some(Token::Number(number)) => {
+                if number > LARGEST {
+                    return Err(self.cursor.fault(ReadErrorKind::NumberTooLarge));
+                }
+                self.cursor.advance();
+                Ok(Expr::Number(number as u16))
+            }
+            Some(Token::Name(_)) => Ok(Expr::Variable(self.name(place, Class::Variable)?)),
+            Some(Token::Keyword(keyword)) => self.word(place, keyword),
+            Some(Token::Bang) => self.negation(place),
+            Some(Token::Open) => self.binary(place),
+            _ => Err(self.cursor.unfit()),
+        }
+    }
+}

@@ -1,0 +1,36 @@
+//! Why the tokens are no program, as the parts of the reader answer it.
+ghost use Rattle.std.specs.Prelude.{◌≡◌};
+ghost use Rattle.program_reader.specs.declared.fault.Refusal.TheVariants.{Memory};
+
+use program_tree::error::ReadErrorKind;
+use std::alloc::{AllocError, AllocFailed};
+
+/// A fault, and how many tokens are left from its token on.
+#[derive(Clone, Copy, Debug)]
+pub(crate) struct Fault {
+    pub kind: ReadErrorKind,
+    pub left: usize,
+}
+
+/// Want of memory, or the first fault.
+#[derive(Clone, Copy, Debug)]
+pub(crate) enum Refusal {
+    Memory,
+    Fault(Fault),
+}
+
+impl From<AllocError> for Refusal {
+    ghost from_gives = { λ _ e. e ≡ Memory };
+
+    fn from(_error: AllocError) -> Self {
+        Refusal::Memory
+    }
+}
+
+impl<T: Drop> From<AllocFailed<T>> for Refusal {
+    ghost from_gives = { λ _ e. e ≡ Memory };
+
+    fn from(_error: AllocFailed<T>) -> Self {
+        Refusal::Memory
+    }
+}

@@ -1,0 +1,123 @@
+//! What stands before the codes of a program, behind its events and semaphores.
+ghost use Rattle.std.specs.Prelude.{List, ◌≡◌, ◌≤◌, Some, ◌∷◌, [], length, IfOk, OnOk};
+ghost use Rattle.program_reader.specs.Head.{FailsIn, ReadsProcesses, IsStarting, ReadsAutostart, ReadsReceiver};
+ghost use Rattle.text_laws.specs.Machine as machine;
+ghost use Rattle.text_laws.specs.Machine.{first};
+ghost use Rattle.program_tree.specs.Shapes.{Name};
+ghost use Rattle.program_reader.specs.Steps.{scope_of};
+ghost use Rattle.program_tree.specs.Tokens as token;
+ghost use Rattle.program_reader.specs.declared.fault.Fault.{Fault};
+ghost use Rattle.program_tree.specs.declared.keyword.Keyword.TheVariants as word;
+
+use crate::cursor::{Cursor, Sign};
+use crate::declarations::Kind;
+use crate::fault::Refusal;
+use crate::reader::Reader;
+use crate::scope::{Context, Scope};
+use program_tree::class::Class;
+use program_tree::error::ReadErrorKind;
+use program_tree::keyword::Keyword;
+use program_tree::token::Token;
+use std::alloc::Global;
+
+impl Cursor<'_> {
+    /// A process that starts at boot.
+    #[tactic(auto, using(crate::proofs::StartLaws::starting_steps))]
+    fn starting(
+        &mut self,
+        alloc: Global,
+        scope: &mut Scope,
+        numbers: &mut Vec<u8>,
+    ) -> Result<(), Refusal>
+        ensures no_longer { OnOk result (length self.new ≤ length self.old) }
+        ensures ok { OnOk result (IsStarting (scope_of scope.old) (scope_of scope.new) numbers.old.items numbers.new.items self.old self.new) }
+        ensures err { FailsIn (scope_of scope.old) (machine.starting ∷ []) self.old result }
+    {
+        match self.peek() {
+            Some(Token::Name(name)) => {
+                if !scope.contains(name) {
+                    return Err(self.fault(ReadErrorKind::UnknownName));
+                }
+                if scope.starting.place_of(name).is_some() {
+                    return Err(self.fault(ReadErrorKind::NameTwice));
+                }
+                let place = match scope.processes.place_of(name) {
+                    Some(place) => place,
+                    None => return Err(self.fault(ReadErrorKind::BadTarget)),
+                };
+                self.advance();
+                scope.starting.add(alloc, name)?;
+                numbers.push(place as u8)?;
+                Ok(())
+            }
+            _ => Err(self.unfit()),
+        }
+    }
+}
+
+impl Reader<'_> {
+    /// The process line.
+    #[tactic(auto, using(crate::proofs::LineLaws::line_steps))]
+    pub(crate) fn processes(&mut self) -> Result<(), Refusal>
+        requires { first self.old.cursor ≡ Some (token.Keyword word.Semaphore) → ⊥ }
+        ensures ok { OnOk result (ReadsProcesses (scope_of self.old.scope) (scope_of self.new.scope) self.old.cursor self.new.cursor) }
+        ensures err { FailsIn (scope_of self.old.scope) (machine.from_semaphores ∷ []) self.old.cursor result }
+    {
+        if self.cursor.left() == 0 {
+            return Err(self.cursor.fault(ReadErrorKind::NoProcess));
+        }
+        if !self.cursor.accept(Keyword::Process) {
+            return Err(self.cursor.unfit());
+        }
+        self.cursor
+            .new_name(self.alloc, &mut self.scope, Kind::Process)?;
+        'processes: while self.cursor.comma() {
+            self.cursor
+                .new_name(self.alloc, &mut self.scope, Kind::Process)?;
+        }
+        self.cursor.sign(Sign::Semicolon)?;
+        Ok(())
+    }
+
+    /// The processes that start at boot, by their numbers.
+    #[tactic(auto, using(crate::proofs::StartLaws::autostart_steps))]
+    pub(crate) fn autostart(&mut self) -> Result<Vec<u8>, Refusal>
+        ensures ok { IfOk result (λ numbers. ReadsAutostart (scope_of self.old.scope) (scope_of self.new.scope) numbers.items self.old.cursor self.new.cursor) }
+        ensures err { (f : Fault) → result ≡ Err (Refusal.Fault f) → (x : Name) (xs : List Name) (more : machine.Pending) →
+            machine.tell (scope_of self.old.scope) (machine.from_autostart x xs ∷ more) self.old.cursor ≡ machine.fault f.kind f.left }
+    {
+        let mut numbers = Vec::new(self.alloc);
+        if !self.cursor.accept(Keyword::Autostart) {
+            return Ok(numbers);
+        }
+        self.cursor
+            .starting(self.alloc, &mut self.scope, &mut numbers)?;
+        'names: while self.cursor.comma() {
+            self.cursor
+                .starting(self.alloc, &mut self.scope, &mut numbers)?;
+        }
+        self.cursor.sign(Sign::Semicolon)?;
+        Ok(numbers)
+    }
+
+    /// The process that packets go to, by its number.
+    #[tactic(auto, using(crate::proofs::StartLaws::receiver_steps))]
+    pub(crate) fn receiver(&mut self) -> Result<Option<u8>, Refusal>
+        ensures same { self.new.scope ≡ self.old.scope }
+        ensures ok { IfOk result (λ receiver. ReadsReceiver (scope_of self.old.scope) receiver self.old.cursor self.new.cursor) }
+        ensures err { (f : Fault) → result ≡ Err (Refusal.Fault f) → (x : Name) (xs : List Name) (more : machine.Pending) →
+            machine.tell (scope_of self.old.scope) (machine.from_receiver x xs ∷ more) self.old.cursor ≡ machine.fault f.kind f.left }
+    {
+        if !self.cursor.accept(Keyword::Receiver) {
+            return Ok(None);
+        }
+        let place = Context {
+            level: 0,
+            simple: false,
+            thread: None,
+        };
+        let process = self.name(&place, Class::Process)?;
+        self.cursor.sign(Sign::Semicolon)?;
+        Ok(Some(process))
+    }
+}

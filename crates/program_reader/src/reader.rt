@@ -1,0 +1,141 @@
+//! The reader of a program: the tokens that are left, and what is in scope before them.
+ghost use Rattle.std.specs.Prelude.{◌≡◌, ◌∷◌, ◌≤◌, ◌<◌, length, IfOk};
+ghost use Rattle.program_tree.specs.EventNames.{cast_of, sent_of, any_of, cast_map, sent_map, any_map};
+ghost use Rattle.program_tree.specs.Forms.{name, cast, sent, any};
+ghost use Rattle.program_tree.specs.Grammar.{operand_mark};
+ghost use Rattle.program_tree.specs.InScope.{name_in, number_in};
+ghost use Rattle.text_laws.specs.Machine.{operand};
+ghost use Rattle.program_tree.specs.Scope.{cast_fits, sent_fits, any_fits};
+ghost use Rattle.program_reader.specs.Steps.{scope_of, context_of, class_of, most_of, Reads, Fails, Numbered, Fits};
+ghost use Rattle.program_tree.specs.Tree.{an_event};
+
+use crate::cursor::Cursor;
+use crate::fault::Refusal;
+use crate::scope::{Context, Found, Scope};
+use program_tree::class::Class;
+use program_tree::error::ReadErrorKind;
+use program_tree::event_name::{AnyEvent, CastEvent, DeclaredEvent, SentEvent};
+use program_tree::keyword::Keyword;
+use program_tree::token::Token;
+use std::alloc::Global;
+
+/// The tokens that are left, and what is in scope before them.
+#[derive(Drop)]
+pub(crate) struct Reader<'a> {
+    pub alloc: Global,
+    pub cursor: Cursor<'a>,
+    pub scope: Scope,
+}
+
+impl Reader<'_> {
+    /// A name that stands for something of this class, by its number.
+    #[tactic(auto, using(crate::proofs::NameSteps::name_steps))]
+    pub(crate) fn name(&mut self, place: &Context, class: Class) -> Result<u8, Refusal>
+        ensures no_longer { length self.new.cursor ≤ length self.old.cursor }
+        ensures same { self.new.scope ≡ self.old.scope }
+        ensures ok { IfOk result (λ i. Reads (scope_of self.old.scope) (scope_of self.old.scope) (operand (context_of place.now) (name (class_of class)))
+            (λ n ms. operand_mark (context_of place.now) (name (class_of class)) (name_in n (class_of class) i) ∷ ms) self.old.cursor self.new.cursor) }
+        ensures few { IfOk result (λ i. i < most_of (class_of class)) }
+        ensures numbered { IfOk result (λ i. Numbered (scope_of self.old.scope).names (λ n. number_in n (class_of class) (name_in n (class_of class) i)) i) }
+        ensures fits { IfOk result (λ i. Fits (scope_of self.old.scope).names (context_of place.now).thread (λ w. w (class_of class) i)) }
+        ensures err { Fails (scope_of self.old.scope) (operand (context_of place.now) (name (class_of class))) self.old.cursor result }
+    {
+        match self.cursor.peek() {
+            Some(Token::Name(name)) => match self.scope.find(place, class, name) {
+                Found::Here(number) => {
+                    self.cursor.advance();
+                    Ok(number)
+                }
+                Found::Other => Err(self.cursor.fault(ReadErrorKind::BadTarget)),
+                Found::Unknown => Err(self.cursor.fault(ReadErrorKind::UnknownName)),
+            },
+            _ => Err(self.cursor.unfit()),
+        }
+    }
+
+    /// An event that may be broadcast.
+    #[tactic(auto, using(crate::proofs::EventSteps::cast_name, crate::proofs::EventSteps::key_reads))]
+    pub(crate) fn cast(&mut self, place: &Context) -> Result<CastEvent, Refusal>
+        ensures no_longer { length self.new.cursor ≤ length self.old.cursor }
+        ensures same { self.new.scope ≡ self.old.scope }
+        ensures ok { IfOk result (λ e. Reads (scope_of self.old.scope) (scope_of self.old.scope) (operand (context_of place.now) cast)
+            (λ n ms. operand_mark (context_of place.now) cast (cast_map (name_in n an_event) (cast_of e)) ∷ ms) self.old.cursor self.new.cursor) }
+        ensures numbered { IfOk result (λ e. Numbered (scope_of self.old.scope).names (λ n. cast_map (number_in n an_event) (cast_map (name_in n an_event) (cast_of e))) (cast_of e)) }
+        ensures fits { IfOk result (λ e. Fits (scope_of self.old.scope).names (context_of place.now).thread (λ w. cast_fits w (cast_of e))) }
+        ensures err { Fails (scope_of self.old.scope) (operand (context_of place.now) cast) self.old.cursor result }
+    {
+        match self.cursor.peek() {
+            Some(Token::Name(_)) => {
+                let place = self.name(place, Class::Event)?;
+                Ok(CastEvent::Declared(DeclaredEvent { place }))
+            }
+            Some(Token::Keyword(Keyword::Continue)) => {
+                self.cursor.advance();
+                Ok(CastEvent::Continue)
+            }
+            Some(Token::Keyword(Keyword::Msg)) => {
+                self.cursor.advance();
+                Ok(CastEvent::Msg)
+            }
+            Some(Token::Keyword(Keyword::Com)) => {
+                self.cursor.advance();
+                Ok(CastEvent::Com)
+            }
+            Some(Token::Keyword(Keyword::Packet)) => {
+                self.cursor.advance();
+                Ok(CastEvent::Packet)
+            }
+            _ => Err(self.cursor.unfit()),
+        }
+    }
+
+    /// An event that may be posted to one process.
+    pub(crate) fn sent(&mut self, place: &Context) -> Result<SentEvent, Refusal>
+        ensures no_longer { length self.new.cursor ≤ length self.old.cursor }
+        ensures same { self.new.scope ≡ self.old.scope }
+        ensures ok { IfOk result (λ e. Reads (scope_of self.old.scope) (scope_of self.old.scope) (operand (context_of place.now) sent)
+            (λ n ms. operand_mark (context_of place.now) sent (sent_map (name_in n an_event) (sent_of e)) ∷ ms) self.old.cursor self.new.cursor) }
+        ensures numbered { IfOk result (λ e. Numbered (scope_of self.old.scope).names (λ n. sent_map (number_in n an_event) (sent_map (name_in n an_event) (sent_of e))) (sent_of e)) }
+        ensures fits { IfOk result (λ e. Fits (scope_of self.old.scope).names (context_of place.now).thread (λ w. sent_fits w (sent_of e))) }
+        ensures err { Fails (scope_of self.old.scope) (operand (context_of place.now) sent) self.old.cursor result }
+    {
+        match self.cursor.peek() {
+            Some(Token::Keyword(Keyword::Exit)) => {
+                self.cursor.advance();
+                Ok(SentEvent::Exit)
+            }
+            _ => Ok(SentEvent::Cast(self.cast(place)?)),
+        }
+    }
+
+    /// An event that may come.
+    pub(crate) fn any(&mut self, place: &Context) -> Result<AnyEvent, Refusal>
+        ensures no_longer { length self.new.cursor ≤ length self.old.cursor }
+        ensures same { self.new.scope ≡ self.old.scope }
+        ensures ok { IfOk result (λ e. Reads (scope_of self.old.scope) (scope_of self.old.scope) (operand (context_of place.now) any)
+            (λ n ms. operand_mark (context_of place.now) any (any_map (name_in n an_event) (any_of e)) ∷ ms) self.old.cursor self.new.cursor) }
+        ensures numbered { IfOk result (λ e. Numbered (scope_of self.old.scope).names (λ n. any_map (number_in n an_event) (any_map (name_in n an_event) (any_of e))) (any_of e)) }
+        ensures fits { IfOk result (λ e. Fits (scope_of self.old.scope).names (context_of place.now).thread (λ w. any_fits w (any_of e))) }
+        ensures err { Fails (scope_of self.old.scope) (operand (context_of place.now) any) self.old.cursor result }
+    {
+        match self.cursor.peek() {
+            Some(Token::Keyword(Keyword::Init)) => {
+                self.cursor.advance();
+                Ok(AnyEvent::Init)
+            }
+            Some(Token::Keyword(Keyword::Poll)) => {
+                self.cursor.advance();
+                Ok(AnyEvent::Poll)
+            }
+            Some(Token::Keyword(Keyword::Exited)) => {
+                self.cursor.advance();
+                Ok(AnyEvent::Exited)
+            }
+            Some(Token::Keyword(Keyword::Timer)) => {
+                self.cursor.advance();
+                Ok(AnyEvent::Timer)
+            }
+            _ => Ok(AnyEvent::Sent(self.sent(place)?)),
+        }
+    }
+}

@@ -1,0 +1,43 @@
+//! From a text to its program.
+ghost use Rattle.std.specs.Prelude.{◌≡◌, IfOk};
+ghost use Rattle.program_tree.specs.Code.{Tree};
+ghost use Rattle.program_tree.specs.Program.{tree_of};
+ghost use Rattle.program_tree.specs.Reading.{IsTreeOf, IsToldOf};
+
+use crate::codes::program;
+use crate::fault::Refusal;
+use crate::lexer::lex;
+use program_tree::error::{ReadError, ReadErrorKind};
+use program_tree::program::Program;
+use std::alloc::Global;
+
+/// The program of a text, or its told fault: the one at the earliest token, and of several there the one of the
+/// least number. The time is linear in the length of the text, but for the names in scope.
+///
+/// A program has at most 64 processes, 117 events, 64 semaphores and 64 timers, each process at most 64 variables and
+/// 7 threads. It has at most 4,096 statements, counted by their first tokens over all blocks, and at most 32 levels of
+/// blocks and expressions in one another, of which the body is the first.
+///
+/// # Errors
+///
+/// The told fault, with the line of its token; want of memory, with line 0.
+pub fn read(alloc: Global, text: &str) -> Result<Program, ReadError>
+    ensures ok { IfOk result (λ p. IsTreeOf text.now (tree_of p)) }
+    ensures told { (e : ReadError) → result ≡ Err e → (e.kind ≡ ReadErrorKind.Memory → ⊥) → IsToldOf text.now e.kind e.line }
+    ensures memory { (e : ReadError) → result ≡ Err e → e.kind ≡ ReadErrorKind.Memory → e.line ≡ 0 }
+    ensures only { (t : Tree) → IsTreeOf text.now t → IfOk result (λ p. tree_of p ≡ t) }
+    ensures accepts { (t : Tree) → IsTreeOf text.now t → (e : ReadError) → result ≡ Err e → e.kind ≡ ReadErrorKind.Memory }
+{
+    let lexed = lex(alloc, text)?;
+    match program(alloc, &lexed.tokens) {
+        Ok(program) => Ok(program),
+        Err(Refusal::Memory) => Err(ReadError {
+            kind: ReadErrorKind::Memory,
+            line: 0,
+        }),
+        Err(Refusal::Fault(fault)) => Err(ReadError {
+            kind: fault.kind,
+            line: lexed.lines[lexed.tokens.len() - fault.left],
+        }),
+    }
+}

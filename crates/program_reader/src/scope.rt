@@ -1,0 +1,156 @@
+//! The names in scope, by what they stand for.
+ghost use Rattle.std.specs.Prelude.{◌≡◌, ◌+◌, ◌<◌, ◌≤◌, length, ℕ, IfSome};
+
+use program_tree::class::Class;
+use program_tree::names::Names;
+use std::alloc::Global;
+
+/// How many blocks and expressions may stand in one another.
+pub(crate) const LEVELS: usize = 32;
+
+/// What a name stands for, where one of a class is asked for: nothing, something of the class, by its number, or something else.
+#[derive(Clone, Copy, Debug)]
+pub(crate) enum Found {
+    Unknown,
+    Other,
+    Here(u8),
+}
+
+/// Where a block or an expression stands: below so many levels, in a simple block or not, and in the block of which thread.
+#[derive(Clone, Copy, Debug)]
+pub(crate) struct Context<'a> {
+    pub level: usize,
+    pub simple: bool,
+    pub thread: Option<&'a str>,
+}
+
+impl<'a> Context<'a> {
+    ghost use Rattle.program_tree.specs.Grammar.{inner};
+    ghost use Rattle.program_reader.specs.Steps.{context_of, class_of, is_own_thread};
+
+    /// One level deeper.
+    pub(crate) fn inner(&self) -> Context<'a>
+        requires { self.now.level < LEVELS }
+        ensures context { context_of result ≡ inner (context_of self.now) }
+        ensures level { result.level ≡ self.now.level + 1 }
+    {
+        Context {
+            level: self.level + 1,
+            simple: self.simple,
+            thread: self.thread,
+        }
+    }
+
+    /// Whether a name is that of the thread that is being read.
+    fn is_own(&self, class: Class, name: &str) -> bool
+        ensures { result ≡ is_own_thread (context_of self.now).thread (class_of class) name.now }
+    {
+        match (class, self.thread) {
+            (Class::Thread, Some(own)) => own == name,
+            _ => false,
+        }
+    }
+}
+
+/// The names that are declared so far, those that `autostart` lists, and how many statements have begun. Variables, timers and
+/// threads are those of one code, before which the program has so many timers.
+#[derive(Drop)]
+pub(crate) struct Scope {
+    pub events: Names,
+    pub semaphores: Names,
+    pub processes: Names,
+    pub variables: Names,
+    pub first_timer: usize,
+    pub etimers: Names,
+    pub ctimers: Names,
+    pub threads: Names,
+    pub starting: Names,
+    pub statements: usize,
+    ghost few_events: { length events ≤ 117 },
+    ghost few_semaphores: { length semaphores ≤ 64 },
+    ghost few_processes: { length processes ≤ 64 },
+    ghost few_variables: { length variables ≤ 64 },
+    ghost few_timers: { first_timer + length etimers + length ctimers ≤ 64 },
+    ghost few_threads: { length threads ≤ 7 },
+    ghost few_statements: { statements ≤ 4096 },
+}
+
+impl Scope {
+    ghost use Rattle.program_tree.specs.Faults.{nothing_yet};
+    ghost use Rattle.program_tree.specs.InScope.{is_in_scope};
+    ghost use Rattle.program_tree.specs.Names.{place_of};
+    ghost use Rattle.program_reader.specs.Steps.{scope_of, context_of, class_of, look, most_of, IsFound};
+
+    pub(crate) fn new(alloc: Global) -> Scope
+        ensures { scope_of result ≡ nothing_yet }
+    {
+        Scope {
+            events: Names::new(alloc),
+            semaphores: Names::new(alloc),
+            processes: Names::new(alloc),
+            variables: Names::new(alloc),
+            first_timer: 0,
+            etimers: Names::new(alloc),
+            ctimers: Names::new(alloc),
+            threads: Names::new(alloc),
+            starting: Names::new(alloc),
+            statements: 0,
+        }
+    }
+
+    /// Whether a name stands for anything.
+    pub(crate) fn contains(&self, name: &str) -> bool
+        ensures { result ≡ is_in_scope (scope_of self.now).names name.now }
+    {
+        self.events.place_of(name).is_some()
+            || self.semaphores.place_of(name).is_some()
+            || self.processes.place_of(name).is_some()
+            || self.variables.place_of(name).is_some()
+            || self.timer(name).is_some()
+            || self.threads.place_of(name).is_some()
+    }
+
+    /// The place of a name among the timers of the code.
+    fn timer(&self, name: &str) -> Option<usize>
+        ensures place { result ≡ place_of (scope_of self.now).names.timers name.now }
+        ensures within { IfSome result (λ i. i < length (scope_of self.now).names.timers) }
+    {
+        match self.etimers.place_of(name) {
+            Some(place) => Some(place),
+            None => {
+                let place = self.ctimers.place_of(name)?;
+                Some(self.etimers.len() + place)
+            }
+        }
+    }
+
+    /// The number of a name of a class.
+    fn number_of(&self, class: Class, name: &str) -> Option<u8>
+        ensures few { IfSome result (λ i. i < most_of (class_of class)) }
+        ensures value { result ≡ look (scope_of self.now).names (class_of class) name.now }
+    {
+        let place = match class {
+            Class::Event => self.events.place_of(name)?,
+            Class::Semaphore => self.semaphores.place_of(name)?,
+            Class::Process => self.processes.place_of(name)?,
+            Class::Variable => self.variables.place_of(name)?,
+            Class::Timer => self.first_timer + self.timer(name)?,
+            Class::Thread => self.threads.place_of(name)?,
+        };
+        Some(place as u8)
+    }
+
+    /// What a name stands for, where one of this class is asked for.
+    #[tactic(auto, using(crate::proofs::ScopeLaws::find_steps))]
+    pub(crate) fn find(&self, place: &Context, class: Class, name: &str) -> Found
+        ensures few { (i : ℕ) → result ≡ Found.Here i → i < most_of (class_of class) }
+        ensures value { IsFound (scope_of self.now).names (context_of place.now).thread (class_of class) name.now result }
+    {
+        match self.number_of(class, name) {
+            Some(_) if place.is_own(class, name) => Found::Other,
+            Some(number) => Found::Here(number),
+            None if self.contains(name) => Found::Other,
+            None => Found::Unknown,
+        }
+    }
+}

@@ -1,0 +1,444 @@
+//! Statements and blocks as they are read.
+ghost use Rattle.std.specs.Prelude.{◌≡◌, ◌+◌, ◌≤◌, ◌<◌, length, IfOk, OnOk, Some};
+ghost use Rattle.std.proofs.Common.{option_map};
+ghost use Rattle.program_tree.specs.Forms.{beginning, waits};
+ghost use Rattle.program_tree.specs.Grammar.{into_marks, action_marks, statement_marks, else_marks, block_marks};
+ghost use Rattle.program_tree.specs.InScope.{name_in, number_in};
+ghost use Rattle.text_laws.specs.Machine.{first, into_end, items, items_else, block};
+ghost use Rattle.program_reader.specs.Plain.{BeginsPlain, bare_keyword, valued_keyword, about_keyword};
+ghost use Rattle.program_tree.specs.Scope.{into_fits, action_fits, statement_fits, other_fits, block_fits};
+ghost use Rattle.program_reader.specs.Steps.{scope_of, context_of, fixed, IsStatement, IsPlain, IsInside, Begins, IsTarget, Reads, ReadsStatement, ReadsElse, Fails, Numbered, Fits};
+ghost use Rattle.program_tree.specs.Tokens as token;
+ghost use Rattle.program_tree.specs.Tree.{a_variable, action_of, action_map, statement_of, statement_map, block_of, body_map, otherwise_of, otherwise_map, height, inner_height, other_height, size, inner_size, other_size};
+
+use crate::cursor::Sign;
+use crate::fault::Refusal;
+use crate::plain::{About, Bare, Plain, Valued};
+use crate::reader::Reader;
+use crate::scope::{Context, Found, LEVELS};
+use program_tree::class::Class;
+use program_tree::error::ReadErrorKind;
+use program_tree::keyword::Keyword;
+use program_tree::token::Token;
+use program_tree::tree::{Action, Block, Stmt};
+
+/// How many statements a program may have.
+const STATEMENTS: usize = 4_096;
+
+/// Whether a statement can't stand in a simple block.
+fn is_wait(keyword: Keyword) -> bool
+    ensures { result ≡ waits keyword }
+{
+    matches!(
+        keyword,
+        Keyword::WaitUntil
+            | Keyword::WaitWhile
+            | Keyword::Yield
+            | Keyword::YieldUntil
+            | Keyword::Spawn
+            | Keyword::Restart
+            | Keyword::Exit
+            | Keyword::Pause
+            | Keyword::Acquire
+    )
+}
+
+impl Reader<'_> {
+    /// Reads the keyword that a statement begins with. The statement counts.
+    #[tactic(auto, using(crate::proofs::StatementSteps::begin_steps))]
+    fn begin(&mut self, place: &Context, keyword: Keyword) -> Result<(), Refusal>
+        requires here { first self.old.cursor ≡ Some (token.Keyword keyword) }
+        requires statement { IsStatement (beginning keyword) }
+        ensures names { fixed self.new.scope ≡ fixed self.old.scope }
+        ensures shorter { OnOk result (length self.new.cursor < length self.old.cursor) }
+        ensures counts { OnOk result (self.old.scope.statements < self.new.scope.statements) }
+        ensures ok { OnOk result (Begins (scope_of self.old.scope) (scope_of self.new.scope) (context_of place.now) keyword self.old.cursor self.new.cursor) }
+        ensures err { Fails (scope_of self.old.scope) (items (context_of place.now)) self.old.cursor result }
+    {
+        if place.simple && is_wait(keyword) {
+            return Err(self.cursor.fault(ReadErrorKind::WaitInSimpleBlock));
+        }
+        if self.scope.statements >= STATEMENTS {
+            return Err(self.cursor.fault(ReadErrorKind::TooMany));
+        }
+        self.scope.statements += 1;
+        self.cursor.advance();
+        Ok(())
+    }
+
+    /// Reads the variable that an assignment begins with. The statement counts.
+    #[tactic(auto, using(crate::proofs::StatementSteps::target_steps))]
+    fn target(&mut self, place: &Context, name: &str) -> Result<u8, Refusal>
+        requires here { first self.old.cursor ≡ Some (token.Name name.now) }
+        ensures names { fixed self.new.scope ≡ fixed self.old.scope }
+        ensures shorter { OnOk result (length self.new.cursor < length self.old.cursor) }
+        ensures counts { OnOk result (self.old.scope.statements < self.new.scope.statements) }
+        ensures ok { IfOk result (λ i. IsTarget (scope_of self.old.scope) (scope_of self.new.scope) (context_of place.now) i self.old.cursor self.new.cursor) }
+        ensures numbered { IfOk result (λ i. Numbered (scope_of self.old.scope).names (λ n. number_in n a_variable (name_in n a_variable i)) i) }
+        ensures fits { IfOk result (λ i. Fits (scope_of self.old.scope).names (context_of place.now).thread (λ w. w a_variable i)) }
+        ensures err { Fails (scope_of self.old.scope) (items (context_of place.now)) self.old.cursor result }
+    {
+        match self.scope.find(place, Class::Variable, name) {
+            Found::Unknown => Err(self.cursor.fault(ReadErrorKind::UnknownName)),
+            _ if self.scope.statements >= STATEMENTS => {
+                Err(self.cursor.fault(ReadErrorKind::TooMany))
+            }
+            Found::Other => Err(self.cursor.fault(ReadErrorKind::BadTarget)),
+            Found::Here(number) => {
+                self.scope.statements += 1;
+                self.cursor.advance();
+                Ok(number)
+            }
+        }
+    }
+
+    /// `;`, or `into`, a variable that is told the answer and `;`.
+    #[tactic(auto, using(crate::proofs::StatementSteps::into_start))]
+    fn into_end(&mut self, place: &Context) -> Result<Option<u8>, Refusal>
+        ensures no_longer { length self.new.cursor ≤ length self.old.cursor }
+        ensures same { self.new.scope ≡ self.old.scope }
+        ensures ok { IfOk result (λ i. Reads (scope_of self.old.scope) (scope_of self.old.scope) (into_end (context_of place.now))
+            (λ n ms. into_marks (option_map (name_in n a_variable) i) ms) self.old.cursor self.new.cursor) }
+        ensures numbered { IfOk result (λ i. Numbered (scope_of self.old.scope).names (λ n. option_map (number_in n a_variable) (option_map (name_in n a_variable) i)) i) }
+        ensures fits { IfOk result (λ i. Fits (scope_of self.old.scope).names (context_of place.now).thread (λ w. into_fits w i)) }
+        ensures err { Fails (scope_of self.old.scope) (into_end (context_of place.now)) self.old.cursor result }
+    {
+        match self.cursor.peek() {
+            Some(Token::Semicolon) => {
+                self.cursor.advance();
+                Ok(None)
+            }
+            Some(Token::Keyword(Keyword::Into)) => {
+                self.cursor.advance();
+                let variable = self.name(place, Class::Variable)?;
+                self.cursor.sign(Sign::Semicolon)?;
+                Ok(Some(variable))
+            }
+            _ => Err(self.cursor.unfit()),
+        }
+    }
+
+    /// A statement that is its keyword alone.
+    fn bare(&mut self, place: &Context, bare: Bare) -> Result<Action, Refusal>
+        requires here { first self.old.cursor ≡ Some (token.Keyword (bare_keyword bare)) }
+        ensures names { fixed self.new.scope ≡ fixed self.old.scope }
+        ensures shorter { OnOk result (length self.new.cursor < length self.old.cursor) }
+        ensures counts { OnOk result (self.old.scope.statements < self.new.scope.statements) }
+        ensures ok { IfOk result (λ a. ReadsStatement (scope_of self.old.scope) (scope_of self.new.scope) (context_of place.now)
+            (λ n ms. action_marks (context_of place.now) (action_map (name_in n) (action_of a)) ms) self.old.cursor self.new.cursor) }
+        ensures numbered { IfOk result (λ a. Numbered (scope_of self.old.scope).names (λ n. action_map (number_in n) (action_map (name_in n) (action_of a))) (action_of a)) }
+        ensures fits { IfOk result (λ a. Fits (scope_of self.old.scope).names (context_of place.now).thread (λ w. action_fits w (action_of a))) }
+        ensures err { Fails (scope_of self.old.scope) (items (context_of place.now)) self.old.cursor result }
+    {
+        self.begin(place, bare.keyword())?;
+        self.cursor.sign(Sign::Semicolon)?;
+        Ok(bare.action())
+    }
+
+    /// A statement that is its keyword and an expression.
+    fn valued(&mut self, place: &Context, valued: Valued) -> Result<Action, Refusal>
+        requires shallow { place.now.level ≤ LEVELS }
+        requires here { first self.old.cursor ≡ Some (token.Keyword (valued_keyword valued)) }
+        ensures names { fixed self.new.scope ≡ fixed self.old.scope }
+        ensures shorter { OnOk result (length self.new.cursor < length self.old.cursor) }
+        ensures counts { OnOk result (self.old.scope.statements < self.new.scope.statements) }
+        ensures ok { IfOk result (λ a. ReadsStatement (scope_of self.old.scope) (scope_of self.new.scope) (context_of place.now)
+            (λ n ms. action_marks (context_of place.now) (action_map (name_in n) (action_of a)) ms) self.old.cursor self.new.cursor) }
+        ensures numbered { IfOk result (λ a. Numbered (scope_of self.old.scope).names (λ n. action_map (number_in n) (action_map (name_in n) (action_of a))) (action_of a)) }
+        ensures fits { IfOk result (λ a. Fits (scope_of self.old.scope).names (context_of place.now).thread (λ w. action_fits w (action_of a))) }
+        ensures err { Fails (scope_of self.old.scope) (items (context_of place.now)) self.old.cursor result }
+    {
+        self.begin(place, valued.keyword())?;
+        let value = self.expression(place)?;
+        self.cursor.sign(Sign::Semicolon)?;
+        Ok(valued.action(value))
+    }
+
+    /// A statement that is its keyword and a name.
+    fn about(&mut self, place: &Context, about: About) -> Result<Action, Refusal>
+        requires here { first self.old.cursor ≡ Some (token.Keyword (about_keyword about)) }
+        ensures names { fixed self.new.scope ≡ fixed self.old.scope }
+        ensures shorter { OnOk result (length self.new.cursor < length self.old.cursor) }
+        ensures counts { OnOk result (self.old.scope.statements < self.new.scope.statements) }
+        ensures ok { IfOk result (λ a. ReadsStatement (scope_of self.old.scope) (scope_of self.new.scope) (context_of place.now)
+            (λ n ms. action_marks (context_of place.now) (action_map (name_in n) (action_of a)) ms) self.old.cursor self.new.cursor) }
+        ensures numbered { IfOk result (λ a. Numbered (scope_of self.old.scope).names (λ n. action_map (number_in n) (action_map (name_in n) (action_of a))) (action_of a)) }
+        ensures fits { IfOk result (λ a. Fits (scope_of self.old.scope).names (context_of place.now).thread (λ w. action_fits w (action_of a))) }
+        ensures err { Fails (scope_of self.old.scope) (items (context_of place.now)) self.old.cursor result }
+    {
+        self.begin(place, about.keyword())?;
+        let number = self.name(place, about.class())?;
+        self.cursor.sign(Sign::Semicolon)?;
+        Ok(about.action(number))
+    }
+
+    fn post(&mut self, place: &Context) -> Result<Action, Refusal>
+        requires shallow { place.now.level ≤ LEVELS }
+        requires here { first self.old.cursor ≡ Some (token.Keyword Keyword.Post) }
+        ensures names { fixed self.new.scope ≡ fixed self.old.scope }
+        ensures shorter { OnOk result (length self.new.cursor < length self.old.cursor) }
+        ensures counts { OnOk result (self.old.scope.statements < self.new.scope.statements) }
+        ensures ok { IfOk result (λ a. ReadsStatement (scope_of self.old.scope) (scope_of self.new.scope) (context_of place.now)
+            (λ n ms. action_marks (context_of place.now) (action_map (name_in n) (action_of a)) ms) self.old.cursor self.new.cursor) }
+        ensures numbered { IfOk result (λ a. Numbered (scope_of self.old.scope).names (λ n. action_map (number_in n) (action_map (name_in n) (action_of a))) (action_of a)) }
+        ensures fits { IfOk result (λ a. Fits (scope_of self.old.scope).names (context_of place.now).thread (λ w. action_fits w (action_of a))) }
+        ensures err { Fails (scope_of self.old.scope) (items (context_of place.now)) self.old.cursor result }
+    {
+        self.begin(place, Keyword::Post)?;
+        let process = self.name(place, Class::Process)?;
+        let event = self.sent(place)?;
+        let word = self.expression(place)?;
+        let told = self.into_end(place)?;
+        Ok(Action::Post(process, event, word, told))
+    }
+
+    fn broadcast(&mut self, place: &Context) -> Result<Action, Refusal>
+        requires shallow { place.now.level ≤ LEVELS }
+        requires here { first self.old.cursor ≡ Some (token.Keyword Keyword.Broadcast) }
+        ensures names { fixed self.new.scope ≡ fixed self.old.scope }
+        ensures shorter { OnOk result (length self.new.cursor < length self.old.cursor) }
+        ensures counts { OnOk result (self.old.scope.statements < self.new.scope.statements) }
+        ensures ok { IfOk result (λ a. ReadsStatement (scope_of self.old.scope) (scope_of self.new.scope) (context_of place.now)
+            (λ n ms. action_marks (context_of place.now) (action_map (name_in n) (action_of a)) ms) self.old.cursor self.new.cursor) }
+        ensures numbered { IfOk result (λ a. Numbered (scope_of self.old.scope).names (λ n. action_map (number_in n) (action_map (name_in n) (action_of a))) (action_of a)) }
+        ensures fits { IfOk result (λ a. Fits (scope_of self.old.scope).names (context_of place.now).thread (λ w. action_fits w (action_of a))) }
+        ensures err { Fails (scope_of self.old.scope) (items (context_of place.now)) self.old.cursor result }
+    {
+        self.begin(place, Keyword::Broadcast)?;
+        let event = self.cast(place)?;
+        let word = self.expression(place)?;
+        let told = self.into_end(place)?;
+        Ok(Action::Broadcast(event, word, told))
+    }
+
+    fn synch(&mut self, place: &Context) -> Result<Action, Refusal>
+        requires shallow { place.now.level ≤ LEVELS }
+        requires here { first self.old.cursor ≡ Some (token.Keyword Keyword.Synch) }
+        ensures names { fixed self.new.scope ≡ fixed self.old.scope }
+        ensures shorter { OnOk result (length self.new.cursor < length self.old.cursor) }
+        ensures counts { OnOk result (self.old.scope.statements < self.new.scope.statements) }
+        ensures ok { IfOk result (λ a. ReadsStatement (scope_of self.old.scope) (scope_of self.new.scope) (context_of place.now)
+            (λ n ms. action_marks (context_of place.now) (action_map (name_in n) (action_of a)) ms) self.old.cursor self.new.cursor) }
+        ensures numbered { IfOk result (λ a. Numbered (scope_of self.old.scope).names (λ n. action_map (number_in n) (action_map (name_in n) (action_of a))) (action_of a)) }
+        ensures fits { IfOk result (λ a. Fits (scope_of self.old.scope).names (context_of place.now).thread (λ w. action_fits w (action_of a))) }
+        ensures err { Fails (scope_of self.old.scope) (items (context_of place.now)) self.old.cursor result }
+    {
+        self.begin(place, Keyword::Synch)?;
+        let process = self.name(place, Class::Process)?;
+        let event = self.sent(place)?;
+        let word = self.expression(place)?;
+        self.cursor.sign(Sign::Semicolon)?;
+        Ok(Action::Synch(process, event, word))
+    }
+
+    fn set(&mut self, place: &Context) -> Result<Action, Refusal>
+        requires shallow { place.now.level ≤ LEVELS }
+        requires here { first self.old.cursor ≡ Some (token.Keyword Keyword.Set) }
+        ensures names { fixed self.new.scope ≡ fixed self.old.scope }
+        ensures shorter { OnOk result (length self.new.cursor < length self.old.cursor) }
+        ensures counts { OnOk result (self.old.scope.statements < self.new.scope.statements) }
+        ensures ok { IfOk result (λ a. ReadsStatement (scope_of self.old.scope) (scope_of self.new.scope) (context_of place.now)
+            (λ n ms. action_marks (context_of place.now) (action_map (name_in n) (action_of a)) ms) self.old.cursor self.new.cursor) }
+        ensures numbered { IfOk result (λ a. Numbered (scope_of self.old.scope).names (λ n. action_map (number_in n) (action_map (name_in n) (action_of a))) (action_of a)) }
+        ensures fits { IfOk result (λ a. Fits (scope_of self.old.scope).names (context_of place.now).thread (λ w. action_fits w (action_of a))) }
+        ensures err { Fails (scope_of self.old.scope) (items (context_of place.now)) self.old.cursor result }
+    {
+        self.begin(place, Keyword::Set)?;
+        let timer = self.name(place, Class::Timer)?;
+        let interval = self.expression(place)?;
+        self.cursor.sign(Sign::Semicolon)?;
+        Ok(Action::Set(timer, interval))
+    }
+
+    fn assign(&mut self, place: &Context, name: &str) -> Result<Action, Refusal>
+        requires shallow { place.now.level ≤ LEVELS }
+        requires here { first self.old.cursor ≡ Some (token.Name name.now) }
+        ensures names { fixed self.new.scope ≡ fixed self.old.scope }
+        ensures shorter { OnOk result (length self.new.cursor < length self.old.cursor) }
+        ensures counts { OnOk result (self.old.scope.statements < self.new.scope.statements) }
+        ensures ok { IfOk result (λ a. ReadsStatement (scope_of self.old.scope) (scope_of self.new.scope) (context_of place.now)
+            (λ n ms. action_marks (context_of place.now) (action_map (name_in n) (action_of a)) ms) self.old.cursor self.new.cursor) }
+        ensures numbered { IfOk result (λ a. Numbered (scope_of self.old.scope).names (λ n. action_map (number_in n) (action_map (name_in n) (action_of a))) (action_of a)) }
+        ensures fits { IfOk result (λ a. Fits (scope_of self.old.scope).names (context_of place.now).thread (λ w. action_fits w (action_of a))) }
+        ensures err { Fails (scope_of self.old.scope) (items (context_of place.now)) self.old.cursor result }
+    {
+        let variable = self.target(place, name)?;
+        self.cursor.sign(Sign::Equals)?;
+        let value = self.expression(place)?;
+        self.cursor.sign(Sign::Semicolon)?;
+        Ok(Action::Assign(variable, value))
+    }
+
+    /// A statement that begins with a keyword and has no block.
+    #[tactic(auto, using(crate::proofs::PlainLaws::no_action))]
+    fn action(&mut self, place: &Context, keyword: Keyword) -> Result<Action, Refusal>
+        requires shallow { place.now.level ≤ LEVELS }
+        requires here { first self.old.cursor ≡ Some (token.Keyword keyword) }
+        requires plain { IsPlain (beginning keyword) }
+        ensures names { fixed self.new.scope ≡ fixed self.old.scope }
+        ensures shorter { OnOk result (length self.new.cursor < length self.old.cursor) }
+        ensures counts { OnOk result (self.old.scope.statements < self.new.scope.statements) }
+        ensures ok { IfOk result (λ a. ReadsStatement (scope_of self.old.scope) (scope_of self.new.scope) (context_of place.now)
+            (λ n ms. action_marks (context_of place.now) (action_map (name_in n) (action_of a)) ms) self.old.cursor self.new.cursor) }
+        ensures numbered { IfOk result (λ a. Numbered (scope_of self.old.scope).names (λ n. action_map (number_in n) (action_map (name_in n) (action_of a))) (action_of a)) }
+        ensures fits { IfOk result (λ a. Fits (scope_of self.old.scope).names (context_of place.now).thread (λ w. action_fits w (action_of a))) }
+        ensures err { Fails (scope_of self.old.scope) (items (context_of place.now)) self.old.cursor result }
+    {
+        match Plain::of(keyword) {
+            Some(Plain::Bare(bare)) => self.bare(place, bare),
+            Some(Plain::Valued(valued)) => self.valued(place, valued),
+            Some(Plain::About(about)) => self.about(place, about),
+            Some(Plain::Post) => self.post(place),
+            Some(Plain::Broadcast) => self.broadcast(place),
+            Some(Plain::Synch) => self.synch(place),
+            Some(Plain::Set) => self.set(place),
+            None => Err(self.cursor.unfit()),
+        }
+    }
+
+    /// A statement without a block.
+    fn plain(&mut self, place: &Context) -> Result<Action, Refusal>
+        requires shallow { place.now.level ≤ LEVELS }
+        requires plain { BeginsPlain (first self.old.cursor) }
+        ensures names { fixed self.new.scope ≡ fixed self.old.scope }
+        ensures shorter { OnOk result (length self.new.cursor < length self.old.cursor) }
+        ensures counts { OnOk result (self.old.scope.statements < self.new.scope.statements) }
+        ensures ok { IfOk result (λ a. ReadsStatement (scope_of self.old.scope) (scope_of self.new.scope) (context_of place.now)
+            (λ n ms. action_marks (context_of place.now) (action_map (name_in n) (action_of a)) ms) self.old.cursor self.new.cursor) }
+        ensures numbered { IfOk result (λ a. Numbered (scope_of self.old.scope).names (λ n. action_map (number_in n) (action_map (name_in n) (action_of a))) (action_of a)) }
+        ensures fits { IfOk result (λ a. Fits (scope_of self.old.scope).names (context_of place.now).thread (λ w. action_fits w (action_of a))) }
+        ensures err { Fails (scope_of self.old.scope) (items (context_of place.now)) self.old.cursor result }
+    {
+        match self.cursor.peek() {
+            Some(Token::Name(name)) => self.assign(place, name),
+            Some(Token::Keyword(keyword)) => self.action(place, keyword),
+            _ => Err(self.cursor.unfit()),
+        }
+    }
+
+    #[cycle(statement)]
+    fn branch(&mut self, place: &Context) -> Result<Stmt, Refusal>
+        requires low { place.now.level ≤ LEVELS }
+        requires here { first self.old.cursor ≡ Some (token.Keyword Keyword.If) }
+        ensures names { fixed self.new.scope ≡ fixed self.old.scope }
+        ensures shorter { OnOk result (length self.new.cursor < length self.old.cursor) }
+        ensures ok { IfOk result (λ s. ReadsStatement (scope_of self.old.scope) (scope_of self.new.scope) (context_of place.now)
+            (λ n ms. statement_marks (context_of place.now) (statement_map (name_in n) (statement_of s)) ms) self.old.cursor self.new.cursor) }
+        ensures numbered { IfOk result (λ s. Numbered (scope_of self.old.scope).names (λ n. statement_map (number_in n) (statement_map (name_in n) (statement_of s))) (statement_of s)) }
+        ensures fits { IfOk result (λ s. Fits (scope_of self.old.scope).names (context_of place.now).thread (λ w. statement_fits w (statement_of s))) }
+        ensures shallow { IfOk result (λ s. place.now.level + inner_height (statement_of s) ≤ LEVELS) }
+        ensures counts { IfOk result (λ s. inner_size (statement_of s) + self.old.scope.statements < self.new.scope.statements) }
+        ensures err { Fails (scope_of self.old.scope) (items (context_of place.now)) self.old.cursor result }
+    {
+        self.begin(place, Keyword::If)?;
+        let test = self.expression(place)?;
+        let then = self.block(place)?;
+        let otherwise = self.otherwise(place)?;
+        Ok(Stmt::If(test, then, otherwise))
+    }
+
+    #[cycle(statement)]
+    fn repeat(&mut self, place: &Context) -> Result<Stmt, Refusal>
+        requires low { place.now.level ≤ LEVELS }
+        requires here { first self.old.cursor ≡ Some (token.Keyword Keyword.While) }
+        ensures names { fixed self.new.scope ≡ fixed self.old.scope }
+        ensures shorter { OnOk result (length self.new.cursor < length self.old.cursor) }
+        ensures ok { IfOk result (λ s. ReadsStatement (scope_of self.old.scope) (scope_of self.new.scope) (context_of place.now)
+            (λ n ms. statement_marks (context_of place.now) (statement_map (name_in n) (statement_of s)) ms) self.old.cursor self.new.cursor) }
+        ensures numbered { IfOk result (λ s. Numbered (scope_of self.old.scope).names (λ n. statement_map (number_in n) (statement_map (name_in n) (statement_of s))) (statement_of s)) }
+        ensures fits { IfOk result (λ s. Fits (scope_of self.old.scope).names (context_of place.now).thread (λ w. statement_fits w (statement_of s))) }
+        ensures shallow { IfOk result (λ s. place.now.level + inner_height (statement_of s) ≤ LEVELS) }
+        ensures counts { IfOk result (λ s. inner_size (statement_of s) + self.old.scope.statements < self.new.scope.statements) }
+        ensures err { Fails (scope_of self.old.scope) (items (context_of place.now)) self.old.cursor result }
+    {
+        self.begin(place, Keyword::While)?;
+        let test = self.expression(place)?;
+        let block = self.block(place)?;
+        Ok(Stmt::While(test, block))
+    }
+
+    /// A statement of a block.
+    #[cycle(statement)]
+    fn statement(&mut self, place: &Context) -> Result<Stmt, Refusal>
+        requires low { place.now.level ≤ LEVELS }
+        requires inside { IsInside (first self.old.cursor) }
+        ensures names { fixed self.new.scope ≡ fixed self.old.scope }
+        ensures shorter { OnOk result (length self.new.cursor < length self.old.cursor) }
+        ensures ok { IfOk result (λ s. ReadsStatement (scope_of self.old.scope) (scope_of self.new.scope) (context_of place.now)
+            (λ n ms. statement_marks (context_of place.now) (statement_map (name_in n) (statement_of s)) ms) self.old.cursor self.new.cursor) }
+        ensures numbered { IfOk result (λ s. Numbered (scope_of self.old.scope).names (λ n. statement_map (number_in n) (statement_map (name_in n) (statement_of s))) (statement_of s)) }
+        ensures fits { IfOk result (λ s. Fits (scope_of self.old.scope).names (context_of place.now).thread (λ w. statement_fits w (statement_of s))) }
+        ensures shallow { IfOk result (λ s. place.now.level + inner_height (statement_of s) ≤ LEVELS) }
+        ensures counts { IfOk result (λ s. inner_size (statement_of s) + self.old.scope.statements < self.new.scope.statements) }
+        ensures err { Fails (scope_of self.old.scope) (items (context_of place.now)) self.old.cursor result }
+    {
+        match self.cursor.peek() {
+            Some(Token::Keyword(Keyword::If)) => self.branch(place),
+            Some(Token::Keyword(Keyword::While)) => self.repeat(place),
+            _ => Ok(Stmt::Do(self.plain(place)?)),
+        }
+    }
+
+    /// What may follow the first block of an `if`.
+    #[cycle(statement)]
+    #[tactic(auto, using(crate::proofs::Blocks::else_start))]
+    fn otherwise(&mut self, place: &Context) -> Result<Option<Block>, Refusal>
+        requires low { place.now.level ≤ LEVELS }
+        ensures names { fixed self.new.scope ≡ fixed self.old.scope }
+        ensures no_longer { OnOk result (length self.new.cursor ≤ length self.old.cursor) }
+        ensures ok { IfOk result (λ o. ReadsElse (scope_of self.old.scope) (scope_of self.new.scope) (context_of place.now)
+            (λ n ms. else_marks (context_of place.now) (otherwise_map (name_in n) (otherwise_of (option_map block_of o))) ms) self.old.cursor self.new.cursor) }
+        ensures numbered { IfOk result (λ o. Numbered (scope_of self.old.scope).names (λ n. otherwise_map (number_in n) (otherwise_map (name_in n) (otherwise_of (option_map block_of o)))) (otherwise_of (option_map block_of o))) }
+        ensures fits { IfOk result (λ o. Fits (scope_of self.old.scope).names (context_of place.now).thread (λ w. other_fits w (otherwise_of (option_map block_of o)))) }
+        ensures shallow { IfOk result (λ o. place.now.level + other_height (otherwise_of (option_map block_of o)) ≤ LEVELS) }
+        ensures counts { IfOk result (λ o. other_size (otherwise_of (option_map block_of o)) + self.old.scope.statements ≤ self.new.scope.statements) }
+        ensures err { Fails (scope_of self.old.scope) (items_else (context_of place.now)) self.old.cursor result }
+    {
+        match self.cursor.peek() {
+            Some(Token::Keyword(Keyword::Else)) => {
+                self.cursor.advance();
+                let block = self.block(place)?;
+                Ok(Some(block))
+            }
+            _ => Ok(None),
+        }
+    }
+
+    /// A block that stands there.
+    #[cycle(statement)]
+    pub(crate) fn block(&mut self, place: &Context) -> Result<Block, Refusal>
+        requires low { place.now.level ≤ LEVELS }
+        ensures names { fixed self.new.scope ≡ fixed self.old.scope }
+        ensures no_longer { OnOk result (length self.new.cursor ≤ length self.old.cursor) }
+        ensures ok { IfOk result (λ b. Reads (scope_of self.old.scope) (scope_of self.new.scope) (block (context_of place.now))
+            (λ n ms. block_marks (context_of place.now) (body_map (name_in n) (block_of b)) ms) self.old.cursor self.new.cursor) }
+        ensures numbered { IfOk result (λ b. Numbered (scope_of self.old.scope).names (λ n. body_map (number_in n) (body_map (name_in n) (block_of b))) (block_of b)) }
+        ensures fits { IfOk result (λ b. Fits (scope_of self.old.scope).names (context_of place.now).thread (λ w. block_fits w (block_of b))) }
+        ensures shallow { IfOk result (λ b. place.now.level + height (block_of b) ≤ LEVELS) }
+        ensures counts { IfOk result (λ b. size (block_of b) + self.old.scope.statements ≤ self.new.scope.statements) }
+        ensures err { Fails (scope_of self.old.scope) (block (context_of place.now)) self.old.cursor result }
+    {
+        match self.cursor.peek() {
+            Some(Token::OpenBrace) => {}
+            _ => return Err(self.cursor.unfit()),
+        }
+        if place.level == LEVELS {
+            return Err(self.cursor.fault(ReadErrorKind::TooDeep));
+        }
+        self.cursor.advance();
+        let within = place.inner();
+        let mut statements = Vec::new(self.alloc);
+        'statements: loop {
+            match self.cursor.peek() {
+                Some(Token::CloseBrace) => {
+                    self.cursor.advance();
+                    return Ok(Block::new(statements));
+                }
+                _ => {
+                    let statement = self.statement(&within)?;
+                    statements.push(statement)?;
+                }
+            }
+        }
+    }
+}

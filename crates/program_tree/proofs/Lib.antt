@@ -1,0 +1,3 @@
+pub mod CountLaws
+pub mod NameLaws
+pub mod TreeLaws

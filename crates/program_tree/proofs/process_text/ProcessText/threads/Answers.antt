@@ -1,0 +1,6 @@
+use Rattle.std.proofs.lemmas.List.Elements.{All-map}
+use Rattle.program_tree.specs.Tree.{block_of, IsWithinLimits}
+use Rattle.program_tree.proofs.process_text.ProcessText.threads.Goals as goal
+
+pub returns-clause-within : goal.returns-clause-within
+returns-clause-within c = All-map (λ b. IsWithinLimits b) block_of c.args.self.now.thread_blocks.items c.args.self.now.threads_within

@@ -1,0 +1,89 @@
+-- Events as programs name them: by a keyword, or by the name of a declaration. Which of them may stand where is what their
+-- types say.
+use Rattle.std.specs.Prelude.{ℕ, ◌+◌}
+use Rattle.program_tree.specs.Events.{system_number}
+use Rattle.program_tree.specs.declared.event.SystemEvent.TheVariants as event
+use Rattle.program_tree.specs.declared.event_name.CastEvent.{CastEvent as CastRead}
+use Rattle.program_tree.specs.declared.event_name.CastEvent.TheVariants as cast_read
+use Rattle.program_tree.specs.declared.event_name.SentEvent.{SentEvent as SentRead}
+use Rattle.program_tree.specs.declared.event_name.SentEvent.TheVariants as sent_read
+use Rattle.program_tree.specs.declared.event_name.AnyEvent.{AnyEvent as AnyRead}
+use Rattle.program_tree.specs.declared.event_name.AnyEvent.TheVariants as any_read
+
+-- an event that may be broadcast
+pub data CastEvent (Name : Type 0) : Type 0 where
+  continue : CastEvent Name
+  msg : CastEvent Name
+  «com» : CastEvent Name
+  packet : CastEvent Name
+  declared : Name → CastEvent Name
+
+-- an event that may be posted to one process, or given to it at once
+pub data SentEvent (Name : Type 0) : Type 0 where
+  cast : CastEvent Name → SentEvent Name
+  exit : SentEvent Name
+
+-- an event that a program may ask for
+pub data AnyEvent (Name : Type 0) : Type 0 where
+  sent : SentEvent Name → AnyEvent Name
+  init : AnyEvent Name
+  poll : AnyEvent Name
+  exited : AnyEvent Name
+  timer : AnyEvent Name
+
+-- the number of each; declared events follow the packet, in the order of their declaration
+abbrev pub cast_number : CastEvent ℕ → ℕ
+cast_number continue = system_number event.Continue
+cast_number msg = system_number event.Msg
+cast_number «com» = system_number event.Com
+cast_number packet = system_number event.Packet
+cast_number (declared i) = 0x8b + i
+
+abbrev pub sent_number : SentEvent ℕ → ℕ
+sent_number (cast e) = cast_number e
+sent_number exit = system_number event.Exit
+
+abbrev pub any_number : AnyEvent ℕ → ℕ
+any_number (sent e) = sent_number e
+any_number init = system_number event.Init
+any_number poll = system_number event.Poll
+any_number exited = system_number event.Exited
+any_number timer = system_number event.Timer
+
+-- what the types of `src/event_name.rt` stand for
+abbrev pub cast_of : CastRead → CastEvent ℕ
+cast_of cast_read.Continue = continue
+cast_of cast_read.Msg = msg
+cast_of cast_read.Com = «com»
+cast_of cast_read.Packet = packet
+cast_of (cast_read.Declared e) = declared e.place
+
+abbrev pub sent_of : SentRead → SentEvent ℕ
+sent_of (sent_read.Cast e) = cast (cast_of e)
+sent_of sent_read.Exit = exit
+
+abbrev pub any_of : AnyRead → AnyEvent ℕ
+any_of (any_read.Sent e) = sent (sent_of e)
+any_of any_read.Init = init
+any_of any_read.Poll = poll
+any_of any_read.Exited = exited
+any_of any_read.Timer = timer
+
+-- the same with each name changed
+abbrev pub cast_map : {A B : Type 0} → (A → B) → CastEvent A → CastEvent B
+cast_map f continue = continue
+cast_map f msg = msg
+cast_map f «com» = «com»
+cast_map f packet = packet
+cast_map f (declared x) = declared (f x)
+
+abbrev pub sent_map : {A B : Type 0} → (A → B) → SentEvent A → SentEvent B
+sent_map f (cast e) = cast (cast_map f e)
+sent_map f exit = exit
+
+abbrev pub any_map : {A B : Type 0} → (A → B) → AnyEvent A → AnyEvent B
+any_map f (sent e) = sent (sent_map f e)
+any_map f init = init
+any_map f poll = poll
+any_map f exited = exited
+any_map f timer = timer

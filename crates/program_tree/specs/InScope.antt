@@ -1,0 +1,64 @@
+-- The names in scope, by what they stand for.
+use Rattle.std.specs.Prelude.{ℕ, ◌+◌, ◌-◌, List, [], ◌∷◌, ◌++◌, length, Bool, ◌||◌, Option, Some, None, is_some, slice_index_or}
+use Rattle.program_tree.specs.Names.{place_of}
+use Rattle.program_tree.specs.Shapes.{Name}
+use Rattle.program_tree.specs.Tree.{Class, an_event, a_semaphore, a_process, a_variable, a_timer, a_thread}
+
+-- Each in the order of declaration; those of variables, timers and threads are the names of one code, before whose timers the
+-- program has so many others.
+pub record Names : Type 0 where
+  pub events : List Name
+  pub semaphores : List Name
+  pub processes : List Name
+  pub variables : List Name
+  pub first_timer : ℕ
+  pub timers : List Name
+  pub threads : List Name
+
+abbrev pub no_names : Names
+no_names = record { events = []; semaphores = []; processes = []; variables = []; first_timer = 0; timers = []; threads = [] }
+
+abbrev pub names_of : Names → Class → List Name
+names_of n an_event = n.events
+names_of n a_semaphore = n.semaphores
+names_of n a_process = n.processes
+names_of n a_variable = n.variables
+names_of n a_timer = n.timers
+names_of n a_thread = n.threads
+
+-- with one name more
+abbrev pub with_new : Names → Class → Name → Names
+with_new n an_event x = record n { events = n.events ++ x ∷ [] }
+with_new n a_semaphore x = record n { semaphores = n.semaphores ++ x ∷ [] }
+with_new n a_process x = record n { processes = n.processes ++ x ∷ [] }
+with_new n a_variable x = record n { variables = n.variables ++ x ∷ [] }
+with_new n a_timer x = record n { timers = n.timers ++ x ∷ [] }
+with_new n a_thread x = record n { threads = n.threads ++ x ∷ [] }
+
+-- behind a code, whose own names are no longer in scope
+abbrev pub outside : Names → Names
+outside n = record n { variables = []; first_timer = n.first_timer + length n.timers; timers = []; threads = [] }
+
+abbrev pub is_among : List Name → Name → Bool
+is_among names x = is_some (place_of names x)
+
+abbrev pub is_a : Names → Class → Name → Bool
+is_a n c x = is_among (names_of n c) x
+
+abbrev pub is_in_scope : Names → Name → Bool
+is_in_scope n x = is_a n an_event x || is_a n a_semaphore x || is_a n a_process x || is_a n a_variable x || is_a n a_timer x || is_a n a_thread x
+
+-- The number of a name: its place among those of its class, but timers are numbered through the program. That of a name which
+-- isn't there is never asked for.
+abbrev pub or_zero : Option ℕ → ℕ
+or_zero None = 0
+or_zero (Some i) = i
+
+abbrev pub number_in : Names → Class → Name → ℕ
+number_in n a_timer x = n.first_timer + or_zero (place_of n.timers x)
+number_in n c x = or_zero (place_of (names_of n c) x)
+
+-- the name with a number
+abbrev pub name_in : Names → Class → ℕ → Name
+name_in n a_timer i = slice_index_or n.timers (i - n.first_timer) []
+name_in n c i = slice_index_or (names_of n c) i []

@@ -1,0 +1,17 @@
+-- The kinds of faults by their numbers.
+use Rattle.std.specs.Prelude.{ℕ}
+use Rattle.program_tree.specs.declared.error.ReadErrorKind.{ReadErrorKind}
+use Rattle.program_tree.specs.declared.error.ReadErrorKind.TheVariants.{BadToken, Unexpected, UnknownName, NameTwice, NumberTooLarge, WaitInSimpleBlock, TooDeep, TooMany, NoProcess, BadTarget, Memory}
+
+abbrev pub kind_number : ReadErrorKind → ℕ
+kind_number BadToken = 1
+kind_number Unexpected = 2
+kind_number UnknownName = 3
+kind_number NameTwice = 4
+kind_number NumberTooLarge = 5
+kind_number WaitInSimpleBlock = 6
+kind_number TooDeep = 7
+kind_number TooMany = 8
+kind_number NoProcess = 9
+kind_number BadTarget = 10
+kind_number Memory = 11

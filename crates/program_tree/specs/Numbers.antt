@@ -1,0 +1,72 @@
+-- The tree of a shape: each name replaced by its number.
+use Rattle.std.specs.Prelude.{ℕ, ◌+◌, List, [], ◌∷◌, ◌++◌, map, option_map, Bool, true, false}
+use Rattle.program_tree.specs.Code.{Code, Tree}
+use Rattle.program_tree.specs.InScope.{Names, no_names, number_in, outside}
+use Rattle.program_tree.specs.Shapes.{Name, CodeShape, ProgramShape}
+use Rattle.program_tree.specs.Tree.{a_process, Body, body_map}
+use Rattle.program_tree.specs.declared.timer.Timer.{Timer}
+
+abbrev pub block_in : Names → Body Name → Body ℕ
+block_in n b = body_map (number_in n) b
+
+abbrev pub named_of : {T : Type 0} → List (Name × T) → List Name
+named_of ps = map (λ p. p.0) ps
+
+abbrev pub values_of : {T : Type 0} → List (Name × T) → List T
+values_of ps = map (λ p. p.1) ps
+
+abbrev pub timers_of : CodeShape → List Name
+timers_of c = c.etimers ++ named_of c.ctimers
+
+-- all names of a code, beside those of the program
+abbrev pub inside : Names → CodeShape → Names
+inside n c = record n { variables = named_of c.variables; timers = timers_of c; threads = named_of c.threads }
+
+-- the tree of the code of a process, over these names
+abbrev pub code_in : (process : ℕ) → Names → CodeShape → Code
+code_in k n c = record {
+  number = k;
+  variables = named_of c.variables;
+  starts = values_of c.variables;
+  first_timer = n.first_timer;
+  etimers = c.etimers;
+  ctimers = named_of c.ctimers;
+  callbacks = map (block_in n) (values_of c.ctimers);
+  threads = named_of c.threads;
+  thread_bodies = map (block_in n) (values_of c.threads);
+  on_poll = option_map (block_in n) c.on_poll;
+  on_exit = option_map (block_in n) c.on_exit;
+  body = block_in n c.body;
+}
+
+abbrev pub codes_in : (process : ℕ) → Names → List CodeShape → List Code
+codes_in k n [] = []
+codes_in k n (c ∷ cs) = code_in k (inside n c) c ∷ codes_in (k + 1) (outside (inside n c)) cs
+
+abbrev pub timer_of : (process : ℕ) → (is_callback : Bool) → Timer
+timer_of k b = record { process = k; is_callback = b }
+
+-- the timers of all processes
+abbrev pub timers_from : (process : ℕ) → List CodeShape → List Timer
+timers_from k [] = []
+timers_from k (c ∷ cs) =
+    map (λ x. timer_of k false) c.etimers ++ (map (λ t. timer_of k true) c.ctimers ++ timers_from (k + 1) cs)
+
+abbrev pub codes_of : ProgramShape → List CodeShape
+codes_of p = p.first.1 ∷ values_of p.others
+
+-- the names of the whole program
+abbrev pub program_names : ProgramShape → Names
+program_names p = record no_names { events = p.events; semaphores = named_of p.semaphores; processes = p.first.0 ∷ named_of p.others }
+
+abbrev pub tree_of_shape : ProgramShape → Tree
+tree_of_shape p = record {
+  events = p.events;
+  semaphores = named_of p.semaphores;
+  counts = values_of p.semaphores;
+  processes = p.first.0 ∷ named_of p.others;
+  autostart = map (number_in (program_names p) a_process) p.autostart;
+  receiver = option_map (number_in (program_names p) a_process) p.receiver;
+  codes = codes_in 0 (program_names p) (codes_of p);
+  timers = timers_from 0 (codes_of p);
+}

@@ -1,0 +1,21 @@
+-- What a process's text in `src/process_text.rt` stands for.
+use Rattle.std.specs.Prelude.{map, option_map}
+use Rattle.program_tree.specs.Code.{Code}
+use Rattle.program_tree.specs.Tree.{block_of}
+use Rattle.program_tree.specs.declared.process_text.ProcessText.{ProcessText}
+
+abbrev pub code_of : ProcessText → Code
+code_of t = record {
+  number = t.number;
+  variables = t.variables;
+  starts = t.starts.items;
+  first_timer = t.first_timer;
+  etimers = t.etimers;
+  ctimers = t.ctimers;
+  callbacks = map block_of t.callbacks.items;
+  threads = t.threads;
+  thread_bodies = map block_of t.thread_blocks.items;
+  on_poll = option_map block_of t.on_poll;
+  on_exit = option_map block_of t.on_exit;
+  body = block_of t.body;
+}

@@ -1,0 +1,59 @@
+-- The shape of a tree: each number replaced by the name that it stands for.
+use Rattle.std.specs.Prelude.{ℕ, List, [], ◌++◌, map, drop, None, option_map, slice_index_or}
+use Rattle.std.specs.List.{zip}
+use Rattle.program_tree.specs.Canonical.{canonical_text}
+use Rattle.program_tree.specs.Code.{Code, Tree}
+use Rattle.program_tree.specs.Grammar.{tokens, program_marks}
+use Rattle.program_tree.specs.InScope.{Names, no_names, name_in}
+use Rattle.program_tree.specs.Shapes.{Name, CodeShape, ProgramShape}
+use Rattle.program_tree.specs.Tokens.{Token}
+use Rattle.program_tree.specs.Tree.{a_process, Body, end, body_map}
+
+-- the names of the whole program, and those that its code has in scope too
+abbrev pub names_of_tree : Tree → Names
+names_of_tree t = record no_names { events = t.events; semaphores = t.semaphores; processes = t.processes }
+
+abbrev pub names_of_code : Names → Code → Names
+names_of_code n c = record n { variables = c.variables; first_timer = c.first_timer; timers = c.etimers ++ c.ctimers; threads = c.threads }
+
+abbrev pub block_with : Names → Body ℕ → Body Name
+block_with n b = body_map (name_in n) b
+
+-- the shape of a code, over all names that are in scope in it
+abbrev pub code_with : Names → Code → CodeShape
+code_with n c = record {
+  variables = zip c.variables c.starts;
+  etimers = c.etimers;
+  ctimers = zip c.ctimers (map (block_with n) c.callbacks);
+  threads = zip c.threads (map (block_with n) c.thread_bodies);
+  on_poll = option_map (block_with n) c.on_poll;
+  on_exit = option_map (block_with n) c.on_exit;
+  body = block_with n c.body;
+}
+
+abbrev pub code_shape : Names → Code → CodeShape
+code_shape n c = code_with (names_of_code n c) c
+
+abbrev pub codes_of_tree : Tree → List (Name × CodeShape)
+codes_of_tree t = zip t.processes (map (code_shape (names_of_tree t)) t.codes)
+
+-- stands for the first process where there is none, as in no program
+abbrev pub no_code : Name × CodeShape
+no_code = ([], record { variables = []; etimers = []; ctimers = []; threads = []; on_poll = None; on_exit = None; body = end })
+
+abbrev pub shape_of : Tree → ProgramShape
+shape_of t = record {
+  events = t.events;
+  semaphores = zip t.semaphores t.counts;
+  first = slice_index_or (codes_of_tree t) 0 no_code;
+  others = drop 1 (codes_of_tree t);
+  autostart = map (name_in (names_of_tree t) a_process) t.autostart;
+  receiver = option_map (name_in (names_of_tree t) a_process) t.receiver;
+}
+
+-- the tokens of the program that a tree is, and their text
+abbrev pub tokens_of_tree : Tree → List Token
+tokens_of_tree t = tokens (program_marks (shape_of t) [])
+
+abbrev pub text_of_tree : Tree → List ℕ
+text_of_tree t = canonical_text (tokens_of_tree t)

@@ -1,0 +1,58 @@
+-- The shapes of programs: their trees, over names as they are written.
+use Rattle.std.specs.Prelude.{ℕ, List, Option}
+use Rattle.program_tree.specs.Forms.{Operand, name, cast, sent, any, Form, ends, tells, takes, values, Beginning, action, Word, no_value, alone, tells_of}
+use Rattle.program_tree.specs.EventNames.{CastEvent, SentEvent, AnyEvent}
+use Rattle.program_tree.specs.Tree.{Expression, Body}
+
+-- a name as it is written, by its bytes
+abbrev pub Name : Type 0
+Name = List ℕ
+
+-- a variable or a semaphore with its first value
+abbrev pub Valued : Type 0
+Valued = Name × ℕ
+
+-- a callback timer or a thread with its block
+abbrev pub Named : Type 0
+Named = Name × (Body Name)
+
+-- what stands between the braces of a code
+pub record CodeShape : Type 0 where
+  pub variables : List Valued
+  pub etimers : List Name
+  pub ctimers : List Named
+  pub threads : List Named
+  pub on_poll : Option (Body Name)
+  pub on_exit : Option (Body Name)
+  pub body : Body Name
+
+-- Each process of the line has its code; the list of those that start at boot is empty where there is no `autostart`.
+pub record ProgramShape : Type 0 where
+  pub events : List Name
+  pub semaphores : List Valued
+  pub first : Name × CodeShape
+  pub others : List (Name × CodeShape)
+  pub autostart : List Name
+  pub receiver : Option Name
+
+-- what stands in the places that the tables speak of
+abbrev pub OperandShape : Operand → Type 0
+OperandShape (name c) = Name
+OperandShape cast = CastEvent Name
+OperandShape sent = SentEvent Name
+OperandShape any = AnyEvent Name
+
+abbrev pub WordShape : Word → Type 0
+WordShape no_value = ⊥
+WordShape alone = Unit {0}
+WordShape (tells_of o) = OperandShape o
+
+abbrev pub FormShape : Form → Type 0
+FormShape ends = Unit {0}
+FormShape tells = Option Name
+FormShape (takes o f) = OperandShape o × (FormShape f)
+FormShape (values f) = Expression Name × (FormShape f)
+
+abbrev pub ActionShape : Beginning → Type 0
+ActionShape (action f) = FormShape f
+ActionShape b = ⊥

@@ -1,0 +1,248 @@
+-- The trees of a program over its names: names as they are written, or the numbers that they stand for. What the types of
+-- `src/tree.rt` stand for are trees over numbers.
+use Rattle.std.specs.Prelude.{ℕ, suc, ◌+◌, ◌≤◌, max, List, [], ◌∷◌, map, Option, Some, None, option_map}
+use Rattle.program_tree.specs.EventNames.{CastEvent, SentEvent, AnyEvent, cast_of, sent_of, any_of, cast_map, sent_map, any_map}
+use Rattle.program_tree.specs.declared.tree.Operator.{Operator}
+use Rattle.program_tree.specs.declared.tree.Expr.{Expr, Number, Variable, Word, Sender, Moment, Mote, Is, Fired, Expired, Gone, Running, Count, Not', Binary'}
+use Rattle.program_tree.specs.declared.tree.Action.{Action as ActionRead}
+use Rattle.program_tree.specs.declared.tree.Action.TheVariants as read
+use Rattle.program_tree.specs.declared.tree.Stmt.{Stmt}
+use Rattle.program_tree.specs.declared.tree.Stmt.TheOpen as open_stmt
+use Rattle.program_tree.specs.declared.tree.Stmt.TheOpen.{Stmt-F, Block-F}
+use Rattle.program_tree.specs.declared.tree.Stmt.TheFolds.{fold-Stmt}
+use Rattle.program_tree.specs.declared.tree.Block.{Block}
+
+-- what a name can stand for
+pub data Class : Type 0 where
+  an_event : Class
+  a_semaphore : Class
+  a_process : Class
+  a_variable : Class
+  a_timer : Class
+  a_thread : Class
+
+pub data Expression (Name : Type 0) : Type 0 where
+  number : (value : ℕ) → Expression Name
+  variable : Name → Expression Name
+  -- `data`, `from`, `now` and `self`
+  word : Expression Name
+  sender : Expression Name
+  moment : Expression Name
+  mote : Expression Name
+  -- `is(E)`, `fired(T)`, `expired(T)`, `gone(P)`, `running(P)` and `count(S)`
+  is : AnyEvent Name → Expression Name
+  fired : Name → Expression Name
+  expired : Name → Expression Name
+  gone : Name → Expression Name
+  running : Name → Expression Name
+  count : Name → Expression Name
+  negation : Expression Name → Expression Name
+  binary : Operator → Expression Name → Expression Name → Expression Name
+  deriving IsSet as Expression-set
+
+-- a statement that has no block
+pub data Action (Name : Type 0) : Type 0 where
+  assign : Name → Expression Name → Action Name
+  print : Expression Name → Action Name
+  send : Expression Name → Action Name
+  wait_until : Expression Name → Action Name
+  wait_while : Expression Name → Action Name
+  yield : Action Name
+  yield_until : Expression Name → Action Name
+  spawn : Name → Action Name
+  restart : Action Name
+  exit : Action Name
+  pause : Action Name
+  acquire : Name → Action Name
+  signal : Name → Action Name
+  -- the last of them the variable that is told the answer
+  post : Name → SentEvent Name → Expression Name → Option Name → Action Name
+  broadcast : CastEvent Name → Expression Name → Option Name → Action Name
+  synch : Name → SentEvent Name → Expression Name → Action Name
+  poll : Name → Action Name
+  start : Name → Action Name
+  kill : Name → Action Name
+  set : Name → Expression Name → Action Name
+  reset : Name → Action Name
+  restart_timer : Name → Action Name
+  stop : Name → Action Name
+
+mutual
+  pub data Statement (Name : Type 0) : Type 0 where
+    does : Action Name → Statement Name
+    branch : Expression Name → Body Name → Otherwise Name → Statement Name
+    while : Expression Name → Body Name → Statement Name
+    deriving IsSet as Statement-set
+
+  -- the statements of a block
+  pub data Body (Name : Type 0) : Type 0 where
+    end : Body Name
+    next : Statement Name → Body Name → Body Name
+    deriving IsSet as Body-set
+
+  -- what follows the block of an `if`
+  pub data Otherwise (Name : Type 0) : Type 0 where
+    nothing : Otherwise Name
+    otherwise : Body Name → Otherwise Name
+    deriving IsSet as Otherwise-set
+
+-- the statements of a block as a list, and back
+abbrev pub listed : {N : Type 0} → Body N → List (Statement N)
+listed end = []
+listed (next s b) = s ∷ listed b
+
+abbrev pub body_of : {N : Type 0} → List (Statement N) → Body N
+body_of [] = end
+body_of (s ∷ ss) = next s (body_of ss)
+
+-- how many blocks stand in one another, this one counted
+abbrev mutual
+  pub height : {N : Type 0} → Body N → ℕ
+  height end = 1
+  height (next s b) = max (suc (inner_height s)) (height b)
+
+  pub inner_height : {N : Type 0} → Statement N → ℕ
+  inner_height (does a) = 0
+  inner_height (branch e a o) = max (height a) (other_height o)
+  inner_height (while e a) = height a
+
+  pub other_height : {N : Type 0} → Otherwise N → ℕ
+  other_height nothing = 0
+  other_height (otherwise b) = height b
+
+-- how many statements stand in a block, those of inner blocks counted too
+abbrev mutual
+  pub size : {N : Type 0} → Body N → ℕ
+  size end = 0
+  size (next s b) = suc (inner_size s) + size b
+
+  pub inner_size : {N : Type 0} → Statement N → ℕ
+  inner_size (does a) = 0
+  inner_size (branch e a o) = size a + other_size o
+  inner_size (while e a) = size a
+
+  pub other_size : {N : Type 0} → Otherwise N → ℕ
+  other_size nothing = 0
+  other_size (otherwise b) = size b
+
+-- a block within the limits: at most 32 blocks stand in one another, with at most 4,096 statements
+pub record IsWithinLimits {N : Type 0} (b : Body N) : Type 0 where
+  pub shallow : height b ≤ 32
+  pub small : size b ≤ 4096
+
+-- what the types of `src/tree.rt` stand for
+abbrev pub expression_of : Expr → Expression ℕ
+expression_of (Number n) = number n
+expression_of (Variable i) = variable i
+expression_of Word = word
+expression_of Sender = sender
+expression_of Moment = moment
+expression_of Mote = mote
+expression_of (Is e) = is (any_of e)
+expression_of (Fired t) = fired t
+expression_of (Expired t) = expired t
+expression_of (Gone p) = gone p
+expression_of (Running p) = running p
+expression_of (Count s) = count s
+expression_of (Not' p e) = negation (expression_of e)
+expression_of (Binary' o p a q b) = binary o (expression_of a) (expression_of b)
+
+abbrev pub action_of : ActionRead → Action ℕ
+action_of (read.Assign i e) = assign i (expression_of e)
+action_of (read.Print e) = print (expression_of e)
+action_of (read.Send e) = send (expression_of e)
+action_of (read.WaitUntil e) = wait_until (expression_of e)
+action_of (read.WaitWhile e) = wait_while (expression_of e)
+action_of read.Yield = yield
+action_of (read.YieldUntil e) = yield_until (expression_of e)
+action_of (read.Spawn t) = spawn t
+action_of read.Restart = restart
+action_of read.Exit = exit
+action_of read.Pause = pause
+action_of (read.Acquire s) = acquire s
+action_of (read.Signal s) = signal s
+action_of (read.Post p e w i) = post p (sent_of e) (expression_of w) i
+action_of (read.Broadcast e w i) = broadcast (cast_of e) (expression_of w) i
+action_of (read.Synch p e w) = synch p (sent_of e) (expression_of w)
+action_of (read.Poll p) = poll p
+action_of (read.Start p) = start p
+action_of (read.Kill p) = kill p
+action_of (read.Set t e) = set t (expression_of e)
+action_of (read.Reset t) = reset t
+action_of (read.RestartTimer t) = restart_timer t
+action_of (read.Stop t) = stop t
+
+abbrev pub otherwise_of : {N : Type 0} → Option (Body N) → Otherwise N
+otherwise_of None = nothing
+otherwise_of (Some b) = otherwise b
+
+-- one statement and one block, with what each inner one stands for in its place
+abbrev pub statement_layer : Stmt-F (Statement ℕ) (Body ℕ) → Statement ℕ
+statement_layer (open_stmt.Do a) = does (action_of a)
+statement_layer (open_stmt.If e a b) = branch (expression_of e) a (otherwise_of b)
+statement_layer (open_stmt.While e a) = while (expression_of e) a
+
+abbrev pub block_layer : Block-F (Statement ℕ) (Body ℕ) → Body ℕ
+block_layer b = body_of b.statements.items
+
+abbrev pub statement_of : Stmt → Statement ℕ
+statement_of = fold-Stmt (Statement ℕ) (Body ℕ) statement_layer block_layer
+
+abbrev pub block_of : Block → Body ℕ
+block_of b = body_of (map statement_of b.statements.items)
+
+-- the same tree with each name changed, by what it stands for
+abbrev pub expression_map : {A B : Type 0} → (Class → A → B) → Expression A → Expression B
+expression_map f (number n) = number n
+expression_map f (variable x) = variable (f a_variable x)
+expression_map f word = word
+expression_map f sender = sender
+expression_map f moment = moment
+expression_map f mote = mote
+expression_map f (is e) = is (any_map (f an_event) e)
+expression_map f (fired t) = fired (f a_timer t)
+expression_map f (expired t) = expired (f a_timer t)
+expression_map f (gone p) = gone (f a_process p)
+expression_map f (running p) = running (f a_process p)
+expression_map f (count s) = count (f a_semaphore s)
+expression_map f (negation e) = negation (expression_map f e)
+expression_map f (binary o a b) = binary o (expression_map f a) (expression_map f b)
+
+abbrev pub action_map : {A B : Type 0} → (Class → A → B) → Action A → Action B
+action_map f (assign x e) = assign (f a_variable x) (expression_map f e)
+action_map f (print e) = print (expression_map f e)
+action_map f (send e) = send (expression_map f e)
+action_map f (wait_until e) = wait_until (expression_map f e)
+action_map f (wait_while e) = wait_while (expression_map f e)
+action_map f yield = yield
+action_map f (yield_until e) = yield_until (expression_map f e)
+action_map f (spawn t) = spawn (f a_thread t)
+action_map f restart = restart
+action_map f exit = exit
+action_map f pause = pause
+action_map f (acquire s) = acquire (f a_semaphore s)
+action_map f (signal s) = signal (f a_semaphore s)
+action_map f (post p e w i) = post (f a_process p) (sent_map (f an_event) e) (expression_map f w) (option_map (f a_variable) i)
+action_map f (broadcast e w i) = broadcast (cast_map (f an_event) e) (expression_map f w) (option_map (f a_variable) i)
+action_map f (synch p e w) = synch (f a_process p) (sent_map (f an_event) e) (expression_map f w)
+action_map f (poll p) = poll (f a_process p)
+action_map f (start p) = start (f a_process p)
+action_map f (kill p) = kill (f a_process p)
+action_map f (set t e) = set (f a_timer t) (expression_map f e)
+action_map f (reset t) = reset (f a_timer t)
+action_map f (restart_timer t) = restart_timer (f a_timer t)
+action_map f (stop t) = stop (f a_timer t)
+
+abbrev mutual
+  pub statement_map : {A B : Type 0} → (Class → A → B) → Statement A → Statement B
+  statement_map f (does a) = does (action_map f a)
+  statement_map f (branch e a o) = branch (expression_map f e) (body_map f a) (otherwise_map f o)
+  statement_map f (while e a) = while (expression_map f e) (body_map f a)
+
+  pub body_map : {A B : Type 0} → (Class → A → B) → Body A → Body B
+  body_map f end = end
+  body_map f (next s b) = next (statement_map f s) (body_map f b)
+
+  pub otherwise_map : {A B : Type 0} → (Class → A → B) → Otherwise A → Otherwise B
+  otherwise_map f nothing = nothing
+  otherwise_map f (otherwise b) = otherwise (body_map f b)

@@ -1,0 +1,12 @@
+//! The classes of names.
+
+/// What a name can stand for.
+#[derive(Clone, Copy, Debug, PartialEq, Eq)]
+pub enum Class {
+    Event,
+    Semaphore,
+    Process,
+    Variable,
+    Timer,
+    Thread,
+}

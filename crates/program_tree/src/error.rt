@@ -1,0 +1,74 @@
+//! Why a text is no program.
+ghost use Rattle.std.specs.Prelude.{◌≡◌};
+ghost use Rattle.program_tree.specs.declared.error.ReadErrorKind.TheVariants.{Memory};
+
+use std::alloc::{AllocError, AllocFailed};
+
+/// The kinds of faults of a text, with the numbers that are printed.
+#[derive(Clone, Copy, Debug, PartialEq, Eq)]
+pub enum ReadErrorKind {
+    /// What stands there is no token.
+    BadToken = 1,
+    /// With this token no program goes on from those before it, whatever its names and numbers.
+    Unexpected = 2,
+    /// A name that nothing declared so far has.
+    UnknownName = 3,
+    /// A name that is declared already, or that `autostart` lists already.
+    NameTwice = 4,
+    /// A number above 65,535.
+    NumberTooLarge = 5,
+    /// A statement that waits, in `onpoll`, `onexit` or the block of a callback timer.
+    WaitInSimpleBlock = 6,
+    /// A brace, `!` or `(` that opens the 33rd level.
+    TooDeep = 7,
+    /// The 65th process, semaphore or timer, the 118th event, the 65th variable or 8th thread of a process, or the first token of
+    /// the 4,097th statement.
+    TooMany = 8,
+    /// The text ends where `process` should stand.
+    NoProcess = 9,
+    /// A name of another class than the place takes, as a process's in the place of a variable, or the spawning of the very thread that stands there.
+    BadTarget = 10,
+    /// A growth was refused; the line is 0.
+    Memory = 11,
+}
+
+impl ReadErrorKind {
+    ghost use Rattle.program_tree.specs.Kinds.{kind_number};
+
+    /// The number that is printed.
+    pub fn number(self) -> u8
+        ensures { result ≡ kind_number self }
+    {
+        self as u8
+    }
+}
+
+/// Why a text is no program, and the line of the token at which it isn't one. The first line is 1; want of memory
+/// has line 0.
+#[derive(Clone, Copy, Debug, PartialEq, Eq)]
+pub struct ReadError {
+    pub kind: ReadErrorKind,
+    pub line: usize,
+}
+
+impl From<AllocError> for ReadError {
+    ghost from_gives = { λ _ e. e ≡ record { kind = Memory; line = 0 } };
+
+    fn from(_error: AllocError) -> Self {
+        ReadError {
+            kind: ReadErrorKind::Memory,
+            line: 0,
+        }
+    }
+}
+
+impl<T: Drop> From<AllocFailed<T>> for ReadError {
+    ghost from_gives = { λ _ e. e ≡ record { kind = Memory; line = 0 } };
+
+    fn from(_error: AllocFailed<T>) -> Self {
+        ReadError {
+            kind: ReadErrorKind::Memory,
+            line: 0,
+        }
+    }
+}

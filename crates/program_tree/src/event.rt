@@ -1,0 +1,71 @@
+//! Processes, targets and events, as the calls of the kernel name them.
+ghost use Rattle.std.specs.Prelude.{◌≡◌};
+
+/// A process of a mote: one of the program's own, numbered in the order of its `process` line, or one of the
+/// three system processes that each mote starts first.
+#[derive(Clone, Copy, Debug, PartialEq, Eq)]
+pub enum Proc {
+    Own(u8),
+    Etimer,
+    Ctimer,
+    Radio,
+}
+
+/// Whom an event is posted to: one process, or all on the process list (`PROCESS_BROADCAST` of `process.h`).
+#[derive(Clone, Copy, Debug, PartialEq, Eq)]
+pub enum Target {
+    One(Proc),
+    All,
+}
+
+/// An event as a process is called with it: its number (`process_event_t`), its word of 16 bits, and the mote that
+/// sent it, which is 0 but for a packet from the radio.
+#[derive(Clone, Copy, Debug, PartialEq, Eq)]
+pub struct Event {
+    pub number: u8,
+    pub word: u16,
+    pub sender: u16,
+}
+
+/// An event that every kernel knows, with its number: those of `process.h` (`PROCESS_EVENT_INIT` is 0x81), and the
+/// packet that the radio hands over.
+#[derive(Clone, Copy, Debug, PartialEq, Eq)]
+pub enum SystemEvent {
+    Init = 0x81,
+    Poll = 0x82,
+    Exit = 0x83,
+    Continue = 0x85,
+    Msg = 0x86,
+    Exited = 0x87,
+    Timer = 0x88,
+    Com = 0x89,
+    Packet = 0x8a,
+}
+
+impl SystemEvent {
+    ghost use Rattle.program_tree.specs.Events.{system_number, system_word};
+
+    /// The number of the event.
+    pub fn number(self) -> u8
+        ensures { result ≡ system_number self }
+    {
+        self as u8
+    }
+
+    /// The word for it in programs and reports.
+    pub fn word(self) -> &'static str
+        ensures { result.now ≡ system_word self }
+    {
+        match self {
+            SystemEvent::Init => "init",
+            SystemEvent::Poll => "poll",
+            SystemEvent::Exit => "exit",
+            SystemEvent::Continue => "continue",
+            SystemEvent::Msg => "msg",
+            SystemEvent::Exited => "exited",
+            SystemEvent::Timer => "timer",
+            SystemEvent::Com => "com",
+            SystemEvent::Packet => "packet",
+        }
+    }
+}

@@ -1,0 +1,89 @@
+//! Events as programs name them. Which of them may stand where is what their types say.
+ghost use Rattle.std.specs.Prelude.{◌≡◌, ◌<◌};
+
+use crate::event::SystemEvent;
+
+/// The number of a program's first declared event; the others follow in the order of their declaration.
+pub const FIRST_DECLARED: u8 = 0x8b;
+
+/// An event that a program declares, numbered from 0 in the order of declaration. A program declares at most 117.
+#[derive(Clone, Copy, Debug, PartialEq, Eq)]
+pub struct DeclaredEvent {
+    pub place: u8,
+    ghost few: { place < 117 },
+}
+
+/// An event that may be broadcast.
+#[derive(Clone, Copy, Debug, PartialEq, Eq)]
+pub enum CastEvent {
+    Continue,
+    Msg,
+    Com,
+    Packet,
+    Declared(DeclaredEvent),
+}
+
+impl CastEvent {
+    ghost use Rattle.program_tree.specs.EventNames.{cast_of, cast_number};
+
+    /// The number of the event.
+    pub fn number(self) -> u8
+        ensures { result ≡ cast_number (cast_of self) }
+    {
+        match self {
+            CastEvent::Continue => SystemEvent::Continue.number(),
+            CastEvent::Msg => SystemEvent::Msg.number(),
+            CastEvent::Com => SystemEvent::Com.number(),
+            CastEvent::Packet => SystemEvent::Packet.number(),
+            CastEvent::Declared(event) => FIRST_DECLARED + event.place,
+        }
+    }
+}
+
+/// An event that may be posted to one process, or given to it at once.
+#[derive(Clone, Copy, Debug, PartialEq, Eq)]
+pub enum SentEvent {
+    Cast(CastEvent),
+    Exit,
+}
+
+impl SentEvent {
+    ghost use Rattle.program_tree.specs.EventNames.{sent_of, sent_number};
+
+    /// The number of the event.
+    pub fn number(self) -> u8
+        ensures { result ≡ sent_number (sent_of self) }
+    {
+        match self {
+            SentEvent::Cast(event) => event.number(),
+            SentEvent::Exit => SystemEvent::Exit.number(),
+        }
+    }
+}
+
+/// An event that a program may ask for.
+#[derive(Clone, Copy, Debug, PartialEq, Eq)]
+pub enum AnyEvent {
+    Sent(SentEvent),
+    Init,
+    Poll,
+    Exited,
+    Timer,
+}
+
+impl AnyEvent {
+    ghost use Rattle.program_tree.specs.EventNames.{any_of, any_number};
+
+    /// The number of the event.
+    pub fn number(self) -> u8
+        ensures { result ≡ any_number (any_of self) }
+    {
+        match self {
+            AnyEvent::Sent(event) => event.number(),
+            AnyEvent::Init => SystemEvent::Init.number(),
+            AnyEvent::Poll => SystemEvent::Poll.number(),
+            AnyEvent::Exited => SystemEvent::Exited.number(),
+            AnyEvent::Timer => SystemEvent::Timer.number(),
+        }
+    }
+}

@@ -1,0 +1,26 @@
+//! What a program of motes is: the trees of texts, the names that they share with the kernel, and the words of the notation.
+#![tactic(auto)]
+
+pub mod class;
+pub mod error;
+pub mod event;
+pub mod event_name;
+pub mod keyword;
+pub mod names;
+pub mod process_text;
+pub mod program;
+pub mod timer;
+pub mod token;
+pub mod tree;
+
+pub use class::Class;
+pub use error::{ReadError, ReadErrorKind};
+pub use event::{Event, Proc, SystemEvent, Target};
+pub use event_name::{AnyEvent, CastEvent, DeclaredEvent, SentEvent};
+pub use keyword::Keyword;
+pub use names::Names;
+pub use process_text::ProcessText;
+pub use program::Program;
+pub use timer::Timer;
+pub use token::Token;
+pub use tree::{Action, Block, Expr, Operator, Stmt};

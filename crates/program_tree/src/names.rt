@@ -1,0 +1,78 @@
+//! Names in the order of their declaration.
+ghost use Rattle.std.specs.Prelude.{◌≡◌, ◌==◌, ◌<◌, ◌≤◌, ◌++◌, [], ◌∷◌, List, length, None, OnOk, OnErr, IfSome, slice_index_or, map, string_bytes};
+ghost use Rattle.program_tree.specs.Names.{place_of};
+
+use indexmap::IndexSet;
+use std::alloc::{AllocError, Global};
+use std::marker::Model;
+
+/// Names, each once, numbered from 0 in the order in which they were declared.
+#[derive(Debug)]
+pub struct Names {
+    set: IndexSet<String>,
+}
+
+/// By hand, so that names are dropped by one call: the check of a function that owns some of them sees no more of it.
+impl Drop for Names {
+    fn drop(self) {
+        let Names { set: _ } = self;
+    }
+}
+
+impl Model for Names {
+    ghost use Rattle.std.specs.Prelude.{List, ℕ, map, string_bytes};
+
+    ghost Value = { List (List ℕ) };
+
+    ghost view = { λ n. map string_bytes n.set.keys };
+}
+
+impl Names {
+    pub fn new(alloc: Global) -> Names
+        ensures { result ≡ [] }
+    {
+        Names {
+            set: IndexSet::new(alloc),
+        }
+    }
+
+    /// How many names there are.
+    pub fn len(&self) -> usize
+        ensures { result ≡ length self.now }
+    {
+        self.set.len()
+    }
+
+    pub fn is_empty(&self) -> bool
+        ensures { result ≡ (length self.now == 0) }
+    {
+        self.set.is_empty()
+    }
+
+    /// The number of a name, where it was declared.
+    pub fn place_of(&self, name: &str) -> Option<usize>
+        ensures place { result ≡ place_of self.now name.now }
+        ensures within { IfSome result (λ i. i < length self.now) }
+    {
+        self.set.get_index_of(name)
+    }
+
+    /// The name with a number.
+    pub fn get(&self, place: usize) -> &str
+        requires { place < length self.now }
+        ensures { result.now ≡ slice_index_or self.now place [] }
+    {
+        self.set.get_index(place).unwrap().as_str()
+    }
+
+    /// Declares a name that wasn't declared yet.
+    pub fn add(&mut self, alloc: Global, name: &str) -> Result<(), AllocError>
+        requires { place_of self.old name.now ≡ None }
+        ensures ok { OnOk result (self.new ≡ self.old ++ name.now ∷ []) }
+        ensures err { OnErr result (self.new ≡ self.old) }
+    {
+        let name = String::from_str(alloc, name)?;
+        self.set.insert(name)?;
+        Ok(())
+    }
+}

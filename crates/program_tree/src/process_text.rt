@@ -1,0 +1,119 @@
+//! The text of each process of a program.
+//!
+//! The crates that read and print programs see its fields. Its ghost fields hold of each value.
+ghost use Rattle.std.specs.Prelude.{◌≡◌, ◌+◌, ◌≤◌, length, map, slice_get, IsTrue, IfSome, option_map};
+ghost use Rattle.std.specs.Option.{ForSome};
+ghost use Rattle.std.specs.List.{All};
+ghost use Rattle.program_tree.specs.Scope.{threads_fit, earlier_threads};
+ghost use Rattle.program_tree.specs.Tree.{block_of, IsWithinLimits};
+
+use crate::names::Names;
+use crate::tree::Block;
+
+/// What a process runs: its variables with their first values, its timers, its threads, and its blocks.
+#[derive(Debug, Drop)]
+pub struct ProcessText {
+    pub number: u8,
+    pub variables: Names,
+    pub starts: Vec<u16>,
+    pub first_timer: u8,
+    pub etimers: Names,
+    pub ctimers: Names,
+    pub callbacks: Vec<Block>,
+    pub threads: Names,
+    pub thread_blocks: Vec<Block>,
+    pub on_poll: Option<Block>,
+    pub on_exit: Option<Block>,
+    pub body: Block,
+    ghost few_variables: { length variables ≤ 64 },
+    ghost paired: { length starts.items ≡ length variables },
+    ghost few_timers: { first_timer + length etimers + length ctimers ≤ 64 },
+    ghost each_callback: { length callbacks.items ≡ length ctimers },
+    ghost few_threads: { length threads ≤ 7 },
+    ghost each_thread: { length thread_blocks.items ≡ length threads },
+    ghost body_within: { IsWithinLimits (block_of body) },
+    ghost callbacks_within: { All (λ b. IsWithinLimits (block_of b)) callbacks.items },
+    ghost threads_within: { All (λ b. IsWithinLimits (block_of b)) thread_blocks.items },
+    ghost on_poll_within: { ForSome on_poll (λ b. IsWithinLimits (block_of b)) },
+    ghost on_exit_within: { ForSome on_exit (λ b. IsWithinLimits (block_of b)) },
+    ghost spawns_earlier: { IsTrue (threads_fit earlier_threads 0 (map block_of thread_blocks.items)) },
+}
+
+impl ProcessText {
+    ghost use Rattle.program_tree.specs.Code.{callback_at};
+    ghost use Rattle.program_tree.specs.ProcessText.{code_of};
+
+    /// The number of the process.
+    pub fn number(&self) -> u8
+        ensures { result ≡ (code_of self.now).number }
+    {
+        self.number
+    }
+
+    /// The names of the variables, in the order of their declaration.
+    pub fn variables(&self) -> &Names
+        ensures { result.now ≡ (code_of self.now).variables }
+    {
+        &self.variables
+    }
+
+    /// The first values of the variables, in the same order.
+    pub fn starts(&self) -> &[u16]
+        ensures value { result.now ≡ (code_of self.now).starts }
+        ensures paired { length result.now ≡ length (code_of self.now).variables }
+        ensures few { length result.now ≤ 64 }
+    {
+        &self.starts
+    }
+
+    /// The statements of the body. Its blocks stand at most 32 deep in one another, as in each block of a process.
+    pub fn body(&self) -> &Block
+        ensures value { block_of result.now ≡ (code_of self.now).body }
+        ensures within { IsWithinLimits (block_of result.now) }
+    {
+        &self.body
+    }
+
+    /// What runs before the body at POLL, where the process has it.
+    pub fn on_poll(&self) -> Option<&Block>
+        ensures value { option_map (λ b. block_of b.now) result ≡ (code_of self.now).on_poll }
+        ensures within { IfSome result (λ b. IsWithinLimits (block_of b.now)) }
+    {
+        self.on_poll.as_ref()
+    }
+
+    /// What runs before the body at EXIT, where the process has it.
+    pub fn on_exit(&self) -> Option<&Block>
+        ensures value { option_map (λ b. block_of b.now) result ≡ (code_of self.now).on_exit }
+        ensures within { IfSome result (λ b. IsWithinLimits (block_of b.now)) }
+    {
+        self.on_exit.as_ref()
+    }
+
+    /// How many threads there are. A process has at most 7, and each spawns only threads before itself.
+    pub fn threads(&self) -> u8
+        ensures value { result ≡ length (code_of self.now).thread_bodies }
+        ensures few { result ≤ 7 }
+        ensures within { All (λ b. IsWithinLimits b) (code_of self.now).thread_bodies }
+        ensures earlier { IsTrue (threads_fit earlier_threads 0 (code_of self.now).thread_bodies) }
+    {
+        self.thread_blocks.len() as u8
+    }
+
+    /// The block of a thread, by its number, where there is such a thread.
+    pub fn thread(&self, number: u8) -> Option<&Block>
+        ensures value { option_map (λ b. block_of b.now) result ≡ slice_get (code_of self.now).thread_bodies number }
+        ensures within { IfSome result (λ b. IsWithinLimits (block_of b.now)) }
+    {
+        self.thread_blocks.get(usize::from(number))
+    }
+
+    /// The block of a callback timer, by its number in the program, where it is one of this process.
+    pub fn callback(&self, timer: u8) -> Option<&Block>
+        ensures value { option_map (λ b. block_of b.now) result ≡ callback_at (code_of self.now) timer }
+        ensures within { IfSome result (λ b. IsWithinLimits (block_of b.now)) }
+    {
+        let before = usize::from(self.first_timer) + self.etimers.len();
+        self.callbacks.get(usize::from(timer).checked_sub(before)?)
+    }
+}

@@ -1,0 +1,23 @@
+//! The tokens of a text.
+
+use crate::keyword::Keyword;
+use crate::tree::Operator;
+
+/// A token.
+#[derive(Clone, Copy, Debug)]
+pub enum Token<'a> {
+    Keyword(Keyword),
+    Semicolon,
+    Comma,
+    Equals,
+    Bang,
+    Open,
+    Close,
+    OpenBrace,
+    CloseBrace,
+    Op(Operator),
+    Name(&'a str),
+    /// A number, of which all above 65,535 are 65,536.
+    Number(u32),
+    Bad,
+}

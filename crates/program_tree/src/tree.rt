@@ -1,0 +1,118 @@
+//! The trees of a program: its expressions, statements and blocks, with each name resolved to its number.
+ghost use Rattle.std.specs.Prelude.{◌≡◌, map};
+ghost use Rattle.program_tree.specs.Tree.{statement_of, block_of, listed};
+
+use crate::event_name::{AnyEvent, CastEvent, SentEvent};
+
+/// An operator of two values of 16 bits.
+#[derive(Clone, Copy, Debug, PartialEq, Eq)]
+pub enum Operator {
+    Add,
+    Subtract,
+    Multiply,
+    Divide,
+    Remainder,
+    Equal,
+    Unequal,
+    Less,
+    AtMost,
+    Greater,
+    AtLeast,
+    And,
+    Or,
+}
+
+/// An expression. Variables have the numbers of their declarations in the process, processes and semaphores those of their
+/// declarations in the program, and timers of both kinds are numbered together through the program.
+#[derive(Debug, Drop)]
+pub enum Expr {
+    Number(u16),
+    Variable(u8),
+    /// The word of the event.
+    Word,
+    /// The mote that sent the event.
+    Sender,
+    /// The moment.
+    Moment,
+    /// The number of the mote itself.
+    Mote,
+    /// Whether the event is this one.
+    Is(AnyEvent),
+    /// Whether the event is TIMER of this timer.
+    Fired(u8),
+    /// Whether nobody owns the timer.
+    Expired(u8),
+    /// Whether the event is EXITED of this process.
+    Gone(u8),
+    /// Whether the process is running or called.
+    Running(u8),
+    /// The count of a semaphore.
+    Count(u8),
+    Not(Box<Expr>),
+    Binary(Operator, Box<Expr>, Box<Expr>),
+}
+
+/// A statement that has no block.
+#[derive(Debug, Drop)]
+pub enum Action {
+    /// A variable gets a value.
+    Assign(u8, Expr),
+    Print(Expr),
+    Send(Expr),
+    WaitUntil(Expr),
+    WaitWhile(Expr),
+    Yield,
+    YieldUntil(Expr),
+    /// Runs a thread of the same process, declared earlier.
+    Spawn(u8),
+    Restart,
+    Exit,
+    Pause,
+    Acquire(u8),
+    Signal(u8),
+    /// Posts an event with this word to a process; the variable, if any, is told the answer.
+    Post(u8, SentEvent, Expr, Option<u8>),
+    Broadcast(CastEvent, Expr, Option<u8>),
+    Synch(u8, SentEvent, Expr),
+    Poll(u8),
+    Start(u8),
+    Kill(u8),
+    /// Sets a timer to this interval.
+    Set(u8, Expr),
+    Reset(u8),
+    RestartTimer(u8),
+    Stop(u8),
+}
+
+/// A statement.
+#[derive(Debug, Drop)]
+#[cycle(statement)]
+pub enum Stmt {
+    Do(Action),
+    If(Expr, Block, Option<Block>),
+    While(Expr, Block),
+}
+
+/// The statements between two braces.
+#[derive(Debug, Drop)]
+#[cycle(statement)]
+pub struct Block {
+    pub statements: Vec<Stmt>,
+}
+
+impl Block {
+    #[tactic(auto, using(crate::proofs::TreeLaws::listed_block))]
+    pub fn new(statements: Vec<Stmt>) -> Block
+        ensures { listed (block_of result) ≡ map statement_of statements.items }
+    {
+        Block { statements }
+    }
+
+    /// The statements, in order.
+    #[tactic(auto, using(crate::proofs::TreeLaws::listed_block))]
+    pub fn statements(&self) -> &[Stmt]
+        ensures { map statement_of result.now ≡ listed (block_of self.now) }
+    {
+        &self.statements
+    }
+}

@@ -1,0 +1,26 @@
+-- What one step of the lexer finds at the front of a text.
+use Rattle.std.specs.Prelude.{◌≡◌, ◌<◌, ℕ, ◌++◌, List, length, drop, slice_index, false, Option}
+use Rattle.std.specs.Borrow.{Bor}
+use Rattle.program_tree.specs.declared.token.Token.{Token as TokenRead}
+use Rattle.program_tree.specs.Tokens.{Token, token_of}
+use Rattle.program_tree.specs.Words.{is_word_byte}
+use Rattle.program_tree.specs.Text.{Piece, bytes_of, token_at, FitsBefore, is_blank, begins_comment}
+
+-- a text of a table, and the token beside it
+abbrev pub entry_of : Bor (List ℕ) × TokenRead → List ℕ × Token
+entry_of entry = (entry.0.now, token_of entry.1)
+
+-- the text begins with a piece of so many bytes that fits before the rest, and this is its token
+pub record BeginsWith (text : List ℕ) (token : Option Token) (len : ℕ) : Type 0 where
+  pub piece : Piece
+  pub split : text ≡ bytes_of piece ++ drop len text
+  pub len_is : length (bytes_of piece) ≡ len
+  pub fits : FitsBefore (drop len text) piece
+  pub is : token ≡ token_at piece
+
+-- no blank, word or comment begins the text
+pub record BeginsOther (text : List ℕ) : Type 0 where
+  pub some : 0 < length text
+  pub no_blank : is_blank (slice_index text 0) ≡ false
+  pub no_word : is_word_byte (slice_index text 0) ≡ false
+  pub no_comment : begins_comment text ≡ false

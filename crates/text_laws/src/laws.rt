@@ -1,0 +1,20 @@
+//! Laws of the notation, each as the contract of a function that does nothing.
+ghost use Rattle.std.specs.Prelude.{◌≡◌, ℕ, List};
+ghost use Rattle.program_tree.specs.Code.{Tree};
+ghost use Rattle.program_tree.specs.Reading.{IsTreeOf, IsToldOf, HasTreeOrFault};
+ghost use Rattle.program_tree.specs.declared.error.ReadErrorKind.{ReadErrorKind};
+
+/// A text has at most one tree.
+pub fn at_most_one_tree()
+    ensures { (text : List ℕ) (t u : Tree) → IsTreeOf text t → IsTreeOf text u → t ≡ u }
+{}
+
+/// Each text has a tree or a told fault, and none has both.
+pub fn tree_or_fault()
+    ensures { (text : List ℕ) → HasTreeOrFault text }
+{}
+
+/// At most one fault of a text is told.
+pub fn at_most_one_fault()
+    ensures { (text : List ℕ) (j k : ReadErrorKind) (l m : ℕ) → IsToldOf text j l → IsToldOf text k m → (j ≡ k) × (l ≡ m) }
+{}
