@@ -1,7 +1,7 @@
 -- A drain of all that is known.
 use Rattle.std.proofs.Common.{◌≡◌, List, ◌++◌, Some, Result, Ok, Err, IfOk, OnOk, Vec, refl, sym, ap, ◌∙◌, subst, append_assoc}
 use Rattle.std.specs.declared.alloc.Global.{Global}
-use Rattle.radio_medium.specs.declared.copy.RadioCopy.{RadioCopy}
+use Rattle.radio_packet.specs.declared.copy.RadioCopy.{RadioCopy}
 use Rattle.copy_inbox.specs.declared.inbox.InboxError.{InboxError}
 use Rattle.copy_inbox.specs.declared.items.InboxItem.{InboxItem}
 use Rattle.copy_inbox.specs.declared.rule.Desk.{Desk}

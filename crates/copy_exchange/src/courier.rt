@@ -5,7 +5,7 @@ ghost use Rattle.std.specs.List.{AllByRecursion as Each};
 ghost use Rattle.copy_exchange.specs.Couriers.{IsCourier, Collects, Delivers, Leaves};
 
 use copy_inbox::{Inbox, InboxError, Sender, Taker};
-use radio_medium::RadioCopy;
+use radio_packet::RadioCopy;
 use std::sync::Wait;
 
 /// Takes and delivers copies for one worker while its thread runs through a window: it has the worker's taker, and a

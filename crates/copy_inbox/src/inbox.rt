@@ -12,7 +12,7 @@ use crate::count::Count;
 use crate::items::{Carried, InboxItem};
 use crate::rule::{Gathers, Makes, Pushes, Ruled, Takes, View};
 use crossbeam_queue::{RuledSegQueue, SegPass};
-use radio_medium::RadioCopy;
+use radio_packet::RadioCopy;
 use std::alloc::{AllocError, Global};
 use std::error::Error;
 use std::fmt;

@@ -3,7 +3,7 @@
 ghost use Rattle.std.specs.Prelude.{◌≡◌};
 ghost use Rattle.copy_inbox.specs.Items.{carried_copy};
 
-use radio_medium::RadioCopy;
+use radio_packet::RadioCopy;
 
 /// What one push brings.
 #[derive(Clone, Copy, Debug, PartialEq, Eq)]

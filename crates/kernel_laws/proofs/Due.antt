@@ -11,7 +11,7 @@ use Rattle.program_tree.specs.declared.event.SystemEvent.TheVariants.{Poll, Time
 use Rattle.program_tree.specs.Events.{system_number}
 use Rattle.mote_timers.specs.TimerLists.{new_timers}
 use Rattle.process_kernel.specs.declared.line.Line.{Line}
-use Rattle.process_kernel.specs.declared.line.Sent.{Sent}
+use Rattle.radio_packet.specs.declared.sent.Sent.{Sent}
 use Rattle.process_kernel.specs.declared.kernel.Ran.TheVariants as ran
 use Rattle.process_kernel.specs.declared.runs.TheConstants.{UNITS}
 use Rattle.process_kernel.specs.State.{State, Outcome, Ends, Goes, ◌>>=◌}

@@ -5,9 +5,9 @@ use Rattle.program_tree.specs.declared.event.Proc.TheVariants.{Radio}
 use Rattle.program_tree.specs.declared.event.SystemEvent.TheVariants.{Poll, Exit}
 use Rattle.protothread.specs.declared.state.PtState.TheVariants.{Yielded}
 use Rattle.process_kernel.specs.declared.process.ProcessState.TheVariants.{Called}
-use Rattle.process_kernel.specs.declared.line.Arrival.{Arrival}
+use Rattle.radio_packet.specs.declared.arrival.Arrival.{Arrival}
 use Rattle.process_kernel.specs.declared.line.Line.{Line}
-use Rattle.process_kernel.specs.declared.line.Sent.{Sent}
+use Rattle.radio_packet.specs.declared.sent.Sent.{Sent}
 use Rattle.process_kernel.specs.declared.kernel.Ran.TheVariants as ran
 use Rattle.process_kernel.specs.declared.runs.TheConstants.{UNITS}
 use Rattle.process_kernel.specs.State.{State, Outcome, Went, Ends, Goes, ◌>>=◌}

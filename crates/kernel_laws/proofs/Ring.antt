@@ -5,9 +5,9 @@ use Rattle.program_tree.specs.declared.event.Proc.TheVariants.{Own, Etimer, Ctim
 use Rattle.program_tree.specs.declared.event.Target.{Target}
 use Rattle.program_tree.specs.declared.event.Event.{Event}
 use Rattle.mote_timers.specs.TimerLists.{TimerLists}
-use Rattle.process_kernel.specs.declared.line.Arrival.{Arrival}
+use Rattle.radio_packet.specs.declared.arrival.Arrival.{Arrival}
 use Rattle.process_kernel.specs.declared.line.Line.{Line}
-use Rattle.process_kernel.specs.declared.line.Sent.{Sent}
+use Rattle.radio_packet.specs.declared.sent.Sent.{Sent}
 use Rattle.process_kernel.specs.declared.line.What.{What}
 use Rattle.process_kernel.specs.declared.line.What.TheVariants as what
 use Rattle.process_kernel.specs.declared.runs.TheConstants.{UNITS}

@@ -10,7 +10,7 @@ use Rattle.process_kernel.specs.Mote.{Mote}
 use Rattle.process_kernel.specs.declared.kernel.Ran.TheVariants as ran
 use Rattle.process_kernel.specs.Public.{given, begun, unless_halted, boot_given, run_given}
 use Rattle.process_kernel.specs.declared.line.Line.{Line}
-use Rattle.process_kernel.specs.declared.line.Sent.{Sent}
+use Rattle.radio_packet.specs.declared.sent.Sent.{Sent}
 use Rattle.kernel_laws.specs.Stamps.{state_after, GivesStamped}
 use Rattle.kernel_laws.specs.Laws.{CallsStamp, BootStamps, RunStamps}
 use Rattle.kernel_laws.proofs.EachStep.{Whoever, AreLed, calls_led, kernel_led, boot_led}

@@ -8,9 +8,9 @@ use Rattle.program_tree.specs.Code.{Code, Tree}
 use Rattle.protothread.specs.Remainder.{Remainder}
 use Rattle.protothread.specs.Reading.{Sight, Happening, Completion}
 use Rattle.protothread.specs.Runs.{Runs}
-use Rattle.process_kernel.specs.declared.line.Arrival.{Arrival}
+use Rattle.radio_packet.specs.declared.arrival.Arrival.{Arrival}
 use Rattle.process_kernel.specs.declared.line.Line.{Line}
-use Rattle.process_kernel.specs.declared.line.Sent.{Sent}
+use Rattle.radio_packet.specs.declared.sent.Sent.{Sent}
 use Rattle.process_kernel.specs.declared.process.ProcessState.{ProcessState}
 use Rattle.process_kernel.specs.declared.process.ProcessState.TheVariants.{Off, Running}
 use Rattle.process_kernel.specs.Members.{place_of}

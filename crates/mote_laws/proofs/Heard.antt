@@ -5,7 +5,7 @@ use Rattle.std.proofs.lemmas.List.Elements.{All-head, All-tail}
 use Rattle.program_tree.specs.declared.event.Proc.TheVariants.{Radio}
 use Rattle.process_kernel.specs.declared.kernel.Ran.{Ran}
 use Rattle.process_kernel.specs.declared.kernel.Ran.TheVariants as ran
-use Rattle.process_kernel.specs.declared.line.Arrival.{Arrival}
+use Rattle.radio_packet.specs.declared.arrival.Arrival.{Arrival}
 use Rattle.process_kernel.specs.declared.line.Line.{Line}
 use Rattle.process_kernel.specs.declared.line.What.{What}
 use Rattle.process_kernel.specs.declared.line.What.TheVariants as what

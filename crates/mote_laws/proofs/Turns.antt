@@ -4,7 +4,7 @@ use Rattle.program_tree.specs.declared.event.Proc.TheVariants.{Etimer, Radio}
 use Rattle.mote_timers.specs.TimerLists.{next_expiration_of}
 use Rattle.process_kernel.specs.declared.kernel.Ran.{Ran}
 use Rattle.process_kernel.specs.declared.kernel.Ran.TheVariants as ran
-use Rattle.process_kernel.specs.declared.line.Arrival.{Arrival}
+use Rattle.radio_packet.specs.declared.arrival.Arrival.{Arrival}
 use Rattle.process_kernel.specs.declared.line.Line.{Line}
 use Rattle.process_kernel.specs.Mote.{has_room, with_packet, with_poll}
 use Rattle.process_kernel.specs.Public.{Given, boot_given, run_given}

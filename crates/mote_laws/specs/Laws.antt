@@ -1,7 +1,7 @@
 -- The laws of a mote's lines, turn by turn.
 use Rattle.std.specs.Prelude.{ℕ, Bool, List, [], ◌++◌}
 use Rattle.program_tree.specs.Code.{Tree}
-use Rattle.process_kernel.specs.declared.line.Arrival.{Arrival}
+use Rattle.radio_packet.specs.declared.arrival.Arrival.{Arrival}
 use Rattle.process_kernel.specs.declared.line.Line.{Line}
 use Rattle.kernel_laws.specs.Going.{GoesWith, IsInOrder}
 use Rattle.mote_node.specs.Node.{Node, new_node}

@@ -1,7 +1,7 @@
 -- The packets that arrive at a turn.
 use Rattle.std.specs.Prelude.{ℕ, nat_lt, nat_le, Bool, not, ◌&&◌, List, [], ◌∷◌, length, map, if◌then◌else◌}
 use Rattle.program_tree.specs.declared.event.Proc.TheVariants.{Radio}
-use Rattle.process_kernel.specs.declared.line.Arrival.{Arrival}
+use Rattle.radio_packet.specs.declared.arrival.Arrival.{Arrival}
 use Rattle.process_kernel.specs.declared.line.Line.{Line}
 use Rattle.process_kernel.specs.declared.line.What.TheVariants as what
 use Rattle.process_kernel.specs.Mote.{Mote, has_room, with_packet, with_poll}

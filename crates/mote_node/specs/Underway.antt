@@ -1,7 +1,7 @@
 -- A turn under way.
 use Rattle.std.specs.Prelude.{List, ◌++◌, if◌then◌else◌}
 use Rattle.process_kernel.specs.declared.line.Line.{Line}
-use Rattle.process_kernel.specs.declared.line.Sent.{Sent}
+use Rattle.radio_packet.specs.declared.sent.Sent.{Sent}
 use Rattle.process_kernel.specs.Mote.{Mote}
 use Rattle.process_kernel.specs.Public.{Given}
 

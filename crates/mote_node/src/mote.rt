@@ -9,8 +9,9 @@ ghost use Rattle.mote_node.specs.Wake.{wake_after};
 ghost use Rattle.std.proofs.Props.{props};
 
 use crate::turn::turn_in_net;
-use process_kernel::{Arrival, Kernel, KernelError, Line, Out, Sent};
+use process_kernel::{Kernel, KernelError, Line, Out};
 use program_tree::Program;
+use radio_packet::{Arrival, Sent};
 use std::alloc::{AllocError, Global};
 use std::error::Error;
 use std::{fmt, mem};

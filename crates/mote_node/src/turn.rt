@@ -9,8 +9,9 @@ ghost use Rattle.mote_node.specs.Arrivals.{hear, hear_all, collision_line};
 ghost use Rattle.mote_node.specs.Steps.{GoesOn};
 ghost use Rattle.mote_node.specs.Turn.{boot_due, poll_due, most_runs, runs_of, mote_turn, net_turn};
 
-use process_kernel::{Arrival, Kernel, Line, Out, Ran, What};
+use process_kernel::{Kernel, Line, Out, Ran, What};
 use program_tree::{Proc, Program};
+use radio_packet::Arrival;
 use std::alloc::AllocError;
 
 /// The most kernel runs of a turn; the boot is none of them.

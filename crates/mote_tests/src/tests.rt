@@ -10,7 +10,8 @@ mod queues;
 mod reader;
 mod timers;
 
-use process_kernel::{Line, Sent};
+use process_kernel::Line;
+use radio_packet::Sent;
 use std::alloc::AllocError;
 
 /// A process that prints, and yields for ever.

@@ -13,8 +13,8 @@ use Rattle.std.proofs.lemmas.List.{nil_from_length}
 use Rattle.std.proofs.lemmas.List.Filters.{length-filter_both}
 use Rattle.std.proofs.lemmas.List.Sorted.{IsPermutation-refl, IsPermutation-trans, IsPermutation-append, IsPermutation-filter_both}
 use Rattle.std.proofs.lemmas.Map.Keys.{sorted_head, sorted_tail}
-use Rattle.process_kernel.specs.declared.line.Arrival.{Arrival}
-use Rattle.radio_medium.specs.declared.copy.RadioCopy.{RadioCopy}
+use Rattle.radio_packet.specs.declared.arrival.Arrival.{Arrival}
+use Rattle.radio_packet.specs.declared.copy.RadioCopy.{RadioCopy}
 use Rattle.window_law.specs.Agenda.{Item, Wake, Packet, comes_at, moment_of, mote_of, packets}
 use Rattle.window_law.proofs.Agenda.{packets_append, packets_filter, packets_map}
 use Rattle.window_law.proofs.Lists.{every_passes, filter_both, filter_filter}

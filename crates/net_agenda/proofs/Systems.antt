@@ -5,7 +5,7 @@ use Rattle.mote_node.specs.Node.{Node}
 use Rattle.mote_node.specs.Turn.{turn_of}
 use Rattle.mote_node.specs.Wake.{wake_of}
 use Rattle.mote_node.proofs.WakeLaws.{wakes_later}
-use Rattle.radio_medium.specs.declared.copy.RadioCopy.{RadioCopy}
+use Rattle.radio_packet.specs.declared.copy.RadioCopy.{RadioCopy}
 use Rattle.radio_medium.specs.Medium.{medium_fault}
 use Rattle.radio_medium.proofs.Copies.{copies_later}
 use Rattle.radio_medium.proofs.Delays.{lookahead-above}

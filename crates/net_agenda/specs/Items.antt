@@ -2,8 +2,8 @@
 use Rattle.std.specs.Prelude.{ℕ, ◌≡◌, ◌≤◌, Bool, ◌&&◌, if◌then◌else◌, List, [], ◌∷◌, ◌++◌, length, map}
 use Rattle.std.specs.List.{filter, list_any, flat_map}
 use Rattle.std.specs.List.Sorted.{IsPermutation}
-use Rattle.process_kernel.specs.declared.line.Arrival.{Arrival}
-use Rattle.radio_medium.specs.declared.copy.RadioCopy.{RadioCopy}
+use Rattle.radio_packet.specs.declared.arrival.Arrival.{Arrival}
+use Rattle.radio_packet.specs.declared.copy.RadioCopy.{RadioCopy}
 use Rattle.net_agenda.specs.declared.bucket.Bucket.{Bucket}
 use Rattle.window_law.specs.Agenda.{Item, Wake, Packet, comes_at, packets}
 use Rattle.net_agenda.specs.Buckets.{Buckets, is_wake}

@@ -6,7 +6,7 @@ use Rattle.mote_node.specs.Node.{Node, new_node}
 use Rattle.mote_node.specs.Public.{with_collide}
 use Rattle.mote_node.specs.Turn.{turn_of}
 use Rattle.mote_node.specs.Turn as node
-use Rattle.radio_medium.specs.declared.copy.RadioCopy.{RadioCopy}
+use Rattle.radio_packet.specs.declared.copy.RadioCopy.{RadioCopy}
 use Rattle.radio_medium.specs.Medium.{copies, lookahead}
 use Rattle.net_scenario.specs.Net.{MoteTold, NetTold}
 use Rattle.window_law.specs.System.{System, Turned}

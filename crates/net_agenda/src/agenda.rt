@@ -7,8 +7,7 @@ ghost use Rattle.window_law.specs.Agenda.{Item, Wake, Packet, IsLeast, comes_at,
 ghost use Rattle.net_agenda.specs.Buckets.{Holds, due_in, due_of, told_bucket, nothing_due, is_here, arrivals_at, first_key};
 
 use crate::bucket::Bucket;
-use process_kernel::{Arrival, Sent};
-use radio_medium::{Fate, RadioCopy};
+use radio_packet::{Arrival, Fate, RadioCopy, Sent};
 use std::alloc::{AllocError, Global};
 use std::collections::BTreeMap;
 

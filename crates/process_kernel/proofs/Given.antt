@@ -2,7 +2,7 @@
 use Rattle.std.proofs.Common.{ℕ, ◌≡◌, Bool, true, false, List, [], append-nil, Result, Ok, Err, refl, sym, ap, ◌∙◌}
 use Rattle.program_tree.specs.Code.{Tree}
 use Rattle.process_kernel.specs.declared.line.Line.{Line}
-use Rattle.process_kernel.specs.declared.line.Sent.{Sent}
+use Rattle.radio_packet.specs.declared.sent.Sent.{Sent}
 use Rattle.process_kernel.specs.declared.line.Out.{Out}
 use Rattle.process_kernel.specs.declared.kernel.Kernel.{Kernel}
 use Rattle.process_kernel.specs.declared.kernel.Ran.{Ran}

@@ -1,7 +1,7 @@
 -- Laws of kernels.
 use Rattle.std.specs.Prelude.{ℕ, ◌≡◌, nat_lt, true, List}
 use Rattle.process_kernel.specs.declared.line.Line.{Line}
-use Rattle.process_kernel.specs.declared.line.Sent.{Sent}
+use Rattle.radio_packet.specs.declared.sent.Sent.{Sent}
 use Rattle.process_kernel.specs.declared.kernel.Ran.TheVariants.{Left, Halted}
 use Rattle.process_kernel.specs.Mote.{Mote, is_pending}
 use Rattle.process_kernel.specs.Run.{left_of}

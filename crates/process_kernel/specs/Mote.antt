@@ -7,7 +7,7 @@ use Rattle.protothread.specs.Remainder.{fresh_of}
 use Rattle.event_queue.specs.Queue.{empty_queue}
 use Rattle.mote_timers.specs.TimerLists.{new_timers}
 use Rattle.process_kernel.specs.declared.process.ProcessState.TheVariants.{Off}
-use Rattle.process_kernel.specs.declared.line.Arrival.{Arrival}
+use Rattle.radio_packet.specs.declared.arrival.Arrival.{Arrival}
 use Rattle.process_kernel.specs.State.{State}
 use Rattle.process_kernel.specs.Posts.{poll_of}
 

@@ -6,9 +6,9 @@ use Rattle.event_queue.specs.Queue.{Queue}
 use Rattle.mote_timers.specs.TimerLists.{TimerLists}
 use Rattle.process_kernel.specs.declared.process.ProcessState.{ProcessState}
 use Rattle.process_kernel.specs.declared.process.Member.{Member}
-use Rattle.process_kernel.specs.declared.line.Arrival.{Arrival}
+use Rattle.radio_packet.specs.declared.arrival.Arrival.{Arrival}
 use Rattle.process_kernel.specs.declared.line.Line.{Line}
-use Rattle.process_kernel.specs.declared.line.Sent.{Sent}
+use Rattle.radio_packet.specs.declared.sent.Sent.{Sent}
 
 -- The program and the number of the mote. For each process, the system processes first: its state, whether it is being
 -- exited, and whether its needs-poll mark is set. For each process of the program: what its body has still to do, and its

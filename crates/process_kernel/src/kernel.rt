@@ -6,9 +6,10 @@ ghost use Rattle.program_tree.specs.Program.{tree_of};
 ghost use Rattle.mote_timers.specs.TimerLists.{next_expiration_of};
 ghost use Rattle.process_kernel.specs.Mote.{unbooted, with_poll, with_packet, has_room, is_pending};
 
-use crate::line::{Arrival, Out};
+use crate::line::Out;
 use crate::machine::{Machine, Stop};
 use program_tree::{Proc, Program};
+use radio_packet::Arrival;
 use std::alloc::Global;
 use std::error::Error;
 use std::{fmt, mem};

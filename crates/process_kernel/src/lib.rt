@@ -22,4 +22,5 @@ mod timer;
 
 pub use kernel::{Kernel, KernelError, Ran};
 pub use laws::{halted_for_good, left_is_pending};
-pub use line::{Arrival, Line, Out, Sent, What};
+pub use line::{Line, Out, What};
+pub use radio_packet::{Arrival, Sent};

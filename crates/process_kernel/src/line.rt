@@ -1,14 +1,7 @@
-//! What a kernel is handed and what it gives: packets that arrive, the lines of its trace, and packets that are sent.
+//! What the runs of a kernel give: the lines of its trace, and packets that are sent.
 
 use program_tree::{Proc, Target};
-
-/// A packet that arrives: the mote that sent it, its number there, and its value.
-#[derive(Clone, Copy, Debug, Default, PartialEq, Eq)]
-pub struct Arrival {
-    pub sender: u16,
-    pub number: u64,
-    pub value: u16,
-}
+use radio_packet::Sent;
 
 /// What a line of a trace tells.
 #[derive(Clone, Copy, Debug, PartialEq, Eq)]
@@ -48,15 +41,6 @@ pub enum What {
 pub struct Line {
     pub at: u64,
     pub what: What,
-}
-
-/// A packet that was sent: the moment, the mote, the packet's number there, and its value.
-#[derive(Clone, Copy, Debug, PartialEq, Eq)]
-pub struct Sent {
-    pub at: u64,
-    pub sender: u16,
-    pub number: u64,
-    pub value: u16,
 }
 
 /// What the runs of a kernel give, in order.

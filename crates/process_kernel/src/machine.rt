@@ -3,13 +3,14 @@
 ghost use Rattle.std.specs.Prelude.{◌≡◌, ◌≤◌, ◌^◌, length};
 ghost use Rattle.process_kernel.specs.Members.{AreMembers};
 
-use crate::line::{Arrival, Out};
+use crate::line::Out;
 use crate::process::{Member, ProcessState};
 use arrayvec::ArrayVec;
 use circular_buffer::HeapCircularBuffer;
 use event_queue::EventQueue;
 use mote_timers::{Callbacks, Timers};
 use protothread::{Fuel, Semaphore, Thread, Vars};
+use radio_packet::Arrival;
 use std::alloc::{AllocError, AllocFailed, Global};
 
 /// How many processes a mote has at most: 64 of its program, and the three system processes.

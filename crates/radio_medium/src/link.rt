@@ -5,12 +5,10 @@ ghost use Rattle.std.specs.List.{filter_map, flat_map, fold, reduce};
 ghost use Rattle.radio_medium.specs.Medium.{is_lost, hears, motes, IsWithinLimits, copy_of};
 ghost use Rattle.radio_medium.specs.Links.{EveryByPair, every_at, radio_from, link_of, links_of, fate_by, IsFit, with_least};
 
-use crate::copy::RadioCopy;
-use crate::fate::Fate;
 use crate::losses::EveryByPair;
 use crate::place::Place;
 use crate::reach::Reach;
-use process_kernel::Sent;
+use radio_packet::{Fate, RadioCopy, Sent};
 use std::alloc::{AllocError, Global};
 
 /// The way from a mote to one that hears it, as the medium keeps it for the sender.

@@ -4,14 +4,12 @@ ghost use Rattle.std.specs.Prelude.{◌≡◌, ℕ, ◌+◌, ◌^◌, ◌<◌, �
 ghost use Rattle.radio_medium.specs.Medium.{IsWithinLimits, MakesMedium, square_distance, place_at, every_of, hears, delay, lookahead, fates, copies, medium_fault};
 ghost use Rattle.radio_medium.specs.Links.{links_of, IsFit};
 
-use crate::copy::RadioCopy;
 use crate::error::MediumError;
-use crate::fate::Fate;
 use crate::link::{Link, all_links, copies_along, fates_along, least_delay};
 use crate::losses::gathered;
 use crate::place::{Loss, Place};
 use crate::reach::Reach;
-use process_kernel::Sent;
+use radio_packet::{Fate, RadioCopy, Sent};
 use std::alloc::{AllocError, Global};
 use std::marker::Model;
 

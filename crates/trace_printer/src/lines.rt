@@ -10,9 +10,9 @@ use crate::names::{event_word, process_word, target_word};
 use crate::page::{Page, make_room};
 use crate::words::{put_arrival, put_byte, put_number, put_spaced, put_spaced_number, put_text};
 use net_report::LogLine;
-use process_kernel::{Line, Sent, What};
+use process_kernel::{Line, What};
 use program_tree::Program;
-use radio_medium::Fate;
+use radio_packet::{Fate, Sent};
 use std::alloc::AllocError;
 
 /// Room for all of a line but its keyword, its names and its fates.

@@ -3,8 +3,8 @@ use Rattle.std.proofs.Common.{◌≡◌, ℕ, suc, ◌<◌, true, false, Bool, n
 use Rattle.std.specs.List.{filter, flat_map, AllByRecursion}
 use Rattle.std.proofs.lemmas.Bool.{false≢true}
 use Rattle.std.proofs.lemmas.Bool.Decides.{nat_tests}
-use Rattle.process_kernel.specs.declared.line.Sent.{Sent}
-use Rattle.radio_medium.specs.declared.copy.RadioCopy.{RadioCopy}
+use Rattle.radio_packet.specs.declared.sent.Sent.{Sent}
+use Rattle.radio_packet.specs.declared.copy.RadioCopy.{RadioCopy}
 use Rattle.window_law.specs.System.{System, Turned, RunsForward, IsLater}
 use Rattle.window_law.specs.Agenda.{Item, Packet, moment_of, mote_of, comes_at, is_wake_of, is_left, is_from, wake_items}
 use Rattle.window_law.specs.NetStep.{NetState, stamped, turned_at, turn_at}

@@ -4,7 +4,7 @@ use Rattle.std.specs.List.{filter, list_any, AllByRecursion}
 use Rattle.std.proofs.lemmas.Bool.{cases_Bool, eq-eqb, or_parts}
 use Rattle.std.proofs.lemmas.Bool.Decides.{nat_tests}
 use Rattle.window_law.specs.System.{System, RunsForward}
-use Rattle.radio_medium.specs.declared.copy.RadioCopy.{RadioCopy}
+use Rattle.radio_packet.specs.declared.copy.RadioCopy.{RadioCopy}
 use Rattle.window_law.specs.Order.{in_order}
 use Rattle.window_law.specs.Windows.{own_turn, wakes_at, WakesFrom, is_at, is_within, is_from_sender, IsQuiet, IsInbox, Alone, Rests, Turns, Windows, Last, Window, WindowsAreThere}
 use Rattle.window_law.proofs.Lists.{unfilled, every_weaker, every_passes, filter_every, filter_none, filter_filter, is_filled, filled_any}

@@ -5,7 +5,7 @@ use Rattle.std.proofs.lemmas.Bool.{le-ltb}
 use Rattle.std.proofs.lemmas.Bool.Decides.{nat_tests}
 use Rattle.std.proofs.lemmas.List.Elements.{filter-append, filter_agree}
 use Rattle.window_law.specs.System.{System}
-use Rattle.radio_medium.specs.declared.copy.RadioCopy.{RadioCopy}
+use Rattle.radio_packet.specs.declared.copy.RadioCopy.{RadioCopy}
 use Rattle.window_law.specs.Pending.{comes_from, IsPending}
 use Rattle.window_law.specs.Windows.{IsQuiet, Rests, Windows, Window, WakesFrom, LoneMote, is_at, is_within, is_from_sender, copies_by, IsInbox, IsLeft}
 use Rattle.window_law.proofs.Lists.{filter_filter, filter_stronger, filter_every, filter_none, every_weaker}

@@ -5,8 +5,8 @@ use Rattle.std.proofs.lemmas.Bool.{cases_Bool, cases_lt, false≢true, eq-eqb, n
 use Rattle.std.proofs.lemmas.Bool.Decides.{nat_tests}
 use Rattle.std.proofs.lemmas.List.Elements.{filter-append, filter_agree}
 use Rattle.std.proofs.lemmas.List.Concat.{flat_map-append}
-use Rattle.process_kernel.specs.declared.line.Sent.{Sent}
-use Rattle.radio_medium.specs.declared.copy.RadioCopy.{RadioCopy}
+use Rattle.radio_packet.specs.declared.sent.Sent.{Sent}
+use Rattle.radio_packet.specs.declared.copy.RadioCopy.{RadioCopy}
 use Rattle.window_law.specs.System.{Turned, System, RunsForward, IsLater}
 use Rattle.window_law.specs.Agenda.{Item, Wake, Packet, comes_at, is_left, is_wake_of, is_from, moment_of, mote_of, packets, wake_items, up_to}
 use Rattle.window_law.specs.NetStep.{NetState, Run, Done, Turn, put, after_turn, turn_at, boot, stamped, sends_of}

@@ -1,7 +1,7 @@
 -- A net that runs one turn at a time, in the order of moment, then mote number.
 use Rattle.std.specs.Prelude.{ℕ, ◌≤◌, ◌<◌, if◌then◌else◌, ◌==◌, List, [], ◌++◌, map}
 use Rattle.std.specs.List.{filter, flat_map, AllByRecursion}
-use Rattle.process_kernel.specs.declared.line.Sent.{Sent}
+use Rattle.radio_packet.specs.declared.sent.Sent.{Sent}
 use Rattle.window_law.specs.System.{Turned, System}
 use Rattle.window_law.specs.Order.{in_order}
 use Rattle.window_law.specs.Agenda.{Item, Wake, Packet, moment_of, comes_at, is_left, packets, wake_items, IsLeast, up_to}

@@ -1,7 +1,7 @@
 -- What is on its way between two windows.
 use Rattle.std.specs.Prelude.{◌≡◌, ℕ, Bool, not, nat_lt, List}
 use Rattle.std.specs.List.{filter}
-use Rattle.radio_medium.specs.declared.copy.RadioCopy.{RadioCopy}
+use Rattle.radio_packet.specs.declared.copy.RadioCopy.{RadioCopy}
 use Rattle.window_law.specs.System.{System}
 use Rattle.window_law.specs.Windows.{LoneMote, copies_by, is_from_sender}
 

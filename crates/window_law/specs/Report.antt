@@ -1,7 +1,7 @@
 -- What the run of a net leaves to tell.
 use Rattle.std.specs.Prelude.{◌≡◌, ℕ, List, length, map}
 use Rattle.std.specs.List.Sorted.{IsSortedBy, IsPermutation}
-use Rattle.process_kernel.specs.declared.line.Sent.{Sent}
+use Rattle.radio_packet.specs.declared.sent.Sent.{Sent}
 use Rattle.window_law.specs.System.{System, RunsForward}
 use Rattle.window_law.specs.Order.{is_sooner, NumbersRise}
 use Rattle.window_law.specs.Agenda.{packets, up_to}

@@ -1,8 +1,8 @@
 -- Motes and the medium between them, whatever a mote is.
 use Rattle.std.specs.Prelude.{ℕ, ◌≡◌, ◌+◌, ◌<◌, ◌≤◌, List, Option, IfSome}
 use Rattle.std.specs.List.{AllByRecursion}
-use Rattle.process_kernel.specs.declared.line.Sent.{Sent}
-use Rattle.radio_medium.specs.declared.copy.RadioCopy.{RadioCopy}
+use Rattle.radio_packet.specs.declared.sent.Sent.{Sent}
+use Rattle.radio_packet.specs.declared.copy.RadioCopy.{RadioCopy}
 
 -- what a turn leaves
 pub record Turned (S L : Type 0) : Type 0 where

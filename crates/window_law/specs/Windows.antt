@@ -1,8 +1,8 @@
 -- The same net, run window by window, each mote alone in a window.
 use Rattle.std.specs.Prelude.{◌≡◌, ℕ, suc, ◌+◌, ◌<◌, ◌≤◌, Bool, true, false, if◌then◌else◌, not, ◌&&◌, ◌||◌, ◌==◌, nat_lt, List, [], ◌++◌, length, map, Option, Some, None}
 use Rattle.std.specs.List.{filter, flat_map, list_any, AllByRecursion}
-use Rattle.process_kernel.specs.declared.line.Sent.{Sent}
-use Rattle.radio_medium.specs.declared.copy.RadioCopy.{RadioCopy}
+use Rattle.radio_packet.specs.declared.sent.Sent.{Sent}
+use Rattle.radio_packet.specs.declared.copy.RadioCopy.{RadioCopy}
 use Rattle.window_law.specs.System.{System, Turned, RunsForward}
 use Rattle.window_law.specs.Order.{sorted_by, in_order}
 use Rattle.window_law.specs.Agenda.{packets, up_to}

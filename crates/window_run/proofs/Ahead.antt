@@ -5,7 +5,7 @@ use Rattle.std.proofs.lemmas.Bool.{cases_Bool, eqb-false}
 use Rattle.std.proofs.lemmas.Bool.Decides.{nat_tests}
 use Rattle.mote_node.specs.Turn.{turn_of}
 use Rattle.mote_node.proofs.WakeLaws.{wakes_later}
-use Rattle.radio_medium.specs.declared.copy.RadioCopy.{RadioCopy}
+use Rattle.radio_packet.specs.declared.copy.RadioCopy.{RadioCopy}
 use Rattle.window_law.specs.Order.{in_order}
 use Rattle.window_law.specs.System.{IsLater}
 use Rattle.window_law.specs.Windows.{is_at, WakesFrom, IsQuiet}

@@ -1,13 +1,13 @@
 -- A window's run behind earlier lines and packets, and its last wake.
 use Rattle.std.proofs.Common.{◌≡◌, ℕ, List, map, refl, sym, subst, append_assoc}
 use Rattle.std.specs.List.{filter}
-use Rattle.process_kernel.specs.declared.line.Arrival.{Arrival}
+use Rattle.radio_packet.specs.declared.arrival.Arrival.{Arrival}
 use Rattle.process_kernel.specs.declared.line.Line.{Line}
-use Rattle.process_kernel.specs.declared.line.Sent.{Sent}
+use Rattle.radio_packet.specs.declared.sent.Sent.{Sent}
 use Rattle.mote_node.specs.Node.{Node}
 use Rattle.mote_node.specs.Wake.{wake_of}
 use Rattle.mote_node.specs.Turn.{turn_of}
-use Rattle.radio_medium.specs.declared.copy.RadioCopy.{RadioCopy}
+use Rattle.radio_packet.specs.declared.copy.RadioCopy.{RadioCopy}
 use Rattle.window_law.specs.NetStep.{sends_of}
 use Rattle.window_law.specs.Order.{in_order}
 use Rattle.window_law.specs.System.{System, Turned}

@@ -5,8 +5,8 @@ use Rattle.std.specs.List.{slice_get, filter, list_any, list_all, take_while, Al
 use Rattle.std.proofs.lemmas.Bool.{cases_Bool, eqb-true, eqb-false, eq-eqb, ne_eqb, false≢true}
 use Rattle.std.proofs.lemmas.Bool.Decides.{nat_tests}
 use Rattle.std.proofs.lemmas.List.Sums.{take_while-cons}
-use Rattle.process_kernel.specs.declared.line.Arrival.{Arrival}
-use Rattle.radio_medium.specs.declared.copy.RadioCopy.{RadioCopy}
+use Rattle.radio_packet.specs.declared.arrival.Arrival.{Arrival}
+use Rattle.radio_packet.specs.declared.copy.RadioCopy.{RadioCopy}
 use Rattle.window_law.proofs.Lists.{filter_none, filter_every, every_weaker, every_filter}
 use Rattle.window_law.specs.Order.{is_before, insert_by, sorted_by, in_order}
 use Rattle.window_law.specs.Windows.{is_at, WakesFrom, IsQuiet}

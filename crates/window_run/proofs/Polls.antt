@@ -6,7 +6,7 @@ use Rattle.process_kernel.specs.declared.line.Line.{Line}
 use Rattle.mote_node.specs.declared.mote.MoteError.{MoteError}
 use Rattle.mote_node.specs.Node.{Node}
 use Rattle.mote_laws.proofs.Stamps.{turns_stamp}
-use Rattle.radio_medium.specs.declared.copy.RadioCopy.{RadioCopy}
+use Rattle.radio_packet.specs.declared.copy.RadioCopy.{RadioCopy}
 use Rattle.window_law.specs.Order.{in_order}
 use Rattle.window_law.specs.System.{Turned}
 use Rattle.window_law.specs.Windows.{after_own, is_at, Alone}

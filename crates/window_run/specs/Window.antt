@@ -5,7 +5,7 @@ use Rattle.program_tree.specs.Code.{Tree}
 use Rattle.process_kernel.specs.declared.line.Line.{Line}
 use Rattle.mote_node.specs.Node.{Node}
 use Rattle.mote_node.specs.Wake.{wake_of}
-use Rattle.radio_medium.specs.declared.copy.RadioCopy.{RadioCopy}
+use Rattle.radio_packet.specs.declared.copy.RadioCopy.{RadioCopy}
 use Rattle.window_law.specs.System.{System}
 use Rattle.window_law.specs.Order.{in_order}
 use Rattle.window_law.specs.Windows.{LoneMote, after_own, is_at, wakes_at, IsQuiet, Alone}

@@ -16,7 +16,7 @@ use futures::Future;
 use futures::task::{Context, Poll};
 use mote_node::{Mote, MoteError};
 use program_tree::Program;
-use radio_medium::RadioCopy;
+use radio_packet::RadioCopy;
 use std::alloc::Global;
 
 /// A mote in its window, until it was ready. A poll with a turn left takes exactly that turn, at the lesser of the mote's wake and

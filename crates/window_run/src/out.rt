@@ -1,7 +1,8 @@
 //! What a mote's window gives.
 
 use mote_node::Mote;
-use process_kernel::{Line, Sent};
+use process_kernel::Line;
+use radio_packet::Sent;
 
 /// The mote after its window, the lines and packets of its turns there, and when it wakes next.
 #[derive(Drop)]

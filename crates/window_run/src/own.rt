@@ -10,9 +10,9 @@ ghost use Rattle.window_run.specs.Window.{Window, HasTurn, IsOver, IsNextOf, is_
 
 use crate::out::WindowOut;
 use mote_node::{Mote, MoteError, TurnOut};
-use process_kernel::{Arrival, Line, Sent};
+use process_kernel::Line;
 use program_tree::Program;
-use radio_medium::RadioCopy;
+use radio_packet::{Arrival, RadioCopy, Sent};
 use std::alloc::{AllocError, Global};
 
 /// A mote in its window, with the copies that come to it there.

@@ -4,7 +4,7 @@ ghost use Rattle.std.specs.Prelude.{◌≡◌, true, Some};
 ghost use Rattle.window_run.specs.Window.{is_rising};
 
 use mote_node::{Mote, MoteError};
-use radio_medium::RadioCopy;
+use radio_packet::RadioCopy;
 use std::alloc::AllocError;
 use std::error::Error;
 use std::fmt;

@@ -4,7 +4,8 @@
 mod by_a_worker;
 mod by_hand;
 
-use process_kernel::{Line, Sent};
+use process_kernel::Line;
+use radio_packet::Sent;
 use std::alloc::AllocError;
 
 /// Writes each line down as its moment and what happened.

@@ -4,7 +4,7 @@ use Rattle.std.specs.List.{filter, flat_map, AllByRecursion}
 use Rattle.std.proofs.lemmas.Bool.{cases_eq, and_parts}
 use Rattle.std.proofs.lemmas.List.Elements.{filter-append}
 use Rattle.std.proofs.lemmas.List.Filters.{length-filter_both}
-use Rattle.radio_medium.specs.declared.copy.RadioCopy.{RadioCopy}
+use Rattle.radio_packet.specs.declared.copy.RadioCopy.{RadioCopy}
 use Rattle.window_law.specs.Agenda.{Item, Wake, Packet, comes_at, is_left, is_wake_of, wake_items}
 use Rattle.window_law.specs.NetStep.{NetState, Run, Done, Turn, boot, turned_at, sends_of}
 use Rattle.window_law.specs.System.{System}

@@ -1,7 +1,7 @@
 -- What came to the workers through their inboxes.
 use Rattle.std.specs.Prelude.{ℕ, ◌≡◌, List, map, IsPermutation, Some, slice_get}
 use Rattle.std.specs.List.{filter}
-use Rattle.process_kernel.specs.declared.line.Sent.{Sent}
+use Rattle.radio_packet.specs.declared.sent.Sent.{Sent}
 use Rattle.radio_medium.specs.Medium.{copies}
 use Rattle.net_scenario.specs.Net.{NetTold}
 use Rattle.copy_inbox.specs.Handles.{InboxId, TakerView}

@@ -1,7 +1,7 @@
 -- The run of a net, and its report.
 use Rattle.std.specs.Prelude.{◌≡◌, length, map}
 use Rattle.process_kernel.specs.declared.line.Line.{Line}
-use Rattle.process_kernel.specs.declared.line.Sent.{Sent}
+use Rattle.radio_packet.specs.declared.sent.Sent.{Sent}
 use Rattle.mote_node.specs.Node.{Node}
 use Rattle.radio_medium.specs.Medium.{Radio, fates}
 use Rattle.net_scenario.specs.Net.{NetTold}

@@ -1,7 +1,7 @@
 -- The traces of a net never go back in moment, and the packets of each mote are numbered in order.
 use Rattle.std.specs.Prelude.{◌≡◌, ℕ, ◌==◌, List, map, All}
 use Rattle.std.specs.List.{filter}
-use Rattle.process_kernel.specs.declared.line.Sent.{Sent}
+use Rattle.radio_packet.specs.declared.sent.Sent.{Sent}
 use Rattle.kernel_laws.specs.Stamps.{AreNumberedFrom}
 use Rattle.mote_laws.specs.Stamps.{NeverGoBack}
 use Rattle.net_scenario.specs.Net.{NetTold}

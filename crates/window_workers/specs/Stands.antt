@@ -2,7 +2,7 @@
 use Rattle.std.specs.Prelude.{ℕ, ◌≡◌, ◌<◌, ◌++◌, List, length, map, Vec, Some, option_map, slice_index_or, slice_set}
 use Rattle.std.specs.List.{filter, AllByRecursion}
 use Rattle.std.specs.declared.alloc.Global.{Global}
-use Rattle.process_kernel.specs.declared.line.Arrival.{Arrival}
+use Rattle.radio_packet.specs.declared.arrival.Arrival.{Arrival}
 use Rattle.process_kernel.specs.declared.line.Line.{Line}
 use Rattle.mote_node.specs.declared.mote.Mote.{Mote}
 use Rattle.mote_node.specs.declared.mote.TurnOut.{TurnOut}

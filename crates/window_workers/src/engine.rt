@@ -18,8 +18,9 @@ use mote_node::{Mote, TurnOut};
 use net_agenda::{Agenda, new_mote};
 use net_report::LogLine;
 use net_scenario::Net;
-use process_kernel::{Arrival, Line};
+use process_kernel::Line;
 use program_tree::Program;
+use radio_packet::Arrival;
 use std::alloc::{AllocError, Global};
 
 /// How many lines a long trace has.

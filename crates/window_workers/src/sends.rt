@@ -11,8 +11,8 @@ ghost use Rattle.window_law.specs.NetStep.{stamped};
 
 use net_agenda::Agenda;
 use net_report::LogLine;
-use process_kernel::Sent;
 use radio_medium::Medium;
+use radio_packet::Sent;
 use std::alloc::AllocError;
 
 /// One packet goes out.

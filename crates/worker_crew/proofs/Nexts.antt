@@ -2,7 +2,7 @@
 use Rattle.std.proofs.Common.{◌≡◌, ℕ, suc, ◌+◌, ◌<◌, ◌≤◌, get_or, List, [], ◌∷◌, ◌++◌, length, take, ap, ◌∙◌, subst, sym, arith, Option}
 use Rattle.std.proofs.Math.Seq.{take-length, take-suc}
 use Rattle.std.specs.List.{AllByRecursion as Each}
-use Rattle.radio_medium.specs.declared.copy.RadioCopy.{RadioCopy}
+use Rattle.radio_packet.specs.declared.copy.RadioCopy.{RadioCopy}
 use Rattle.window_law.specs.Windows.{WakesFrom}
 use Rattle.window_law.proofs.Lists.{every_append, every_weaker}
 use Rattle.worker_share.specs.declared.share.Share.{Share}

@@ -3,7 +3,7 @@ use Rattle.std.proofs.Common.{◌≡◌, ◌⊎◌, ℕ, zero, suc, ◌<◌, Boo
 use Rattle.std.specs.Prelude.{slice_index}
 use Rattle.std.specs.List.{filter, AllByRecursion as Each}
 use Rattle.std.proofs.lemmas.Bool.{cases_Bool, eq-eqb, eqb-true}
-use Rattle.radio_medium.specs.declared.copy.RadioCopy.{RadioCopy}
+use Rattle.radio_packet.specs.declared.copy.RadioCopy.{RadioCopy}
 use Rattle.net_scenario.specs.Net.{NetTold}
 use Rattle.copy_exchange.specs.declared.courier.Courier.{Courier}
 use Rattle.copy_exchange.specs.Couriers.{Collects, Leaves}

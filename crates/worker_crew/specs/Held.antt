@@ -3,7 +3,7 @@ use Rattle.std.specs.Prelude.{ℕ, suc, ◌<◌, List, ◌++◌, length, slice_i
 use Rattle.std.specs.List.{flat_map}
 use Rattle.process_kernel.specs.declared.line.Line.{Line}
 use Rattle.mote_node.specs.Node.{Node}
-use Rattle.radio_medium.specs.declared.copy.RadioCopy.{RadioCopy}
+use Rattle.radio_packet.specs.declared.copy.RadioCopy.{RadioCopy}
 use Rattle.net_scenario.specs.Net.{NetTold}
 use Rattle.window_law.specs.System.{RunsForward}
 use Rattle.window_law.specs.Agenda.{Item, packets, up_to}

@@ -5,8 +5,8 @@ use Rattle.std.specs.List.{filter, flat_map, AllByRecursion}
 use Rattle.std.proofs.lemmas.Bool.{cases_Bool}
 use Rattle.std.proofs.lemmas.List.Elements.{filter-append}
 use Rattle.std.proofs.lemmas.List.Sorted.{IsPermutation-refl, IsPermutation-sym, IsPermutation-trans, IsPermutation-cons, IsPermutation-middle, IsPermutation-append_left, IsPermutation-append_right, IsPermutation-append_comm}
-use Rattle.process_kernel.specs.declared.line.Sent.{Sent}
-use Rattle.radio_medium.specs.declared.copy.RadioCopy.{RadioCopy}
+use Rattle.radio_packet.specs.declared.sent.Sent.{Sent}
+use Rattle.radio_packet.specs.declared.copy.RadioCopy.{RadioCopy}
 use Rattle.window_law.specs.Order.{is_before, insert_by, sorted_by}
 use Rattle.window_law.specs.System.{System, RunsForward}
 use Rattle.window_law.specs.Windows.{LoneMote, copies_by, is_from_sender, is_sent_by, IsJoined, as_log}

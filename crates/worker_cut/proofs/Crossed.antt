@@ -5,7 +5,7 @@ use Rattle.std.specs.Option.{option_map_or}
 use Rattle.std.proofs.lemmas.Bool.{cases_Bool, false≢true, eqb-true}
 use Rattle.std.proofs.lemmas.Bool.Decides.{nat_tests}
 use Rattle.std.proofs.lemmas.List.Elements.{filter-append}
-use Rattle.radio_medium.specs.declared.copy.RadioCopy.{RadioCopy}
+use Rattle.radio_packet.specs.declared.copy.RadioCopy.{RadioCopy}
 use Rattle.window_law.specs.System.{System}
 use Rattle.window_law.specs.Windows.{LoneMote, copies_by, is_at, is_from_sender, is_within, IsInbox}
 use Rattle.window_law.proofs.Lists.{filter_stronger}

@@ -1,8 +1,8 @@
 -- What the inboxes carried: each copy that crosses from one worker to another, once.
 use Rattle.std.specs.Prelude.{ℕ, Bool, not, ◌&&◌, List, IsPermutation}
 use Rattle.std.specs.List.{filter, flat_map}
-use Rattle.process_kernel.specs.declared.line.Sent.{Sent}
-use Rattle.radio_medium.specs.declared.copy.RadioCopy.{RadioCopy}
+use Rattle.radio_packet.specs.declared.sent.Sent.{Sent}
+use Rattle.radio_packet.specs.declared.copy.RadioCopy.{RadioCopy}
 use Rattle.worker_cut.specs.Crossed.{is_own}
 
 -- from a mote of another worker, for a mote of this one

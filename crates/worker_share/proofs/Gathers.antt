@@ -4,8 +4,8 @@ use Rattle.std.specs.List.{filter, list_any, AllByRecursion}
 use Rattle.std.proofs.lemmas.Bool.{cases_Bool, cases_eq, eq-eqb, ne_eqb, eqb-true, and_parts}
 use Rattle.std.proofs.lemmas.Bool.Decides.{nat_tests}
 use Rattle.std.proofs.lemmas.List.Elements.{filter-append}
-use Rattle.process_kernel.specs.declared.line.Arrival.{Arrival}
-use Rattle.radio_medium.specs.declared.copy.RadioCopy.{RadioCopy}
+use Rattle.radio_packet.specs.declared.arrival.Arrival.{Arrival}
+use Rattle.radio_packet.specs.declared.copy.RadioCopy.{RadioCopy}
 use Rattle.window_law.specs.Order.{sorted_by, in_order}
 use Rattle.window_law.specs.Agenda.{Item, Wake, Packet, moment_of, mote_of, comes_at, packets, IsLeast}
 use Rattle.window_law.specs.Windows.{is_at}

@@ -3,14 +3,14 @@ use Rattle.std.proofs.Common.{◌≡◌, ◌⊎◌, ℕ, ◌+◌, ◌<◌, ◌�
 use Rattle.std.specs.List.{flat_map, AllByRecursion}
 use Rattle.std.proofs.lemmas.Option.{slice_get_cases}
 use Rattle.process_kernel.specs.declared.line.Line.{Line}
-use Rattle.process_kernel.specs.declared.line.Sent.{Sent}
+use Rattle.radio_packet.specs.declared.sent.Sent.{Sent}
 use Rattle.mote_node.specs.declared.mote.Mote.{Mote}
 use Rattle.mote_node.specs.Node.{Node}
 use Rattle.mote_node.specs.Public.{node_in}
 use Rattle.mote_node.specs.Wake.{wake_of}
 use Rattle.mote_node.proofs.WakeLaws.{wakes_later}
 use Rattle.mote_laws.proofs.Stamps.{turns_stamp}
-use Rattle.radio_medium.specs.declared.copy.RadioCopy.{RadioCopy}
+use Rattle.radio_packet.specs.declared.copy.RadioCopy.{RadioCopy}
 use Rattle.radio_medium.specs.Medium.{copies, lookahead}
 use Rattle.radio_medium.proofs.Copies.{copies_later}
 use Rattle.net_scenario.specs.Net.{MoteTold, NetTold}

@@ -7,7 +7,7 @@ use Rattle.process_kernel.specs.declared.line.Line.{Line}
 use Rattle.mote_node.specs.declared.mote.Mote.{Mote}
 use Rattle.mote_node.specs.Node.{Node}
 use Rattle.mote_node.specs.Public.{node_in, wake_in}
-use Rattle.radio_medium.specs.declared.copy.RadioCopy.{RadioCopy}
+use Rattle.radio_packet.specs.declared.copy.RadioCopy.{RadioCopy}
 use Rattle.radio_medium.specs.Medium.{Radio, copies}
 use Rattle.window_law.specs.Agenda.{Item, Wake, Packet, is_wake_of, wake_items}
 use Rattle.window_run.specs.declared.out.WindowOut.{WindowOut}

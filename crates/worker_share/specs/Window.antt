@@ -1,7 +1,7 @@
 -- What a window makes of a worker's motes, and what they send to others.
 use Rattle.std.specs.Prelude.{ℕ, ◌≡◌, ◌<◌, ◌≤◌, Bool, true, false, not, if◌then◌else◌, List, [], ◌++◌, length}
 use Rattle.std.specs.List.{filter}
-use Rattle.radio_medium.specs.declared.copy.RadioCopy.{RadioCopy}
+use Rattle.radio_packet.specs.declared.copy.RadioCopy.{RadioCopy}
 use Rattle.net_scenario.specs.Net.{NetTold}
 use Rattle.window_law.specs.Windows.{Alone, copies_by, is_at, is_from_sender, is_within}
 use Rattle.net_agenda.specs.NetSystem.{system_of}

@@ -8,8 +8,7 @@ ghost use Rattle.net_agenda.specs.Items.{copy_at};
 ghost use Rattle.worker_share.specs.Calls.{copies_for, is_not_before, Gathers, HasItems};
 
 use net_agenda::Agenda;
-use process_kernel::Arrival;
-use radio_medium::RadioCopy;
+use radio_packet::{Arrival, RadioCopy};
 use std::alloc::{AllocError, Global};
 use std::collections::BTreeMap;
 

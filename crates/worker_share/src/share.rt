@@ -2,7 +2,7 @@
 
 ghost use Rattle.std.specs.Prelude.{◌≡◌, ◌≤◌, ◌<◌, ◌++◌, ◌∷◌, ℕ, true, [], length, List, Some, IfOk, OnOk, if◌then◌else◌};
 ghost use Rattle.std.specs.List.{filter, AllByRecursion};
-ghost use Rattle.radio_medium.specs.declared.copy.RadioCopy.{RadioCopy};
+ghost use Rattle.radio_packet.specs.declared.copy.RadioCopy.{RadioCopy};
 ghost use Rattle.window_law.specs.Agenda.{Item, Wake};
 ghost use Rattle.window_law.specs.Windows.{WakesFrom, first_mote};
 ghost use Rattle.net_scenario.specs.Net.{NetTold, net_of};
@@ -15,7 +15,8 @@ ghost use Rattle.worker_share.specs.Ended.{TellsAtEnd};
 use mote_node::Mote;
 use net_agenda::{Agenda, new_mote};
 use net_scenario::Net;
-use process_kernel::{Line, Sent};
+use process_kernel::Line;
+use radio_packet::Sent;
 use std::alloc::{AllocError, Global};
 
 /// What one worker of a net has. Motes and traces stand by the number of the mote, with none and an empty one for the motes of

@@ -2,8 +2,9 @@
 
 use super::{SENDER, write_lines, write_sends};
 use mote_program::read;
-use process_kernel::{Arrival, Kernel, KernelError, Line, Out, Ran, What};
+use process_kernel::{Kernel, KernelError, Line, Out, Ran, What};
 use program_tree::{Proc, Program};
+use radio_packet::Arrival;
 use std::alloc::Global;
 use std::test::Fail;
 

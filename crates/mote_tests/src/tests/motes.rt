@@ -3,8 +3,8 @@
 use super::{PRINT_THEN_YIELD, SENDER, write_lines, write_sends};
 use mote_node::{Mote, MoteError, TurnOut};
 use mote_program::read;
-use process_kernel::Arrival;
 use program_tree::Program;
+use radio_packet::Arrival;
 use std::alloc::{AllocError, Global};
 use std::test::Fail;
 

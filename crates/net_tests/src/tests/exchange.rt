@@ -10,7 +10,7 @@ use copy_exchange::{
     Courier, close_inboxes, couriers, gathered, known, make_inboxes, paired, parted,
 };
 use copy_inbox::{Inbox, InboxError, Taker};
-use radio_medium::RadioCopy;
+use radio_packet::RadioCopy;
 use std::alloc::Global;
 use std::sync::Wait;
 use std::test::Fail;

@@ -3,7 +3,7 @@
 ghost use Rattle.std.specs.Prelude.{◌≡◌};
 
 use copy_inbox::{Inbox, InboxError, Sender, Taker};
-use radio_medium::RadioCopy;
+use radio_packet::RadioCopy;
 use std::alloc::Global;
 use std::sync::Wait;
 use std::test::*;

@@ -2,8 +2,8 @@
 
 ghost use Rattle.std.specs.Prelude.{◌≡◌, ◌≤◌, ◌<◌, ◌^◌, length, IfOk};
 
-use process_kernel::Sent;
-use radio_medium::{Fate, Loss, Medium, MediumError, Place, RadioCopy};
+use radio_medium::{Loss, Medium, MediumError, Place};
+use radio_packet::{Fate, RadioCopy, Sent};
 use std::alloc::{AllocError, Global};
 use std::test::Fail;
 

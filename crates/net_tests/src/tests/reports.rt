@@ -5,9 +5,9 @@ ghost use Rattle.net_scenario.specs.Net.{net_of};
 
 use net_report::{LogLine, Report};
 use net_scenario::{Net, read_scenario};
-use process_kernel::{Line, Sent, What};
+use process_kernel::{Line, What};
 use program_tree::{Proc, Target};
-use radio_medium::Fate;
+use radio_packet::{Fate, Sent};
 use std::alloc::{AllocError, Global};
 use std::test::Fail;
 use trace_printer::{PrintError, write_report};

@@ -8,7 +8,7 @@ ghost use Rattle.window_run.specs.Window.{is_rising};
 use super::{write_lines, write_sends};
 use mote_node::{Mote, MoteError};
 use net_scenario::{Net, read_scenario};
-use radio_medium::RadioCopy;
+use radio_packet::RadioCopy;
 use std::alloc::{AllocError, Global};
 use std::random::RandomSource;
 use std::sync::Wait;

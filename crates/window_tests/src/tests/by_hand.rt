@@ -10,7 +10,7 @@ use futures::test::MockTask;
 use mote_node::{Mote, MoteError};
 use mote_program::read;
 use program_tree::Program;
-use radio_medium::RadioCopy;
+use radio_packet::RadioCopy;
 use std::alloc::{AllocError, Global};
 use std::random::RandomSource;
 use std::test::Fail;

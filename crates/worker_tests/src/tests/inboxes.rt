@@ -8,7 +8,7 @@ use super::{COPY_PAST_THE_END, is_of_one_thread};
 use copy_exchange::make_inboxes;
 use copy_inbox::{Inbox, Taker};
 use net_scenario::{Net, read_scenario};
-use radio_medium::RadioCopy;
+use radio_packet::RadioCopy;
 use std::alloc::{AllocGlobal, Global};
 use std::random::RandomSource;
 use std::sync::Wait;

@@ -1,5 +1,5 @@
 use Rattle.std.proofs.Common.{◌≡◌, ◌||◌, ◌+◌, ◌∷◌, [], drop, get_or, refl, add-one, drop-cons}
-use Rattle.process_kernel.specs.declared.line.Arrival.{Arrival}
+use Rattle.radio_packet.specs.declared.arrival.Arrival.{Arrival}
 use Rattle.mote_node.proofs.HearLemmas.{heard_next, heard_some, heard_lost, at_end}
 use Rattle.mote_node.proofs.turn.hear_all.Goals as goal
 use Rattle.mote_node.proofs.turn.hear_all.Goals.{then-any, else-any}

@@ -1,6 +1,6 @@
 use Rattle.std.proofs.Common.{None, arith}
 use Rattle.trace_printer.specs.Words.{fate_word}
-use Rattle.radio_medium.specs.declared.fate.Fate.{Fate}
+use Rattle.radio_packet.specs.declared.fate.Fate.{Fate}
 use Rattle.trace_printer.proofs.Pieces.{spaced_more, spaced_end}
 use Rattle.trace_printer.proofs.lines.put_fates.Goals as goal
 

@@ -1,7 +1,7 @@
 use Rattle.std.proofs.Common.{ℕ, ◌<◌, List, ◌≡◌, length, get_or, take, subst, sym, ap, ◌∙◌, arith}
 use Rattle.std.proofs.Math.Seq.{take-length}
 use Rattle.std.proofs.lemmas.List.{take_more}
-use Rattle.radio_medium.specs.declared.copy.RadioCopy.{RadioCopy}
+use Rattle.radio_packet.specs.declared.copy.RadioCopy.{RadioCopy}
 use Rattle.copy_exchange.specs.Couriers.{Delivers, Leaves}
 use Rattle.copy_exchange.proofs.Delivered.{delivers_none, delivers_more}
 use Rattle.copy_exchange.proofs.Lists.{each_at}

@@ -6,7 +6,7 @@ use Rattle.mote_node.specs.declared.mote.Mote.{Mote}
 use Rattle.mote_node.specs.Public.{node_in, wake_in}
 use Rattle.net_scenario.specs.Net.{net_of}
 use Rattle.radio_medium.specs.Medium.{Radio, copies}
-use Rattle.process_kernel.specs.declared.line.Sent.{Sent}
+use Rattle.radio_packet.specs.declared.sent.Sent.{Sent}
 use Rattle.window_law.specs.Agenda.{Item, Packet, comes_at, is_wake_of, wake_items}
 use Rattle.net_agenda.specs.Buckets.{Holds}
 use Rattle.net_report.specs.Report.{told_line}

@@ -1,6 +1,6 @@
 use Rattle.std.proofs.Common.{◌≡◌, ◌∙◌, ◌++◌, cond, eqb, List, map, [], Some, ap, refl, subst, slice_set, get_or}
 use Rattle.std.specs.List.{filter, flat_map}
-use Rattle.process_kernel.specs.declared.line.Sent.{Sent}
+use Rattle.radio_packet.specs.declared.sent.Sent.{Sent}
 use Rattle.radio_medium.specs.Medium.{copies}
 use Rattle.window_law.specs.Agenda.{Packet, wake_items}
 use Rattle.net_agenda.specs.Buckets.{Holds}
