@@ -92,7 +92,6 @@ impl TurnOut {
 
 /// A mote of a net. Its turns come at rising moments, always with the same program. The kernel stands behind a pointer, so a mote
 /// is moved at little cost.
-#[derive(Drop)]
 pub struct Mote {
     alloc: Global,
     kernel: Box<Kernel>,
@@ -101,6 +100,19 @@ pub struct Mote {
     failed: bool,
     ghost early: { IfSome last (λ moment. moment ≤ 2 ^ 40) } by { Prim.hlevel props },
     ghost running: { (t : Tree) → failed ≡ false → IsSome (mote_in t kernel.value) } by { Prim.hlevel props },
+}
+
+/// By hand, so that a mote is dropped by one call: the check of a function that owns one sees no more of it.
+impl Drop for Mote {
+    fn drop(self) {
+        let Mote {
+            alloc: _,
+            kernel: _,
+            last: _,
+            collide: _,
+            failed: _,
+        } = self;
+    }
 }
 
 /// When a mote wakes after its turn at this moment, where it has not halted.
