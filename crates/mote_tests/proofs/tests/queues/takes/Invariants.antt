@@ -2,4 +2,4 @@ use Rattle.std.proofs.Common.{◌≡◌}
 use Rattle.mote_tests.proofs.tests.queues.takes.Given as goal
 
 abbrev pub invariant-loop-word : goal.invariant-loop-word
-invariant-loop-word g l = l.queue.accepted ≡ l.fn.queue.accepted
+invariant-loop-word l = l.queue.accepted ≡ l.fn.queue.accepted
