@@ -29,7 +29,7 @@ impl Gate for Starts {
 
 /// How many starts are asked for where the report is due and comes. It is one mote with one turn, so one window, in which
 /// each worker that there is gets a thread.
-fn starts<T>(rt: &T, asked: &Asked<'_>) -> Option<u64>
+fn starts_for<T>(rt: &T, asked: &Asked<'_>) -> Option<u64>
 where
     T: AllocGlobal + Files + Threads + Wait + RandomSource + Sync,
 {
@@ -55,7 +55,7 @@ fn workers_of_the_options(rt: HostRuntime) {
                 file: None,
                 options,
             };
-            assert_eq!(rt; starts(&rt, &asked), Some(wanted), "{asked:?}");
+            assert_eq!(rt; starts_for(&rt, &asked), Some(wanted), "{asked:?}");
         }
     }
 }
@@ -66,7 +66,7 @@ where
     T: AllocGlobal + Files + Threads + Wait + RandomSource + Sync,
 {
     let asked = asked_by(rt.alloc(), words).ok()?;
-    let starts = starts(rt, &asked)?;
+    let starts = starts_for(rt, &asked)?;
     Some((asked.options.workers, starts))
 }
 
