@@ -7,7 +7,7 @@ from typing import NamedTuple, Optional
 from bodies.functions import Function, functions_in
 from bodies.kit import rt, rtlib, tokens
 
-FOLDERS = ('must-fail', 'wrong-bodies')
+FOLDERS = ('must-fail', 'gate-bodies', 'wrong-bodies')
 
 
 class Hunk(NamedTuple):

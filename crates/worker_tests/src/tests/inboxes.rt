@@ -1,7 +1,6 @@
 //! What lies in the inboxes at the end.
-ghost use Rattle.std.specs.Prelude.{◌≡◌};
 ghost use Rattle.std.specs.List.{AllByRecursion as Each};
-ghost use Rattle.copy_inbox.specs.Handles.{AllGathered};
+ghost use Rattle.copy_exchange.specs.Inboxes.{IsSettled};
 
 use super::cuts::blocks;
 use super::{COPY_PAST_THE_END, is_of_one_thread};
@@ -23,8 +22,7 @@ fn closed<R: Wait>(
     alloc: Global,
     pairs: Vec<(Inbox, Taker)>,
 ) -> Result<(Vec<u64>, Vec<RadioCopy>), Fail>
-    requires inbox { Each (λ pair. pair.1.inbox ≡ pair.0) pairs.items }
-    requires gathered { Each (λ pair. AllGathered pair.1.desk) pairs.items }
+    requires settled { Each (λ pair. IsSettled pair.0 pair.1) pairs.items }
 {
     let mut known = Vec::new(alloc);
     let mut copies = Vec::new(alloc);
