@@ -266,6 +266,8 @@ impl Inbox {
     /// nothing is known and the queue was empty at some moment of the call.
     pub fn take_next<R: Wait>(&self, rt: &R, taker: &mut Taker) -> Option<Item>
         requires { taker.old.inbox ≡ self.now }
+        ensures inbox { taker.new.inbox ≡ taker.old.inbox }
+        ensures still { (taker.new.desk.made ≡ taker.old.desk.made) × (taker.new.desk.gathered ≡ taker.old.desk.gathered) }
         ensures taken { IfSome result (λ x. taker.new ≡ after_taking taker.old (x ∷ [])) }
         ensures next { IfSome result (λ x. IsNextTaken taker.old.desk x) }
         ensures same { IfNone result (taker.new ≡ taker.old) }

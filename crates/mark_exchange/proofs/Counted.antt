@@ -1,0 +1,111 @@
+-- One item more is counted.
+use Rattle.std.proofs.Common.{◌≡◌, ◌≢◌, ℕ, ◌+◌, ◌<◌, ◌≤◌, ◌^◌, true, false, eqb, List, [], ◌∷◌, ◌++◌, length, set, get_or, filter, refl, sym, ap, ◌∙◌, subst, ⊎_elim, arith, length-append, length-set, append-nil, append_assoc, zero, suc}
+use Rattle.std.specs.List.{AllByRecursion as Each}
+use Rattle.std.proofs.lemmas.Bool.Decides.{eqb_tells}
+use Rattle.std.proofs.lemmas.List.{get_or-set_same, get_or-set_other}
+use Rattle.std.proofs.lemmas.List.Elements.{filter-append}
+use Rattle.radio_packet.specs.declared.copy.RadioCopy.{RadioCopy}
+use Rattle.copy_inbox.specs.declared.items.Carried.{Carried}
+use Rattle.copy_inbox.specs.declared.items.Carried.TheVariants.{Packet, Mark}
+use Rattle.copy_inbox.specs.declared.items.Item.{Item}
+use Rattle.copy_inbox.specs.declared.rule.Desk.{Desk}
+use Rattle.copy_inbox.specs.Items.{copies_of, part}
+use Rattle.copy_inbox.specs.Handles.{TakerView, after_taking, IsNextTaken, desk_with}
+use Rattle.copy_inbox.proofs.Parts.{part-append, part-here, part-else}
+use Rattle.copy_exchange.proofs.Lists.{each_join}
+use Rattle.copy_exchange.proofs.Parts.{copies-append}
+use Rattle.mark_exchange.specs.Due.{IsDue, AddsCopy, TakesDue}
+use Rattle.mark_exchange.specs.Marks.{is_mark, marks_in, marks_of, Counts, AreNone}
+
+-- ---- marks of what was taken, with one item more
+pub same_read : (xs : List ℕ) (i d e : ℕ) → i < length xs → get_or xs i d ≡ get_or xs i e
+same_read [] i d e lt = absurd (omega arith)
+same_read (x ∷ xs) zero d e lt = refl
+same_read (x ∷ xs) (suc i) d e lt = same_read xs i d e (omega arith)
+
+marks-append : (xs ys : List Carried) → marks_in (xs ++ ys) ≡ marks_in xs + marks_in ys
+marks-append xs ys = ap length (filter-append is_mark xs ys) ∙ length-append (filter is_mark xs) (filter is_mark ys)
+
+marks_here : (s : ℕ) (taken : List Item) (x : Item) → x.sender ≡ s → marks_of s (taken ++ x ∷ []) ≡ marks_of s taken + marks_in (x.what ∷ [])
+marks_here s taken x e = ap marks_in (part-append s taken (x ∷ []) ∙ ap (λ l. part s taken ++ l) (part-here s x [] e)) ∙ marks-append (part s taken) (x.what ∷ [])
+
+marks_else : (s : ℕ) (taken : List Item) (x : Item) → x.sender ≢ s → marks_of s (taken ++ x ∷ []) ≡ marks_of s taken
+marks_else s taken x e = ap marks_in (part-append s taken (x ∷ []) ∙ (ap (λ l. part s taken ++ l) (part-else s x [] e) ∙ append-nil (part s taken)))
+
+few_marks : (ws : List Carried) → marks_in ws ≤ length ws
+few_marks [] = omega arith
+few_marks (Packet c ∷ ws) = let h = few_marks ws in omega arith
+few_marks (Mark n ∷ ws) = let h = few_marks ws in omega arith
+
+-- the count doesn't overflow
+pub count_fits : (marks : List ℕ) (d : Desk) (x : Item) (n m : ℕ) → Counts marks d → IsNextTaken d x → x.what ≡ Mark n → m ≡ get_or marks x.sender m → m + 1 ≤ 2 ^ 62
+count_fits marks d x n m c next is at =
+    let e = at ∙ c.each x.sender m next.number in
+    let here = marks_here x.sender d.taken x refl ∙ ap (λ w. marks_of x.sender d.taken + marks_in (w ∷ [])) is in
+    let low = few_marks (part x.sender (d.taken ++ x ∷ [])) in
+    let few = next.few in
+    omega arith
+
+pub counts_packet : (marks : List ℕ) (d : Desk) (x : Item) (copy : RadioCopy) → Counts marks d → IsNextTaken d x → x.what ≡ Packet copy → Counts marks (desk_with d x)
+counts_packet marks d x copy c next is = record {
+  all = c.all;
+  each = λ s none lt. c.each s none lt ∙ ⊎_elim
+      (λ (q : (eqb x.sender s ≡ true) × (x.sender ≡ s)).
+      let here = marks_here s d.taken x q.1 ∙ ap (λ w. marks_of s d.taken + marks_in (w ∷ [])) is in omega arith)
+      (λ (q : (eqb x.sender s ≡ false) × (x.sender ≢ s)). sym (marks_else s d.taken x q.1))
+      (eqb_tells x.sender s);
+}
+
+pub counts_mark : (marks : List ℕ) (d : Desk) (x : Item) (n m : ℕ) → Counts marks d → IsNextTaken d x → x.what ≡ Mark n → m ≡ get_or marks x.sender m → Counts (set marks x.sender (m + 1)) (desk_with d x)
+counts_mark marks d x n m c next is at =
+    let all = c.all in
+    let number = next.number in
+    record {
+      all = length-set marks x.sender (m + 1) ∙ c.all;
+      each = λ s none lt. ⊎_elim
+          (λ (q : (eqb x.sender s ≡ true) × (x.sender ≡ s)).
+          let got : get_or (set marks x.sender (m + 1)) s none ≡ m + 1 = ap (λ i. get_or (set marks x.sender (m + 1)) i none) (sym q.1) ∙ get_or-set_same marks x.sender (m + 1) none (omega arith) in
+          let was : m ≡ marks_of s d.taken = at ∙ (c.each x.sender m number ∙ ap (λ i. marks_of i d.taken) q.1) in
+          let here = marks_here s d.taken x q.1 ∙ ap (λ w. marks_of s d.taken + marks_in (w ∷ [])) is in
+          omega arith)
+          (λ (q : (eqb x.sender s ≡ false) × (x.sender ≢ s)).
+          get_or-set_other marks x.sender s (m + 1) none (λ e. q.1 (sym e)) ∙ (c.each s none lt ∙ sym (marks_else s d.taken x q.1)))
+          (eqb_tells x.sender s);
+    }
+
+-- ---- what was taken so far, with one item more
+module _ (of : List ℕ) (worker from : ℕ) where
+  pub takes_none : (t : TakerView) → TakesDue of worker from t t []
+  takes_none t = record {
+    items = [];
+    taker = λ i. record { inbox = t.inbox; desk = record { marked = t.desk.marked; made = t.desk.made; taken = sym (append-nil t.desk.taken) i; gathered = t.desk.gathered } };
+    arrived = refl;
+    due = tt;
+  }
+
+  pub takes_more : (old mid new : TakerView) (x : Item) (copies more : List RadioCopy) → TakesDue of worker from old mid copies → new ≡ after_taking mid (x ∷ []) → AddsCopy of worker from x copies more
+      → TakesDue of worker from old new more
+  takes_more old mid new x copies more h e a =
+      let P : List RadioCopy → Type 0 = λ l. Each (IsDue of worker from) l in
+      record {
+        items = h.items ++ x ∷ [];
+        taker = e ∙ (ap (λ t. after_taking t (x ∷ [])) h.taker
+            ∙ (λ i. record { inbox = old.inbox; desk = record { marked = old.desk.marked; made = old.desk.made; taken = append_assoc old.desk.taken h.items (x ∷ []) i; gathered = old.desk.gathered } }));
+        arrived = a.adds ∙ (ap (λ l. l ++ copies_of (x ∷ [])) h.arrived ∙ sym (copies-append h.items (x ∷ [])));
+        due = subst P (sym a.adds) (each_join (IsDue of worker from) copies (copies_of (x ∷ [])) h.due a.due);
+      }
+
+-- ---- counts one by one
+pub past_more : (marks : List ℕ) (window k m : ℕ) → ((s none : ℕ) → s < k → window < get_or marks s none) → k < length marks → m ≡ get_or marks k m → window < m
+    → (s none : ℕ) → s < k + 1 → window < get_or marks s none
+past_more marks window k m before lt at low s none less = ⊎_elim
+    (λ (q : (eqb s k ≡ true) × (s ≡ k)).
+    let e : m ≡ get_or marks s none = at ∙ (same_read marks k m none lt ∙ ap (λ i. get_or marks i none) (sym q.1)) in omega arith)
+    (λ (q : (eqb s k ≡ false) × (s ≢ k)). let n = q.1 in before s none (omega arith))
+    (eqb_tells s k)
+
+pub none_more : (marks : List ℕ) → AreNone marks → AreNone (marks ++ 0 ∷ [])
+none_more [] h zero none lt = refl
+none_more [] h (suc s) none lt = absurd (omega arith)
+none_more (x ∷ xs) h zero none lt = h 0 none (omega arith)
+none_more (x ∷ xs) h (suc s) none lt = none_more xs (λ t d less. h (suc t) d (omega arith)) s none (omega arith)

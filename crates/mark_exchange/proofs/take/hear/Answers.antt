@@ -1,0 +1,8 @@
+use Rattle.std.proofs.Common.{arith}
+use Rattle.mark_exchange.proofs.Counted.{count_fits}
+use Rattle.mark_exchange.proofs.take.hear.Goals as goal
+
+pub overflow_add-index_mut : goal.overflow_add-index_mut
+overflow_add-index_mut c =
+    let few = count_fits c.args.marks.now.items c.requires.0 c.args.item c.in-Mark.field-0 c.index_mut.result.now c.requires.1 c.requires.2 c.in-Mark.is c.index_mut.ensures.value in
+    record { fits = omega arith }

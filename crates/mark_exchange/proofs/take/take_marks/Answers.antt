@@ -1,0 +1,15 @@
+use Rattle.std.proofs.Common.{sym, subst}
+use Rattle.copy_inbox.specs.Handles.{TakerView}
+use Rattle.mark_exchange.specs.Marks.{Counts}
+use Rattle.mark_exchange.proofs.Counted.{takes_more}
+use Rattle.mark_exchange.proofs.take.take_marks.Goals as goal
+
+pub loop-preserved-in-Some-take_next : goal.loop-preserved-in-Some-take_next
+loop-preserved-in-Some-take_next g c =
+    let item = c.in-Some-take_next.item in
+    let told = c.in-Some-take_next.ensures in
+    let heard = c.in_ok-hear-in-Some-take_next.ensures in
+    record {
+      took = takes_more c.args.standing.now.of.now c.args.standing.now.worker c.args.standing.now.from c.args.taker.now c.loop.taker c.take_next.new.taker item c.loop.arrived.items c.hear.new.arrived.items c.loop.invariant.took told.taken heard.arrived;
+      counts = subst (λ (t : TakerView). Counts c.hear.new.marks.items t.desk) (sym told.taken) (heard.counts c.loop.taker.desk c.loop.invariant.counts told.next);
+    }

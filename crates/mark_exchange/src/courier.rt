@@ -1,0 +1,71 @@
+//! What a worker with marks carries for the whole run.
+
+ghost use Rattle.std.specs.Prelude.{◌≡◌, [], IfOk, OnOk};
+ghost use Rattle.mark_exchange.specs.Due.{TakesDue};
+ghost use Rattle.mark_exchange.specs.Marks.{Counts, AllPast};
+
+use crate::heard::no_marks;
+use crate::take::{MarkError, Standing, take_marks};
+use copy_exchange::Courier;
+use copy_inbox::{Inbox, InboxError};
+use radio_packet::RadioCopy;
+use std::alloc::Global;
+use std::sync::Wait;
+use std::sync::atomic::AtomicBool;
+
+/// The courier of a worker that lives for the whole run, and how many marks it took of each sender on its inbox.
+#[derive(Drop)]
+pub struct MarkCourier {
+    pub courier: Courier,
+    /// By the senders' numbers.
+    pub marks: Vec<u64>,
+}
+
+impl MarkCourier {
+    /// The courier of a worker that has taken nothing yet. So many senders were made on its inbox.
+    pub fn new(alloc: Global, courier: Courier, senders: usize) -> Result<MarkCourier, InboxError>
+        requires made { courier.taker.desk.made ≡ senders }
+        requires taken { courier.taker.desk.taken ≡ [] }
+        ensures courier { IfOk result (λ made. made.courier ≡ courier) }
+        ensures counts { IfOk result (λ made. Counts made.marks.items courier.taker.desk) }
+    {
+        let marks = no_marks(alloc, senders)?;
+        Ok(MarkCourier { courier, marks })
+    }
+
+    /// Takes items until of each sender the mark of the window has come, those of later windows too where they come
+    /// before, and gives the copies. `stop` is the flag that a worker sets which fails.
+    ///
+    /// # Errors
+    /// `Memory`; or `Stopped`, where the flag was set while a mark was missing, or where a copy came that isn't for a
+    /// mote of this worker from a mote of another, or that comes before this worker's next window.
+    pub fn take_window<R: Wait>(
+        &mut self,
+        rt: &R,
+        alloc: Global,
+        inbox: &Inbox,
+        stop: &AtomicBool,
+        standing: &Standing<'_>,
+        window: u64,
+    ) -> Result<Vec<RadioCopy>, MarkError>
+        requires inbox { self.old.courier.taker.inbox ≡ inbox.now }
+        requires counts { Counts self.old.marks.items self.old.courier.taker.desk }
+        ensures took { IfOk result (λ copies. TakesDue standing.now.of.now standing.now.worker standing.now.from self.old.courier.taker self.new.courier.taker copies.items) }
+        ensures counts { OnOk result (Counts self.new.marks.items self.new.courier.taker.desk) }
+        ensures marked { OnOk result (AllPast window self.new.marks.items) }
+        ensures worker { self.new.courier.worker ≡ self.old.courier.worker }
+        ensures senders { self.new.courier.senders ≡ self.old.courier.senders }
+    {
+        let MarkCourier { courier, marks } = self;
+        take_marks(
+            rt,
+            alloc,
+            inbox,
+            stop,
+            standing,
+            &mut courier.taker,
+            marks,
+            window,
+        )
+    }
+}

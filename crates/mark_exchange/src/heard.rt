@@ -1,0 +1,30 @@
+//! How many marks came of each sender.
+
+ghost use Rattle.std.specs.Prelude.{◌≡◌, ℕ, ◌+◌, ◌<◌, ◌≤◌, ◌^◌, true, length, slice_index_or, slice_set, IfOk};
+ghost use Rattle.mark_exchange.specs.Marks.{AllPast, AreNone};
+
+use std::alloc::{AllocError, Global};
+
+/// A count of 0 for each of so many senders.
+pub fn no_marks(alloc: Global, senders: usize) -> Result<Vec<u64>, AllocError>
+    ensures count { IfOk result (λ marks. length marks.items ≡ senders) }
+    ensures none { IfOk result (λ marks. AreNone marks.items) }
+{
+    let mut marks = Vec::with_capacity(alloc, senders)?;
+    for _ in 0..senders {
+        marks.push_reserved(0);
+    }
+    Ok(marks)
+}
+
+/// Whether of each sender more marks came than this.
+pub fn all_past(marks: &[u64], window: u64) -> bool
+    ensures { result ≡ true → AllPast window marks.now }
+{
+    for sender in 0..marks.len() {
+        if marks[sender] <= window {
+            return false;
+        }
+    }
+    true
+}

@@ -1,0 +1,146 @@
+//! Taking until the marks of a window have come.
+
+ghost use Rattle.std.specs.Prelude.{◌≡◌, true, IfOk, OnOk};
+ghost use Rattle.copy_inbox.specs.declared.rule.Desk.{Desk};
+ghost use Rattle.copy_inbox.specs.Handles.{IsNextTaken, desk_with};
+ghost use Rattle.worker_cut.specs.Crossed.{is_own};
+ghost use Rattle.mark_exchange.specs.Due.{IsDue, AddsCopy, TakesDue};
+ghost use Rattle.mark_exchange.specs.Marks.{Counts, AllPast};
+
+use crate::heard::all_past;
+use copy_inbox::{Carried, Inbox, Item, Taker};
+use radio_packet::RadioCopy;
+use std::alloc::{AllocError, AllocFailed, Global};
+use std::sync::Wait;
+use std::sync::atomic::{AtomicBool, Ordering};
+use std::thread;
+
+// How often a worker that finds nothing looks again before it gives way.
+const LOOKS: u32 = 100;
+
+/// Why a worker took no further.
+#[derive(Clone, Copy, Debug, PartialEq, Eq)]
+pub enum MarkError {
+    /// Memory was refused.
+    Memory = 1,
+    /// Another worker has stopped, or a copy came that isn't due.
+    Stopped = 2,
+}
+
+impl From<AllocError> for MarkError {
+    fn from(_error: AllocError) -> Self {
+        MarkError::Memory
+    }
+}
+
+impl<T: Drop> From<AllocFailed<T>> for MarkError {
+    fn from(_error: AllocFailed<T>) -> Self {
+        MarkError::Memory
+    }
+}
+
+/// Where a worker stands between two windows.
+#[derive(Clone, Copy)]
+pub struct Standing<'a> {
+    pub worker: u16,
+    /// The worker of each mote.
+    pub of: &'a [u16],
+    /// The moment at which its next window begins.
+    pub from: u64,
+}
+
+/// Whether a mote is one of this worker's: `of` tells the worker of each mote.
+fn is_own(of: &[u16], worker: u16, mote: u16) -> bool
+    ensures { result ≡ is_own of.now worker mote }
+{
+    match of.get(usize::from(mote)) {
+        Some(other) => *other == worker,
+        None => false,
+    }
+}
+
+/// Whether the copy is for a mote of the worker, from a mote of another, and comes no sooner than where the worker stands.
+fn is_due(standing: &Standing<'_>, copy: RadioCopy) -> bool
+    ensures { result ≡ true → IsDue standing.now.of.now standing.now.worker standing.now.from copy }
+{
+    if !is_own(standing.of, standing.worker, copy.to) {
+        return false;
+    }
+    if is_own(standing.of, standing.worker, copy.sender) {
+        return false;
+    }
+    standing.from <= copy.at
+}
+
+/// Counts an item that was taken, where it is a mark; where it is a copy, adds it to those that arrived, if it is due.
+fn hear(
+    standing: &Standing<'_>,
+    marks: &mut Vec<u64>,
+    arrived: &mut Vec<RadioCopy>,
+    item: Item,
+) -> Result<(), MarkError>
+    requires { (d : Desk) × Counts marks.old.items d × IsNextTaken d item }
+    ensures counts { OnOk result ((d : Desk) → Counts marks.old.items d → IsNextTaken d item → Counts marks.new.items (desk_with d item)) }
+    ensures arrived { OnOk result (AddsCopy standing.now.of.now standing.now.worker standing.now.from item arrived.old.items arrived.new.items) }
+{
+    match item.what {
+        Carried::Packet(copy) => {
+            if !is_due(standing, copy) {
+                return Err(MarkError::Stopped);
+            }
+            arrived.push(copy)?;
+        }
+        Carried::Mark(_) => marks[item.sender as usize] += 1,
+    }
+    Ok(())
+}
+
+// A worker that found nothing so often looks whether the others go on, and gives way after a while.
+fn wait(stop: &AtomicBool, looks: u32) -> Result<u32, MarkError> {
+    if stop.load(Ordering::SeqCst) {
+        return Err(MarkError::Stopped);
+    }
+    if looks < LOOKS {
+        std::hint::spin_loop();
+        return Ok(looks + 1);
+    }
+    thread::yield_now();
+    Ok(looks)
+}
+
+/// Takes items until of each sender more marks have come than `window`, and gives their copies.
+///
+/// # Errors
+/// `Stopped` where the flag was set while a mark was missing, or a copy came that isn't due.
+pub fn take_marks<R: Wait>(
+    rt: &R,
+    alloc: Global,
+    inbox: &Inbox,
+    stop: &AtomicBool,
+    standing: &Standing<'_>,
+    taker: &mut Taker,
+    marks: &mut Vec<u64>,
+    window: u64,
+) -> Result<Vec<RadioCopy>, MarkError>
+    requires inbox { taker.old.inbox ≡ inbox.now }
+    requires counts { Counts marks.old.items taker.old.desk }
+    ensures took { IfOk result (λ copies. TakesDue standing.now.of.now standing.now.worker standing.now.from taker.old taker.new copies.items) }
+    ensures counts { OnOk result (Counts marks.new.items taker.new.desk) }
+    ensures marked { OnOk result (AllPast window marks.new.items) }
+{
+    let mut arrived = Vec::new(alloc);
+    let mut looks: u32 = 0;
+    for _ in rt.forever() {
+        if all_past(marks, window) {
+            return Ok(arrived);
+        }
+        match inbox.take_next(rt, taker) {
+            Some(item) => {
+                hear(standing, marks, &mut arrived, item)?;
+                looks = 0;
+            }
+            None => looks = wait(stop, looks)?,
+        }
+    }
+    unreachable!()
+}
