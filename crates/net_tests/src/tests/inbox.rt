@@ -1,6 +1,6 @@
 //! Runs of an inbox, in one thread and in several.
 
-ghost use Rattle.std.specs.Prelude.{◌≡◌};
+ghost use Rattle.std.specs.Prelude.{◌≡◌, false};
 
 use copy_inbox::{Inbox, InboxError, Sender, Taker};
 use radio_packet::RadioCopy;
@@ -228,8 +228,8 @@ fn drain_known<R: Wait>(
     inbox: &Inbox,
     mut taker: Taker,
 ) -> (Taker, Result<Vec<RadioCopy>, InboxError>)
-    requires { taker.inbox ≡ inbox.now }
-    ensures { (result.0.inbox ≡ inbox.now) × (result.0.desk.made ≡ taker.desk.made) × (result.0.desk.gathered ≡ taker.desk.gathered) }
+    requires { (taker.inbox ≡ inbox.now) × (taker.desk.marked ≡ false) }
+    ensures { (result.0.desk.marked ≡ false) × (result.0.inbox ≡ inbox.now) × (result.0.desk.made ≡ taker.desk.made) × (result.0.desk.gathered ≡ taker.desk.gathered) }
 {
     let known = inbox.known(&taker);
     let copies = inbox.drain(rt, &mut taker, known);
@@ -251,8 +251,8 @@ fn while_another_pushes<R: Threads + Wait + Sync>(
     let ((mut taker, taken), second) = thread::join(
         rt,
         move ||
-            requires { taker.inbox ≡ shared.now }
-            ensures { (result.0.inbox ≡ shared.entry.now) × (result.0.desk.made ≡ taker.desk.made) × (result.0.desk.gathered ≡ taker.desk.gathered) }
+            requires { (taker.inbox ≡ shared.now) × (taker.desk.marked ≡ false) }
+            ensures { (result.0.desk.marked ≡ false) × (result.0.inbox ≡ shared.entry.now) × (result.0.desk.made ≡ taker.desk.made) × (result.0.desk.gathered ≡ taker.desk.gathered) }
         { drain_known(rt, shared, taker) },
         move ||
             requires { second.inbox ≡ shared.now }
