@@ -284,7 +284,8 @@ impl Inbox {
         Some(item)
     }
 
-    /// Takes the `n` copies at the front of an inbox without marks. The memory for them is asked for first, so a refusal changes nothing.
+    /// Takes the `n` copies at the front of an inbox without marks. The memory for them is asked for first, so a refusal
+    /// changes nothing.
     pub fn drain<R: Wait>(
         &self,
         rt: &R,

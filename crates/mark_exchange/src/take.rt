@@ -59,7 +59,7 @@ fn is_own(of: &[u16], worker: u16, mote: u16) -> bool
     }
 }
 
-/// Whether the copy is for a mote of the worker, from a mote of another, and comes no sooner than where the worker stands.
+/// Whether the copy is for a mote of the worker, from a mote of another, and comes no sooner than it stands.
 fn is_due(standing: &Standing<'_>, copy: RadioCopy) -> bool
     ensures { result ≡ true → IsDue standing.now.of.now standing.now.worker standing.now.from copy }
 {
@@ -72,7 +72,7 @@ fn is_due(standing: &Standing<'_>, copy: RadioCopy) -> bool
     standing.from <= copy.at
 }
 
-/// Counts an item that was taken, where it is a mark; where it is a copy, adds it to those that arrived, if it is due.
+/// Counts an item that was taken, where it is a mark; adds its copy to those that arrived, where that is due.
 fn hear(
     standing: &Standing<'_>,
     marks: &mut Vec<u64>,
