@@ -1,5 +1,8 @@
 //! A share by itself.
 
+ghost use Rattle.std.specs.Prelude.{◌≡◌, length};
+ghost use Rattle.net_scenario.specs.Net.{net_of};
+
 use super::COPY_PAST_THE_END;
 use net_scenario::{Net, read_scenario};
 use radio_packet::RadioCopy;
