@@ -1,21 +1,21 @@
 -- One copy more is delivered.
-use Rattle.std.proofs.Common.{◌≡◌, ◌≢◌, ℕ, zero, suc, ◌<◌, ◌==◌, Bool, true, false, cond, eqb, List, [], ◌∷◌, ◌++◌, length, filter, get_or, slice_get, slice_index, Option, Some, None, refl, sym, ap, ◌∙◌, subst, ⊎_elim, arith, append-nil, append_assoc, length-set, eq-eqb, ne_eqb}
+use Rattle.std.proofs.Common.{◌≡◌, ◌≢◌, ℕ, zero, suc, ◌<◌, ◌==◌, Bool, true, false, cond, eqb, List, [], ◌∷◌, ◌++◌, length, map, filter, get_or, slice_get, slice_index, Option, Some, None, refl, sym, ap, ◌∙◌, subst, ⊎_elim, arith, append-nil, append_assoc, length-set, eq-eqb, ne_eqb}
 use Rattle.std.proofs.Math.Seq.{map-set_same}
 use Rattle.std.proofs.lemmas.Bool.Decides.{eqb_tells}
-use Rattle.std.proofs.lemmas.List.{get_or-set_same, get_or-set_other}
+use Rattle.std.proofs.lemmas.List.{get_or-set_same, get_or-set_other, map-append}
 use Rattle.std.proofs.lemmas.List.Elements.{filter-append}
 use Rattle.std.proofs.lemmas.Option.{slice_get-get_or}
 use Rattle.std.specs.Option.{IsSomeAnd}
 use Rattle.std.specs.Vec.{with_item}
 use Rattle.radio_packet.specs.declared.copy.RadioCopy.{RadioCopy}
+use Rattle.copy_inbox.specs.declared.items.Carried.{Carried}
 use Rattle.copy_inbox.specs.declared.items.Carried.TheVariants.{Packet}
 use Rattle.copy_inbox.specs.declared.rule.Post.{Post}
-use Rattle.copy_inbox.specs.Views.{make_post}
-use Rattle.copy_inbox.specs.Handles.{InboxId, SenderView}
+use Rattle.copy_inbox.specs.Handles.{InboxId, TakerView, SenderView, after_pushing}
 use Rattle.copy_exchange.specs.declared.courier.Courier.{Courier}
-use Rattle.copy_exchange.specs.Desks.{copies_pushed}
+use Rattle.copy_exchange.specs.Desks.{copies_pushed, IsOrderly}
 use Rattle.worker_cut.specs.Crossed.{is_to}
-use Rattle.copy_exchange.specs.Couriers.{IsCourier, IsSenderOn, Leaves, Stays, Delivers, sender_to, delivered, pushed_by, seat_of}
+use Rattle.copy_exchange.specs.Couriers.{IsCourier, IsSeated, IsSenderOn, Leaves, Reaches, Stays, Delivers, PushesOut, sender_to, delivered, pushed_by, pushed_list, pushed_to, seat_of}
 use Rattle.worker_cut.proofs.Owners.{own_is}
 use Rattle.copy_exchange.proofs.Parts.{pushed-append}
 
@@ -25,7 +25,7 @@ same_at (s ∷ ss) zero d e lt = refl
 same_at (s ∷ ss) (suc v) d e lt = same_at ss v d e (omega arith)
 
 -- the sender on the inbox of the receiver's worker
-module _ (inboxes : List InboxId) (of : List ℕ) (c : Courier) (copy : RadioCopy) (to mote : ℕ) (courier : IsCourier inboxes c) (leaves : Leaves of (length inboxes) c.worker copy)
+module _ (inboxes : List InboxId) (of : List ℕ) (c : Courier) (copy : RadioCopy) (to mote : ℕ) (courier : IsSeated inboxes c) (leaves : Leaves of (length inboxes) c.worker copy)
     (at_mote : mote ≡ copy.to) (at_to : to ≡ get_or of mote 0) where
   pub to_is : to ≡ slice_index of copy.to
   to_is = at_to ∙ ap (λ k. slice_index of k) at_mote
@@ -66,8 +66,8 @@ sender_on id false s t e h = e ∙ h
 abbrev pub with_sender : Courier → (to : ℕ) → SenderView → Courier
 with_sender c to t = record { worker = c.worker; taker = c.taker; senders = with_item c.senders to (Some t) }
 
-module _ (inboxes : List InboxId) (of : List ℕ) (c : Courier) (copy : RadioCopy) (to : ℕ) (courier : IsCourier inboxes c) (inside : to < length inboxes) (there : copy.to < length of) (is : to ≡ slice_index of copy.to)
-    (s t : SenderView) (was : Some s ≡ get_or c.senders.items to (Some s)) (same_inbox : t.inbox ≡ s.inbox) (post : t.post ≡ make_post s.post.number (s.post.pushed ++ Packet copy ∷ [])) where
+module _ (inboxes : List InboxId) (of : List ℕ) (c : Courier) (copy : RadioCopy) (to : ℕ) (courier : IsSeated inboxes c) (inside : to < length inboxes) (there : copy.to < length of) (is : to ≡ slice_index of copy.to)
+    (s t : SenderView) (was : Some s ≡ get_or c.senders.items to (Some s)) (same_inbox : t.inbox ≡ s.inbox) (post : t.post ≡ after_pushing s.post (Packet copy)) where
   here : sender_to c to ≡ Some s
   here = let count = courier.count in same_at c.senders.items to None (Some s) (omega arith) ∙ sym was
 
@@ -77,7 +77,7 @@ module _ (inboxes : List InboxId) (of : List ℕ) (c : Courier) (copy : RadioCop
   then_else : (v : ℕ) → v ≢ to → sender_to (with_sender c to t) v ≡ sender_to c v
   then_else v n = get_or-set_other c.senders.items to v (Some t) None n
 
-  pub courier_with : IsCourier inboxes (with_sender c to t)
+  pub courier_with : IsSeated inboxes (with_sender c to t)
   courier_with = record {
     taker = courier.taker;
     count = length-set c.senders.items to (Some t) ∙ courier.count;
@@ -90,7 +90,6 @@ module _ (inboxes : List InboxId) (of : List ℕ) (c : Courier) (copy : RadioCop
         let P : Option SenderView → Type 0 = λ o. IsSenderOn id (v == c.worker) o in
         subst P (sym (then_else v q.1)) (courier.each v id found))
         (eqb_tells v to);
-    stands = courier.stands;
   }
 
   adds_at : (v : ℕ) → delivered (with_sender c to t) v ≡ delivered c v ++ filter (is_to of v) (copy ∷ [])
@@ -106,17 +105,32 @@ module _ (inboxes : List InboxId) (of : List ℕ) (c : Courier) (copy : RadioCop
       ap pushed_by (then_else v q.1) ∙ sym (append-nil (delivered c v)) ∙ ap (λ (b : Bool). delivered c v ++ cond b (copy ∷ []) []) (sym e))
       (eqb_tells v to)
 
+  pushes_at : (v : ℕ) → pushed_to (with_sender c to t) v ≡ pushed_to c v ++ map Packet (filter (is_to of v) (copy ∷ []))
+  pushes_at v = ⊎_elim
+      (λ (q : (eqb v to ≡ true) × (v ≡ to)).
+      let e : is_to of v copy ≡ true = own_is of copy.to v there ∙ eq-eqb (slice_index of copy.to) v (sym (q.1 ∙ is)) in
+      ap pushed_list (ap (sender_to (with_sender c to t)) q.1 ∙ then_here)
+      ∙ ap (λ (p : Post). p.pushed) post
+      ∙ ap (λ (o : Option SenderView). pushed_list o ++ Packet copy ∷ []) (sym (ap (sender_to c) q.1 ∙ here))
+      ∙ ap (λ (b : Bool). pushed_to c v ++ map Packet (cond b (copy ∷ []) [])) (sym e))
+      (λ (q : (eqb v to ≡ false) × (v ≢ to)).
+      let e : is_to of v copy ≡ false = own_is of copy.to v there ∙ ne_eqb (slice_index of copy.to) v (λ h. q.1 (sym (is ∙ h))) in
+      ap pushed_list (then_else v q.1) ∙ sym (append-nil (pushed_to c v)) ∙ ap (λ (b : Bool). pushed_to c v ++ map Packet (cond b (copy ∷ []) [])) (sym e))
+      (eqb_tells v to)
+
   pub delivers_with : Delivers of c (with_sender c to t) (copy ∷ [])
   delivers_with = record {
     stays = record {
       worker = refl;
       inbox = refl;
+      marked = refl;
       made = refl;
       gathered = refl;
       seats = map-set_same seat_of c.senders.items to (Some t) (Some s) (ap Some (λ i. (same_inbox i, (post i).number)) ∙ ap seat_of was);
     };
     taker = refl;
     adds = adds_at;
+    pushes = pushes_at;
   }
 
 -- ---- copy by copy
@@ -124,6 +138,7 @@ pub stays_on : (a b c : Courier) → Stays a b → Stays b c → Stays a c
 stays_on a b c h k = record {
   worker = k.worker ∙ h.worker;
   inbox = k.inbox ∙ h.inbox;
+  marked = k.marked ∙ h.marked;
   made = k.made ∙ h.made;
   gathered = k.gathered ∙ h.gathered;
   seats = k.seats ∙ h.seats;
@@ -131,14 +146,69 @@ stays_on a b c h k = record {
 
 pub delivers_none : (of : List ℕ) (c : Courier) → Delivers of c c []
 delivers_none of c = record {
-  stays = record { worker = refl; inbox = refl; made = refl; gathered = refl; seats = refl };
+  stays = record { worker = refl; inbox = refl; marked = refl; made = refl; gathered = refl; seats = refl };
   taker = refl;
   adds = λ v. sym (append-nil (delivered c v));
+  pushes = λ v. sym (append-nil (pushed_to c v));
 }
+
+-- packets behind packets
+packets_on : (of : List ℕ) (v : ℕ) (old : List Carried) (xs ys : List RadioCopy) → (old ++ map Packet (filter (is_to of v) xs)) ++ map Packet (filter (is_to of v) ys) ≡ old ++ map Packet (filter (is_to of v) (xs ++ ys))
+packets_on of v old xs ys =
+    append_assoc old (map Packet (filter (is_to of v) xs)) (map Packet (filter (is_to of v) ys))
+    ∙ ap (λ l. old ++ l) (sym (map-append Packet (filter (is_to of v) xs) (filter (is_to of v) ys)) ∙ ap (map Packet) (sym (filter-append (is_to of v) xs ys)))
 
 pub delivers_more : (of : List ℕ) (a b c : Courier) (xs ys : List RadioCopy) → Delivers of a b xs → Delivers of b c ys → Delivers of a c (xs ++ ys)
 delivers_more of a b c xs ys h k = record {
   stays = stays_on a b c h.stays k.stays;
   taker = k.taker ∙ h.taker;
   adds = λ v. k.adds v ∙ (ap (λ l. l ++ filter (is_to of v) ys) (h.adds v) ∙ (append_assoc (delivered a v) (filter (is_to of v) xs) (filter (is_to of v) ys) ∙ ap (λ l. delivered a v ++ l) (sym (filter-append (is_to of v) xs ys))));
+  pushes = λ v. k.pushes v ∙ (ap (λ l. l ++ map Packet (filter (is_to of v) ys)) (h.pushes v) ∙ packets_on of v (pushed_to a v) xs ys);
+}
+
+-- ---- a courier of joins among those that are seated
+pub seated : (inboxes : List InboxId) (c : Courier) → IsCourier inboxes c → IsSeated inboxes c
+seated inboxes c h = record { taker = h.taker; count = h.count; each = h.each }
+
+pub courier_again : (inboxes : List InboxId) (of : List ℕ) (a b : Courier) (copies : List RadioCopy) → IsCourier inboxes a → Delivers of a b copies → IsSeated inboxes b → IsCourier inboxes b
+courier_again inboxes of a b copies h d s =
+    let P : TakerView → Type 0 = λ t. IsOrderly t.desk in
+    record { taker = s.taker; count = s.count; each = s.each; stands = subst P (sym d.taker) h.stands }
+
+-- ---- the copies for other workers
+pub pushes_none : (of : List ℕ) (c : Courier) → PushesOut of c c []
+pushes_none of c = record {
+  stays = record { worker = refl; inbox = refl; marked = refl; made = refl; gathered = refl; seats = refl };
+  taker = refl;
+  pushes = λ v other. sym (append-nil (pushed_to c v));
+}
+
+-- a copy for one of its own motes isn't pushed
+pub pushes_own : (of : List ℕ) (workers : ℕ) (c : Courier) (copy : RadioCopy) → Reaches of workers copy → slice_index of copy.to ≡ c.worker → PushesOut of c c (copy ∷ [])
+pushes_own of workers c copy reaches own = record {
+  stays = record { worker = refl; inbox = refl; marked = refl; made = refl; gathered = refl; seats = refl };
+  taker = refl;
+  pushes = λ v other.
+      let e : is_to of v copy ≡ false = own_is of copy.to v reaches.there ∙ (ap (λ k. k == v) own ∙ turned v c.worker other) in
+      sym (append-nil (pushed_to c v)) ∙ ap (λ (b : Bool). pushed_to c v ++ map Packet (cond b (copy ∷ []) [])) (sym e);
+}
+  where
+    turned : (v w : ℕ) → (v == w) ≡ false → (w == v) ≡ false
+    turned v w e = ⊎_elim (λ (q : (eqb v w ≡ true) × (v ≡ w)). absurd (let t = q.0 in cc)) (λ (q : (eqb v w ≡ false) × (v ≢ w)). ne_eqb w v (λ h. q.1 (sym h))) (eqb_tells v w)
+
+pub leaves_other : (of : List ℕ) (workers worker : ℕ) (copy : RadioCopy) → Reaches of workers copy → slice_index of copy.to ≢ worker → Leaves of workers worker copy
+leaves_other of workers worker copy reaches other = record {
+  there = reaches.there;
+  its_worker = reaches.its_worker;
+  other = own_is of copy.to worker reaches.there ∙ ne_eqb (slice_index of copy.to) worker other;
+}
+
+pub pushes_delivered : (of : List ℕ) (a b : Courier) (copies : List RadioCopy) → Delivers of a b copies → PushesOut of a b copies
+pushes_delivered of a b copies d = record { stays = d.stays; taker = d.taker; pushes = λ v other. d.pushes v }
+
+pub pushes_more : (of : List ℕ) (a b c : Courier) (xs ys : List RadioCopy) → PushesOut of a b xs → PushesOut of b c ys → PushesOut of a c (xs ++ ys)
+pushes_more of a b c xs ys h k = record {
+  stays = stays_on a b c h.stays k.stays;
+  taker = k.taker ∙ h.taker;
+  pushes = λ v other. k.pushes v (ap (λ w. v == w) h.stays.worker ∙ other) ∙ (ap (λ l. l ++ map Packet (filter (is_to of v) ys)) (h.pushes v other) ∙ packets_on of v (pushed_to a v) xs ys);
 }

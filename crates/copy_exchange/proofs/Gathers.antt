@@ -1,20 +1,23 @@
 -- All senders of an inbox that were open are gathered, one after another.
-use Rattle.std.proofs.Common.{◌≡◌, ◌≢◌, ◌⊎◌, ℕ, ◌+◌, ◌<◌, ◌≤◌, Bool, true, false, eqb, List, [], ◌∷◌, ◌++◌, length, map, refl, sym, ap, ◌∙◌, subst, inl, inr, ⊎_elim, arith, append_assoc, append-nil, eq-eqb, ne_eqb}
+use Rattle.std.proofs.Common.{◌≡◌, ◌≢◌, ◌⊎◌, ℕ, zero, suc, ◌+◌, ◌<◌, ◌≤◌, Bool, true, false, eqb, List, [], ◌∷◌, ◌++◌, length, map, drop, refl, sym, ap, ◌∙◌, subst, inl, inr, ⊎_elim, arith, append_assoc, append-nil, eq-eqb, ne_eqb}
 use Rattle.std.specs.List.{AllByRecursion as Each, flat_map, range_with_len}
 use Rattle.std.proofs.lemmas.Bool.{cases_lt}
 use Rattle.std.proofs.lemmas.Bool.Decides.{eqb_tells}
 use Rattle.std.proofs.lemmas.List.Concat.{flat_map-cons}
+use Rattle.std.proofs.Math.Seq.{drop-append_seam}
 use Rattle.radio_packet.specs.declared.copy.RadioCopy.{RadioCopy}
-use Rattle.copy_inbox.specs.declared.items.InboxItem.{InboxItem}
+use Rattle.copy_inbox.specs.declared.items.Carried.{Carried}
+use Rattle.copy_inbox.specs.declared.items.Item.{Item}
 use Rattle.copy_inbox.specs.declared.rule.Gathered.{Gathered}
 use Rattle.copy_inbox.specs.declared.rule.Desk.{Desk}
-use Rattle.copy_inbox.specs.Items.{copies_of, part}
-use Rattle.copy_inbox.specs.Gathered.{is_gathered, Apart, TookFronts, Whole}
+use Rattle.copy_inbox.specs.Items.{copies_of, Packets, part}
+use Rattle.copy_inbox.specs.Gathered.{is_gathered, untaken_of, Apart, TookFronts, Whole}
 use Rattle.copy_inbox.specs.Views.{make_desk, make_gathered}
-use Rattle.copy_inbox.specs.Handles.{TakerView, SenderView, after_gather, AllGathered}
+use Rattle.copy_inbox.specs.Handles.{TakerView, SenderView, after_gather, AllGathered, PacketsLeft}
 use Rattle.copy_inbox.proofs.Parts.{part-append}
 use Rattle.copy_exchange.specs.Desks.{SameOfEach, copies_pushed, copies_in, IsRest, IsOrderly}
 use Rattle.copy_exchange.specs.Couriers.{AreOpen}
+use Rattle.copy_exchange.proofs.Lists.{each_map}
 use Rattle.copy_exchange.proofs.Parts.{from, from-append, copies-append, OnlyIn, of_one_sender, nothing_more}
 
 abbrev pub gather_posts : TakerView → List SenderView → TakerView
@@ -32,7 +35,7 @@ joined made [] gs = gs
 joined made (s ∷ ss) gs = joined made ss (as_gathered made s ∷ gs)
 
 abbrev pub with_joined : List SenderView → Desk → Desk
-with_joined ss d = make_desk d.made d.taken (joined d.made ss d.gathered)
+with_joined ss d = make_desk d.marked d.made d.taken (joined d.made ss d.gathered)
 
 pub gather_is : (t : TakerView) (ss : List SenderView) → gather_posts t ss ≡ record { inbox = t.inbox; desk = with_joined ss t.desk }
 gather_is t [] = refl
@@ -52,6 +55,10 @@ module _ (P : Gathered → Type 0) (made : ℕ) where
   each_new : (ss : List SenderView) (gs : List Gathered) → Each P (joined made ss gs) → Each (λ s. P (as_gathered made s)) ss
   each_new [] gs h = tt
   each_new (s ∷ ss) gs h = ((each_old ss (as_gathered made s ∷ gs) h).0, each_new ss (as_gathered made s ∷ gs) h)
+
+  pub each_joined : (ss : List SenderView) (gs : List Gathered) → Each P gs → Each (λ s. P (as_gathered made s)) ss → Each P (joined made ss gs)
+  each_joined [] gs old new = old
+  each_joined (s ∷ ss) gs old new = each_joined ss (as_gathered made s ∷ gs) (new.0, old) new.1
 
 -- ---- which are gathered
 pub gathered_more : (g : Gathered) (gs : List Gathered) (i : ℕ) → i ≢ g.number → is_gathered (g ∷ gs) i ≡ is_gathered gs i
@@ -142,7 +149,7 @@ module _ (s j : ℕ) where
       let here : from s (copies_by a) ≡ [] = ⊎_elim (λ (same : a.post.number ≡ j). absurd (omega arith)) (λ (none : from s (copies_by a) ≡ []). none) h.0 in
       ap (from s) (flat_map-cons copies_by a as') ∙ (from-append s (copies_by a) (flat_map copies_by as') ∙ (ap (λ l. l ++ from s (flat_map copies_by as')) here ∙ none_of (first + 1) as' heads'.1 (omega arith) h.1))
 
-  all_of : (items : List InboxItem) (first : ℕ) (ss : List SenderView) → numbers_of ss ≡ range_with_len first (length ss) → Each (λ (a : SenderView). part a.post.number items ≡ a.post.pushed) ss → Each Mine ss
+  all_of : (items : List Item) (first : ℕ) (ss : List SenderView) → numbers_of ss ≡ range_with_len first (length ss) → Each (λ (a : SenderView). part a.post.number items ≡ a.post.pushed) ss → Each Mine ss
       → ((j < first) ⊎ (first + length ss ≤ j) → from s (copies_pushed (part j items)) ≡ []) → from s (flat_map copies_by ss) ≡ from s (copies_pushed (part j items))
   all_of items first [] e parts h out = ⊎_elim (λ (lt : j < first). sym (out (inl lt))) (λ (ge : first ≤ j). sym (out (inr (omega arith)))) (cases_lt j first)
   all_of items first (a ∷ as') e parts h out =
@@ -172,7 +179,7 @@ module _ (P Q R : SenderView → Type 0) where
   each_two (a ∷ as') f h k = (f a h.0 k.0, each_two as' f h.1 k.1)
 
 -- nothing was taken of senders numbered from `first` on
-fresh_parts : (taken rest : List InboxItem) (first : ℕ) (ss : List SenderView) → numbers_of ss ≡ range_with_len first (length ss) → ((i : ℕ) → first ≤ i → part i taken ≡ [])
+fresh_parts : (taken rest : List Item) (first : ℕ) (ss : List SenderView) → numbers_of ss ≡ range_with_len first (length ss) → ((i : ℕ) → first ≤ i → part i taken ≡ [])
     → Each (λ (a : SenderView). part a.post.number (taken ++ rest) ≡ a.post.pushed) ss → Each (λ (a : SenderView). part a.post.number rest ≡ a.post.pushed) ss
 fresh_parts taken rest first [] e none h = tt
 fresh_parts taken rest first (a ∷ as') e none h =
@@ -193,7 +200,7 @@ module _ (ss : List SenderView) (d : Desk) (stands : IsOrderly d) (whole : Whole
   all_gathered i lt = let made = end.are_open.made in end.are_open.older i (omega arith)
 
   -- nothing more comes of a sender that was gathered before
-  module _ (rest : List InboxItem) (is_rest : IsRest (with_joined ss d) rest) where
+  module _ (rest : List Item) (is_rest : IsRest (with_joined ss d) rest) where
     old_whole : Whole d.gathered (d.taken ++ rest)
     old_whole = each_old (λ g. part g.number (d.taken ++ rest) ≡ g.pushed) d.made ss d.gathered is_rest.0
 
@@ -231,7 +238,7 @@ module _ (ss : List SenderView) (d : Desk) (stands : IsOrderly d) (whole : Whole
     then_in_order s =
         let j : ℕ = (one s).number in
         let before : from s (copies_of d.taken) ≡ from s (copies_in d.gathered) =
-        ap (λ l. from s (copies_of l)) (sym (append-nil d.taken)) ∙ stands.in_order [] (subst (λ (l : List InboxItem). Whole d.gathered l) (sym (append-nil d.taken)) whole, λ i no. ap (part i) (append-nil d.taken)) s in
+        ap (λ l. from s (copies_of l)) (sym (append-nil d.taken)) ∙ stands.in_order [] (subst (λ (l : List Item). Whole d.gathered l) (sym (append-nil d.taken)) whole, λ i no. ap (part i) (append-nil d.taken)) s in
         let now : from s (copies_of rest) ≡ from s (flat_map copies_by ss) =
         of_one_sender s j rest (only_in s) ∙ sym (all_of s j rest are_open.first ss are_open.numbered new_parts (one s).each (λ q. ap (λ l. from s (copies_pushed l)) (outside j q))) in
         ap (from s) (copies-append d.taken rest) ∙ (from-append s (copies_of d.taken) (copies_of rest)
@@ -246,3 +253,23 @@ module _ (ss : List SenderView) (d : Desk) (stands : IsOrderly d) (whole : Whole
     later = λ u lt no. let yes = all_gathered u lt in absurd cc;
     numbers = end.numbers;
   }
+
+-- ---- no mark is left
+packets_drop : (n : ℕ) (l : List Carried) → Packets l → Packets (drop n l)
+packets_drop zero l h = h
+packets_drop (suc n) [] h = tt
+packets_drop (suc n) (w ∷ ws) h = packets_drop n ws h.1
+
+none_untaken : (taken : List Item) (g : Gathered) → part g.number taken ≡ g.pushed → Packets (untaken_of taken g)
+none_untaken taken g whole =
+    let mine : List Carried = part g.number taken in
+    let P : List Carried → Type 0 = Packets in
+    let none : untaken_of taken g ≡ [] = ap (drop (length mine)) (sym whole ∙ sym (append-nil mine)) ∙ drop-append_seam mine [] in
+    subst P (sym none) tt
+
+-- all that was gathered before is taken, and what is gathered now is packets
+pub packets_then : (ss : List SenderView) (d : Desk) → Whole d.gathered d.taken → Each (λ (s : SenderView). Packets s.post.pushed) ss → PacketsLeft (with_joined ss d)
+packets_then ss d whole new = each_joined (λ g. Packets (untaken_of d.taken g)) d.made ss d.gathered
+    (each_map (λ (g : Gathered). part g.number d.taken ≡ g.pushed) (λ (g : Gathered). Packets (untaken_of d.taken g)) d.gathered (none_untaken d.taken) whole)
+    (each_map (λ (s : SenderView). Packets s.post.pushed) (λ (s : SenderView). Packets (untaken_of d.taken (as_gathered d.made s))) ss
+    (λ s h. packets_drop (length (part s.post.number d.taken)) s.post.pushed h) new)

@@ -7,15 +7,17 @@ use Rattle.std.proofs.lemmas.List.FromFn.{length-range_with_len}
 use Rattle.std.proofs.lemmas.Option.{get_or_from_slice_get, slice_get-get_or}
 use Rattle.std.specs.declared.alloc.Global.{Global}
 use Rattle.copy_inbox.specs.declared.rule.Desk.{Desk}
+use Rattle.copy_inbox.specs.declared.rule.Post.{Post}
+use Rattle.copy_inbox.specs.Items.{Packets}
 use Rattle.copy_inbox.specs.Gathered.{is_gathered}
-use Rattle.copy_inbox.specs.Handles.{InboxId, TakerView, SenderView, after_gather}
+use Rattle.copy_inbox.specs.Handles.{InboxId, TakerView, SenderView, after_gather, AllGathered, PacketsLeft}
 use Rattle.copy_exchange.specs.declared.courier.Courier.{Courier}
-use Rattle.copy_exchange.specs.Desks.{copies_in}
+use Rattle.copy_exchange.specs.Desks.{copies_in, IsOrderly}
 use Rattle.copy_exchange.specs.Couriers.{IsCourier, IsCollected, DeliversOwn, Stays, AreOpen, Returns, AllReturn, ComesHome, IsSenderOn, sender_to, senders_to, seat_of}
-use Rattle.copy_exchange.specs.Inboxes.{IsSettled, Settled}
-use Rattle.copy_exchange.specs.Steps.{AreTakersOf, AreSendersOn, GathersRow, gather_into, at_place}
-use Rattle.copy_exchange.proofs.Gathers.{gather_posts, gather_is, with_joined, numbers_of, joined_copies, all_gathered, stands_then, OneOf}
-use Rattle.copy_exchange.proofs.Lists.{each_at}
+use Rattle.copy_exchange.specs.Inboxes.{IsPlain, IsSettled, Settled}
+use Rattle.copy_exchange.specs.Steps.{AreTakersOf, AreSendersOn, GathersRow, TellsOf, gather_into, at_place}
+use Rattle.copy_exchange.proofs.Gathers.{gather_posts, gather_is, with_joined, numbers_of, joined_copies, all_gathered, stands_then, packets_then, OneOf}
+use Rattle.copy_exchange.proofs.Lists.{each_at, each_from, each_join, each_map}
 use Rattle.copy_exchange.proofs.Rows.{into_inbox}
 use Rattle.copy_exchange.proofs.Owns.{workers_of, delivered_is, one_of}
 
@@ -104,32 +106,49 @@ module _ (inboxes : List InboxId) (cs : List Courier) (back : AllReturn inboxes 
   one s v = one_of back.worker_of s v 0 cs (workers ∙ ap (range_with_len 0) (sym count)) owns
 
   -- the taker with all senders of its inbox gathered
-  abbrev pub IsHome : Courier → Type 0
-  IsHome c = IsCourier inboxes c × IsSettled c.taker.inbox (gather_posts c.taker (senders_to cs c.worker)) × ComesHome cs c (gather_posts c.taker (senders_to cs c.worker))
+  abbrev pub with_all : Courier → TakerView
+  with_all c = gather_posts c.taker (senders_to cs c.worker)
 
-  home : (c : Courier) → AreOpen (senders_to cs c.worker) c.taker.desk → IsCourier inboxes c → IsCollected c → IsHome c
-  home c are_open courier collected =
+  -- it had taken all that it knew of, and its inbox has no marks
+  abbrev IsDone : Courier → Type 0
+  IsDone c = IsCollected c × IsPlain c.taker
+
+  abbrev pub IsHome : Courier → Type 0
+  IsHome c = IsCourier inboxes c × (IsOrderly (with_all c).desk × AllGathered (with_all c).desk) × ComesHome cs c (with_all c) × IsDone c
+
+  home : (c : Courier) → AreOpen (senders_to cs c.worker) c.taker.desk → IsCourier inboxes c → IsDone c → IsHome c
+  home c are_open courier done =
       let ss : List SenderView = senders_to cs c.worker in
       let d : Desk = c.taker.desk in
-      let P : TakerView → Type 0 = λ t. IsSettled c.taker.inbox t × ComesHome cs c t in
+      let P : TakerView → Type 0 = λ t. (IsOrderly t.desk × AllGathered t.desk) × ComesHome cs c t in
       let then_ : P (record { inbox = c.taker.inbox; desk = with_joined ss d }) = (
+        (stands_then ss d courier.stands done.0 are_open (λ s. one s c.worker), all_gathered ss d courier.stands done.0 are_open (λ s. one s c.worker)),
         record {
-          its = refl;
-          stands = stands_then ss d courier.stands collected are_open (λ s. one s c.worker);
-          all = all_gathered ss d courier.stands collected are_open (λ s. one s c.worker);
-        },
-        record {
+          same_marked = refl;
           same_taken = refl;
           adds = joined_copies d.made ss d.gathered ∙ ap (λ l. copies_in d.gathered ++ l) (sym (delivered_is cs c.worker));
         },
       ) in
       let both = subst P (sym (gather_is c.taker ss)) then_ in
-      (courier, both.0, both.1)
+      (courier, both.0, both.1, done)
 
   pub homes : Each IsHome cs
-  homes = each_three (λ c. AreOpen (senders_to cs c.worker) c.taker.desk) (IsCourier inboxes) IsCollected IsHome home cs still_open
+  homes = each_three (λ c. AreOpen (senders_to cs c.worker) c.taker.desk) (IsCourier inboxes) IsDone IsHome home cs still_open
       (each_back inboxes back.worker_of (IsCourier inboxes) (λ a b r. r.courier) before cs back.each)
-      (each_back inboxes back.worker_of IsCollected (λ a b r. r.collected) before cs back.each)
+      (each_back inboxes back.worker_of IsDone (λ a b r. (r.collected, r.plain)) before cs back.each)
+
+  pub settled_at : (c : Courier) → IsHome c → Each (λ (s : SenderView). TellsOf c.taker.desk s.post) (senders_to cs c.worker) → IsSettled c.taker.inbox (with_all c)
+  settled_at c h told =
+      let ss : List SenderView = senders_to cs c.worker in
+      let is = gather_is c.taker ss in
+      let packets : Each (λ (s : SenderView). Packets s.post.pushed) ss = each_map (λ (s : SenderView). TellsOf c.taker.desk s.post) (λ (s : SenderView). Packets s.post.pushed) ss (λ s k. k.plain h.3.1) told in
+      let P : TakerView → Type 0 = λ t. PacketsLeft t.desk in
+      record {
+        its = ap (λ (t : TakerView). t.inbox) is;
+        stands = h.1.0;
+        all = h.1.1;
+        no_mark = subst P (sym is) (packets_then ss c.taker.desk h.3.0 packets);
+      }
 
 -- ---- row by row
 abbrev pub Row : Type 0
@@ -142,6 +161,18 @@ row_senders rows v = filter_map (λ (r : Row). at_place r.items v) rows
 pub record GathersRows (old new : List TakerView) (rows : List Row) : Type 0 where
   pub count : length new ≡ length old
   pub taker : (v : ℕ) (t : TakerView) → v < length old → get_or new v t ≡ gather_posts (get_or old v t) (row_senders rows v)
+  pub told : (v : ℕ) (t : TakerView) → v < length old → Each (λ (s : SenderView). TellsOf (get_or old v t).desk s.post) (row_senders rows v)
+
+-- what a taker took doesn't change when it gathers
+told_before : (t : TakerView) (ss : List SenderView) (p : Post) → TellsOf (gather_posts t ss).desk p → TellsOf t.desk p
+told_before t ss p h =
+    let P : TakerView → Type 0 = λ u. TellsOf u.desk p in
+    let k : TellsOf (with_joined ss t.desk) p = subst P (gather_is t ss) h in
+    record { begun = k.begun; plain = k.plain }
+
+told_option : (d : Desk) (o : Option SenderView) → ((s : SenderView) → o ≡ Some s → TellsOf d s.post) → Each (λ (s : SenderView). TellsOf d s.post) (cons_option o [])
+told_option d None f = tt
+told_option d (Some s) f = (f s refl, tt)
 
 posts_more : (t : TakerView) (ss : List SenderView) (o : Option SenderView) → gather_posts t (ss ++ cons_option o []) ≡ gather_into (gather_posts t ss) o
 posts_more t [] None = refl
@@ -149,7 +180,7 @@ posts_more t [] (Some s) = refl
 posts_more t (s ∷ ss) o = posts_more (after_gather t s.post) ss o
 
 pub no_rows : (old : List TakerView) → GathersRows old old []
-no_rows old = record { count = refl; taker = λ v t lt. refl }
+no_rows old = record { count = refl; taker = λ v t lt. refl; told = λ v t lt. tt }
 
 pub more_rows : (old mid new : List TakerView) (rows : List Row) (row : Row) → GathersRows old mid rows → GathersRow mid new row.items → GathersRows old new (rows ++ row ∷ [])
 more_rows old mid new rows row h r =
@@ -159,6 +190,13 @@ more_rows old mid new rows row h r =
       taker = λ v t lt.
           r.taker v t (omega arith) ∙ (ap (λ u. gather_into u (at_place row.items v)) (h.taker v t lt)
           ∙ (sym (posts_more (get_or old v t) (row_senders rows v) (at_place row.items v)) ∙ ap (gather_posts (get_or old v t)) (sym (filter_map-append (λ (k : Row). at_place k.items v) rows (row ∷ [])))));
+      told = λ v t lt.
+          let F : SenderView → Type 0 = λ s. TellsOf (get_or old v t).desk s.post in
+          let new_ : Each F (cons_option (at_place row.items v) []) = told_option (get_or old v t).desk (at_place row.items v) (λ s found.
+          let P : TakerView → Type 0 = λ u. TellsOf u.desk s.post in
+          told_before (get_or old v t) (row_senders rows v) s.post (subst P (h.taker v t lt) (r.told v t s (omega arith) found))) in
+          let L : List SenderView → Type 0 = λ l. Each F l in
+          subst L (sym (filter_map-append (λ (k : Row). at_place k.items v) rows (row ∷ []))) (each_join F (row_senders rows v) (cons_option (at_place row.items v) []) (h.told v t lt) new_);
     }
 
 pub takers_after : (inboxes : List InboxId) (old new : List TakerView) (senders : List (Option SenderView)) → AreTakersOf inboxes old → GathersRow old new senders → AreTakersOf inboxes new
@@ -247,12 +285,31 @@ module _ (inboxes : List InboxId) (cs : List Courier) (back : AllReturn inboxes 
         let same : v ≡ p.0.worker = omega arith in
         h.taker v t (omega arith) ∙ ((λ i. gather_posts (p.2 t i) (rows_of cs v i)) ∙ ap (λ k. gather_posts p.0.taker (senders_to cs k)) same)
 
+    told_at : (v : ℕ) (t : TakerView) (lt : v < length cs) → Each (λ (s : SenderView). TellsOf (picked v lt).0.taker.desk s.post) (senders_to cs (picked v lt).0.worker)
+    told_at v t lt =
+        let p = picked v lt in
+        let n = length-map cs (λ (c : Courier). c.taker) in
+        let is = p.1 in
+        let same : v ≡ p.0.worker = omega arith in
+        let Q : TakerView × List SenderView → Type 0 = λ x. Each (λ (s : SenderView). TellsOf x.0.desk s.post) x.1 in
+        subst Q (λ i. (p.2 t i, (rows_of cs v ∙ ap (senders_to cs) same) i)) (h.told v t (omega arith))
+
     pub settled : Settled inboxes ts
     settled = zip_each IsSettled inboxes ts (lengths ∙ long) (λ v id t lt.
         let n = long in
         let inside : v < length cs = omega arith in
         let P : InboxId × TakerView → Type 0 = λ x. IsSettled x.0 x.1 in
-        subst P (λ i. (inbox_of v id inside i, sym (taker_is v t inside) i)) (picked v inside).4.1)
+        subst P (λ i. (inbox_of v id inside i, sym (taker_is v t inside) i)) (settled_at inboxes cs back (picked v inside).0 (picked v inside).4 (told_at v t inside)))
+
+    still_marked : (t : TakerView) (ss : List SenderView) → (gather_posts t ss).desk.marked ≡ t.desk.marked
+    still_marked t ss = ap (λ (u : TakerView). u.desk.marked) (gather_is t ss)
+
+    pub plain_home : Each IsPlain ts
+    plain_home = each_from IsPlain ts (λ v t lt.
+        let n = lengths in
+        let inside : v < length cs = omega arith in
+        let p = picked v inside in
+        ap (λ (u : TakerView). u.desk.marked) (taker_is v t inside) ∙ (still_marked p.0.taker (senders_to cs p.0.worker) ∙ p.4.3.1))
 
     pub came_home : AllZip (ComesHome cs) cs ts
     came_home = zip_each (ComesHome cs) cs ts lengths (λ v d t lt.

@@ -16,6 +16,10 @@ module _ {A : Type 0} (P : A → Type 0) where
   each_more [] x h p = (p, tt)
   each_more (y ∷ ys) x h p = (h.0, each_more ys x h.1 p)
 
+  pub each_join : (xs ys : List A) → Each P xs → Each P ys → Each P (xs ++ ys)
+  each_join [] ys h k = k
+  each_join (x ∷ xs) ys h k = (h.0, each_join xs ys h.1 k)
+
 module _ {A : Type 0} (P Q : A → Type 0) where
   pub each_map : (xs : List A) → ((x : A) → P x → Q x) → Each P xs → Each Q xs
   each_map [] f h = tt

@@ -1,11 +1,11 @@
 -- The copies of one mote among the items of several senders.
-use Rattle.std.proofs.Common.{◌≡◌, ◌≢◌, ℕ, Bool, true, false, cond, eqb, List, [], ◌∷◌, ◌++◌, filter, refl, sym, ap, ◌∙◌, ⊎_elim}
+use Rattle.std.proofs.Common.{◌≡◌, ◌≢◌, ℕ, Bool, true, false, cond, eqb, Option, Some, None, List, [], ◌∷◌, ◌++◌, filter, refl, sym, ap, ◌∙◌, ⊎_elim}
 use Rattle.std.proofs.lemmas.Bool.Decides.{eqb_tells}
-use Rattle.std.proofs.lemmas.List.{map-append}
-use Rattle.std.proofs.lemmas.List.Elements.{filter-append}
+use Rattle.std.specs.List.{cons_option}
+use Rattle.std.proofs.lemmas.List.Elements.{filter-append, filter_map-append}
 use Rattle.radio_packet.specs.declared.copy.RadioCopy.{RadioCopy}
 use Rattle.copy_inbox.specs.declared.items.Carried.{Carried}
-use Rattle.copy_inbox.specs.declared.items.InboxItem.{InboxItem}
+use Rattle.copy_inbox.specs.declared.items.Item.{Item}
 use Rattle.copy_inbox.specs.Items.{copies_of, carried_copy, part}
 use Rattle.copy_inbox.proofs.Parts.{part-here, part-else}
 use Rattle.window_law.specs.Windows.{is_from_sender}
@@ -18,11 +18,11 @@ from s copies = filter (is_from_sender s) copies
 pub from-append : (s : ℕ) (xs ys : List RadioCopy) → from s (xs ++ ys) ≡ from s xs ++ from s ys
 from-append s xs ys = filter-append (is_from_sender s) xs ys
 
-pub copies-append : (xs ys : List InboxItem) → copies_of (xs ++ ys) ≡ copies_of xs ++ copies_of ys
-copies-append xs ys = map-append (λ (x : InboxItem). carried_copy x.what) xs ys
+pub copies-append : (xs ys : List Item) → copies_of (xs ++ ys) ≡ copies_of xs ++ copies_of ys
+copies-append xs ys = filter_map-append (λ (x : Item). carried_copy x.what) xs ys
 
 pub pushed-append : (xs ys : List Carried) → copies_pushed (xs ++ ys) ≡ copies_pushed xs ++ copies_pushed ys
-pushed-append xs ys = map-append carried_copy xs ys
+pushed-append xs ys = filter_map-append carried_copy xs ys
 
 pub from-cons : (s : ℕ) (x : RadioCopy) (xs : List RadioCopy) → from s (x ∷ xs) ≡ cond (is_from_sender s x) (x ∷ from s xs) (from s xs)
 from-cons s x xs = refl
@@ -35,27 +35,40 @@ from_tail s x xs e = cases (is_from_sender s x) refl
     cases true t = absurd (let h : x ∷ from s xs ≡ [] = ap (λ (c : Bool). cond c (x ∷ from s xs) (from s xs)) (sym t) ∙ e in cc)
     cases false f = (f, ap (λ (c : Bool). cond c (x ∷ from s xs) (from s xs)) (sym f) ∙ e)
 
+-- the same with a copy in front, or with a mark, which is none
+option_tail : (s : ℕ) (o : Option RadioCopy) (xs : List RadioCopy) → from s (cons_option o xs) ≡ [] → from s xs ≡ []
+option_tail s None xs e = e
+option_tail s (Some x) xs e = (from_tail s x xs e).1
+
+option_more : (s : ℕ) (o : Option RadioCopy) (xs ys : List RadioCopy) → from s xs ≡ from s ys → from s (cons_option o xs) ≡ from s (cons_option o ys)
+option_more s None xs ys e = e
+option_more s (Some x) xs ys e = ap (λ l. cond (is_from_sender s x) (x ∷ l) l) e
+
+option_none : (s : ℕ) (o : Option RadioCopy) (xs ys : List RadioCopy) → from s (cons_option o xs) ≡ [] → from s (cons_option o ys) ≡ from s ys
+option_none s None xs ys e = refl
+option_none s (Some x) xs ys e = ap (λ (b : Bool). cond b (x ∷ from s ys) (from s ys)) (from_tail s x xs e).0
+
 -- mote s has copies in the items of sender j alone
-abbrev pub OnlyIn : (s j : ℕ) → List InboxItem → Type 0
+abbrev pub OnlyIn : (s j : ℕ) → List Item → Type 0
 OnlyIn s j items = (i : ℕ) → i ≢ j → from s (copies_pushed (part i items)) ≡ []
 
-only_in_tail : (s j : ℕ) (x : InboxItem) (xs : List InboxItem) → OnlyIn s j (x ∷ xs) → OnlyIn s j xs
+only_in_tail : (s j : ℕ) (x : Item) (xs : List Item) → OnlyIn s j (x ∷ xs) → OnlyIn s j xs
 only_in_tail s j x xs h i n = ⊎_elim
-    (λ (t : (eqb x.sender i ≡ true) × (x.sender ≡ i)). (from_tail s (carried_copy x.what) (copies_pushed (part i xs)) (ap (λ l. from s (copies_pushed l)) (sym (part-here i x xs t.1)) ∙ h i n)).1)
+    (λ (t : (eqb x.sender i ≡ true) × (x.sender ≡ i)). option_tail s (carried_copy x.what) (copies_pushed (part i xs)) (ap (λ l. from s (copies_pushed l)) (sym (part-here i x xs t.1)) ∙ h i n))
     (λ (t : (eqb x.sender i ≡ false) × (x.sender ≢ i)). ap (λ l. from s (copies_pushed l)) (sym (part-else i x xs t.1)) ∙ h i n)
     (eqb_tells x.sender i)
 
-pub of_one_sender : (s j : ℕ) (items : List InboxItem) → OnlyIn s j items → from s (copies_of items) ≡ from s (copies_pushed (part j items))
+pub of_one_sender : (s j : ℕ) (items : List Item) → OnlyIn s j items → from s (copies_of items) ≡ from s (copies_pushed (part j items))
 of_one_sender s j [] h = refl
 of_one_sender s j (x ∷ xs) h =
-    let p : RadioCopy = carried_copy x.what in
+    let p : Option RadioCopy = carried_copy x.what in
     let r = of_one_sender s j xs (only_in_tail s j x xs h) in
     ⊎_elim
     (λ (t : (eqb x.sender j ≡ true) × (x.sender ≡ j)).
-    ap (λ l. cond (is_from_sender s p) (p ∷ l) l) r ∙ ap (λ l. from s (copies_pushed l)) (sym (part-here j x xs t.1)))
+    option_more s p (copies_of xs) (copies_pushed (part j xs)) r ∙ ap (λ l. from s (copies_pushed l)) (sym (part-here j x xs t.1)))
     (λ (t : (eqb x.sender j ≡ false) × (x.sender ≢ j)).
-    let none = from_tail s p (copies_pushed (part x.sender xs)) (ap (λ l. from s (copies_pushed l)) (sym (part-here x.sender x xs refl)) ∙ h x.sender t.1) in
-    ap (λ (b : Bool). cond b (p ∷ from s (copies_of xs)) (from s (copies_of xs))) none.0 ∙ (r ∙ ap (λ l. from s (copies_pushed l)) (sym (part-else j x xs t.1))))
+    let none : from s (cons_option p (copies_pushed (part x.sender xs))) ≡ [] = (ap (λ l. from s (copies_pushed l)) (sym (part-here x.sender x xs refl)) ∙ h x.sender t.1) in
+    option_none s p (copies_pushed (part x.sender xs)) (copies_of xs) none ∙ (r ∙ ap (λ l. from s (copies_pushed l)) (sym (part-else j x xs t.1))))
     (eqb_tells x.sender j)
 
 -- ---- what stands behind a list that is all of it

@@ -23,7 +23,7 @@ use Rattle.copy_exchange.proofs.Homes.{Row, row_senders}
 
 -- ---- a taker that has made more senders
 abbrev pub with_more : TakerView → ℕ → TakerView
-with_more t n = record { inbox = t.inbox; desk = make_desk (t.desk.made + n) t.desk.taken t.desk.gathered }
+with_more t n = record { inbox = t.inbox; desk = make_desk t.desk.marked (t.desk.made + n) t.desk.taken t.desk.gathered }
 
 below : (made : ℕ) (gs : List Gathered) → Each (λ (g : Gathered). (g.number < made) × (g.made ≤ made)) gs → (i : ℕ) → made ≤ i → is_gathered gs i ≡ false
 below made [] h i le = refl
@@ -81,7 +81,7 @@ pub opens_no_rows : (inboxes : List InboxId) (old : List TakerView) → Settled 
 opens_no_rows inboxes old h = record {
   takers = settled_takers inboxes old h;
   are_rows = tt;
-  taker = λ v t lt. λ i. record { inbox = (get_or old v t).inbox; desk = record { made = sym (add-zero (get_or old v t).desk.made) i; taken = (get_or old v t).desk.taken; gathered = (get_or old v t).desk.gathered } };
+  taker = λ v t lt. λ i. record { inbox = (get_or old v t).inbox; desk = record { marked = (get_or old v t).desk.marked; made = sym (add-zero (get_or old v t).desk.made) i; taken = (get_or old v t).desk.taken; gathered = (get_or old v t).desk.gathered } };
   numbered = λ v t lt. refl;
 }
 
@@ -140,15 +140,15 @@ range_more a n = sym (map-id (range_with_len a (n + 1))) ∙ (map-range_with_len
 opened_more : (own : Bool) (t : TakerView) (n : ℕ) (ss : List SenderView) → n ≡ length ss → opened_taker own (with_more t n) ≡ with_more t (length (ss ++ cons_option (opened_sender own (with_more t n)) []))
 opened_more true t n ss e = ap (with_more t) (e ∙ ap length (sym (append-nil ss)))
 opened_more false t n ss e =
-    let s : SenderView = record { inbox = t.inbox; post = make_post (t.desk.made + n) [] } in
+    let s : SenderView = record { inbox = t.inbox; post = make_post t.desk.marked (t.desk.made + n) [] } in
     let more : t.desk.made + n + 1 ≡ t.desk.made + length (ss ++ s ∷ []) = let long = length-append ss (s ∷ []) in omega arith in
-    λ i. record { inbox = t.inbox; desk = make_desk (more i) t.desk.taken t.desk.gathered }
+    λ i. record { inbox = t.inbox; desk = make_desk t.desk.marked (more i) t.desk.taken t.desk.gathered }
 
 numbers_more : (own : Bool) (t : TakerView) (n : ℕ) (ss : List SenderView) → n ≡ length ss → numbers_of ss ≡ range_with_len t.desk.made (length ss)
     → numbers_of (ss ++ cons_option (opened_sender own (with_more t n)) []) ≡ range_with_len t.desk.made (length (ss ++ cons_option (opened_sender own (with_more t n)) []))
 numbers_more true t n ss e h = let nil = append-nil ss in ap numbers_of nil ∙ (h ∙ ap (λ l. range_with_len t.desk.made (length l)) (sym nil))
 numbers_more false t n ss e h =
-    let s : SenderView = record { inbox = t.inbox; post = make_post (t.desk.made + n) [] } in
+    let s : SenderView = record { inbox = t.inbox; post = make_post t.desk.marked (t.desk.made + n) [] } in
     let f : SenderView → ℕ = λ x. x.post.number in
     map-append f ss (s ∷ []) ∙ (ap (λ l. l ++ (t.desk.made + n) ∷ []) h ∙ (ap (λ k. range_with_len t.desk.made (length ss) ++ (t.desk.made + k) ∷ []) e ∙ (sym (range_more t.desk.made (length ss)) ∙ ap (range_with_len t.desk.made) (sym (length-append ss (s ∷ []))))))
 
@@ -306,6 +306,7 @@ module _ (inboxes : List InboxId) (olds ts : List TakerView) (rows : List Row) (
       let row = row_at inboxes 0 rows i r h.are_rows (omega arith) in
       let same = same_read olds i t o (omega arith) in
       record {
+        same_marked = ap (λ (x : TakerView). x.desk.marked) (h.taker i t inside) ∙ ap (λ (x : TakerView). x.desk.marked) same;
         same_taken = ap (λ (x : TakerView). x.desk.taken) (h.taker i t inside) ∙ ap (λ (x : TakerView). x.desk.taken) same;
         same_gathered = ap (λ (x : TakerView). x.desk.gathered) (h.taker i t inside) ∙ ap (λ (x : TakerView). x.desk.gathered) same;
         nothing = row.nothing;

@@ -3,12 +3,12 @@ use Rattle.std.proofs.Common.{◌≡◌, ◌≢◌, ℕ, ◌+◌, ◌<◌, ◌==
 use Rattle.std.specs.List.{AllByRecursion as Each, range_with_len}
 use Rattle.std.proofs.lemmas.List.Concat.{flat_map-cons}
 use Rattle.radio_packet.specs.declared.copy.RadioCopy.{RadioCopy}
-use Rattle.copy_inbox.specs.declared.items.InboxItem.{InboxItem}
+use Rattle.copy_inbox.specs.declared.items.Item.{Item}
 use Rattle.copy_inbox.specs.declared.rule.Desk.{Desk}
 use Rattle.copy_inbox.specs.Items.{copies_of, part}
 use Rattle.copy_inbox.specs.Gathered.{Whole}
 use Rattle.copy_inbox.specs.Views.{make_desk}
-use Rattle.copy_inbox.specs.Handles.{InboxId, TakerView}
+use Rattle.copy_inbox.specs.Handles.{InboxId, TakerView, PacketsLeft}
 use Rattle.copy_inbox.proofs.Parts.{part-not_nil}
 use Rattle.copy_exchange.specs.declared.courier.Courier.{Courier}
 use Rattle.window_law.specs.Windows.{is_from_sender}
@@ -22,12 +22,12 @@ use Rattle.copy_exchange.proofs.Owns.{workers_of, none_of_them}
 use Rattle.copy_exchange.proofs.Parts.{from, from-append}
 
 -- ---- at the start
-none_left : (rest : List InboxItem) → ((s : ℕ) → part s rest ≡ []) → rest ≡ []
+none_left : (rest : List Item) → ((s : ℕ) → part s rest ≡ []) → rest ≡ []
 none_left [] h = refl
 none_left (x ∷ xs) h = absurd (part-not_nil x xs (h x.sender))
 
-stands_fresh : IsOrderly (make_desk 0 [] [])
-stands_fresh = record {
+stands_fresh : (marked : Bool) → IsOrderly (make_desk marked 0 [] [])
+stands_fresh marked = record {
   in_order = λ rest r s. ap (λ l. from s (copies_of l)) (none_left rest (λ k. r.1 k refl));
   begun = tt;
   unseen = λ s h. refl;
@@ -38,11 +38,13 @@ stands_fresh = record {
 
 settled_fresh : (inbox : InboxId) (t : TakerView) → IsFresh inbox t → IsSettled inbox t
 settled_fresh inbox t h =
-    let P : Desk → Type 0 = λ d. IsOrderly d in
+    let P : Desk → Type 0 = λ d. IsOrderly d × PacketsLeft d in
+    let then_ = subst P (sym h.1) (stands_fresh t.desk.marked, tt) in
     record {
       its = h.0;
-      stands = subst P (sym h.1) stands_fresh;
+      stands = then_.0;
       all = λ s lt. absurd (let none : t.desk.made ≡ 0 = ap (λ (d : Desk). d.made) h.1 in omega arith);
+      no_mark = then_.1;
     }
 
 pub fresh_settled : (pairs : List (InboxId × TakerView)) → Each (λ (pair : InboxId × TakerView). IsFresh pair.0 pair.1) pairs → Settled (map (λ (pair : InboxId × TakerView). pair.0) pairs) (map (λ (pair : InboxId × TakerView). pair.1) pairs)
@@ -75,6 +77,7 @@ returns_from inboxes of worker_of t a b c arrived out set_out collects delivers 
     record {
       stays = stays;
       courier = courier;
+      plain = ap (λ (u : TakerView). u.desk.marked) delivers.taker ∙ collects.plain;
       collected = subst P (sym delivers.taker) collects.all;
       own = λ s v other.
           let other' : (worker_of s == a.worker) ≡ false = ap (λ w. worker_of s == w) (sym stays.worker) ∙ other in

@@ -4,12 +4,15 @@ use Rattle.std.specs.List.{AllByRecursion as Each, AllZip, filter_map, flat_map,
 use Rattle.std.specs.Option.{IsSomeAnd}
 use Rattle.radio_packet.specs.declared.copy.RadioCopy.{RadioCopy}
 use Rattle.worker_cut.specs.Crossed.{is_to}
+use Rattle.copy_inbox.specs.declared.items.Carried.{Carried}
+use Rattle.copy_inbox.specs.declared.items.Carried.TheVariants.{Packet}
 use Rattle.copy_inbox.specs.declared.rule.Desk.{Desk}
 use Rattle.copy_inbox.specs.Gathered.{is_gathered, Whole}
 use Rattle.copy_inbox.specs.Handles.{InboxId, TakerView, SenderView}
 use Rattle.copy_exchange.specs.declared.courier.Courier.{Courier}
 use Rattle.window_law.specs.Windows.{is_from_sender}
 use Rattle.copy_exchange.specs.Desks.{SameOfEach, copies_pushed, taken_by, gathered_by, IsOrderly}
+use Rattle.copy_exchange.specs.Inboxes.{IsPlain}
 
 -- its sender on the inbox of worker v
 abbrev pub sender_to : Courier → (v : ℕ) → Option SenderView
@@ -32,7 +35,22 @@ abbrev pub IsSenderOn : InboxId → (own : Bool) → Option SenderView → Type 
 IsSenderOn id true s = s ≡ None
 IsSenderOn id false s = IsSomeAnd s (λ sender. sender.inbox ≡ id)
 
--- a courier of one of these inboxes' workers
+-- all that a sender pushed, marks and copies
+abbrev pub pushed_list : Option SenderView → List Carried
+pushed_list None = []
+pushed_list (Some s) = s.post.pushed
+
+-- what its sender on the inbox of worker v pushed
+abbrev pub pushed_to : Courier → (v : ℕ) → List Carried
+pushed_to c v = pushed_list (sender_to c v)
+
+-- its taker and its senders are those of these inboxes
+pub record IsSeated (inboxes : List InboxId) (c : Courier) : Type 0 where
+  pub taker : slice_get inboxes c.worker ≡ Some c.taker.inbox
+  pub count : length c.senders.items ≡ length inboxes
+  pub each : (v : ℕ) (id : InboxId) → slice_get inboxes v ≡ Some id → IsSenderOn id (v == c.worker) (sender_to c v)
+
+-- a courier of one of these inboxes' workers, in a window that ends by a join
 pub record IsCourier (inboxes : List InboxId) (c : Courier) : Type 0 where
   pub taker : slice_get inboxes c.worker ≡ Some c.taker.inbox
   pub count : length c.senders.items ≡ length inboxes
@@ -57,13 +75,15 @@ seat_of (Some s) = Some (s.inbox, s.post.number)
 pub record Stays (old new : Courier) : Type 0 where
   pub worker : new.worker ≡ old.worker
   pub inbox : new.taker.inbox ≡ old.taker.inbox
+  pub marked : new.taker.desk.marked ≡ old.taker.desk.marked
   pub made : new.taker.desk.made ≡ old.taker.desk.made
   pub gathered : new.taker.desk.gathered ≡ old.taker.desk.gathered
   pub seats : map seat_of new.senders.items ≡ map seat_of old.senders.items
 
--- it took these copies, which are all that was gathered and not yet taken
+-- it took these copies, which are all that was gathered and not yet taken, of an inbox without marks
 pub record Collects (old new : Courier) (copies : List RadioCopy) : Type 0 where
   pub stays : Stays old new
+  pub plain : IsPlain new.taker
   pub adds : taken_by new.taker ≡ taken_by old.taker ++ copies
   pub in_order : SameOfEach (taken_by new.taker) (gathered_by old.taker)
   pub all : IsCollected new
@@ -80,10 +100,23 @@ pub record Delivers (of : List ℕ) (old new : Courier) (copies : List RadioCopy
   pub stays : Stays old new
   pub taker : new.taker ≡ old.taker
   pub adds : (v : ℕ) → delivered new v ≡ delivered old v ++ filter (is_to of v) copies
+  pub pushes : (v : ℕ) → pushed_to new v ≡ pushed_to old v ++ map Packet (filter (is_to of v) copies)
+
+-- the copy is for a mote of one of these workers
+pub record Reaches (of : List ℕ) (workers : ℕ) (copy : RadioCopy) : Type 0 where
+  pub there : copy.to < length of
+  pub its_worker : slice_index of copy.to < workers
+
+-- of these copies it pushed those for motes of other workers, each to the worker of its receiver, in order
+pub record PushesOut (of : List ℕ) (old new : Courier) (copies : List RadioCopy) : Type 0 where
+  pub stays : Stays old new
+  pub taker : new.taker ≡ old.taker
+  pub pushes : (v : ℕ) → (v == old.worker) ≡ false → pushed_to new v ≡ pushed_to old v ++ map Packet (filter (is_to of v) copies)
 
 -- ---- the couriers of one window
 -- the courier of this taker at the start of a window
 pub record SetsOut (t : TakerView) (c : Courier) : Type 0 where
+  pub same_marked : c.taker.desk.marked ≡ t.desk.marked
   pub same_taken : c.taker.desk.taken ≡ t.desk.taken
   pub same_gathered : c.taker.desk.gathered ≡ t.desk.gathered
   pub nothing : (v : ℕ) → delivered c v ≡ []
@@ -110,6 +143,7 @@ pub record Together (inboxes : List InboxId) (couriers : List Courier) : Type 0 
 pub record Returns (inboxes : List InboxId) (worker_of : ℕ → ℕ) (old new : Courier) : Type 0 where
   pub stays : Stays old new
   pub courier : IsCourier inboxes new
+  pub plain : IsPlain new.taker
   pub collected : IsCollected new
   pub own : DeliversOwn worker_of new
 
@@ -122,5 +156,6 @@ pub record AllReturn (inboxes : List InboxId) (couriers : List Courier) : Type 0
 
 -- the taker of a courier after the window: it has gathered what all couriers delivered to its worker
 pub record ComesHome (couriers : List Courier) (c : Courier) (t : TakerView) : Type 0 where
+  pub same_marked : t.desk.marked ≡ c.taker.desk.marked
   pub same_taken : t.desk.taken ≡ c.taker.desk.taken
   pub adds : gathered_by t ≡ gathered_by c.taker ++ delivered_to couriers c.worker

@@ -1,5 +1,8 @@
 -- The steps before a window and after it, inbox by inbox.
-use Rattle.std.specs.Prelude.{◌≡◌, ℕ, ◌<◌, ◌==◌, Bool, cond, List, [], length, slice_index_or, Option, Some, None}
+use Rattle.std.specs.Prelude.{◌≡◌, ℕ, ◌<◌, ◌==◌, Bool, false, cond, List, [], length, slice_index_or, Option, Some, None}
+use Rattle.copy_inbox.specs.declared.rule.Desk.{Desk}
+use Rattle.copy_inbox.specs.declared.rule.Post.{Post}
+use Rattle.copy_inbox.specs.Items.{Packets, BeginsWith, part}
 use Rattle.copy_inbox.specs.Views.{make_post}
 use Rattle.copy_inbox.specs.Handles.{InboxId, TakerView, SenderView, after_sender, after_gather}
 
@@ -16,7 +19,7 @@ abbrev pub opened_taker : (own : Bool) → TakerView → TakerView
 opened_taker own t = cond own t (after_sender t)
 
 abbrev pub opened_sender : (own : Bool) → TakerView → Option SenderView
-opened_sender own t = cond own None (Some (record { inbox = t.inbox; post = make_post t.desk.made [] }))
+opened_sender own t = cond own None (Some (record { inbox = t.inbox; post = make_post t.desk.marked t.desk.made [] }))
 
 -- on each inbox but its own the worker has a sender more
 pub record Opens (worker : ℕ) (old new : List TakerView) (senders : List (Option SenderView)) : Type 0 where
@@ -35,6 +38,14 @@ pub record AreSendersOn (inboxes : List InboxId) (senders : List (Option SenderV
   pub count : length senders ≡ length inboxes
   pub its : (v : ℕ) (id : InboxId) (s : SenderView) → v < length inboxes → at_place senders v ≡ Some s → s.inbox ≡ slice_index_or inboxes v id
 
+-- what a taker learns of a sender that it gathers: what it took of it is the beginning of what it pushed, and that is
+-- packets where there are no marks
+pub record TellsOf (d : Desk) (p : Post) : Type 0 where
+  pub begun : BeginsWith p.pushed (part p.number d.taken)
+  pub plain : d.marked ≡ false → Packets p.pushed
+
 pub record GathersRow (old new : List TakerView) (senders : List (Option SenderView)) : Type 0 where
   pub takers : length new ≡ length old
   pub taker : (v : ℕ) (t : TakerView) → v < length old → slice_index_or new v t ≡ gather_into (slice_index_or old v t) (at_place senders v)
+  pub told : (v : ℕ) (t : TakerView) (s : SenderView) → v < length old → at_place senders v ≡ Some s
+      → TellsOf (slice_index_or old v t).desk s.post

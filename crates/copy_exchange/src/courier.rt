@@ -2,15 +2,15 @@
 
 ghost use Rattle.std.specs.Prelude.{[], ◌∷◌, length, IfOk, OnOk, OnErr, ◌≡◌};
 ghost use Rattle.std.specs.List.{AllByRecursion as Each};
-ghost use Rattle.copy_exchange.specs.Couriers.{IsCourier, Collects, Delivers, Leaves};
+ghost use Rattle.copy_exchange.specs.Couriers.{IsCourier, IsSeated, Collects, Delivers, Leaves, Reaches, PushesOut};
+ghost use Rattle.copy_exchange.specs.Inboxes.{IsPlain};
 
 use copy_inbox::{Inbox, InboxError, Sender, Taker};
 use radio_packet::RadioCopy;
 use std::sync::Wait;
 
-/// Takes and delivers copies for one worker while its thread runs through a window: it has the worker's taker, and a
-/// sender on the inbox of each other worker.
-#[derive(Drop)]
+/// Takes and delivers copies for one worker while its thread runs: it has the worker's taker, and a sender on the inbox
+/// of each other worker.
 pub struct Courier {
     /// The number of its worker.
     pub worker: u16,
@@ -19,15 +19,39 @@ pub struct Courier {
     pub senders: Vec<Option<Sender>>,
 }
 
+/// By hand, so that a courier is dropped by one call: the check of a function that owns one sees no more of it.
+impl Drop for Courier {
+    fn drop(self) {
+        let Courier {
+            worker: _,
+            taker: _,
+            senders: _,
+        } = self;
+    }
+}
+
 impl Courier {
-    /// Takes all copies that other workers delivered in earlier windows, while they may already deliver more. A refusal
-    /// changes nothing.
+    /// Its taker and its senders.
+    pub fn into_parts(self) -> (Taker, Vec<Option<Sender>>)
+        ensures { (result.0 ≡ self.taker) × (result.1 ≡ self.senders) }
+    {
+        let Courier {
+            worker: _,
+            taker,
+            senders,
+        } = self;
+        (taker, senders)
+    }
+
+    /// Takes all copies that other workers delivered in earlier windows, while they may already deliver more. The inbox
+    /// has no marks. A refusal changes nothing.
     pub fn collect<R: Wait>(
         &mut self,
         rt: &R,
         inboxes: &[Inbox],
     ) -> Result<Vec<RadioCopy>, InboxError>
-        requires { IsCourier inboxes.now self.old }
+        requires courier { IsCourier inboxes.now self.old }
+        requires plain { IsPlain self.old.taker }
         ensures collects { IfOk result (λ copies. Collects self.old self.new copies.items) }
         ensures courier { OnOk result (IsCourier inboxes.now self.new) }
         ensures refused { OnErr result (self.new ≡ self.old) }
@@ -57,6 +81,45 @@ impl Courier {
         Ok(())
     }
 
+    /// Pushes, of these copies, each one that is for a mote of another worker to that worker, in order; `of` is the
+    /// worker of each mote. A copy that comes back is [`InboxError::Memory`]; what was pushed before it stays.
+    pub fn push_copies<R: Wait>(
+        &mut self,
+        rt: &R,
+        inboxes: &[Inbox],
+        of: &[u16],
+        copies: &[RadioCopy],
+    ) -> Result<(), InboxError>
+        requires seated { IsSeated inboxes.now self.old }
+        requires reaches { Each (Reaches of.now (length inboxes.now)) copies.now }
+        ensures pushes { OnOk result (PushesOut of.now self.old self.new copies.now) }
+        ensures seated { OnOk result (IsSeated inboxes.now self.new) }
+    {
+        for copy in copies {
+            self.push_out(rt, inboxes, of, *copy)?;
+        }
+        Ok(())
+    }
+
+    // Pushes one copy, where it is for a mote of another worker.
+    fn push_out<R: Wait>(
+        &mut self,
+        rt: &R,
+        inboxes: &[Inbox],
+        of: &[u16],
+        copy: RadioCopy,
+    ) -> Result<(), InboxError>
+        requires seated { IsSeated inboxes.now self.old }
+        requires reaches { Reaches of.now (length inboxes.now) copy }
+        ensures pushes { OnOk result (PushesOut of.now self.old self.new (copy ∷ [])) }
+        ensures seated { OnOk result (IsSeated inboxes.now self.new) }
+    {
+        if of[usize::from(copy.to)] == self.worker {
+            return Ok(());
+        }
+        self.deliver_one(rt, inboxes, of, copy)
+    }
+
     // Delivers one copy.
     fn deliver_one<R: Wait>(
         &mut self,
@@ -65,10 +128,10 @@ impl Courier {
         of: &[u16],
         copy: RadioCopy,
     ) -> Result<(), InboxError>
-        requires courier { IsCourier inboxes.now self.old }
+        requires seated { IsSeated inboxes.now self.old }
         requires leaves { Leaves of.now (length inboxes.now) self.old.worker copy }
         ensures delivers { OnOk result (Delivers of.now self.old self.new (copy ∷ [])) }
-        ensures courier { OnOk result (IsCourier inboxes.now self.new) }
+        ensures seated { OnOk result (IsSeated inboxes.now self.new) }
     {
         let to = usize::from(of[usize::from(copy.to)]);
         let Some(sender) = &mut self.senders[to] else {

@@ -2,7 +2,7 @@
 
 ghost use Rattle.std.specs.Prelude.{◌≡◌, ◌+◌, length, map, IfOk};
 ghost use Rattle.std.specs.List.{AllByRecursion as Each, zip};
-ghost use Rattle.copy_inbox.specs.Handles.{AllGathered};
+ghost use Rattle.copy_inbox.specs.Handles.{AllGathered, NoMarkLeft};
 ghost use Rattle.copy_exchange.specs.Desks.{taken_by, gathered_by};
 ghost use Rattle.copy_exchange.specs.Inboxes.{IsFresh, IsSettled};
 
@@ -10,16 +10,33 @@ use copy_inbox::{Inbox, InboxError, Taker};
 use std::alloc::Global;
 use std::sync::Wait;
 
-/// So many new inboxes, each with its taker.
-pub fn make_inboxes(alloc: Global, count: usize) -> Result<Vec<(Inbox, Taker)>, InboxError>
+/// So many new inboxes, each with its taker, with marks or without.
+pub fn make_inboxes(
+    alloc: Global,
+    count: usize,
+    marked: bool,
+) -> Result<Vec<(Inbox, Taker)>, InboxError>
     ensures count { IfOk result (λ pairs. length pairs.items ≡ count) }
     ensures fresh { IfOk result (λ pairs. Each (λ pair. IsFresh pair.0 pair.1) pairs.items) }
+    ensures marked { IfOk result (λ pairs. Each (λ pair. pair.1.desk.marked ≡ marked) pairs.items) }
 {
     let mut pairs = Vec::with_capacity(alloc, count)?;
     for _ in 0..count {
-        pairs.push_reserved(Inbox::make(alloc)?);
+        pairs.push_reserved(make_inbox(alloc, marked)?);
     }
     Ok(pairs)
+}
+
+// A new inbox with its taker, with marks or without.
+fn make_inbox(alloc: Global, marked: bool) -> Result<(Inbox, Taker), InboxError>
+    ensures fresh { IfOk result (λ pair. IsFresh pair.0 pair.1) }
+    ensures marked { IfOk result (λ pair. pair.1.desk.marked ≡ marked) }
+{
+    if marked {
+        Inbox::make_marked(alloc)
+    } else {
+        Inbox::make(alloc)
+    }
 }
 
 /// The inboxes, and their takers.
@@ -66,6 +83,7 @@ pub fn known(inbox: &Inbox, taker: &Taker) -> u64
 pub fn close_inboxes<R: Wait>(rt: &R, pairs: Vec<(Inbox, Taker)>) -> Result<(), InboxError>
     requires inbox { Each (λ pair. pair.1.inbox ≡ pair.0) pairs.items }
     requires gathered { Each (λ pair. AllGathered pair.1.desk) pairs.items }
+    requires no_mark { Each (λ pair. NoMarkLeft pair.1.desk) pairs.items }
 {
     for (inbox, taker) in pairs {
         inbox.close(rt, taker)?;

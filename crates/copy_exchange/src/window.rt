@@ -1,10 +1,10 @@
 //! Before a window and after it.
 
 ghost use Rattle.std.specs.Prelude.{◌≡◌, ◌≤◌, ◌^◌, length, map, IfOk, IfSome, OnOk};
-ghost use Rattle.std.specs.List.{AllZip};
+ghost use Rattle.std.specs.List.{AllByRecursion as Each, AllZip};
 ghost use Rattle.copy_exchange.specs.Couriers.{Together, SetsOut, AllReturn, ComesHome};
-ghost use Rattle.copy_exchange.specs.Inboxes.{Settled};
-ghost use Rattle.copy_exchange.specs.Steps.{AreTakersOf, Opens, opened_taker, opened_sender, AreSendersOn, gather_into, GathersRow};
+ghost use Rattle.copy_exchange.specs.Inboxes.{IsPlain, Settled};
+ghost use Rattle.copy_exchange.specs.Steps.{AreTakersOf, Opens, opened_taker, opened_sender, AreSendersOn, gather_into, GathersRow, TellsOf};
 
 use crate::courier::Courier;
 use copy_inbox::{Inbox, InboxError, Sender, Taker};
@@ -69,7 +69,8 @@ fn sender_on(inbox: &Inbox, taker: &mut Taker, own: bool) -> Result<Option<Sende
     Ok(Some(sender))
 }
 
-/// After a window, when all couriers are back: each worker's taker gathers what was delivered to it.
+/// After a window, when all couriers are back: each worker's taker gathers what was delivered to it. The inboxes have no
+/// marks.
 pub fn gathered<R: Wait>(
     rt: &R,
     alloc: Global,
@@ -78,6 +79,7 @@ pub fn gathered<R: Wait>(
 ) -> Result<Vec<Taker>, InboxError>
     requires { AllReturn inboxes.now couriers.items }
     ensures settled { IfOk result (λ takers. Settled inboxes.now takers.items) }
+    ensures plain { IfOk result (λ takers. Each IsPlain takers.items) }
     ensures came_home { IfOk result (λ takers. AllZip (ComesHome couriers.items) couriers.items takers.items) }
 {
     let (mut takers, rows) = unloaded(alloc, couriers)?;
@@ -98,7 +100,7 @@ fn unloaded(alloc: Global, couriers: Vec<Courier>) -> Result<(Vec<Taker>, Rows),
     let mut takers = Vec::with_capacity(alloc, couriers.len())?;
     let mut rows = Vec::with_capacity(alloc, couriers.len())?;
     for courier in couriers {
-        let Courier { taker, senders, .. } = courier;
+        let (taker, senders) = courier.into_parts();
         takers.push_reserved(taker);
         rows.push_reserved(senders);
     }
@@ -125,7 +127,8 @@ fn gather_all<R: Wait>(
 fn gather_one<R: Wait>(rt: &R, inbox: &Inbox, taker: &mut Taker, sender: Option<Sender>)
     requires taker { taker.old.inbox ≡ inbox.now }
     requires sender { IfSome sender (λ s. s.inbox ≡ inbox.now) }
-    ensures { taker.new ≡ gather_into taker.old sender }
+    ensures gathered { taker.new ≡ gather_into taker.old sender }
+    ensures told { IfSome sender (λ s. TellsOf taker.old.desk s.post) }
 {
     if let Some(sender) = sender {
         inbox.gather(rt, taker, sender);

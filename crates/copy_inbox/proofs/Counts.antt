@@ -1,14 +1,14 @@
 -- How much is known: as many copies as the queue holds of gathered senders.
-use Rattle.std.proofs.Common.{◌≡◌, ◌≢◌, ℕ, ◌+◌, ◌≤◌, ◌<◌, Bool, true, false, cond, eqb, Option, List, [], ◌∷◌, ◌++◌, length, drop, refl, sym, ap, ◌∙◌, ⊎_elim, arith, sum_by, append-nil}
+use Rattle.std.proofs.Common.{◌≡◌, ◌≢◌, ℕ, ◌+◌, ◌≤◌, ◌<◌, Bool, true, false, cond, eqb, Option, List, [], ◌∷◌, ◌++◌, length, drop, refl, sym, ap, ◌∙◌, ⊎_elim, arith, sum_by, append-nil, subst}
 use Rattle.std.specs.List.{AllByRecursion as Each}
 use Rattle.std.proofs.lemmas.Bool.Decides.{eqb_tells}
 use Rattle.std.proofs.lemmas.List.Sums.{sum_by-cons}
 use Rattle.std.proofs.Math.Seq.{drop-append_seam}
 use Rattle.copy_inbox.specs.declared.items.Carried.{Carried}
-use Rattle.copy_inbox.specs.declared.items.InboxItem.{InboxItem}
+use Rattle.copy_inbox.specs.declared.items.Item.{Item}
 use Rattle.copy_inbox.specs.declared.rule.Gathered.{Gathered}
 use Rattle.copy_inbox.specs.declared.rule.Desk.{Desk}
-use Rattle.copy_inbox.specs.Items.{part, OfMade}
+use Rattle.copy_inbox.specs.Items.{part, Packets, OfMade}
 use Rattle.copy_inbox.specs.Gathered.{is_gathered, Apart, untaken_of, known_of, Later, TookFronts, Whole}
 use Rattle.copy_inbox.specs.Rule.{Behind, Sound}
 use Rattle.copy_inbox.proofs.Parts.{part-append, part-here, part-else, part-nil_left}
@@ -19,38 +19,38 @@ each_zip [] f h k = tt
 each_zip (g ∷ gs) f h k = (f g h.0 k.0, each_zip gs f h.1 k.1)
 
 -- how many of the items are of gathered senders
-abbrev pub tally : List Gathered → List InboxItem → ℕ
+abbrev pub tally : List Gathered → List Item → ℕ
 tally gs items = sum_by (λ (g : Gathered). length (part g.number items)) gs
 
-known-cons : (g : Gathered) (gs : List Gathered) (taken : List InboxItem) → known_of (g ∷ gs) taken ≡ length (untaken_of taken g) + known_of gs taken
+known-cons : (g : Gathered) (gs : List Gathered) (taken : List Item) → known_of (g ∷ gs) taken ≡ length (untaken_of taken g) + known_of gs taken
 known-cons g gs taken = sum_by-cons (λ (k : Gathered). length (untaken_of taken k)) g gs
 
-tally-cons : (g : Gathered) (gs : List Gathered) (items : List InboxItem) → tally (g ∷ gs) items ≡ length (part g.number items) + tally gs items
+tally-cons : (g : Gathered) (gs : List Gathered) (items : List Item) → tally (g ∷ gs) items ≡ length (part g.number items) + tally gs items
 tally-cons g gs items = sum_by-cons (λ (k : Gathered). length (part k.number items)) g gs
 
 -- ---- what the rule says of each gathered sender
-abbrev pub Adds : List InboxItem → List InboxItem → Gathered → Type 0
+abbrev pub Adds : List Item → List Item → Gathered → Type 0
 Adds taken items g = part g.number (taken ++ items) ≡ g.pushed
 
-pub adds_of : (d : Desk) (seat : ℕ → Option ℕ) (pushed : ℕ → List Carried) (items : List InboxItem) → Sound d seat pushed items → Each (Adds d.taken items) d.gathered
+pub adds_of : (d : Desk) (seat : ℕ → Option ℕ) (pushed : ℕ → List Carried) (items : List Item) → Sound d seat pushed items → Each (Adds d.taken items) d.gathered
 adds_of d seat pushed items s = each_map d.gathered (λ g j. s.parts g.number ∙ j.all) s.joined
 
-left_is : (g : Gathered) (taken items : List InboxItem) → Adds taken items g → untaken_of taken g ≡ part g.number items
+pub left_is : (g : Gathered) (taken items : List Item) → Adds taken items g → untaken_of taken g ≡ part g.number items
 left_is g taken items h = ap (drop (length (part g.number taken))) (sym h ∙ part-append g.number taken items) ∙ drop-append_seam (part g.number taken) (part g.number items)
 
-pub known-is : (gs : List Gathered) (taken items : List InboxItem) → Each (Adds taken items) gs → known_of gs taken ≡ tally gs items
+pub known-is : (gs : List Gathered) (taken items : List Item) → Each (Adds taken items) gs → known_of gs taken ≡ tally gs items
 known-is [] taken items h = refl
 known-is (g ∷ gs) taken items h = let e = ap length (left_is g taken items h.0) in let r = known-is gs taken items h.1 in
     omega (arith, e, r, known-cons g gs taken, tally-cons g gs items)
 
-pub begun_of : (gs : List Gathered) (taken items : List InboxItem) → Each (Adds taken items) gs → TookFronts gs taken
+pub begun_of : (gs : List Gathered) (taken items : List Item) → Each (Adds taken items) gs → TookFronts gs taken
 begun_of gs taken items h = each_map gs (λ g k. (part g.number items, sym k ∙ part-append g.number taken items)) h
 
-pub made_of : (d : Desk) (seat : ℕ → Option ℕ) (pushed : ℕ → List Carried) (items : List InboxItem) → Sound d seat pushed items → OfMade d.made d.taken
+pub made_of : (d : Desk) (seat : ℕ → Option ℕ) (pushed : ℕ → List Carried) (items : List Item) → Sound d seat pushed items → OfMade d.made d.taken
 made_of d seat pushed items s u le = part-nil_left u d.taken items (s.parts u ∙ (s.unmade u le).0)
 
 -- ---- one item more at the front
-pub front_counts : (gs : List Gathered) (x : InboxItem) (items : List InboxItem) → Apart gs → tally gs (x ∷ items) ≡ cond (is_gathered gs x.sender) 1 0 + tally gs items
+pub front_counts : (gs : List Gathered) (x : Item) (items : List Item) → Apart gs → tally gs (x ∷ items) ≡ cond (is_gathered gs x.sender) 1 0 + tally gs items
 front_counts [] x items apart = refl
 front_counts (g ∷ gs) x items apart =
     let a = tally-cons g gs (x ∷ items) in
@@ -67,7 +67,7 @@ front_counts (g ∷ gs) x items apart =
     rw t.0 (omega (arith, a, b, r, here)))
     (eqb_tells g.number x.sender)
 
-tally-none : (gs : List Gathered) (items : List InboxItem) → Each (λ (g : Gathered). part g.number items ≡ []) gs → tally gs items ≡ 0
+tally-none : (gs : List Gathered) (items : List Item) → Each (λ (g : Gathered). part g.number items ≡ []) gs → tally gs items ≡ 0
 tally-none [] items h = refl
 tally-none (g ∷ gs) items h = let e = ap length h.0 in omega (arith, tally-cons g gs items, e, tally-none gs items h.1)
 
@@ -82,13 +82,13 @@ cond-le : (b : Bool) → cond b 1 0 ≤ 1
 cond-le true = omega arith
 cond-le false = omega arith
 
-pub tally-le : (gs : List Gathered) (items : List InboxItem) → Apart gs → tally gs items ≤ length items
+pub tally-le : (gs : List Gathered) (items : List Item) → Apart gs → tally gs items ≤ length items
 tally-le gs [] apart = omega (arith, tally-nil gs)
 tally-le gs (x ∷ xs) apart = omega (arith, front_counts gs x xs apart, tally-le gs xs apart, cond-le (is_gathered gs x.sender))
 
 -- ---- the front while something is known
 -- an item of a sender that isn't gathered stands behind all that is known
-pub front_known : (made : ℕ) (gs : List Gathered) (x : InboxItem) (items : List InboxItem) → Each (λ (g : Gathered). Behind g.number g.made (x ∷ items)) gs
+pub front_known : (made : ℕ) (gs : List Gathered) (x : Item) (items : List Item) → Each (λ (g : Gathered). Behind g.number g.made (x ∷ items)) gs
     → Later made gs → x.sender < made → 0 < tally gs (x ∷ items) → is_gathered gs x.sender ≡ true
 front_known made gs x items behind later lt some = cases (is_gathered gs x.sender) refl
   where
@@ -101,7 +101,7 @@ nil_of_length : (l : List Carried) → length l ≡ 0 → l ≡ []
 nil_of_length [] e = refl
 nil_of_length (x ∷ xs) e = absurd (omega arith)
 
-pub whole_of : (gs : List Gathered) (taken : List InboxItem) → known_of gs taken ≡ 0 → TookFronts gs taken → Whole gs taken
+pub whole_of : (gs : List Gathered) (taken : List Item) → known_of gs taken ≡ 0 → TookFronts gs taken → Whole gs taken
 whole_of [] taken none b = tt
 whole_of (g ∷ gs) taken none b =
     let k = known-cons g gs taken in
@@ -110,3 +110,11 @@ whole_of (g ∷ gs) taken none b =
     let l = ap length e in
     let z : rest ≡ [] = nil_of_length rest (omega arith) in
     (sym (b.0.1 ∙ (ap (λ r. part g.number taken ++ r) z ∙ append-nil (part g.number taken))), whole_of gs taken (omega arith) b.1)
+
+-- so all that is left is packets
+pub none_left : (gs : List Gathered) (taken : List Item) → known_of gs taken ≡ 0 → Each (λ (g : Gathered). Packets (untaken_of taken g)) gs
+none_left [] taken none = tt
+none_left (g ∷ gs) taken none =
+    let k = known-cons g gs taken in
+    let P : List Carried → Type 0 = Packets in
+    (subst P (sym (nil_of_length (untaken_of taken g) (omega arith))) tt, none_left gs taken (omega arith))

@@ -1,5 +1,5 @@
 -- Each move keeps the rule.
-use Rattle.std.proofs.Common.{◌≡◌, ◌≢◌, ◌⊎◌, ℕ, zero, suc, ◌+◌, ◌^◌, ◌≤◌, ◌<◌, true, false, cond, eqb, Option, Some, None, List, [], ◌∷◌, ◌++◌, length, set, refl, sym, ap, ◌∙◌, subst, inl, inr, ⊎_elim, arith, eq-eqb, ne_eqb, length-append}
+use Rattle.std.proofs.Common.{Bool, ◌≡◌, ◌≢◌, ◌⊎◌, ℕ, zero, suc, ◌+◌, ◌^◌, ◌≤◌, ◌<◌, true, false, cond, eqb, Option, Some, None, List, [], ◌∷◌, ◌++◌, length, set, refl, sym, ap, ◌∙◌, subst, inl, inr, ⊎_elim, arith, eq-eqb, ne_eqb, length-append}
 use mathlib.Core.Option.{some, some-injective, some-ne-none}
 use lib.ListN.{get_elem?}
 use Rattle.std.specs.List.{AllByRecursion as Each}
@@ -7,15 +7,15 @@ use Rattle.std.proofs.lemmas.Bool.Decides.{eqb_tells}
 use Rattle.crossbeam_queue.specs.Fifo.{Pushes, Pops, Forks, Merges, Learns}
 use Rattle.crossbeam_queue.proofs.Lists.{at_set, set_else, at_longer, at_last}
 use Rattle.copy_inbox.specs.declared.items.Carried.{Carried}
-use Rattle.copy_inbox.specs.declared.items.InboxItem.{InboxItem}
+use Rattle.copy_inbox.specs.declared.items.Item.{Item}
 use Rattle.copy_inbox.specs.declared.rule.Gathered.{Gathered}
 use Rattle.copy_inbox.specs.declared.rule.Desk.{Desk}
 use Rattle.copy_inbox.specs.declared.rule.Post.{Post}
 use Rattle.copy_inbox.specs.declared.rule.View.{View}
 use Rattle.copy_inbox.specs.declared.rule.View.TheVariants.{Taking, Sending, Spent}
-use Rattle.copy_inbox.specs.Items.{part}
+use Rattle.copy_inbox.specs.Items.{part, is_packet}
 use Rattle.copy_inbox.specs.Gathered.{is_gathered}
-use Rattle.copy_inbox.specs.Views.{make_desk, make_post, make_gathered, new_taker, with_one_more, next_sender, with_gathered, with_pushed}
+use Rattle.copy_inbox.specs.Views.{make_desk, make_post, make_gathered, new_taker, with_one_more, next_sender, with_marks, no_sender, with_gathered, with_pushed}
 use Rattle.copy_inbox.specs.Rule.{PassFits, Sound, InboxRule, SeenBy, Took, Pushed}
 use Rattle.copy_inbox.proofs.Parts.{part-snoc_here, part-snoc_else, part-moved, part-nil_right, behind-snoc, behind-fresh}
 
@@ -66,13 +66,13 @@ one v w (suc pass) e = absurd (some-ne-none v (sym e))
 
 pub begins : InboxRule [] (new_taker ∷ [])
 begins =
-    let F : ℕ → View → Type 0 = PassFits 0 (λ s. None) (make_desk 0 [] []) (λ s. []) in
+    let F : ℕ → View → Type 0 = PassFits 0 (λ s. None) (make_desk false 0 [] []) (λ s. []) in
     record {
       taker = 0;
       seat = λ s. None;
-      desk_of = make_desk 0 [] [];
+      desk_of = make_desk false 0 [] [];
       pushed = λ s. [];
-      sound = record { parts = λ s. refl; few = λ s. omega arith; unmade = λ s h. (refl, refl); still = λ s lt _. absurd (omega arith); joined = tt; apart = tt };
+      sound = record { parts = λ s. refl; few = λ s. omega arith; unmade = λ s h. (refl, refl); still = λ s lt _. absurd (omega arith); joined = tt; apart = tt; plain = λ _ s. tt };
       taking = refl;
       sending = λ s pass e. absurd cc;
       fits = λ pass v e. let o = one v new_taker pass e in subst (λ (y : ℕ × View). F y.0 y.1) (λ i. (sym o.0 i, o.1 i)) (refl, refl);
@@ -86,27 +86,32 @@ one_seat seat s t i j a b n e = let k : seat t ≡ seat s = ap seat e in let m :
 fits_push : (taker : ℕ) (seat : ℕ → Option ℕ) (d : Desk) (old now : ℕ → List Carried) (s pass j : ℕ) (u : View)
     → seat s ≡ Some pass → j ≢ pass → ((t : ℕ) → t ≢ s → now t ≡ old t) → PassFits taker seat d old j u → PassFits taker seat d now j u
 fits_push taker seat d old now s pass j (Taking e) at n same f = f
-fits_push taker seat d old now s pass j (Sending q) at n same f = (f.0, f.1 ∙ sym (same q.number (one_seat seat s q.number pass j at f.0 n)))
+fits_push taker seat d old now s pass j (Sending q) at n same f = (f.0, f.1 ∙ sym (same q.number (one_seat seat s q.number pass j at f.0 n)), f.2)
 fits_push taker seat d old now s pass j Spent at n same f = f
 
 longer : (l : List Carried) (c : Carried) → length l < 2 ^ 62 → length (l ++ c ∷ []) ≤ 2 ^ 62
 longer l c h = omega (arith, length-append l (c ∷ []))
 
-sends_push : (views : List View) (pass q s : ℕ) (p : Post) (w : View) (old now : ℕ → List Carried) (x : InboxItem) → get_elem? views pass ≡ some (Sending p) → get_elem? views q ≡ some (Sending (make_post s (old s)))
+sends_push : (views : List View) (pass q s : ℕ) (p : Post) (w : View) (m : Bool) (old now : ℕ → List Carried) (x : Item) → get_elem? views pass ≡ some (Sending p) → get_elem? views q ≡ some (Sending (make_post m s (old s)))
     → (q ≢ pass → s ≢ p.number) → ((t : ℕ) → t ≢ p.number → now t ≡ old t) → now p.number ≡ p.pushed ++ x.what ∷ [] → w ≡ with_pushed (Sending p) x
-    → get_elem? (set views pass w) q ≡ some (Sending (make_post s (now s)))
-sends_push views pass q s p w old now x at was other same more is = ⊎_elim
+    → get_elem? (set views pass w) q ≡ some (Sending (make_post m s (now s)))
+sends_push views pass q s p w m old now x at was other same more is = ⊎_elim
     (λ (e : (eqb q pass ≡ true) × (q ≡ pass)).
-    let z : make_post s (old s) ≡ p = post_same (make_post s (old s)) p (one_view views q pass (Sending (make_post s (old s))) (Sending p) was at e.1) in
+    let z : make_post m s (old s) ≡ p = post_same (make_post m s (old s)) p (one_view views q pass (Sending (make_post m s (old s))) (Sending p) was at e.1) in
     let num : s ≡ p.number = ap (λ (k : Post). k.number) z in
-    let end : w ≡ Sending (make_post s (now s)) = is ∙ (λ i. Sending (make_post (sym num i) ((sym more ∙ ap now (sym num)) i))) in
+    let mk : m ≡ p.marked = ap (λ (k : Post). k.marked) z in
+    let end : w ≡ Sending (make_post m s (now s)) = is ∙ (λ i. Sending (make_post (sym mk i) (sym num i) ((sym more ∙ ap now (sym num)) i))) in
     ap (get_elem? (set views pass w)) e.1 ∙ (set_at views pass w (Sending p) at ∙ ap some end))
     (λ (e : (eqb q pass ≡ false) × (q ≢ pass)).
-    set_else views pass q w e.1 ∙ (was ∙ (λ i. some (Sending (make_post s (sym (same s (other e.1)) i))))))
+    set_else views pass q w e.1 ∙ (was ∙ (λ i. some (Sending (make_post m s (sym (same s (other e.1)) i))))))
     (eqb_tells q pass)
 
-pub pushes : (n pass : ℕ) (p : Post) (x : InboxItem) → x.sender ≡ p.number → length p.pushed < 2 ^ 62 → Pushes InboxRule n pass (Sending p) x (Pushed (Sending p) x)
-pushes n pass p x of room items views _ h at =
+each_snoc : (l : List Carried) (w : Carried) → Each (λ (v : Carried). is_packet v ≡ true) l → is_packet w ≡ true → Each (λ (v : Carried). is_packet v ≡ true) (l ++ w ∷ [])
+each_snoc [] w h k = (k, tt)
+each_snoc (v ∷ vs) w h k = (h.0, each_snoc vs w h.1 k)
+
+pub pushes : (n pass : ℕ) (p : Post) (x : Item) → (p.marked ≡ false → is_packet x.what ≡ true) → x.sender ≡ p.number → length p.pushed < 2 ^ 62 → Pushes InboxRule n pass (Sending p) x (Pushed (Sending p) x)
+pushes n pass p x packet of room items views _ h at =
     let d = h.desk_of in
     let w : View = with_pushed (Sending p) x in
     let mine = h.fits pass (Sending p) at in
@@ -128,31 +133,35 @@ pushes n pass p x of room items views _ h at =
           still = h.sound.still;
           joined = each_map d.gathered (λ g j. record { was_made = j.was_made; spent = j.spent; all = same g.number (apart g.number j.spent) ∙ j.all; behind = behind-snoc g.number g.made items x (λ e. apart g.number j.spent (sym e ∙ of)) j.behind }) h.sound.joined;
           apart = h.sound.apart;
+          plain = λ e s. let P : List Carried → Type 0 = λ l. Each (λ (v : Carried). is_packet v ≡ true) l in ⊎_elim
+              (λ (t : (eqb s p.number ≡ true) × (s ≡ p.number)). subst P (sym (ap now t.1 ∙ more)) (each_snoc p.pushed x.what (subst P (sym mine.1) (h.sound.plain e p.number)) (packet (mine.2 ∙ e))))
+              (λ (t : (eqb s p.number ≡ false) × (s ≢ p.number)). subst P (sym (same s t.1)) (h.sound.plain e s)) (eqb_tells s p.number);
         };
         taking = set_else views pass h.taker w (apart_views views h.taker pass d p h.taking at) ∙ h.taking;
-        sending = λ s q e. sends_push views pass q s p w h.pushed now x at (h.sending s q e) (λ n k. n (let z : h.seat s ≡ h.seat p.number = ap h.seat k in let y = mine.0 in let m : Some q ≡ Some pass = cc in cc)) same more refl;
-        fits = all_set (PassFits h.taker h.seat d now) views pass w (mine.0, sym more) (λ j u other e. fits_push h.taker h.seat d h.pushed now p.number pass j u mine.0 other same (h.fits j u e));
+        sending = λ s q e. sends_push views pass q s p w d.marked h.pushed now x at (h.sending s q e) (λ n k. n (let z : h.seat s ≡ h.seat p.number = ap h.seat k in let y = mine.0 in let m : Some q ≡ Some pass = cc in cc)) same more refl;
+        fits = all_set (PassFits h.taker h.seat d now) views pass w (mine.0, sym more, mine.2) (λ j u other e. fits_push h.taker h.seat d h.pushed now p.number pass j u mine.0 other same (h.fits j u e));
       },
       refl,
     )
 
-pub pushes_as : (n pass : ℕ) (v : View) (p : Post) (x : InboxItem) → v ≡ Sending p → x.sender ≡ p.number → length p.pushed < 2 ^ 62 → Pushes InboxRule n pass v x (Pushed v x)
-pushes_as n pass v p x is of room = subst (λ (u : View). Pushes InboxRule n pass u x (Pushed u x)) (sym is) (pushes n pass p x of room)
+pub pushes_as : (n pass : ℕ) (v : View) (p : Post) (x : Item) → v ≡ Sending p → (p.marked ≡ false → is_packet x.what ≡ true) → x.sender ≡ p.number → length p.pushed < 2 ^ 62 → Pushes InboxRule n pass v x (Pushed v x)
+pushes_as n pass v p x is packet of room = subst (λ (u : View). Pushes InboxRule n pass u x (Pushed u x)) (sym is) (pushes n pass p x packet of room)
 
 -- ---- a pop
-sound_of : (d e : Desk) (seat : ℕ → Option ℕ) (pushed : ℕ → List Carried) (items : List InboxItem) → e ≡ d → Sound d seat pushed items → Sound e seat pushed items
+sound_of : (d e : Desk) (seat : ℕ → Option ℕ) (pushed : ℕ → List Carried) (items : List Item) → e ≡ d → Sound d seat pushed items → Sound e seat pushed items
 sound_of d e seat pushed items is s = subst (λ (k : Desk). Sound k seat pushed items) (sym is) s
 
-fits_take : (taker : ℕ) (seat : ℕ → Option ℕ) (d e : Desk) (pushed : ℕ → List Carried) (j : ℕ) (u : View) → j ≢ taker → PassFits taker seat d pushed j u → PassFits taker seat e pushed j u
-fits_take taker seat d e pushed j (Taking k) n f = absurd (n f.0)
-fits_take taker seat d e pushed j (Sending q) n f = f
-fits_take taker seat d e pushed j Spent n f = f
+fits_take : (taker : ℕ) (seat : ℕ → Option ℕ) (d e : Desk) (pushed : ℕ → List Carried) (j : ℕ) (u : View) → j ≢ taker → d.marked ≡ e.marked → PassFits taker seat d pushed j u → PassFits taker seat e pushed j u
+fits_take taker seat d e pushed j (Taking k) n m f = absurd (n f.0)
+fits_take taker seat d e pushed j (Sending q) n m f = (f.0, f.1, f.2 ∙ m)
+fits_take taker seat d e pushed j Spent n m f = f
 
 pub takes : (pass : ℕ) (d : Desk) → Pops InboxRule pass (Taking d) (Took (Taking d))
 takes pass d x items views h at =
     let mine = h.fits pass (Taking d) at in
     let s = sound_of h.desk_of d h.seat h.pushed (x ∷ items) mine.1 h.sound in
-    let w : Desk = make_desk d.made (d.taken ++ x ∷ []) d.gathered in (
+    let sends : (t q : ℕ) → h.seat t ≡ Some q → get_elem? views q ≡ some (Sending (make_post d.marked t (h.pushed t))) = λ t q e. subst (λ (D : Desk). get_elem? views q ≡ some (Sending (make_post D.marked t (h.pushed t)))) (sym mine.1) (h.sending t q e) in
+    let w : Desk = make_desk d.marked d.made (d.taken ++ x ∷ []) d.gathered in (
       Taking w,
       record {
         taker = h.taker;
@@ -166,11 +175,12 @@ takes pass d x items views h at =
           still = s.still;
           joined = each_map d.gathered (λ g j. record { was_made = j.was_made; spent = j.spent; all = j.all; behind = j.behind.1 }) s.joined;
           apart = s.apart;
+          plain = s.plain;
         };
         taking = ap (get_elem? (set views pass (Taking w))) (sym mine.0) ∙ set_at views pass (Taking w) (Taking d) at;
-        sending = λ t q e. let was = h.sending t q e in set_else views pass q (Taking w) (λ k. apart_views views pass q d (make_post t (h.pushed t)) at was (sym k)) ∙ was;
+        sending = λ t q e. let was = sends t q e in set_else views pass q (Taking w) (λ k. apart_views views pass q d (make_post d.marked t (h.pushed t)) at was (sym k)) ∙ was;
         fits = all_set (PassFits h.taker h.seat w h.pushed) views pass (Taking w) (mine.0, refl)
-            (λ j u other e. fits_take h.taker h.seat h.desk_of w h.pushed j u (λ k. other (k ∙ sym mine.0)) (h.fits j u e));
+            (λ j u other e. fits_take h.taker h.seat h.desk_of w h.pushed j u (λ k. other (k ∙ sym mine.0)) (ap (λ (D : Desk). D.marked) (sym mine.1)) (h.fits j u e));
       },
       (refl, (items, (views, pass, h, at))),
     )
@@ -182,13 +192,13 @@ pub learns : (pass : ℕ) (v : View) → Learns InboxRule pass v (SeenBy v)
 learns pass v items views h at = (views, pass, h, at)
 
 -- what a step told, of a taker's desk
-abbrev pub SoundWith : Desk → List InboxItem → Type 0
+abbrev pub SoundWith : Desk → List Item → Type 0
 SoundWith d items = (seat : ℕ → Option ℕ) × (pushed : ℕ → List Carried) × Sound d seat pushed items
 
-seen : (d : Desk) (items : List InboxItem) → SeenBy (Taking d) items → SoundWith d items
+seen : (d : Desk) (items : List Item) → SeenBy (Taking d) items → SoundWith d items
 seen d items s = let h = s.2 in (h.seat, h.pushed, sound_of h.desk_of d h.seat h.pushed items (h.fits s.1 (Taking d) s.3).1 h.sound)
 
-pub seen_sound : (v : View) (d : Desk) (items : List InboxItem) → v ≡ Taking d → SeenBy v items → SoundWith d items
+pub seen_sound : (v : View) (d : Desk) (items : List Item) → v ≡ Taking d → SeenBy v items → SoundWith d items
 seen_sound v d items is s = seen d items (subst (λ (u : View). SeenBy u items) is s)
 
 -- ---- a sender more
@@ -203,24 +213,25 @@ seated : (seat : ℕ → Option ℕ) (s n pass : ℕ) → seat s ≡ Some pass �
 seated seat s n pass a b e = let k : seat s ≡ seat n = ap seat e in absurd cc
 
 fits_fork : (taker : ℕ) (seat : ℕ → Option ℕ) (d e : Desk) (pushed : ℕ → List Carried) (n : ℕ) (o : Option ℕ) (j : ℕ) (u : View)
-    → j ≢ taker → seat n ≡ None → PassFits taker seat d pushed j u → PassFits taker (λ s. cond (eqb s n) o (seat s)) e pushed j u
-fits_fork taker seat d e pushed n o j (Taking k) apart none f = absurd (apart f.0)
-fits_fork taker seat d e pushed n o j (Sending q) apart none f = (at_other seat n o q.number (seated seat q.number n j f.0 none) ∙ f.0, f.1)
-fits_fork taker seat d e pushed n o j Spent apart none f = f
+    → j ≢ taker → seat n ≡ None → d.marked ≡ e.marked → PassFits taker seat d pushed j u → PassFits taker (λ s. cond (eqb s n) o (seat s)) e pushed j u
+fits_fork taker seat d e pushed n o j (Taking k) apart none m f = absurd (apart f.0)
+fits_fork taker seat d e pushed n o j (Sending q) apart none m f = (at_other seat n o q.number (seated seat q.number n j f.0 none) ∙ f.0, f.1, f.2 ∙ m)
+fits_fork taker seat d e pushed n o j Spent apart none m f = f
 
 pub forks : (pass : ℕ) (d : Desk) → Forks InboxRule pass (Taking d) (with_one_more (Taking d)) (next_sender (Taking d))
 forks pass d items views h at =
     let mine = h.fits pass (Taking d) at in
     let s = sound_of h.desk_of d h.seat h.pushed items mine.1 h.sound in
-    let w : Desk = make_desk (d.made + 1) d.taken d.gathered in
-    let new : Post = make_post d.made [] in
+    let sends : (t q : ℕ) → h.seat t ≡ Some q → get_elem? views q ≡ some (Sending (make_post d.marked t (h.pushed t))) = λ t q e. subst (λ (D : Desk). get_elem? views q ≡ some (Sending (make_post D.marked t (h.pushed t)))) (sym mine.1) (h.sending t q e) in
+    let w : Desk = make_desk d.marked (d.made + 1) d.taken d.gathered in
+    let new : Post = make_post d.marked d.made [] in
     let vs : List View = set views pass (Taking w) in
     let seat : ℕ → Option ℕ = λ t. cond (eqb t d.made) (Some (length vs)) (h.seat t) in
     let free = s.unmade d.made (omega arith) in
     let F : ℕ → View → Type 0 = PassFits h.taker seat w h.pushed in
     let old : All F vs = all_set F views pass (Taking w) (mine.0, refl)
-    (λ j u other e. fits_fork h.taker h.seat h.desk_of w h.pushed d.made (Some (length vs)) j u (λ k. other (k ∙ sym mine.0)) free.1 (h.fits j u e)) in
-    let mine_new : F (length vs) (Sending new) = (at_this h.seat d.made (Some (length vs)) d.made refl, sym free.0) in
+    (λ j u other e. fits_fork h.taker h.seat h.desk_of w h.pushed d.made (Some (length vs)) j u (λ k. other (k ∙ sym mine.0)) free.1 (ap (λ (D : Desk). D.marked) (sym mine.1)) (h.fits j u e)) in
+    let mine_new : F (length vs) (Sending new) = (at_this h.seat d.made (Some (length vs)) d.made refl, sym free.0, refl) in
     record {
       taker = h.taker;
       seat = seat;
@@ -234,16 +245,17 @@ forks pass d items views h at =
             (λ (e : (eqb t d.made ≡ false) × (t ≢ d.made)). let n = e.1 in let o = s.still t (omega arith) no in (o.0, at_other h.seat d.made (Some (length vs)) t n ∙ o.1)) (eqb_tells t d.made);
         joined = each_map d.gathered (λ g j. let lt = j.was_made in record { was_made = omega arith; spent = at_other h.seat d.made (Some (length vs)) g.number (omega arith) ∙ j.spent; all = j.all; behind = j.behind }) s.joined;
         apart = s.apart;
+        plain = s.plain;
       };
       taking = at_longer vs (Sending new ∷ []) h.taker (Taking w) (ap (get_elem? vs) (sym mine.0) ∙ set_at views pass (Taking w) (Taking d) at);
       sending = λ t q e. ⊎_elim
           (λ (k : (eqb t d.made ≡ true) × (t ≡ d.made)).
           let here : Some (length vs) ≡ Some q = sym (at_this h.seat d.made (Some (length vs)) t k.1) ∙ e in
           let q_is : length vs ≡ q = cc in
-          at_last vs (Sending new) q q_is ∙ (λ i. some (Sending (make_post (sym k.1 i) ((sym free.0 ∙ ap h.pushed (sym k.1)) i)))))
+          at_last vs (Sending new) q q_is ∙ (λ i. some (Sending (make_post d.marked (sym k.1 i) ((sym free.0 ∙ ap h.pushed (sym k.1)) i)))))
           (λ (k : (eqb t d.made ≡ false) × (t ≢ d.made)).
-          let was = h.sending t q (sym (at_other h.seat d.made (Some (length vs)) t k.1) ∙ e) in
-          at_longer vs (Sending new ∷ []) q (Sending (make_post t (h.pushed t))) (set_else views pass q (Taking w) (λ z. apart_views views pass q d (make_post t (h.pushed t)) at was (sym z)) ∙ was))
+          let was = sends t q (sym (at_other h.seat d.made (Some (length vs)) t k.1) ∙ e) in
+          at_longer vs (Sending new ∷ []) q (Sending (make_post d.marked t (h.pushed t))) (set_else views pass q (Taking w) (λ z. apart_views views pass q d (make_post d.marked t (h.pushed t)) at was (sym z)) ∙ was))
           (eqb_tells t d.made);
       fits = λ j u e. ⊎_elim (old j u) (λ (t : (j ≡ length vs) × (Sending new ≡ u)). subst (λ (y : ℕ × View). F y.0 y.1) (λ i. (sym t.0 i, t.1 i)) mine_new) (at_end vs (Sending new) u j e);
     }
@@ -256,10 +268,10 @@ pub below : (m s : ℕ) → ((m ≤ s) → ⊥) → s < m
 below m s h = omega arith
 
 fits_join : (taker : ℕ) (seat : ℕ → Option ℕ) (d e : Desk) (pushed : ℕ → List Carried) (s other j : ℕ) (u : View)
-    → j ≢ taker → seat s ≡ Some other → j ≢ other → PassFits taker seat d pushed j u → PassFits taker (λ t. cond (eqb t s) None (seat t)) e pushed j u
-fits_join taker seat d e pushed s other j (Taking k) apart is n f = absurd (apart f.0)
-fits_join taker seat d e pushed s other j (Sending q) apart is n f = (at_other seat s None q.number (one_seat seat s q.number other j is f.0 n) ∙ f.0, f.1)
-fits_join taker seat d e pushed s other j Spent apart is n f = f
+    → j ≢ taker → seat s ≡ Some other → j ≢ other → d.marked ≡ e.marked → PassFits taker seat d pushed j u → PassFits taker (λ t. cond (eqb t s) None (seat t)) e pushed j u
+fits_join taker seat d e pushed s other j (Taking k) apart is n m f = absurd (apart f.0)
+fits_join taker seat d e pushed s other j (Sending q) apart is n m f = (at_other seat s None q.number (one_seat seat s q.number other j is f.0 n) ∙ f.0, f.1, f.2 ∙ m)
+fits_join taker seat d e pushed s other j Spent apart is n m f = f
 
 h_was : (views : List View) (pass other : ℕ) (p : Post) (w : View) → other ≢ pass → get_elem? (set views pass w) other ≡ some (Sending p) → get_elem? views other ≡ some (Sending p)
 h_was views pass other p w two at' = ⊎_elim (λ (x : (other ≡ pass) × (w ≡ Sending p)). absurd (two x.0)) (λ (x : (other ≢ pass) × (get_elem? views other ≡ some (Sending p))). x.1) (at_set views pass other w (Sending p) at')
@@ -268,8 +280,9 @@ pub merges : (pass : ℕ) (d : Desk) (other : ℕ) (p : Post) → Merges InboxRu
 merges pass d other p items views h at two at' =
     let mine = h.fits pass (Taking d) at in
     let s = sound_of h.desk_of d h.seat h.pushed items mine.1 h.sound in
+    let sends : (t q : ℕ) → h.seat t ≡ Some q → get_elem? views q ≡ some (Sending (make_post d.marked t (h.pushed t))) = λ t q e. subst (λ (D : Desk). get_elem? views q ≡ some (Sending (make_post D.marked t (h.pushed t)))) (sym mine.1) (h.sending t q e) in
     let g : Gathered = make_gathered p.number d.made p.pushed in
-    let w : Desk = make_desk d.made d.taken (g ∷ d.gathered) in
+    let w : Desk = make_desk d.marked d.made d.taken (g ∷ d.gathered) in
     let vs : List View = set views pass (Taking w) in
     let was = h_was views pass other p (Taking w) two at' in
     let theirs = h.fits other (Sending p) was in
@@ -277,7 +290,7 @@ merges pass d other p items views h at two at' =
     let F : ℕ → View → Type 0 = PassFits h.taker seat w h.pushed in
     let N : ℕ → View → Type 0 = λ j u. j ≢ other → F j u in
     let now : All N vs = all_set N views pass (Taking w) (λ _. (mine.0, refl))
-    (λ j u apart e n. fits_join h.taker h.seat h.desk_of w h.pushed p.number other j u (λ k. apart (k ∙ sym mine.0)) theirs.0 n (h.fits j u e)) in
+    (λ j u apart e n. fits_join h.taker h.seat h.desk_of w h.pushed p.number other j u (λ k. apart (k ∙ sym mine.0)) theirs.0 n (ap (λ (D : Desk). D.marked) (sym mine.1)) (h.fits j u e)) in
     let made : p.number < d.made = below d.made p.number (λ le. seated h.seat p.number p.number other theirs.0 (s.unmade p.number le).1 refl) in
     let none : Each (λ (k : Gathered). h.seat k.number ≡ None) d.gathered = each_map d.gathered (λ k j. j.spent) s.joined in
     record {
@@ -299,17 +312,47 @@ merges pass d other p items views h at two at' =
           each_map d.gathered (λ k j. record { was_made = j.was_made; spent = at_other h.seat p.number None k.number (λ e. seated h.seat p.number k.number other theirs.0 j.spent (sym e)) ∙ j.spent; all = j.all; behind = j.behind }) s.joined,
         );
         apart = (not_gathered h.seat d.gathered p.number other none theirs.0, s.apart);
+        plain = s.plain;
       };
       taking = set_else vs other h.taker Spent (λ z. two (sym z ∙ sym mine.0)) ∙ (ap (get_elem? vs) (sym mine.0) ∙ set_at views pass (Taking w) (Taking d) at);
       sending = λ t q e. ⊎_elim
           (λ (k : (eqb t p.number ≡ true) × (t ≡ p.number)). let no = at_this h.seat p.number None t k.1 in absurd cc)
           (λ (k : (eqb t p.number ≡ false) × (t ≢ p.number)).
-          let was = h.sending t q (sym (at_other h.seat p.number None t k.1) ∙ e) in
-          set_else vs other q Spent (λ z. k.1 (ap (λ (y : Post). y.number) (post_same (make_post t (h.pushed t)) p (one_view views q other (Sending (make_post t (h.pushed t))) (Sending p) was (h_was views pass other p (Taking w) two at') z))))
-          ∙ (set_else views pass q (Taking w) (λ z. apart_views views pass q d (make_post t (h.pushed t)) at was (sym z)) ∙ was))
+          let was = sends t q (sym (at_other h.seat p.number None t k.1) ∙ e) in
+          set_else vs other q Spent (λ z. k.1 (ap (λ (y : Post). y.number) (post_same (make_post d.marked t (h.pushed t)) p (one_view views q other (Sending (make_post d.marked t (h.pushed t))) (Sending p) was (h_was views pass other p (Taking w) two at') z))))
+          ∙ (set_else views pass q (Taking w) (λ z. apart_views views pass q d (make_post d.marked t (h.pushed t)) at was (sym z)) ∙ was))
           (eqb_tells t p.number);
       fits = all_set F vs other Spent tt (λ j u apart e. now j u e apart);
     }
 
 pub merges_as : (pass : ℕ) (v : View) (d : Desk) (other : ℕ) (u : View) (p : Post) → v ≡ Taking d → u ≡ Sending p → Merges InboxRule pass v other u (with_gathered v u) Spent
 merges_as pass v d other u p is is' = subst (λ (y : View × View). Merges InboxRule pass y.0 other y.1 (with_gathered y.0 y.1) Spent) (λ i. (sym is i, sym is' i)) (merges pass d other p)
+
+-- ---- an inbox with marks, while there is no sender
+fits_marks : (taker : ℕ) (seat : ℕ → Option ℕ) (d e : Desk) (pushed : ℕ → List Carried) (j : ℕ) (u : View) → j ≢ taker → ((t : ℕ) → seat t ≡ None) → PassFits taker seat d pushed j u → PassFits taker seat e pushed j u
+fits_marks taker seat d e pushed j (Taking k) n none f = absurd (n f.0)
+fits_marks taker seat d e pushed j (Sending q) n none f = let z = none q.number in let k = f.0 in absurd cc
+fits_marks taker seat d e pushed j Spent n none f = f
+
+pub forks_marks : (pass : ℕ) (d : Desk) → d.made ≡ 0 → Forks InboxRule pass (Taking d) (with_marks (Taking d)) (no_sender (Taking d))
+forks_marks pass d zero_made items views h at =
+    let mine = h.fits pass (Taking d) at in
+    let s = sound_of h.desk_of d h.seat h.pushed items mine.1 h.sound in
+    let none : (t : ℕ) → h.seat t ≡ None = λ t. (s.unmade t (omega arith)).1 in
+    let w : Desk = make_desk true d.made d.taken d.gathered in
+    let vs : List View = set views pass (Taking w) in
+    let F : ℕ → View → Type 0 = PassFits h.taker h.seat w h.pushed in
+    let old : All F vs = all_set F views pass (Taking w) (mine.0, refl) (λ j u other e. fits_marks h.taker h.seat h.desk_of w h.pushed j u (λ k. other (k ∙ sym mine.0)) none (h.fits j u e)) in
+    record {
+      taker = h.taker;
+      seat = h.seat;
+      desk_of = w;
+      pushed = h.pushed;
+      sound = record { parts = s.parts; few = s.few; unmade = s.unmade; still = s.still; joined = s.joined; apart = s.apart; plain = λ e. absurd cc };
+      taking = at_longer vs (Spent ∷ []) h.taker (Taking w) (ap (get_elem? vs) (sym mine.0) ∙ set_at views pass (Taking w) (Taking d) at);
+      sending = λ t q e. let z = none t in absurd cc;
+      fits = λ j u e. ⊎_elim (old j u) (λ (t : (j ≡ length vs) × (Spent ≡ u)). subst (λ (y : View). F j y) t.1 tt) (at_end vs Spent u j e);
+    }
+
+pub forks_marks_as : (pass : ℕ) (v : View) (d : Desk) → v ≡ Taking d → d.made ≡ 0 → Forks InboxRule pass v (with_marks v) (no_sender v)
+forks_marks_as pass v d is z = subst (λ (u : View). Forks InboxRule pass u (with_marks u) (no_sender u)) (sym is) (forks_marks pass d z)

@@ -2,7 +2,7 @@
 use Rattle.std.specs.Prelude.{◌≡◌, ℕ, ◌<◌, ◌≤◌, ◌==◌, Bool, false, List, [], ◌∷◌, length, drop}
 use Rattle.std.specs.List.{AllByRecursion as Each, list_any, sum_by}
 use Rattle.copy_inbox.specs.declared.items.Carried.{Carried}
-use Rattle.copy_inbox.specs.declared.items.InboxItem.{InboxItem}
+use Rattle.copy_inbox.specs.declared.items.Item.{Item}
 use Rattle.copy_inbox.specs.declared.rule.Gathered.{Gathered}
 use Rattle.copy_inbox.specs.Items.{part, BeginsWith}
 
@@ -15,11 +15,11 @@ Apart [] = Unit {0}
 Apart (g ∷ gs) = (is_gathered gs g.number ≡ false) × Apart gs
 
 -- what a gathered sender pushed and was not yet taken
-abbrev pub untaken_of : List InboxItem → Gathered → List Carried
+abbrev pub untaken_of : List Item → Gathered → List Carried
 untaken_of taken g = drop (length (part g.number taken)) g.pushed
 
 -- how many items of gathered senders were not yet taken
-abbrev pub known_of : List Gathered → List InboxItem → ℕ
+abbrev pub known_of : List Gathered → List Item → ℕ
 known_of gathered taken = sum_by (λ g. length (untaken_of taken g)) gathered
 
 -- each sender that isn't gathered was made after each gathered one was gathered
@@ -27,13 +27,13 @@ abbrev pub Later : ℕ → List Gathered → Type 0
 Later made gathered = (u : ℕ) → u < made → is_gathered gathered u ≡ false → Each (λ (g : Gathered). g.made ≤ u) gathered
 
 -- what was taken of each gathered sender is the beginning of what it pushed
-abbrev pub TookFronts : List Gathered → List InboxItem → Type 0
+abbrev pub TookFronts : List Gathered → List Item → Type 0
 TookFronts gathered taken = Each (λ (g : Gathered). BeginsWith g.pushed (part g.number taken)) gathered
 
 -- what was taken of each gathered sender is all that it pushed
-abbrev pub Whole : List Gathered → List InboxItem → Type 0
+abbrev pub Whole : List Gathered → List Item → Type 0
 Whole gathered taken = Each (λ (g : Gathered). part g.number taken ≡ g.pushed) gathered
 
 -- of senders that aren't gathered nothing more was taken
-abbrev pub NoOthers : List Gathered → (old new : List InboxItem) → Type 0
+abbrev pub NoOthers : List Gathered → (old new : List Item) → Type 0
 NoOthers gathered old new = (s : ℕ) → is_gathered gathered s ≡ false → part s new ≡ part s old

@@ -1,18 +1,19 @@
 -- What a contract sees of an inbox, its taker and its senders, and what is true of each taker and sender.
-use Rattle.std.specs.Prelude.{◌≡◌, ℕ, ◌+◌, ◌<◌, ◌≤◌, ◌^◌, true, cond, List, [], ◌∷◌, ◌++◌, length, slice_index_or}
+use Rattle.std.specs.Prelude.{◌≡◌, ℕ, ◌+◌, ◌<◌, ◌≤◌, ◌^◌, true, false, cond, ◌⊎◌, List, [], ◌∷◌, ◌++◌, length, slice_index_or}
 use Rattle.std.specs.List.{AllByRecursion as Each}
 use Rattle.std.specs.declared.alloc.Global.{Global}
 use Rattle.crossbeam_queue.specs.SegTies.{SegId}
 use Rattle.radio_packet.specs.declared.copy.RadioCopy.{RadioCopy}
-use Rattle.copy_inbox.specs.declared.items.InboxItem.{InboxItem}
+use Rattle.copy_inbox.specs.declared.items.Carried.{Carried}
+use Rattle.copy_inbox.specs.declared.items.Item.{Item}
 use Rattle.copy_inbox.specs.declared.count.Count.{Count}
 use Rattle.copy_inbox.specs.declared.rule.Gathered.{Gathered}
 use Rattle.copy_inbox.specs.declared.rule.Desk.{Desk}
 use Rattle.copy_inbox.specs.declared.rule.Post.{Post}
 use Rattle.copy_inbox.specs.declared.rule.View.{View}
 use Rattle.copy_inbox.specs.declared.rule.View.TheVariants.{Taking, Sending, Spent}
-use Rattle.copy_inbox.specs.Items.{copies_of, part, OfMade}
-use Rattle.copy_inbox.specs.Gathered.{is_gathered, known_of, TookFronts, Whole, Later}
+use Rattle.copy_inbox.specs.Items.{is_packet, ArePackets, Packets, part, OfMade}
+use Rattle.copy_inbox.specs.Gathered.{is_gathered, untaken_of, known_of, TookFronts, Whole, Later}
 use Rattle.copy_inbox.specs.Views.{make_desk, make_post, make_gathered}
 
 -- which inbox it is
@@ -31,37 +32,48 @@ pub record SenderView : Type 0 where
 
 -- ---- what each call does to a taker
 abbrev pub after_sender : TakerView → TakerView
-after_sender t = record { inbox = t.inbox; desk = make_desk (t.desk.made + 1) t.desk.taken t.desk.gathered }
+after_sender t = record { inbox = t.inbox; desk = make_desk t.desk.marked (t.desk.made + 1) t.desk.taken t.desk.gathered }
+
+abbrev pub after_pushing : Post → Carried → Post
+after_pushing p what = make_post p.marked p.number (p.pushed ++ what ∷ [])
 
 abbrev pub after_gather : TakerView → Post → TakerView
-after_gather t p = record { inbox = t.inbox; desk = make_desk t.desk.made t.desk.taken (make_gathered p.number t.desk.made p.pushed ∷ t.desk.gathered) }
+after_gather t p = record { inbox = t.inbox; desk = make_desk t.desk.marked t.desk.made t.desk.taken (make_gathered p.number t.desk.made p.pushed ∷ t.desk.gathered) }
 
-abbrev pub after_taking : TakerView → List InboxItem → TakerView
-after_taking t xs = record { inbox = t.inbox; desk = make_desk t.desk.made (t.desk.taken ++ xs) t.desk.gathered }
+abbrev pub after_taking : TakerView → List Item → TakerView
+after_taking t xs = record { inbox = t.inbox; desk = make_desk t.desk.marked t.desk.made (t.desk.taken ++ xs) t.desk.gathered }
 
--- there are items, of which these are the copies, that went to the end of what was taken
+-- there are packets, of which these are the copies, that went to the end of what was taken
 abbrev pub TakesCopies : TakerView → TakerView → List RadioCopy → Type 0
-TakesCopies old new copies = (items : List InboxItem) × (copies ≡ copies_of items) × (new ≡ after_taking old items)
+TakesCopies old new copies = (items : List Item) × ArePackets items copies × (new ≡ after_taking old items)
 
 -- each sender that was made is gathered
 abbrev pub AllGathered : Desk → Type 0
 AllGathered d = (s : ℕ) → s < d.made → is_gathered d.gathered s ≡ true
 
--- there are items, of which these are the copies, that are the rest of what was pushed: with what was taken they make
+-- what is left of each gathered sender is packets
+abbrev pub PacketsLeft : Desk → Type 0
+PacketsLeft d = Each (λ (g : Gathered). Packets (untaken_of d.taken g)) d.gathered
+
+-- the inbox has no marks, or they were all taken
+abbrev pub NoMarkLeft : Desk → Type 0
+NoMarkLeft d = (d.marked ≡ false) ⊎ PacketsLeft d
+
+-- there are packets, of which these are the copies, that are the rest of what was pushed: with what was taken they make
 -- the whole of each gathered sender, and nothing else
 abbrev pub Empties : Desk → List RadioCopy → Type 0
-Empties d copies = (rest : List InboxItem) × (copies ≡ copies_of rest) × Whole d.gathered (d.taken ++ rest) × OfMade d.made (d.taken ++ rest)
+Empties d copies = (rest : List Item) × ArePackets rest copies × Whole d.gathered (d.taken ++ rest) × OfMade d.made (d.taken ++ rest)
 
 -- ---- what is true of every taker and sender, by what its pass knows and what it keeps
 abbrev pub desk_in : View → Desk
 desk_in (Taking d) = d
-desk_in (Sending p) = make_desk 0 [] []
-desk_in Spent = make_desk 0 [] []
+desk_in (Sending p) = make_desk false 0 [] []
+desk_in Spent = make_desk false 0 [] []
 
 abbrev pub post_in : View → Post
 post_in (Sending p) = p
-post_in (Taking d) = make_post 0 []
-post_in Spent = make_post 0 []
+post_in (Taking d) = make_post false 0 []
+post_in Spent = make_post false 0 []
 
 -- what a taker keeps of the sender numbered s
 abbrev pub count_of : Desk → ℕ → Count
@@ -81,9 +93,21 @@ pub record IsSender (v : View) (count : ℕ) : Type 0 where
   pub counted : count ≡ length (post_in v).pushed
   pub few : count ≤ 2 ^ 62
 
--- x is the next item that the taker takes: one less is known where its sender was gathered, and it was gathered where
--- something is known and no sender that isn't gathered can stand before that
-abbrev pub IsNextTaken : Desk → InboxItem → Type 0
-IsNextTaken d x =
-    (known_of d.gathered d.taken ≡ cond (is_gathered d.gathered x.sender) 1 0 + known_of d.gathered (d.taken ++ x ∷ []))
-    × (Later d.made d.gathered → 0 < known_of d.gathered d.taken → is_gathered d.gathered x.sender ≡ true)
+-- all that the taker may take is packets: the inbox has no marks, or each sender is gathered and what is left is packets
+abbrev pub TakesPackets : Desk → Type 0
+TakesPackets d = (d.marked ≡ false) ⊎ (AllGathered d × PacketsLeft d)
+
+abbrev pub desk_with : Desk → Item → Desk
+desk_with d x = make_desk d.marked d.made (d.taken ++ x ∷ []) d.gathered
+
+-- x is the next item that the taker takes
+pub record IsNextTaken (d : Desk) (x : Item) : Type 0 where
+  -- it is of a sender that was made, of which no more is taken than a sender may push
+  pub number : x.sender < d.made
+  pub few : length (part x.sender (d.taken ++ x ∷ [])) ≤ 2 ^ 62
+  -- one less is known where its sender was gathered
+  pub known : known_of d.gathered d.taken ≡ cond (is_gathered d.gathered x.sender) 1 0 + known_of d.gathered (d.taken ++ x ∷ [])
+  -- it is a packet where nothing else can come, and then nothing else comes after it
+  pub packet : TakesPackets d → (is_packet x.what ≡ true) × TakesPackets (desk_with d x)
+  -- its sender was gathered where something is known and no sender that isn't gathered can stand before that
+  pub first : Later d.made d.gathered → 0 < known_of d.gathered d.taken → is_gathered d.gathered x.sender ≡ true

@@ -4,63 +4,65 @@ use Rattle.std.specs.List.{AllByRecursion as Each}
 use mathlib.Core.Option.{some}
 use lib.ListN.{get_elem?}
 use Rattle.copy_inbox.specs.declared.items.Carried.{Carried}
-use Rattle.copy_inbox.specs.declared.items.InboxItem.{InboxItem}
+use Rattle.copy_inbox.specs.declared.items.Item.{Item}
 use Rattle.copy_inbox.specs.declared.rule.Gathered.{Gathered}
 use Rattle.copy_inbox.specs.declared.rule.Desk.{Desk}
 use Rattle.copy_inbox.specs.declared.rule.View.{View}
 use Rattle.copy_inbox.specs.declared.rule.View.TheVariants.{Taking, Sending, Spent}
-use Rattle.copy_inbox.specs.Items.{part}
+use Rattle.copy_inbox.specs.Items.{part, Packets}
 use Rattle.copy_inbox.specs.Gathered.{is_gathered, Apart}
 use Rattle.copy_inbox.specs.Views.{make_post, with_pushed, with_taken}
 
 -- an item of a sender numbered `made` or above stands behind every item of the sender s
-abbrev pub Behind : ℕ → ℕ → List InboxItem → Type 0
+abbrev pub Behind : ℕ → ℕ → List Item → Type 0
 Behind s made [] = Unit {0}
 Behind s made (x ∷ xs) = (made ≤ x.sender → part s (x ∷ xs) ≡ []) × Behind s made xs
 
--- a pass that is the taker's is the one, and a pass that is a sender's is the one of its number
+-- a pass that is the taker's is the one, and a pass that is a sender's is the one of its number; whether there are marks,
+-- both know alike
 abbrev pub PassFits : ℕ → (ℕ → Option ℕ) → Desk → (ℕ → List Carried) → ℕ → View → Type 0
 PassFits taker seat d pushed pass (Taking e) = (pass ≡ taker) × (e ≡ d)
-PassFits taker seat d pushed pass (Sending p) = (seat p.number ≡ Some pass) × (p.pushed ≡ pushed p.number)
+PassFits taker seat d pushed pass (Sending p) = (seat p.number ≡ Some pass) × (p.pushed ≡ pushed p.number) × (p.marked ≡ d.marked)
 PassFits taker seat d pushed pass Spent = Unit {0}
 
 -- of a gathered sender: it was made, its pass is spent, the taker knows all that it pushed, and in the queue no item of
 -- a sender that was made later stands before one of its own
-pub record Joined (made : ℕ) (seat : ℕ → Option ℕ) (pushed : ℕ → List Carried) (items : List InboxItem) (g : Gathered) : Type 0 where
+pub record Joined (made : ℕ) (seat : ℕ → Option ℕ) (pushed : ℕ → List Carried) (items : List Item) (g : Gathered) : Type 0 where
   pub was_made : g.number < made
   pub spent : seat g.number ≡ None
   pub all : pushed g.number ≡ g.pushed
   pub behind : Behind g.number g.made items
 
 -- The items of each sender in what was taken, followed by the queue, are what it pushed, in order, and there are no other items.
--- Each sender that was made has a pass, or is gathered.
-pub record Sound (d : Desk) (seat : ℕ → Option ℕ) (pushed : ℕ → List Carried) (items : List InboxItem) : Type 0 where
+-- Each sender that was made has a pass, or is gathered. Where there are no marks, all that was pushed is packets.
+pub record Sound (d : Desk) (seat : ℕ → Option ℕ) (pushed : ℕ → List Carried) (items : List Item) : Type 0 where
   pub parts : (s : ℕ) → part s (d.taken ++ items) ≡ pushed s
   pub few : (s : ℕ) → length (pushed s) ≤ 2 ^ 62
   pub unmade : (s : ℕ) → d.made ≤ s → (pushed s ≡ []) × (seat s ≡ None)
   pub still : (s : ℕ) → s < d.made → is_gathered d.gathered s ≡ false → (pass : ℕ) × (seat s ≡ Some pass)
   pub joined : Each (Joined d.made seat pushed items) d.gathered
   pub apart : Apart d.gathered
+  pub plain : d.marked ≡ false → (s : ℕ) → Packets (pushed s)
 
 -- The rule: of the items in the queue, the oldest first, and of the view of each pass. One pass is the taker's, and its
 -- view is what was taken and gathered; `seat` has the pass of each sender that isn't gathered, whose view is what it pushed.
-pub record InboxRule (items : List InboxItem) (views : List View) : Type 0 where
+pub record InboxRule (items : List Item) (views : List View) : Type 0 where
   pub taker : ℕ
   pub seat : ℕ → Option ℕ
   pub desk_of : Desk
   pub pushed : ℕ → List Carried
   pub sound : Sound desk_of seat pushed items
   pub taking : get_elem? views taker ≡ some (Taking desk_of)
-  pub sending : (s pass : ℕ) → seat s ≡ Some pass → get_elem? views pass ≡ some (Sending (make_post s (pushed s)))
+  pub sending : (s pass : ℕ) → seat s ≡ Some pass → get_elem? views pass ≡ some (Sending (make_post desk_of.marked s (pushed s)))
   pub fits : (pass : ℕ) (v : View) → get_elem? views pass ≡ some v → PassFits taker seat desk_of pushed pass v
 
 -- ---- what a step tells the pass that takes it
 -- the rule held while the queue had these items and a pass had this view
-abbrev pub SeenBy : View → List InboxItem → Type 0
+abbrev pub SeenBy : View → List Item → Type 0
 SeenBy v items = (views : List View) × (pass : ℕ) × InboxRule items views × (get_elem? views pass ≡ some v)
 
-abbrev pub Took : View → InboxItem → View → Type 0
-Took v x w = (w ≡ with_taken v x) × ((rest : List InboxItem) × SeenBy v (x ∷ rest))
+abbrev pub Took : View → Item → View → Type 0
+Took v x w = (w ≡ with_taken v x) × ((rest : List Item) × SeenBy v (x ∷ rest))
 
-abbrev pub Pushed : View → InboxItem → View → Type 0
+abbrev pub Pushed : View → Item → View → Type 0
 Pushed v x w = w ≡ with_pushed v x

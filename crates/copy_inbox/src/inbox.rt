@@ -1,16 +1,16 @@
 //! The inbox, its taker and its senders.
 
-ghost use Rattle.std.specs.Prelude.{◌≡◌, ◌≤◌, [], ◌∷◌, ◌++◌, length, Some, None, codes, IfOk, OnOk, OnErr, IfErr, IfSome, IfNone};
-ghost use Rattle.copy_inbox.specs.declared.items.Carried.TheVariants.{Packet};
+ghost use Rattle.std.specs.Prelude.{◌≡◌, ◌≤◌, true, false, [], ◌∷◌, ◌++◌, length, Some, None, codes, IfOk, OnOk, OnErr, IfErr, IfSome, IfNone};
+ghost use Rattle.copy_inbox.specs.declared.items.Carried.TheVariants.{Packet, Mark};
 ghost use Rattle.copy_inbox.specs.declared.inbox.InboxError.TheVariants.{Memory};
-ghost use Rattle.copy_inbox.specs.Items.{part, BeginsWith, OfMade};
+ghost use Rattle.copy_inbox.specs.Items.{is_packet, Packets, part, BeginsWith, OfMade};
 ghost use Rattle.copy_inbox.specs.Gathered.{known_of, TookFronts, Whole, Later, NoOthers};
 ghost use Rattle.copy_inbox.specs.Views.{make_desk, make_post};
-ghost use Rattle.copy_inbox.specs.Handles.{InboxId, TakerView, SenderView, after_sender, after_gather, after_taking, TakesCopies, Empties, AllGathered, desk_in, post_in, IsTaker, IsSender, IsNextTaken};
+ghost use Rattle.copy_inbox.specs.Handles.{InboxId, TakerView, SenderView, after_sender, after_pushing, after_gather, after_taking, TakesCopies, Empties, AllGathered, NoMarkLeft, TakesPackets, desk_in, post_in, IsTaker, IsSender, IsNextTaken};
 
 use crate::count::Count;
-use crate::items::{Carried, InboxItem};
-use crate::rule::{Gathers, Makes, Pushes, Ruled, Takes, View};
+use crate::items::{Carried, Item};
+use crate::rule::{Gathers, Makes, Marks, Pushes, Ruled, Takes, View};
 use crossbeam_queue::{RuledSegQueue, SegPass};
 use radio_packet::RadioCopy;
 use std::alloc::{AllocError, Global};
@@ -47,11 +47,11 @@ impl From<AllocError> for InboxError {
     }
 }
 
-/// An inbox. Its senders push copies of packets from any thread, and its one taker takes them. What lies in it no
-/// contract can say, since another thread may push at any moment; a contract says what a sender has pushed, and what
-/// the taker has taken and gathered.
+/// An inbox. Its senders push copies of packets from any thread, and marks where it has such, and its one taker takes
+/// them. What lies in it no contract can say, since another thread may push at any moment; a contract says what a sender
+/// has pushed, and what the taker has taken and gathered.
 pub struct Inbox {
-    queue: RuledSegQueue<InboxItem, View, Ruled>,
+    queue: RuledSegQueue<Item, View, Ruled>,
     alloc: Global,
 }
 
@@ -62,9 +62,8 @@ impl Model for Inbox {
 }
 
 /// The one that makes and gathers the senders of an inbox, and takes what they push.
-#[derive(Drop)]
 pub struct Taker {
-    pass: SegPass<InboxItem, View>,
+    pass: SegPass<Item, View>,
     counts: Vec<Count>,
     known: u64,
 }
@@ -77,10 +76,9 @@ impl Model for Taker {
     ghost invariant = { λ t. IsTaker t.pass.me.view.client t.counts.items t.known × (t.pass.me.hand ≡ None) × (t.pass.me.spare ≡ None) };
 }
 
-/// One that pushes copies into an inbox.
-#[derive(Drop)]
+/// One that pushes copies and marks into an inbox.
 pub struct Sender {
-    pass: SegPass<InboxItem, View>,
+    pass: SegPass<Item, View>,
     number: u64,
     pushed: u64,
 }
@@ -93,11 +91,60 @@ impl Model for Sender {
     ghost invariant = { λ s. IsSender s.pass.me.view.client s.pushed × (s.number ≡ (post_in s.pass.me.view.client).number) × (s.pass.me.hand ≡ None) × (s.pass.me.spare ≡ None) };
 }
 
+/// By hand, so that a taker is dropped by one call: the check of a function that owns one sees no more of it.
+impl Drop for Taker {
+    fn drop(self) {
+        let Taker {
+            pass: _,
+            counts: _,
+            known: _,
+        } = self;
+    }
+}
+
+/// By hand too.
+impl Drop for Sender {
+    fn drop(self) {
+        let Sender {
+            pass: _,
+            number: _,
+            pushed: _,
+        } = self;
+    }
+}
+
+impl Sender {
+    // Joins the pass to the taker's, which then knows all that was pushed.
+    fn join<R: Wait>(self, rt: &R, inbox: &Inbox, taker: &mut Taker)
+        requires taker { taker.old.inbox ≡ inbox.now }
+        requires sender { self.inbox ≡ inbox.now }
+        ensures gathered { taker.new ≡ after_gather taker.old self.post }
+        ensures begun { BeginsWith self.post.pushed (part self.post.number taker.new.desk.taken) }
+        ensures plain { taker.old.desk.marked ≡ false → Packets self.post.pushed }
+    {
+        let Sender {
+            pass,
+            number,
+            pushed,
+        } = self;
+        inbox.queue.absorb::<Gathers>(&mut taker.pass, pass);
+        // A look at the queue's length tells the proof that the rule holds, and that the counts fit.
+        let _held = inbox.queue.len_as::<Takes, R>(rt, &mut taker.pass);
+        let index = number as usize;
+        let count = taker.counts[index];
+        taker.known += pushed - count.taken;
+        taker.counts[index] = Count {
+            taken: count.taken,
+            gathered: true,
+        };
+    }
+}
+
 impl Inbox {
     /// A new inbox, into which nothing was pushed, and its taker, which has made no sender.
     pub fn make(alloc: Global) -> Result<(Inbox, Taker), InboxError>
         ensures inbox { IfOk result (λ made. made.1.inbox ≡ made.0) }
-        ensures empty { IfOk result (λ made. made.1.desk ≡ make_desk 0 [] []) }
+        ensures empty { IfOk result (λ made. made.1.desk ≡ make_desk false 0 [] []) }
     {
         let (queue, pass) = RuledSegQueue::with_rule(alloc)?;
         let taker = Taker {
@@ -108,11 +155,22 @@ impl Inbox {
         Ok((Inbox { queue, alloc }, taker))
     }
 
+    /// As [`Inbox::make`], for an inbox with marks.
+    pub fn make_marked(alloc: Global) -> Result<(Inbox, Taker), InboxError>
+        ensures inbox { IfOk result (λ made. made.1.inbox ≡ made.0) }
+        ensures empty { IfOk result (λ made. made.1.desk ≡ make_desk true 0 [] []) }
+    {
+        let (inbox, mut taker) = Inbox::make(alloc)?;
+        // The proof's own note that there are marks. The pass that comes of it is nobody's.
+        let _nobody = inbox.queue.another::<Marks>(&mut taker.pass);
+        Ok((inbox, taker))
+    }
+
     /// A new sender, which has pushed nothing. Senders are numbered from 0, in the order in which they are made.
     pub fn sender(&self, taker: &mut Taker) -> Result<Sender, InboxError>
         requires { taker.old.inbox ≡ self.now }
         ensures inbox { IfOk result (λ sender. sender.inbox ≡ self.now) }
-        ensures fresh { IfOk result (λ sender. sender.post ≡ make_post taker.old.desk.made []) }
+        ensures fresh { IfOk result (λ sender. sender.post ≡ make_post taker.old.desk.marked taker.old.desk.made []) }
         ensures taker { OnOk result (taker.new ≡ after_sender taker.old) }
         ensures refused { OnErr result (taker.new ≡ taker.old) }
     {
@@ -140,20 +198,46 @@ impl Inbox {
     ) -> Result<(), RadioCopy>
         requires { sender.old.inbox ≡ self.now }
         ensures inbox { sender.new.inbox ≡ sender.old.inbox }
-        ensures pushed { OnOk result (sender.new.post ≡ make_post sender.old.post.number (sender.old.post.pushed ++ Packet copy ∷ [])) }
+        ensures pushed { OnOk result (sender.new.post ≡ after_pushing sender.old.post (Packet copy)) }
         ensures comes_back { IfErr result (λ back. back ≡ copy) }
         ensures refused { OnErr result (sender.new ≡ sender.old) }
     {
+        self.push(rt, sender, Carried::Packet(copy))
+            .map_err(|_| copy)
+    }
+
+    /// Adds the mark of a window to what the sender has pushed. The number comes back where memory was refused, or after
+    /// 2^62 pushes, and then nothing has changed.
+    pub fn push_mark<R: Wait>(&self, rt: &R, sender: &mut Sender, window: u64) -> Result<(), u64>
+        requires inbox { sender.old.inbox ≡ self.now }
+        requires marked { sender.old.post.marked ≡ true }
+        ensures inbox { sender.new.inbox ≡ sender.old.inbox }
+        ensures pushed { OnOk result (sender.new.post ≡ after_pushing sender.old.post (Mark window)) }
+        ensures comes_back { IfErr result (λ back. back ≡ window) }
+        ensures refused { OnErr result (sender.new ≡ sender.old) }
+    {
+        self.push(rt, sender, Carried::Mark(window))
+            .map_err(|_| window)
+    }
+
+    // Adds a copy, or a mark where the inbox has such, to what the sender has pushed.
+    fn push<R: Wait>(&self, rt: &R, sender: &mut Sender, what: Carried) -> Result<(), Carried>
+        requires inbox { sender.old.inbox ≡ self.now }
+        requires plain { sender.old.post.marked ≡ false → is_packet what ≡ true }
+        ensures inbox { sender.new.inbox ≡ sender.old.inbox }
+        ensures pushed { OnOk result (sender.new.post ≡ after_pushing sender.old.post what) }
+        ensures refused { OnErr result (sender.new ≡ sender.old) }
+    {
         if sender.pushed >= MOST {
-            return Err(copy);
+            return Err(what);
         }
-        let item = InboxItem {
+        let item = Item {
             sender: sender.number,
-            what: Carried::Packet(copy),
+            what,
         };
         self.queue
             .push_as::<Pushes, R>(rt, &mut sender.pass, item)
-            .map_err(|_| copy)?;
+            .map_err(|_| what)?;
         sender.pushed += 1;
         Ok(())
     }
@@ -164,25 +248,12 @@ impl Inbox {
         requires sender { sender.inbox ≡ self.now }
         ensures gathered { taker.new ≡ after_gather taker.old sender.post }
         ensures begun { BeginsWith sender.post.pushed (part sender.post.number taker.new.desk.taken) }
+        ensures plain { taker.old.desk.marked ≡ false → Packets sender.post.pushed }
     {
-        let Sender {
-            pass,
-            number,
-            pushed,
-        } = sender;
-        self.queue.absorb::<Gathers>(&mut taker.pass, pass);
-        // A look at the queue's length tells the proof that the rule holds, and that the counts fit.
-        let _held = self.queue.len_as::<Takes, R>(rt, &mut taker.pass);
-        let index = number as usize;
-        let count = taker.counts[index];
-        taker.known += pushed - count.taken;
-        taker.counts[index] = Count {
-            taken: count.taken,
-            gathered: true,
-        };
+        sender.join(rt, self, taker);
     }
 
-    /// How many copies of gathered senders aren't taken yet.
+    /// How many copies and marks of gathered senders aren't taken yet.
     pub fn known(&self, taker: &Taker) -> u64
         requires { taker.now.inbox ≡ self.now }
         ensures { result ≡ known_of taker.now.desk.gathered taker.now.desk.taken }
@@ -191,8 +262,9 @@ impl Inbox {
         *known
     }
 
-    // Takes the item at the front of the queue, without memory. There is none only where nothing is known.
-    fn take_next<R: Wait>(&self, rt: &R, taker: &mut Taker) -> Option<InboxItem>
+    /// Takes the copy or mark at the front, without memory, with the number of its sender. There is none only where
+    /// nothing is known and the queue was empty at some moment of the call.
+    pub fn take_next<R: Wait>(&self, rt: &R, taker: &mut Taker) -> Option<Item>
         requires { taker.old.inbox ≡ self.now }
         ensures taken { IfSome result (λ x. taker.new ≡ after_taking taker.old (x ∷ [])) }
         ensures next { IfSome result (λ x. IsNextTaken taker.old.desk x) }
@@ -210,7 +282,7 @@ impl Inbox {
         Some(item)
     }
 
-    /// Takes the `n` copies at the front. The memory for them is asked for first, so a refusal changes nothing.
+    /// Takes the `n` copies at the front of an inbox without marks. The memory for them is asked for first, so a refusal changes nothing.
     pub fn drain<R: Wait>(
         &self,
         rt: &R,
@@ -218,6 +290,7 @@ impl Inbox {
         n: u64,
     ) -> Result<Vec<RadioCopy>, InboxError>
         requires inbox { taker.old.inbox ≡ self.now }
+        requires plain { taker.old.desk.marked ≡ false }
         requires known { n ≤ known_of taker.old.desk.gathered taker.old.desk.taken }
         ensures count { IfOk result (λ copies. length copies.items ≡ n) }
         ensures taken { IfOk result (λ copies. TakesCopies taker.old taker.new copies.items) }
@@ -232,10 +305,34 @@ impl Inbox {
 
         ensures refused { OnErr result (taker.new ≡ taker.old) }
     {
+        self.take_packets(rt, taker, n)
+    }
+
+    // Takes the `n` copies at the front, where no mark can come before them.
+    fn take_packets<R: Wait>(
+        &self,
+        rt: &R,
+        taker: &mut Taker,
+        n: u64,
+    ) -> Result<Vec<RadioCopy>, InboxError>
+        requires inbox { taker.old.inbox ≡ self.now }
+        requires packets { TakesPackets taker.old.desk }
+        requires known { n ≤ known_of taker.old.desk.gathered taker.old.desk.taken }
+        ensures count { IfOk result (λ copies. length copies.items ≡ n) }
+        ensures taken { IfOk result (λ copies. TakesCopies taker.old taker.new copies.items) }
+        ensures begun { OnOk result (TookFronts taker.new.desk.gathered taker.new.desk.taken) }
+        ensures made { OnOk result (OfMade taker.new.desk.made taker.new.desk.taken) }
+        ensures whole { OnOk result (n ≡ known_of taker.old.desk.gathered taker.old.desk.taken → Later taker.old.desk.made taker.old.desk.gathered → Whole taker.new.desk.gathered taker.new.desk.taken) }
+        ensures others { OnOk result (n ≡ known_of taker.old.desk.gathered taker.old.desk.taken → Later taker.old.desk.made taker.old.desk.gathered → NoOthers taker.old.desk.gathered taker.old.desk.taken taker.new.desk.taken) }
+        ensures refused { OnErr result (taker.new ≡ taker.old) }
+    {
         let mut copies = Vec::with_capacity(self.alloc, n as usize)?;
         for _ in 0..n {
             match self.take_next(rt, taker) {
-                Some(item) => copies.push_reserved(item.copy()),
+                Some(item) => match item.what {
+                    Carried::Packet(copy) => copies.push_reserved(copy),
+                    Carried::Mark(_) => unreachable!(),
+                },
                 None => unreachable!(),
             }
         }
@@ -247,11 +344,12 @@ impl Inbox {
     pub fn close<R: Wait>(self, rt: &R, taker: Taker) -> Result<Vec<RadioCopy>, InboxError>
         requires inbox { taker.inbox ≡ self }
         requires gathered { AllGathered taker.desk }
+        requires packets { NoMarkLeft taker.desk }
         ensures { IfOk result (λ copies. Empties taker.desk copies.items) }
     {
         let mut taker = taker;
         let known = self.known(&taker);
-        self.drain(rt, &mut taker, known)
+        self.take_packets(rt, &mut taker, known)
     }
 }
 

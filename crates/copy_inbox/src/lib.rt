@@ -7,3 +7,4 @@ mod items;
 mod rule;
 
 pub use inbox::{Inbox, InboxError, Sender, Taker};
+pub use items::{Carried, Item};

@@ -1,7 +1,7 @@
 //! The rule of an inbox's queue, and what each pass of the queue knows. No value of these types is made when a program
 //! runs: they are what the contracts and their proofs speak of.
 
-use crate::items::{Carried, InboxItem};
+use crate::items::{Carried, Item};
 use crossbeam_queue::protocol::{Join, Lesson, Outcome, Protocol, Split};
 use std::collections::LinkedList;
 
@@ -12,20 +12,23 @@ pub struct Gathered {
     pub pushed: LinkedList<Carried>,
 }
 
-/// What the taker knows: how many senders it has made, what it has taken, and the senders that it gathered, the newest first.
+/// What the taker knows: whether the inbox has marks, how many senders it has made, what it has taken, and the senders
+/// that it gathered, the newest first.
 pub struct Desk {
+    pub marked: bool,
     pub made: u64,
-    pub taken: LinkedList<InboxItem>,
+    pub taken: LinkedList<Item>,
     pub gathered: LinkedList<Gathered>,
 }
 
-/// What a sender knows: its number, and what it has pushed.
+/// What a sender knows: whether the inbox has marks, its number, and what it has pushed.
 pub struct Post {
+    pub marked: bool,
     pub number: u64,
     pub pushed: LinkedList<Carried>,
 }
 
-/// What a pass of the queue knows. A spent one was joined to the taker's.
+/// What a pass of the queue knows. A spent one was joined to the taker's, or never was a sender's.
 pub enum View {
     Taking(Desk),
     Sending(Post),
@@ -35,7 +38,7 @@ pub enum View {
 /// The rule of the queue.
 pub struct Ruled;
 
-impl Protocol<InboxItem, View> for Ruled {
+impl Protocol<Item, View> for Ruled {
     ghost use Rattle.copy_inbox.specs.Rule.{InboxRule};
     ghost use Rattle.copy_inbox.specs.Views.{new_taker};
 
@@ -55,6 +58,17 @@ impl Split<View> for Makes {
     ghost right = { next_sender };
 }
 
+/// The inbox is to have marks. The pass that is split off is nobody's.
+pub struct Marks;
+
+impl Split<View> for Marks {
+    ghost use Rattle.copy_inbox.specs.Views.{with_marks, no_sender};
+
+    ghost left = { with_marks };
+
+    ghost right = { no_sender };
+}
+
 /// The taker gathers a sender.
 pub struct Gathers;
 
@@ -70,7 +84,7 @@ impl Join<View> for Gathers {
 /// A sender pushes an item.
 pub struct Pushes;
 
-impl Outcome<InboxItem, View> for Pushes {
+impl Outcome<Item, View> for Pushes {
     ghost use Rattle.copy_inbox.specs.Rule.{Pushed};
 
     ghost then = { Pushed };
@@ -79,13 +93,13 @@ impl Outcome<InboxItem, View> for Pushes {
 /// The taker takes an item, or finds the queue empty.
 pub struct Takes;
 
-impl Outcome<InboxItem, View> for Takes {
+impl Outcome<Item, View> for Takes {
     ghost use Rattle.copy_inbox.specs.Rule.{Took};
 
     ghost then = { Took };
 }
 
-impl Lesson<InboxItem, View> for Takes {
+impl Lesson<Item, View> for Takes {
     ghost use Rattle.copy_inbox.specs.Rule.{SeenBy};
 
     ghost fact = { SeenBy };

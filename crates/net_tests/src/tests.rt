@@ -5,6 +5,7 @@ mod exchange;
 mod failing_writers;
 mod inbox;
 mod many_lines;
+mod marks;
 mod medium;
 mod reports;
 mod workers;

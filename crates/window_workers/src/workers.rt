@@ -4,7 +4,7 @@ ghost use Rattle.std.specs.Prelude.{◌≡◌, suc, length, map, vec_len, All, N
 ghost use Rattle.std.specs.List.{AllByRecursion as Each};
 ghost use Rattle.kernel_laws.specs.Going.{IsInOrder};
 ghost use Rattle.net_scenario.specs.Net.{net_of};
-ghost use Rattle.copy_exchange.specs.Inboxes.{IsFresh, IsSettled};
+ghost use Rattle.copy_exchange.specs.Inboxes.{IsFresh, IsPlain, IsSettled};
 ghost use Rattle.worker_crew.specs.Crew.{IsAt};
 ghost use Rattle.net_report.specs.Report.{report_of};
 ghost use Rattle.window_workers.specs.Carried.{AllCarried};
@@ -81,6 +81,7 @@ where
     R: Threads + Wait + RandomSource + AllocGlobal + Sync,
     G: Gate + Sync,
     requires fresh { Each (λ pair. IsFresh pair.0 pair.1) pairs.items }
+    requires plain { Each (λ pair. IsPlain pair.1) pairs.items }
     ensures report { IfOk result (λ r. IsReportOf (net_of net.now) (report_of r.0)) }
     // There is a trace for each mote.
     ensures traces { IfOk result (λ r. vec_len r.0.traces ≡ length (net_of net.now).motes) }
@@ -133,7 +134,7 @@ where
     if let Some(fault) = fault_of(net.motes(), usize::from(workers), &cut.of) {
         return Err(fault);
     }
-    let pairs = make_inboxes(alloc, usize::from(workers))?;
+    let pairs = make_inboxes(alloc, usize::from(workers), false)?;
     let (report, pairs) = run_inboxes(rt, alloc, net, cut, gate, pairs)?;
     close_inboxes(rt, pairs)?;
     Ok(report)

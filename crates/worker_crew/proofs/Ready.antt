@@ -8,6 +8,7 @@ use Rattle.window_law.proofs.Lists.{every_weaker}
 use Rattle.copy_exchange.specs.declared.courier.Courier.{Courier}
 use Rattle.copy_exchange.specs.Couriers.{IsCourier, Together, SetsOut}
 use Rattle.copy_exchange.specs.Desks.{copies_in, taken_by, gathered_by}
+use Rattle.copy_exchange.specs.Inboxes.{IsPlain}
 use Rattle.worker_share.specs.declared.share.Share.{Share}
 use Rattle.worker_cut.specs.Crossed.{is_own}
 use Rattle.worker_crew.specs.declared.crew.Crew.{Crew}
@@ -29,7 +30,7 @@ numbered workers couriers e v h c f =
     sym (read (map (λ (x : Courier). x.worker) couriers) v c.worker 0 (mapped (λ (x : Courier). x.worker) couriers v c f))
     ∙ (ap (λ l. get_or l v 0) e ∙ (get_or-range_with_len 0 workers v 0 h ∙ omega arith))
 
-module _ (n : NetTold) (of : List ℕ) (from until : ℕ) (old : Crew) (at : IsAt n of from old) (early : until ≤ 2 ^ 40)
+module _ (n : NetTold) (of : List ℕ) (from until : ℕ) (old : Crew) (at : IsAt n of from old) (early : until ≤ 2 ^ 40) (plain : Each IsPlain old.takers.items)
     (couriers : List Courier) (together : Together old.inboxes.items couriers) (set_out : AllZip SetsOut old.takers.items couriers) where
   one_ready : (v : ℕ) (s : Share) (c : Courier) → slice_get old.shares.items v ≡ Some s → slice_get couriers v ≡ Some c → IsReady n of old.inboxes.items until (manned_by (s, c))
   one_ready v s c e f =
@@ -46,6 +47,7 @@ module _ (n : NetTold) (of : List ℕ) (from until : ℕ) (old : Crew) (at : IsA
         cut = at.cut;
         share = record { worker = v; from = from; motes = at.motes; taken = taken_by t.0; keeps = here.keeps };
         same = here.keeps.is_worker ∙ sym number;
+        plain = set.same_marked ∙ each_at IsPlain old.takers.items v t.0 plain t.1;
         courier = each_at (IsCourier old.inboxes.items) couriers v c together.each f;
         own = subst (λ w. Each (λ (x : RadioCopy). is_own of w x.to ≡ true) (gathered_by c.taker)) (sym number)
             (subst (λ l. Each (λ (x : RadioCopy). is_own of v x.to ≡ true) l) (sym (ap copies_in set.same_gathered)) own);

@@ -1,5 +1,5 @@
 -- The workers before the first window.
-use Rattle.std.proofs.Common.{◌≡◌, ℕ, zero, suc, ◌<◌, ltb, eqb, List, [], ◌∷◌, length, get_or, refl, sym, ap, subst, arith, inl, inr, None}
+use Rattle.std.proofs.Common.{◌≡◌, Bool, ℕ, zero, suc, ◌<◌, ltb, eqb, List, [], ◌∷◌, length, get_or, refl, sym, ap, subst, arith, inl, inr, None}
 use Rattle.std.specs.List.{filter, AllZip}
 use Rattle.std.proofs.lemmas.Bool.{cases_Bool, eq-eqb}
 use Rattle.radio_packet.specs.declared.copy.RadioCopy.{RadioCopy}
@@ -7,9 +7,9 @@ use Rattle.net_scenario.specs.Net.{NetTold}
 use Rattle.net_agenda.specs.NetSystem.{system_of}
 use Rattle.window_law.specs.System.{System}
 use Rattle.window_law.specs.Windows.{first_mote, copies_by, Last}
-use Rattle.copy_inbox.specs.declared.items.InboxItem.{InboxItem}
+use Rattle.copy_inbox.specs.declared.items.Item.{Item}
 use Rattle.copy_inbox.specs.Items.{copies_of, part}
-use Rattle.copy_inbox.specs.Handles.{InboxId, TakerView}
+use Rattle.copy_inbox.specs.Handles.{InboxId, TakerView, PacketsLeft}
 use Rattle.copy_inbox.specs.Views.{make_desk}
 use Rattle.copy_exchange.specs.Desks.{IsOrderly}
 use Rattle.copy_exchange.specs.Inboxes.{IsFresh, IsSettled, Settled}
@@ -22,12 +22,12 @@ use Rattle.worker_crew.specs.Start.{AreFirst}
 use Rattle.worker_crew.specs.Worker.{IsCut}
 
 -- where no sender has a part there is nothing
-no_parts : (rest : List InboxItem) → ((s : ℕ) → part s rest ≡ []) → rest ≡ []
+no_parts : (rest : List Item) → ((s : ℕ) → part s rest ≡ []) → rest ≡ []
 no_parts [] h = refl
 no_parts (x ∷ rest) h = let e = rw (eq-eqb x.sender x.sender refl) at (h x.sender) in cc
 
-stands_first : IsOrderly (make_desk 0 [] [])
-stands_first = record {
+stands_first : (marked : Bool) → IsOrderly (make_desk marked 0 [] [])
+stands_first marked = record {
   in_order = λ rest is s. ap (λ l. filter (λ (c : RadioCopy). eqb c.sender s) (copies_of l)) (no_parts rest (λ u. is.1 u refl));
   begun = tt;
   unseen = λ s e. refl;
@@ -39,8 +39,9 @@ stands_first = record {
 settled_first : (inbox : InboxId) (t : TakerView) → IsFresh inbox t → IsSettled inbox t
 settled_first inbox t fresh = record {
   its = fresh.0;
-  stands = subst IsOrderly (sym fresh.1) stands_first;
+  stands = subst IsOrderly (sym fresh.1) (stands_first t.desk.marked);
   all = λ s low. absurd (let e = ap (λ d. d.made) fresh.1 in omega arith);
+  no_mark = subst PacketsLeft (sym fresh.1) tt;
 }
 
 all_settled : (inboxes : List InboxId) (takers : List TakerView) → AllZip IsFresh inboxes takers → Settled inboxes takers
@@ -49,7 +50,8 @@ all_settled [] (t ∷ ts) h = h
 all_settled (i ∷ is) [] h = h
 all_settled (i ∷ is) (t ∷ ts) h = (settled_first i t h.0, all_settled is ts h.1)
 
-fresh_at : (inboxes : List InboxId) (takers : List TakerView) → AllZip IsFresh inboxes takers → (v : ℕ) (d : TakerView) → v < length inboxes → (get_or takers v d).desk ≡ make_desk 0 [] []
+fresh_at : (inboxes : List InboxId) (takers : List TakerView) → AllZip IsFresh inboxes takers → (v : ℕ) (d : TakerView) → v < length inboxes
+    → (get_or takers v d).desk ≡ make_desk (get_or takers v d).desk.marked 0 [] []
 fresh_at [] ts h v d low = absurd (omega arith)
 fresh_at (i ∷ is) [] h v d low = absurd h
 fresh_at (i ∷ is) (t ∷ ts) h zero d low = h.0.1
@@ -62,9 +64,10 @@ pub none_crossed : {S L : Type 0} (system : System S L) (of : List ℕ) (v s : �
 none_crossed system of v s =
     elim (cases_Bool (is_own of v s)) [ inl e ↦ rw e refl | inr e ↦ rw e (ap (filter (is_to of v)) (none_sent system s)) ]
 
-first_worker : (n : NetTold) (of : List ℕ) (v : ℕ) (share : Share) (taker : TakerView) → Keeps n of v 0 (first_mote (system_of n)) [] share → taker.desk ≡ make_desk 0 [] []
+first_worker : (n : NetTold) (of : List ℕ) (v : ℕ) (share : Share) (taker : TakerView) (marked : Bool) → Keeps n of v 0 (first_mote (system_of n)) [] share
+    → taker.desk ≡ make_desk marked 0 [] []
     → IsWorkerAt n of 0 (first_mote (system_of n)) None v share taker
-first_worker n of v share taker keeps fresh = record {
+first_worker n of v share taker marked keeps fresh = record {
   keeps = subst (λ d. Keeps n of v 0 (first_mote (system_of n)) (copies_of d.taken) share) (sym fresh) keeps;
   gathered = λ s. let e = none_crossed (system_of n) of v s in rw fresh (sym e);
   waits = λ s. record { rest = []; all = rw fresh refl; later = tt };
@@ -81,5 +84,5 @@ starts n of crew cut fresh shares none = record {
   first = rw none tt;
   each = λ v low share taker.
       subst (λ o. IsWorkerAt n of 0 (first_mote (system_of n)) o v (get_or crew.shares.items v share) (get_or crew.takers.items v taker)) (sym none)
-      (first_worker n of v _ _ (shares.each v share low) (fresh_at crew.inboxes.items crew.takers.items fresh v taker low));
+      (first_worker n of v _ _ _ (shares.each v share low) (fresh_at crew.inboxes.items crew.takers.items fresh v taker low));
 }

@@ -9,6 +9,7 @@ use Rattle.copy_inbox.specs.Handles.{InboxId}
 use Rattle.copy_exchange.specs.declared.courier.Courier.{Courier}
 use Rattle.copy_exchange.specs.Couriers.{IsCourier, Collects, Delivers}
 use Rattle.copy_exchange.specs.Desks.{taken_by, gathered_by}
+use Rattle.copy_exchange.specs.Inboxes.{IsPlain}
 use Rattle.worker_cut.specs.Crossed.{is_own}
 use Rattle.worker_share.specs.Share.{Motes, IsKept, Keeps}
 use Rattle.worker_share.specs.Window.{RunsWindow, GoesOut, ComesIn}
@@ -19,13 +20,15 @@ pub record IsCut (motes workers : ℕ) (of : List ℕ) : Type 0 where
   pub len : length of ≡ motes
   pub there : Each (λ worker. worker < workers) of
 
--- a worker that can run through a window: its share is that of the worker of its courier, and all that was sent to it is for its motes
+-- a worker that can run through a window: its share is that of the worker of its courier, its inbox has no marks, and all that was
+-- sent to it is for its motes
 pub record IsReady (n : NetTold) (of : List ℕ) (inboxes : List InboxId) (until : ℕ) (worker : Worker) : Type 0 where
   pub early : until ≤ 2 ^ 40
   pub cut : IsCut (length n.motes) (length inboxes) of
   pub share : IsKept n of worker.share
   pub same : worker.share.worker ≡ worker.courier.worker
   pub courier : IsCourier inboxes worker.courier
+  pub plain : IsPlain worker.courier.taker
   pub own : Each (λ (copy : RadioCopy). is_own of worker.courier.worker copy.to ≡ true) (gathered_by worker.courier.taker)
 
 abbrev pub IsNotBefore : (first : Option ℕ) → RadioCopy → Type 0

@@ -5,6 +5,8 @@ ghost use Rattle.net_scenario.specs.Limits.{latest_end};
 ghost use Rattle.net_scenario.specs.Net.{net_of};
 ghost use Rattle.net_agenda.specs.NetSystem.{system_of};
 ghost use Rattle.window_law.specs.System.{RunsForward};
+ghost use Rattle.std.specs.List.{AllByRecursion as Each};
+ghost use Rattle.copy_exchange.specs.Inboxes.{IsPlain};
 ghost use Rattle.worker_crew.specs.Crew.{IsAt};
 ghost use Rattle.worker_crew.specs.Run.{BeginsAt, end_of_window, length_of_window};
 
@@ -68,7 +70,7 @@ fn window_end(from: u64, length: u64, end: u64) -> u64
 
 /// Runs the crew window by window to the end of the net. A window begins at the least moment at which something comes and ends
 /// before the lesser of that moment plus the lookahead (or plus `longest`, where that is above 0 and less) and end + 1. `of` tells
-/// the worker of each mote.
+/// the worker of each mote. The inboxes have no marks.
 ///
 /// # Errors
 /// `Memory`, or `Thread` where a thread couldn't be started, the gate refused a start, or the executor answered an error: that of
@@ -87,6 +89,7 @@ where
     G: Gate + Sync,
     requires few { length crew.inboxes.items ≤ 16 }
     requires at { IsAt (net_of net.now) of.now 0 crew }
+    requires plain { Each IsPlain crew.takers.items }
     ensures at { let n = net_of net.now in IfOk result (λ done. IsAt n of.now (suc n.end) done) }
     ensures inboxes { IfOk result (λ done. done.inboxes.items ≡ crew.inboxes.items) }
 {

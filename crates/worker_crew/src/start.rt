@@ -48,6 +48,7 @@ impl Crew {
         requires fresh { AllZip IsFresh inboxes.items takers.items }
         ensures at { IfOk result (λ crew. IsAt (net_of net.now) of.now 0 crew) }
         ensures inboxes { IfOk result (λ crew. crew.inboxes.items ≡ inboxes.items) }
+        ensures takers { IfOk result (λ crew. crew.takers.items ≡ takers.items) }
         ensures err { IfErr result (λ e. e ≡ Memory) }
     {
         let shares = first_shares(alloc, net, of, inboxes.len() as u16)?;

@@ -5,6 +5,7 @@ ghost use Rattle.std.specs.List.{AllByRecursion as Each, AllZip, zip};
 ghost use Rattle.net_scenario.specs.Net.{net_of};
 ghost use Rattle.net_agenda.specs.NetSystem.{system_of};
 ghost use Rattle.window_law.specs.System.{RunsForward};
+ghost use Rattle.copy_exchange.specs.Inboxes.{IsPlain};
 ghost use Rattle.worker_crew.specs.Crew.{IsAt};
 ghost use Rattle.worker_crew.specs.Laws.{RunsAll, manned_by};
 ghost use Rattle.worker_crew.specs.Worker.{IsReady, RunsWorker};
@@ -89,7 +90,9 @@ impl Crew {
         requires early { until ≤ 2 ^ 40 }
         requires few { length self.inboxes.items ≤ 16 }
         requires stands { (from : ℕ) × IsAt (net_of net.now) of.now from self }
-        ensures { IfOk result (RunsAll (net_of net.now) of.now until self) }
+        requires plain { Each IsPlain self.takers.items }
+        ensures runs { IfOk result (RunsAll (net_of net.now) of.now until self) }
+        ensures plain { IfOk result (λ crew. Each IsPlain crew.takers.items) }
     {
         let Crew {
             shares,
@@ -141,8 +144,10 @@ impl Crew {
         requires early { until ≤ 2 ^ 40 }
         requires few { length self.inboxes.items ≤ 16 }
         requires stands { (from : ℕ) × IsAt (net_of net.now) of.now from self }
+        requires plain { Each IsPlain self.takers.items }
         ensures moves { let n = net_of net.now in RunsForward (system_of n) → IfOk result (λ done. (from : ℕ) → IsAt n of.now from self → from < until → until ≤ from + (system_of n).lookahead → IsAt n of.now until done) }
         ensures inboxes { IfOk result (λ done. done.inboxes.items ≡ self.inboxes.items) }
+        ensures plain { IfOk result (λ done. Each IsPlain done.takers.items) }
     {
         self.run_all(rt, alloc, net, of, until, gate)
     }

@@ -4,7 +4,7 @@ ghost use Rattle.std.specs.Prelude.{◌≡◌, ◌≤◌, ◌+◌, length, IfOk}
 ghost use Rattle.std.specs.List.{AllByRecursion as Each};
 ghost use Rattle.copy_inbox.specs.Handles.{TakerView};
 ghost use Rattle.copy_exchange.specs.Couriers.{IsCourier, SetsOut, Returns};
-ghost use Rattle.copy_exchange.specs.Inboxes.{Settled};
+ghost use Rattle.copy_exchange.specs.Inboxes.{IsPlain, Settled};
 
 use copy_exchange::{
     Courier, close_inboxes, couriers, gathered, known, make_inboxes, paired, parted,
@@ -38,6 +38,7 @@ fn through<R: Wait>(
 ) -> Result<(Courier, Vec<RadioCopy>), InboxError>
     requires two { length inboxes.now ≡ 2 }
     requires courier { IsCourier inboxes.now courier }
+    requires plain { IsPlain courier.taker }
     requires out { Each (λ copy. (copy.sender ≡ courier.worker) × (copy.to + courier.worker ≡ 1)) out.items }
     ensures { IfOk result (λ r. (t : TakerView) → SetsOut t courier → Returns inboxes.now (λ s. s) courier r.0) }
 {
@@ -57,9 +58,11 @@ fn a_window<R: Wait>(
 ) -> Result<(Vec<Taker>, Vec<RadioCopy>, Vec<RadioCopy>), InboxError>
     requires two { length inboxes.now ≡ 2 }
     requires settled { Settled inboxes.now takers.items }
+    requires plain { Each IsPlain takers.items }
     requires first { Each (λ copy. (copy.sender ≡ 0) × (copy.to ≡ 1)) out.0.items }
     requires second { Each (λ copy. (copy.sender ≡ 1) × (copy.to ≡ 0)) out.1.items }
-    ensures { IfOk result (λ r. Settled inboxes.now r.0.items) }
+    ensures settled { IfOk result (λ r. Settled inboxes.now r.0.items) }
+    ensures plain { IfOk result (λ r. Each IsPlain r.0.items) }
 {
     let mut couriers = couriers(alloc, inboxes, takers)?;
     let (Some(second), Some(first)) = (couriers.pop(), couriers.pop()) else {
@@ -91,7 +94,7 @@ fn known_in(inboxes: &[Inbox], takers: &[Taker]) -> (u64, u64)
 #[test]
 fn two_windows(rt: HostRuntime) -> Result<(), Fail> {
     let alloc = rt.alloc();
-    let (inboxes, takers) = parted(alloc, make_inboxes(alloc, 2)?)?;
+    let (inboxes, takers) = parted(alloc, make_inboxes(alloc, 2, false)?)?;
     let out = (
         vec![in alloc; copy(0, 0), copy(0, 1)]?,
         vec![in alloc; copy(1, 0)]?,

@@ -107,7 +107,7 @@ where
     R: Threads + Wait + Sync + RandomSource + AllocGlobal,
 {
     let cut = Cut::block(rt.alloc(), 3, 2)?;
-    let pairs = make_inboxes(rt.alloc(), count)?;
+    let pairs = make_inboxes(rt.alloc(), count, false)?;
     Ok(run_inboxes(rt, rt.alloc(), net, &cut, &NoGate, pairs).err())
 }
 

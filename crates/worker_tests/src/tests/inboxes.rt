@@ -39,7 +39,7 @@ where
     R: Threads + Wait + Sync + RandomSource + AllocGlobal,
 {
     let cut = blocks(rt.alloc(), 2, 2, 0)?;
-    let pairs = make_inboxes(rt.alloc(), 2)?;
+    let pairs = make_inboxes(rt.alloc(), 2, false)?;
     let (report, pairs) = run_inboxes(rt, rt.alloc(), net, &cut, &NoGate, pairs)?;
     let is_same = report.left == 1 && is_of_one_thread(rt.alloc(), net, &report);
     let (known, copies) = closed(rt, rt.alloc(), pairs)?;

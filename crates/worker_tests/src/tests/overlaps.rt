@@ -96,7 +96,7 @@ where
     R: Threads + Wait + Sync + RandomSource + AllocGlobal,
 {
     let cut = blocks(rt.alloc(), 2, 2, 1)?;
-    let pairs = make_inboxes(rt.alloc(), 2)?;
+    let pairs = make_inboxes(rt.alloc(), 2, false)?;
     let gate = Meeting::new();
     match run_inboxes(rt, rt.alloc(), net, &cut, &gate, pairs) {
         Ok((report, _pairs)) => { Ok(is_of_one_thread(rt.alloc(), net, &report) && all_met(&gate)) }

@@ -4,7 +4,7 @@ use Rattle.std.proofs.lemmas.Iterator.Consumers.{YieldsList-turn, YieldsList-end
 use Rattle.copy_inbox.specs.Handles.{TakerView}
 use Rattle.copy_exchange.specs.declared.courier.Courier.{Courier}
 use Rattle.copy_exchange.specs.Steps.{AreTakersOf}
-use Rattle.copy_exchange.proofs.Homes.{Row, GathersRows, start_takers, settled, came_home, row_fits, no_rows, more_rows, takers_after}
+use Rattle.copy_exchange.proofs.Homes.{Row, GathersRows, start_takers, settled, plain_home, came_home, row_fits, no_rows, more_rows, takers_after}
 use Rattle.copy_exchange.proofs.window.gathered.Goals as goal
 use Rattle.copy_exchange.proofs.window.gathered.Goals.{After-drop-senders-iterator}
 
@@ -43,6 +43,9 @@ all_rows g c =
 
 pub returns-clause-settled : goal.returns-clause-settled
 returns-clause-settled g c = settled c.args.inboxes.now c.args.couriers.items c.requires c.loop-senders.takers.items (all_rows g c)
+
+pub returns-clause-plain : goal.returns-clause-plain
+returns-clause-plain g c = plain_home c.args.inboxes.now c.args.couriers.items c.requires c.loop-senders.takers.items (all_rows g c)
 
 pub returns-clause-came_home : goal.returns-clause-came_home
 returns-clause-came_home g c = came_home c.args.inboxes.now c.args.couriers.items c.requires c.loop-senders.takers.items (all_rows g c)

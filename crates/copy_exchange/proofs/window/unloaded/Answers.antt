@@ -42,8 +42,8 @@ loop-courier-preserved c =
     let rows_capacity = rows.capacity in
     let long : length (c.loop-courier.yielded ++ c.in-Some.courier ∷ []) ≡ length c.loop-courier.yielded + 1 = length-append c.loop-courier.yielded (c.in-Some.courier ∷ []) in
     record {
-      takers = takers.items ∙ (ap (λ l. l ++ c.in-Some.courier.taker ∷ []) i.takers ∙ sym (map-append (λ (k : Courier). k.taker) c.loop-courier.yielded (c.in-Some.courier ∷ [])));
-      rows = rows.items ∙ (ap (λ l. l ++ c.in-Some.courier.senders ∷ []) i.rows ∙ sym (map-append (λ (k : Courier). k.senders) c.loop-courier.yielded (c.in-Some.courier ∷ [])));
+      takers = takers.items ∙ ((λ j. i.takers j ++ c.into_parts-taker.ensures.0 j ∷ []) ∙ sym (map-append (λ (k : Courier). k.taker) c.loop-courier.yielded (c.in-Some.courier ∷ [])));
+      rows = rows.items ∙ ((λ j. i.rows j ++ c.into_parts-taker.ensures.1 j ∷ []) ∙ sym (map-append (λ (k : Courier). k.senders) c.loop-courier.yielded (c.in-Some.courier ∷ [])));
       takers_long = omega arith;
       rows_long = omega arith;
       takers_room = omega arith;

@@ -1,12 +1,12 @@
 use Rattle.std.proofs.Common.{rules, ◌≡◌, length, map, vec_len, Vec, None, sym, ap, ◌∙◌, subst}
 use Rattle.std.specs.Prelude.{All, IfOk}
 use Rattle.std.specs.declared.alloc.Global.{Global}
-use Rattle.std.specs.List.{AllZip}
+use Rattle.std.specs.List.{AllZip, AllByRecursion as Each}
 use Rattle.std.proofs.lemmas.List.{length-map}
 use Rattle.process_kernel.specs.declared.line.Line.{Line}
 use Rattle.kernel_laws.specs.Going.{IsInOrder}
 use Rattle.net_scenario.specs.Net.{net_of}
-use Rattle.copy_exchange.specs.Inboxes.{IsFresh}
+use Rattle.copy_exchange.specs.Inboxes.{IsFresh, IsPlain}
 use Rattle.worker_crew.specs.Worker.{IsCut}
 use Rattle.net_report.specs.declared.Report.{Report}
 use Rattle.net_report.specs.Report.{report_of}
@@ -15,7 +15,7 @@ use Rattle.window_workers.specs.Fits.{cut_fault}
 use Rattle.window_workers.specs.NetRun.{IsReportOf}
 use Rattle.window_workers.proofs.ByWorkers.{one_trace_each, all_hand_on}
 use Rattle.window_workers.proofs.Fitting.{fits_is}
-use Rattle.window_workers.proofs.Pairs.{zip_each, if_ok}
+use Rattle.window_workers.proofs.Pairs.{zip_each, seconds_have, if_ok}
 use Rattle.window_workers.proofs.workers.run_inboxes.Goals as goal
 
 long_as : (v : Vec (Vec Line Global) Global) → vec_len v ≡ length v.items
@@ -36,6 +36,10 @@ pub start-requires-clause-fresh : goal.start-requires-clause-fresh
 start-requires-clause-fresh g c =
     subst (λ l. AllZip IsFresh l c.in_ok-inboxes.takers.items) (sym c.in_ok-inboxes.ensures.inboxes)
     (subst (λ l. AllZip IsFresh (map (λ (pair : Pair). pair.0) c.args.pairs.items) l) (sym c.in_ok-inboxes.ensures.takers) (zip_each IsFresh c.args.pairs.items c.requires.fresh))
+
+pub run_windows-requires-clause-plain : goal.run_windows-requires-clause-plain
+run_windows-requires-clause-plain g c κs within =
+    subst (Each IsPlain) (sym (c.in_ok-crew.ensures.takers ∙ c.in_ok-inboxes.ensures.takers)) (seconds_have IsPlain c.args.pairs.items c.requires.plain)
 
 pub returns-clause-traces : goal.returns-clause-traces
 returns-clause-traces g c =

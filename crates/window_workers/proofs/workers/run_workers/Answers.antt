@@ -1,5 +1,5 @@
-use Rattle.std.proofs.Common.{◌≡◌}
-use Rattle.copy_inbox.specs.Handles.{AllGathered}
+use Rattle.std.proofs.Common.{◌≡◌, inr}
+use Rattle.copy_inbox.specs.Handles.{AllGathered, NoMarkLeft}
 use Rattle.copy_exchange.specs.Inboxes.{IsSettled}
 use Rattle.window_law.proofs.Lists.{every_weaker}
 use Rattle.window_workers.specs.Carried.{Pair}
@@ -12,3 +12,7 @@ close_inboxes-requires-clause-inbox g c =
 pub close_inboxes-requires-clause-gathered : goal.close_inboxes-requires-clause-gathered
 close_inboxes-requires-clause-gathered g c =
     every_weaker (λ (pair : Pair). IsSettled pair.0 pair.1) (λ (pair : Pair). AllGathered pair.1.desk) (λ pair h. h.all) c.in_ok-report.pairs.items c.in_ok-report.ensures.settled
+
+pub close_inboxes-requires-clause-no_mark : goal.close_inboxes-requires-clause-no_mark
+close_inboxes-requires-clause-no_mark g c =
+    every_weaker (λ (pair : Pair). IsSettled pair.0 pair.1) (λ (pair : Pair). NoMarkLeft pair.1.desk) (λ pair h. inr h.no_mark) c.in_ok-report.pairs.items c.in_ok-report.ensures.settled

@@ -6,6 +6,7 @@ use Rattle.worker_crew.proofs.run.run_windows.Goals as goal
 pub windows-init : goal.windows-init
 windows-init g c = record {
   at = stands_there (net_of c.args.net.now) c.args.of.now 0 c.end-end.result c.args.crew c.window_start-from.result c.requires.at (omega arith) c.window_start-from.ensures.value c.lookahead_of.ensures.forward;
+  plain = c.requires.plain;
   early = c.window_start-from.ensures.within;
   inboxes = refl;
 }
@@ -26,6 +27,7 @@ windows-preserved g c =
     let moved = c.in_ok-crew.ensures.moves c.lookahead_of.ensures.forward c.windows.from c.windows.invariant.at up short in
     record {
       at = stands_there (net_of c.args.net.now) c.args.of.now c.window_end-until.result c.end-end.result c.in_ok-crew.crew _ moved c.window_end-until.ensures.within c.window_start-from-in-windows.ensures.value c.lookahead_of.ensures.forward;
+      plain = c.in_ok-crew.ensures.plain;
       early = c.window_start-from-in-windows.ensures.within;
       inboxes = c.in_ok-crew.ensures.inboxes ∙ c.windows.invariant.inboxes;
     }

@@ -1,11 +1,14 @@
 use Rattle.std.proofs.Common.{◌≡◌, ◌+◌, ◌-◌, ◌≤◌}
 use Rattle.net_scenario.specs.Net.{net_of}
+use Rattle.std.specs.List.{AllByRecursion as Each}
+use Rattle.copy_exchange.specs.Inboxes.{IsPlain}
 use Rattle.worker_crew.specs.Crew.{IsAt}
 use Rattle.worker_crew.proofs.run.run_windows.Given as goal
 
 abbrev pub invariant-windows : goal.invariant-windows
 invariant-windows g l = record {
   at : IsAt (net_of l.net) l.of l.from l.crew;
+  plain : Each IsPlain l.crew.takers.items;
   early : l.from ≤ l.end + 1;
   inboxes : l.crew.inboxes.items ≡ l.fn.crew.inboxes.items;
 }

@@ -3,7 +3,7 @@ use Rattle.std.proofs.Math.Seq.{take-length}
 use Rattle.std.proofs.lemmas.List.{take_more}
 use Rattle.radio_packet.specs.declared.copy.RadioCopy.{RadioCopy}
 use Rattle.copy_exchange.specs.Couriers.{Delivers, Leaves}
-use Rattle.copy_exchange.proofs.Delivered.{delivers_none, delivers_more}
+use Rattle.copy_exchange.proofs.Delivered.{delivers_none, delivers_more, seated, courier_again}
 use Rattle.copy_exchange.proofs.Lists.{each_at}
 use Rattle.copy_exchange.proofs.courier.Courier.deliver.Goals as goal
 
@@ -21,7 +21,7 @@ deliver_one-requires-clause-leaves g c =
     subst (λ (worker : ℕ). P worker c.deref-copy-items.result.now) (sym c.loop-copy.invariant.delivers.stays.worker) there
 
 pub loop-copy-init : goal.loop-copy-init
-loop-copy-init g c = record { courier = c.requires.courier; delivers = delivers_none c.args.of.now c.args.self.now }
+loop-copy-init g c = record { seated = seated c.args.inboxes.now c.args.self.now c.requires.courier; delivers = delivers_none c.args.of.now c.args.self.now }
 
 pub loop-copy-preserved : goal.loop-copy-preserved
 loop-copy-preserved g c =
@@ -31,7 +31,7 @@ loop-copy-preserved g c =
     let told = c.in_ok-deliver_one.ensures in
     let more = delivers_more c.args.of.now c.args.self.now c.loop-copy.self c.deliver_one.new.self (take index copies) _ c.loop-copy.invariant.delivers told.delivers in
     record {
-      courier = told.courier;
+      seated = told.seated;
       delivers = subst (λ (l : List RadioCopy). Delivers c.args.of.now c.args.self.now c.deliver_one.new.self l) (sym (take_more copies index none c.loop-copy-test.true)) more;
     }
 
@@ -44,3 +44,9 @@ returns-clause-delivers g c =
     let e : index ≡ length copies = omega arith in
     let all : take index copies ≡ c.args.copies.items = ap (λ k. take k copies) e ∙ (take-length copies ∙ c.deref-copy-items.ensures.value) in
     subst (λ (l : List RadioCopy). Delivers c.args.of.now c.args.self.now c.loop-copy.self l) all c.loop-copy.invariant.delivers
+
+pub returns-clause-courier : goal.returns-clause-courier
+returns-clause-courier g c =
+    let copies : List RadioCopy = c.deref-copy-items.result.now in
+    let index : ℕ = c.loop-copy.copy-index in
+    courier_again c.args.inboxes.now c.args.of.now c.args.self.now c.loop-copy.self (take index copies) c.requires.courier c.loop-copy.invariant.delivers c.loop-copy.invariant.seated

@@ -5,6 +5,7 @@ use Rattle.radio_packet.specs.declared.copy.RadioCopy.{RadioCopy}
 use Rattle.copy_inbox.specs.Handles.{InboxId, TakerView}
 use Rattle.copy_exchange.specs.declared.courier.Courier.{Courier}
 use Rattle.copy_exchange.specs.Couriers.{IsCourier, SetsOut, Together, Returns, AllReturn}
+use Rattle.copy_exchange.specs.Inboxes.{IsPlain}
 use Rattle.copy_exchange.proofs.Lists.{each_map}
 use Rattle.net_tests.proofs.tests.exchange.a_window.Goals as goal
 
@@ -32,6 +33,11 @@ set_outs [] a b h = absurd h
 set_outs (t ∷ []) a b h = absurd h.1
 set_outs (t ∷ u ∷ us) a b h = ((t, h.0), (u, h.1.0))
 
+plains : (ts : List TakerView) (a b : Courier) → Each IsPlain ts → AllZip SetsOut ts (a ∷ b ∷ []) → IsPlain a.taker × IsPlain b.taker
+plains [] a b p h = absurd h
+plains (t ∷ []) a b p h = absurd h.1
+plains (t ∷ u ∷ us) a b p h = (h.0.same_marked ∙ p.0, h.1.0.same_marked ∙ p.1.0)
+
 returned : (inboxes : List InboxId) (ts : List TakerView) (cs back : List Courier) (a b a' b' : Courier) → Together inboxes cs → AllZip SetsOut ts cs → cs ≡ a ∷ b ∷ []
     → ((t : TakerView) → SetsOut t a → Returns inboxes (λ s. s) a a') → ((t : TakerView) → SetsOut t b → Returns inboxes (λ s. s) b b') → back ≡ a' ∷ b' ∷ [] → AllReturn inboxes back
 returned inboxes ts cs back a b a' b' all out is ran ran' e =
@@ -51,6 +57,18 @@ through-requires-clause-out g c =
     let w = pair.first in
     each_map (λ (copy : RadioCopy). (copy.sender ≡ 0) × (copy.to ≡ 1)) (λ (copy : RadioCopy). (copy.sender ≡ c.in-Some-Some.first.worker) × (copy.to + c.in-Some-Some.first.worker ≡ 1)) c.args.out.0.items
     (λ copy h. let s = h.0 in let t = h.1 in (omega arith, omega arith)) c.requires.first
+
+pub through-requires-clause-plain : goal.through-requires-clause-plain
+through-requires-clause-plain g c =
+    let pair = pair_of c.args.inboxes.now c.in_ok-couriers.couriers.items c.pop.new.self.items c.pop-2.new.self.items c.in-Some-Some.first c.in-Some-Some.second c.requires.two c.in_ok-couriers.ensures.together
+    c.in-Some-Some.ensures.items c.in-Some-Some.ensures'.items in
+    (plains c.args.takers.items _ _ c.requires.plain (subst (λ (l : List Courier). AllZip SetsOut c.args.takers.items l) pair.is c.in_ok-couriers.ensures.set_out)).0
+
+pub through-requires-2-clause-plain : goal.through-requires-2-clause-plain
+through-requires-2-clause-plain g c =
+    let pair = pair_of c.args.inboxes.now c.in_ok-couriers.couriers.items c.pop.new.self.items c.pop-2.new.self.items c.in-Some-Some.first c.in-Some-Some.second c.requires.two c.in_ok-couriers.ensures.together
+    c.in-Some-Some.ensures.items c.in-Some-Some.ensures'.items in
+    (plains c.args.takers.items _ _ c.requires.plain (subst (λ (l : List Courier). AllZip SetsOut c.args.takers.items l) pair.is c.in_ok-couriers.ensures.set_out)).1
 
 pub through-requires-2-clause-courier : goal.through-requires-2-clause-courier
 through-requires-2-clause-courier g c =

@@ -12,4 +12,4 @@ returns-clause-moves g c = λ fine.
     let n = net_of c.args.net.now in
     IfOk-weaker c.run_all.result (RunsAll n c.args.of.now c.args.until c.args.self)
     (λ done. (from : ℕ) → IsAt n c.args.of.now from c.args.self → from < c.args.until → c.args.until ≤ from + (system_of n).lookahead → IsAt n c.args.of.now c.args.until done)
-    (λ done all from at up short. moved n fine c.args.of.now from c.args.until c.args.self done at up short all) c.run_all.ensures
+    (λ done all from at up short. moved n fine c.args.of.now from c.args.until c.args.self done at up short all) c.run_all.ensures.runs

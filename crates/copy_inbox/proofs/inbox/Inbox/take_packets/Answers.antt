@@ -3,12 +3,12 @@ use Rattle.copy_inbox.specs.Gathered.{TookFronts}
 use Rattle.copy_inbox.specs.Handles.{TakerView}
 use Rattle.copy_inbox.proofs.Counts.{whole_of}
 use Rattle.copy_inbox.proofs.Drains.{drain_goes, known_to}
-use Rattle.copy_inbox.proofs.inbox.Inbox.drain.Goals as goal
+use Rattle.copy_inbox.proofs.inbox.Inbox.take_packets.Goals as goal
 
 pub loop-preserved : goal.loop-preserved
 loop-preserved g c =
     let i = c.loop.invariant in
-    let d = drain_goes c.args.taker.now c.loop.taker c.take_next.new.taker c.loop.copies.items _ c.loop.counter c.in-Some.item _ i.drained c.in-Some.ensures.taken c.in-Some.ensures.next c.copy.ensures c.push_reserved.ensures.items in
+    let d = drain_goes c.args.taker.now c.loop.taker c.take_next.new.taker c.loop.copies.items _ c.loop.counter c.in-Some.item c.in-Packet.copy i.drained c.in-Some.ensures.taken c.in-Some.ensures.next c.in-Packet.is c.push_reserved.ensures.items in
     let len = c.push_reserved.ensures.len in
     let capacity = c.push_reserved.ensures.capacity in
     let long = i.long in
