@@ -27,12 +27,14 @@ impl<T, W: Work<T>> Promise<Result<T, Refused>> for Promised<W, T> {
     ghost kept_by = { λ p r. IfOk r (W.makes p.work.value p.worker.value) };
 }
 
-/// Has each worker work in a thread of its own. The threads are started one after another, and all that started are joined. After a
-/// start that failed no further worker is started, and `work` gives up. The workers come back in their order.
+/// Has each worker work in a thread of its own. The threads are started one after another, and all that started are
+/// joined. After a start that failed no further worker is started, and `work` gives up. The workers come back in
+/// their order.
 ///
 /// # Errors
-/// That of the first worker that has a `Memory` or `Thread`, if any that was started has one; else `Thread` where a thread couldn't
-/// be started, or `work` didn't let it, and `Memory` where no memory was found for its handle; else `Stopped` where a worker has it.
+/// That of the first worker that has a `Memory` or `Thread`, if any that was started has one; else `Thread` where a
+/// thread couldn't be started, or `work` didn't let it, and `Memory` where no memory was found for its handle; else
+/// `Stopped` where a worker has it.
 pub fn fork_join<R, T, W>(
     rt: &R,
     alloc: Global,

@@ -76,7 +76,7 @@ pub trait Work<T> {
     /// It is asked before a worker's thread is started. No counts as a start that failed.
     fn may_start(&self, worker: &T) -> bool;
 
-    /// It is called where a start failed, before the workers that were started are joined. So work in which one worker waits for
-    /// another can tell those that wait to end.
+    /// It is called where a start failed, before the workers that were started are joined. So work in which one
+    /// worker waits for another can tell those that wait to end.
     fn give_up(&self);
 }

@@ -5,6 +5,7 @@ pub mod Fronts
 pub mod Lists
 pub mod Longer
 pub mod Pairs
+pub mod Promise
 pub mod Seen
 pub mod Settles
 pub mod Stages

@@ -17,10 +17,10 @@ use Rattle.mark_crew.specs.Bounds.{bound}
 use Rattle.mark_crew.specs.Story.{Story, RunsMotes, RunsWindows}
 
 -- one of a family changed
-abbrev edit : {X : Type 0} → (ℕ → X) → ℕ → X → ℕ → X
+abbrev pub edit : {X : Type 0} → (ℕ → X) → ℕ → X → ℕ → X
 edit f k x j = cond (eqb j k) x (f j)
 
-edit_same : {X : Type 0} (f : ℕ → X) (k : ℕ) (x : X) → edit f k x k ≡ x
+pub edit_same : {X : Type 0} (f : ℕ → X) (k : ℕ) (x : X) → edit f k x k ≡ x
 edit_same f k x = let e = eq-eqb k k refl in rw e refl
 
 edit_other : {X : Type 0} (f : ℕ → X) (k : ℕ) (x : X) (j : ℕ) → j ≢ k → edit f k x j ≡ f j
@@ -49,7 +49,8 @@ module _ (n : NetTold) (of : List ℕ) (width workers worker made k : ℕ) (take
   abbrev pub longer : Story
   longer = record { motes = edit story.motes (suc k) next; taken = edit story.taken (suc k) (taken ++ more); sent = edit story.sent k sent }
 
-  -- the worker ran window k, pushed what it sent in it and the mark, and then took more, until it had the marks of window k too
+  -- the worker ran window k, pushed what it sent in it and the mark, and then took more, until it had the marks of
+  -- window k too
   module _ (ran : RunsWindows n of width k workers worker made taken pushed story)
       (window : RunsMotes n of worker (bound width n.end k) (bound width n.end (suc k)) (story.motes k) next (copies_of taken) sent)
       (lead : (s : ℕ) → s < made → suc k ≤ marks_in (part s (taken ++ more)))

@@ -14,8 +14,9 @@ use Rattle.mark_crew.specs.Bounds.{AreWindows}
 use Rattle.mark_crew.specs.Senders.{AreSenders, after_all, pushed_through}
 use Rattle.mark_crew.specs.Story.{RunsMarked}
 
--- One worker when all threads are joined: it ran all windows as it promised, and then gathered the senders on its inbox, of each of
--- which it had taken a beginning of what was pushed. `sender inbox worker` is the sender of a worker on an inbox.
+-- One worker when all threads are joined: it ran all windows as it promised, and then gathered the senders on its
+-- inbox, of each of which it had taken a beginning of what was pushed. `sender inbox worker` is the sender of a
+-- worker on an inbox.
 pub record EndsMarked (n : NetTold) (of : List ℕ) (width windows workers : ℕ) (sender : (inbox worker : ℕ) → Option SenderView) (worker : ℕ) (share : Share) (taker : TakerView) : Type 0 where
   pub before : TakerView
   pub promise : RunsMarked n of width windows workers worker share before.desk (λ v. pushed_through (sender v worker))
@@ -35,7 +36,8 @@ pub record EndAllMarked (n : NetTold) (of : List ℕ) (width windows : ℕ) (cre
   pub each : (worker : ℕ) → worker < length crew.inboxes.items → (share : Share) (taker : TakerView)
       → EndsMarked n of width windows (length crew.inboxes.items) sender worker (slice_index_or crew.shares.items worker share) (slice_index_or crew.takers.items worker taker)
 
--- However the threads took turns, all workers stand at the end, as if all copies had changed hands between the windows.
+-- However the threads took turns, all workers stand at the end, as if all copies had changed hands between the
+-- windows.
 abbrev pub MarkedWindowsLeadToTheEnd : Type 0
 MarkedWindowsLeadToTheEnd = (n : NetTold) → RunsForward (system_of n) → (of : List ℕ) (width windows : ℕ) → width ≤ (system_of n).lookahead → AreWindows width n.end windows
     → (crew : Crew) → EndAllMarked n of width windows crew → IsAt n of (suc n.end) crew

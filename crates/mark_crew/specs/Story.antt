@@ -16,7 +16,8 @@ use Rattle.worker_share.specs.Share.{Motes, Keeps}
 use Rattle.worker_share.specs.Window.{RunsOwn, GoesOut, copies_out}
 use Rattle.mark_crew.specs.Bounds.{bound}
 
--- What a worker had before each window, its motes and all items that it had taken by then, and what its motes sent to others in it.
+-- What a worker had before each window, its motes and all items that it had taken by then, and what its motes sent to
+-- others in it.
 pub record Story : Type 0 where
   pub motes : ℕ → Motes
   pub taken : ℕ → List Item
@@ -29,9 +30,9 @@ pub record RunsMotes (n : NetTold) (of : List ℕ) (worker from until : ℕ) (mo
   pub goes : Each (GoesOut n of worker) sent
   pub late : Each (λ (copy : RadioCopy). until ≤ copy.at) sent
 
--- So many windows of one worker, from the first moment on. Before each window it had taken, of each sender that was made on its inbox,
--- the marks of all windows before. What it pushed to another worker is, window by window, the copies for that worker's motes and then
--- the mark.
+-- So many windows of one worker, from the first moment on. Before each window it had taken, of each sender that was
+-- made on its inbox, the marks of all windows before. What it pushed to another worker is, window by window, the
+-- copies for that worker's motes and then the mark.
 pub record RunsWindows (n : NetTold) (of : List ℕ) (width windows workers worker made : ℕ) (taken : List Item) (pushed : ℕ → List Carried) (story : Story) : Type 0 where
   pub first : story.motes 0 ≡ first_mote (system_of n)
   pub nothing : story.taken 0 ≡ []
@@ -42,7 +43,8 @@ pub record RunsWindows (n : NetTold) (of : List ℕ) (width windows workers work
   pub runs : (k : ℕ) → k < windows → RunsMotes n of worker (bound width n.end k) (bound width n.end (suc k)) (story.motes k) (story.motes (suc k)) (copies_of (story.taken k)) (story.sent k)
   pub pushes_then : (v : ℕ) → v < workers → v ≢ worker → pushed v ≡ pushes windows (λ k. filter (is_to of v) (story.sent k))
 
--- The promise: there were such windows, and the share keeps the motes at their end. The taker has taken all this, and gathered nobody.
+-- The promise: there were such windows, and the share keeps the motes at their end. The taker has taken all this, and
+-- gathered nobody.
 pub record RunsMarked (n : NetTold) (of : List ℕ) (width windows workers worker : ℕ) (share : Share) (desk : Desk) (pushed : ℕ → List Carried) : Type 0 where
   pub story : Story
   pub ran : RunsWindows n of width windows workers worker desk.made desk.taken pushed story

@@ -10,8 +10,8 @@ use Rattle.mark_law.specs.Marks.{marks_in, packets_in, pushes, sent_before}
 abbrev pub AllIsTaken : Type 0
 AllIsTaken = (windows : ℕ) (sent : ℕ → List RadioCopy) (taken : List Carried) → BeginsWith (pushes windows sent) taken → windows ≤ marks_in taken → taken ≡ pushes windows sent
 
--- Where a test passes no copy of this window or of a later one, it passes, of all that was taken by the time of the window, just what
--- was sent before the window.
+-- Where a test passes no copy of this window or of a later one, it passes, of all that was taken by the time of the
+-- window, just what was sent before the window.
 abbrev pub EarlyIsUnseen : Type 0
 EarlyIsUnseen = (sees : RadioCopy → Bool) (windows window : ℕ) (sent : ℕ → List RadioCopy) (taken : List Carried)
     → window ≤ windows → BeginsWith (pushes windows sent) taken → window ≤ marks_in taken

@@ -7,8 +7,8 @@ pub fn all_is_taken()
     ensures { AllIsTaken }
 {}
 
-/// Copies that are taken early do no harm where a window can't see them. What was taken of a sender, as long as it has the mark of
-/// each window before this one, shows the window the copies that were sent before it, and no others.
+/// Copies that are taken early do no harm where a window can't see them. What was taken of a sender, as long as it
+/// has the mark of each window before this one, shows the window the copies that were sent before it, and no others.
 pub fn early_is_unseen()
     ensures { EarlyIsUnseen }
 {}

@@ -9,8 +9,8 @@ use Rattle.worker_cut.specs.Crossed.{leaves, is_own, copies_known}
 use Rattle.worker_share.specs.declared.share.Share.{Share}
 use Rattle.worker_share.specs.Share.{Motes, Keeps}
 
--- A mote runs alone on what the worker knows: at each moment of the window, of each sender, the copies for it, in the order of
--- sending.
+-- A mote runs alone on what the worker knows: at each moment of the window, of each sender, the copies for it, in the
+-- order of sending.
 pub record RunsOwn (n : NetTold) (own : ℕ → Bool) (from until : ℕ) (motes next : Motes) (taken : List RadioCopy) (number : ℕ) : Type 0 where
   pub inbox : List RadioCopy
   pub is_inbox : (moment sender : ℕ)
@@ -21,8 +21,9 @@ pub record RunsOwn (n : NetTold) (own : ℕ → Bool) (from until : ℕ) (motes 
 abbrev pub copies_out : NetTold → (own : ℕ → Bool) → Motes → (sender : ℕ) → List RadioCopy
 copies_out n own motes sender = if own sender then filter (leaves own) (copies_by (system_of n) motes sender) else []
 
--- The worker's motes after the window: each ran alone, and the others are as before. The new share keeps them at the window's end;
--- what went out is, of each sender, what it sent to other workers in the window, and none of it comes before the window's end.
+-- The worker's motes after the window: each ran alone, and the others are as before. The new share keeps them at the
+-- window's end; what went out is, of each sender, what it sent to other workers in the window, and none of it comes
+-- before the window's end.
 pub record RunsWindow (n : NetTold) (of : List ℕ) (worker from until : ℕ) (motes : Motes) (taken : List RadioCopy) (new : Share) (sent : List RadioCopy) : Type 0 where
   pub next : Motes
   pub runs : (k : ℕ) → is_own of worker k ≡ true → RunsOwn n (is_own of worker) from until motes next taken k
