@@ -1,6 +1,8 @@
 -- Windows of one width, one after another.
-use Rattle.std.proofs.Common.{◌≡◌, ℕ, zero, suc, ◌+◌, ◌<◌, ◌≤◌, arith, suc-mul}
-use Rattle.mark_crew.specs.Bounds.{bound, AreWindows}
+use Rattle.std.proofs.Common.{◌≡◌, ◌⊎◌, ℕ, zero, suc, ◌+◌, ◌*◌, ◌<◌, ◌≤◌, inl, inr, arith, suc-mul}
+use Rattle.std.proofs.Math.Nat.{le-div_iff_mul-le}
+use Rattle.std.proofs.lemmas.Bool.{cases_lt}
+use Rattle.mark_crew.specs.Bounds.{bound, windows_of, AreWindows}
 
 pub at_first : (width end : ℕ) → bound width end 0 ≡ 0
 at_first width end = omega arith
@@ -30,3 +32,21 @@ module _ (width end windows : ℕ) (are : AreWindows width end windows) where
       let before = no_sooner k m (omega arith) in
       let next = begins_before (suc (k + m)) (omega arith) in
       rw e (omega arith)
+
+-- so many windows are there
+pub are_windows : (width end : ℕ) → 0 < width → AreWindows width end (windows_of width end)
+are_windows width end wide = record {
+  wide = wide;
+  begin = λ k low.
+      let m = suc-mul k width in
+      let fits = (le-div_iff_mul-le {k = width} {x = suc k} {y = end + width} wide).0 (omega arith) in
+      omega arith;
+  reach = of_case (cases_lt end (windows_of width end * width));
+}
+  where
+    of_case : (end < windows_of width end * width) ⊎ (windows_of width end * width ≤ end) → end < windows_of width end * width
+    of_case (inl h) = h
+    of_case (inr h) =
+        let m = suc-mul (windows_of width end) width in
+        let one_more : suc (windows_of width end) ≤ windows_of width end = (le-div_iff_mul-le {k = width} {x = suc (windows_of width end)} {y = end + width} wide).1 (omega arith) in
+        absurd (omega arith)
