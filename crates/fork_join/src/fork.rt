@@ -4,7 +4,7 @@ ghost use Rattle.std.specs.Prelude.{◌≡◌, IfOk};
 ghost use Rattle.std.specs.List.{AllZip, AllByRecursion as Each};
 ghost use Rattle.fork_join.specs.Kept.{AllKept};
 
-use crate::work::{Refused, Work};
+use crate::work::{Refused, Work, told};
 use std::alloc::{AllocFailed, Global};
 use std::snapshot::Snapshot;
 use std::sync::Wait;
@@ -27,12 +27,14 @@ impl<T, W: Work<T>> Promise<Result<T, Refused>> for Promised<W, T> {
     ghost kept_by = { λ p r. IfOk r (W.makes p.work.value p.worker.value) };
 }
 
-/// Has each worker work in a thread of its own. The threads are started one after another, and all that started are joined. After a
-/// start that failed no further worker is started. The workers come back in their order.
+/// Has each worker work in a thread of its own. The threads are started one after another, and all that started are
+/// joined. After a start that failed no further worker is started, and `work` gives up. The workers come back in
+/// their order.
 ///
 /// # Errors
-/// That of the first worker that has one, if any that was started has one; else `Thread` where a thread couldn't be started, or
-/// `work` didn't let it, and `Memory` where no memory was found for its handle.
+/// That of the first worker that has a `Memory` or `Thread`, if any that was started has one; else `Thread` where a
+/// thread couldn't be started, or `work` didn't let it, and `Memory` where no memory was found for its handle; else
+/// `Stopped` where a worker has it.
 pub fn fork_join<R, T, W>(
     rt: &R,
     alloc: Global,
@@ -75,6 +77,7 @@ where
     let mut refused = None;
     for worker in workers {
         if !work.may_start(&worker) {
+            work.give_up();
             refused = Some(Refused::Thread);
             break;
         }
@@ -84,23 +87,25 @@ where
         };
         let begun = scope.spawn_with(promise, move || work.work(worker));
         let Ok(handle) = begun else {
+            work.give_up();
             refused = Some(Refused::Thread);
             break;
         };
         if let Err(AllocFailed { value: handle }) = started.push(handle) {
+            work.give_up();
             let _answer = handle.join(rt);
             refused = Some(Refused::Memory);
             break;
         }
     }
-    let done = joined(rt, alloc, started)?;
+    let done = joined(rt, alloc, started);
     match refused {
-        Some(refused) => Err(refused),
-        None => Ok(done),
+        Some(refused) => Err(told(done.err(), refused)),
+        None => done,
     }
 }
 
-// Joins each thread. The answers, or the first error.
+// Joins each thread. The answers, or the first error of those that are gravest.
 fn joined<R: Threads, T: Send + Drop, W: Work<T>>(
     rt: &R,
     alloc: Global,
@@ -111,17 +116,15 @@ fn joined<R: Threads, T: Send + Drop, W: Work<T>>(
     let mut done = Vec::new(alloc);
     let mut failed = None;
     for handle in started {
-        let answer = handle.join(rt);
-        if failed.is_some() {
-            continue;
-        }
-        match answer {
+        match handle.join(rt) {
             Ok(worker) => {
-                if let Err(_worker) = done.push(worker) {
-                    failed = Some(Refused::Memory);
+                if failed.is_none() {
+                    if let Err(_worker) = done.push(worker) {
+                        failed = Some(Refused::Memory);
+                    }
                 }
             }
-            Err(refused) => failed = Some(refused),
+            Err(refused) => failed = Some(told(failed, refused)),
         }
     }
     match failed {

@@ -1,6 +1,7 @@
 //! What a worker does in its thread.
 
 ghost use Rattle.std.specs.Prelude.{◌≡◌};
+ghost use Rattle.fork_join.specs.Told.{graver, told};
 
 use std::alloc::{AllocError, AllocFailed};
 
@@ -11,6 +12,30 @@ pub enum Refused {
     Memory,
     /// A thread couldn't be started, or what ran in it failed.
     Thread,
+    /// It ended without an answer, since another worker gave up or wasn't started.
+    Stopped,
+}
+
+impl Refused {
+    /// Which of two reasons is told: `Memory` and `Thread` go before `Stopped`, and else the first before the other.
+    fn graver(self, other: Refused) -> Refused
+        ensures { result ≡ graver self other }
+    {
+        match self {
+            Refused::Stopped => other,
+            Refused::Memory | Refused::Thread => self,
+        }
+    }
+}
+
+/// The reason that is told, once there is one more.
+pub(crate) fn told(so_far: Option<Refused>, other: Refused) -> Refused
+    ensures { result ≡ told so_far other }
+{
+    match so_far {
+        Some(first) => first.graver(other),
+        None => other,
+    }
 }
 
 impl From<AllocError> for Refused {
@@ -50,4 +75,8 @@ pub trait Work<T> {
 
     /// It is asked before a worker's thread is started. No counts as a start that failed.
     fn may_start(&self, worker: &T) -> bool;
+
+    /// It is called where a start failed, before the workers that were started are joined. So work in which one
+    /// worker waits for another can tell those that wait to end.
+    fn give_up(&self);
 }

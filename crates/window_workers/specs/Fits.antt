@@ -29,3 +29,4 @@ IsAnswerTo None Thread = Unit {0}
 abbrev pub of_refused : Refused → RunError
 of_refused refused.Memory = Memory
 of_refused refused.Thread = Thread
+of_refused refused.Stopped = Thread

@@ -65,7 +65,8 @@ impl From<Refused> for RunError {
     fn from(refused: Refused) -> RunError {
         match refused {
             Refused::Memory => RunError::Memory,
-            Refused::Thread => RunError::Thread,
+            // Between two windows all workers are joined, so none stops for another.
+            Refused::Thread | Refused::Stopped => RunError::Thread,
         }
     }
 }

@@ -60,7 +60,7 @@ fresh_at (i ∷ is) (t ∷ ts) h (suc v) d low = fresh_at is ts h.1 v d (omega a
 none_sent : {S L : Type 0} (system : System S L) (s : ℕ) → copies_by system (first_mote system) s ≡ []
 none_sent system s = elim (cases_Bool (ltb s system.motes)) [ inl e ↦ rw e refl | inr e ↦ rw e refl ]
 
-none_crossed : {S L : Type 0} (system : System S L) (of : List ℕ) (v s : ℕ) → crossed system of (first_mote system) v s ≡ []
+pub none_crossed : {S L : Type 0} (system : System S L) (of : List ℕ) (v s : ℕ) → crossed system of (first_mote system) v s ≡ []
 none_crossed system of v s =
     elim (cases_Bool (is_own of v s)) [ inl e ↦ rw e refl | inr e ↦ rw e (ap (filter (is_to of v)) (none_sent system s)) ]
 

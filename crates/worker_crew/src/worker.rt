@@ -130,4 +130,7 @@ impl<R: Wait + RandomSource + AllocGlobal, G: Gate> Work<Worker> for Runner<'_, 
     fn may_start(&self, worker: &Worker) -> bool {
         self.gate.start(worker.courier.worker)
     }
+
+    // No worker waits for another within a window.
+    fn give_up(&self) {}
 }

@@ -9,7 +9,7 @@ use Rattle.radio_medium.proofs.Copies.{copies_later}
 use Rattle.net_scenario.specs.Net.{NetTold}
 use Rattle.window_law.specs.Agenda.{wake_items}
 use Rattle.window_law.specs.Windows.{Alone, is_at, is_within, is_from_sender}
-use Rattle.window_law.proofs.Lists.{every_weaker, every_filter, every_flat_map}
+use Rattle.window_law.proofs.Lists.{every_append, every_weaker, every_filter, every_flat_map}
 use Rattle.window_run.specs.declared.out.WindowOut.{WindowOut}
 use Rattle.window_run.specs.declared.share.Resident.{Resident}
 use Rattle.net_agenda.specs.NetSystem.{tree_at, system_of}
@@ -18,7 +18,7 @@ use Rattle.worker_cut.specs.Crossed.{is_own, copies_known, leaves}
 use Rattle.worker_share.specs.Share.{Motes, IsShare}
 use Rattle.worker_share.specs.Window.{GoesOut, RunsWindow, copies_out}
 use Rattle.worker_share.specs.Leaving.{HasNumber, IsOutOfNet, MoteReturns, is_one_of, are_different, numbers_of}
-use Rattle.worker_share.proofs.Gives.{IsSentIn, IsBack}
+use Rattle.worker_share.proofs.Gives.{IsSentIn, IsBack, come_late}
 use Rattle.worker_share.proofs.Left.{among_more, different_less}
 use Rattle.worker_share.proofs.Back.{next, at_k, elsewhere, out_more, is_back}
 
@@ -99,6 +99,7 @@ pub record Coming (n : NetTold) (of : List ℕ) (worker from until : ℕ) (motes
   pub others : (k : ℕ) → is_own of worker k ≡ false → now k ≡ motes k
   pub alone : (k : ℕ) → is_own of worker k ≡ true → is_one_of k rest ≡ false → Alone (system_of n) k until (inbox k) (motes k) (now k)
   pub sent : (s : ℕ) → copies_out n (is_own of worker) now s ≡ copies_out n (is_own of worker) motes s ++ filter (is_from_sender s) away
+  pub late : AllByRecursion (λ (copy : RadioCopy). until ≤ copy.at) away
 
 or_none : (b : Bool) → (b || false) ≡ b
 or_none true = refl
@@ -167,6 +168,12 @@ module _ (n : NetTold) (of : List ℕ) (worker from until : ℕ) (motes : Motes)
         ∙ ap (λ x. copies_out n mine motes s ++ x)
         (sym (ap (filter (is_from_sender s)) away_is ∙ filter-append (is_from_sender s) before (filter (leaves mine) (flat_map (copies n.radio) out.sends.items))))))
 
+    late_then : AllByRecursion (λ (copy : RadioCopy). until ≤ copy.at) after
+    late_then =
+        subst (AllByRecursion (λ (copy : RadioCopy). until ≤ copy.at)) (sym away_is)
+        (every_append _ before _ coming.late
+        (every_filter _ _ (leaves mine) (λ copy h e. h.late) (flat_map (copies n.radio) out.sends.items) (come_late n from until placed short k out.sends.items l.last.sent)))
+
     pub one_back : Coming n of worker from until motes taken inbox share more after
     one_back = record {
       rest = front;
@@ -182,6 +189,7 @@ module _ (n : NetTold) (of : List ℕ) (worker from until : ℕ) (motes : Motes)
           else_same j ne ∙ coming.others j e);
       alone = alone_then;
       sent = sent_then;
+      late = late_then;
     }
 
 module _ (n : NetTold) (of : List ℕ) (worker from until : ℕ) (motes : Motes) (taken : List RadioCopy) (inbox : ℕ → List RadioCopy) where
@@ -217,6 +225,7 @@ module _ (n : NetTold) (of : List ℕ) (worker from until : ℕ) (motes : Motes)
       };
     };
     out = coming.sent;
+    late = coming.late;
   }
     where
       none : coming.rest ≡ []

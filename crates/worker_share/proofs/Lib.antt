@@ -11,3 +11,4 @@ pub mod Lone
 pub mod Parts
 pub mod Rises
 pub mod Starts
+pub mod TakesIn

@@ -115,4 +115,5 @@ module _ (n : NetTold) (of : List ℕ) (worker from until : ℕ) (motes : Motes)
     others = λ k e. refl;
     alone = λ k h e. idle_alone n of worker from until motes taken arrived old keeps le come k h (sym (all k) ∙ e);
     sent = λ s. sym (append-nil (copies_out n mine motes s));
+    late = tt;
   }

@@ -1,6 +1,6 @@
 -- What a window makes of a worker's motes, and what they send to others.
 use Rattle.std.specs.Prelude.{ℕ, ◌≡◌, ◌<◌, ◌≤◌, Bool, true, false, not, if◌then◌else◌, List, [], ◌++◌, length}
-use Rattle.std.specs.List.{filter}
+use Rattle.std.specs.List.{filter, AllByRecursion as Each}
 use Rattle.radio_packet.specs.declared.copy.RadioCopy.{RadioCopy}
 use Rattle.net_scenario.specs.Net.{NetTold}
 use Rattle.window_law.specs.Windows.{Alone, copies_by, is_at, is_from_sender, is_within}
@@ -9,8 +9,8 @@ use Rattle.worker_cut.specs.Crossed.{leaves, is_own, copies_known}
 use Rattle.worker_share.specs.declared.share.Share.{Share}
 use Rattle.worker_share.specs.Share.{Motes, Keeps}
 
--- A mote runs alone on what the worker knows: at each moment of the window, of each sender, the copies for it, in the order of
--- sending.
+-- A mote runs alone on what the worker knows: at each moment of the window, of each sender, the copies for it, in the
+-- order of sending.
 pub record RunsOwn (n : NetTold) (own : ℕ → Bool) (from until : ℕ) (motes next : Motes) (taken : List RadioCopy) (number : ℕ) : Type 0 where
   pub inbox : List RadioCopy
   pub is_inbox : (moment sender : ℕ)
@@ -21,14 +21,16 @@ pub record RunsOwn (n : NetTold) (own : ℕ → Bool) (from until : ℕ) (motes 
 abbrev pub copies_out : NetTold → (own : ℕ → Bool) → Motes → (sender : ℕ) → List RadioCopy
 copies_out n own motes sender = if own sender then filter (leaves own) (copies_by (system_of n) motes sender) else []
 
--- The worker's motes after the window: each ran alone, and the others are as before. The new share keeps them at the window's end;
--- what went out is, of each sender, what it sent to other workers in the window.
+-- The worker's motes after the window: each ran alone, and the others are as before. The new share keeps them at the
+-- window's end; what went out is, of each sender, what it sent to other workers in the window, and none of it comes
+-- before the window's end.
 pub record RunsWindow (n : NetTold) (of : List ℕ) (worker from until : ℕ) (motes : Motes) (taken : List RadioCopy) (new : Share) (sent : List RadioCopy) : Type 0 where
   pub next : Motes
   pub runs : (k : ℕ) → is_own of worker k ≡ true → RunsOwn n (is_own of worker) from until motes next taken k
   pub others : (k : ℕ) → is_own of worker k ≡ false → next k ≡ motes k
   pub keeps : Keeps n of worker until next taken new
   pub out : (s : ℕ) → copies_out n (is_own of worker) next s ≡ copies_out n (is_own of worker) motes s ++ filter (is_from_sender s) sent
+  pub late : Each (λ (copy : RadioCopy). until ≤ copy.at) sent
 
 -- from a mote of this worker to one of another
 pub record GoesOut (n : NetTold) (of : List ℕ) (worker : ℕ) (copy : RadioCopy) : Type 0 where

@@ -9,7 +9,7 @@ ghost use Rattle.window_law.specs.Agenda.{Item, Packet};
 ghost use Rattle.window_run.specs.Window.{is_rising};
 ghost use Rattle.net_agenda.specs.Buckets.{Holds};
 ghost use Rattle.worker_share.specs.Calls.{copies_for};
-ghost use Rattle.net_scenario.specs.Net.{net_of};
+ghost use Rattle.net_scenario.specs.Net.{NetTold, net_of};
 ghost use Rattle.net_agenda.specs.NetSystem.{system_of};
 ghost use Rattle.radio_packet.specs.declared.copy.RadioCopy.{RadioCopy as CopyOfCode};
 ghost use Rattle.worker_cut.specs.Crossed.{is_own, leaves};
@@ -170,6 +170,18 @@ impl Share {
         add_lines(&mut self.traces, number, lines)?;
         self.log.append(&mut sends)?;
         self.motes[usize::from(number)] = Some(mote);
+        Ok(())
+    }
+
+    /// Takes in copies that arrived from other workers, before the window in which the first of them can have a turn.
+    ///
+    /// # Errors
+    /// `Memory` alone.
+    pub fn take_in(&mut self, arrived: &[RadioCopy]) -> Result<(), AllocError>
+        ensures { OnOk result ((n : NetTold) (of : List ℕ) (worker from : ℕ) (motes : Motes) (taken : List CopyOfCode) → Keeps n of worker from motes taken self.old
+            → AllByRecursion (ComesIn of worker from) arrived.now → Keeps n of worker from motes (taken ++ arrived.now) self.new) }
+    {
+        self.agenda.put_copies(arrived)?;
         Ok(())
     }
 

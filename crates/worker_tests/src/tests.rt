@@ -4,6 +4,7 @@ mod cuts;
 mod inboxes;
 mod nets;
 mod overlaps;
+mod shares;
 mod starts;
 
 use net_report::Report;

@@ -1,7 +1,9 @@
 use Rattle.std.proofs.Common.{rules, ◌≡◌, sym, ap, ◌∙◌, map-id, vec_len, length}
 use Rattle.std.proofs.lemmas.Iterator.Adapters.{YieldsList-from_vec}
 use Rattle.std.proofs.lemmas.Iterator.Consumers.{YieldsList-end}
-use Rattle.fork_join.specs.Kept.{Handle, AllPromised}
+use Rattle.std.proofs.lemmas.Result.{IfOk-weaker}
+use Rattle.std.specs.List.{AllZip}
+use Rattle.fork_join.specs.Kept.{Handle, AllKept, AllPromised}
 use Rattle.fork_join.proofs.Zips.{push_zip, zip_zip}
 use Rattle.fork_join.proofs.fork.forked.Goals as goal
 use Rattle.fork_join.proofs.fork.forked.Goals.{In-None-refused, in-None, in-Some+then-not-may_start, in-Some+else-not-may_start+in_default, in-Some+else-not-may_start+in-Ok+in-Err}
@@ -32,4 +34,7 @@ one_answer : {W T : Type 0} (makes : W → T → T → Type 0) (work : W) (worke
 one_answer makes work worker handle done h k = rw (h.0, h.1) at k
 
 pub returns-in-None-refused : goal.returns-in-None-refused
-returns-in-None-refused g c = zip_zip _ _ _ (one_answer g.W.Work.makes c.args.work.now) c.args.workers.items c.match-next.started.items c.in_ok-done.done.items (all_started g c) c.in_ok-done.ensures
+returns-in-None-refused g c =
+    let makes = g.W.Work.makes in
+    IfOk-weaker c.joined-done.result (λ done. AllKept makes c.match-next.started.items done.items) (λ done. AllZip (makes c.args.work.now) c.args.workers.items done.items)
+    (λ done kept. zip_zip _ _ _ (one_answer makes c.args.work.now) c.args.workers.items c.match-next.started.items done.items (all_started g c) kept) c.joined-done.ensures

@@ -1,0 +1,14 @@
+-- Which of several reasons is told, where several workers gave up.
+use Rattle.std.specs.Prelude.{Option, Some, None}
+use Rattle.fork_join.specs.declared.work.Refused.{Refused}
+use Rattle.fork_join.specs.declared.work.Refused.TheVariants.{Memory, Thread, Stopped}
+
+-- who stopped did so for another, whose reason goes before; else the first is told
+abbrev pub graver : (first other : Refused) → Refused
+graver Memory other = Memory
+graver Thread other = Thread
+graver Stopped other = other
+
+abbrev pub told : (so_far : Option Refused) → (other : Refused) → Refused
+told None other = other
+told (Some first) other = graver first other

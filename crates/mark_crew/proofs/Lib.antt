@@ -1,0 +1,11 @@
+pub mod All
+pub mod Bounds
+pub mod Ends
+pub mod Fronts
+pub mod Lists
+pub mod Longer
+pub mod Pairs
+pub mod Promise
+pub mod Seen
+pub mod Settles
+pub mod Stages

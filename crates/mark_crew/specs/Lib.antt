@@ -1,0 +1,4 @@
+pub mod Bounds
+pub mod Crew
+pub mod Senders
+pub mod Story

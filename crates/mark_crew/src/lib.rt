@@ -1,0 +1,4 @@
+//! Workers that live for the whole run, and hand copies and marks to one another through their inboxes.
+#![tactic(auto)]
+
+pub mod laws;

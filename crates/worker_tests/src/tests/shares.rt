@@ -1,0 +1,42 @@
+//! A share by itself.
+
+ghost use Rattle.std.specs.Prelude.{◌≡◌, length};
+ghost use Rattle.net_scenario.specs.Net.{net_of};
+
+use super::COPY_PAST_THE_END;
+use net_scenario::{Net, read_scenario};
+use radio_packet::RadioCopy;
+use std::alloc::{AllocError, Global};
+use std::test::Fail;
+use worker_share::Share;
+
+/// A packet of mote 0 on its way to mote 1.
+fn copy_at(at: u64, number: u64) -> RadioCopy {
+    RadioCopy {
+        at,
+        to: 1,
+        sender: 0,
+        number,
+        value: 9,
+    }
+}
+
+/// How many copies are still to come to mote 1, where two arrived and then one more.
+fn left_of_three(alloc: Global, net: &Net) -> Result<u64, AllocError>
+    requires { length (net_of net.now).motes ≡ 2 }
+{
+    let mut share = Share::new(alloc, net, &[0, 1], 1)?;
+    share.take_in(&[copy_at(7, 1), copy_at(5, 0)])?;
+    share.take_in(&[copy_at(6, 2)])?;
+    Ok(share.end()?.left)
+}
+
+/// All copies that a share takes in are to come.
+#[test]
+fn copies_taken_in(rt: HostRuntime) -> Result<(), Fail> {
+    let net = read_scenario(rt.alloc(), COPY_PAST_THE_END)?;
+    if net.motes() == 2 {
+        assert_eq!(rt; left_of_three(rt.alloc(), &net)?, 3);
+    }
+    Ok(())
+}
