@@ -42,7 +42,8 @@ fn told(
     ensures carried { IfOk result (λ r. AllCarried (net_of net.now) of.now (report_of r.0) r.1.items) }
     ensures err { IfErr result (λ e. e ≡ RunError.Memory) }
 {
-    // Each wake and each copy comes later than the turn that makes it, so the windows of all motes are those of one run.
+    // Each wake and each copy comes later than the turn that makes it, so the windows of all motes are those of one run. The call is
+    // there for the prover alone, which learns from its clauses that the medium is without fault.
     let _ahead = net.medium().lookahead(net.end());
     let Crew {
         shares,

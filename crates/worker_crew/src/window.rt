@@ -122,7 +122,8 @@ impl Crew {
     }
 
     /// One window: each worker takes in what was sent to it, runs its motes up to `until`, and delivers what they sent, all in
-    /// threads of their own; then all senders are gathered.
+    /// threads of their own; then all senders are gathered. It does no more than `run_all`, and stands beside it for the prover alone:
+    /// here what the workers did becomes a step of the run, by the law of windows.
     ///
     /// # Errors
     /// That of the first worker that has one; `Thread` where a thread couldn't be started, or the gate didn't let it; and `Memory`.
