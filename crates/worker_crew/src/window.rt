@@ -88,7 +88,7 @@ impl Crew {
         G: Gate + Sync,
         requires early { until ≤ 2 ^ 40 }
         requires few { length self.inboxes.items ≤ 16 }
-        requires stands { (from : ℕ) × IsAt (net_of net.now) of.now from self }
+        requires stands { (from : ℕ) × IsAt (net_of net.now) of.now from self × (from ≤ until) }
         ensures { IfOk result (RunsAll (net_of net.now) of.now until self) }
     {
         let Crew {
@@ -141,7 +141,7 @@ impl Crew {
         G: Gate + Sync,
         requires early { until ≤ 2 ^ 40 }
         requires few { length self.inboxes.items ≤ 16 }
-        requires stands { (from : ℕ) × IsAt (net_of net.now) of.now from self }
+        requires stands { (from : ℕ) × IsAt (net_of net.now) of.now from self × (from ≤ until) }
         ensures moves { let n = net_of net.now in RunsForward (system_of n) → IfOk result (λ done. (from : ℕ) → IsAt n of.now from self → from < until → until ≤ from + (system_of n).lookahead → IsAt n of.now until done) }
         ensures inboxes { IfOk result (λ done. done.inboxes.items ≡ self.inboxes.items) }
     {

@@ -1,6 +1,6 @@
 -- What a window makes of a worker's motes, and what they send to others.
 use Rattle.std.specs.Prelude.{ℕ, ◌≡◌, ◌<◌, ◌≤◌, Bool, true, false, not, if◌then◌else◌, List, [], ◌++◌, length}
-use Rattle.std.specs.List.{filter}
+use Rattle.std.specs.List.{filter, AllByRecursion}
 use Rattle.radio_packet.specs.declared.copy.RadioCopy.{RadioCopy}
 use Rattle.net_scenario.specs.Net.{NetTold}
 use Rattle.window_law.specs.Windows.{Alone, copies_by, is_at, is_from_sender, is_within}
@@ -41,3 +41,14 @@ pub record ComesIn (of : List ℕ) (worker from : ℕ) (copy : RadioCopy) : Type
   pub to : is_own of worker copy.to ≡ true
   pub sender : is_own of worker copy.sender ≡ false
   pub later : from ≤ copy.at
+
+-- The share can run through a window up to this bound: it is that of some worker at some moment, before which none of the copies
+-- comes that arrived from other workers.
+pub record CanRun (n : NetTold) (of : List ℕ) (until : ℕ) (share : Share) (arrived : List RadioCopy) : Type 0 where
+  pub worker : ℕ
+  pub from : ℕ
+  pub motes : Motes
+  pub taken : List RadioCopy
+  pub keeps : Keeps n of worker from motes taken share
+  pub order : from ≤ until
+  pub come : AllByRecursion (ComesIn of worker from) arrived

@@ -22,7 +22,7 @@ struct Doorkeeper {
     refuses: u16,
 }
 
-fn doorkeeper(refuses: u16) -> Doorkeeper {
+fn make_doorkeeper(refuses: u16) -> Doorkeeper {
     Doorkeeper {
         asked: AtomicU64::new(0),
         turns: AtomicU64::new(0),
@@ -48,7 +48,7 @@ where
     requires { 0 < workers }
 {
     let cut = blocks(rt.alloc(), 3, workers, 0)?;
-    let gate = doorkeeper(1);
+    let gate = make_doorkeeper(1);
     let found = run_workers(rt, rt.alloc(), net, workers, &cut, &gate).err();
     Ok((found, gate.asked.load(SeqCst)))
 }
@@ -70,7 +70,7 @@ where
     R: Threads + Wait + Sync + RandomSource + AllocGlobal,
 {
     let cut = blocks(rt.alloc(), 2, 2, 0)?;
-    let gate = doorkeeper(1);
+    let gate = make_doorkeeper(1);
     let found = run_workers(rt, rt.alloc(), net, 2, &cut, &gate).err();
     Ok((found, gate.turns.load(SeqCst)))
 }
@@ -94,7 +94,7 @@ where
     requires workers { 0 < workers }
 {
     let cut = blocks(rt.alloc(), motes, workers, longest)?;
-    let gate = doorkeeper(workers);
+    let gate = make_doorkeeper(workers);
     match run_workers(rt, rt.alloc(), net, workers, &cut, &gate) {
         Ok(_) => Ok(gate.asked.load(SeqCst)),
         Err(_) => Err(Fail::from("there is no report")),
