@@ -23,4 +23,4 @@ pub closed-requires : goal.closed-requires
 closed-requires g c =
     let settled = subst (λ (l : List InboxId). Settled l c.in_ok-takers-2.takers.items) c.deref-4.ensures.value c.in_ok-takers-2.ensures in
     let P : List (InboxId × TakerView) → Type 0 = λ l. Each (λ pair. IsSettled pair.0 pair.1) l in
-    subst P (sym c.in_ok-paired.ensures) (settled_pairs c.in_ok-inboxes.inboxes.items c.in_ok-takers-2.takers.items settled)
+    record { settled = subst P (sym c.in_ok-paired.ensures) (settled_pairs c.in_ok-inboxes.inboxes.items c.in_ok-takers-2.takers.items settled) }
