@@ -2,13 +2,11 @@
 
 ghost use Rattle.std.specs.Prelude.{◌≡◌, ◌+◌, length, map, IfOk};
 ghost use Rattle.std.specs.List.{AllByRecursion as Each, zip};
-ghost use Rattle.copy_inbox.specs.Handles.{AllGathered, NoMarkLeft};
 ghost use Rattle.copy_exchange.specs.Desks.{taken_by, gathered_by};
 ghost use Rattle.copy_exchange.specs.Inboxes.{IsFresh, IsSettled};
 
 use copy_inbox::{Inbox, InboxError, Taker};
 use std::alloc::Global;
-use std::sync::Wait;
 
 /// So many new inboxes, each with its taker, with marks or without.
 pub fn make_inboxes(
@@ -77,16 +75,4 @@ pub fn known(inbox: &Inbox, taker: &Taker) -> u64
     ensures { length (gathered_by taker.now) ≡ length (taken_by taker.now) + result }
 {
     inbox.known(taker)
-}
-
-/// Ends all inboxes. The copies that are left in them are given up.
-pub fn close_inboxes<R: Wait>(rt: &R, pairs: Vec<(Inbox, Taker)>) -> Result<(), InboxError>
-    requires inbox { Each (λ pair. pair.1.inbox ≡ pair.0) pairs.items }
-    requires gathered { Each (λ pair. AllGathered pair.1.desk) pairs.items }
-    requires no_mark { Each (λ pair. NoMarkLeft pair.1.desk) pairs.items }
-{
-    for (inbox, taker) in pairs {
-        inbox.close(rt, taker)?;
-    }
-    Ok(())
 }

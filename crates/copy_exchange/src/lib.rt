@@ -7,5 +7,5 @@ mod inboxes;
 mod window;
 
 pub use courier::Courier;
-pub use inboxes::{close_inboxes, known, make_inboxes, paired, parted};
+pub use inboxes::{known, make_inboxes, paired, parted};
 pub use window::{couriers, gathered};

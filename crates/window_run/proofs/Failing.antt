@@ -1,5 +1,5 @@
 -- A window over a mote that had failed.
-use Rattle.std.proofs.Common.{◌≡◌, ℕ, List, [], Option, Some, None, refl, ◌∙◌, ap, subst}
+use Rattle.std.proofs.Common.{◌≡◌, ℕ, List, [], Option, Some, None, refl, sym, ◌∙◌, ap, subst}
 use Rattle.std.specs.Prelude.{MatchOption, IsSomeAnd}
 use Rattle.program_tree.specs.Code.{Tree}
 use Rattle.process_kernel.specs.declared.line.Line.{Line}
@@ -13,7 +13,7 @@ use Rattle.window_run.specs.Window.{Window, opened}
 use Rattle.window_run.specs.Own.{Course, window_in, course_in, course_of, GivesNoMore}
 use Rattle.window_run.specs.Out.{Gives}
 use Rattle.window_run.specs.Shares.{GivesNothing}
-use Rattle.window_run.specs.Turns.{MayGive}
+use Rattle.window_run.specs.Turns.{MayGive, CanGoOn, HasTurns}
 
 module _ (program : Tree) (until : ℕ) (copies : List RadioCopy) (out : WindowOut) where
   gives_nothing : (c : Course) → c ≡ course_of program until copies None → GivesNoMore c out → GivesNothing program until copies out
@@ -35,3 +35,9 @@ module _ (program : Tree) (until : ℕ) (copies : List RadioCopy) (out : WindowO
       gives_nothing (course_in o) course (subst P window h)
   opened_gives (Some o) (Some n) window course h =
       let P : Option Window → Type 0 = λ w. MatchOption w (GivesNoMore (course_in o) out) (λ w. Gives w out) in subst P window h
+
+-- a window whose mote can go on has its turns before it
+pub opened_goes_on : (program : Tree) (until : ℕ) (copies : List RadioCopy) (own : Option OwnWindow) (mote : Option Node) → IsSomeAnd own (λ o. window_in o ≡ opened program until copies mote)
+    → CanGoOn (opened program until copies mote) → HasTurns own
+opened_goes_on program until copies None mote window on = absurd window
+opened_goes_on program until copies (Some o) mote window on = subst CanGoOn (sym window) on

@@ -1,9 +1,11 @@
 -- What a window may give, at its end and before a turn.
-use Rattle.std.proofs.Common.{◌≡◌, ℕ, not, List, map, Option, Some, None, Result, Ok, Err, refl, sym, subst}
+use Rattle.std.proofs.Common.{◌≡◌, ◌∙◌, ℕ, not, List, map, Option, Some, None, Result, Ok, Err, refl, sym, subst, inl, inr}
 use Rattle.std.specs.Prelude.{IfSome, MatchOption}
 use Rattle.std.specs.List.{filter}
+use Rattle.std.proofs.lemmas.Bool.{false≢true}
 use Rattle.process_kernel.specs.declared.line.Line.{Line}
 use Rattle.mote_node.specs.declared.mote.MoteError.{MoteError}
+use Rattle.mote_node.specs.declared.mote.MoteError.TheVariants.{Memory}
 use Rattle.mote_node.specs.Node.{Node}
 use Rattle.mote_laws.proofs.Stamps.{turns_stamp}
 use Rattle.radio_packet.specs.declared.copy.RadioCopy.{RadioCopy}
@@ -14,10 +16,12 @@ use Rattle.window_law.specs.Windows.Alone.{Rests, Turns}
 use Rattle.net_agenda.specs.Buckets.{arrival_of}
 use Rattle.window_run.specs.declared.out.WindowOut.{WindowOut}
 use Rattle.window_run.specs.Window.{Window, LoneNode, HasTurn, IsOver, window_after_turn, EndsAs, number_of}
+use Rattle.window_run.specs.Laws.{IsAhead}
 use Rattle.window_run.specs.Out.{shown, Gives}
 use Rattle.window_run.specs.declared.own.OwnWindow.{OwnWindow}
 use Rattle.window_run.specs.Own.{window_in, course_in, IsSpent, StaysFailed, GivesNoMore}
-use Rattle.window_run.specs.Turns.{MayGive, MayAnswer, TurnsTo}
+use Rattle.window_run.specs.Turns.{MayGive, MayAnswer, TurnsTo, TakesTurn, IsErrorAt, CanGoOn, HasTurns}
+use Rattle.window_run.proofs.Ahead.{no_turn_is_past}
 
 pub at_rest : (old : Option OwnWindow) (own : OwnWindow) (out : WindowOut) → Some own ≡ old → IsSpent (course_in own)
     → IfSome (window_in own) IsOver → IfSome (window_in own) (λ w. shown w.program out ≡ Some w.mote) → (window_in own ≡ None → StaysFailed (course_in own) out) → MayGive old out
@@ -56,7 +60,28 @@ given_before None new moment out P Q left turned h = absurd turned
 given_before (Some w) None moment out P Q left turned h = absurd turned
 given_before (Some w) (Some v) moment out P Q left turned h = gives_before w v moment out left turned h
 
+-- a mote that can go on can do so after its turn
+on_after : (window new : Option Window) (moment : ℕ) → IfSome window (HasTurn moment) → TurnsTo moment window new → CanGoOn window → CanGoOn new
+on_after None new moment left turned on = absurd on
+on_after (Some w) None moment left turned on = absurd turned
+on_after (Some w) (Some v) moment left turned on = let P : Window → Type 0 = IsAhead in subst P (sym turned) (no_turn_is_past w moment left)
+
+pub goes_on : (old new : Option OwnWindow) → TakesTurn old new → HasTurns old → HasTurns new
+goes_on None new turned on = absurd on
+goes_on (Some own) None turned on = absurd turned
+goes_on (Some own) (Some after) turned on = on_after (window_in own) (window_in after) turned.moment turned.left turned.turned on
+
+-- where a mote can go on, its turn is refused for want of memory alone
+pub at_refusal : (old : Option OwnWindow) (own : OwnWindow) (moment : ℕ) (e : MoteError) → Some own ≡ old
+    → IfSome (window_in own) (HasTurn moment) → IfSome (window_in own) (IsErrorAt moment e) → HasTurns old → e ≡ Memory
+at_refusal old own moment e is left error on = of_window (window_in own) left error (rw (← is) at on)
+  where
+    of_window : (window : Option Window) → IfSome window (HasTurn moment) → IfSome window (IsErrorAt moment e) → CanGoOn window → e ≡ Memory
+    of_window None left error on = absurd on
+    of_window (Some w) left (inl memory) on = memory
+    of_window (Some w) left (inr past) on = absurd (false≢true (sym (on moment left.next) ∙ past.1))
+
 pub before_turn : (old : Option OwnWindow) (own new : OwnWindow) (moment : ℕ) → Some own ≡ old
     → IfSome (window_in own) (HasTurn moment) → TurnsTo moment (window_in own) (window_in new) → (r : Result WindowOut MoteError) → MayAnswer (Some new) r → MayAnswer old r
 before_turn old own new moment is left turned (Ok out) h = rw (← is) (given_before (window_in own) (window_in new) moment out (GivesNoMore (course_in new) out) (GivesNoMore (course_in own) out) left turned h)
-before_turn old own new moment is left turned (Err e) h = tt
+before_turn old own new moment is left turned (Err e) h = rw (← is) (λ on. h (on_after (window_in own) (window_in new) moment left turned on))

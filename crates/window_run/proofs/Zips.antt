@@ -27,6 +27,13 @@ module _ {A B C : Type 0} (R : A → B → Type 0) (S : B → C → Type 0) (T :
   zip_zip (x ∷ xs) [] zs h k = absurd h
   zip_zip (x ∷ xs) (y ∷ ys) [] h k = absurd k
 
+-- what each of one list has from its partner
+pub all_from : {X Y : Type 0} (P : X → Type 0) (Q : Y → Type 0) (xs : List X) (ys : List Y) → AllZip (λ x y. P x → Q y) xs ys → AllByRecursion P xs → AllByRecursion Q ys
+all_from P Q [] [] h all = tt
+all_from P Q (x ∷ xs) (y ∷ ys) h all = (h.0 all.0, all_from P Q xs ys h.1 all.1)
+all_from P Q [] (y ∷ ys) h all = absurd h
+all_from P Q (x ∷ xs) [] h all = absurd h
+
 module _ {X : Type 0} (P : X → Type 0) where
   pub first_all : (xs : List X) (x : X) (ys : List X) → xs ≡ x ∷ ys → AllByRecursion P xs → P x × AllByRecursion P ys
   first_all xs x ys is h = rw is at h

@@ -9,6 +9,7 @@ use Rattle.window_run.specs.declared.out.WindowOut.{WindowOut}
 use Rattle.window_run.specs.declared.share.Resident.{Resident}
 use Rattle.window_run.specs.Window.{Window, opened}
 use Rattle.window_run.specs.Out.{Gives}
+use Rattle.window_run.specs.Turns.{CanGoOn}
 
 -- a resident before its first turn in a window
 abbrev pub window_of : (until : ℕ) → MoteTold → Resident → Option Window
@@ -29,6 +30,14 @@ ResidentGives n until resident out = IfSome (slice_get n.motes resident.number) 
 -- so do all, place by place
 abbrev pub GivesList : NetTold → (until : ℕ) → List Resident → List WindowOut → Type 0
 GivesList n until residents outs = AllZip (ResidentGives n until) residents outs
+
+-- a resident, which is this mote of the net, has not failed, and what comes to it next comes after its last turn
+abbrev pub ResidentGoesOn : NetTold → (until : ℕ) → Resident → Type 0
+ResidentGoesOn n until resident = IfSome (slice_get n.motes resident.number) (λ m. CanGoOn (window_of until m resident))
+
+-- so it is of all
+abbrev pub AreGoingOn : NetTold → (until : ℕ) → List Resident → Type 0
+AreGoingOn n until residents = AllByRecursion (ResidentGoesOn n until) residents
 
 -- each is a mote of the net
 abbrev pub AreInNet : NetTold → List Resident → Type 0

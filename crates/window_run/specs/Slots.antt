@@ -1,15 +1,16 @@
 -- What a worker's slots give.
-use Rattle.std.specs.Prelude.{◌≡◌, ℕ, Bool, true, false, List, Result, IfOk, Vec}
-use Rattle.std.specs.List.{AllZip}
+use Rattle.std.specs.Prelude.{◌≡◌, ℕ, Bool, true, false, List, Result, Ok, Err, Vec}
+use Rattle.std.specs.List.{AllZip, AllByRecursion}
 use Rattle.std.specs.declared.alloc.Global.{Global}
 use Rattle.mote_node.specs.declared.mote.MoteError.{MoteError}
+use Rattle.mote_node.specs.declared.mote.MoteError.TheVariants.{Memory}
 use Rattle.net_scenario.specs.Net.{NetTold}
 use Rattle.window_run.specs.declared.out.WindowOut.{WindowOut}
 use Rattle.window_run.specs.declared.share.Resident.{Resident}
 use Rattle.window_run.specs.declared.slot.Slot.{Slot}
 use Rattle.window_run.specs.declared.slot.Slot.TheVariants.{Running, Done}
 use Rattle.window_run.specs.Shares.{ResidentGives}
-use Rattle.window_run.specs.Turns.{MayGive}
+use Rattle.window_run.specs.Turns.{MayGive, HasTurns}
 
 abbrev pub is_done : {G : Type 0} → Slot G → Bool
 is_done (Running window) = false
@@ -23,10 +24,19 @@ SlotGives (Done made) out = out ≡ made
 abbrev pub SlotsGive : {G : Type 0} → List (Slot G) → List WindowOut → Type 0
 SlotsGive slots outs = AllZip SlotGives slots outs
 
+-- what is left of the slot's window can be run
+abbrev pub SlotGoesOn : {G : Type 0} → Slot G → Type 0
+SlotGoesOn (Running window) = HasTurns window.own
+SlotGoesOn (Done made) = Unit {0}
+
+abbrev pub SlotsGoOn : {G : Type 0} → List (Slot G) → Type 0
+SlotsGoOn slots = AllByRecursion SlotGoesOn slots
+
 -- what the slot may give, the resident's window gives
 abbrev pub IsOf : {G : Type 0} → NetTold → (until : ℕ) → Resident → Slot G → Type 0
 IsOf n until resident slot = (out : WindowOut) → SlotGives slot out → ResidentGives n until resident out
 
--- where there is no error, the worker's answer is what its slots give
+-- where there is no error, the worker's answer is what its slots give; an error is want of memory, where all can go on
 abbrev pub WorkerMayAnswer : {G : Type 0} → List (Slot G) → Result (Vec WindowOut Global) MoteError → Type 0
-WorkerMayAnswer slots answer = IfOk answer (λ outs. SlotsGive slots outs.items)
+WorkerMayAnswer slots (Ok outs) = SlotsGive slots outs.items
+WorkerMayAnswer slots (Err e) = SlotsGoOn slots → e ≡ Memory

@@ -1,10 +1,11 @@
 -- What a poll does to a mote's window, also to that of a mote that had failed before.
-use Rattle.std.specs.Prelude.{◌≡◌, ◌⊎◌, ℕ, true, Option, Some, None, Result, IfOk, IfSome, MatchOption}
+use Rattle.std.specs.Prelude.{◌≡◌, ◌⊎◌, ℕ, true, Option, Some, None, Result, Ok, Err, IfSome, IsSomeAnd, MatchOption}
 use Rattle.mote_node.specs.declared.mote.MoteError.{MoteError}
 use Rattle.mote_node.specs.declared.mote.MoteError.TheVariants.{Failed, Memory, Past}
 use Rattle.mote_node.specs.Node.{is_past}
 use Rattle.window_run.specs.declared.out.WindowOut.{WindowOut}
 use Rattle.window_run.specs.declared.own.OwnWindow.{OwnWindow}
+use Rattle.window_run.specs.Laws.{IsAhead}
 use Rattle.window_run.specs.Own.{window_in, Course, course_in, ComesNext, GivesNoMore}
 use Rattle.window_run.specs.Window.{Window, HasTurn, IsOver, window_after_turn}
 use Rattle.window_run.specs.Out.{shown, Gives}
@@ -14,9 +15,19 @@ abbrev pub MayGive : Option OwnWindow → WindowOut → Type 0
 MayGive None out = ⊥
 MayGive (Some own) out = MatchOption (window_in own) (GivesNoMore (course_in own) out) (λ w. Gives w out)
 
--- where there is no error, it is what the window gives
+-- the mote has not failed, and what comes to it next comes after its last turn
+abbrev pub CanGoOn : Option Window → Type 0
+CanGoOn window = IsSomeAnd window IsAhead
+
+-- a window of such a mote that is not given up
+abbrev pub HasTurns : Option OwnWindow → Type 0
+HasTurns None = ⊥
+HasTurns (Some own) = CanGoOn (window_in own)
+
+-- where there is no error, it is what the window gives; an error is want of memory, where the mote can go on
 abbrev pub MayAnswer : Option OwnWindow → Result WindowOut MoteError → Type 0
-MayAnswer own answer = IfOk answer (MayGive own)
+MayAnswer own (Ok out) = MayGive own out
+MayAnswer own (Err e) = HasTurns own → e ≡ Memory
 
 -- the window after the turn at this moment; a mote that had failed takes none
 abbrev pub TurnsTo : (moment : ℕ) → (old new : Option Window) → Type 0

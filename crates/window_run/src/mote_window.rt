@@ -92,8 +92,7 @@ impl<G: Gate> Future for MoteWindow<'_, G> {
         let Some(moment) = own.next_moment() else {
             return Poll::Ready(Ok(own.finish()));
         };
-        self.gate.inside(self.worker, moment, own.number());
-        if let Err(e) = own.turn(moment) {
+        if let Err(e) = own.turn(moment, self.worker, self.gate) {
             return Poll::Ready(Err(e));
         }
         self.own = Some(own);

@@ -6,8 +6,9 @@ ghost use Rattle.program_tree.specs.Program.{tree_of};
 ghost use Rattle.mote_node.specs.Public.{node_in};
 ghost use Rattle.window_law.specs.Windows.{is_at};
 ghost use Rattle.net_agenda.specs.Buckets.{arrival_of};
-ghost use Rattle.window_run.specs.Window.{Window, HasTurn, IsOver, IsNextOf, is_rising, number_of, opened};
+ghost use Rattle.window_run.specs.Window.{Window, HasTurn, IsOver, IsNextOf, is_rising, opened};
 
+use crate::gate::Gate;
 use crate::out::WindowOut;
 use mote_node::{Mote, MoteError, TurnOut};
 use process_kernel::Line;
@@ -81,14 +82,6 @@ impl<'a> OwnWindow<'a> {
         }
     }
 
-    /// The number of the mote.
-    #[tactic(auto, unfolding(crate::specs::Own::window_in))]
-    pub fn number(&self) -> u16
-        ensures { IfSome (window_in self.now) (λ w. result ≡ number_of w.mote.state) }
-    {
-        self.mote.number()
-    }
-
     /// The moment of the next turn, where one is left in the window.
     #[tactic(auto, unfolding(crate::specs::Own::window_in, crate::specs::Own::course_in))]
     pub fn next_moment(&self) -> Option<u64>
@@ -104,12 +97,12 @@ impl<'a> OwnWindow<'a> {
         }
     }
 
-    /// Takes the turn at that moment.
+    /// Takes the turn at that moment. Once the copies for it are there, the gate is called, and then the mote takes them.
     ///
     /// # Errors
     /// That of `Mote::turn`, so `Failed` where the mote had failed; `Memory` also where the copies, lines or packets found none.
     #[tactic(auto, unfolding(crate::specs::Own::window_in))]
-    pub fn turn(&mut self, moment: u64) -> Result<(), MoteError>
+    pub fn turn<G: Gate>(&mut self, moment: u64, worker: u16, gate: &G) -> Result<(), MoteError>
         requires early { moment ≤ 2 ^ 40 }
         requires left { IfSome (window_in self.old) (HasTurn moment) }
         ensures ok { OnOk result (TurnsTo moment (window_in self.old) (window_in self.new)) }
@@ -118,6 +111,7 @@ impl<'a> OwnWindow<'a> {
     {
         let arrivals = arrivals_at(self.alloc, &self.copies[self.next..], moment)?;
         self.next += arrivals.len();
+        gate.inside(worker, moment, self.mote.number());
         let out = self.mote.turn(self.program, moment, &arrivals)?;
         let TurnOut { lines, sends, wake } = out;
         self.wake = wake;

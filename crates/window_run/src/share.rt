@@ -3,7 +3,7 @@
 ghost use Rattle.std.specs.Prelude.{◌≡◌, true, Some};
 ghost use Rattle.window_run.specs.Window.{is_rising};
 
-use mote_node::{Mote, MoteError};
+use mote_node::Mote;
 use radio_packet::RadioCopy;
 use std::alloc::AllocError;
 use std::error::Error;
@@ -55,16 +55,6 @@ impl From<AllocError> for ShareError {
     ghost from_gives = { λ _ e. e ≡ ShareError.Memory };
 
     fn from(_: AllocError) -> ShareError {
-        ShareError::Memory
-    }
-}
-
-impl From<MoteError> for ShareError {
-    ghost use Rattle.window_run.specs.declared.share.ShareError.{ShareError};
-
-    ghost from_gives = { λ _ e. e ≡ ShareError.Memory };
-
-    fn from(_: MoteError) -> ShareError {
         ShareError::Memory
     }
 }

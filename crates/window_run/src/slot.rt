@@ -1,8 +1,9 @@
 //! One mote of a worker: its window, or what the window gave.
 
-ghost use Rattle.std.specs.Prelude.{◌≡◌, true, OnOk};
+ghost use Rattle.std.specs.Prelude.{◌≡◌, true, OnOk, IfErr};
 ghost use Rattle.futures.specs.Task.{Keeps};
-ghost use Rattle.window_run.specs.Slots.{SlotGives, is_done};
+ghost use Rattle.mote_node.specs.declared.mote.MoteError.TheVariants.{Memory};
+ghost use Rattle.window_run.specs.Slots.{SlotGives, SlotGoesOn, is_done};
 
 use crate::gate::Gate;
 use crate::mote_window::MoteWindow;
@@ -49,6 +50,8 @@ impl<G: Gate> Slot<'_, G> {
     /// Polls the window once, where it was not ready before.
     pub(crate) fn advance(&mut self, cx: &mut Context<'_>) -> Result<(), MoteError>
         ensures same { OnOk result ((out : _) → SlotGives self.new out → SlotGives self.old out) }
+        ensures goes_on { OnOk result (SlotGoesOn self.old → SlotGoesOn self.new) }
+        ensures err { IfErr result (λ e. SlotGoesOn self.old → e ≡ Memory) }
         ensures kept { Keeps cx.old cx.new }
     {
         let Slot::Running(window) = self else {

@@ -1,13 +1,14 @@
 //! A worker's own future over the windows of its motes.
 
-ghost use Rattle.std.specs.Prelude.{◌≡◌, ◌≤◌, ◌<◌, ◌^◌, true, List, length, IfOk, OnOk};
+ghost use Rattle.std.specs.Prelude.{◌≡◌, ◌≤◌, ◌<◌, ◌^◌, true, List, length, IfOk, IfErr, OnOk};
 ghost use Rattle.std.specs.List.{list_all};
+ghost use Rattle.mote_node.specs.declared.mote.MoteError.TheVariants.{Memory};
 ghost use Rattle.futures.specs.Task.{Keeps};
 ghost use Rattle.net_scenario.specs.Net.{net_of};
 ghost use Rattle.window_run.specs.declared.out.WindowOut.{WindowOut as OutOfCode};
-ghost use Rattle.window_run.specs.Shares.{AreInNet, GivesList, ResidentGives};
-ghost use Rattle.window_run.specs.Slots.{SlotsGive, WorkerMayAnswer, is_done};
-ghost use Rattle.window_run.specs.Turns.{MayGive};
+ghost use Rattle.window_run.specs.Shares.{AreGoingOn, AreInNet, GivesList, ResidentGives, ResidentGoesOn};
+ghost use Rattle.window_run.specs.Slots.{SlotsGive, SlotsGoOn, WorkerMayAnswer, is_done};
+ghost use Rattle.window_run.specs.Turns.{MayGive, HasTurns};
 
 use crate::gate::Gate;
 use crate::mote_window::MoteWindow;
@@ -48,7 +49,8 @@ fn open<'a, G: Gate>(
 ) -> MoteWindow<'a, G>
     requires until { until ≤ 2 ^ 40 }
     requires there { resident.number < length (net_of net.now).motes }
-    ensures { (out : OutOfCode) → MayGive result.own out → ResidentGives (net_of net.now) until resident out }
+    ensures gives { (out : OutOfCode) → MayGive result.own out → ResidentGives (net_of net.now) until resident out }
+    ensures goes_on { ResidentGoesOn (net_of net.now) until resident → HasTurns result.own }
 {
     let Resident {
         number,
@@ -71,7 +73,8 @@ impl<'a, G: Gate> ShareWindow<'a, G> {
     ) -> Result<ShareWindow<'a, G>, AllocError>
         requires until { until ≤ 2 ^ 40 }
         requires there { AreInNet (net_of net.now) share.residents.items }
-        ensures { IfOk result (λ w. (outs : List OutOfCode) → SlotsGive w.slots.items outs → GivesList (net_of net.now) until share.residents.items outs) }
+        ensures gives { IfOk result (λ w. (outs : List OutOfCode) → SlotsGive w.slots.items outs → GivesList (net_of net.now) until share.residents.items outs) }
+        ensures go_on { IfOk result (λ w. AreGoingOn (net_of net.now) until share.residents.items → SlotsGoOn w.slots.items) }
     {
         let Residents { worker, residents } = share;
         let mut slots = Vec::with_capacity(alloc, residents.len())?;
@@ -106,10 +109,14 @@ fn advance_each<G: Gate>(
     cx: &mut Context<'_>,
 ) -> Result<(), MoteError>
     ensures same { OnOk result ((outs : List OutOfCode) → SlotsGive slots.new.items outs → SlotsGive slots.old.items outs) }
+    ensures go_on { OnOk result (SlotsGoOn slots.old.items → SlotsGoOn slots.new.items) }
+    ensures err { IfErr result (λ e. SlotsGoOn slots.old.items → e ≡ Memory) }
     ensures kept { Keeps cx.old cx.new }
 {
     for k in 0..slots.len() {
-        slots[k].advance(cx)?;
+        if let Err(e) = slots[k].advance(cx) {
+            return Err(e);
+        }
     }
     Ok(())
 }
@@ -123,7 +130,8 @@ fn all_done<G: Gate>(slots: &[Slot<'_, G>]) -> bool
 /// What the windows gave.
 fn gathered<G: Gate>(alloc: Global, slots: Vec<Slot<'_, G>>) -> Result<Vec<WindowOut>, MoteError>
     requires { list_all is_done slots.items ≡ true }
-    ensures { IfOk result (λ outs. SlotsGive slots.entry.items outs.items) }
+    ensures given { IfOk result (λ outs. SlotsGive slots.entry.items outs.items) }
+    ensures err { IfErr result (λ e. e ≡ Memory) }
 {
     let mut outs = Vec::with_capacity(alloc, slots.len())?;
     for slot in slots {
@@ -135,10 +143,10 @@ fn gathered<G: Gate>(alloc: Global, slots: Vec<Slot<'_, G>>) -> Result<Vec<Windo
 }
 
 /// Runs a worker's motes, each of them a mote of the net, through the window up to `until`, which is at most 2^40, by the worker's
-/// future. What each gives stands in the order of the residents.
+/// future. What each gives stands in the order of the residents. No mote has failed, and what comes to each comes after its last turn.
 ///
 /// # Errors
-/// `Memory` where a mote's window gave an error, or no room for all was found; `Thread` where the executor answered an error.
+/// `Memory`, and `Thread` where the executor answered an error.
 pub fn run_share<R, G>(
     rt: &R,
     alloc: Global,
@@ -152,11 +160,14 @@ where
     G: Gate,
     requires until { until ≤ 2 ^ 40 }
     requires there { AreInNet (net_of net.now) share.residents.items }
+    requires go_on { AreGoingOn (net_of net.now) until share.residents.items }
     ensures { IfOk result (λ outs. GivesList (net_of net.now) until share.residents.items outs.items) }
 {
     let worker = ShareWindow::new(alloc, net, share, until, gate)?;
     match block_on(rt, worker) {
-        Ok(answer) => Ok(answer?),
+        Ok(Ok(outs)) => Ok(outs),
+        Ok(Err(MoteError::Memory)) => Err(ShareError::Memory),
+        Ok(Err(MoteError::Failed | MoteError::Past)) => unreachable!(),
         Err(_) => Err(ShareError::Thread),
     }
 }

@@ -16,6 +16,7 @@ use Rattle.window_workers.specs.Stands.{StandsAt, KeepsWakes}
 use Rattle.window_workers.specs.Ended.{HasReached, HasEnded}
 use Rattle.window_law.proofs.Lists.{any_every, every_weaker, every_map}
 use Rattle.window_workers.proofs.Kept.{kept_turn}
+use Rattle.window_workers.proofs.OnTime.{boot_on_time, turn_on_time}
 use Rattle.net_agenda.proofs.NewWakes.{new_wakes}
 
 kept_first : (n : NetTold) → KeepsWakes n (boot (system_of n))
@@ -26,7 +27,7 @@ kept_first n = record {
 }
 
 pub reached_first : (n : NetTold) (engine : Engine) → StandsAt n engine (boot (system_of n)) → HasReached n engine
-reached_first n engine at = record { state = boot (system_of n); stands = at; kept = kept_first n; led = λ last r. r }
+reached_first n engine at = record { state = boot (system_of n); stands = at; kept = kept_first n; at = 0; on_time = boot_on_time n; led = λ last r. r }
 
 pub inside_least : (n : NetTold) (t m : ℕ) (state : NetState Node Line) → KeepsWakes n state → IsLeast t m state.agenda → m < length n.motes
 inside_least n t m state kept least =
@@ -38,6 +39,8 @@ reached_next n fine old new t m end e at least le turn = record {
   state = turn_at (system_of n) t m at.state;
   stands = turn at.state at.stands at.kept;
   kept = kept_turn n fine t m at.state (inside_least n t m at.state at.kept least) at.kept;
+  at = t;
+  on_time = turn_on_time n fine at.at t m at.state least at.on_time;
   led = λ last r. at.led last (Turn t m least (low e) r);
 }
   where

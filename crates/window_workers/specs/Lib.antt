@@ -4,6 +4,7 @@ pub mod Ended
 pub mod Fits
 pub mod Laws
 pub mod NetRun
+pub mod OnTime
 pub mod Over
 pub mod RunErrors
 pub mod Stamps

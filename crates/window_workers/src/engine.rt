@@ -11,10 +11,11 @@ ghost use Rattle.net_scenario.specs.Net.{net_of};
 ghost use Rattle.net_agenda.specs.Buckets.{wake_but_at};
 ghost use Rattle.net_agenda.specs.NetSystem.{system_of, first_node_in, tree_at};
 ghost use Rattle.window_law.specs.NetStep.{NetState, turn_at, boot};
+ghost use Rattle.window_workers.specs.OnTime.{CanTurn};
 ghost use Rattle.window_workers.specs.Stands.{StandsAt, IsWhole, KeepsWakes, OneTakesTurn, AddsLines};
 
 use crate::sends::send_all;
-use mote_node::{Mote, TurnOut};
+use mote_node::{Mote, MoteError, TurnOut};
 use net_agenda::{Agenda, new_mote};
 use net_report::LogLine;
 use net_scenario::Net;
@@ -52,7 +53,7 @@ fn wake_but_at(moment: u64, wake: Option<u64>) -> Option<u64>
     }
 }
 
-/// The turn of one of the motes.
+/// The turn of one of the motes, which has not failed, and whose last turn was before this moment.
 fn turn_mote(
     motes: &mut Vec<Mote>,
     program: &Program,
@@ -63,12 +64,14 @@ fn turn_mote(
 ) -> Result<(), AllocError>
     requires there { number < length motes.old.items }
     requires early { moment ≤ 2 ^ 40 }
+    requires ready { (d : MoteOfCode) → CanTurn moment (node_in (tree_of program.now) (slice_index_or motes.old.items number d)) }
     ensures { OnOk result (OneTakesTurn (tree_of program.now) moment packets.now number motes.old.items motes.new.items out.new) }
 {
-    let Ok(()) = motes[usize::from(number)].turn_into(program, moment, packets, out) else {
-        return Err(AllocError);
-    };
-    Ok(())
+    match motes[usize::from(number)].turn_into(program, moment, packets, out) {
+        Ok(()) => Ok(()),
+        Err(MoteError::Memory) => Err(AllocError),
+        Err(MoteError::Failed | MoteError::Past) => unreachable!(),
+    }
 }
 
 /// When one of the motes wakes next.
@@ -128,11 +131,12 @@ impl Engine {
         Ok(engine)
     }
 
-    /// The turn of a mote on all that is due for it.
+    /// The turn of a mote on all that is due for it. It has not failed, and its last turn was before this moment.
     pub fn turn(&mut self, net: &Net, moment: u64, number: u16) -> Result<(), AllocError>
         requires there { number < length (net_of net.now).motes }
         requires early { moment ≤ 2 ^ 40 }
         requires whole { IsWhole (net_of net.now) self.old }
+        requires ready { (d : MoteOfCode) → CanTurn moment (node_in (tree_at (net_of net.now) number) (slice_index_or self.old.motes.items number d)) }
         ensures stands { let n = net_of net.now in OnOk result ((state : NetState Node Line) → StandsAt n self.old state → KeepsWakes n state → StandsAt n self.new (turn_at (system_of n) moment number state)) }
         ensures whole { OnOk result (IsWhole (net_of net.now) self.new) }
     {

@@ -24,7 +24,8 @@ fn run_to_end(engine: &mut Engine, net: &Net) -> Result<(), AllocError>
     ensures ended { OnOk result (HasEnded (net_of net.now) engine.new) }
 {
     let end = net.end();
-    // Each wake and each copy comes later than the turn that makes it, so the run comes to its end.
+    // Each wake and each copy comes later than the turn that makes it, so the run comes to its end. The call is there for the prover
+    // alone, which learns from its clauses that the medium is without fault.
     let _ahead = net.medium().lookahead(end);
     'turns: while let Some((moment, number)) = engine.agenda.first() {
         if moment > end {

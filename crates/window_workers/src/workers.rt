@@ -16,7 +16,7 @@ use crate::error::RunError;
 use crate::fits::fault_of;
 use crate::medium_log::medium_log;
 use crate::traces::joined_traces;
-use copy_exchange::{close_inboxes, make_inboxes, paired, parted};
+use copy_exchange::{make_inboxes, paired, parted};
 use copy_inbox::{Inbox, Taker};
 use net_report::Report;
 use net_scenario::Net;
@@ -42,7 +42,8 @@ fn told(
     ensures carried { IfOk result (λ r. AllCarried (net_of net.now) of.now (report_of r.0) r.1.items) }
     ensures err { IfErr result (λ e. e ≡ RunError.Memory) }
 {
-    // Each wake and each copy comes later than the turn that makes it, so the windows of all motes are those of one run.
+    // Each wake and each copy comes later than the turn that makes it, so the windows of all motes are those of one run. The call is
+    // there for the prover alone, which learns from its clauses that the medium is without fault.
     let _ahead = net.medium().lookahead(net.end());
     let Crew {
         shares,
@@ -106,7 +107,8 @@ where
     told(alloc, net, of, crew)
 }
 
-/// The report of a net, by so many workers, each in threads of its own: that of one thread, whatever the cut.
+/// The report of a net, by so many workers, each in threads of its own: that of one thread, whatever the cut. Its inboxes are new ones,
+/// and end with it: the copies that are left in them are given up.
 ///
 /// # Errors
 /// `Workers`, `CutLength` and `CutWorker` exactly where the cut doesn't fit, the first of them that holds; else `Memory`, or `Thread`
@@ -135,7 +137,6 @@ where
         return Err(fault);
     }
     let pairs = make_inboxes(alloc, usize::from(workers), false)?;
-    let (report, pairs) = run_inboxes(rt, alloc, net, cut, gate, pairs)?;
-    close_inboxes(rt, pairs)?;
+    let (report, _pairs) = run_inboxes(rt, alloc, net, cut, gate, pairs)?;
     Ok(report)
 }

@@ -1,18 +1,13 @@
 -- A window of all workers moves the crew on.
-use Rattle.std.proofs.Common.{◌≡◌, ℕ, ◌+◌, ◌<◌, ◌≤◌, true, false, List, [], ◌∷◌, ◌++◌, length, map, get_or, sym, ap, ◌∙◌, subst, arith, Option, Some, None}
-use Rattle.std.specs.List.{filter, zip, slice_get, AllByRecursion as Each}
-use Rattle.std.proofs.lemmas.List.Elements.{filter-append}
-use Rattle.radio_packet.specs.declared.copy.RadioCopy.{RadioCopy}
+use Rattle.std.proofs.Common.{◌≡◌, ℕ, ◌+◌, ◌<◌, ◌≤◌, List, length, map, get_or, sym, ap, subst, Some}
+use Rattle.std.specs.List.{zip, slice_get, AllByRecursion as Each}
 use Rattle.net_scenario.specs.Net.{NetTold}
-use Rattle.window_law.specs.Windows.{WakesFrom, is_from_sender}
-use Rattle.window_law.proofs.Lists.{every_weaker, every_both}
 use Rattle.net_agenda.specs.NetSystem.{system_of}
 use Rattle.copy_inbox.specs.Handles.{TakerView}
 use Rattle.copy_exchange.specs.declared.courier.Courier.{Courier}
 use Rattle.copy_exchange.specs.Couriers.{SetsOut, ComesHome}
-use Rattle.copy_exchange.specs.Desks.{copies_in, taken_by, gathered_by}
+use Rattle.copy_exchange.specs.Desks.{taken_by}
 use Rattle.copy_inbox.specs.Items.{copies_of}
-use Rattle.worker_cut.specs.Crossed.{is_own}
 use Rattle.worker_share.specs.declared.share.Share.{Share}
 use Rattle.worker_share.specs.Share.{Keeps}
 use Rattle.worker_share.specs.Window.{RunsWindow, ComesIn}
@@ -20,19 +15,9 @@ use Rattle.worker_crew.specs.declared.crew.Crew.{Crew}
 use Rattle.worker_crew.specs.declared.worker.Worker.{Worker}
 use Rattle.worker_crew.specs.Crew.{IsAt, IsWorkerAt}
 use Rattle.worker_crew.specs.Laws.{RunsAll, manned_by}
-use Rattle.worker_crew.specs.Worker.{RunsWorker, IsNotBefore}
+use Rattle.worker_crew.specs.Worker.{RunsWorker}
 use Rattle.worker_crew.proofs.Lookups.{there, read, mapped, paired, beside, as_long}
-use Rattle.worker_crew.proofs.Ready.{numbered}
-use Rattle.worker_crew.proofs.Working.{every_of_each, arrived_have, foreign}
-
--- lists that begin alike go on alike
-goes_on : (xs ys zs : List RadioCopy) → xs ++ ys ≡ xs ++ zs → ys ≡ zs
-goes_on [] ys zs e = e
-goes_on (x ∷ xs) ys zs e = goes_on xs ys zs (cc)
-
-not_before : (from : ℕ) (first : Option ℕ) (c : RadioCopy) → WakesFrom from first → IsNotBefore first c → from ≤ c.at
-not_before from None c w h = absurd h
-not_before from (Some m) c w h = omega arith
+use Rattle.worker_crew.proofs.Ready.{arrived_come, numbered}
 
 module _ (n : NetTold) (of : List ℕ) (from until : ℕ) (old new : Crew) (at : IsAt n of from old) (all : RunsAll n of until old new) where
   -- one worker of the window: what it had, and what it has
@@ -78,29 +63,11 @@ module _ (n : NetTold) (of : List ℕ) (from until : ℕ) (old new : Crew) (at :
       }
 
   module _ (short : until ≤ from + (system_of n).lookahead) (up : from ≤ until) (v : ℕ) (p : Piece v) where
-    -- what the worker had gathered
-    gathered_same : gathered_by p.courier.taker ≡ gathered_by p.taker
-    gathered_same = ap copies_in p.set_out.same_gathered
-
     taken_same : taken_by p.courier.taker ≡ taken_by p.taker
     taken_same = ap copies_of p.set_out.same_taken
 
-    all_foreign : Each (λ (c : RadioCopy). (is_own of v c.to ≡ true) × (is_own of v c.sender ≡ false)) p.ran.arrived
-    all_foreign = arrived_have (λ (c : RadioCopy). (is_own of v c.to ≡ true) × (is_own of v c.sender ≡ false)) p.courier p.ran.between p.ran.arrived p.ran.collects (subst (Each (λ (c : RadioCopy). (is_own of v c.to ≡ true) × (is_own of v c.sender ≡ false))) (sym gathered_same) (foreign n of at.motes v (gathered_by p.taker) p.here.gathered))
-
-    waited : (s : ℕ) → filter (is_from_sender s) p.ran.arrived ≡ (p.here.waits s).rest
-    waited s = goes_on (filter (is_from_sender s) (taken_by p.taker)) _ _ (
-        ap (λ l. filter (is_from_sender s) l ++ filter (is_from_sender s) p.ran.arrived) (sym taken_same)
-        ∙ (sym (filter-append (is_from_sender s) (taken_by p.courier.taker) p.ran.arrived)
-        ∙ (ap (filter (is_from_sender s)) (sym p.ran.collects.adds)
-        ∙ (p.ran.collects.in_order s
-        ∙ (ap (filter (is_from_sender s)) gathered_same ∙ (p.here.waits s).all)))))
-
-    all_later : Each (λ (c : RadioCopy). from ≤ c.at) p.ran.arrived
-    all_later = every_of_each (λ (c : RadioCopy). from ≤ c.at) p.ran.arrived (λ s. subst (Each (λ (c : RadioCopy). from ≤ c.at)) (sym (waited s)) (every_weaker _ _ (λ c g. not_before from old.first_out c at.first g) _ (p.here.waits s).later))
-
     pub comes : Each (ComesIn of v from) p.ran.arrived
-    comes = every_weaker _ _ (λ c g. record { to = g.0.0; sender = g.0.1; later = g.1 }) _ (every_both (λ (c : RadioCopy). (is_own of v c.to ≡ true) × (is_own of v c.sender ≡ false)) (λ (c : RadioCopy). from ≤ c.at) p.ran.arrived all_foreign all_later)
+    comes = arrived_come n of from at.motes old.first_out v p.share p.taker p.here at.first p.courier p.set_out p.ran.between p.ran.arrived p.ran.collects
 
     pub window : RunsWindow n of v from until at.motes (taken_by p.done.courier.taker) p.done.share p.ran.sent
     window =

@@ -1,8 +1,9 @@
 -- What a share keeps is said of its worker's motes alone.
-use Rattle.std.proofs.Common.{◌≡◌, ℕ, true, cond, ltb, List, [], refl, ap, ◌∙◌, subst, inl, inr, Some}
+use Rattle.std.proofs.Common.{◌≡◌, ℕ, true, false, cond, ltb, List, [], refl, ap, ◌∙◌, subst, inl, inr, Some}
 use Rattle.std.specs.List.{filter, flat_map}
 use Rattle.std.proofs.lemmas.Bool.{cases_Bool}
 use Rattle.radio_packet.specs.declared.sent.Sent.{Sent}
+use Rattle.mote_node.specs.Node.{is_past}
 use Rattle.mote_node.specs.Wake.{wake_of}
 use Rattle.radio_packet.specs.declared.copy.RadioCopy.{RadioCopy}
 use Rattle.net_scenario.specs.Net.{NetTold}
@@ -35,6 +36,7 @@ module _ (n : NetTold) (of : List ℕ) (worker : ℕ) (a b : Motes) (same : (k :
     nodes = λ k m. h.nodes k m ∙ ap (λ x. Some x.state) (same k m);
     wakes = λ k m. subst (λ x. x.wake ≡ wake_of x.state) (same k m) (h.wakes k m);
     quiet = λ k m. subst (λ x. WakesFrom from x.wake) (same k m) (h.quiet k m);
+    behind = λ k m. subst (λ x. is_past from x.state.last ≡ false) (same k m) (h.behind k m);
     traces_kept = h.traces_kept;
     traces = λ k m d. h.traces k m d ∙ ap (λ x. x.lines) (same k m);
     log = λ s. h.log s ∙ own_sends s;

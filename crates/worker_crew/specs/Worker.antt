@@ -11,8 +11,8 @@ use Rattle.copy_exchange.specs.Couriers.{IsCourier, Collects, Delivers}
 use Rattle.copy_exchange.specs.Desks.{taken_by, gathered_by}
 use Rattle.copy_exchange.specs.Inboxes.{IsPlain}
 use Rattle.worker_cut.specs.Crossed.{is_own}
-use Rattle.worker_share.specs.Share.{Motes, IsKept, Keeps}
-use Rattle.worker_share.specs.Window.{RunsWindow, GoesOut, ComesIn}
+use Rattle.worker_share.specs.Share.{Motes, Keeps}
+use Rattle.worker_share.specs.Window.{CanRun, RunsWindow, GoesOut, ComesIn}
 use Rattle.worker_crew.specs.declared.worker.Worker.{Worker}
 
 -- each mote has one of so many workers
@@ -20,12 +20,12 @@ pub record IsCut (motes workers : ℕ) (of : List ℕ) : Type 0 where
   pub len : length of ≡ motes
   pub there : Each (λ worker. worker < workers) of
 
--- a worker that can run through a window: its share is that of the worker of its courier, its inbox has no marks, and all that was
--- sent to it is for its motes
+-- a worker that can run through a window: its share is that of the worker of its courier, its inbox has no marks, all that was sent
+-- to it is for its motes, and what it takes in comes no sooner than its share stands
 pub record IsReady (n : NetTold) (of : List ℕ) (inboxes : List InboxId) (until : ℕ) (worker : Worker) : Type 0 where
   pub early : until ≤ 2 ^ 40
   pub cut : IsCut (length n.motes) (length inboxes) of
-  pub share : IsKept n of worker.share
+  pub takes_in : (between : Courier) (arrived : List RadioCopy) → Collects worker.courier between arrived → CanRun n of until worker.share arrived
   pub same : worker.share.worker ≡ worker.courier.worker
   pub courier : IsCourier inboxes worker.courier
   pub plain : IsPlain worker.courier.taker

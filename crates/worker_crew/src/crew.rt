@@ -17,14 +17,16 @@ pub struct Crew {
     pub first_out: Option<u64>,
 }
 
-/// The moment of what is to come first to a worker's motes.
+/// The moment of what is to come first to a worker's motes. It stands here for the prover alone: the loop over all shares is proved
+/// from its one clause.
 fn next_of(share: &Share) -> Option<u64>
     ensures { TellsNext share.now result }
 {
     share.next()
 }
 
-/// When the first of the copies arrives that a worker delivered.
+/// When the first of the copies arrives that a worker delivered. It stands here for the prover alone, which so names what the loop
+/// over all workers reads.
 fn first_out_of(worker: &Worker) -> Option<u64>
     ensures { result ≡ worker.now.first_out }
 {

@@ -89,7 +89,7 @@ impl Crew {
         G: Gate + Sync,
         requires early { until ≤ 2 ^ 40 }
         requires few { length self.inboxes.items ≤ 16 }
-        requires stands { (from : ℕ) × IsAt (net_of net.now) of.now from self }
+        requires stands { (from : ℕ) × IsAt (net_of net.now) of.now from self × (from ≤ until) }
         requires plain { Each IsPlain self.takers.items }
         ensures runs { IfOk result (RunsAll (net_of net.now) of.now until self) }
         ensures plain { IfOk result (λ crew. Each IsPlain crew.takers.items) }
@@ -125,7 +125,8 @@ impl Crew {
     }
 
     /// One window: each worker takes in what was sent to it, runs its motes up to `until`, and delivers what they sent, all in
-    /// threads of their own; then all senders are gathered.
+    /// threads of their own; then all senders are gathered. It does no more than `run_all`, and stands beside it for the prover alone:
+    /// here what the workers did becomes a step of the run, by the law of windows.
     ///
     /// # Errors
     /// That of the first worker that has one; `Thread` where a thread couldn't be started, or the gate didn't let it; and `Memory`.
@@ -143,7 +144,7 @@ impl Crew {
         G: Gate + Sync,
         requires early { until ≤ 2 ^ 40 }
         requires few { length self.inboxes.items ≤ 16 }
-        requires stands { (from : ℕ) × IsAt (net_of net.now) of.now from self }
+        requires stands { (from : ℕ) × IsAt (net_of net.now) of.now from self × (from ≤ until) }
         requires plain { Each IsPlain self.takers.items }
         ensures moves { let n = net_of net.now in RunsForward (system_of n) → IfOk result (λ done. (from : ℕ) → IsAt n of.now from self → from < until → until ≤ from + (system_of n).lookahead → IsAt n of.now until done) }
         ensures inboxes { IfOk result (λ done. done.inboxes.items ≡ self.inboxes.items) }

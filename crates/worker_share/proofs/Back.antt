@@ -9,7 +9,7 @@ use Rattle.std.proofs.lemmas.List.{length-set}
 use Rattle.std.proofs.lemmas.List.Concat.{flat_map-append}
 use Rattle.std.proofs.lemmas.List.Elements.{filter-append}
 use Rattle.process_kernel.specs.declared.line.Line.{Line}
-use Rattle.mote_node.specs.Node.{Node}
+use Rattle.mote_node.specs.Node.{Node, is_past}
 use Rattle.mote_node.specs.Wake.{wake_of}
 use Rattle.radio_packet.specs.declared.copy.RadioCopy.{RadioCopy}
 use Rattle.radio_medium.specs.Medium.{copies}
@@ -218,6 +218,7 @@ module _ (n : NetTold) (of : List ℕ) (worker from until : ℕ) (before now : M
           (λ j ne h. ap (node_at (tree_at n j)) (mote_else j ne) ∙ (stands.nodes j (same_home j ne ∙ h) ∙ ap (λ m. Some m.state) (sym (elsewhere j ne))));
       wakes = at_home (λ j m. m.wake ≡ wake_of m.state) back.wakes stands.wakes;
       quiet = at_home (λ j m. WakesFrom until m.wake) back.quiet stands.quiet;
+      behind = at_home (λ j m. is_past until m.state.last ≡ false) back.behind stands.behind;
       traces_kept = ret.traces_kept ∙ stands.traces_kept;
       traces =
           by_mote (λ j. own j ≡ true → (d : Vec Line Global) → (get_or share.traces.items j d).items ≡ (next j).lines)

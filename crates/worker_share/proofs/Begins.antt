@@ -8,6 +8,7 @@ use Rattle.std.proofs.lemmas.List.{map-append}
 use Rattle.std.proofs.lemmas.List.Elements.{filter-append}
 use Rattle.std.proofs.lemmas.Option.{slice_get_cases}
 use Rattle.process_kernel.specs.declared.line.Line.{Line}
+use Rattle.mote_node.specs.Node.{is_past}
 use Rattle.mote_node.specs.Wake.{wake_of}
 use Rattle.net_scenario.specs.Net.{NetTold}
 use Rattle.window_law.specs.Agenda.{Wake, packets, is_wake_of, wake_items, mote_of, up_to}
@@ -20,6 +21,7 @@ use Rattle.net_agenda.proofs.NewWakes.{new_wakes, new_numbers}
 use Rattle.worker_share.specs.declared.share.Share.{Share}
 use Rattle.worker_cut.specs.Crossed.{is_own, copies_known}
 use Rattle.worker_share.specs.Share.{node_at, mote_here, Keeps, is_to_come}
+use Rattle.worker_share.proofs.Behind.{not_begun}
 
 -- a mote of the worker is one of the net
 pub own_there : (of : List ℕ) (worker k : ℕ) → is_own of worker k ≡ true → k < length of
@@ -82,6 +84,7 @@ module _ (n : NetTold) (of : List ℕ) (worker : ℕ) (long : length of ≡ leng
     nodes = λ k mine. (let h = own_there of worker k mine in nodes k (omega arith) mine ∙ ap Some (sym (first_state k)));
     wakes = λ k mine. wakes_at_0 k mine ∙ (sym (new_wakes n k) ∙ ap wake_of (sym (first_state k)));
     quiet = λ k mine. (let e = wakes_at_0 k mine in rw e zero-le);
+    behind = λ k mine. ap (λ s. is_past 0 s.last) (first_state k) ∙ not_begun n k 0;
     traces_kept = traced;
     traces = λ k mine d. (let h = own_there of worker k mine in traces k d (omega arith));
     log = λ s. ap (filter (is_sent_by s)) log ∙ elim (cases_Bool (own s)) [ inl e ↦ rw e refl | inr e ↦ rw e refl ];

@@ -214,6 +214,7 @@ module _ (n : NetTold) (of : List ℕ) (worker from until : ℕ) (motes : Motes)
       nodes = λ k h. coming.stands.nodes k (home k h);
       wakes = λ k h. coming.stands.wakes k (home k h);
       quiet = λ k h. coming.stands.quiet k (home k h);
+      behind = λ k h. coming.stands.behind k (home k h);
       traces_kept = coming.stands.traces_kept;
       traces = coming.stands.traces;
       log = coming.stands.log;

@@ -19,7 +19,9 @@ use Rattle.worker_share.specs.Calls.{CalledMotes, copies_for, Gathers}
 use Rattle.worker_cut.specs.Crossed.{is_own}
 use Rattle.worker_share.specs.Share.{IsKept, node_at, mote_here}
 use Rattle.worker_share.specs.Leaving.{IsCalled, MotesLeave}
+use Rattle.worker_share.specs.Window.{CanRun}
 use Rattle.worker_share.proofs.Begins.{own_there}
+use Rattle.worker_share.proofs.Behind.{past_later}
 use Rattle.worker_share.proofs.Gives.{IsBack, back, gives_open}
 use Rattle.worker_share.proofs.Items.{inside}
 use Rattle.worker_share.proofs.Starts.{called_in}
@@ -40,6 +42,9 @@ some_mote tree (Some m) x e = refl
 is_some_of : {X : Type 0} (o : Option X) → IsSome o → is_some o ≡ true
 is_some_of None h = h
 is_some_of (Some x) h = refl
+
+abbrev pub kept_of : {n : NetTold} {of : List ℕ} {until : ℕ} {share : Share} {arrived : List RadioCopy} → CanRun n of until share arrived → IsKept n of share
+kept_of r = record { worker = r.worker; from = r.from; motes = r.motes; taken = r.taken; keeps = r.keeps }
 
 module _ (n : NetTold) (of : List ℕ) (share : Share) (kept : IsKept n of share) (arrived : List RadioCopy) (to_own : AllByRecursion (λ copy. is_own of share.worker copy.to ≡ true) arrived) (long : length of ≡ length n.motes) where
   abbrev pub all_items : List Item
@@ -64,7 +69,7 @@ module _ (n : NetTold) (of : List ℕ) (share : Share) (kept : IsKept n of share
     pub called_here : (k : ℕ) → IsSome (copies_for calls k) → IsSome (mote_here share.motes.items k)
     called_here k h = some_mote (tree_at n k) (mote_here share.motes.items k) _ (kept.keeps.nodes k (called_mine k (is_some_of (copies_for calls k) h)))
 
-    module _ (new : List (Option Mote)) (before after : Buckets) (residents : List Resident) (leaves : MotesLeave until calls share.motes.items new before after residents) where
+    module _ (new : List (Option Mote)) (before after : Buckets) (residents : List Resident) (leaves : MotesLeave until calls share.motes.items new before after residents) (order : kept.from ≤ until) where
       number_mine : (r : Resident) → IsCalled calls share.motes.items r → mine r.number ≡ true
       number_mine r called = called_mine r.number (ap is_some called.copies)
 
@@ -80,7 +85,7 @@ module _ (n : NetTold) (of : List ℕ) (share : Share) (kept : IsKept n of share
           let h = number_mine r called in
           let there = number_there r called in
           let b : IsBack n mine 0 until kept.motes (λ _. r.copies.items) k out =
-          back n 0 until mine kept.motes (λ _. r.copies.items) k h there (kept.keeps.numbers k h) (kept.keeps.wakes k h) (from_0 (kept.motes k).wake) (all_from_0 r.copies.items) r.mote r.copies.items (λ t. refl) out
+          back n 0 until mine kept.motes (λ _. r.copies.items) k h there (kept.keeps.numbers k h) (kept.keeps.wakes k h) (from_0 (kept.motes k).wake) (all_from_0 r.copies.items) (past_later kept.from until order (kept.motes k).state.last (kept.keeps.behind k h)) r.mote r.copies.items (λ t. refl) out
           (gives_open n until r out (kept.motes k).state there (ap (node_at (tree_at n k)) (sym called.mote) ∙ kept.keeps.nodes k h) gives) in
           record {
             number = k;

@@ -1,11 +1,11 @@
 -- What a mote gave in its window, as the net has it.
-use Rattle.std.proofs.Common.{◌≡◌, ◌⊎◌, ℕ, ◌+◌, ◌<◌, ◌≤◌, Bool, true, List, [], ◌∷◌, ◌++◌, length, map, refl, sym, ap, ◌∙◌, subst, inl, inr, arith, append-nil, Option, Some, None, option_map, unwrap_or, slice_get, get_or}
+use Rattle.std.proofs.Common.{◌≡◌, ◌⊎◌, ℕ, ◌+◌, ◌<◌, ◌≤◌, Bool, true, false, List, [], ◌∷◌, ◌++◌, length, map, refl, sym, ap, ◌∙◌, subst, inl, inr, arith, append-nil, Option, Some, None, option_map, unwrap_or, slice_get, get_or}
 use Rattle.std.specs.List.{flat_map, AllByRecursion}
 use Rattle.std.proofs.lemmas.Option.{slice_get_cases}
 use Rattle.process_kernel.specs.declared.line.Line.{Line}
 use Rattle.radio_packet.specs.declared.sent.Sent.{Sent}
 use Rattle.mote_node.specs.declared.mote.Mote.{Mote}
-use Rattle.mote_node.specs.Node.{Node}
+use Rattle.mote_node.specs.Node.{Node, is_past}
 use Rattle.mote_node.specs.Public.{node_in}
 use Rattle.mote_node.specs.Wake.{wake_of}
 use Rattle.mote_node.proofs.WakeLaws.{wakes_later}
@@ -22,11 +22,13 @@ use Rattle.window_run.specs.declared.out.WindowOut.{WindowOut}
 use Rattle.window_run.specs.declared.share.Resident.{Resident}
 use Rattle.window_run.specs.Window.{Window, lone_node, number_of}
 use Rattle.window_run.specs.Out.{Gives}
-use Rattle.window_run.specs.Shares.{ResidentGives}
+use Rattle.window_run.specs.Laws.{IsAhead}
+use Rattle.window_run.specs.Shares.{ResidentGives, ResidentGoesOn}
 use Rattle.net_agenda.specs.Buckets.{arrival_of}
 use Rattle.net_agenda.specs.NetSystem.{mote_at, no_mote, tree_at, system_of, node_turn}
 use Rattle.net_agenda.proofs.Systems.{turn_wakes}
 use Rattle.worker_share.specs.Share.{Motes}
+use Rattle.worker_share.proofs.Behind.{turn_before}
 use Rattle.worker_share.proofs.Lone.{in_front, alone_in_front, alone_alike, alone_keeps, rests_quiet, IsAlike}
 
 -- a packet of this mote, sent in the window
@@ -48,6 +50,7 @@ pub record IsBack (n : NetTold) (own : ℕ → Bool) (from until : ℕ) (motes :
   pub number_is : number_of last.state ≡ k
   pub wakes : last.wake ≡ wake_of last.state
   pub quiet : WakesFrom until last.wake
+  pub behind : is_past until last.state.last ≡ false
   pub sent : AllByRecursion (IsSentIn k from until) out.sends.items
 
 -- the mote that an answer tells
@@ -89,6 +92,11 @@ gives_open n until r out state h f g =
     let is = rw f at told in
     is
 
+-- and what comes to it comes after its last turn
+pub goes_open : (n : NetTold) (until : ℕ) (r : Resident) (state : Node) → r.number < length n.motes → node_in (tree_at n r.number) r.mote ≡ Some state
+    → IsAhead (record { program = tree_at n r.number; until = until; copies = r.copies.items; mote = lone_node state }) → ResidentGoesOn n until r
+goes_open n until r state h f ahead = let e = mote_there n r.number h in rw (e, f) ahead
+
 module _ (n : NetTold) (from until : ℕ) where
   later : (mote : ℕ) (state : Node) (moment : ℕ) (given : List RadioCopy) → IsLater moment ((system_of n).turn mote state moment given).wake
   unfolding system_of
@@ -112,7 +120,7 @@ module _ (n : NetTold) (from until : ℕ) where
 
   -- where a resident's answer is told, the mote is back
   module _ (own : ℕ → Bool) (motes : Motes) (inbox : ℕ → List RadioCopy) (k : ℕ) (mine : own k ≡ true) (there : k < length n.motes) (numbered : number_of (motes k).state ≡ k)
-      (wakes : (motes k).wake ≡ wake_of (motes k).state) (wakes_from : WakesFrom from (motes k).wake) (inbox_from : AllByRecursion (λ c. from ≤ c.at) (inbox k)) where
+      (wakes : (motes k).wake ≡ wake_of (motes k).state) (wakes_from : WakesFrom from (motes k).wake) (inbox_from : AllByRecursion (λ c. from ≤ c.at) (inbox k)) (before : is_past until (motes k).state.last ≡ false) where
     front_is : in_front (motes k).lines (motes k).sends (lone_node (motes k).state) ≡ motes k
     front_is =
         ap (λ (l : List Line). record { state = (motes k).state; wake = wake_of (motes k).state; lines = l; sends = (motes k).sends ++ [] }) (append-nil (motes k).lines)
@@ -136,6 +144,7 @@ module _ (n : NetTold) (from until : ℕ) where
         number_is = alone_keeps (system_of n) k until later from (λ m. number_of m.state ≡ k) (λ t m g h l e. number_kept k t m g e) quiet numbered alone;
         wakes = alone_keeps (system_of n) k until later from (λ m. m.wake ≡ wake_of m.state) (λ t m g h l e. wake_kept k t m g) quiet refl alone;
         quiet = rests_quiet (system_of n) k until alone;
+        behind = alone_keeps (system_of n) k until later from (λ m. is_past until m.state.last ≡ false) (λ t m g h l e. turn_before n k t until m g l) quiet before alone;
         sent = subst (AllByRecursion (IsSentIn k from until)) (sym told.sends)
             (alone_keeps (system_of n) k until later from (λ m. AllByRecursion (IsSentIn k from until) m.sends)
             (λ t m g h l e. every_append (IsSentIn k from until) m.sends _ e (stamps k t h l _)) quiet tt alone);

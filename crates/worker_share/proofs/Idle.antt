@@ -12,6 +12,7 @@ use Rattle.net_agenda.specs.NetSystem.{system_of}
 use Rattle.worker_share.specs.declared.share.Share.{Share}
 use Rattle.worker_cut.specs.Crossed.{is_own, copies_known}
 use Rattle.worker_share.specs.Share.{Motes, Keeps, is_to_come}
+use Rattle.worker_share.proofs.Behind.{past_later}
 use Rattle.worker_share.proofs.Items.{inside, wake_of_all, packets_of_all}
 
 -- the tests over plain numbers
@@ -63,6 +64,7 @@ module _ (n : NetTold) (of : List ℕ) (worker from : ℕ) (motes : Motes) (take
     nodes = keeps.nodes;
     wakes = keeps.wakes;
     quiet = λ k mine. wake_then moment k mine h;
+    behind = λ k mine. past_later from moment le (motes k).state.last (keeps.behind k mine);
     traces_kept = keeps.traces_kept;
     traces = keeps.traces;
     log = keeps.log;

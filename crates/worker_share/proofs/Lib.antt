@@ -1,5 +1,6 @@
 pub mod Back
 pub mod Begins
+pub mod Behind
 pub mod Comings
 pub mod Fits
 pub mod Gathers

@@ -54,7 +54,7 @@ module _ {S L : Type 0} (system : System S L) (k bound : ℕ) where
   any_sooner t [] h u g = refl
   any_sooner t (c ∷ a) h u g = let le = h.0 in let e : eqb c.at u ≡ false = ne_eqb c.at u (λ f. absurd (omega arith)) in rw e (any_sooner t a h.1 u g)
 
-  quiet_alike : (t : ℕ) (wake : Option ℕ) (a b : List RadioCopy) → IsAlike a b → IsQuiet t wake a → IsQuiet t wake b
+  pub quiet_alike : (t : ℕ) (wake : Option ℕ) (a b : List RadioCopy) → IsAlike a b → IsQuiet t wake a → IsQuiet t wake b
   quiet_alike t wake a b alike quiet = record {
     no_wake = quiet.no_wake;
     no_copies = none_sooner t b (λ u h. sym (any_alike a b alike u) ∙ any_sooner t a quiet.no_copies u h);

@@ -3,16 +3,18 @@ use Rattle.std.proofs.Common.{◌≡◌, ℕ, ◌<◌, ◌≤◌, Bool, true, fa
 use Rattle.std.specs.List.{filter, list_any, AllByRecursion}
 use Rattle.std.proofs.lemmas.Bool.{cases_Bool, eqb-true, and_parts}
 use Rattle.mote_node.specs.Public.{wake_in}
+use Rattle.mote_node.specs.Wake.{wake_of}
 use Rattle.radio_packet.specs.declared.copy.RadioCopy.{RadioCopy}
 use Rattle.net_scenario.specs.Net.{NetTold}
 use Rattle.window_law.specs.Agenda.{Item, moment_of, mote_of, is_wake_of, wake_items}
-use Rattle.window_law.specs.Windows.{is_sent_by}
+use Rattle.window_law.specs.Windows.{is_sent_by, WakesFrom, IsQuiet}
 use Rattle.window_law.proofs.Lists.{any_every, every_weaker, filter_filter}
 use Rattle.window_run.specs.declared.out.WindowOut.{WindowOut}
 use Rattle.window_run.specs.declared.share.Resident.{Resident}
-use Rattle.window_run.specs.Shares.{ResidentGives, GivesList}
+use Rattle.window_run.specs.Shares.{ResidentGives, ResidentGoesOn, GivesList, AreGoingOn}
+use Rattle.window_run.proofs.Ends.{not_before}
 use Rattle.net_agenda.specs.Buckets.{Buckets, Holds}
-use Rattle.net_agenda.specs.NetSystem.{tree_at}
+use Rattle.net_agenda.specs.NetSystem.{tree_at, system_of}
 use Rattle.worker_share.specs.declared.share.Share.{Share}
 use Rattle.worker_share.specs.Calls.{CalledMotes, copies_for, is_not_before, calls_for, Gathers}
 use Rattle.worker_cut.specs.Crossed.{is_own}
@@ -20,7 +22,9 @@ use Rattle.worker_share.specs.Share.{Motes, IsShare, Keeps, node_at, mote_here}
 use Rattle.worker_share.specs.Window.{ComesIn, copies_out}
 use Rattle.worker_share.specs.Leaving.{IsCalled, MotesLeave, wake_from, is_one_of, numbers_of}
 use Rattle.worker_share.proofs.Begins.{own_there}
-use Rattle.worker_share.proofs.Gives.{IsBack, back, gives_open}
+use Rattle.worker_share.proofs.Behind.{past_later}
+use Rattle.worker_share.proofs.Gives.{IsBack, back, gives_open, goes_open}
+use Rattle.worker_share.proofs.Lone.{quiet_alike}
 use Rattle.worker_share.proofs.Parts.{items, inbox, inbox_from, alike, idle_alone, all_in, left, left_wakes, left_copies, quiet_else, home_parts, wakes_now}
 use Rattle.worker_share.proofs.Comings.{Coming, zip_numbers}
 
@@ -84,6 +88,7 @@ module _ (n : NetTold) (of : List ℕ) (worker from until : ℕ) (motes : Motes)
     nodes = λ k h. ap (node_at (tree_at n k)) (same_mote k h) ∙ keeps.nodes k (parts k h).0;
     wakes = λ k h. keeps.wakes k (parts k h).0;
     quiet = λ k h. quiet_else n of worker from until motes taken arrived old keeps le come k (parts k h).0 (parts k h).1;
+    behind = λ k h. past_later from until le (motes k).state.last (keeps.behind k (parts k h).0);
     traces_kept = ap length same.1 ∙ keeps.traces_kept;
     traces = λ k h d. ap (λ l. (get_or l k d).items) same.1 ∙ keeps.traces k h d;
     log = λ s. ap (filter (is_sent_by s)) same.2 ∙ keeps.log s;
@@ -100,9 +105,25 @@ module _ (n : NetTold) (of : List ℕ) (worker from until : ℕ) (motes : Motes)
       let k = r.number in
       let h = called_mine k (ap is_some called.copies) in
       let there : k < length n.motes = (let a = own_there of worker k h in omega arith) in
-      back n from until mine motes boxes k h there (keeps.numbers k h) (keeps.wakes k h) (keeps.quiet k h) (inbox_from n of worker from until motes taken arrived old keeps le come k) r.mote r.copies.items
+      back n from until mine motes boxes k h there (keeps.numbers k h) (keeps.wakes k h) (keeps.quiet k h) (inbox_from n of worker from until motes taken arrived old keeps le come k) (past_later from until le (motes k).state.last (keeps.behind k h)) r.mote r.copies.items
       (alike n of worker from until motes taken arrived old keeps le come k r.copies.items (gathers.copies k r.copies.items called.copies)) out
       (gives_open n until r out (motes k).state there (ap (node_at (tree_at n k)) (sym called.mote) ∙ keeps.nodes k h) gives)
+
+  one_goes_on : (r : Resident) → IsCalled calls old.motes.items r → ResidentGoesOn n until r
+  one_goes_on r called =
+      let k = r.number in
+      let h = called_mine k (ap is_some called.copies) in
+      let there : k < length n.motes = (let a = own_there of worker k h in omega arith) in
+      let same = alike n of worker from until motes taken arrived old keeps le come k r.copies.items (gathers.copies k r.copies.items called.copies) in
+      let wake = wake_of (motes k).state in
+      let quiet : IsQuiet from wake r.copies.items =
+      quiet_alike (system_of n) k until from wake (boxes k) r.copies.items (λ t. sym (same t)) (record { no_wake = subst (WakesFrom from) (keeps.wakes k h) (keeps.quiet k h); no_copies = inbox_from n of worker from until motes taken arrived old keeps le come k }) in
+      goes_open n until r (motes k).state there (ap (node_at (tree_at n k)) (sym called.mote) ∙ keeps.nodes k h)
+      (λ moment next. past_later from moment (not_before from moment wake r.copies.items quiet next.comes) (motes k).state.last (keeps.behind k h))
+
+  -- nothing comes too late to the motes that are called
+  pub go_on : AreGoingOn n until residents
+  go_on = every_weaker (IsCalled calls old.motes.items) (ResidentGoesOn n until) one_goes_on residents leaves.called
 
   pub starts : (outs : List WindowOut) → GivesList n until residents outs → IsLeft old new → Coming n of worker from until motes (taken ++ arrived) boxes new outs []
   starts outs gives same = record {

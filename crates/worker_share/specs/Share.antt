@@ -5,7 +5,7 @@ use Rattle.std.specs.declared.alloc.Global.{Global}
 use Rattle.program_tree.specs.Code.{Tree}
 use Rattle.process_kernel.specs.declared.line.Line.{Line}
 use Rattle.mote_node.specs.declared.mote.Mote.{Mote}
-use Rattle.mote_node.specs.Node.{Node}
+use Rattle.mote_node.specs.Node.{Node, is_past}
 use Rattle.mote_node.specs.Public.{node_in}
 use Rattle.mote_node.specs.Wake.{wake_of}
 use Rattle.radio_packet.specs.declared.copy.RadioCopy.{RadioCopy}
@@ -43,7 +43,8 @@ pub record HasToCome (n : NetTold) (own home : ℕ → Bool) (from : ℕ) (motes
   pub copies : (s : ℕ) → filter (is_from_sender s) (packets items) ≡ filter (is_to_come own from) (copies_known (system_of n) own motes taken s)
 
 -- The share of a worker at a moment, before which nothing is to come, while some of its motes are at home: their nodes and wakes,
--- the lines and packets of all its motes so far, and the agenda. `taken` are all copies that ever came from other workers.
+-- the lines and packets of all its motes so far, and the agenda. No mote at home has failed, and the last turn of each was before that
+-- moment. `taken` are all copies that ever came from other workers.
 pub record IsShare (n : NetTold) (of : List ℕ) (worker : ℕ) (home : ℕ → Bool) (from : ℕ) (motes : Motes) (taken : List RadioCopy) (share : Share) : Type 0 where
   pub is_worker : share.worker ≡ worker
   pub places : length share.motes.items ≡ length n.motes
@@ -51,6 +52,7 @@ pub record IsShare (n : NetTold) (of : List ℕ) (worker : ℕ) (home : ℕ → 
   pub nodes : (k : ℕ) → home k ≡ true → node_at (tree_at n k) (mote_here share.motes.items k) ≡ Some (motes k).state
   pub wakes : (k : ℕ) → home k ≡ true → (motes k).wake ≡ wake_of (motes k).state
   pub quiet : (k : ℕ) → home k ≡ true → WakesFrom from (motes k).wake
+  pub behind : (k : ℕ) → home k ≡ true → is_past from (motes k).state.last ≡ false
   pub traces_kept : length share.traces.items ≡ length n.motes
   pub traces : (k : ℕ) → is_own of worker k ≡ true → (d : Vec Line Global) → (slice_index_or share.traces.items k d).items ≡ (motes k).lines
   pub log : (s : ℕ) → filter (is_sent_by s) share.log.items ≡ (if is_own of worker s then (motes s).sends else [])

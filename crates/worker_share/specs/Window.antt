@@ -43,3 +43,14 @@ pub record ComesIn (of : List ℕ) (worker from : ℕ) (copy : RadioCopy) : Type
   pub to : is_own of worker copy.to ≡ true
   pub sender : is_own of worker copy.sender ≡ false
   pub later : from ≤ copy.at
+
+-- The share can run through a window up to this bound: it is that of some worker at some moment, before which none of the copies
+-- comes that arrived from other workers.
+pub record CanRun (n : NetTold) (of : List ℕ) (until : ℕ) (share : Share) (arrived : List RadioCopy) : Type 0 where
+  pub worker : ℕ
+  pub from : ℕ
+  pub motes : Motes
+  pub taken : List RadioCopy
+  pub keeps : Keeps n of worker from motes taken share
+  pub order : from ≤ until
+  pub come : Each (ComesIn of worker from) arrived

@@ -13,8 +13,8 @@ ghost use Rattle.net_scenario.specs.Net.{NetTold, net_of};
 ghost use Rattle.net_agenda.specs.NetSystem.{system_of};
 ghost use Rattle.radio_packet.specs.declared.copy.RadioCopy.{RadioCopy as CopyOfCode};
 ghost use Rattle.worker_cut.specs.Crossed.{is_own, leaves};
-ghost use Rattle.worker_share.specs.Share.{Motes, Keeps, IsKept, mote_here};
-ghost use Rattle.worker_share.specs.Window.{ComesIn, GoesOut, RunsWindow};
+ghost use Rattle.worker_share.specs.Share.{Motes, Keeps, mote_here};
+ghost use Rattle.worker_share.specs.Window.{CanRun, ComesIn, GoesOut, RunsWindow};
 ghost use Rattle.worker_share.specs.Leaving.{wake_from, MotesLeave, HasNumber, IsOutOfNet, MoteReturns};
 
 use crate::calls::{CalledMotes, gather};
@@ -191,8 +191,7 @@ impl Share {
     /// each mote. The time goes with the turns of the window and the copies that it takes and makes, and not with the motes.
     ///
     /// # Errors
-    /// `Memory`, and `Thread` where the executor answered an error. A mote that gives no turn is told as `Memory`: its turns come
-    /// at rising moments, so it found none.
+    /// `Memory`, and `Thread` where the executor answered an error.
     pub fn run_window<R, G>(
         &mut self,
         rt: &R,
@@ -207,7 +206,7 @@ impl Share {
         G: Gate,
         requires early { until ≤ 2 ^ 40 }
         requires of { length of.now ≡ length (net_of net.now).motes }
-        requires kept { IsKept (net_of net.now) of.now self.old }
+        requires ready { CanRun (net_of net.now) of.now until self.old arrived.items }
         requires to_own { AllByRecursion (λ copy. is_own of.now self.old.worker copy.to ≡ true) arrived.items }
         ensures window { let n = net_of net.now in IfOk result (λ sent. (worker from : ℕ) (motes : Motes) (taken : List CopyOfCode) → Keeps n of.now worker from motes taken self.old
             → from ≤ until → until ≤ from + (system_of n).lookahead → AllByRecursion (ComesIn of.now worker from) arrived.items

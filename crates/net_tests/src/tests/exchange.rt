@@ -4,11 +4,9 @@ ghost use Rattle.std.specs.Prelude.{◌≡◌, ◌≤◌, ◌+◌, length, IfOk}
 ghost use Rattle.std.specs.List.{AllByRecursion as Each};
 ghost use Rattle.copy_inbox.specs.Handles.{TakerView};
 ghost use Rattle.copy_exchange.specs.Couriers.{IsCourier, SetsOut, Returns};
-ghost use Rattle.copy_exchange.specs.Inboxes.{IsPlain, Settled};
+ghost use Rattle.copy_exchange.specs.Inboxes.{IsPlain, IsSettled, Settled};
 
-use copy_exchange::{
-    Courier, close_inboxes, couriers, gathered, known, make_inboxes, paired, parted,
-};
+use copy_exchange::{Courier, couriers, gathered, known, make_inboxes, paired, parted};
 use copy_inbox::{Inbox, InboxError, Taker};
 use radio_packet::RadioCopy;
 use std::alloc::Global;
@@ -89,8 +87,23 @@ fn known_in(inboxes: &[Inbox], takers: &[Taker]) -> (u64, u64)
     )
 }
 
+/// What is left in the inboxes when they end.
+fn closed<R: Wait>(
+    rt: &R,
+    alloc: Global,
+    pairs: Vec<(Inbox, Taker)>,
+) -> Result<Vec<RadioCopy>, InboxError>
+    requires settled { Each (λ pair. IsSettled pair.0 pair.1) pairs.items }
+{
+    let mut copies = Vec::new(alloc);
+    for (inbox, taker) in pairs {
+        copies.append(&mut inbox.close(rt, taker)?)?;
+    }
+    Ok(copies)
+}
+
 /// What is delivered in one window is taken in the next, and nothing else: not what the other worker delivers
-/// there before.
+/// there before. What is delivered in the last one is left.
 #[test]
 fn two_windows(rt: HostRuntime) -> Result<(), Fail> {
     let alloc = rt.alloc();
@@ -108,6 +121,7 @@ fn two_windows(rt: HostRuntime) -> Result<(), Fail> {
     assert_eq!(rt; to_first.as_slice(), [copy(1, 0)].as_slice());
     assert_eq!(rt; to_second.as_slice(), [copy(0, 0), copy(0, 1)].as_slice());
     assert_eq!(rt; known_in(&inboxes, &takers), (0, 1));
-    close_inboxes(&rt, paired(alloc, inboxes, takers)?)?;
+    let left = closed(&rt, alloc, paired(alloc, inboxes, takers)?)?;
+    assert_eq!(rt; left.as_slice(), [copy(0, 2)].as_slice());
     Ok(())
 }

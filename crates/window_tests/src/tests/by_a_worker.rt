@@ -1,12 +1,12 @@
 //! The windows of two motes of one worker.
 
-ghost use Rattle.std.specs.Prelude.{◌≡◌, ◌≤◌, ◌<◌, true, length, IfOk};
+ghost use Rattle.std.specs.Prelude.{◌≡◌, ◌≤◌, ◌<◌, ℕ, true, length, IfOk};
 ghost use Rattle.net_scenario.specs.Net.{net_of};
-ghost use Rattle.window_run.specs.Shares.{AreInNet};
+ghost use Rattle.window_run.specs.Shares.{AreGoingOn, AreInNet, ResidentGoesOn};
 ghost use Rattle.window_run.specs.Window.{is_rising};
 
 use super::{write_lines, write_sends};
-use mote_node::{Mote, MoteError};
+use mote_node::Mote;
 use net_scenario::{Net, read_scenario};
 use radio_packet::RadioCopy;
 use std::alloc::{AllocError, Global};
@@ -31,12 +31,15 @@ fn resident(
     net: &Net,
     number: u16,
     copies: Vec<RadioCopy>,
-) -> Result<Resident, MoteError>
+) -> Result<Resident, ShareError>
     requires there { number < length (net_of net.now).motes }
     requires rising { is_rising copies.items ≡ true }
-    ensures { IfOk result (λ resident. resident.number ≡ number) }
+    ensures number { IfOk result (λ resident. resident.number ≡ number) }
+    ensures goes_on { IfOk result (λ resident. (until : ℕ) → ResidentGoesOn (net_of net.now) until resident) }
 {
-    let mote = Mote::new(alloc, number, net.program(number), 32)?;
+    let Ok(mote) = Mote::new(alloc, number, net.program(number), 32) else {
+        return Err(ShareError::Memory);
+    };
     Ok(Resident {
         number,
         mote,
@@ -48,7 +51,8 @@ fn resident(
 fn share_of_two(alloc: Global, net: &Net, copies: Vec<RadioCopy>) -> Result<Residents, ShareError>
     requires there { 2 ≤ length (net_of net.now).motes }
     requires rising { is_rising copies.items ≡ true }
-    ensures { IfOk result (λ share. AreInNet (net_of net.now) share.residents.items) }
+    ensures there { IfOk result (λ share. AreInNet (net_of net.now) share.residents.items) }
+    ensures go_on { IfOk result (λ share. (until : ℕ) → AreGoingOn (net_of net.now) until share.residents.items) }
 {
     let mut residents = Vec::with_capacity(alloc, 2)?;
     residents.push_reserved(resident(alloc, net, 0, Vec::new(alloc))?);

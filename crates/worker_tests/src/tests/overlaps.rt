@@ -1,4 +1,5 @@
-//! That polls of workers overlap in time, shown by gates at which they wait for one another.
+//! That turns of workers overlap in time, shown by gates at which they wait for one another. The gate is called inside a turn, so
+//! a lock that is held round each turn lets none of them meet.
 
 use super::cuts::blocks;
 use super::{BUSY_PAIR, BUSY_TRIO, is_of_one_thread, same_by_workers};
@@ -14,13 +15,12 @@ use std::thread::Threads;
 use window_run::Gate;
 use window_workers::run_inboxes;
 
-/// Each poll with a turn of one worker waits before the turn, for a while, until the other worker is there in a poll with a turn of the
-/// same moment.
+/// Each turn of one worker waits, for a while, until the other worker is inside its turn of the same moment.
 #[derive(Drop)]
 struct Meeting {
     /// Whether a worker came to its turn of a moment: at 2 * moment + worker.
     inside: [AtomicU64; 6],
-    /// How often the other worker was seen there before that turn.
+    /// How often the other worker was seen there from inside that turn.
     seen: [AtomicU64; 6],
 }
 
@@ -62,7 +62,7 @@ impl Gate for Meeting {
     }
 }
 
-/// Whether in each of the three windows each worker, which has one turn there, saw the other one come before it took its turn.
+/// Whether in each of the three windows each worker, which has one turn there, saw the other one inside its turn.
 fn all_met(gate: &Meeting) -> bool {
     let mut met = true;
     for seen in &gate.seen {
@@ -84,7 +84,7 @@ where
 }
 
 #[test]
-fn polls_of_workers_overlap(rt: HostRuntime) -> Result<(), Fail> {
+fn turns_of_workers_overlap(rt: HostRuntime) -> Result<(), Fail> {
     let net = read_scenario(rt.alloc(), BUSY_PAIR)?;
     assert!(rt; two_meet(&rt, &net)?);
     Ok(())
@@ -105,13 +105,13 @@ where
 }
 
 #[test]
-fn polls_overlap_with_inboxes(rt: HostRuntime) -> Result<(), Fail> {
+fn turns_overlap_with_inboxes(rt: HostRuntime) -> Result<(), Fail> {
     let net = read_scenario(rt.alloc(), BUSY_PAIR)?;
     assert!(rt; two_meet_with_inboxes(&rt, &net)?);
     Ok(())
 }
 
-/// Each of three workers waits before its turn of a moment, for a while, until all three came to theirs.
+/// Each of three workers waits inside its turn of a moment, for a while, until all three came to theirs.
 #[derive(Drop)]
 struct Rendezvous {
     /// How many workers came to their turn of a moment.
@@ -165,7 +165,7 @@ where
 }
 
 #[test]
-fn polls_of_three_workers_overlap(rt: HostRuntime) -> Result<(), Fail> {
+fn turns_of_three_workers_overlap(rt: HostRuntime) -> Result<(), Fail> {
     let net = read_scenario(rt.alloc(), BUSY_TRIO)?;
     assert!(rt; three_meet(&rt, &net)?);
     Ok(())

@@ -13,8 +13,8 @@ loop-slot-preserved g c = record {
   done = rest_done is_done (into_iter_items c.loop-slot.slot-iterator) c.in-Some.slot (into_iter_items c.next.new.self) c.in-Some.ensures.steps.0 c.loop-slot.invariant.done;
 }
 
-pub returns : goal.returns
-returns g c =
+pub returns-clause-given : goal.returns-clause-given
+returns-clause-given g c =
     let rest = c.into_iter-slot-iterator.ensures.into_iter_gives in
     let len : vec_len c.args.slots ≡ length c.args.slots.items = search rules in
     let end = YieldsList-end (YieldsList-from_vec c.args.slots.items rest.0 (rest.1 ∙ len)) c.loop-slot.yielded c.loop-slot.slot-iterator c.loop-slot.yielded_by c.next.result c.next.new.self c.in-None.is c.next.ensures.steps in

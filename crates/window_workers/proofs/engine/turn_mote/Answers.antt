@@ -5,8 +5,8 @@ use Rattle.mote_node.specs.Public.{node_in}
 use Rattle.mote_node.specs.Turn.{turn_of}
 use Rattle.window_workers.proofs.engine.turn_mote.Goals as goal
 
-pub returns : goal.returns
-returns c =
+pub returns-in-Ok : goal.returns-in-Ok
+returns-in-Ok c =
     let xs = c.args.motes.now.items in
     let old = c.index_mut.result.now in
     let tree = tree_of c.args.program.now in

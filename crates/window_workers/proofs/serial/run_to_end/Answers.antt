@@ -7,6 +7,7 @@ use Rattle.window_law.specs.NetStep.{turn_at}
 use Rattle.window_law.proofs.Ahead.{turn_ahead}
 use Rattle.net_agenda.proofs.Ranks.{left_falls}
 use Rattle.net_agenda.proofs.Systems.{system_is}
+use Rattle.window_workers.proofs.OnTime.{least_can_turn}
 use Rattle.window_workers.proofs.Reached.{reached_first, reached_next, inside_least, ended_past, ended_empty}
 use Rattle.window_workers.proofs.serial.run_to_end.Goals as goal
 
@@ -17,6 +18,15 @@ pub turn-requires-clause-there : goal.turn-requires-clause-there
 turn-requires-clause-there c =
     let at = c.turns.invariant.reached in
     inside_least (net_of c.args.net.now) c.in-Some.moment c.in-Some.number at.state at.kept (c.in-Some.ensures.least at.state.agenda at.stands.agenda)
+
+pub turn-requires-clause-ready : goal.turn-requires-clause-ready
+turn-requires-clause-ready c =
+    let n = net_of c.args.net.now in
+    let at = c.turns.invariant.reached in
+    let t = c.in-Some.moment in
+    let m = c.in-Some.number in
+    let least = c.in-Some.ensures.least at.state.agenda at.stands.agenda in
+    least_can_turn n at.at t m c.turns.engine at.state at.stands at.on_time least (inside_least n t m at.state at.kept least)
 
 pub turns-smaller : goal.turns-smaller
 unfolding system_of

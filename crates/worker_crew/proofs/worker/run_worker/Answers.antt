@@ -9,6 +9,9 @@ use Rattle.worker_crew.proofs.Working.{arrived_have, leaves_sent}
 use Rattle.worker_crew.specs.Worker.{IsFirstOf}
 use Rattle.worker_crew.proofs.worker.run_worker.Goals as goal
 
+pub run_window-ran-requires-clause-ready : goal.run_window-ran-requires-clause-ready
+run_window-ran-requires-clause-ready g c = c.requires.takes_in c.collect.new.self c.in-Ok.arrived.items c.in-Ok.ensures.collects
+
 pub run_window-ran-requires-clause-to_own : goal.run_window-ran-requires-clause-to_own
 run_window-ran-requires-clause-to_own g c =
     arrived_have (λ (copy : RadioCopy). is_own c.args.window.now.of.now c.args.worker.share.worker copy.to ≡ true) c.args.worker.courier c.collect.new.self c.in-Ok.arrived.items c.in-Ok.ensures.collects

@@ -1,19 +1,15 @@
-use Rattle.std.proofs.Common.{◌≡◌, List, [], ◌∷◌, map, sym, ap, ◌∙◌, subst, inr}
+use Rattle.std.proofs.Common.{◌≡◌, List, [], ◌∷◌, map, sym, ap, ◌∙◌, subst}
 use Rattle.std.specs.List.{AllByRecursion as Each, zip}
-use Rattle.copy_inbox.specs.Handles.{InboxId, TakerView, AllGathered, NoMarkLeft}
-use Rattle.copy_exchange.specs.Inboxes.{IsPlain, Settled}
-use Rattle.copy_exchange.proofs.Lists.{each_map}
+use Rattle.copy_inbox.specs.Handles.{InboxId, TakerView}
+use Rattle.copy_exchange.specs.Inboxes.{IsPlain, IsSettled, Settled}
 use Rattle.copy_exchange.proofs.Windows.{fresh_settled}
 use Rattle.net_tests.proofs.tests.exchange.two_windows.Goals as goal
 
-abbrev Ended : InboxId × TakerView → Type 0
-Ended pair = (pair.1.inbox ≡ pair.0) × AllGathered pair.1.desk × NoMarkLeft pair.1.desk
-
-ended : (inboxes : List InboxId) (takers : List TakerView) → Settled inboxes takers → Each Ended (zip inboxes takers)
-ended [] [] h = tt
-ended (i ∷ is) (t ∷ ts) h = ((h.0.its, h.0.all, inr h.0.no_mark), ended is ts h.1)
-ended [] (t ∷ ts) h = absurd h
-ended (i ∷ is) [] h = absurd h
+settled_pairs : (inboxes : List InboxId) (takers : List TakerView) → Settled inboxes takers → Each (λ pair. IsSettled pair.0 pair.1) (zip inboxes takers)
+settled_pairs [] [] h = tt
+settled_pairs (i ∷ is) (t ∷ ts) h = (h.0, settled_pairs is ts h.1)
+settled_pairs [] (t ∷ ts) h = absurd h
+settled_pairs (i ∷ is) [] h = absurd h
 
 pub a_window-requires-clause-settled : goal.a_window-requires-clause-settled
 a_window-requires-clause-settled g c =
@@ -31,23 +27,8 @@ pub a_window-requires-clause-plain : goal.a_window-requires-clause-plain
 a_window-requires-clause-plain g c =
     subst (λ (l : List TakerView). Each IsPlain l) (sym c.in_ok-inboxes.ensures.takers) (plain_takers c.in_ok-make_inboxes.field-0.items c.in_ok-make_inboxes.ensures.marked)
 
-pub close_inboxes-requires-clause-inbox : goal.close_inboxes-requires-clause-inbox
-close_inboxes-requires-clause-inbox g c =
+pub closed-requires : goal.closed-requires
+closed-requires g c =
     let settled = subst (λ (l : List InboxId). Settled l c.in_ok-takers-2.takers.items) c.deref-4.ensures.value c.in_ok-takers-2.ensures.settled in
-    let all = ended c.in_ok-inboxes.inboxes.items c.in_ok-takers-2.takers.items settled in
-    let P : List (InboxId × TakerView) → Type 0 = λ l. Each (λ pair. pair.1.inbox ≡ pair.0) l in
-    subst P (sym c.in_ok-paired.ensures) (each_map Ended (λ pair. pair.1.inbox ≡ pair.0) (zip c.in_ok-inboxes.inboxes.items c.in_ok-takers-2.takers.items) (λ pair h. h.0) all)
-
-pub close_inboxes-requires-clause-gathered : goal.close_inboxes-requires-clause-gathered
-close_inboxes-requires-clause-gathered g c =
-    let settled = subst (λ (l : List InboxId). Settled l c.in_ok-takers-2.takers.items) c.deref-4.ensures.value c.in_ok-takers-2.ensures.settled in
-    let all = ended c.in_ok-inboxes.inboxes.items c.in_ok-takers-2.takers.items settled in
-    let P : List (InboxId × TakerView) → Type 0 = λ l. Each (λ pair. AllGathered pair.1.desk) l in
-    subst P (sym c.in_ok-paired.ensures) (each_map Ended (λ pair. AllGathered pair.1.desk) (zip c.in_ok-inboxes.inboxes.items c.in_ok-takers-2.takers.items) (λ pair h. h.1) all)
-
-pub close_inboxes-requires-clause-no_mark : goal.close_inboxes-requires-clause-no_mark
-close_inboxes-requires-clause-no_mark g c =
-    let settled = subst (λ (l : List InboxId). Settled l c.in_ok-takers-2.takers.items) c.deref-4.ensures.value c.in_ok-takers-2.ensures.settled in
-    let all = ended c.in_ok-inboxes.inboxes.items c.in_ok-takers-2.takers.items settled in
-    let P : List (InboxId × TakerView) → Type 0 = λ l. Each (λ pair. NoMarkLeft pair.1.desk) l in
-    subst P (sym c.in_ok-paired.ensures) (each_map Ended (λ pair. NoMarkLeft pair.1.desk) (zip c.in_ok-inboxes.inboxes.items c.in_ok-takers-2.takers.items) (λ pair h. h.2) all)
+    let P : List (InboxId × TakerView) → Type 0 = λ l. Each (λ pair. IsSettled pair.0 pair.1) l in
+    record { settled = subst P (sym c.in_ok-paired.ensures) (settled_pairs c.in_ok-inboxes.inboxes.items c.in_ok-takers-2.takers.items settled) }

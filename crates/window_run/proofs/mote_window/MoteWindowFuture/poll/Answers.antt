@@ -1,4 +1,4 @@
-use Rattle.window_run.proofs.Polls.{at_rest, before_turn}
+use Rattle.window_run.proofs.Polls.{at_refusal, at_rest, before_turn}
 use Rattle.window_run.proofs.mote_window.MoteWindowFuture.poll.Goals as goal
 
 pub returns-in_default-next_moment-clause-value : goal.returns-in_default-next_moment-clause-value
@@ -6,3 +6,6 @@ returns-in_default-next_moment-clause-value g c = at_rest c.args.self.now.own c.
 
 pub returns-clause-same : goal.returns-clause-same
 returns-clause-same g c = rw c.yield_now.ensures.pending (before_turn c.args.self.now.own c.in-Some.own c.turn.new.self c.in-Some-next_moment.moment c.in-Some.ensures.value c.in-Some-next_moment.ensures.next c.in_default-turn.ensures.ok)
+
+pub returns-in-Err-clause-value : goal.returns-in-Err-clause-value
+returns-in-Err-clause-value g c = at_refusal c.args.self.now.own c.in-Some.own c.in-Some-next_moment.moment c.in-Err.e c.in-Some.ensures.value c.in-Some-next_moment.ensures.next c.in-Err.ensures.err

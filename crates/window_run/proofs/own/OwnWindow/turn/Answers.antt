@@ -13,7 +13,7 @@ use Rattle.window_run.proofs.own.OwnWindow.turn.Goals as goal
 
 pub returns-clause-ok : goal.returns-clause-ok
 unfolding window_in
-returns-clause-ok c =
+returns-clause-ok g c =
     let s = c.args.self.now in
     let t = tree_of s.program.now in
     let out = c.in_ok-out.out in

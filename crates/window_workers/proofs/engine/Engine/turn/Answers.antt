@@ -1,4 +1,4 @@
-use Rattle.std.proofs.Common.{◌≡◌, ◌∙◌, ap, not, map, get_or, List, ◌++◌}
+use Rattle.std.proofs.Common.{◌≡◌, ◌∙◌, ap, sym, subst, not, map, get_or, List, ◌++◌}
 use Rattle.std.specs.List.{filter, flat_map}
 use Rattle.program_tree.specs.Code.{Tree}
 use Rattle.program_tree.specs.Program.{tree_of}
@@ -13,8 +13,15 @@ use Rattle.net_report.specs.Report.{told_line}
 use Rattle.window_workers.specs.NetRun.{packet_with_fates}
 use Rattle.window_law.specs.NetStep.{stamped}
 use Rattle.net_agenda.proofs.Systems.{tree_is}
+use Rattle.window_workers.specs.OnTime.{CanTurn}
 use Rattle.window_workers.proofs.Steps.{stands_turn, wake_to_drop, sent_of}
 use Rattle.window_workers.proofs.engine.Engine.turn.Goals as goal
+
+pub turn_mote-requires-clause-ready : goal.turn_mote-requires-clause-ready
+turn_mote-requires-clause-ready c = λ d.
+    let n = net_of c.args.net.now in
+    let P : Tree → Type 0 = λ t. CanTurn c.args.moment (node_in t (get_or c.args.self.now.motes.items c.args.number d)) in
+    subst P (sym (tree_is n.motes c.args.number (tree_of c.program.result.now) c.program.ensures)) (c.requires.ready d)
 
 pub returns-clause-stands : goal.returns-clause-stands
 returns-clause-stands c = λ state at kept.

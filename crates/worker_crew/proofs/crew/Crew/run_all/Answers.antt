@@ -7,7 +7,7 @@ pub run_together-requires-after_bounds : goal.run_together-requires-after_bounds
 run_together-requires-after_bounds g c κs within =
     let together = rw c.deref.ensures.value at c.in-Ok.ensures.together in
     rw (c.deref-2.ensures.value, c.in_ok-workers.ensures)
-    (ready (net_of c.args.net.now) c.args.of.now c.requires.stands.0 c.args.until c.args.self c.requires.stands.1 c.requires.early c.requires.plain c.in-Ok.couriers.items together c.in-Ok.ensures.set_out)
+    (ready (net_of c.args.net.now) c.args.of.now c.requires.stands.0 c.args.until c.args.self c.requires.stands.1 c.requires.stands.2 c.requires.early c.requires.plain c.in-Ok.couriers.items together c.in-Ok.ensures.set_out)
 
 pub gathered-requires : goal.gathered-requires
 gathered-requires g c =

@@ -13,40 +13,49 @@ use Rattle.worker_share.specs.Window.{GoesOut}
 use Rattle.worker_share.specs.Leaving.{HasNumber, MoteReturns}
 use Rattle.worker_share.proofs.Parts.{inbox, inbox_is}
 use Rattle.worker_share.proofs.Comings.{Coming, IsFitOwn, fits, go_out, one_back, all_back}
-use Rattle.worker_share.proofs.Starts.{starts}
-use Rattle.worker_share.proofs.Fits.{called_here, in_net, all_fit, every_split}
+use Rattle.worker_share.proofs.Starts.{starts, go_on}
+use Rattle.worker_share.proofs.Fits.{kept_of, called_here, in_net, all_fit, every_split}
 use Rattle.worker_share.proofs.share.Share.run_window.Goals as goal
 
 pub gather-requires : goal.gather-requires
 gather-requires g c =
-    let kept = c.requires.kept.keeps in record {
+    let kept = c.requires.ready.keeps in record {
       items = kept.agenda.items ++ map Packet c.args.arrived.items;
       holds = subst (λ l. Holds c.put_copies.new.self.buckets (kept.agenda.items ++ map Packet l)) c.deref.ensures.value (c.in_ok-put_copies.ensures kept.agenda.items kept.agenda.holds);
     }
 
 pub leave-requires-clause-here : goal.leave-requires-clause-here
 leave-requires-clause-here g c =
-    let kept = c.requires.kept.keeps in
+    let kept = c.requires.ready.keeps in
     let base = subst (λ l. Holds c.put_copies.new.self.buckets (kept.agenda.items ++ map Packet l)) c.deref.ensures.value (c.in_ok-put_copies.ensures kept.agenda.items kept.agenda.holds) in
-    called_here (net_of c.args.net.now) c.args.of.now c.args.self.now c.requires.kept c.args.arrived.items c.requires.to_own c.requires.of c.args.until c.in_ok-calls.calls.copies (c.in_ok-calls.ensures.gathered _ base)
+    called_here (net_of c.args.net.now) c.args.of.now c.args.self.now (kept_of c.requires.ready) c.args.arrived.items c.requires.to_own c.requires.of c.args.until c.in_ok-calls.calls.copies (c.in_ok-calls.ensures.gathered _ base)
 
 pub leave-requires-clause-rising : goal.leave-requires-clause-rising
 leave-requires-clause-rising g c = λ k copies e.
-    let kept = c.requires.kept.keeps in
+    let kept = c.requires.ready.keeps in
     let base = subst (λ l. Holds c.put_copies.new.self.buckets (kept.agenda.items ++ map Packet l)) c.deref.ensures.value (c.in_ok-put_copies.ensures kept.agenda.items kept.agenda.holds) in
     ((c.in_ok-calls.ensures.gathered _ base).copies k copies e).rising
 
 pub run_share-requires-clause-there : goal.run_share-requires-clause-there
 run_share-requires-clause-there g c =
-    let kept = c.requires.kept.keeps in
+    let kept = c.requires.ready.keeps in
     let base = subst (λ l. Holds c.put_copies.new.self.buckets (kept.agenda.items ++ map Packet l)) c.deref.ensures.value (c.in_ok-put_copies.ensures kept.agenda.items kept.agenda.holds) in
-    in_net (net_of c.args.net.now) c.args.of.now c.args.self.now c.requires.kept c.args.arrived.items c.requires.to_own c.requires.of c.args.until c.in_ok-calls.calls.copies (c.in_ok-calls.ensures.gathered _ base)
-    c.leave.new.motes.items c.gather.new.agenda.buckets c.leave.new.agenda.buckets c.in_ok-residents.residents.items c.in_ok-residents.ensures
+    in_net (net_of c.args.net.now) c.args.of.now c.args.self.now (kept_of c.requires.ready) c.args.arrived.items c.requires.to_own c.requires.of c.args.until c.in_ok-calls.calls.copies (c.in_ok-calls.ensures.gathered _ base)
+    c.leave.new.motes.items c.gather.new.agenda.buckets c.leave.new.agenda.buckets c.in_ok-residents.residents.items c.in_ok-residents.ensures c.requires.ready.order
+
+pub run_share-requires-clause-go_on : goal.run_share-requires-clause-go_on
+run_share-requires-clause-go_on g c =
+    let n = net_of c.args.net.now in
+    let r = c.requires.ready in
+    let at = subst (λ l. Holds c.put_copies.new.self.buckets (r.keeps.agenda.items ++ map Packet l)) c.deref.ensures.value (c.in_ok-put_copies.ensures r.keeps.agenda.items r.keeps.agenda.holds) in
+    let share : Share = record c.args.self.now { motes = c.leave.new.motes; agenda = c.leave.new.agenda } in
+    go_on n c.args.of.now r.worker r.from c.args.until r.motes r.taken c.args.arrived.items c.args.self.now share r.keeps r.order r.come c.requires.of c.in_ok-calls.calls.copies c.gather.new.agenda.buckets
+    c.in_ok-residents.residents.items (c.in_ok-calls.ensures.gathered _ at) (c.in_ok-calls.ensures.rest _ at) c.in_ok-residents.ensures
 
 pub loop-out-init : goal.loop-out-init
 loop-out-init g c =
     let n = net_of c.args.net.now in
-    let kept = c.requires.kept.keeps in
+    let kept = c.requires.ready.keeps in
     let base = subst (λ l. Holds c.put_copies.new.self.buckets (kept.agenda.items ++ map Packet l)) c.deref.ensures.value (c.in_ok-put_copies.ensures kept.agenda.items kept.agenda.holds) in
     let left = c.in_ok-residents.ensures in
     let share : Share = record c.args.self.now { motes = c.leave.new.motes; agenda = c.leave.new.agenda } in
@@ -55,8 +64,8 @@ loop-out-init g c =
       traces = kept.traces_kept;
       worker = refl;
       fits =
-          all_fit n c.args.of.now c.args.self.now c.requires.kept c.args.arrived.items c.requires.to_own c.requires.of c.args.until c.in_ok-calls.calls.copies (c.in_ok-calls.ensures.gathered _ base)
-          c.leave.new.motes.items c.gather.new.agenda.buckets c.leave.new.agenda.buckets c.in_ok-residents.residents.items left c.in_ok-outs.outs.items c.in_ok-outs.ensures;
+          all_fit n c.args.of.now c.args.self.now (kept_of c.requires.ready) c.args.arrived.items c.requires.to_own c.requires.of c.args.until c.in_ok-calls.calls.copies (c.in_ok-calls.ensures.gathered _ base)
+          c.leave.new.motes.items c.gather.new.agenda.buckets c.leave.new.agenda.buckets c.in_ok-residents.residents.items left c.requires.ready.order c.in_ok-outs.outs.items c.in_ok-outs.ensures;
       go_out = subst (AllByRecursion (GoesOut n c.args.of.now c.args.self.now.worker)) (sym c.new-away.ensures.items) tt;
       coming = λ worker from motes taken keeps le short come.
           let at = subst (λ l. Holds c.put_copies.new.self.buckets (keeps.agenda.items ++ map Packet l)) c.deref.ensures.value (c.in_ok-put_copies.ensures keeps.agenda.items keeps.agenda.holds) in

@@ -1,0 +1,17 @@
+-- To a new mote nothing comes too late.
+use Rattle.std.proofs.Common.{◌≡◌, ℕ, List, Option, Some, None, refl, option_map}
+use Rattle.std.specs.Prelude.{IfSome}
+use Rattle.program_tree.specs.Code.{Tree}
+use Rattle.mote_node.specs.declared.mote.Mote.{Mote}
+use Rattle.mote_node.specs.Node.{new_node}
+use Rattle.mote_node.specs.Public.{node_in}
+use Rattle.radio_packet.specs.declared.copy.RadioCopy.{RadioCopy}
+use Rattle.net_scenario.specs.Net.{MoteTold}
+use Rattle.window_run.specs.Window.{opened}
+use Rattle.window_run.specs.Turns.{CanGoOn}
+
+pub new_goes_on : (o : Option MoteTold) (t : Tree) (until number queue : ℕ) (copies : List RadioCopy) (mote : Mote) → option_map (λ (m : MoteTold). m.tree) o ≡ Some t → node_in t mote ≡ Some (new_node t number queue)
+    → IfSome o (λ m. CanGoOn (opened m.tree until copies (node_in m.tree mote)))
+unfolding new_node
+new_goes_on None t until number queue copies mote e f = tt
+new_goes_on (Some m) t until number queue copies mote e f = let g : m.tree ≡ t = cc in rw (g, f) (λ moment next. refl)
