@@ -9,9 +9,9 @@ NOT_PLAIN = ('&', '*', '[', '(', '!', 'dyn', 'fn')
 
 
 class Function(NamedTuple):
-    """The first and the last line of a function's body, from 0; its path as a check prints it, of a method from its type on; and the
-    cycle of calls that it says it is in. The path of a trait's method is made of the names of the type and the trait, and is a guess
-    where the type is no plain one."""
+    """The first and the last line of a function's body, from 0; its path as a check prints it, of a method from its type on;
+    and the cycle of calls that it says it is in. The path of a trait's method is made of the names of the type and the
+    trait, and is a guess where the type is no plain one."""
     first: int
     last: int
     path: str
@@ -76,7 +76,7 @@ def between_commas(words):
 
 
 def parameter_of(words):
-    """The name of an impl's parameter, which stands before its bounds, as T of T: Read + Drop, and N of const N: usize."""
+    """The name of an impl's parameter, which stands before its bounds, as T of T: Read, and N of const N: usize."""
     return words[1] if words[0] == 'const' else words[0]
 
 
