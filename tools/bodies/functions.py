@@ -93,12 +93,15 @@ def before_where(head):
 
 
 def owner_of(head):
-    """What the functions of an impl have before their names, and whether that is a guess."""
+    """What the functions of an impl have before their names, and whether that is a guess. A check counts `drop` among the
+    type's own."""
     parameters, head = without_generics(head)
     head = before_where(head)
     if 'for' not in head:
         return (names_in(head) or [''])[0], False
     cut = head.index('for')
+    if names_in(head[:cut]) == ['Drop']:
+        return names_in(head[cut + 1:])[0], False
     names = [name for name in names_in(head[cut + 1:]) + names_in(head[:cut]) if name not in parameters]
     is_guess = any(word in NOT_PLAIN for word in head)
     return ''.join(name[:1].upper() + name[1:] for name in names), is_guess

@@ -46,6 +46,10 @@ class FunctionsOfAFile(unittest.TestCase):
         text = 'impl<F: Fn(u8) -> u8, const N: usize, A = Global> Read for Ring<F, N, A> {\nfn read() {\n1\n}\n}'
         self.assertEqual(functions(text), [Function(2, 2, 'RingRead::read')])
 
+    def test_drop_is_the_types_own(self):
+        text = "impl<R, G: Gate> Drop for Runner<'_, R, G> {\nfn drop(self) {\n1\n}\n}"
+        self.assertEqual(functions(text), [Function(2, 2, 'Runner::drop')])
+
     def test_method_of_a_type_that_is_not_plain_is_a_guess(self):
         heads = ['Rank for &u8', 'From<[u8; 2]> for Pair', 'Rank for Box<dyn Gate>']
         owners = [('U8Rank', True), ('PairFromU8', True), ('BoxGateRank', True)]
