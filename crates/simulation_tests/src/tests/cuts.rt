@@ -15,10 +15,15 @@ const FOUR_MOTES: &str =
     "version = 1\nend = 5\n[medium]\nrange = 10\nbase = 1\nper = 100\n[programs]\np = \"process a; autostart a; code a { body { print 1; yield; print 2; } }\"\n[[mote]]\nx = 0\ny = 0\nprogram = \"p\"\n[[mote]]\nx = 20\ny = 0\nprogram = \"p\"\n[[mote]]\nx = 40\ny = 0\nprogram = \"p\"\n[[mote]]\nx = 60\ny = 0\nprogram = \"p\"\n";
 
 /// Counts the turns of four motes by two workers.
-#[derive(Drop)]
 struct Turns {
     /// Those that worker w took of mote m, at 4 * w + m.
     seen: [AtomicU64; 8],
+}
+
+impl Drop for Turns {
+    fn drop(self) {
+        let Turns { seen: _ } = self;
+    }
 }
 
 impl Turns {
