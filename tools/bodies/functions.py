@@ -3,11 +3,15 @@ from typing import NamedTuple, Optional
 
 ITEMS = ('fn', 'mod', 'trait')
 NO_NAMES = ('mut', 'const', 'dyn', 'fn')
+OPENING, CLOSING = ('<', '(', '[', '{'), ('>', ')', ']', '}')
+# What no plain type has: a check has names of its own for a reference, a slice, a tuple and the like.
+NOT_PLAIN = ('&', '*', '[', '(', '!', 'dyn', 'fn')
 
 
 class Function(NamedTuple):
-    """The first and the last line of a function's body, from 0; its path as a check prints it, of a method from its type on; and the cycle
-    of calls that it says it is in. The path of a trait's method is a guess, made of the names of the type and the trait."""
+    """The first and the last line of a function's body, from 0; its path as a check prints it, of a method from its type on;
+    and the cycle of calls that it says it is in. The path of a trait's method is made of the names of the type and the
+    trait, and is a guess where the type is no plain one."""
     first: int
     last: int
     path: str
@@ -43,34 +47,64 @@ def names_in(words):
                 names.pop()
             before = ''
             continue
-        if word.isidentifier() and before != "'" and word not in NO_NAMES:
+        if word.isidentifier() and word not in NO_NAMES:
             names.append(word)
         before = word
     return names
+
+
+def depths(words):
+    """How many brackets are open behind each word; the sign > of an arrow closes none."""
+    depth, before = 0, ''
+    for word in words:
+        if word in CLOSING and not (word == '>' and before == '-'):
+            depth -= 1
+        depth += word in OPENING
+        before = word
+        yield depth
+
+
+def between_commas(words):
+    """The words of each part of a list."""
+    parts = [[]]
+    for word, depth in zip(words, depths(words)):
+        if word == ',' and not depth:
+            parts.append([])
+        else:
+            parts[-1].append(word)
+    return [part for part in parts if part]
+
+
+def parameter_of(words):
+    """The name of an impl's parameter, which stands before its bounds, as T of T: Read, and N of const N: usize."""
+    return words[1] if words[0] == 'const' else words[0]
 
 
 def without_generics(head):
     """The names of an impl's parameters, and its head behind them."""
     if head[:1] != ['<']:
         return [], head
-    depth = 0
-    for at, word in enumerate(head):
-        depth += (word == '<') - (word == '>')
-        if not depth:
-            return names_in(head[1:at]), head[at + 1:]
-    return [], head
+    end = list(depths(head)).index(0)
+    return [parameter_of(part) for part in between_commas(head[1:end])], head[end + 1:]
+
+
+def before_where(head):
+    return head[:head.index('where')] if 'where' in head else head
 
 
 def owner_of(head):
-    """What the functions of an impl have before their names, and whether that is a guess."""
+    """What the functions of an impl have before their names, and whether that is a guess. A check counts `drop` among the
+    type's own."""
     parameters, head = without_generics(head)
-    if 'where' in head:
-        head = head[:head.index('where')]
+    head = before_where(head)
     if 'for' not in head:
         return (names_in(head) or [''])[0], False
     cut = head.index('for')
+    if names_in(head[:cut]) == ['Drop']:
+        return names_in(head[cut + 1:])[0], False
     names = [name for name in names_in(head[cut + 1:]) + names_in(head[:cut]) if name not in parameters]
-    return ''.join(name[:1].upper() + name[1:] for name in names), True
+    is_guess = any(word in NOT_PLAIN for word in head)
+    return ''.join(name[:1].upper() + name[1:] for name in names), is_guess
 
 
 class Reader:

@@ -7,13 +7,13 @@ from pathlib import Path
 sys.path.insert(0, str(Path(__file__).resolve().parent.parent))
 
 from bodies.faults import is_of, own_faults
-from bodies.functions import Function, functions_in, names_in
+from bodies.functions import Function, functions_in, names_in, owner_of
 
 
 def rows(text):
     """The tokens of a text as the kit lists them, for code as plain as that of these tests."""
     lines = enumerate(text.split('\n'))
-    return [(number, word) for number, line in lines for word in re.findall(r"\w+|::|'|[^\w\s]", line)]
+    return [(number, word) for number, line in lines for word in re.findall(r"'?\w+|::|[^\w\s]", line)]
 
 
 def functions(text, path='src/queue.rt'):
@@ -34,9 +34,26 @@ class FunctionsOfAFile(unittest.TestCase):
         text = "impl<'a, T: Copy> a::Queue<'a, T> {\nfn len(&self) -> u8 {\n1\n}\n}"
         self.assertEqual(functions(text), [Function(2, 2, 'Queue::len')])
 
-    def test_method_of_a_trait_is_a_guess(self):
+    def test_method_of_a_trait(self):
         text = 'impl<T> From<io::Error> for Fault<T> where T: Copy {\nfn from() {\n1\n}\n}'
-        self.assertEqual(functions(text), [Function(2, 2, 'FaultFromError::from', None, True)])
+        self.assertEqual(functions(text), [Function(2, 2, 'FaultFromError::from')])
+
+    def test_method_of_a_trait_with_bounded_parameters(self):
+        text = "impl<'a, W: Work<Vec<u8>> + Drop, G: Gate> Future for Window<'_, W, G> {\nfn poll() {\n1\n}\n}"
+        self.assertEqual(functions(text), [Function(2, 2, 'WindowFuture::poll')])
+
+    def test_method_of_a_trait_that_is_bounded_by_calls(self):
+        text = 'impl<F: Fn(u8) -> u8, const N: usize, A = Global> Read for Ring<F, N, A> {\nfn read() {\n1\n}\n}'
+        self.assertEqual(functions(text), [Function(2, 2, 'RingRead::read')])
+
+    def test_drop_is_the_types_own(self):
+        text = "impl<R, G: Gate> Drop for Runner<'_, R, G> {\nfn drop(self) {\n1\n}\n}"
+        self.assertEqual(functions(text), [Function(2, 2, 'Runner::drop')])
+
+    def test_method_of_a_type_that_is_not_plain_is_a_guess(self):
+        heads = ['Rank for &u8', 'From<[u8; 2]> for Pair', 'Rank for Box<dyn Gate>']
+        owners = [('U8Rank', True), ('PairFromU8', True), ('BoxGateRank', True)]
+        self.assertEqual([owner_of(rows_words(head)) for head in heads], owners)
 
     def test_function_in_a_function_is_no_other(self):
         self.assertEqual(functions('fn outer() {\nfn inner() {\n1\n}\n}'), [Function(1, 3, 'queue::outer')])

@@ -1,5 +1,6 @@
 //! Parts of motes, from the bottom up. Most tests have a text written of all that a part answered, and compare it
-//! once: so few values are owned where a test can end early, which is what the proof of a test costs most.
+//! once, in a function that they share: so a test owns nothing where it can end early, which is what its proof costs
+//! most.
 
 mod canonical;
 mod kernels;
@@ -13,6 +14,7 @@ mod timers;
 use process_kernel::Line;
 use radio_packet::Sent;
 use std::alloc::AllocError;
+use std::test::Fail;
 
 /// A process that prints, and yields for ever.
 const PRINT_THEN_YIELD: &str =
@@ -20,6 +22,14 @@ const PRINT_THEN_YIELD: &str =
 
 /// A process that sends one packet.
 const SENDER: &str = "process a; autostart a; code a { body { send (self + 5); yield; } }";
+
+/// Fails where two texts differ, and shows both.
+fn same_text(told: &str, want: &str) -> Result<(), Fail> {
+    if told == want {
+        return Ok(());
+    }
+    Err(Fail::new(format_args!("{told} in place of {want}")))
+}
 
 /// Writes each line down as its moment and what happened.
 fn write_lines(text: &mut String, lines: &[Line]) -> Result<(), AllocError> {

@@ -1,18 +1,8 @@
-//! Motes simulated, from the bytes of a scenario to the bytes of its report.
+//! The program: it gives the command the words and the streams of its process.
 #![tactic(auto)]
 
-mod by_workers;
-mod command;
-mod command_line;
-mod input;
-mod laws;
-mod options;
-mod simulate;
-#[cfg(test)]
-mod tests;
-
-use crate::command::{run_command, status_of};
-use crate::simulate::SimError;
+use simulation::command::{run_command, status_of};
+use simulation::simulate::SimError;
 use std::alloc::{AllocError, Global};
 use std::io::{Read, Write};
 use std::process::ExitCode;
@@ -26,6 +16,30 @@ fn lent(alloc: Global, words: &[String]) -> Result<Vec<&str>, AllocError> {
     words.iter().map(|word| word.as_str()).collect(alloc)
 }
 
+/// The words that the process was given.
+fn words_of<T: AllocGlobal + Env>(rt: &T) -> io::Result<Vec<String>> {
+    let words = env::args(rt)?.collect(rt.alloc())?;
+    Ok(words)
+}
+
+/// Runs the command with these words.
+fn run_words<T, R, W, E>(
+    rt: &T,
+    words: &[String],
+    input: &mut R,
+    output: &mut W,
+    errors: &mut E,
+) -> Result<u8, AllocError>
+where
+    T: AllocGlobal + Files + Threads + Wait + RandomSource + Sync,
+    R: Read,
+    W: Write,
+    E: Write,
+{
+    let words = lent(rt.alloc(), words)?;
+    Ok(run_command(rt, &words, input, output, errors))
+}
+
 /// Runs the command with the words that the process was given.
 fn run<T, R, W, E>(rt: &T, input: &mut R, output: &mut W, errors: &mut E) -> io::Result<u8>
 where
@@ -34,9 +48,8 @@ where
     W: Write,
     E: Write,
 {
-    let words: Vec<String> = env::args(rt)?.collect(rt.alloc())?;
-    let words = lent(rt.alloc(), &words)?;
-    Ok(run_command(rt, &words, input, output, errors))
+    let words = words_of(rt)?;
+    Ok(run_words(rt, &words, input, output, errors)?)
 }
 
 fn main(rt: HostRuntime) -> ExitCode {

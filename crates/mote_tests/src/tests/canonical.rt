@@ -1,21 +1,26 @@
 //! Canonical texts, written by hand.
 
+use super::same_text;
 use mote_program::{print_program, read};
 use std::alloc::Global;
 use std::test::Fail;
 
-/// Whether this is the canonical text of the program of a text, and of itself.
-fn prints(alloc: Global, text: &str, want: &str) -> Result<bool, Fail> {
-    for source in [text, want] {
-        let Ok(program) = read(alloc, source) else {
-            return Ok(false);
-        };
-        let printed = print_program(alloc, &program)?;
-        if printed.as_str() != want {
-            return Ok(false);
-        }
-    }
-    Ok(true)
+/// The canonical text of the program of a text.
+fn canonical(alloc: Global, text: &str) -> Result<String, Fail> {
+    let program = read(alloc, text)?;
+    Ok(print_program(alloc, &program)?)
+}
+
+/// Fails where the canonical text of a text's program is another one.
+fn has_canonical(alloc: Global, text: &str, want: &str) -> Result<(), Fail> {
+    let printed = canonical(alloc, text)?;
+    same_text(printed.as_str(), want)
+}
+
+/// Fails where this isn't the canonical text of the program of a text, and of itself.
+fn prints(alloc: Global, text: &str, want: &str) -> Result<(), Fail> {
+    has_canonical(alloc, text, want)?;
+    has_canonical(alloc, want, want)
 }
 
 #[test]
@@ -31,8 +36,7 @@ code a {
   }
 }
 ";
-    assert!(rt; prints(rt.alloc(), text, want)?);
-    Ok(())
+    prints(rt.alloc(), text, want)
 }
 
 #[test]
@@ -67,8 +71,7 @@ code b {
   }
 }
 ";
-    assert!(rt; prints(rt.alloc(), text, want)?);
-    Ok(())
+    prints(rt.alloc(), text, want)
 }
 
 #[test]
@@ -113,8 +116,7 @@ code a {
   }
 }
 ";
-    assert!(rt; prints(rt.alloc(), text, want)?);
-    Ok(())
+    prints(rt.alloc(), text, want)
 }
 
 #[test]
@@ -143,6 +145,5 @@ code a {
   }
 }
 ";
-    assert!(rt; prints(rt.alloc(), text, want)?);
-    Ok(())
+    prints(rt.alloc(), text, want)
 }

@@ -1,6 +1,6 @@
 //! Kernels of whole programs, with their answers and lines worked by hand.
 
-use super::{SENDER, write_lines, write_sends};
+use super::{SENDER, same_text, write_lines, write_sends};
 use mote_program::read;
 use process_kernel::{Kernel, KernelError, Line, Out, Ran, What};
 use program_tree::{Proc, Program};
@@ -18,11 +18,20 @@ const BUSY_FOR_EVER: &str =
     "process a; autostart a; code a { var i = 0; body { while 1 { print i; send i; i = (i + 1); poll a; yield; } } }";
 
 /// The kernel of mote 7 with its program, and what it wrote.
-#[derive(Drop)]
 struct Bench {
     program: Program,
     kernel: Kernel,
     out: Out,
+}
+
+impl Drop for Bench {
+    fn drop(self) {
+        let Bench {
+            program: _,
+            kernel: _,
+            out: _,
+        } = self;
+    }
 }
 
 /// What is done to a kernel.
@@ -147,25 +156,31 @@ fn told(alloc: Global, program: &str, acts: &[Act]) -> Result<String, Fail> {
     Ok(text)
 }
 
+/// Fails where something else is written of that.
+fn tells(alloc: Global, program: &str, acts: &[Act], want: &str) -> Result<(), Fail> {
+    let told = told(alloc, program, acts)?;
+    same_text(told.as_str(), want)
+}
+
 #[test]
 fn a_boot(rt: HostRuntime) -> Result<(), Fail> {
-    let told = told(rt.alloc(), SENDER, &[Act::Look, Act::Boot, Act::Look])?;
-    assert_eq!(rt;
-        told.as_str(),
-        "7 false false false None|Left(0)|0 Start(Etimer)|0 Start(Ctimer)|0 Start(Radio)|0 Start(Own(0))|0 Send(0, 12)|sent 0 7 0 12|7 true false false None|"
-    );
-    Ok(())
+    tells(
+        rt.alloc(),
+        SENDER,
+        &[Act::Look, Act::Boot, Act::Look],
+        "7 false false false None|Left(0)|0 Start(Etimer)|0 Start(Ctimer)|0 Start(Radio)|0 Start(Own(0))|0 Send(0, 12)|sent 0 7 0 12|7 true false false None|",
+    )
 }
 
 /// A mote that has halted stays so, and writes nothing more.
 #[test]
 fn halted_for_good(rt: HostRuntime) -> Result<(), Fail> {
-    let told = told(rt.alloc(), RUNAWAY, &[Act::Boot, Act::Look, Act::RunOut(1)])?;
-    assert_eq!(rt;
-        told.as_str(),
-        "Halted|0 Start(Etimer)|0 Start(Ctimer)|0 Start(Radio)|0 Start(Own(0))|0 Halt|7 true true false None|Halted|"
-    );
-    Ok(())
+    tells(
+        rt.alloc(),
+        RUNAWAY,
+        &[Act::Boot, Act::Look, Act::RunOut(1)],
+        "Halted|0 Start(Etimer)|0 Start(Ctimer)|0 Start(Radio)|0 Start(Own(0))|0 Halt|7 true true false None|Halted|",
+    )
 }
 
 /// The ring holds eight packets, and the ninth and tenth are refused.
@@ -179,12 +194,12 @@ fn ring_of_eight(rt: HostRuntime) -> Result<(), Fail> {
         Act::Look,
         Act::RunOut(2),
     ];
-    let told = told(rt.alloc(), RECEIVER, &acts)?;
-    assert_eq!(rt;
-        told.as_str(),
-        "Left(0)|0 Start(Etimer)|0 Start(Ctimer)|0 Start(Radio)|0 Start(Own(0))|8 taken|7 true false false None|7 true false true None|Left(0)|2 Post(0, One(Own(0)), 138, 0)|2 Post(1, One(Own(0)), 138, 1)|2 Post(2, One(Own(0)), 138, 2)|2 Post(3, One(Own(0)), 138, 3)|2 Post(4, One(Own(0)), 138, 4)|2 Post(5, One(Own(0)), 138, 5)|2 Post(6, One(Own(0)), 138, 6)|2 Post(7, One(Own(0)), 138, 7)|2 Take(0, Own(0))|2 Print(Own(0), 3)|2 Print(Own(0), 0)|2 Take(1, Own(0))|2 Print(Own(0), 3)|2 Print(Own(0), 1)|2 Take(2, Own(0))|2 Print(Own(0), 3)|2 Print(Own(0), 2)|2 Take(3, Own(0))|2 Print(Own(0), 3)|2 Print(Own(0), 3)|2 Take(4, Own(0))|2 Print(Own(0), 3)|2 Print(Own(0), 4)|2 Take(5, Own(0))|2 Print(Own(0), 3)|2 Print(Own(0), 5)|2 Take(6, Own(0))|2 Print(Own(0), 3)|2 Print(Own(0), 6)|2 Take(7, Own(0))|2 Print(Own(0), 3)|2 Print(Own(0), 7)|"
-    );
-    Ok(())
+    tells(
+        rt.alloc(),
+        RECEIVER,
+        &acts,
+        "Left(0)|0 Start(Etimer)|0 Start(Ctimer)|0 Start(Radio)|0 Start(Own(0))|8 taken|7 true false false None|7 true false true None|Left(0)|2 Post(0, One(Own(0)), 138, 0)|2 Post(1, One(Own(0)), 138, 1)|2 Post(2, One(Own(0)), 138, 2)|2 Post(3, One(Own(0)), 138, 3)|2 Post(4, One(Own(0)), 138, 4)|2 Post(5, One(Own(0)), 138, 5)|2 Post(6, One(Own(0)), 138, 6)|2 Post(7, One(Own(0)), 138, 7)|2 Take(0, Own(0))|2 Print(Own(0), 3)|2 Print(Own(0), 0)|2 Take(1, Own(0))|2 Print(Own(0), 3)|2 Print(Own(0), 1)|2 Take(2, Own(0))|2 Print(Own(0), 3)|2 Print(Own(0), 2)|2 Take(3, Own(0))|2 Print(Own(0), 3)|2 Print(Own(0), 3)|2 Take(4, Own(0))|2 Print(Own(0), 3)|2 Print(Own(0), 4)|2 Take(5, Own(0))|2 Print(Own(0), 3)|2 Print(Own(0), 5)|2 Take(6, Own(0))|2 Print(Own(0), 3)|2 Print(Own(0), 6)|2 Take(7, Own(0))|2 Print(Own(0), 3)|2 Print(Own(0), 7)|",
+    )
 }
 
 /// Nobody receives the packets of a program that has no receiver.
@@ -196,12 +211,12 @@ fn deaf(rt: HostRuntime) -> Result<(), Fail> {
         Act::Poll(Proc::Radio),
         Act::RunOut(2),
     ];
-    let told = told(rt.alloc(), SENDER, &acts)?;
-    assert_eq!(rt;
-        told.as_str(),
-        "Left(0)|0 Start(Etimer)|0 Start(Ctimer)|0 Start(Radio)|0 Start(Own(0))|0 Send(0, 12)|sent 0 7 0 12|1 taken|Left(0)|2 Deaf(3, 0)|"
-    );
-    Ok(())
+    tells(
+        rt.alloc(),
+        SENDER,
+        &acts,
+        "Left(0)|0 Start(Etimer)|0 Start(Ctimer)|0 Start(Radio)|0 Start(Own(0))|0 Send(0, 12)|sent 0 7 0 12|1 taken|Left(0)|2 Deaf(3, 0)|",
+    )
 }
 
 /// A line that stands before those of the kernel.

@@ -1,6 +1,6 @@
 //! Turns of motes, with their lines worked by hand.
 
-use super::{PRINT_THEN_YIELD, SENDER, write_lines, write_sends};
+use super::{PRINT_THEN_YIELD, SENDER, same_text, write_lines, write_sends};
 use mote_node::{Mote, MoteError, TurnOut};
 use mote_program::read;
 use program_tree::Program;
@@ -9,10 +9,18 @@ use std::alloc::{AllocError, Global};
 use std::test::Fail;
 
 /// A mote with its program.
-#[derive(Drop)]
 struct Bench {
     program: Program,
     mote: Mote,
+}
+
+impl Drop for Bench {
+    fn drop(self) {
+        let Bench {
+            program: _,
+            mote: _,
+        } = self;
+    }
 }
 
 /// The moment of a turn, and the packet that arrives then, if there is one.
@@ -81,27 +89,33 @@ fn told(alloc: Global, program: &str, turns: &[Turn]) -> Result<String, Fail> {
     Ok(text)
 }
 
+/// Fails where something else is written of that.
+fn tells(alloc: Global, program: &str, turns: &[Turn], want: &str) -> Result<(), Fail> {
+    let told = told(alloc, program, turns)?;
+    same_text(told.as_str(), want)
+}
+
 /// A turn at a moment that isn't above the last turn's is refused, and the next one that is above it isn't.
 #[test]
 fn moments_rise(rt: HostRuntime) -> Result<(), Fail> {
     let turns = [(0, None), (0, None), (1, None)];
-    let told = told(rt.alloc(), PRINT_THEN_YIELD, &turns)?;
-    assert_eq!(rt;
-        told.as_str(),
-        "Some(0)|0 Start(Etimer)|0 Start(Ctimer)|0 Start(Radio)|0 Start(Own(0))|0 Print(Own(0), 1)|wake None|None|Past|None|wake None|None|"
-    );
-    Ok(())
+    tells(
+        rt.alloc(),
+        PRINT_THEN_YIELD,
+        &turns,
+        "Some(0)|0 Start(Etimer)|0 Start(Ctimer)|0 Start(Radio)|0 Start(Own(0))|0 Print(Own(0), 1)|wake None|None|Past|None|wake None|None|",
+    )
 }
 
 #[test]
 fn mote_by_hand(rt: HostRuntime) -> Result<(), Fail> {
     let turns = [(0, None), (2, Some(PACKET))];
-    let told = told(rt.alloc(), SENDER, &turns)?;
-    assert_eq!(rt;
-        told.as_str(),
-        "Some(0)|0 Start(Etimer)|0 Start(Ctimer)|0 Start(Radio)|0 Start(Own(0))|0 Send(0, 12)|sent 0 7 0 12|wake None|None|2 Recv(4, 0, 9)|2 Deaf(4, 0)|wake None|None|"
-    );
-    Ok(())
+    tells(
+        rt.alloc(),
+        SENDER,
+        &turns,
+        "Some(0)|0 Start(Etimer)|0 Start(Ctimer)|0 Start(Radio)|0 Start(Own(0))|0 Send(0, 12)|sent 0 7 0 12|wake None|None|2 Recv(4, 0, 9)|2 Deaf(4, 0)|wake None|None|",
+    )
 }
 
 /// Whether a mote whose turn found no memory fails for good, and never wakes.

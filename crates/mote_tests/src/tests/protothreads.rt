@@ -2,6 +2,7 @@
 
 ghost use Rattle.std.specs.Prelude.{[], ◌∷◌};
 
+use super::same_text;
 use mote_program::read;
 use program_tree::{Event, ProcessText};
 use protothread::{Fuel, Look, Op, Part, PtState, Semaphore, Step, Thread, Vars};
@@ -139,6 +140,12 @@ fn told(alloc: Global, program: &str, units: u32, acts: &[Act]) -> Result<String
     Ok(text)
 }
 
+/// Fails where something else is written of that.
+fn tells(alloc: Global, program: &str, units: u32, acts: &[Act], want: &str) -> Result<(), Fail> {
+    let told = told(alloc, program, units, acts)?;
+    same_text(told.as_str(), want)
+}
+
 #[test]
 fn states_have_their_numbers(rt: HostRuntime) {
     for (state, number, scheduled) in [
@@ -161,12 +168,13 @@ fn looks_are_of_one_state(rt: HostRuntime) {
 #[test]
 fn goes_from_wait_to_wait(rt: HostRuntime) -> Result<(), Fail> {
     let program = "process a; code a { body { print 1; yield; print 2; } }";
-    let told = told(rt.alloc(), program, 100, &[INIT; 5])?;
-    assert_eq!(rt;
-        told.as_str(),
-        "Op(Print(1)) 99|Done(Yielded) 98|Op(Print(2)) 96|Done(Ended) 96|Op(Print(1)) 95|"
-    );
-    Ok(())
+    tells(
+        rt.alloc(),
+        program,
+        100,
+        &[INIT; 5],
+        "Op(Print(1)) 99|Done(Yielded) 98|Op(Print(2)) 96|Done(Ended) 96|Op(Print(1)) 95|",
+    )
 }
 
 /// The first event has the word 0 already, and the thread yields nevertheless.
@@ -174,12 +182,13 @@ fn goes_from_wait_to_wait(rt: HostRuntime) -> Result<(), Fail> {
 fn yield_until_yields_once_at_least(rt: HostRuntime) -> Result<(), Fail> {
     let program = "process a; code a { body { yield_until (data == 0); print 1; } }";
     let acts = [message(0), message(1), message(0), message(0)];
-    let told = told(rt.alloc(), program, 100, &acts)?;
-    assert_eq!(rt;
-        told.as_str(),
-        "Done(Yielded) 99|Done(Yielded) 98|Op(Print(1)) 96|Done(Ended) 96|"
-    );
-    Ok(())
+    tells(
+        rt.alloc(),
+        program,
+        100,
+        &acts,
+        "Done(Yielded) 99|Done(Yielded) 98|Op(Print(1)) 96|Done(Ended) 96|",
+    )
 }
 
 /// The loop ends no sooner with more units. What its variable has, `onexit` prints.
@@ -188,9 +197,13 @@ fn an_endless_loop_runs_away(rt: HostRuntime) -> Result<(), Fail> {
     let program =
         "process a; code a { var x = 0; onexit { print x; } body { while 1 { x = (x + 1); } } }";
     let acts = [INIT, Act::Units(100), INIT, Act::Begin(Part::OnExit), INIT];
-    let told = told(rt.alloc(), program, 9_996, &acts)?;
-    assert_eq!(rt; told.as_str(), "Runaway 0|Runaway 100|Op(Print(4998)) 99|");
-    Ok(())
+    tells(
+        rt.alloc(),
+        program,
+        9_996,
+        &acts,
+        "Runaway 0|Runaway 100|Op(Print(4998)) 99|",
+    )
 }
 
 /// Of 10,000 units the first call at boot has 9,996: the three system processes and the process itself were called.
@@ -198,9 +211,13 @@ fn an_endless_loop_runs_away(rt: HostRuntime) -> Result<(), Fail> {
 fn a_loop_ends_within_its_units(rt: HostRuntime) -> Result<(), Fail> {
     let program =
         "process a; code a { var i = 0; body { while (i < 4996) { i = (i + 1); } print i; yield; } }";
-    let told = told(rt.alloc(), program, 9_996, &[INIT; 2])?;
-    assert_eq!(rt; told.as_str(), "Op(Print(4996)) 2|Done(Yielded) 1|");
-    Ok(())
+    tells(
+        rt.alloc(),
+        program,
+        9_996,
+        &[INIT; 2],
+        "Op(Print(4996)) 2|Done(Yielded) 1|",
+    )
 }
 
 /// With one pass more there are no units left to yield.
@@ -208,33 +225,39 @@ fn a_loop_ends_within_its_units(rt: HostRuntime) -> Result<(), Fail> {
 fn a_loop_ends_without_units(rt: HostRuntime) -> Result<(), Fail> {
     let program =
         "process a; code a { var i = 0; body { while (i < 4997) { i = (i + 1); } print i; yield; } }";
-    let told = told(rt.alloc(), program, 9_996, &[INIT; 2])?;
-    assert_eq!(rt; told.as_str(), "Op(Print(4997)) 0|Runaway 0|");
-    Ok(())
+    tells(
+        rt.alloc(),
+        program,
+        9_996,
+        &[INIT; 2],
+        "Op(Print(4997)) 0|Runaway 0|",
+    )
 }
 
 #[test]
 fn an_if_has_two_ways(rt: HostRuntime) -> Result<(), Fail> {
     let program =
         "process a; code a { body { if 0 { print 1; } else { print 2; } if 7 { print 3; } else { print 4; } if 0 { print 5; } print 6; } }";
-    let told = told(rt.alloc(), program, 10, &[INIT; 4])?;
-    assert_eq!(rt;
-        told.as_str(),
-        "Op(Print(2)) 8|Op(Print(3)) 6|Op(Print(6)) 4|Done(Ended) 4|"
-    );
-    Ok(())
+    tells(
+        rt.alloc(),
+        program,
+        10,
+        &[INIT; 4],
+        "Op(Print(2)) 8|Op(Print(3)) 6|Op(Print(6)) 4|Done(Ended) 4|",
+    )
 }
 
 const COUNTER: &str = "process a; code a { var n = 5; body { n = (n + 1); yield; print n; } }";
 
 #[test]
 fn variables_outlive_the_body(rt: HostRuntime) -> Result<(), Fail> {
-    let told = told(rt.alloc(), COUNTER, 10, &[INIT; 5])?;
-    assert_eq!(rt;
-        told.as_str(),
-        "Done(Yielded) 8|Op(Print(6)) 6|Done(Ended) 6|Done(Yielded) 4|Op(Print(7)) 2|"
-    );
-    Ok(())
+    tells(
+        rt.alloc(),
+        COUNTER,
+        10,
+        &[INIT; 5],
+        "Done(Yielded) 8|Op(Print(6)) 6|Done(Ended) 6|Done(Yielded) 4|Op(Print(7)) 2|",
+    )
 }
 
 /// The first value of a process's only variable.
@@ -268,12 +291,13 @@ fn goes_on_where_it_stood(rt: HostRuntime) -> Result<(), Fail> {
         message(0),
         message(0),
     ];
-    let told = told(rt.alloc(), program, 100, &acts)?;
-    assert_eq!(rt;
-        told.as_str(),
-        "Done(Yielded) 95|Op(Print(1)) 93|Done(Yielded) 91|Op(Print(1)) 89|Op(Print(9)) 87|Op(Print(8)) 83|Op(Print(9)) 82|Done(Ended) 81|"
-    );
-    Ok(())
+    tells(
+        rt.alloc(),
+        program,
+        100,
+        &acts,
+        "Done(Yielded) 95|Op(Print(1)) 93|Done(Yielded) 91|Op(Print(1)) 89|Op(Print(9)) 87|Op(Print(8)) 83|Op(Print(9)) 82|Done(Ended) 81|",
+    )
 }
 
 /// What a thread of the body prints at once, for the only unit that it has.
@@ -351,12 +375,13 @@ fn a_semaphore_wraps(rt: HostRuntime) {
 fn spawn_and_restart(rt: HostRuntime) -> Result<(), Fail> {
     let program =
         "process a; autostart a; code a { var n = 0; thread c { n = (n + 1); if (n == 1) { poll a; yield; poll a; restart; } print n; exit; print 8; } thread d { spawn c; print 7; } body { spawn d; print 6; } }";
-    let told = told(rt.alloc(), program, 100, &[INIT; 8])?;
-    assert_eq!(rt;
-        told.as_str(),
-        "Op(Poll(Own(0))) 95|Done(Waiting) 94|Op(Poll(Own(0))) 90|Done(Waiting) 89|Op(Print(2)) 84|Op(Print(7)) 82|Op(Print(6)) 81|Done(Ended) 81|"
-    );
-    Ok(())
+    tells(
+        rt.alloc(),
+        program,
+        100,
+        &[INIT; 8],
+        "Op(Poll(Own(0))) 95|Done(Waiting) 94|Op(Poll(Own(0))) 90|Done(Waiting) 89|Op(Print(2)) 84|Op(Print(7)) 82|Op(Print(6)) 81|Done(Ended) 81|",
+    )
 }
 
 /// The answer of the post isn't asked for, and any CONTINUE ends the wait.
@@ -365,12 +390,13 @@ fn a_pause_waits_for_continue(rt: HostRuntime) -> Result<(), Fail> {
     let program = "process a; code a { var v = 7; body { pause; print v; exit; print 9; } }";
     let go_on = Act::Event(0x85, 3);
     let acts = [INIT, Act::Answer(1), INIT, INIT, go_on, go_on];
-    let told = told(rt.alloc(), program, 10, &acts)?;
-    assert_eq!(rt;
-        told.as_str(),
-        "Op(Post(One(Own(0)), 133, 0)) 9|Done(Yielded) 9|Done(Yielded) 8|Op(Print(7)) 6|Done(Exited) 5|"
-    );
-    Ok(())
+    tells(
+        rt.alloc(),
+        program,
+        10,
+        &acts,
+        "Op(Post(One(Own(0)), 133, 0)) 9|Done(Yielded) 9|Done(Yielded) 8|Op(Print(7)) 6|Done(Exited) 5|",
+    )
 }
 
 /// Only the variable behind `into` is told the answer.
@@ -379,12 +405,13 @@ fn an_answer_goes_into_its_variable(rt: HostRuntime) -> Result<(), Fail> {
     let program =
         "event e; process a, b; code a { var v = 7; body { post b e 5 into v; print v; broadcast msg 6; print v; synch b exit 2; } } code b { body { } }";
     let acts = [INIT, Act::Answer(1), INIT, INIT, Act::Answer(0), INIT, INIT];
-    let told = told(rt.alloc(), program, 10, &acts)?;
-    assert_eq!(rt;
-        told.as_str(),
-        "Op(Post(One(Own(1)), 139, 5)) 9|Op(Print(1)) 8|Op(Post(All, 134, 6)) 7|Op(Print(1)) 6|Op(Synch(Own(1), 131, 2)) 5|"
-    );
-    Ok(())
+    tells(
+        rt.alloc(),
+        program,
+        10,
+        &acts,
+        "Op(Post(One(Own(1)), 139, 5)) 9|Op(Print(1)) 8|Op(Post(All, 134, 6)) 7|Op(Print(1)) 6|Op(Synch(Own(1), 131, 2)) 5|",
+    )
 }
 
 /// The look has a count of 4 for semaphore 0, and of 0 for any other.
@@ -392,12 +419,13 @@ fn an_answer_goes_into_its_variable(rt: HostRuntime) -> Result<(), Fail> {
 fn acquire_waits_at_0(rt: HostRuntime) -> Result<(), Fail> {
     let program =
         "semaphore s = 4; semaphore t = 0; process a; code a { body { acquire s; signal t; acquire t; } }";
-    let told = told(rt.alloc(), program, 10, &[INIT; 4])?;
-    assert_eq!(rt;
-        told.as_str(),
-        "Op(Take(0)) 9|Op(Signal(1)) 8|Done(Waiting) 7|Done(Waiting) 6|"
-    );
-    Ok(())
+    tells(
+        rt.alloc(),
+        program,
+        10,
+        &[INIT; 4],
+        "Op(Take(0)) 9|Op(Signal(1)) 8|Done(Waiting) 7|Done(Waiting) 6|",
+    )
 }
 
 /// A part that the text lacks is an empty block.
@@ -417,10 +445,11 @@ fn absent_parts_are_empty(rt: HostRuntime) -> Result<(), Fail> {
         Act::Begin(Part::Body),
         INIT,
     ];
-    let told = told(rt.alloc(), program, 10, &acts)?;
-    assert_eq!(rt;
-        told.as_str(),
-        "Done(Ended) 10|Done(Ended) 10|Op(Print(5)) 9|Op(Print(6)) 8|Op(Print(7)) 7|"
-    );
-    Ok(())
+    tells(
+        rt.alloc(),
+        program,
+        10,
+        &acts,
+        "Done(Ended) 10|Done(Ended) 10|Op(Print(5)) 9|Op(Print(6)) 8|Op(Print(7)) 7|",
+    )
 }

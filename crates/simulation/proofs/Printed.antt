@@ -1,0 +1,57 @@
+-- What is written of the report of a scenario's net, and why a text was refused.
+use Rattle.std.proofs.Common.{◌≡◌, ℕ, List, ◌++◌, Option, Result, Ok, Err, ap, sym, ◌∙◌, subst}
+use Rattle.net_scenario.specs.Laws.{OneNet}
+use Rattle.net_scenario.specs.Net.{NetTold}
+use Rattle.net_scenario.specs.Reading.{TellsNet, Answers}
+use Rattle.net_scenario.specs.declared.error.ScenarioError.{ScenarioError}
+use Rattle.net_scenario.specs.declared.error.ScenarioError.TheVariants as scenario
+use Rattle.net_report.specs.Report.{ReportTold}
+use Rattle.trace_printer.specs.ReportText.{report_text}
+use Rattle.window_workers.specs.Laws.{ReportIsOne}
+use Rattle.window_workers.specs.NetRun.{IsReportOf}
+use Rattle.simulation.specs.Input.{IsText}
+use Rattle.simulation.specs.Laws.{OneReport}
+use Rattle.simulation.specs.declared.simulate.SimError.{SimError}
+use Rattle.simulation.specs.declared.simulate.SimError.TheVariants as fault
+use Rattle.simulation.specs.Simulation.{IsScenario, Reported, RefusesText, SimulatedWith, SimulatedSome}
+
+-- the text tells this net
+abbrev pub scenario_of : (bytes : List ℕ) (n : NetTold) → IsText bytes → TellsNet bytes n → IsScenario bytes
+scenario_of bytes n short told = record { is_text = short; net = n; told = told }
+
+-- whatever is written of the report's text is written of the bytes' report
+pub reported : (written : List ℕ → Type 0) (bytes : List ℕ) (n : NetTold) (r : ReportTold) → IsText bytes → TellsNet bytes n → IsReportOf n r → written (report_text n r) → Reported bytes written
+reported written bytes n r short told ran h = record { from = scenario_of bytes n short told; report = r; run = ran; got = h }
+
+-- a fault that is answered to a text is its first, or want of memory
+pub refused : (bytes : List ℕ) (e : ScenarioError) → Answers bytes (Err e) → RefusesText bytes e
+refused bytes scenario.Memory h = tt
+refused bytes scenario.Toml h = h
+refused bytes scenario.MissingKey h = h
+refused bytes scenario.UnknownKey h = h
+refused bytes scenario.WrongKind h = h
+refused bytes scenario.OutOfRange h = h
+refused bytes scenario.UnknownProgram h = h
+refused bytes (scenario.Program name e) h = h
+refused bytes (scenario.Medium e) h = h
+
+-- an answer to a text is one to some bytes
+pub some_bytes : (workers : Option ℕ) (bytes : List ℕ) (old new : Option (List ℕ)) (r : Result (Unit {0}) SimError) → SimulatedWith workers bytes old new r → SimulatedSome workers old new r
+some_bytes workers bytes old new (Ok u) h = (bytes, h)
+some_bytes workers bytes old new (Err (fault.Scenario e)) h = (bytes, h)
+some_bytes workers bytes old new (Err (fault.Run e)) h = (bytes, h)
+some_bytes workers bytes old new (Err (fault.Print e)) h = (bytes, h)
+some_bytes workers bytes old new (Err e) h = tt
+
+-- of one net two reports have one text
+same_text : ReportIsOne → (m n : NetTold) (r s : ReportTold) → m ≡ n → IsReportOf m r → IsReportOf n s → report_text m r ≡ report_text n s
+same_text one m n r s same ran run =
+    ap (λ net. report_text net r) same ∙ ap (report_text n) (one n s r run (subst (λ net. IsReportOf net r) same ran))
+
+same_report : OneNet → ReportIsOne → (bytes old a b : List ℕ) → Reported bytes (λ text. a ≡ old ++ text) → Reported bytes (λ text. b ≡ old ++ text) → a ≡ b
+same_report one_net one_run bytes old a b x y =
+    x.got ∙ ap (λ text. old ++ text) (same_text one_run x.from.net y.from.net x.report y.report (one_net bytes x.from.net y.from.net x.from.told y.from.told) x.run y.run) ∙ sym y.got
+
+-- two runs on the same bytes that write a whole report write the same, whoever ran them
+pub one_report : OneNet → ReportIsOne → OneReport
+one_report one_net one_run bytes old a b v w x y = same_report one_net one_run bytes old a b x.1 y.1

@@ -1,0 +1,30 @@
+-- What reading the whole of an input answers.
+use Rattle.std.specs.Prelude.{◌≡◌, ℕ, ◌<◌, ◌≤◌, List, length, Result, Ok, Err, Vec, String, string_bytes}
+use Rattle.std.specs.Str.{IsUtf8}
+use Rattle.std.specs.declared.alloc.Global.{Global}
+use Rattle.simulation.specs.declared.input.InputError.{InputError}
+use Rattle.simulation.specs.declared.input.InputError.TheVariants as fault
+use Rattle.net_scenario.specs.Limits.{longest_text}
+
+-- the bytes are a text that isn't too long
+pub record IsText (bytes : List ℕ) : Type 0 where
+  pub short : length bytes ≤ longest_text
+  pub utf8 : IsUtf8 bytes
+
+-- the cause of each fault: a failing reader and want of memory may come at any input
+abbrev pub IsRefused : (input : List ℕ) → InputError → Type 0
+IsRefused input fault.Read = Unit {0}
+IsRefused input fault.TooLong = longest_text < length input
+IsRefused input fault.NotText = (length input ≤ longest_text) × (¬ IsUtf8 input)
+IsRefused input fault.Memory = Unit {0}
+
+-- the answer to reading all bytes of an input, be they a text or not
+abbrev pub ReadsBytes : (input : List ℕ) → Result (Vec ℕ Global) InputError → Type 0
+ReadsBytes input (Ok bytes) = (bytes.items ≡ input) × (length input ≤ longest_text)
+ReadsBytes input (Err fault.NotText) = ⊥
+ReadsBytes input (Err e) = IsRefused input e
+
+-- the answer to reading an input as a text
+abbrev pub ReadsText : (input : List ℕ) → Result (String Global) InputError → Type 0
+ReadsText input (Ok text) = (string_bytes text ≡ input) × IsText input
+ReadsText input (Err e) = IsRefused input e

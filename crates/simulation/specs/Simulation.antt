@@ -1,0 +1,88 @@
+-- What a simulation of some bytes answers.
+use Rattle.std.specs.Prelude.{◌<◌, ◌≤◌, ℕ, List, length, Option, Some, None, IsSome, Result, Ok, Err}
+use Rattle.std.specs.Str.{IsUtf8}
+use Rattle.std.specs.Io.KnownBytes.{Keeps, Appends}
+use Rattle.net_scenario.specs.Limits.{longest_text}
+use Rattle.net_scenario.specs.Net.{NetTold}
+use Rattle.net_scenario.specs.Reading.{TellsNet, TellsFault}
+use Rattle.net_scenario.specs.declared.error.ScenarioError.{ScenarioError}
+use Rattle.net_scenario.specs.declared.error.ScenarioError.TheVariants as scenario
+use Rattle.net_report.specs.Report.{ReportTold, report_of}
+use Rattle.net_report.specs.declared.Report.{Report}
+use Rattle.trace_printer.specs.Output.{AppendsFront}
+use Rattle.trace_printer.specs.ReportText.{report_text}
+use Rattle.window_workers.specs.NetRun.{IsReportOf}
+use Rattle.window_workers.specs.declared.error.RunError.{RunError}
+use Rattle.window_workers.specs.declared.error.RunError.TheVariants as run
+use Rattle.simulation.specs.Input.{IsText}
+use Rattle.simulation.specs.declared.input.InputError.{InputError}
+use Rattle.simulation.specs.declared.input.InputError.TheVariants as input
+use Rattle.simulation.specs.declared.simulate.SimError.{SimError}
+use Rattle.simulation.specs.declared.simulate.SimError.TheVariants as fault
+
+abbrev pub sim_fault : InputError → SimError
+sim_fault input.Read = fault.Read
+sim_fault input.TooLong = fault.TooLong
+sim_fault input.NotText = fault.NotText
+sim_fault input.Memory = fault.Memory
+
+-- the bytes are a text of at most a mebibyte, which tells this net
+pub record IsScenario (bytes : List ℕ) : Type 0 where
+  pub is_text : IsText bytes
+  pub net : NetTold
+  pub told : TellsNet bytes net
+
+-- the bytes are a scenario, and of the text of the report of its net's run the writer has got this
+pub record Reported (bytes : List ℕ) (written : List ℕ → Type 0) : Type 0 where
+  pub from : IsScenario bytes
+  pub report : ReportTold
+  pub run : IsReportOf from.net report
+  pub got : written (report_text from.net report)
+
+-- the text has this first fault; want of memory may come at any text
+abbrev pub RefusesText : List ℕ → ScenarioError → Type 0
+RefusesText bytes scenario.Memory = Unit {0}
+RefusesText bytes e = TellsFault bytes e
+
+-- a run on one thread, or by 1 to 16 workers
+abbrev pub MayRun : (workers : Option ℕ) → Type 0
+MayRun None = Unit {0}
+MayRun (Some n) = (1 ≤ n) × (n ≤ 16)
+
+-- the cause of a run's fault: another number of workers; else want of memory or, with workers, of a thread
+abbrev pub RefusesRun : (workers : Option ℕ) → RunError → Type 0
+RefusesRun workers run.Workers = ¬ MayRun workers
+RefusesRun workers run.CutLength = ⊥
+RefusesRun workers run.CutWorker = ⊥
+RefusesRun workers run.Memory = MayRun workers
+RefusesRun workers run.Thread = IsSome workers × MayRun workers
+
+-- the answer to running a net, on one thread or by so many workers: the report is that of the net's run, which knows of no worker
+abbrev pub RunsWith : (workers : Option ℕ) → NetTold → Result Report RunError → Type 0
+RunsWith workers net (Ok report) = MayRun workers × IsReportOf net (report_of report)
+RunsWith workers net (Err e) = RefusesRun workers e
+
+-- Each answer where its cause is, on one thread or by so many workers. A failing reader and want of memory may come at any bytes,
+-- and a run's want of memory or of a thread at any scenario.
+abbrev pub SimulatedWith : (workers : Option ℕ) → List ℕ → (old new : Option (List ℕ)) → Result (Unit {0}) SimError → Type 0
+SimulatedWith workers bytes old new (Ok u) = MayRun workers × Reported bytes (Appends old new)
+SimulatedWith workers bytes old new (Err fault.Read) = Unit {0}
+SimulatedWith workers bytes old new (Err fault.TooLong) = longest_text < length bytes
+SimulatedWith workers bytes old new (Err fault.NotText) = (length bytes ≤ longest_text) × (¬ IsUtf8 bytes)
+SimulatedWith workers bytes old new (Err (fault.Scenario e)) = IsText bytes × RefusesText bytes e
+SimulatedWith workers bytes old new (Err (fault.Run e)) = IsScenario bytes × RefusesRun workers e
+SimulatedWith workers bytes old new (Err (fault.Print e)) = MayRun workers × Reported bytes (AppendsFront old new)
+SimulatedWith workers bytes old new (Err fault.Memory) = Unit {0}
+
+-- what an answer that doesn't stand for the reader says of some bytes, whichever the reader gave
+abbrev pub SimulatedSome : (workers : Option ℕ) → (old new : Option (List ℕ)) → Result (Unit {0}) SimError → Type 0
+SimulatedSome workers old new (Ok u) = (bytes : List ℕ) × SimulatedWith workers bytes old new (Ok u)
+SimulatedSome workers old new (Err (fault.Scenario e)) = (bytes : List ℕ) × SimulatedWith workers bytes old new (Err (fault.Scenario e))
+SimulatedSome workers old new (Err (fault.Run e)) = (bytes : List ℕ) × SimulatedWith workers bytes old new (Err (fault.Run e))
+SimulatedSome workers old new (Err (fault.Print e)) = (bytes : List ℕ) × SimulatedWith workers bytes old new (Err (fault.Print e))
+SimulatedSome workers old new (Err e) = Unit {0}
+
+-- a fault that has written nothing, unless it came in printing
+abbrev pub Unwritten : (old new : Option (List ℕ)) → SimError → Type 0
+Unwritten old new (fault.Print e) = Unit {0}
+Unwritten old new e = Keeps old new

@@ -1,0 +1,55 @@
+//! The run of a net by workers, as the options name them.
+ghost use Rattle.std.specs.Prelude.{◌≡◌, ◌<◌, length, vec_len, IfOk, Some, None};
+ghost use Rattle.net_scenario.specs.Net.{net_of};
+ghost use Rattle.window_workers.specs.Fits.{cut_fault};
+ghost use Rattle.simulation.specs.Cuts.{of_kind};
+ghost use Rattle.simulation.specs.Simulation.{MayRun, RunsWith};
+
+use crate::options::CutKind;
+use net_report::Report;
+use net_scenario::Net;
+use std::alloc::{AllocError, Global};
+use std::random::RandomSource;
+use std::sync::Wait;
+use std::thread::Threads;
+use window_run::Gate;
+use window_workers::{MOST_WORKERS, RunError, run_workers};
+use worker_cut::Cut;
+
+/// The cut of this kind, which fits.
+fn cut_of(alloc: Global, kind: CutKind, motes: u16, workers: u16) -> Result<Cut, AllocError>
+    requires motes { 0 < motes }
+    requires workers { MayRun (Some workers) }
+    ensures of { IfOk result (λ cut. cut.of.items ≡ of_kind kind motes workers) }
+    ensures fits { IfOk result (λ cut. cut_fault motes workers cut.of.items ≡ None) }
+{
+    match kind {
+        CutKind::Block => Cut::block(alloc, motes, workers),
+        CutKind::Stripe => Cut::stripe(alloc, motes, workers),
+    }
+}
+
+/// The report of a net, by so many workers with a cut of this kind. Their number is looked at before the cut is made.
+///
+/// # Errors
+/// `Workers` where they aren't 1 to 16, else `Memory` or `Thread`.
+pub fn run_by<T, G>(
+    rt: &T,
+    alloc: Global,
+    net: &Net,
+    workers: u16,
+    kind: CutKind,
+    gate: &G,
+) -> Result<Report, RunError>
+where
+    T: Threads + Wait + RandomSource + AllocGlobal + Sync,
+    G: Gate + Sync,
+    ensures ran { RunsWith (Some workers) (net_of net.now) result }
+    ensures traces { IfOk result (λ r. vec_len r.traces ≡ length (net_of net.now).motes) }
+{
+    if workers == 0 || workers > MOST_WORKERS {
+        return Err(RunError::Workers);
+    }
+    let cut = cut_of(alloc, kind, net.motes(), workers)?;
+    run_workers(rt, alloc, net, workers, &cut, gate)
+}

@@ -1,0 +1,83 @@
+//! The words of the command line, as `clap` reads them.
+ghost use Rattle.std.specs.Prelude.{◌≡◌, codes, None, IfSome};
+ghost use Rattle.simulation.specs.declared.options.CutKind.TheVariants as kind;
+
+use crate::options::{CutKind, Options};
+use clap::{Arg, Command, Error};
+use std::alloc::{AllocError, Global};
+use window_workers::MOST_WORKERS;
+
+/// What the words ask for.
+#[derive(Clone, Copy, Debug, PartialEq, Eq)]
+pub struct Asked<'a> {
+    /// The scenario's file; without one, standard input is read.
+    pub file: Option<&'a str>,
+    pub options: Options,
+}
+
+/// The names of the cuts.
+static CUTS: [&str; 2] = ["block", "stripe"];
+
+/// The cut of this name.
+fn cut_named(name: &str) -> CutKind
+    ensures block { name.now ≡ codes "block" → result ≡ kind.Block }
+    ensures stripe { name.now ≡ codes "stripe" → result ≡ kind.Stripe }
+{
+    match name {
+        "stripe" => CutKind::Stripe,
+        _ => CutKind::Block,
+    }
+}
+
+/// The options for so many workers and the cut of this name. Without a name it is the cut in blocks.
+fn options_for(workers: Option<u16>, cut: Option<&str>) -> Options
+    ensures workers { result.workers ≡ workers }
+    ensures unnamed { cut.entry ≡ None → result.cut ≡ kind.Block }
+    ensures block { IfSome cut.entry (λ name. name.now ≡ codes "block" → result.cut ≡ kind.Block) }
+    ensures stripe { IfSome cut.entry (λ name. name.now ≡ codes "stripe" → result.cut ≡ kind.Stripe) }
+{
+    let cut = match cut {
+        Some(name) => cut_named(name),
+        None => CutKind::Block,
+    };
+    Options { workers, cut }
+}
+
+/// The program's one command.
+fn command<'a>(alloc: Global) -> Result<Command<'a>, AllocError> {
+    let workers = Arg::new(alloc, "workers")
+        .long("workers")
+        .value_name("N")
+        .value_parser(clap::value_parser!(u16).range(1..=i64::from(MOST_WORKERS)))
+        .help(
+            "Has 1 to 16 workers run the motes, each in a thread of its own; without it, one thread runs them all",
+        );
+    let cut = Arg::new(alloc, "cut")
+        .long("cut")
+        .value_name("CUT")
+        .value_parser(CUTS.as_slice())
+        .default_value("block")
+        .help(
+            "How the motes are cut among the workers: in blocks of motes that follow one another, or dealt in turn",
+        );
+    let file = Arg::new(alloc, "FILE").help("The scenario; without it, standard input is read");
+    Command::new(alloc, "motesim")
+        .about(
+            "Simulates a network of Contiki motes, and writes the traces of the motes and the log of the radio medium",
+        )
+        .arg(workers)?
+        .arg(cut)?
+        .arg(file)
+}
+
+/// What the words of the command line ask for, of which the first is the program's name. Without workers, the cut has no effect.
+///
+/// # Errors
+/// Of the kind `DisplayHelp` where help is asked for, `OutOfMemory` where a growth was refused, and else of the fault of the
+/// words.
+pub fn asked_by<'a>(alloc: Global, words: &'a [&'a str]) -> Result<Asked<'a>, Error> {
+    let matches = command(alloc)?.try_get_matches_from(words)?;
+    let options = options_for(matches.get_one::<u16>("workers"), matches.get_str("cut"));
+    let file = matches.get_str("FILE");
+    Ok(Asked { file, options })
+}

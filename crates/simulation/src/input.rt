@@ -1,0 +1,68 @@
+//! Reading the whole of an input as a text.
+ghost use Rattle.std.specs.Prelude.{◌≡◌, ◌≤◌, IfOk, IfSome, string_len, vec_len};
+ghost use Rattle.simulation.specs.Input.{ReadsBytes, ReadsText};
+ghost use Rattle.net_scenario.specs.Limits.{longest_text};
+ghost use Rattle.simulation.specs.declared.input.InputError.TheVariants.{Memory};
+
+use net_scenario::LONGEST_TEXT;
+use std::alloc::{AllocError, Global};
+use std::io::Read;
+
+/// How many bytes are asked for at a time.
+const CHUNK: usize = 4096;
+
+/// Why an input was refused.
+#[derive(Clone, Copy, Debug, PartialEq, Eq)]
+pub enum InputError {
+    /// The reader failed. An interrupted call counts as a failure.
+    Read,
+    /// More than `LONGEST_TEXT` bytes came.
+    TooLong,
+    /// The bytes aren't UTF-8.
+    NotText,
+    /// A growth was refused.
+    Memory,
+}
+
+impl From<AllocError> for InputError {
+    ghost from_gives = { λ _ e. e ≡ Memory };
+
+    fn from(_error: AllocError) -> Self {
+        InputError::Memory
+    }
+}
+
+/// All bytes of a reader, where they are at most `LONGEST_TEXT`. It stops at the first read that goes past that limit, so it
+/// ends at a reader that never does.
+fn read_all<R: Read>(alloc: Global, reader: &mut R) -> Result<Vec<u8>, InputError>
+    ensures told { IfSome (R.remaining reader.old) (λ input. ReadsBytes input result) }
+    ensures bounded { IfOk result (λ bytes. vec_len bytes ≤ longest_text) }
+{
+    let mut bytes = Vec::new(alloc);
+    let mut chunk = [0u8; CHUNK];
+    while bytes.len() <= LONGEST_TEXT {
+        match reader.read(&mut chunk) {
+            Ok(0) => return Ok(bytes),
+            Ok(n) => bytes.extend_from_slice(&chunk[..n])?,
+            Err(_) => return Err(InputError::Read),
+        }
+    }
+    Err(InputError::TooLong)
+}
+
+/// The text that a reader holds, of at most `LONGEST_TEXT` bytes of UTF-8.
+///
+/// # Errors
+/// In this order: `Read` where a call of the reader failed before the limit was passed, `TooLong` where more than
+/// `LONGEST_TEXT` bytes came, `NotText` where they aren't UTF-8. `Memory` only where a growth was refused.
+pub fn read_text<R: Read>(alloc: Global, reader: &mut R) -> Result<String, InputError>
+    // Where the reader tells its bytes, the answer is that of those bytes.
+    ensures told { IfSome (R.remaining reader.old) (λ input. ReadsText input result) }
+    ensures bounded { IfOk result (λ text. string_len text ≤ longest_text) }
+{
+    let bytes = read_all(alloc, reader)?;
+    match String::from_utf8(bytes) {
+        Ok(text) => Ok(text),
+        Err(_) => Err(InputError::NotText),
+    }
+}

@@ -1,0 +1,13 @@
+//! Laws of the definitions. Nothing runs here: each function's contract is a law.
+ghost use Rattle.simulation.specs.Laws.{OneReport};
+
+use net_scenario::laws::at_most_one_net;
+use window_workers::laws::report_is_one;
+
+/// The same scenario, the same bytes, on one thread or by any number of workers: a text has at most one report.
+pub fn at_most_one_report()
+    ensures { OneReport }
+{
+    at_most_one_net();
+    report_is_one();
+}

@@ -1,0 +1,56 @@
+"""Tests of how tools/function_times reads a check's modules: python3 -B -m unittest discover tools/tests"""
+import importlib.machinery
+import importlib.util
+import unittest
+from pathlib import Path
+
+TOOL = str(Path(__file__).resolve().parent.parent / 'function_times')
+
+
+def loaded():
+    loader = importlib.machinery.SourceFileLoader('function_times', TOOL)
+    made = importlib.util.module_from_spec(importlib.util.spec_from_loader('function_times', loader))
+    loader.exec_module(made)
+    return made
+
+
+times = loaded()
+
+
+class WhatAModuleIsAbout(unittest.TestCase):
+    def about(self, module, crate='queue'):
+        return times.function_of(module, crate)
+
+    def test_function(self):
+        self.assertEqual(self.about('Rattle-queue-proofs.ring.put.Lts.View'), 'ring.put')
+
+    def test_method_and_its_contract(self):
+        self.assertEqual(self.about('Rattle-queue-proofs.ring.Ring.put.Goals'), 'ring.Ring.put')
+        self.assertEqual(self.about('Rattle-queue-specs.contracts.ring.Ring.put.Key'), 'ring.Ring.put')
+
+    def test_cycle(self):
+        self.assertEqual(self.about('Rattle-queue-proofs.ring.Ring.+turn.Lts-turn'), 'ring.Ring.+turn')
+
+    def test_closure_counts_to_its_function(self):
+        self.assertEqual(self.about('Rattle-queue-proofs.ring.fn.Ring.put.map.Lts'), 'ring.Ring.put')
+        self.assertEqual(self.about('Rattle-queue-proofs.ring.fn.put.map+FnOnce.call_once.Mir'), 'ring.put')
+
+    def test_what_is_derived(self):
+        self.assertEqual(self.about('Rattle-queue-proofs.ring.RingDebug.TheImpl.Met'), 'ring.RingDebug')
+
+    def test_lemmas(self):
+        self.assertEqual(self.about('Rattle-queue-proofs.Rings'), 'Rings')
+
+    def test_module_of_another(self):
+        self.assertIsNone(self.about('Rattle-ring-proofs.Rings'))
+
+
+class SecondsOfFunctions(unittest.TestCase):
+    def test_seconds_count_to_what_is_written_behind_them(self):
+        one, two = 'Rattle-q-proofs.a.one.', 'Rattle-q-proofs.a.two.'
+        files = [(7.0, one + 'Lts'), (2.0, 'Rattle.Syntax'), (9.5, two + 'Lts'), (10.0, one + 'Met')]
+        self.assertEqual(dict(times.seconds_of(files, 'q')), {'a.one': 5.5, 'a.two': 2.5})
+
+
+if __name__ == '__main__':
+    unittest.main()
