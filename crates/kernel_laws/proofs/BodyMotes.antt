@@ -22,7 +22,6 @@ use Rattle.process_kernel.specs.declared.process.ProcessState.{ProcessState}
 use Rattle.process_kernel.specs.declared.process.ProcessState.TheVariants.{Off, Running, Called}
 use Rattle.process_kernel.specs.declared.process.Member.{Member}
 use Rattle.process_kernel.specs.declared.kernel.Ran.TheVariants as ran
-use Rattle.process_kernel.specs.declared.runs.TheConstants.{UNITS}
 use Rattle.process_kernel.specs.Members.{place_of}
 use Rattle.process_kernel.specs.State.{State, Outcome, Ends, Goes}
 use Rattle.process_kernel.specs.Processes.{is_listed, is_on_list}
@@ -31,7 +30,7 @@ use Rattle.process_kernel.specs.Calls.{Calls, told}
 use Rattle.process_kernel.specs.Call.{calls_of}
 use Rattle.process_kernel.specs.Polls.{walk_polls, polls_of, polls_due_of, poll_turn_of}
 use Rattle.process_kernel.specs.Delivery.{give_of, visit_of, walk_event, deliver_to, deliver_of}
-use Rattle.process_kernel.specs.Run.{begun_of, left_of, deliver_front, kernel_of}
+use Rattle.process_kernel.specs.Run.{begun_of, left_of, deliver_front, kernel_of, most_units}
 use Rattle.process_kernel.specs.Boot.{starts_of, boot_of}
 use Rattle.process_kernel.specs.Mote.{Mote, unbooted, with_poll, with_packet}
 use Rattle.process_kernel.specs.Public.{given, begun, unless_halted, boot_given, run_given}
@@ -145,13 +144,13 @@ pub run_tells : RunTells
 unfolding run_given
 run_tells program mote p code earlier m moment before sends is h =
     let told = starts_and_prints (Own p) earlier in
-    unless_told program mote p code earlier m before sends _ m.halted refl h (λ on. given_told program mote p code earlier m moment before sends _ (h.going on) (kernel_led program mote p code is.is_code is.quiet told (calls_of (UNITS + 1)) (calls_told program mote p code told is.is_code is.quiet (UNITS + 1)) (begun m moment before sends)))
+    unless_told program mote p code earlier m before sends _ m.halted refl h (λ on. given_told program mote p code earlier m moment before sends _ (h.going on) (kernel_led program mote p code is.is_code is.quiet told (calls_of (most_units + 1)) (calls_told program mote p code told is.is_code is.quiet (most_units + 1)) (begun m moment before sends)))
 
 pub boot_tells : BootTells
 unfolding boot_given
 boot_tells program mote p code earlier m moment before sends is h =
     let told = starts_and_prints (Own p) earlier in
-    unless_told program mote p code earlier m before sends _ m.halted refl h (λ on. given_told program mote p code earlier m moment before sends _ (h.going on) (boot_led program mote p code is.is_code is.quiet told (calls_of (UNITS + 1)) (calls_told program mote p code told is.is_code is.quiet (UNITS + 1)) (begun m moment before sends)))
+    unless_told program mote p code earlier m before sends _ m.halted refl h (λ on. given_told program mote p code earlier m moment before sends _ (h.going on) (boot_led program mote p code is.is_code is.quiet told (calls_of (most_units + 1)) (calls_told program mote p code told is.is_code is.quiet (most_units + 1)) (begun m moment before sends)))
 
 pub poll_tells : PollTells
 unfolding with_poll

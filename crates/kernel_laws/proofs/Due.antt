@@ -13,13 +13,12 @@ use Rattle.mote_timers.specs.TimerLists.{new_timers}
 use Rattle.process_kernel.specs.declared.line.Line.{Line}
 use Rattle.radio_packet.specs.declared.sent.Sent.{Sent}
 use Rattle.process_kernel.specs.declared.kernel.Ran.TheVariants as ran
-use Rattle.process_kernel.specs.declared.runs.TheConstants.{UNITS}
 use Rattle.process_kernel.specs.State.{State, Outcome, Ends, Goes, ◌>>=◌}
 use Rattle.process_kernel.specs.Processes.{is_marked, is_listed, has_process, with_mark}
 use Rattle.process_kernel.specs.Calls.{Calls, told}
 use Rattle.process_kernel.specs.Call.{calls_of}
 use Rattle.process_kernel.specs.Polls.{walk_polls}
-use Rattle.process_kernel.specs.Run.{begun_of, kernel_of}
+use Rattle.process_kernel.specs.Run.{begun_of, kernel_of, most_units}
 use Rattle.process_kernel.specs.Boot.{boot_of}
 use Rattle.process_kernel.specs.Mote.{Mote, unbooted}
 use Rattle.process_kernel.specs.Public.{Given, given, begun, unless_halted, boot_given, run_given}
@@ -57,8 +56,8 @@ are_watched k = record {
 }
 
 -- the calls of a boot or a run
-all_watched : AreWatched (calls_of (UNITS + 1))
-all_watched = subst (λ n. AreWatched (calls_of n)) (omega arith) (are_watched UNITS)
+all_watched : AreWatched (calls_of (most_units + 1))
+all_watched = subst (λ n. AreWatched (calls_of n)) (omega arith) (are_watched most_units)
 
 -- where a boot or a run begins
 
@@ -143,7 +142,7 @@ pub run_forgets_none : RunForgetsNone
 unfolding run_given
 run_forgets_none moment m lines sends rest none =
     unless_good moment m lines sends _ (leaves_good moment 0 m.state (record (m.state) { lines = lines; sends = sends }) _
-    (kernel_good (calls_of (UNITS + 1)) all_watched true moment (begun m moment lines sends) (sound_now m moment lines sends rest.sound) (begun_good m moment lines sends rest none))
+    (kernel_good (calls_of (most_units + 1)) all_watched true moment (begun m moment lines sends) (sound_now m moment lines sends rest.sound) (begun_good m moment lines sends rest none))
     (run_rests m moment lines sends 0 rest.sound))
 
 is_there : (k n : ℕ) → k < 3 → nat_lt k (length (replicate (n + 3) false)) ≡ true
@@ -159,10 +158,10 @@ boot_forgets_none program mote queue moment lines sends =
     let r = resting.first_rests program mote queue in
     let first = no_lines_first program mote queue in
     let b = begun_rests m moment lines sends r.step r.idle in
-    let o = boot_of (calls_of (UNITS + 1)) (begun m moment lines sends) in
+    let o = boot_of (calls_of (most_units + 1)) (begun m moment lines sends) in
     let n = length program.processes in
     unless_good moment m lines sends (given o) (leaves_good moment 0 m.state (record (m.state) { lines = lines; sends = sends }) o
-    (boot_good (calls_of (UNITS + 1)) all_watched moment (begun m moment lines sends) (record {
+    (boot_good (calls_of (most_units + 1)) all_watched moment (begun m moment lines sends) (record {
       now_is = refl;
       step = b.step;
       idle = b.idle;
@@ -287,11 +286,11 @@ module _ (calls : Calls) (are : AreWatched calls) (written : stamped.AreKept cal
 
 -- a run
 
-given_polled : (moment : ℕ) (m : Mote) (lines : List Line) (sends : List Sent) (o : Outcome ℕ) → IsAtRest m.state → PollWaits Etimer m.state → kernel_of (calls_of (UNITS + 1)) (begun m moment lines sends) ≡ o → (given o).mote.halted ≡ false → PollsEtimer moment (begun m moment lines sends) lines (given o).lines
+given_polled : (moment : ℕ) (m : Mote) (lines : List Line) (sends : List Sent) (o : Outcome ℕ) → IsAtRest m.state → PollWaits Etimer m.state → kernel_of (calls_of (most_units + 1)) (begun m moment lines sends) ≡ o → (given o).mote.halted ≡ false → PollsEtimer moment (begun m moment lines sends) lines (given o).lines
 unfolding begun_of
 given_polled moment m lines sends (Ends t) rest w e h = absurd (cc)
 given_polled moment m lines sends (Goes n t) rest w e h =
-    let p = run_polled (calls_of (UNITS + 1)) all_watched (stamped.calls_kept (UNITS + 1)) moment (begun m moment lines sends) t n (begun_moment m moment lines sends) (begun_stands m moment lines sends rest) (begun_waits w) e in
+    let p = run_polled (calls_of (most_units + 1)) all_watched (stamped.calls_kept (most_units + 1)) moment (begun m moment lines sends) t n (begun_moment m moment lines sends) (begun_stands m moment lines sends rest) (begun_waits w) e in
     record { at_turn = p.at_turn; comes = p.comes; tells = subst (λ l. TellsDue moment p.at_turn l t.lines) (begun_lines m moment lines sends) p.tells }
   where
     begun_waits : PollWaits Etimer m.state → PollWaits Etimer (begun m moment lines sends)

@@ -9,7 +9,6 @@ use Rattle.radio_packet.specs.declared.arrival.Arrival.{Arrival}
 use Rattle.process_kernel.specs.declared.line.Line.{Line}
 use Rattle.radio_packet.specs.declared.sent.Sent.{Sent}
 use Rattle.process_kernel.specs.declared.kernel.Ran.TheVariants as ran
-use Rattle.process_kernel.specs.declared.runs.TheConstants.{UNITS}
 use Rattle.process_kernel.specs.State.{State, Outcome, Went, Ends, Goes, ◌>>=◌}
 use Rattle.process_kernel.specs.Processes.{is_running, is_marked, process_state, with_state, with_mark}
 use Rattle.process_kernel.specs.Calls.{Calls, told, is_system_event}
@@ -17,7 +16,7 @@ use Rattle.process_kernel.specs.Radio.{radio_of}
 use Rattle.process_kernel.specs.Reaction.{react_of}
 use Rattle.process_kernel.specs.Call.{has_ended, answered, call_of, calls_of}
 use Rattle.process_kernel.specs.Polls.{walk_polls}
-use Rattle.process_kernel.specs.Run.{begun_of, kernel_of}
+use Rattle.process_kernel.specs.Run.{begun_of, kernel_of, most_units}
 use Rattle.process_kernel.specs.Writes.{spend_of}
 use Rattle.process_kernel.specs.Mote.{Mote}
 use Rattle.process_kernel.specs.Public.{given, begun, run_given}
@@ -90,8 +89,8 @@ are_heard k = record {
   empties = call_empties (calls_of k);
 }
 
-all_heard : AreHeard (calls_of (UNITS + 1))
-all_heard = subst (λ n. AreHeard (calls_of n)) (omega arith) (are_heard UNITS)
+all_heard : AreHeard (calls_of (most_units + 1))
+all_heard = subst (λ n. AreHeard (calls_of n)) (omega arith) (are_heard most_units)
 
 -- a kernel run
 
@@ -129,11 +128,11 @@ module _ (calls : Calls) (are : AreHeard calls) where
       let last : b.midst.ring ≡ t.ring = cc in
       sym last ∙ empty_by _ a.midst b.midst tt _ b.first (front_led RingGoes RingHalts ring.chain Whoever ring.steps ring.run_steps calls are.rings a.midst.queue.events a.midst) none
 
-given_emptied : (moment : ℕ) (m : Mote) (lines : List Line) (sends : List Sent) (o : Outcome ℕ) → IsAtRest m.state → PollWaits Radio m.state → kernel_of (calls_of (UNITS + 1)) (begun m moment lines sends) ≡ o → (given o).mote.halted ≡ false → (given o).mote.state.ring ≡ []
+given_emptied : (moment : ℕ) (m : Mote) (lines : List Line) (sends : List Sent) (o : Outcome ℕ) → IsAtRest m.state → PollWaits Radio m.state → kernel_of (calls_of (most_units + 1)) (begun m moment lines sends) ≡ o → (given o).mote.halted ≡ false → (given o).mote.state.ring ≡ []
 unfolding begun_of
 given_emptied moment m lines sends (Ends t) rest w e h = absurd (cc)
 given_emptied moment m lines sends (Goes n t) rest w e h =
-    run_emptied (calls_of (UNITS + 1)) all_heard (begun m moment lines sends) t n (begun_stands m moment lines sends rest) (record { marked = w.marked; flag = w.flag }) e
+    run_emptied (calls_of (most_units + 1)) all_heard (begun m moment lines sends) t n (begun_stands m moment lines sends rest) (record { marked = w.marked; flag = w.flag }) e
 
 polled_emptied : (moment : ℕ) (m : Mote) (lines : List Line) (sends : List Sent) → m.halted ≡ false → IsAtRest m.state → PollWaits Radio m.state → let g = run_given moment m lines sends in g.mote.halted ≡ false → g.mote.state.ring ≡ []
 unfolding run_given
@@ -143,7 +142,7 @@ still_running : (moment : ℕ) (m : Mote) (lines : List Line) (sends : List Sent
 unfolding run_given
 still_running moment m lines sends = by m.halted refl
   where
-    by : (b : Bool) → m.halted ≡ b → (if b then record { ran = ran.Halted; mote = m; lines = lines; sends = sends } else given (kernel_of (calls_of (UNITS + 1)) (begun m moment lines sends))).mote.halted ≡ false → m.halted ≡ false
+    by : (b : Bool) → m.halted ≡ b → (if b then record { ran = ran.Halted; mote = m; lines = lines; sends = sends } else given (kernel_of (calls_of (most_units + 1)) (begun m moment lines sends))).mote.halted ≡ false → m.halted ≡ false
     by true e h = h
     by false e h = e
 

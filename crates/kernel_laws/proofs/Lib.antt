@@ -4,6 +4,7 @@ pub mod BodyMotes
 pub mod BodyRuns
 pub mod CallSteps
 pub mod Delivers
+pub mod Depth
 pub mod Due
 pub mod EachStep
 pub mod Emptied
@@ -26,6 +27,7 @@ pub mod Steps
 pub mod Tables
 pub mod Timers
 pub mod Traces
+pub mod Units
 pub mod Untold
 pub mod Watch
 pub mod WatchedBoot

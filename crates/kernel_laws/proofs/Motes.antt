@@ -12,11 +12,10 @@ use Rattle.process_kernel.specs.declared.line.What.TheVariants as what
 use Rattle.process_kernel.specs.Processes.{is_alive, process_state, with_mark}
 use Rattle.radio_packet.specs.declared.sent.Sent.{Sent}
 use Rattle.radio_packet.specs.declared.arrival.Arrival.{Arrival}
-use Rattle.process_kernel.specs.declared.runs.TheConstants.{UNITS}
 use Rattle.process_kernel.specs.State.{State, Outcome, Ends, Goes}
 use Rattle.process_kernel.specs.Mote.{Mote, with_packet, with_poll}
 use Rattle.process_kernel.specs.Call.{calls_of}
-use Rattle.process_kernel.specs.Run.{begun_of, kernel_of}
+use Rattle.process_kernel.specs.Run.{begun_of, kernel_of, most_units}
 use Rattle.process_kernel.specs.Boot.{boot_of}
 use Rattle.process_kernel.specs.Posts.{poll_of}
 use Rattle.process_kernel.specs.Public.{Given, given, begun, boot_given, run_given}
@@ -43,11 +42,11 @@ told_more lines s before sends g (Goes a t) r = record {
   };
 }
 
-pub run_rests : (m : Mote) (moment : ℕ) (before : List Line) (sends : List Sent) (walked : ℕ) → SystemStays m.state → RestsAt (machine_of m.state walked []) (record (m.state) { lines = before; sends = sends }) (kernel_of (calls_of (UNITS + 1)) (begun m moment before sends))
+pub run_rests : (m : Mote) (moment : ℕ) (before : List Line) (sends : List Sent) (walked : ℕ) → SystemStays m.state → RestsAt (machine_of m.state walked []) (record (m.state) { lines = before; sends = sends }) (kernel_of (calls_of (most_units + 1)) (begun m moment before sends))
 run_rests m moment before sends walked h =
     let s = record (m.state) { lines = before; sends = sends } in
     let k : SystemStays s = record { stays = h.stays; fits = h.fits } in
-    rests_behind ℕ (machine_of s walked []) s (begun_of s moment) (machine_of (begun_of s moment) walked []) _ [] (begun_lines s moment) (begun_run s moment walked) (kernel_run (calls_of (UNITS + 1)) (calls_run (UNITS + 1)) (begun_of s moment) walked (begun_sound s moment k))
+    rests_behind ℕ (machine_of s walked []) s (begun_of s moment) (machine_of (begun_of s moment) walked []) _ [] (begun_lines s moment) (begun_run s moment walked) (kernel_run (calls_of (most_units + 1)) (calls_run (most_units + 1)) (begun_of s moment) walked (begun_sound s moment k))
 
 -- nothing is added
 adds_none : (lines before : List Line) (g : Given) → g.lines ≡ before → GoesWith lines g.mote → Adds lines before g
@@ -70,11 +69,11 @@ run_adds lines m moment before sends b g = run_halted m moment lines before send
 
 -- boot
 
-pub boot_rests : (m : Mote) (moment : ℕ) (before : List Line) (sends : List Sent) (walked : ℕ) → IsBlank m.state → RestsAt (machine_of m.state walked []) (record (m.state) { lines = before; sends = sends }) (boot_of (calls_of (UNITS + 1)) (begun m moment before sends))
+pub boot_rests : (m : Mote) (moment : ℕ) (before : List Line) (sends : List Sent) (walked : ℕ) → IsBlank m.state → RestsAt (machine_of m.state walked []) (record (m.state) { lines = before; sends = sends }) (boot_of (calls_of (most_units + 1)) (begun m moment before sends))
 unfolding begun_of
 boot_rests m moment before sends walked k =
     let s = record (m.state) { lines = before; sends = sends } in
-    rests_behind ℕ (machine_of s walked []) s (begun_of s moment) (machine_of (begun_of s moment) walked []) _ [] (begun_lines s moment) (begun_run s moment walked) (boot_run (calls_of (UNITS + 1)) (calls_run (UNITS + 1)) (begun_of s moment) walked (rw (k.members) refl) k.events k.idle k.there)
+    rests_behind ℕ (machine_of s walked []) s (begun_of s moment) (machine_of (begun_of s moment) walked []) _ [] (begun_lines s moment) (begun_run s moment walked) (boot_run (calls_of (most_units + 1)) (calls_run (most_units + 1)) (begun_of s moment) walked (rw (k.members) refl) k.events k.idle k.there)
 
 boot_first : (lines : List Line) (m : Mote) (moment : ℕ) (before : List Line) (sends : List Sent) (h : Bool) → m.halted ≡ h → GoesWithAs false h lines m.state → Adds lines before (boot_given moment m before sends)
 unfolding boot_given

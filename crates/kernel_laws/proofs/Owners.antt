@@ -15,7 +15,6 @@ use Rattle.mote_timers.specs.TimerLists.{TimerLists, timer_at, with_timer, stop_
 use Rattle.process_kernel.specs.declared.line.Line.{Line}
 use Rattle.radio_packet.specs.declared.sent.Sent.{Sent}
 use Rattle.process_kernel.specs.declared.kernel.Ran.TheVariants as ran
-use Rattle.process_kernel.specs.declared.runs.TheConstants.{UNITS}
 use Rattle.process_kernel.specs.State.{State, Outcome, Ends, Goes}
 use Rattle.process_kernel.specs.Processes.{is_alive, process_state, with_state, with_exiting, with_mark}
 use Rattle.process_kernel.specs.ProcessList.{with_fresh_process, enlist_of, exiting_of, unlisted_of, leave_of}
@@ -23,7 +22,7 @@ use Rattle.process_kernel.specs.Posts.{post_of, poll_of, send_of}
 use Rattle.process_kernel.specs.TimerOperations.{has_timer, timer_is_set}
 use Rattle.process_kernel.specs.Writes.{write_of, halted_of}
 use Rattle.process_kernel.specs.Call.{calls_of}
-use Rattle.process_kernel.specs.Run.{begun_of}
+use Rattle.process_kernel.specs.Run.{begun_of, most_units}
 use Rattle.process_kernel.specs.Mote.{Mote}
 use Rattle.process_kernel.specs.Public.{given, begun, unless_halted, boot_given, run_given}
 use Rattle.kernel_laws.specs.Due.{HaveOwners, BootKeepsOwners, RunKeepsOwners}
@@ -172,9 +171,9 @@ unless_owns moment m lines sends o k h = by m.halted
 pub boot_keeps_owners : BootKeepsOwners
 unfolding boot_given
 boot_keeps_owners moment m lines sends h =
-    unless_owns moment m lines sends _ (boot_led Owns Owns chain Whoever steps run_steps (calls_of (UNITS + 1)) (calls_led Owns Owns chain Whoever steps (UNITS + 1)) (begun m moment lines sends)) h
+    unless_owns moment m lines sends _ (boot_led Owns Owns chain Whoever steps run_steps (calls_of (most_units + 1)) (calls_led Owns Owns chain Whoever steps (most_units + 1)) (begun m moment lines sends)) h
 
 pub run_keeps_owners : RunKeepsOwners
 unfolding run_given
 run_keeps_owners moment m lines sends h =
-    unless_owns moment m lines sends _ (kernel_led Owns Owns chain Whoever steps run_steps (calls_of (UNITS + 1)) (calls_led Owns Owns chain Whoever steps (UNITS + 1)) (begun m moment lines sends)) h
+    unless_owns moment m lines sends _ (kernel_led Owns Owns chain Whoever steps run_steps (calls_of (most_units + 1)) (calls_led Owns Owns chain Whoever steps (most_units + 1)) (begun m moment lines sends)) h

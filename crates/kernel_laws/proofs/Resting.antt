@@ -12,7 +12,6 @@ use Rattle.program_tree.specs.declared.event.Event.{Event}
 use Rattle.program_tree.specs.Code.{Tree}
 use Rattle.event_queue.specs.declared.queue.Posted.{Posted}
 use Rattle.process_kernel.specs.declared.line.What.TheVariants as what
-use Rattle.process_kernel.specs.declared.runs.TheConstants.{UNITS}
 use Rattle.process_kernel.specs.declared.process.ProcessState.{ProcessState}
 use Rattle.process_kernel.specs.declared.process.ProcessState.TheVariants.{Off, Running, Called}
 use Rattle.process_kernel.specs.declared.process.Member.{Member}
@@ -24,7 +23,7 @@ use Rattle.process_kernel.specs.Calls.{Calls, told}
 use Rattle.process_kernel.specs.Call.{call_of, calls_of}
 use Rattle.process_kernel.specs.Polls.{walk_polls, polls_of, polls_due_of, poll_turn_of}
 use Rattle.process_kernel.specs.Delivery.{give_of, visit_of, walk_event, deliver_to, deliver_of}
-use Rattle.process_kernel.specs.Run.{begun_of, left_of, deliver_front, kernel_of}
+use Rattle.process_kernel.specs.Run.{begun_of, left_of, deliver_front, kernel_of, most_units}
 use Rattle.process_kernel.specs.Boot.{starts_of, boot_of}
 use Rattle.process_kernel.specs.Mote.{Mote, at_rest, unbooted, with_packet, with_poll}
 use Rattle.process_kernel.specs.Public.{Given, given, begun, boot_given, run_given}
@@ -118,7 +117,7 @@ begun_rests m moment r = rests_begun _ moment (rests_still m.state _ (record { s
 run_if : (m : Mote) (moment : ℕ) (h : Bool) → m.halted ≡ h → MoteRests m → MoteRests (run_given moment m [] []).mote
 unfolding run_given
 run_if m moment true e r = rw e (λ f. absurd (cc))
-run_if m moment false e r = rw e (given_rests (begun m moment [] []) _ (begun_rests m moment (r e)) (kernel_kept (calls_of (UNITS + 1)) (calls_kept (UNITS + 1)) _ (begun_rests m moment (r e)).step))
+run_if m moment false e r = rw e (given_rests (begun m moment [] []) _ (begun_rests m moment (r e)) (kernel_kept (calls_of (most_units + 1)) (calls_kept (most_units + 1)) _ (begun_rests m moment (r e)).step))
 
 call_rests : (t : Traced) (c : KernelCall) → MoteRests t.mote → MoteRests (after_call t c).mote
 unfolding with_poll with_packet
@@ -161,7 +160,7 @@ unfolding boot_given
 boot_rests program mote queue moment =
     let m = unbooted program mote queue in
     let r = begun_rests m moment (first_rests program mote queue) in
-    unless_rests m.halted _ _ (λ h. first_rests program mote queue) (given_rests (begun m moment [] []) _ r (boot_kept (calls_of (UNITS + 1)) (calls_kept (UNITS + 1)) _ r.step))
+    unless_rests m.halted _ _ (λ h. first_rests program mote queue) (given_rests (begun m moment [] []) _ r (boot_kept (calls_of (most_units + 1)) (calls_kept (most_units + 1)) _ r.step))
 
 idle_listed : (x : ProcessState) (e l : Bool) → AreInStep x e l → is_called_state x ≡ false → e ≡ false → is_running_state x ≡ l
 idle_listed Off e l h c q = sym q ∙ h

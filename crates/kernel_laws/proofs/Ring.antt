@@ -10,7 +10,6 @@ use Rattle.process_kernel.specs.declared.line.Line.{Line}
 use Rattle.radio_packet.specs.declared.sent.Sent.{Sent}
 use Rattle.process_kernel.specs.declared.line.What.{What}
 use Rattle.process_kernel.specs.declared.line.What.TheVariants as what
-use Rattle.process_kernel.specs.declared.runs.TheConstants.{UNITS}
 use Rattle.process_kernel.specs.State.{State, Outcome, Ends, Goes}
 use Rattle.process_kernel.specs.Processes.{is_alive, process_state, with_state, with_exiting, with_mark}
 use Rattle.process_kernel.specs.ProcessList.{with_fresh_process, enlist_of, exiting_of, unlisted_of, leave_of}
@@ -19,7 +18,7 @@ use Rattle.process_kernel.specs.Radio.{hand_to, empty_ring}
 use Rattle.process_kernel.specs.TimerOperations.{timer_is_set}
 use Rattle.process_kernel.specs.Writes.{with_line, write_of, halted_of}
 use Rattle.process_kernel.specs.Call.{calls_of}
-use Rattle.process_kernel.specs.Run.{begun_of}
+use Rattle.process_kernel.specs.Run.{begun_of, most_units}
 use Rattle.process_kernel.specs.Mote.{Mote}
 use Rattle.process_kernel.specs.declared.kernel.Ran.TheVariants as ran
 use Rattle.process_kernel.specs.Public.{given, begun, unless_halted, boot_given, run_given}
@@ -267,9 +266,9 @@ unless_packets moment m lines sends o h = by m.halted
 pub boot_tells_packets : BootTellsPackets
 unfolding boot_given
 boot_tells_packets moment m lines sends =
-    unless_packets moment m lines sends _ (boot_led RingGoes RingHalts chain Whoever steps run_steps (calls_of (UNITS + 1)) (calls_led RingGoes RingHalts chain Whoever steps (UNITS + 1)) (begun m moment lines sends))
+    unless_packets moment m lines sends _ (boot_led RingGoes RingHalts chain Whoever steps run_steps (calls_of (most_units + 1)) (calls_led RingGoes RingHalts chain Whoever steps (most_units + 1)) (begun m moment lines sends))
 
 pub run_tells_packets : RunTellsPackets
 unfolding run_given
 run_tells_packets moment m lines sends =
-    unless_packets moment m lines sends _ (kernel_led RingGoes RingHalts chain Whoever steps run_steps (calls_of (UNITS + 1)) (calls_led RingGoes RingHalts chain Whoever steps (UNITS + 1)) (begun m moment lines sends))
+    unless_packets moment m lines sends _ (kernel_led RingGoes RingHalts chain Whoever steps run_steps (calls_of (most_units + 1)) (calls_led RingGoes RingHalts chain Whoever steps (most_units + 1)) (begun m moment lines sends))

@@ -3,8 +3,7 @@ use Rattle.std.proofs.Common.{ℕ, ◌+◌, Bool, true, false, if◌then◌else�
 use Rattle.process_kernel.specs.State.{State, Outcome, Ends, Goes}
 use Rattle.process_kernel.specs.Calls.{Calls}
 use Rattle.process_kernel.specs.Call.{calls_of}
-use Rattle.process_kernel.specs.declared.runs.TheConstants.{UNITS}
-use Rattle.process_kernel.specs.Run.{begun_of, kernel_of}
+use Rattle.process_kernel.specs.Run.{begun_of, kernel_of, most_units}
 use Rattle.process_kernel.specs.Boot.{boot_of}
 use Rattle.process_kernel.specs.Mote.{Mote}
 use Rattle.process_kernel.specs.declared.kernel.Ran.TheVariants as ran
@@ -66,8 +65,8 @@ calls_stamp depth s p e = let k = left_by (Unit {0}) s _ ((calls_kept depth).cal
 
 pub boot_stamps : BootStamps
 unfolding boot_given
-boot_stamps moment m lines sends = unless_stamped moment m lines sends (boot_of (calls_of (UNITS + 1)) (begun m moment lines sends)) (boot_led Keeps Keeps chain Whoever steps run_steps (calls_of (UNITS + 1)) (calls_kept (UNITS + 1)) _)
+boot_stamps moment m lines sends = unless_stamped moment m lines sends (boot_of (calls_of (most_units + 1)) (begun m moment lines sends)) (boot_led Keeps Keeps chain Whoever steps run_steps (calls_of (most_units + 1)) (calls_kept (most_units + 1)) _)
 
 pub run_stamps : RunStamps
 unfolding run_given
-run_stamps moment m lines sends = unless_stamped moment m lines sends (kernel_of (calls_of (UNITS + 1)) (begun m moment lines sends)) (kernel_led Keeps Keeps chain Whoever steps run_steps (calls_of (UNITS + 1)) (calls_kept (UNITS + 1)) _)
+run_stamps moment m lines sends = unless_stamped moment m lines sends (kernel_of (calls_of (most_units + 1)) (begun m moment lines sends)) (kernel_led Keeps Keeps chain Whoever steps run_steps (calls_of (most_units + 1)) (calls_kept (most_units + 1)) _)

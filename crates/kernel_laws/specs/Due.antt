@@ -14,7 +14,7 @@ use Rattle.mote_timers.specs.TimerLists.{TimerLists, timer_at}
 use Rattle.process_kernel.specs.declared.line.Line.{Line}
 use Rattle.radio_packet.specs.declared.sent.Sent.{Sent}
 use Rattle.process_kernel.specs.declared.line.What.{What}
-use Rattle.process_kernel.specs.declared.runs.TheConstants.{UNITS}
+use Rattle.process_kernel.specs.Run.{most_units}
 use Rattle.process_kernel.specs.State.{State, Goes}
 use Rattle.process_kernel.specs.Processes.{is_listed}
 use Rattle.process_kernel.specs.Call.{calls_of}
@@ -94,7 +94,7 @@ pub record TellsDue (moment : ℕ) (u : State) (lines after : List Line) : Type 
 -- the polls of a run that begins like this come to etimer, and each timer that is due then has its line, unless the mote halts
 pub record PollsEtimer (moment : ℕ) (s : State) (lines after : List Line) : Type 0 where
   pub at_turn : State
-  pub comes : polls_before Etimer (calls_of (UNITS + 1)) s ≡ Goes tt at_turn
+  pub comes : polls_before Etimer (calls_of (most_units + 1)) s ≡ Goes tt at_turn
   pub tells : TellsDue moment at_turn lines after
 
 -- a kernel run in which a poll of etimer waits polls it, and each timer that is due then is told of

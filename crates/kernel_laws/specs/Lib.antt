@@ -1,3 +1,4 @@
+pub mod Depth
 pub mod Due
 pub mod Going
 pub mod InStep

@@ -1,6 +1,7 @@
 //! Laws of the traces of a kernel. Each is the contract of a function that does nothing.
 
 ghost use Rattle.kernel_laws.specs.Polled.{PacketsAreHanded, TimersAreTold};
+ghost use Rattle.kernel_laws.specs.Depth.{CallsAreAnyDepth, ThreadsAreAnyDepth, BootsAreAnyDepth, RunsAreAnyDepth};
 ghost use Rattle.kernel_laws.specs.Due.{CallsForgetNone, BootForgetsNone, RunForgetsNone, RunTellsDue, BootKeepsOwners, RunKeepsOwners};
 ghost use Rattle.kernel_laws.specs.Printed.{PrintsAreTheReading, PrintsSoFarAreTheReading};
 ghost use Rattle.kernel_laws.specs.Telling.{TellingIsOfLives, TellingIsOfLivesSoFar, NoLinesTellFirst, BootTells, RunTells, PollTells, PacketTells, NoteTells};
@@ -93,4 +94,13 @@ pub fn each_call_tells_lives()
     ensures poll { PollTells }
     ensures packet { PacketTells }
     ensures note { NoteTells }
+{}
+
+/// The depth that the rules give to calls is no limit, since a unit of work is spent at each: with more depth than units, more depth
+/// changes nothing of what a call, a thread, a boot or a kernel run does.
+pub fn depth_is_no_limit()
+    ensures calls { CallsAreAnyDepth }
+    ensures threads { ThreadsAreAnyDepth }
+    ensures boots { BootsAreAnyDepth }
+    ensures runs { RunsAreAnyDepth }
 {}

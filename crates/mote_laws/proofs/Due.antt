@@ -16,7 +16,7 @@ use Rattle.process_kernel.specs.declared.kernel.Ran.TheVariants as ran
 use Rattle.radio_packet.specs.declared.arrival.Arrival.{Arrival}
 use Rattle.process_kernel.specs.declared.line.Line.{Line}
 use Rattle.radio_packet.specs.declared.sent.Sent.{Sent}
-use Rattle.process_kernel.specs.declared.runs.TheConstants.{UNITS}
+use Rattle.process_kernel.specs.Run.{most_units}
 use Rattle.process_kernel.specs.State.{State, Goes}
 use Rattle.process_kernel.specs.Call.{calls_of}
 use Rattle.process_kernel.specs.Posts.{poll_of}
@@ -311,7 +311,7 @@ first_not_halted most moment (ran.Left (suc n)) v h = not_halted most moment v v
 -- the run that begins here comes to etimer, and the lines tell of each timer that is due then
 record ServesFrom (moment : ℕ) (u : Underway) (lines : List Line) : Type 0 where
   at_turn : State
-  comes : polls_before Etimer (calls_of (UNITS + 1)) (begun u.mote moment u.lines u.sends) ≡ Goes tt at_turn
+  comes : polls_before Etimer (calls_of (most_units + 1)) (begun u.mote moment u.lines u.sends) ≡ Goes tt at_turn
   each : (timer : ℕ) (owner : Proc) → IsDueFor moment at_turn.timers timer owner → HasTelling moment lines (One owner) (system_number Timer) timer
 
 runs_serve : (most moment : ℕ) (u : Underway) → IsAtRest u.mote.state → PollWaits Etimer u.mote.state → u.mote.halted ≡ false → (runs_of (suc most) moment u).mote.halted ≡ false → ServesFrom moment u (runs_of (suc most) moment u).lines

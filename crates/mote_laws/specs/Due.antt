@@ -8,7 +8,7 @@ use Rattle.program_tree.specs.Events.{system_number}
 use Rattle.program_tree.specs.Code.{Tree}
 use Rattle.radio_packet.specs.declared.arrival.Arrival.{Arrival}
 use Rattle.process_kernel.specs.declared.line.Line.{Line}
-use Rattle.process_kernel.specs.declared.runs.TheConstants.{UNITS}
+use Rattle.process_kernel.specs.Run.{most_units}
 use Rattle.process_kernel.specs.State.{State, Goes}
 use Rattle.process_kernel.specs.Call.{calls_of}
 use Rattle.process_kernel.specs.Public.{begun}
@@ -59,7 +59,7 @@ first_run moment arrivals n = let u = node_begins moment arrivals n in begun u.m
 -- had asked for it. Of each timer that is due then a line of the turn tells, at its moment.
 pub record ServesTimers (moment : ℕ) (arrivals : List Arrival) (n : Node) : Type 0 where
   pub at_turn : State
-  pub comes : polls_before Etimer (calls_of (UNITS + 1)) (first_run moment arrivals n) ≡ Goes tt at_turn
+  pub comes : polls_before Etimer (calls_of (most_units + 1)) (first_run moment arrivals n) ≡ Goes tt at_turn
   pub each : (timer : ℕ) (owner : Proc) → IsDueFor moment at_turn.timers timer owner → HasTelling moment (turn_of moment arrivals n).lines (One owner) (system_number Timer) timer
 
 -- a turn at which a timer is due serves its timers, unless the mote halts in it

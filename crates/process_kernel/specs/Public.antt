@@ -11,16 +11,19 @@ use Rattle.process_kernel.specs.declared.kernel.KernelError.{KernelError}
 use Rattle.process_kernel.specs.declared.kernel.KernelError.TheVariants as error
 use Rattle.process_kernel.specs.declared.machine.Stop.{Stop}
 use Rattle.process_kernel.specs.declared.machine.Stop.TheVariants as stop
-use Rattle.process_kernel.specs.declared.runs.TheConstants.{UNITS}
 use Rattle.process_kernel.specs.State.{State, Outcome, Ends, Goes}
 use Rattle.process_kernel.specs.Mote.{Mote, at_rest}
 use Rattle.process_kernel.specs.Views.{mote_of}
 use Rattle.process_kernel.specs.Call.{calls_of}
-use Rattle.process_kernel.specs.Run.{begun_of, kernel_of}
+use Rattle.process_kernel.specs.Run.{begun_of, kernel_of, most_units}
 use Rattle.process_kernel.specs.Boot.{boot_of}
 
--- The mote that a kernel is, where its program is this. What its threads have still to do is told by the program; a kernel
--- that found no memory is no mote.
+-- The mote that a kernel holds, where its program is this, also once the kernel has failed. What its threads have still to do
+-- is told by the program.
+unfoldable pub held_in : Tree → Kernel → Mote
+held_in program k = mote_of program k.machine k.booted k.halted
+
+-- The mote that a kernel is, where its program is this; a kernel that found no memory is no mote.
 unfoldable pub mote_in : Tree → Kernel → Option Mote
 mote_in program k = if k.failed then None else Some (mote_of program k.machine k.booted k.halted)
 
@@ -45,11 +48,11 @@ unless_halted m lines sends g = if m.halted then record { ran = ran.Halted; mote
 
 -- the boot of a mote
 unfoldable pub boot_given : (moment : ℕ) → Mote → List Line → List Sent → Given
-boot_given moment m lines sends = unless_halted m lines sends (given (boot_of (calls_of (UNITS + 1)) (begun m moment lines sends)))
+boot_given moment m lines sends = unless_halted m lines sends (given (boot_of (calls_of (most_units + 1)) (begun m moment lines sends)))
 
 -- a kernel run of a mote
 unfoldable pub run_given : (moment : ℕ) → Mote → List Line → List Sent → Given
-run_given moment m lines sends = unless_halted m lines sends (given (kernel_of (calls_of (UNITS + 1)) (begun m moment lines sends)))
+run_given moment m lines sends = unless_halted m lines sends (given (kernel_of (calls_of (most_units + 1)) (begun m moment lines sends)))
 
 -- so much was written before
 pub record BeginsWith (old new : Out) : Type 0 where

@@ -2,18 +2,21 @@
 use Rattle.std.specs.Prelude.{ℕ, ◌+◌, List, [], ◌∷◌, length, if◌then◌else◌}
 use Rattle.event_queue.specs.declared.queue.Posted.{Posted}
 use Rattle.event_queue.specs.Queue.{without_front}
-use Rattle.process_kernel.specs.declared.runs.TheConstants.{UNITS}
 use Rattle.process_kernel.specs.State.{State, Outcome, Went, Goes, ◌>>=◌}
 use Rattle.process_kernel.specs.ProcessList.{numbered_from}
 use Rattle.process_kernel.specs.Calls.{Calls}
 use Rattle.process_kernel.specs.Polls.{polls_due_of}
 use Rattle.process_kernel.specs.Delivery.{deliver_of}
 
+-- the units of work that a boot has, and each kernel run
+abbrev pub most_units : ℕ
+most_units = 10000
+
 -- the state in which a boot or a run begins: its work, the moment, and the incarnations numbered anew
 unfoldable pub begun_of : State → (moment : ℕ) → State
 begun_of s moment = record s {
   moment = moment;
-  units = UNITS;
+  units = most_units;
   members = numbered_from 0 s.members;
   started = length s.members;
 }

@@ -69,7 +69,7 @@ impl Drop for Kernel {
 }
 
 impl Kernel {
-    ghost use Rattle.process_kernel.specs.Public.{mote_in, boot_given, run_given, Tells, Closes};
+    ghost use Rattle.process_kernel.specs.Public.{mote_in, held_in, boot_given, run_given, Tells, Closes};
 
     /// The kernel of the mote with this number, not booted yet, with room for this many events in its queue, 1 to 128.
     #[tactic(auto, unfolding(crate::specs::Public::mote_in, crate::specs::Mote::unbooted))]
@@ -134,58 +134,66 @@ impl Kernel {
     }
 
     /// Asks for a poll of a process, where it is running or called.
-    #[tactic(auto, unfolding(crate::specs::Public::mote_in, crate::specs::Mote::with_poll, crate::specs::Posts::poll_of, crate::specs::Processes::with_mark))]
+    #[tactic(auto, unfolding(crate::specs::Public::mote_in, crate::specs::Public::held_in, crate::specs::Mote::with_poll, crate::specs::Posts::poll_of, crate::specs::Processes::with_mark))]
     pub fn poll(&mut self, process: Proc)
-        ensures { (t : Tree) → mote_in t self.new ≡ option_map (λ m. with_poll m process) (mote_in t self.old) }
+        ensures mote { (t : Tree) → mote_in t self.new ≡ option_map (λ m. with_poll m process) (mote_in t self.old) }
+        ensures held { (t : Tree) → held_in t self.new ≡ with_poll (held_in t self.old) process }
     {
         self.machine.poll(process);
     }
 
     /// Whether an event is queued or the poll flag is set.
-    #[tactic(auto, unfolding(crate::specs::Public::mote_in))]
+    #[tactic(auto, unfolding(crate::specs::Public::mote_in, crate::specs::Public::held_in))]
     pub fn pending(&self) -> bool
-        ensures { (t : Tree) → IfSome (mote_in t self.now) (λ m. result ≡ is_pending m) }
+        ensures mote { (t : Tree) → IfSome (mote_in t self.now) (λ m. result ≡ is_pending m) }
+        ensures held { (t : Tree) → result ≡ is_pending (held_in t self.now) }
     {
         self.machine.queue.len() > 0 || self.machine.flag
     }
 
     /// The earliest moment at which a timer on the timer list is due, if one is there.
-    #[tactic(auto, unfolding(crate::specs::Public::mote_in))]
+    #[tactic(auto, unfolding(crate::specs::Public::mote_in, crate::specs::Public::held_in))]
     pub fn next_expiration(&self) -> Option<u64>
-        ensures { (t : Tree) → IfSome (mote_in t self.now) (λ m. result ≡ next_expiration_of m.state.timers) }
+        ensures mote { (t : Tree) → IfSome (mote_in t self.now) (λ m. result ≡ next_expiration_of m.state.timers) }
+        ensures held { (t : Tree) → result ≡ next_expiration_of (held_in t self.now).state.timers }
     {
         self.machine.timers.next_expiration()
     }
 
     /// Puts a packet into the receive ring, where it has room; a full ring stays as it was.
-    #[tactic(auto, unfolding(crate::specs::Public::mote_in, crate::specs::Mote::with_packet))]
+    #[tactic(auto, unfolding(crate::specs::Public::mote_in, crate::specs::Public::held_in, crate::specs::Mote::with_packet))]
     pub fn accept_packet(&mut self, packet: Arrival) -> bool
         ensures room { (t : Tree) → IfSome (mote_in t self.old) (λ m. result ≡ has_room m) }
         ensures after { (t : Tree) → mote_in t self.new ≡ option_map (λ m. if has_room m then with_packet m packet else m) (mote_in t self.old) }
+        ensures held_room { (t : Tree) → result ≡ has_room (held_in t self.old) }
+        ensures held_after { (t : Tree) → held_in t self.new ≡ (if result then with_packet (held_in t self.old) packet else held_in t self.old) }
     {
         self.machine.accept_packet(packet)
     }
 
     /// The number of the mote.
-    #[tactic(auto, unfolding(crate::specs::Public::mote_in))]
+    #[tactic(auto, unfolding(crate::specs::Public::mote_in, crate::specs::Public::held_in))]
     pub fn number(&self) -> u16
-        ensures { (t : Tree) → IfSome (mote_in t self.now) (λ m. result ≡ m.state.mote) }
+        ensures mote { (t : Tree) → IfSome (mote_in t self.now) (λ m. result ≡ m.state.mote) }
+        ensures held { (t : Tree) → result ≡ (held_in t self.now).state.mote }
     {
         self.machine.mote
     }
 
     /// Whether the mote was booted.
-    #[tactic(auto, unfolding(crate::specs::Public::mote_in))]
+    #[tactic(auto, unfolding(crate::specs::Public::mote_in, crate::specs::Public::held_in))]
     pub fn is_booted(&self) -> bool
-        ensures { (t : Tree) → IfSome (mote_in t self.now) (λ m. result ≡ m.booted) }
+        ensures mote { (t : Tree) → IfSome (mote_in t self.now) (λ m. result ≡ m.booted) }
+        ensures held { (t : Tree) → result ≡ (held_in t self.now).booted }
     {
         self.booted
     }
 
     /// Whether the mote has halted.
-    #[tactic(auto, unfolding(crate::specs::Public::mote_in))]
+    #[tactic(auto, unfolding(crate::specs::Public::mote_in, crate::specs::Public::held_in))]
     pub fn is_halted(&self) -> bool
-        ensures { (t : Tree) → IfSome (mote_in t self.now) (λ m. result ≡ m.halted) }
+        ensures mote { (t : Tree) → IfSome (mote_in t self.now) (λ m. result ≡ m.halted) }
+        ensures held { (t : Tree) → result ≡ (held_in t self.now).halted }
     {
         self.halted
     }

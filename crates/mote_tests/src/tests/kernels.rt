@@ -261,3 +261,10 @@ fn refused_memory_is_for_good(rt: HostRuntime) -> Result<(), Fail> {
     assert!(rt; fails_for_good(&mut bench));
     Ok(())
 }
+
+/// The numbers by which the errors are told.
+#[test]
+fn numbers_of_kernel_errors(rt: HostRuntime) -> Result<(), Fail> {
+    assert!(rt; [KernelError::Memory as u8, KernelError::Failed as u8] == [1, 2]);
+    Ok(())
+}

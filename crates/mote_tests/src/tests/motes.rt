@@ -118,6 +118,46 @@ fn mote_by_hand(rt: HostRuntime) -> Result<(), Fail> {
     )
 }
 
+/// Nine packets of mote 4, with values from 9 on.
+fn nine_packets() -> [Arrival; 9] {
+    let mut packets = [PACKET; 9];
+    for number in 0..9u16 {
+        packets[usize::from(number)] = Arrival {
+            sender: 4,
+            number: u64::from(number),
+            value: 9 + number,
+        };
+    }
+    packets
+}
+
+/// Writes down the first turn of a mote that sends a packet, and one at which nine packets arrive.
+fn write_nine(alloc: Global, text: &mut String) -> Result<(), Fail> {
+    let mut bench = new_bench(alloc, SENDER)?;
+    bench.write_turn(text, (0, None))?;
+    let out = bench.mote.turn(&bench.program, 2, &nine_packets())?;
+    write_out(text, &out)?;
+    Ok(())
+}
+
+/// What is written of that.
+fn nine_told(alloc: Global) -> Result<String, Fail> {
+    let mut text = String::new(alloc);
+    write_nine(alloc, &mut text)?;
+    Ok(text)
+}
+
+/// The ring takes eight of nine packets, and the only packet that is sent is the one before.
+#[test]
+fn nine_arrivals(rt: HostRuntime) -> Result<(), Fail> {
+    let told = nine_told(rt.alloc())?;
+    assert_eq!(rt;
+        told.as_str(),
+        "0 Start(Etimer)|0 Start(Ctimer)|0 Start(Radio)|0 Start(Own(0))|0 Send(0, 12)|sent 0 7 0 12|wake None|None|2 Recv(4, 0, 9)|2 Recv(4, 1, 10)|2 Recv(4, 2, 11)|2 Recv(4, 3, 12)|2 Recv(4, 4, 13)|2 Recv(4, 5, 14)|2 Recv(4, 6, 15)|2 Recv(4, 7, 16)|2 Lost(4, 8)|2 Deaf(4, 0)|2 Deaf(4, 1)|2 Deaf(4, 2)|2 Deaf(4, 3)|2 Deaf(4, 4)|2 Deaf(4, 5)|2 Deaf(4, 6)|2 Deaf(4, 7)|wake None|"
+    );
+    Ok(())
+}
+
 /// Whether a mote whose turn found no memory fails for good, and never wakes.
 fn fails_for_good(bench: &mut Bench) -> bool {
     match bench.turn((0, Some(PACKET))).err() {
@@ -135,5 +175,17 @@ fn fails_for_good(bench: &mut Bench) -> bool {
 fn a_refused_turn_fails_for_good(rt: HostRuntime) -> Result<(), Fail> {
     let mut bench = new_bench(rt.alloc(), SENDER)?;
     assert!(rt; fails_for_good(&mut bench));
+    Ok(())
+}
+
+/// The numbers by which the errors are told.
+#[test]
+fn numbers_of_mote_errors(rt: HostRuntime) -> Result<(), Fail> {
+    let numbers = [
+        MoteError::Memory as u8,
+        MoteError::Failed as u8,
+        MoteError::Past as u8,
+    ];
+    assert!(rt; numbers == [1, 2, 3]);
     Ok(())
 }

@@ -19,7 +19,7 @@ loop-packet-preserved c =
 pub returns-then-any-2 : goal.returns-then-any-2
 returns-then-any-2 c =
     let none : drop c.loop-packet.packet-index c.args.packets.now ≡ [] = at_end c.loop-packet.packet-index c.args.packets.now c.loop-packet-test.false in
-    λ t. record { leads = λ u is. heard_some c.args.moment c.args.packets.now _ c.loop-packet.any u _ _ c.loop-packet.out none c.if-any-2.true (c.loop-packet.invariant t u is) (c.poll.ensures t) }
+    λ t. record { leads = λ u is. heard_some c.args.moment c.args.packets.now _ c.loop-packet.any u _ _ c.loop-packet.out none c.if-any-2.true (c.loop-packet.invariant t u is) (c.poll.ensures.mote t) }
 
 pub returns-else-any-2 : goal.returns-else-any-2
 returns-else-any-2 c =

@@ -6,11 +6,11 @@ use Rattle.mote_node.proofs.turn.turn_mote.Goals as goal
 pub returns-then-is_halted : goal.returns-then-is_halted
 returns-then-is_halted c =
     let t = tree_of c.args.program.now in
-    halted_turn c.args.moment c.args.packets.now _ _ c.args.out.now c.boot.new.out c.in_ok-boot.ensures (rw c.if-is_halted.true at (c.is_halted.ensures t))
+    halted_turn c.args.moment c.args.packets.now _ _ c.args.out.now c.boot.new.out c.in_ok-boot.ensures (rw c.if-is_halted.true at (c.is_halted.ensures.mote t))
 
 pub returns : goal.returns
 returns c =
     let t = tree_of c.args.program.now in
     on_ok_weaker c.run_all.result
     (whole_turn c.args.moment c.args.packets.now _ _ _ _ _ c.args.out.now c.boot.new.out c.hear_all.new.out c.run_all.new.out
-    c.in_ok-boot.ensures (rw c.if-is_halted.false at (c.is_halted.ensures t)) (c.in_ok-hear_all.ensures t) (c.poll_due.ensures t)) c.run_all.ensures
+    c.in_ok-boot.ensures (rw c.if-is_halted.false at (c.is_halted.ensures.mote t)) (c.in_ok-hear_all.ensures t) (c.poll_due.ensures t)) c.run_all.ensures
