@@ -11,7 +11,7 @@ pub returns : goal.returns
 returns c = λ number numbered.
     let old = c.args.self.now in
     let out = c.args.out in
-    let told = rw numbered.is at (c.number-number.ensures numbered.tree) in
+    let told = rw numbered.is at (c.number-number.ensures.node numbered.tree) in
     let same : c.number-number.result ≡ number = told ∙ numbered.number_is in
     record {
       worker = refl;
