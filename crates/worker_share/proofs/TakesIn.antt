@@ -20,6 +20,7 @@ takes_in n of worker from motes taken arrived share agenda keeps come holds = re
   nodes = keeps.nodes;
   wakes = keeps.wakes;
   quiet = keeps.quiet;
+  behind = keeps.behind;
   traces_kept = keeps.traces_kept;
   traces = keeps.traces;
   log = keeps.log;
