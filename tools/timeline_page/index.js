@@ -163,7 +163,7 @@ function findGroups(run) {
     if (members.length === 1) alone.push(m); else groups.push({motes: members.sort((a, b) => a - b)});
   }
   if (alone.length && groups.length) groups.push({motes: alone, alone: true});
-  run.groups = groups.length && groups.length <= 20 ? groups : [{motes: Array.from({length: motes}, (_, m) => m)}];
+  run.groups = groups.length && groups.length <= 8 ? groups : [{motes: Array.from({length: motes}, (_, m) => m)}];
   const several = run.groups.length > 1;
   run.groups.forEach((group, g) => {
     const list = group.motes, said = list.length === 1 ? `mote ${list[0]}` : list[list.length - 1] - list[0] === list.length - 1

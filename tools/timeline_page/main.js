@@ -249,6 +249,26 @@ function openAt(said) {
   }
 }
 
+/** What the page's address asks for behind #: from, to, lane (a height), mote, line (a number of the report), only=timeline. */
+function openAsAddressed() {
+  const wish = new URLSearchParams(location.hash.slice(1)), number = name => Number(wish.get(name)), pane = panes[0];
+  if (wish.get('only') === 'timeline') {
+    document.body.classList.add('only-timeline');
+    resize();
+    whole();
+  }
+  if (wish.has('from')) showTime(number('from'), wish.has('to') ? number('to') : number('from') + 60);
+  if (wish.has('lane')) pane.zoomLanes(number('lane') / pane.lane, AXIS);
+  if (wish.has('mote') && number('mote') < pane.order.length) pane.reveal(number('mote'));
+  if (wish.has('line')) {
+    const {traceStart} = pane.run, wanted = number('line');
+    let mote = 0;
+    while (mote + 1 < pane.order.length && traceStart[mote + 1] + mote + 2 < wanted) mote++;
+    const line = wanted - mote - 2;
+    if (line >= traceStart[mote] && line < traceStart[mote + 1]) chooseLine(pane, line, !wish.has('from'));
+  }
+}
+
 /** Selects the first line of the mote from the start on, in the first run that has one. */
 function chooseAt({start, mote}) {
   for (const pane of panes) {
@@ -298,6 +318,7 @@ async function open() {
   drawLegend();
   resize();
   openAt(said);
+  openAsAddressed();
   listen();
   Object.assign(page, {opened: performance.now() - begin, ready: true});
   drawAll();

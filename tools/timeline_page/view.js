@@ -65,15 +65,20 @@ class Pane {
 
   /** Lanes of the height at which all are in view, in so far as they can be told apart. */
   fit() {
-    this.lane = Math.min(96, Math.max(1, (this.height - AXIS - this.heads - 2) / this.order.length));
+    this.lane = Math.min(96, this.fitting);
     this.top = 0;
     this.keep();
+  }
+
+  get fitting() {
+    const each = (this.height - AXIS - this.heads - 2) / this.order.length;
+    return each > 0.1 ? each : SMALL_LANE;
   }
 
   get full() { return this.heads + this.order.length * this.lane; }
 
   keep() {
-    this.lane = Math.min(240, Math.max(Math.min(1, (this.height - AXIS - this.heads) / this.order.length), this.lane));
+    this.lane = Math.min(240, Math.max(Math.min(1, this.fitting), this.lane));
     this.top = Math.max(0, Math.min(this.top, this.full - (this.height - AXIS)));
   }
 
