@@ -96,13 +96,13 @@ class Line:
     packet: tuple[int, int] | None = None
 
     def __str__(self) -> str:
-        return ' '.join([str(self.at), self.kind, *map(str, self[2:])])
+        return ' '.join(map(str, self[1:]))
 
 
 def _form(kind: str, fields: str) -> type[Line]:
-    """The class of the lines of one kind: tuples of the mote, the moment and these fields."""
-    form = namedtuple(kind, 'mote at ' + fields)
-    names = {'__slots__': (), 'kind': kind, '__str__': Line.__str__, '__module__': __name__}
+    """The class of the lines of one kind: tuples of the mote, the moment, the kind and these fields."""
+    form = namedtuple(kind, 'mote at kind ' + fields)
+    names = {'__slots__': (), '__str__': Line.__str__, '__module__': __name__}
     if 'sender' in fields:
         names['packet'] = property(lambda line: (line.sender, line.number), doc='The packet, by its sender and number.')
     if kind == 'send':
@@ -323,7 +323,7 @@ class _Reader:
             named = [tables[field] for field in fields.split()]
             if kind in ('post', 'full'):
                 named = [target if table is process else table for table in named]
-            self.forms[kind] = FORMS[kind], named, len(named) + 2
+            self.forms[kind] = FORMS[kind], kind, len(named) + 2, *(named + [None] * 4)[:4]
 
     def fault(self, expected: str, row: int | None = None) -> NoReturn:
         row = self.at if row is None else row
@@ -358,17 +358,29 @@ class _Reader:
     def trace(self, mote: int) -> list[Line]:
         """The lines up to the next mote or the medium."""
         rows, forms, moments, lines, last, new = self.rows, self.forms, self.moments, [], 0, tuple.__new__
+        none = (None, '', 0, None, None, None, None)
         for at in range(self.at, len(rows)):
             words = rows[at].split(' ')
-            form = forms.get(words[1]) if len(words) > 1 else None
-            if form is None or len(words) != form[2]:
+            count = len(words)
+            form, kind, length, a, b, c, d = forms[words[1]] if count > 1 and words[1] in forms else none
+            if count != length:
                 if words[0] in ('mote', 'medium'):
                     self.at = at
                     break
                 self.bad_line(at, words)
             try:
+                # (most of the time goes here, so each length has its own way)
                 moment = moments[words[0]]
-                lines.append(new(form[0], (mote, moment, *map(getitem, form[1], words[2:]))))
+                if count == 4:
+                    lines.append(new(form, (mote, moment, kind, a[words[2]], b[words[3]])))
+                elif count == 5:
+                    lines.append(new(form, (mote, moment, kind, a[words[2]], b[words[3]], c[words[4]])))
+                elif count == 6:
+                    lines.append(new(form, (mote, moment, kind, a[words[2]], b[words[3]], c[words[4]], d[words[5]])))
+                elif count == 3:
+                    lines.append(new(form, (mote, moment, kind, a[words[2]])))
+                else:
+                    lines.append(new(form, (mote, moment, kind)))
             except _Bad as bad:
                 self.fault(str(bad), at)
             if moment < last:

@@ -74,6 +74,11 @@ class Reports(unittest.TestCase):
         self.assertEqual(report.packets[0, 1], Packet(3, 0, 1, 8, (Copy(1, None),)))
         self.assertEqual(SMALL.split('\n')[report.medium_row:report.medium_row + 4], [str(it) for it in report.medium])
 
+    def test_lines_of_different_kinds_are_never_the_same(self):
+        taken, dropped = (Report.parse(SMALL.replace('take', kind)).motes[0].lines[3] for kind in ('take', 'drop'))
+        self.assertNotEqual(taken, dropped)
+        self.assertEqual(taken, Report.parse(SMALL).motes[0].lines[3])
+
     def test_each_line_stands_on_its_row(self):
         rows = EXAMPLE_REPORT.split('\n')
         for mote in Report.parse(EXAMPLE_REPORT).motes:
