@@ -107,12 +107,12 @@ class Line:
     packet: tuple[int, int] | None = None
 
     def __str__(self) -> str:
-        return ' '.join(map(str, self[1:]))
+        return ' '.join([str(self.at), self.kind, *map(str, self[2:-1])])
 
 
 def _form(kind: str, fields: str) -> type[Line]:
-    """The class of the lines of one kind: tuples of the mote, the moment, the kind and these fields."""
-    form = namedtuple(kind, 'mote at kind ' + fields)
+    """The class of the lines of one kind: tuples of the mote, the moment, these fields and the kind."""
+    form = namedtuple(kind, 'mote at %s kind' % fields)
     names = {'__slots__': (), '__str__': Line.__str__, '__module__': __name__}
     if 'sender' in fields:
         names['packet'] = property(lambda line: (line.sender, line.number))
@@ -385,13 +385,13 @@ class _Reader:
                 # (most of the time goes here, so each length has its own way)
                 moment = moments[words[0]]
                 if count == 4:
-                    lines.append(new(form, (mote, moment, kind, a[words[2]], b[words[3]])))
+                    lines.append(new(form, (mote, moment, a[words[2]], b[words[3]], kind)))
                 elif count == 5:
-                    lines.append(new(form, (mote, moment, kind, a[words[2]], b[words[3]], c[words[4]])))
+                    lines.append(new(form, (mote, moment, a[words[2]], b[words[3]], c[words[4]], kind)))
                 elif count == 6:
-                    lines.append(new(form, (mote, moment, kind, a[words[2]], b[words[3]], c[words[4]], d[words[5]])))
+                    lines.append(new(form, (mote, moment, a[words[2]], b[words[3]], c[words[4]], d[words[5]], kind)))
                 elif count == 3:
-                    lines.append(new(form, (mote, moment, kind, a[words[2]])))
+                    lines.append(new(form, (mote, moment, a[words[2]], kind)))
                 else:
                     lines.append(new(form, (mote, moment, kind)))
             except _Bad as bad:
