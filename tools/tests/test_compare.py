@@ -178,6 +178,16 @@ class Command(unittest.TestCase):
                 self.assertEqual(done.stderr.count('\n'), int(status == 2))
                 self.assertEqual(bool(done.stdout), status != 2)
 
+    @unittest.skipUnless((TOOLS / 'motesim_timeline.py').is_file(), 'tools/motesim_timeline.py is not here')
+    def test_a_page_shows_both(self):
+        with tempfile.TemporaryDirectory() as folder:
+            paths = [Path(folder) / name for name in ('a', 'b', 'page.html')]
+            for path, text in zip(paths, (A, B)):
+                path.write_text(text, encoding='ascii')
+            words = [sys.executable, '-B', str(TOOLS / 'compare'), *map(str, paths[:2]), '--html', str(paths[2])]
+            self.assertEqual(subprocess.run(words, capture_output=True).returncode, 1)
+            self.assertIn('<title>', paths[2].read_text(encoding='utf-8'))
+
 
 if __name__ == '__main__':
     unittest.main()
