@@ -32,6 +32,7 @@ const list = (name, items) => element(name, '', items.map(item => element('li', 
 function selectNothing() {
   chosen = null;
   const box = document.getElementById('details');
+  box.classList.add('empty');
   box.replaceChildren(element('h2', 'Nothing is selected'),
     element('p', 'Click a mark, an arrow, or a mote on the map. With the keyboard: go to the timeline with Tab, choose with [ and ], and follow with Enter.'));
   redraw();
@@ -74,7 +75,18 @@ function tell(pane, show) {
   if (k >= 0) tellPacket(box, pane);
   if (line >= 0 && [POST, TAKE, DROP].includes(run.kind[line])) tellEvent(box, pane);
   if (line >= 0) tellTurn(box, pane); else if (k < 0) tellMote(box, pane);
+  box.classList.remove('empty');
+  speak(pane);
   redraw();
+}
+
+/** What a screen reader is told of what was selected. */
+function speak(pane) {
+  const {run} = pane, {line, k, mote} = chosen, parts = [`Mote ${mote}`];
+  if (line >= 0) parts.push(`moment ${run.at[line]}`, run.words(line));
+  if (k >= 0) parts.push(`packet ${run.packetNumber[k]} of mote ${run.packetSender[k]}`);
+  if (chosen.copy >= 0) parts.push(FATE_WORDS[run.copyFate[chosen.copy]]);
+  document.getElementById('spoken').textContent = parts.join(', ');
 }
 
 /** A packet: the medium's line, the send, each copy and what became of it. */
@@ -179,7 +191,7 @@ function tellMote(box, pane) {
   }
   const head = element('tr', '', ['from', 'copies', 'came', 'lost', 'collided', 'refused'].map(name => element('th', name)));
   const rows = [...sums].sort((a, b) => a[0] - b[0]).slice(0, MOST_LISTED).map(([s, [all, came, lost, met, refused]]) => {
-    const every = run.lossOf.get(s * 1000 + mote), name = `mote ${s}` + (every ? ` (loses 1 in ${every})` : '');
+    const every = run.lossOf.get(s * 65536 + mote), name = `mote ${s}` + (every ? ` (loses 1 in ${every})` : '');
     return element('tr', '', [name, all, came, lost, met, refused].map(value => element('td', String(value))));
   });
   if (rows.length) box.append(element('table', '', [element('thead', '', [head]), element('tbody', '', rows)]));

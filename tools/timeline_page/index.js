@@ -133,7 +133,7 @@ function findHearers(run) {
     }
   }
   run.losses = run.losses || [];
-  run.lossOf = new Map(run.losses.map(([from, to, every]) => [from * 1000 + to, every]));
+  run.lossOf = new Map(run.losses.map(([from, to, every]) => [from * 65536 + to, every]));
 }
 
 /** How many moments a copy takes from s to r: also one that was lost, whose arrival the report doesn't tell. */
@@ -243,7 +243,7 @@ function countByMote(run) {
     for (let c = run.copyStart[k]; c < run.copyStart[k + 1]; c++) {
       const fate = run.copyFate[c];
       if (fate === MEDIUM || fate === COLLIDED || fate === RING) {
-        const link = run.packetSender[k] * 1000 + run.copyTo[c], sum = run.troubled.get(link) || [0, 0, 0];
+        const link = run.packetSender[k] * 65536 + run.copyTo[c], sum = run.troubled.get(link) || [0, 0, 0];
         sum[fate === MEDIUM ? 0 : fate === COLLIDED ? 1 : 2]++;
         run.troubled.set(link, sum);
       }

@@ -244,7 +244,8 @@ function drawLanes(pane, from, to) {
     const [a, b] = linesInView(pane, pane.order[place]);
     lines += b - a;
   }
-  pane.most = lines > MOST_MARKS ? MOST_MARKS / (to - from) : (pane.width - pane.gutter) * 2;
+  const most = pane.lane >= FULL_LANE ? MOST_MARKS : MOST_MARKS * 4;
+  pane.most = lines > most ? most / (to - from) : Math.max(900, (pane.width - pane.gutter) * 2);
   for (let place = from; place < to; place++) drawLane(pane, pane.order[place]);
 }
 
@@ -360,7 +361,8 @@ function drawNames(pane, from, to) {
   const step = pane.lane >= 11 ? 1 : niceStep(13 / pane.lane), several = run.programs.length > 1;
   c.textBaseline = 'middle';
   for (let place = from; place < to; place++) {
-    const mote = pane.order[place], y = pane.laneTopOfPlace(place), isChosen = chosen && chosen.pane === pane && chosen.mote === mote;
+    const mote = pane.order[place], y = pane.laneTopOfPlace(place);
+    const isChosen = chosen && chosen.pane === pane && chosen.mote === mote;
     if (mote % step && !isChosen) continue;
     if (isChosen) {
       c.fillStyle = colours.halo;
@@ -383,7 +385,7 @@ function drawCursor(pane) {
   const c = pane.context, moment = Math.floor(play.now), x = pane.x(moment), wide = Math.max(1.5, time.scale);
   if (x + wide < pane.gutter || x > pane.width) return;
   c.save();
-  c.globalAlpha = time.scale > 3 ? 0.16 : 0.8;
+  c.globalAlpha = time.scale > 60 ? 0.08 : time.scale > 3 ? 0.16 : 0.8;
   c.fillStyle = colours.cursor;
   c.fillRect(Math.max(pane.gutter, x), AXIS, wide, pane.height);
   c.restore();
@@ -468,9 +470,9 @@ function sayDrawn(panes) {
     if (said.thinned) shown.push(`${count(said.thinned, 'mark')} not drawn: less than a pixel or two beside another of their form.`);
     if (said.low) shown.push(`${count(said.low, 'mark')} of events and runs not drawn in lanes this low (T).`);
     if (said.copies > said.arrows) {
-      const rest = said.about ? `about ${said.copies.toLocaleString('en')}` : (said.copies - said.arrows).toLocaleString('en');
-      shown.push(`${rest} copies of packets without an arrow${said.arrows ? `, ${said.arrows.toLocaleString('en')} with one` : ''}: zoom in.`);
-    } else if (said.copies) shown.push(`${said.arrows.toLocaleString('en')} copies of packets, each with its arrow.`);
+      const rest = (said.about ? 'about ' : '') + (said.copies - said.arrows).toLocaleString('en');
+      shown.push(`Copies of packets without an arrow: ${rest}${said.arrows ? `, with one: ${said.arrows.toLocaleString('en')}` : ''}; zoom in.`);
+    } else if (said.copies) shown.push(`Copies of packets: ${said.copies.toLocaleString('en')}, each with its arrow.`);
     parts.push(shown.join(' '));
   }
   document.getElementById('drawn').textContent = parts.join(' ');

@@ -23,7 +23,8 @@ function drawAll() {
 /** Panes and maps take the room that the window has. */
 function resize() {
   const isWide = window.innerWidth > 900, above = document.querySelector('header').offsetHeight;
-  const room = isWide ? window.innerHeight - above - 54 : window.innerHeight * 0.68;
+  const isAlone = document.body.classList.contains('only-timeline');
+  const room = isAlone ? window.innerHeight : isWide ? window.innerHeight - above - (panes.length > 1 ? 76 : 54) : window.innerHeight * 0.68;
   const titles = panes.length > 1 ? panes.length * 28 : 0;
   for (const pane of panes) {
     const wanted = pane.heads + AXIS + pane.order.length * TALL_LANE;

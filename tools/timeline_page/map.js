@@ -92,7 +92,7 @@ class MapView {
       stroke(c, colours.edge, this.radius > 4 ? 1.2 : 0.8);
     }
     for (const [s, r, every] of run.losses) if (run.hearers[s] && run.hearers[s].includes(r)) this.drawLoss(c, s, r, every);
-    if (run.troubled.size <= 3000) for (const [link, sum] of run.troubled) this.drawTrouble(c, Math.floor(link / 1000), link % 1000, sum);
+    if (run.troubled.size <= 3000) for (const [link, sum] of run.troubled) this.drawTrouble(c, link >>> 16, link & 65535, sum);
     return canvas;
   }
 
