@@ -654,6 +654,8 @@ def check_scenario(report: Report, scenario: Scenario) -> None:
 
 def finish(tool: str, work: Callable[[], int]) -> NoReturn:
     """Ends a tool with the status that `work` gives, or with 2 and one line on standard error where it has a fault."""
+    # (looking for cycles among millions of lines would take longer than the work)
+    gc.disable()
     try:
         status = work()
         sys.stdout.flush()
