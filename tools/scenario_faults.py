@@ -25,14 +25,14 @@ RULES: dict[str, str] = {
     'scenario fault 1': 'A scenario is a TOML document, and this text is none.',
     'scenario fault 2': 'A table lacks a key that it needs.',
     'scenario fault 3': 'A table has a key that it does not know, or the name of a program has another form.',
-    'scenario fault 4': 'A key holds a value of another kind.',
+    'scenario fault 4': 'A key holds a value of another kind than it takes.',
     'scenario fault 5': 'A number, or the count of motes, programs or losses, is out of range.',
-    'scenario fault 6': 'A mote, or a key of `queue`, names a program that is not there.',
+    'scenario fault 6': 'A mote, or a key of `queue`, names a program that the scenario does not have.',
     'program': 'The text of this program is none. docs/NOTATION.md has the notation.',
     'medium fault 2': 'The least delay, `base`, is at least 1: nothing is heard at the moment at which it is sent.',
     'medium fault 3': '`per` is at least 1, as the squared distance is divided by it.',
-    'medium fault 4': 'A loss is between two different motes that are there, has an `every` from 1 on, and there is at '
-                      'most one for two motes in one direction.',
+    'medium fault 4': 'A loss is between two different motes that are there, has an `every` from 1 on, and there is '
+                      'at most one for two motes in one direction.',
     'run fault 5': 'The thread of a worker could not be started or run. The scenario may be in order.',
     'write fault': 'The report could not be written. The scenario may be in order.',
     'out of memory': 'There was not enough memory. The scenario may be in order.',
@@ -51,6 +51,19 @@ class ScenarioFault(Exception):
     may: str = ''
     line: tuple[int, int] | None = None
     program: ProgramFault | None = None
+
+    def is_of_value(self) -> bool:
+        """Whether it is the value behind the key that can't stand, and not the key."""
+        if not self.path or type(self.path[-1]) is int or self.path[0] == 'queue' and self.told == 'scenario fault 6':
+            return False
+        return self.told not in ('scenario fault 2', 'scenario fault 3')
+
+    def place(self, text: str) -> Place:
+        """Where the fault is."""
+        if self.line:
+            return Place(*self.line, 1)
+        place = place_of(text, self.path)
+        return value_of(text, place) if self.is_of_value() else place
 
 
 @dataclass(frozen=True)
@@ -222,6 +235,7 @@ KEY = r'(?:[A-Za-z0-9_-]+|"[^"\n]*"|\'[^\'\n]*\')'
 DOTTED = r'%s(?:\s*\.\s*%s)*' % (KEY, KEY)
 HEADER = re.compile(r'\s*(\[\[?)\s*(%s)\s*\]\]?' % DOTTED)
 ENTRY = re.compile(r'\s*(%s)\s*=' % DOTTED)
+VALUE = re.compile(r'["\']?\s*=\s*("(?:[^"\\]|\\.)*"|\'[^\']*\'|[^\s,}#\'"]+)')
 LONG_QUOTES = ("'''", '"""')
 OPENED = re.compile('|'.join([*LONG_QUOTES, r'"(?:[^"\\]|\\.)*"', "'[^']*'", '#']))
 
@@ -287,6 +301,13 @@ def place_of(text: str, path: Path) -> Place:
             place = found[path[:length]]
             return _within(text, place, str(path[length])) if length < len(path) else place
     return Place(1, 0, len(text.split('\n')[0]))
+
+
+def value_of(text: str, place: Place) -> Place:
+    """The value behind a key, if it stands on the same line; else the key."""
+    line = text.split('\n')[place.line - 1]
+    found = VALUE.match(line, place.column + place.length)
+    return Place(place.line, found.start(1), len(found[1])) if found else place
 
 
 def _within(text: str, place: Place, name: str) -> Place:
