@@ -198,13 +198,25 @@ def _read(data: bytes) -> dict:
         line = data.count(b'\n', 0, begin) + 1, len(data[begin:fault.start].decode('utf-8'))
         raise ScenarioFault('scenario is not UTF-8', line=line, may='text in UTF-8') from None
     try:
-        return tomllib.loads(text.removeprefix('\ufeff'))
+        tables = tomllib.loads(text.removeprefix('\ufeff'))
     except (tomllib.TOMLDecodeError, RecursionError) as fault:
         place = re.search(r' \(at line (\d+), column (\d+)\)$', str(fault))
         lines = text.split('\n')
         line = (int(place[1]), int(place[2]) - 1) if place else (len(lines), len(lines[-1]))
         what = re.sub(r' \(at .*\)$', '', str(fault))
         raise ScenarioFault('scenario fault 1', line=line, may='TOML (Python says: %s)' % what) from None
+    for path in _too_large(tables, ()):
+        raise ScenarioFault('scenario fault 1', path, may='a whole number of 64 bits')
+    return tables
+
+
+def _too_large(value: object, path: Path) -> Iterator[Path]:
+    """Where numbers stand that have more than 64 bits, which Python alone takes as TOML."""
+    if type(value) is int and not -2 ** 63 <= value < 2 ** 63:
+        yield path
+    members = value.items() if type(value) is dict else enumerate(value) if type(value) is list else []
+    for name, member in members:
+        yield from _too_large(member, path + (name,))
 
 
 def _check(tables: dict) -> None:

@@ -80,6 +80,7 @@ PROGRAMS = [
 # Changes to the scenario, each with what is told, and the line and the text that are marked.
 SCENARIOS = [
     ({'end = 5': 'end ='}, 'scenario fault 1', 2, ''),
+    ({'end = 5': 'end = 9223372036854775808'}, 'scenario fault 1', 2, '9223372036854775808'),
     ({'end = 5\n': ''}, 'scenario fault 2', 1, 'version = 1'),
     ({'y = 0\nprogram = "p"\n[[loss]]': 'program = "p"\n[[loss]]'}, 'scenario fault 2', 16, '[[mote]]'),
     ({'version = 1': 'version = 2'}, 'scenario fault 2', 3, '[medium]'),
