@@ -10,7 +10,7 @@ from typing import Iterator, NamedTuple
 from expect_sentences import (
     Copies, Count, Deed, Does, Hears, Lines, MediumLine, Motes, Packets, Pattern, Refused, Sentence, Value, Window,
 )
-from motesim_report import Line, Report, Scenario
+from motesim_report import FIELDS, Line, Report, Scenario
 
 BECAME = {'collided': 'collide', 'received': 'recv', 'full': 'lost'}
 
@@ -110,10 +110,11 @@ class Judge:
         """The lines of a mote that have this pattern."""
         tests = [(index, set(map(str, self.values(it, mote))) if isinstance(it, Value) else {it})
                  for index, it in enumerate(pattern[1:], 2) if it is not None]
+        if len(pattern) > 1 + len(FIELDS[pattern[0]].split()):
+            return
         for event in self.events[mote]:
-            line = event.line
-            if line.kind == pattern[0] and len(line) > len(pattern):
-                if all(str(line[index]) in allowed for index, allowed in tests):
+            if event.line.kind == pattern[0]:
+                if all(str(event.line[index]) in allowed for index, allowed in tests):
                     yield event
 
     def done(self, deed: Deed, motes: tuple[int, ...]) -> list[Event]:

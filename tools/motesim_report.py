@@ -12,12 +12,18 @@ docs/REPORT.md says what a report is, docs/SCENARIO.md what a scenario is. A scr
         print(packet.sender, 'sent', packet.value, 'to', [copy.to for copy in packet.copies], 'at', packet.at)
     print(run.scenario.hearers(0), 'hear mote 0')
 
-(elsewhere, put the path of tools/ into PYTHONPATH). What can go wrong is a `Fault`, whose text can be shown as it is: a text
-that is no report (`ReportFault`, with its line), no scenario (`ScenarioFault`), a program that is not built or a scenario that it
-refuses (`ProgramFault`), a file that can't be read (`Fault`).
+A script elsewhere needs the path of tools/ in PYTHONPATH.
 
-A report is read strictly: each line has to be one of docs/REPORT.md, with names and numbers that it can have; moments don't fall in
-a trace; packets and their receivers stand in their order; there is nothing behind `left K`. `Report.text()` gives the bytes back.
+What can go wrong is a `Fault`, whose text can be shown as it is:
+
+    ReportFault    a text is no report; its line is in it
+    ScenarioFault  a text is no scenario, or not that of the report
+    ProgramFault   the program is not built, or refuses a scenario
+    Fault          a file can't be read
+
+A report is read strictly: each line has to be one of docs/REPORT.md, with names and numbers that it can have. Moments
+don't fall in a trace, packets and their receivers stand in their order, and there is nothing behind `left K`.
+`Report.text()` gives the text back, byte for byte.
 """
 from __future__ import annotations
 
@@ -31,7 +37,7 @@ from collections import namedtuple
 from functools import cached_property
 from operator import getitem
 from pathlib import Path
-from typing import Iterator, NamedTuple, NoReturn
+from typing import Callable, Iterator, NamedTuple, NoReturn
 
 TOP = Path(__file__).resolve().parent.parent
 MOST_MOMENT = 1_000_000
@@ -40,10 +46,10 @@ MOST_NUMBER = 2 ** 62 - 1
 SYSTEM = ('etimer', 'ctimer', 'radio')
 EVENTS = ('continue', 'msg', 'com', 'packet', 'exit', 'timer')
 RESERVED = frozenset(
-    'event semaphore process autostart receiver code var etimer ctimer thread onpoll onexit body print send if else while '
-    'wait_until wait_while yield yield_until spawn restart exit pause acquire signal post broadcast synch poll start kill set '
-    'reset restart_timer stop into continue msg com packet init exited timer data from now self is fired expired gone running '
-    'count radio all'.split())
+    'event semaphore process autostart receiver code var etimer ctimer thread onpoll onexit body print send if else '
+    'while wait_until wait_while yield yield_until spawn restart exit pause acquire signal post broadcast synch poll '
+    'start kill set reset restart_timer stop into continue msg com packet init exited timer data from now self is '
+    'fired expired gone running count radio all'.split())
 
 
 class Fault(Exception):
@@ -55,7 +61,9 @@ class ReportFault(Fault):
 
     def __init__(self, row: int, expected: str, found: str | None):
         self.row, self.expected, self.found = row, expected, found
-        shown = 'the text ends' if found is None else 'there is %r' % (found if len(found) <= 80 else found[:80] + '..')
+        shown = 'the text ends'
+        if found is not None:
+            shown = 'there is %r' % (found if len(found) <= 80 else found[:80] + '..')
         super().__init__('line %d: expected %s, but %s' % (row, expected, shown))
 
 
@@ -80,7 +88,10 @@ class Line:
     number    N: the packet's number at its sender
     value     V: what was printed, or a packet's value
 
-    A line is a tuple, so two of them compare by what they say. `str(line)` is the line's text.
+    packet    a packet by its sender and number, of a line that has one
+
+    A line is a tuple, so two of them compare by what they say. `str(line)` is the line's text (and not `'%s' % line`,
+    which takes tuples apart).
     """
     __slots__ = ()
     mote: int
@@ -96,31 +107,32 @@ class Line:
     packet: tuple[int, int] | None = None
 
     def __str__(self) -> str:
-        return ' '.join([str(self.at), self.kind, *map(str, self[2:])])
+        return ' '.join([str(self.at), self.kind, *map(str, self[2:-1])])
 
 
 def _form(kind: str, fields: str) -> type[Line]:
-    """The class of the lines of one kind: tuples of the mote, the moment and these fields."""
-    form = namedtuple(kind, 'mote at ' + fields)
-    names = {'__slots__': (), 'kind': kind, '__str__': Line.__str__, '__module__': __name__}
+    """The class of the lines of one kind: tuples of the mote, the moment, these fields and the kind."""
+    form = namedtuple(kind, 'mote at %s kind' % fields)
+    names = {'__slots__': (), '__str__': Line.__str__, '__module__': __name__}
     if 'sender' in fields:
-        names['packet'] = property(lambda line: (line.sender, line.number), doc='The packet, by its sender and number.')
+        names['packet'] = property(lambda line: (line.sender, line.number))
     if kind == 'send':
-        names['packet'] = property(lambda line: (line.mote, line.number), doc='The packet, by its sender and number.')
+        names['packet'] = property(lambda line: (line.mote, line.number))
     return type(kind, (form, Line), names)
 
 
 # The kinds of lines, each with its fields in the order of the text.
 FIELDS = {
     'start': 'process', 'leave': 'process', 'post': 'serial process event word', 'full': 'process event word',
-    'take': 'serial process', 'drop': 'serial process', 'print': 'process value', 'busy': 'process', 'send': 'number value',
-    'recv': 'sender number value', 'lost': 'sender number', 'collide': 'sender number', 'deaf': 'sender number', 'halt': '',
+    'take': 'serial process', 'drop': 'serial process', 'print': 'process value', 'busy': 'process',
+    'send': 'number value', 'recv': 'sender number value', 'lost': 'sender number', 'collide': 'sender number',
+    'deaf': 'sender number', 'halt': '',
 }
 FORMS: dict[str, type[Line]] = {kind: _form(kind, fields) for kind, fields in FIELDS.items()}
 
 
 class Copy(NamedTuple):
-    """What the medium does with one copy of a packet: the mote that it goes to, and its arrival, or None where it is lost."""
+    """A copy of a packet in the medium: the mote that it goes to, and its arrival, or None where it is lost."""
     to: int
     at: int | None
 
@@ -141,7 +153,7 @@ class Packet(NamedTuple):
 
 
 class Mote:
-    """A mote with its trace. `row` is the line of the report at which it begins: `lines[i]` stands on line `row + 1 + i`."""
+    """A mote with its trace. It begins on line `row` of the report, and `lines[i]` stands on line `row + 1 + i`."""
     __slots__ = ('number', 'program', 'row', 'lines')
 
     def __init__(self, number: int, program: str, row: int, lines: list[Line]):
@@ -214,8 +226,8 @@ class Report:
     def outcomes(self) -> list[Outcome]:
         """What became of each copy, in the order of the log of the medium.
 
-        A copy without a line was lost by the medium, came to a mote that had halted, or is one of the `left`, which would arrive
-        last of all.
+        A copy without a line was lost by the medium, came to a mote that had halted, or is one of the `left`, which
+        would arrive last of all.
         """
         became: dict[tuple[int, int, int], str] = {}
         for mote in self.motes:
@@ -223,13 +235,15 @@ class Report:
             for line in mote.lines:
                 if line.kind in _BECAME:
                     became[here, line.sender, line.number] = _BECAME[line.kind]
-        found, silent = [], []
+        found, silent, new = [], [], tuple.__new__
         for packet in self.medium:
-            for copy in packet.copies:
-                what = became.get((copy.to, packet.sender, packet.number), '') if copy.at is not None else 'lost'
+            _, sender, number, _, copies = packet
+            for copy in copies:
+                to, at = copy
+                what = 'lost' if at is None else became.get((to, sender, number), '')
                 if not what:
                     silent.append(len(found))
-                found.append(Outcome(packet, copy, what))
+                found.append(new(Outcome, (packet, copy, what)))
         silent.sort(key=lambda index: found[index].copy.at)
         halted = len(silent) - self.left
         for place, index in enumerate(silent):
@@ -283,9 +297,8 @@ class _Numbers(_Words):
         self.most = most
 
     def value(self, word: str) -> int | None:
-        if word.isdecimal() and word.isascii() and (word[0] != '0' or word == '0') and len(word) < 20 and int(word) <= self.most:
-            return int(word)
-        return None
+        is_number = word.isdecimal() and word.isascii() and (word == '0' or word[0] != '0') and len(word) < 20
+        return int(word) if is_number and int(word) <= self.most else None
 
 
 class _Names(_Words):
@@ -323,7 +336,7 @@ class _Reader:
             named = [tables[field] for field in fields.split()]
             if kind in ('post', 'full'):
                 named = [target if table is process else table for table in named]
-            self.forms[kind] = FORMS[kind], named, len(named) + 2
+            self.forms[kind] = FORMS[kind], kind, len(named) + 2, *(named + [None] * 4)[:4]
 
     def fault(self, expected: str, row: int | None = None) -> NoReturn:
         row = self.at if row is None else row
@@ -358,17 +371,29 @@ class _Reader:
     def trace(self, mote: int) -> list[Line]:
         """The lines up to the next mote or the medium."""
         rows, forms, moments, lines, last, new = self.rows, self.forms, self.moments, [], 0, tuple.__new__
+        none = (None, '', 0, None, None, None, None)
         for at in range(self.at, len(rows)):
             words = rows[at].split(' ')
-            form = forms.get(words[1]) if len(words) > 1 else None
-            if form is None or len(words) != form[2]:
+            count = len(words)
+            form, kind, length, a, b, c, d = forms[words[1]] if count > 1 and words[1] in forms else none
+            if count != length:
                 if words[0] in ('mote', 'medium'):
                     self.at = at
                     break
                 self.bad_line(at, words)
             try:
+                # (most of the time goes here, so each length has its own way)
                 moment = moments[words[0]]
-                lines.append(new(form[0], (mote, moment, *map(getitem, form[1], words[2:]))))
+                if count == 4:
+                    lines.append(new(form, (mote, moment, a[words[2]], b[words[3]], kind)))
+                elif count == 5:
+                    lines.append(new(form, (mote, moment, a[words[2]], b[words[3]], c[words[4]], kind)))
+                elif count == 6:
+                    lines.append(new(form, (mote, moment, a[words[2]], b[words[3]], c[words[4]], d[words[5]], kind)))
+                elif count == 3:
+                    lines.append(new(form, (mote, moment, a[words[2]], kind)))
+                else:
+                    lines.append(new(form, (mote, moment, kind)))
             except _Bad as bad:
                 self.fault(str(bad), at)
             if moment < last:
@@ -488,7 +513,8 @@ class Scenario:
         self.places = [Place(_get(it, 'x', int, 'mote %d' % number), _get(it, 'y', int, 'mote %d' % number),
                              _get(it, 'program', str, 'mote %d' % number)) for number, it in enumerate(motes)]
         self.losses: dict[tuple[int, int], int] = {
-            (_get(it, 'from', int, 'a loss'), _get(it, 'to', int, 'a loss')): _get(it, 'every', int, 'a loss') for it in losses}
+            (_get(it, 'from', int, 'a loss'), _get(it, 'to', int, 'a loss')): _get(it, 'every', int, 'a loss')
+            for it in losses}
 
     @classmethod
     def parse(cls, text: str | bytes) -> Scenario:
@@ -518,7 +544,7 @@ class Scenario:
 
     @cached_property
     def _neighbours(self) -> list[list[int]]:
-        """Of each mote those that it hears. Motes are looked for in the squares around it, whose sides are the range."""
+        """Of each mote those that it hears. They stand in the squares around it, whose sides are the range."""
         side = max(1, self.range)
         squares: dict[tuple[int, int], list[int]] = {}
         for number, place in enumerate(self.places):
@@ -595,9 +621,9 @@ def read_file(path: str | Path) -> bytes:
 
 
 def read_run(path: str | Path, scenario: str | Path | None = None) -> Run:
-    """A report from a file, with the scenario from another where it is named. A file NAME.toml is a scenario, and is run.
+    """A report from a file, with the scenario from another where it is named.
 
-    The name `-` is standard input, with a report.
+    A file NAME.toml is a scenario, and is run. The name `-` is a report on standard input.
     """
     data = read_file(path)
     at = path
@@ -622,4 +648,20 @@ def check_scenario(report: Report, scenario: Scenario) -> None:
         raise ScenarioFault('the scenario has %d motes, the report %d' % (scenario.motes, len(report.motes)))
     for mote, place in zip(report.motes, scenario.places):
         if mote.program != place.program:
-            raise ScenarioFault('mote %d runs %s in the scenario, %s in the report' % (mote.number, place.program, mote.program))
+            raise ScenarioFault('mote %d runs %s in the scenario, %s in the report' % (
+                mote.number, place.program, mote.program))
+
+
+def finish(tool: str, work: Callable[[], int]) -> NoReturn:
+    """Ends a tool with the status that `work` gives, or with 2 and one line on standard error where it has a fault."""
+    try:
+        status = work()
+        sys.stdout.flush()
+    except Fault as fault:
+        print('%s: %s' % (tool, fault), file=sys.stderr)
+        status = 2
+    except BrokenPipeError:
+        # (nobody reads on, as behind `| head`: Python shall not complain of it at its end)
+        os.dup2(os.open(os.devnull, os.O_WRONLY), sys.stdout.fileno())
+        status = 2
+    sys.exit(status)

@@ -138,7 +138,7 @@ BROKEN = [
     ('mote 1 prints just flood 1, 2, 3 in any order', None),
     ('mote 2 finally prints hears the set of motes that it hears but 1', 16),
     ('mote 0 finally prints hears 1', None), ('no copy collides', 12), ('no copy is lost', 27),
-    ('no copy is left', 29), ('at most 3 packets are sent', 27), ('no copy arrives at mote 0', 4),
+    ('no copy is left', 29), ('at most 3 packets are sent', 27), ("mote 3 writes 'halt halt'", None), ('no copy arrives at mote 0', 4),
     ('the report has fewer than 20 lines', None), ("the medium writes '49 3 0 2'", 23),
     ('mote 2 can hear mote 3', None), ('mote 0 sends from 0 to 50 more than once as often as from 51 on', 3),
     ('mote 0 sends at most once as often as mote 1', 5),

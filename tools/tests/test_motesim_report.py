@@ -21,6 +21,7 @@ SMALL = '''mote 0 talker
 3 take 0 talker
 3 send 1 8
 6 send 2 9
+7 send 3 9
 mote 1 hearer
 4 recv 0 0 7
 4 post 0 hearer packet 7
@@ -60,7 +61,7 @@ class Reports(unittest.TestCase):
     def test_lines_have_their_parts(self):
         report = Report.parse(SMALL)
         talker, hearer = report.motes
-        self.assertEqual((talker.number, talker.program, talker.row, hearer.row), (0, 'talker', 1, 8))
+        self.assertEqual((talker.number, talker.program, talker.row, hearer.row), (0, 'talker', 1, 9))
         post = talker.lines[2]
         self.assertEqual((post.mote, post.at, post.kind, post.serial, post.process, post.event, post.word),
                          (0, 3, 'post', 0, 'talker', 'timer', 0))
@@ -70,9 +71,14 @@ class Reports(unittest.TestCase):
         self.assertEqual(talker.lines[1].packet, (0, 0))
         self.assertEqual(str(hearer.lines[3]), '4 print hearer 65535')
         self.assertEqual((talker.halted(), hearer.halted()), (None, 9))
-        self.assertEqual((report.left, report.medium_row), (1, 14))
+        self.assertEqual((report.left, report.medium_row), (1, 15))
         self.assertEqual(report.packets[0, 1], Packet(3, 0, 1, 8, (Copy(1, None),)))
         self.assertEqual(SMALL.split('\n')[report.medium_row:report.medium_row + 4], [str(it) for it in report.medium])
+
+    def test_lines_of_different_kinds_are_never_the_same(self):
+        taken, dropped = (Report.parse(SMALL.replace('take', kind)).motes[0].lines[3] for kind in ('take', 'drop'))
+        self.assertNotEqual(taken, dropped)
+        self.assertEqual(taken, Report.parse(SMALL).motes[0].lines[3])
 
     def test_each_line_stands_on_its_row(self):
         rows = EXAMPLE_REPORT.split('\n')
@@ -84,7 +90,8 @@ class Reports(unittest.TestCase):
         found = [(it.packet.number, it.copy.to, it.what) for it in Report.parse(SMALL).outcomes()]
         self.assertEqual(found, [(0, 1, 'received'), (1, 1, 'lost'), (2, 1, 'halted'), (3, 1, 'left')])
         found = [(it.packet.sender, it.packet.number, it.what) for it in Report.parse(EXAMPLE_REPORT).outcomes()]
-        self.assertEqual(found, [(0, 0, 'collided'), (2, 0, 'collided'), (0, 1, 'lost'), (0, 2, 'received'), (2, 1, 'left')])
+        self.assertEqual(found, [(0, 0, 'collided'), (2, 0, 'collided'), (0, 1, 'lost'), (0, 2, 'received'),
+                                 (2, 1, 'left')])
 
     def fault(self, text):
         with self.assertRaises(ReportFault) as raised:
@@ -105,17 +112,17 @@ class Reports(unittest.TestCase):
                 (3, '0 send 0 7 ', 'MOMENT send NUMBER VALUE'),
                 (4, '3 post 0 talker exited 0', 'an event'),
                 (5, '2 take 0 talker', 'a moment from 3 on'),
-                (8, 'mote 2 hearer', "'mote 1' and the name of its program"),
-                (9, '4 recv 2 0 7', 'a mote of this report, 0 to 1'),
-                (12, '4 halt', 'nothing more of mote 1'),
-                (14, 'media', 'a moment and one of'),
-                (15, '0 0 0', 'MOMENT SENDER NUMBER VALUE'),
-                (15, '0 0 0 7 1@', 'an arrival'),
-                (15, '0 0 0 7 0@4', 'receivers in rising order, without the sender'),
-                (15, '0 0 0 7 1@0', 'arrivals after moment 0'),
-                (15, '6 0 1 7 1@9', 'packets in the order of moment, sender and number'),
-                (19, 'left', "'left' and a number"),
-                (19, 'right 1', 'MOMENT SENDER NUMBER VALUE')]:
+                (9, 'mote 2 hearer', "'mote 1' and the name of its program"),
+                (10, '4 recv 2 0 7', 'a mote of this report, 0 to 1'),
+                (13, '4 halt', 'nothing more of mote 1'),
+                (15, 'media', 'a moment and one of'),
+                (16, '0 0 0', 'MOMENT SENDER NUMBER VALUE'),
+                (16, '0 0 0 7 1@', 'an arrival'),
+                (16, '0 0 0 7 0@4', 'receivers in rising order, without the sender'),
+                (16, '0 0 0 7 1@0', 'arrivals after moment 0'),
+                (16, '6 0 1 7 1@9', 'packets in the order of moment, sender and number'),
+                (20, 'left', "'left' and a number"),
+                (20, 'right 1', 'MOMENT SENDER NUMBER VALUE')]:
             rows = SMALL.split('\n')
             rows[row - 1] = line
             where, said = self.fault('\n'.join(rows))
@@ -128,11 +135,12 @@ class Reports(unittest.TestCase):
     def test_a_text_that_is_cut_off_or_goes_on_has_its_fault(self):
         self.assertEqual(self.fault('')[0], 1)
         self.assertEqual(self.fault('mote 0 a\n')[0], 2)
-        self.assertEqual(self.fault(SMALL[:-1]), (20, "line 20: expected a line end behind 'left', but the text ends"))
-        self.assertEqual(self.fault(SMALL[:SMALL.index('left')])[0], 19)
-        self.assertEqual(self.fault(SMALL + '\n'), (20, "line 20: expected nothing more, but there is ''"))
+        self.assertEqual(self.fault(SMALL[:-1]), (21, "line 21: expected a line end behind 'left', but the text ends"))
+        self.assertEqual(self.fault(SMALL[:SMALL.index('left')])[0], 20)
+        self.assertEqual(self.fault(SMALL + '\n'), (21, "line 21: expected nothing more, but there is ''"))
         self.assertEqual(self.fault(SMALL.replace('\n', '\r\n'))[0], 1)
-        self.assertEqual(self.fault(b'mote 0 a\n0 halt\xff\n'), (2, "line 2: expected text in ASCII, but there is '0 halt\\\\xff'"))
+        self.assertEqual(self.fault(b'mote 0 a\n0 halt\xff\n'),
+                         (2, "line 2: expected text in ASCII, but there is '0 halt\\\\xff'"))
         for cut in range(len(SMALL)):
             self.fault(SMALL[:cut])
 
@@ -143,7 +151,8 @@ class Scenarios(unittest.TestCase):
             found = Scenario.parse((mark + EXAMPLE).encode())
             self.assertEqual((found.version, found.end, found.range, found.base, found.per), (2, 20, 5, 2, 100))
             self.assertEqual((found.collide, found.queue, found.losses), (True, {'listener': 1}, {(0, 1): 2}))
-            self.assertEqual([tuple(it) for it in found.places], [(0, 0, 'sender'), (5, 0, 'listener'), (10, 0, 'sender')])
+            self.assertEqual([tuple(it) for it in found.places],
+                             [(0, 0, 'sender'), (5, 0, 'listener'), (10, 0, 'sender')])
             self.assertTrue(found.programs['sender'].startswith('process sender;\n'))
 
     def test_who_hears_whom_and_when(self):
