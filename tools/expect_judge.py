@@ -145,7 +145,7 @@ class Judge:
         inside = [event for event in events if _within(event.line.at, span)]
         if count.admits(len(inside)):
             return None
-        why = '%s has %d such lines%s, not %s' % (self.name(motes), len(inside), _shown(span), count)
+        why = '%s has %d such lines%s; wanted: %s' % (self.name(motes), len(inside), _shown(span), count)
         spare = _first_spare([event.row for event in inside], count)
         if spare is not None:
             return Broken(why, spare)
@@ -189,7 +189,7 @@ class Judge:
         one, two = self.within(events, it.window, motes), self.within(other, window, motes)
         if it.count.admits(len(one), len(two)):
             return None
-        why = '%s: %d lines beside %d, not %s times as many' % (self.name(motes), len(one), len(two), it.count)
+        why = '%s: %d lines beside %d; wanted: %s times as many' % (self.name(motes), len(one), len(two), it.count)
         most = it.count.number * len(two)
         return Broken(why, one[most].row if len(one) > most else one[-1].row if one else None)
 
@@ -236,7 +236,7 @@ class Judge:
             return None if doing else Broken('no mote does')
         if it.motes.count.admits(len(doing)):
             return None
-        why = '%s, not %s' % ('1 mote does' if len(doing) == 1 else '%d motes do' % len(doing), it.motes.count)
+        why = '%s; wanted: %s' % ('1 mote does' if len(doing) == 1 else '%d motes do' % len(doing), it.motes.count)
         spare = _first_spare(doing, it.motes.count)
         return Broken(why, None if spare is None else self.shown_by(it, spare))
 
@@ -266,18 +266,18 @@ class Judge:
             return Broken(str(apart))
         for rows in parts.values():
             if not count.admits(len(rows)):
-                return Broken('there are %d %s, not %s' % (len(rows), what, count), _first_spare(rows, count))
+                return Broken('there are %d %s; wanted: %s' % (len(rows), what, count), _first_spare(rows, count))
         return None
 
     def lines(self, count: Count) -> Broken | None:
         if count.admits(len(self.rows)):
             return None
-        return Broken('there are %d lines, not %s' % (len(self.rows), count))
+        return Broken('there are %d lines; wanted: %s' % (len(self.rows), count))
 
     def left(self, count: Count) -> Broken | None:
         if count.admits(self.report.left):
             return None
-        return Broken('there are %d such copies, not %s' % (self.report.left, count), len(self.rows))
+        return Broken('there are %d such copies; wanted: %s' % (self.report.left, count), len(self.rows))
 
     def broken(self, it: Sentence) -> Broken | None:
         """What breaks a sentence, or None."""

@@ -7,10 +7,12 @@ from __future__ import annotations
 
 import operator
 import re
+import textwrap
 from dataclasses import dataclass
 
 from motesim_report import FIELDS, SYSTEM, Fault, Scenario
 
+WIDTH = 110
 TOKEN = re.compile(r"\s*('[^']*'|`[^`]*`|\d+|[A-Za-z_]\w*|[^\s])")
 COMPARES = {
     'at least': operator.ge, 'at most': operator.le, 'exactly': operator.eq, 'more than': operator.gt,
@@ -23,8 +25,9 @@ class SentenceFault(Fault):
 
     def __init__(self, sentence: str, place: int, wanted: list[str]):
         self.sentence, self.place, self.wanted = sentence, place, wanted
-        mark = ' ' * place + '^ here may stand: ' + ', '.join(wanted)
-        super().__init__('a sentence that is not known\n  %s\n  %s' % (sentence, mark))
+        may = textwrap.wrap('Here may stand: ' + ', '.join(wanted), WIDTH, break_on_hyphens=False)
+        lines = ['a sentence that is not known', sentence, ' ' * place + '^', *may]
+        super().__init__('\n  '.join(lines))
 
 
 @dataclass(frozen=True)
