@@ -440,6 +440,10 @@ class _Reader:
                 than = self.than(), self.window() or Window()
         if window is None and than is None:
             window = self.window()
+        is_apart = deed.way == 'finally' or (window is not None and window.root is not None)
+        if motes.kind == 'together' and is_apart:
+            place = self.places[self.words.index('together')]
+            raise SentenceFault(self.sentence, place, ['the verb, without `together`'])
         count = Count('at most', 0) if never else count or Count('at least', 1)
         return Does(motes, deed, count, window or Window(), than)
 

@@ -17,7 +17,7 @@ sys.path.insert(0, str(TOOLS))
 from expect_judge import Judge
 from expect_sentences import Count, Names, Refused, SentenceFault, names_of, read_sentence
 from expectations import expect, parts_of
-from motesim_report import Fault, Report, Scenario
+from motesim_report import Report, Scenario, finish
 
 
 def load(name):
@@ -161,6 +161,8 @@ FAULTS = [
     ('mote 1 sends more than 2 times as often as motes 2 to 3', '', 'together'),
     ('no copy is gone', 'gone', 'lost'), ('finally mote 1 halts', 'finally', 'mote'),
     ('mote 1 finally sends 3', 'sends', 'prints'), ('mote 1 halts between 3 to 4', 'to', 'and'),
+    ('motes 1 to 2 together send at 4 plus 3 for each hop from mote 0', 'together', 'the verb'),
+    ('all motes together finally print flood 1', 'together', 'the verb'),
 ]
 
 
@@ -235,7 +237,7 @@ class Files(unittest.TestCase):
         with mock.patch.object(sys, 'argv', ['expect', str(self.scenario), *words]):
             with contextlib.redirect_stdout(out), contextlib.redirect_stderr(err):
                 with self.assertRaises(SystemExit) as end:
-                    command.main()
+                    finish('expect', command.main)
         return out.getvalue(), err.getvalue(), end.exception.code
 
     def test_what_holds_and_what_does_not(self):
