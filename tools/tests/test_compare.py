@@ -125,6 +125,11 @@ Lines that differ: 10 only in A, 6 only in B
   collide         0         2
   medium          1         1''', compared(A, B)[0])
 
+    def test_lines_of_a_moment_may_stand_in_another_order(self):
+        text, first, is_same = compared(A, A.replace('0 start etimer\n0 send 0 1\n', '0 send 0 1\n0 start etimer\n'))
+        self.assertEqual((tuple(first), is_same), ((0, 0, 0), False))
+        self.assertTrue(text.endswith('\nBoth have the same lines, in another order within a moment.'))
+
     def test_only_the_kind_of_a_line_may_differ(self):
         text, first, _ = compared(A, A.replace('9 take 2', '9 drop 2'))
         self.assertEqual(tuple(first), (9, 1, 8))
