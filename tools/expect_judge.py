@@ -14,7 +14,6 @@ from motesim_report import FIELDS, Line, Report, Scenario
 
 BECAME = {'collided': 'collide', 'received': 'recv', 'full': 'lost'}
 
-
 # The first and the last moment of a time; None for no last one.
 Span = tuple[int, int | None]
 
@@ -145,32 +144,33 @@ class Judge:
         inside = [event for event in events if _within(event.line.at, span)]
         if count.admits(len(inside)):
             return None
-        why = '%s has %d such lines%s, not %s' % (self.name(motes), len(inside), _shown(span), count)
+        why = '%s has %d such lines%s; wanted: %s' % (self.name(motes), len(inside), _shown(span), count)
         spare = _first_spare([event.row for event in inside], count)
         if spare is not None:
             return Broken(why, spare)
-        later = [event for event in events if event.line.at > span[0] and event not in inside]
+        later = [event for event in events if event.line.at > span[0] and not _within(event.line.at, span)]
         return Broken(why + '; the next is', later[0].row) if later else Broken(why)
 
     def ordered(self, deed: Deed, events: list[Event], motes: tuple[int, ...]) -> Broken | None:
-        """Whether the values of all lines are those of a list."""
-        found, wanted = [event.line.value for event in events], list(deed.values)
-        if deed.way == 'set':
-            left = list(wanted)
-            for event in events:
-                if event.line.value not in left:
-                    return Broken('%s prints a value that is no more in the list' % self.name(motes), event.row)
-                left.remove(event.line.value)
-            return Broken('%s never prints %s' % (self.name(motes), ', '.join(map(str, left)))) if left else None
-        for index, event in enumerate(events):
-            if index >= len(wanted):
-                return Broken('%s prints one value more' % self.name(motes), event.row)
-            if found[index] != wanted[index]:
-                why = '%s prints %d in the place of %d' % (self.name(motes), found[index], wanted[index])
+        """Whether the values of all lines are those of a list, in its order."""
+        for event, wanted in zip(events, deed.values):
+            if event.line.value != wanted:
+                why = '%s prints %d in the place of %d' % (self.name(motes), event.line.value, wanted)
                 return Broken(why, event.row)
-        if len(found) < len(wanted):
-            return Broken('%s prints %d of these %d values' % (self.name(motes), len(found), len(wanted)))
+        if len(events) > len(deed.values):
+            return Broken('%s prints one value more' % self.name(motes), events[len(deed.values)].row)
+        if len(events) < len(deed.values):
+            return Broken('%s prints %d of these %d values' % (self.name(motes), len(events), len(deed.values)))
         return None
+
+    def in_any_order(self, deed: Deed, events: list[Event], motes: tuple[int, ...]) -> Broken | None:
+        """Whether the values of all lines are those of a list, in any order."""
+        left = list(deed.values)
+        for event in events:
+            if event.line.value not in left:
+                return Broken('%s prints a value that is no more in the list' % self.name(motes), event.row)
+            left.remove(event.line.value)
+        return Broken('%s never prints %s' % (self.name(motes), ', '.join(map(str, left)))) if left else None
 
     def last(self, deed: Deed, events: list[Event], motes: tuple[int, ...]) -> Broken | None:
         """Whether the last line has the value."""
@@ -180,7 +180,7 @@ class Judge:
         if events[-1].line.value in allowed:
             return None
         shown = ' or '.join(map(str, sorted(allowed))) or 'any value'
-        return Broken('the last such line of %s has not %s' % (self.name(motes), shown), events[-1].row)
+        return Broken('the last such line of %s; wanted: %s' % (self.name(motes), shown), events[-1].row)
 
     def than(self, it: Does, events: list[Event], motes: tuple[int, ...]) -> Broken | None:
         """Whether there are so many times as many lines as of the others."""
@@ -189,7 +189,7 @@ class Judge:
         one, two = self.within(events, it.window, motes), self.within(other, window, motes)
         if it.count.admits(len(one), len(two)):
             return None
-        why = '%s: %d lines beside %d, not %s times as many' % (self.name(motes), len(one), len(two), it.count)
+        why = '%s: %d lines beside %d; wanted: %s times as many' % (self.name(motes), len(one), len(two), it.count)
         most = it.count.number * len(two)
         return Broken(why, one[most].row if len(one) > most else one[-1].row if one else None)
 
@@ -203,8 +203,10 @@ class Judge:
                 inside = [event for event in events if _within(event.line.at, span)]
                 if it.deed.way == 'finally':
                     broken = self.last(it.deed, inside, motes)
-                elif it.deed.way in ('just', 'set'):
+                elif it.deed.way == 'just':
                     broken = self.ordered(it.deed, inside, motes)
+                elif it.deed.way == 'set':
+                    broken = self.in_any_order(it.deed, inside, motes)
                 else:
                     broken = self.counted(events, it.count, motes, span)
                 if broken:
@@ -229,14 +231,14 @@ class Judge:
         broken = {mote: self.of_unit(it, (mote,)) for mote in chosen}
         doing = [mote for mote in chosen if broken[mote] is None]
         if it.motes.kind == 'each':
-            return min((it for it in broken.values() if it), key=lambda it: it.row or 0, default=None)
+            return next((it for it in broken.values() if it), None)
         if it.motes.kind == 'no':
             return Broken('mote %d does' % doing[0], self.shown_by(it, doing[0])) if doing else None
         if it.motes.kind == 'some':
             return None if doing else Broken('no mote does')
         if it.motes.count.admits(len(doing)):
             return None
-        why = '%s, not %s' % ('1 mote does' if len(doing) == 1 else '%d motes do' % len(doing), it.motes.count)
+        why = '%s; wanted: %s' % ('1 mote does' if len(doing) == 1 else '%d motes do' % len(doing), it.motes.count)
         spare = _first_spare(doing, it.motes.count)
         return Broken(why, None if spare is None else self.shown_by(it, spare))
 
@@ -266,18 +268,18 @@ class Judge:
             return Broken(str(apart))
         for rows in parts.values():
             if not count.admits(len(rows)):
-                return Broken('there are %d %s, not %s' % (len(rows), what, count), _first_spare(rows, count))
+                return Broken('there are %d %s; wanted: %s' % (len(rows), what, count), _first_spare(rows, count))
         return None
 
     def lines(self, count: Count) -> Broken | None:
         if count.admits(len(self.rows)):
             return None
-        return Broken('there are %d lines, not %s' % (len(self.rows), count))
+        return Broken('there are %d lines; wanted: %s' % (len(self.rows), count))
 
     def left(self, count: Count) -> Broken | None:
         if count.admits(self.report.left):
             return None
-        return Broken('there are %d such copies, not %s' % (self.report.left, count), len(self.rows))
+        return Broken('there are %d such copies; wanted: %s' % (self.report.left, count), len(self.rows))
 
     def broken(self, it: Sentence) -> Broken | None:
         """What breaks a sentence, or None."""

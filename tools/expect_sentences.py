@@ -7,10 +7,12 @@ from __future__ import annotations
 
 import operator
 import re
+import textwrap
 from dataclasses import dataclass
 
 from motesim_report import FIELDS, SYSTEM, Fault, Scenario
 
+WIDTH = 110
 TOKEN = re.compile(r"\s*('[^']*'|`[^`]*`|\d+|[A-Za-z_]\w*|[^\s])")
 COMPARES = {
     'at least': operator.ge, 'at most': operator.le, 'exactly': operator.eq, 'more than': operator.gt,
@@ -23,8 +25,9 @@ class SentenceFault(Fault):
 
     def __init__(self, sentence: str, place: int, wanted: list[str]):
         self.sentence, self.place, self.wanted = sentence, place, wanted
-        mark = ' ' * place + '^ here may stand: ' + ', '.join(wanted)
-        super().__init__('a sentence that is not known\n  %s\n  %s' % (sentence, mark))
+        may = textwrap.wrap('Here may stand: ' + ', '.join(wanted), WIDTH, break_on_hyphens=False)
+        lines = ['a sentence that is not known', sentence, ' ' * place + '^', *may]
+        super().__init__('\n  '.join(lines))
 
 
 @dataclass(frozen=True)
@@ -437,6 +440,10 @@ class _Reader:
                 than = self.than(), self.window() or Window()
         if window is None and than is None:
             window = self.window()
+        is_apart = deed.way == 'finally' or (window is not None and window.root is not None)
+        if motes.kind == 'together' and is_apart:
+            place = self.places[self.words.index('together')]
+            raise SentenceFault(self.sentence, place, ['the verb, without `together`'])
         count = Count('at most', 0) if never else count or Count('at least', 1)
         return Does(motes, deed, count, window or Window(), than)
 

@@ -27,6 +27,14 @@ def beside(scenario: Path) -> Path:
     return scenario.with_suffix('.expect.toml')
 
 
+def text_of(path: Path) -> str:
+    """The text of a file."""
+    try:
+        return read_file(path).decode('utf-8')
+    except UnicodeDecodeError:
+        raise Fault('%s is not UTF-8' % path) from None
+
+
 class Answer(NamedTuple):
     status: int
     report: bytes
@@ -158,9 +166,9 @@ def judged(scenario: str, part: Part) -> list[Told]:
 
 def expect(scenario: Path, expectations: Path, is_quiet: bool = False) -> tuple[int, int]:
     """Tells which sentences hold, or, quietly, which don't; and counts those that do and those that don't."""
-    text = read_file(scenario).decode('utf-8')
+    text = text_of(scenario)
     passed = failed = 0
-    for part in parts_of(read_file(expectations).decode('utf-8'), expectations.name):
+    for part in parts_of(text_of(expectations), expectations.name):
         try:
             told = judged(text, part)
         except Fault as fault:

@@ -4,6 +4,7 @@ import importlib.machinery
 import importlib.util
 import io
 import os
+import re
 import sys
 import tempfile
 import unittest
@@ -16,7 +17,7 @@ sys.path.insert(0, str(TOOLS))
 from expect_judge import Judge
 from expect_sentences import Count, Names, Refused, SentenceFault, names_of, read_sentence
 from expectations import expect, parts_of
-from motesim_report import Fault, Report, Scenario
+from motesim_report import Report, Scenario, finish
 
 
 def load(name):
@@ -138,7 +139,8 @@ BROKEN = [
     ('mote 1 prints just flood 1, 2, 3 in any order', None),
     ('mote 2 finally prints hears the set of motes that it hears but 1', 16),
     ('mote 0 finally prints hears 1', None), ('no copy collides', 12), ('no copy is lost', 27),
-    ('no copy is left', 29), ('at most 3 packets are sent', 27), ("mote 3 writes 'halt halt'", None), ('no copy arrives at mote 0', 4),
+    ('no copy is left', 29), ('at most 3 packets are sent', 27), ("mote 3 writes 'halt halt'", None),
+    ('no copy arrives at mote 0', 4),
     ('the report has fewer than 20 lines', None), ("the medium writes '49 3 0 2'", 23),
     ('mote 2 can hear mote 3', None), ('mote 0 sends from 0 to 50 more than once as often as from 51 on', 3),
     ('mote 0 sends at most once as often as mote 1', 5),
@@ -159,6 +161,8 @@ FAULTS = [
     ('mote 1 sends more than 2 times as often as motes 2 to 3', '', 'together'),
     ('no copy is gone', 'gone', 'lost'), ('finally mote 1 halts', 'finally', 'mote'),
     ('mote 1 finally sends 3', 'sends', 'prints'), ('mote 1 halts between 3 to 4', 'to', 'and'),
+    ('motes 1 to 2 together send at 4 plus 3 for each hop from mote 0', 'together', 'the verb'),
+    ('all motes together finally print flood 1', 'together', 'the verb'),
 ]
 
 
@@ -233,7 +237,7 @@ class Files(unittest.TestCase):
         with mock.patch.object(sys, 'argv', ['expect', str(self.scenario), *words]):
             with contextlib.redirect_stdout(out), contextlib.redirect_stderr(err):
                 with self.assertRaises(SystemExit) as end:
-                    command.main()
+                    finish('expect', command.main)
         return out.getvalue(), err.getvalue(), end.exception.code
 
     def test_what_holds_and_what_does_not(self):
@@ -295,6 +299,36 @@ class Files(unittest.TestCase):
         with contextlib.redirect_stdout(out):
             self.assertEqual(expect(self.scenario, self.expected, is_quiet=True), (1, 1))
         self.assertNotIn('mote 0 sends', out.getvalue())
+
+
+class Page(unittest.TestCase):
+    def setUp(self):
+        self.page = (TOOLS.parent / 'docs/EXPECTATIONS.md').read_text('utf-8')
+
+    def forms(self, title):
+        """What stands as code in the first column of a table, by a part of its page and the title of that column."""
+        table = self.page.split('| %s |' % title)[1].split('\n\n')[0]
+        rows = re.findall(r'^\| (`.*?`) \|', table, re.M)
+        return [form for row in rows for form in re.findall(r'`([^`]+)`', row)]
+
+    def read(self, sentence):
+        with self.subTest(sentence):
+            return read_sentence(sentence, Names(('P',), 25))
+
+    def test_each_form_of_the_page_can_be_read(self):
+        for form in self.forms('MOTES'):
+            self.read(form + (' halt' if 'motes' in form else ' halts'))
+        for form in self.forms('DEED'):
+            self.read('mote 1 ' + form.replace('VALUE', '7'))
+        for form in self.forms('VALUE'):
+            self.read('mote 1 finally prints P ' + ('the set of motes that it hears ' * form.startswith('but')) + form)
+        for form in self.forms('TIMES'):
+            self.read('mote 1 sends ' + form)
+        for form in self.forms('WHEN'):
+            self.read('mote 1 sends ' + form)
+        for form in self.forms('Sentence'):
+            self.read(form)
+        self.assertGreater(len(self.forms('Sentence')), 10)
 
 
 class Examples(unittest.TestCase):

@@ -238,17 +238,13 @@ class Command(unittest.TestCase):
             program.chmod(0o755)
             for changes, status, begin in [
                 ({'print 1': 'print z', 'end = 5': 'end = 6'}, 1, EXPLAINED % scenario),
-                ({}, None, '%s has a report, and no fault\n' % scenario),
+                ({}, 0, '%s has a report, and no fault\n' % scenario),
             ]:
                 scenario.write_text(changed(changes))
-                said, end = io.StringIO(), None
+                said = io.StringIO()
                 with mock.patch.dict(os.environ, MOTESIM=str(program)), contextlib.redirect_stdout(said):
                     with mock.patch.object(sys, 'argv', ['explain', str(scenario)]):
-                        try:
-                            explain.main()
-                        except SystemExit as it:
-                            end = it.code
-                self.assertEqual(end, status)
+                        self.assertEqual(explain.main(), status)
                 self.assertTrue(said.getvalue().startswith(begin), said.getvalue())
 
 
