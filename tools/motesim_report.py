@@ -22,8 +22,9 @@ What can go wrong is a `Fault`, whose text can be shown as it is:
     Fault          a file can't be read
 
 A report is read strictly: each line has to be one of docs/REPORT.md, with names and numbers that it can have. Moments
-don't fall in a trace, packets and their receivers stand in their order, and there is nothing behind `left K`.
-`Report.text()` gives the text back, byte for byte.
+don't fall in a trace, packets and their receivers stand in their order, and there is nothing behind `left K`. Whether
+the traces and the log of the medium tell the same story isn't looked at. `Report.text()` gives the text back, byte for
+byte.
 """
 from __future__ import annotations
 
@@ -625,6 +626,8 @@ def read_run(path: str | Path, scenario: str | Path | None = None) -> Run:
 
     A file NAME.toml is a scenario, and is run. The name `-` is a report on standard input.
     """
+    if str(path).endswith('.toml') and scenario is not None:
+        raise Fault('%s is a scenario itself, and takes no other' % path)
     data = read_file(path)
     at = path
     try:
@@ -654,11 +657,16 @@ def check_scenario(report: Report, scenario: Scenario) -> None:
 
 def finish(tool: str, work: Callable[[], int]) -> NoReturn:
     """Ends a tool with the status that `work` gives, or with 2 and one line on standard error where it has a fault."""
+    # (looking for cycles among millions of lines would take longer than the work)
+    gc.disable()
     try:
         status = work()
         sys.stdout.flush()
     except Fault as fault:
         print('%s: %s' % (tool, fault), file=sys.stderr)
+        status = 2
+    except MemoryError:
+        print('%s: out of memory' % tool, file=sys.stderr)
         status = 2
     except BrokenPipeError:
         # (nobody reads on, as behind `| head`: Python shall not complain of it at its end)

@@ -103,7 +103,7 @@ Before it, the last packets and events of mote 2:
     def test_the_first_collision_is_told(self):
         self.assertIn('''
 The first collision that only B has:
-  B: at moment 8 mote 1 loses packet 1 of mote 0, sent at 5 and packet 0 of mote 2, sent at 5
+  B: at moment 8 mote 1 loses packet 1 of mote 0 (sent at 5) and packet 0 of mote 2 (sent at 5)
   copies that met others, in all: 0 in A, 2 in B
 ''', compared(A, B)[0])
         text = compared(B.replace('8 collide 2 0\n', '').replace('8 collide 0 1', '8 recv 0 1 2'), B)[0]
@@ -124,6 +124,11 @@ Lines that differ: 10 only in A, 6 only in B
   recv            2         0
   collide         0         2
   medium          1         1''', compared(A, B)[0])
+
+    def test_lines_of_a_moment_may_stand_in_another_order(self):
+        text, first, is_same = compared(A, A.replace('0 start etimer\n0 send 0 1\n', '0 send 0 1\n0 start etimer\n'))
+        self.assertEqual((tuple(first), is_same), ((0, 0, 0), False))
+        self.assertTrue(text.endswith('\nBoth have the same lines, in another order within a moment.'))
 
     def test_only_the_kind_of_a_line_may_differ(self):
         text, first, _ = compared(A, A.replace('9 take 2', '9 drop 2'))

@@ -144,6 +144,17 @@ class Reports(unittest.TestCase):
         for cut in range(len(SMALL)):
             self.fault(SMALL[:cut])
 
+    def test_what_is_taken_comes_back_whatever_was_changed(self):
+        taken = 0
+        for at in range(len(SMALL)):
+            for changed in (SMALL[:at] + SMALL[at + 1:], *(SMALL[:at] + it + SMALL[at:] for it in '0 \n@\r')):
+                try:
+                    self.assertEqual(Report.parse(changed).text(), changed)
+                    taken += 1
+                except ReportFault:
+                    pass
+        self.assertGreater(taken, 50)
+
 
 class Scenarios(unittest.TestCase):
     def test_the_example_has_its_tables(self):
@@ -233,6 +244,8 @@ class Runs(unittest.TestCase):
                 motesim_report.read_run(scenario)
         with self.assertRaisesRegex(Fault, 'no.report: No such file'):
             motesim_report.read_run('no.report')
+        with self.assertRaisesRegex(Fault, 'a.toml is a scenario itself'):
+            motesim_report.read_run(scenario, scenario)
         with self.assertRaisesRegex(ReportFault, 'b.report: line 1: expected'):
             motesim_report.read_run(self.write('b.report', 'x\n'))
 

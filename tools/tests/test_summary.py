@@ -150,9 +150,9 @@ class Forms(unittest.TestCase):
 
     def test_text_has_columns(self):
         self.assertEqual(self.say('--links'), '''\
-from  to  copies  received  lost  ring  collided  halted  late  ratio  delay
-   0   1       6         1     1     1         1       1     1  0.200      3
-   2   1       1         0     0     0         1       0     0  0.000      4
+from to copies received lost ring collided halted late ratio delay
+   0  1      6        1    1    1        1      1    1 0.200     3
+   2  1      1        0    0    0        1      0    0 0.000     4
 ''')
         rows = self.say().split('\n')
         self.assertEqual(rows[1].split(), '0 talker 6 0 0 0 0 0 0 0 - 1 2 1 0 0 -'.split())
