@@ -23,7 +23,8 @@ from motesim_report import FIELDS, Fault, Mote, Report, Run, Scenario
 
 PAGE = Path(__file__).resolve().parent / 'timeline_page'
 # The page's scripts, in the order in which they are put together.
-SCRIPTS = ['data.js', 'index.js', 'view.js', 'forms.js', 'lanes.js', 'arrows.js', 'map.js', 'details.js', 'search.js', 'play.js',
+SCRIPTS = ['data.js', 'index.js', 'view.js', 'forms.js', 'lanes.js', 'arrows.js', 'map.js', 'details.js', 'search.js',
+    'play.js',
            'main.js']
 KINDS = list(FIELDS)
 ALL = 0xFFFF
@@ -45,7 +46,8 @@ def _zigzag(difference: int) -> int:
 
 class Columns:
     """The columns of a run. `names` has their order, each with its kind of number."""
-    names = {'traceStart': 'u32', 'at': 'u32', 'x': 'u32', 'packetAt': 'u32', 'copyAfter': 'u32', 'w': 'u16', 'p': 'u16', 'e': 'u16',
+    names = {'traceStart': 'u32', 'at': 'u32', 'x': 'u32', 'packetAt': 'u32', 'copyAfter': 'u32', 'w': 'u16',
+        'p': 'u16', 'e': 'u16',
              'begins': 'u16', 'packetSender': 'u16', 'packetValue': 'u16', 'copyCount': 'u16', 'copyTo': 'u16', 'kind': 'u8'}
 
     def __init__(self, report: Report):
@@ -146,7 +148,8 @@ def data_of(run: Run) -> tuple[dict, bytes]:
     columns = Columns(run.report)
     end = run.scenario.end if run.scenario else _last_moment(run.report)
     said = {
-        'name': run.name, 'end': max(end, _last_moment(run.report)), 'left': run.report.left, 'programs': list(columns.programs),
+        'name': run.name, 'end': max(end,
+            _last_moment(run.report)), 'left': run.report.left, 'programs': list(columns.programs),
         'processes': list(columns.processes), 'events': list(columns.events), 'columns': columns.said(),
         **_said_of_scenario(run.scenario),
     }
@@ -164,7 +167,8 @@ def page_of(title: str, runs: Sequence[Run], start: int | None = None, mote: int
         said, columns = data_of(run)
         table.append(said)
         packed.append(base64.b64encode(columns).decode('ascii'))
-    said = json.dumps({'title': title, 'start': start, 'mote': mote, 'runs': table}, separators=(',', ':')).replace('<', '\\u003c')
+    said = json.dumps({'title': title, 'start': start, 'mote': mote, 'runs': table},
+        separators=(',', ':')).replace('<', '\\u003c')
     scripts = '\n'.join((PAGE / name).read_text() for name in SCRIPTS)
     fill = {
         '@TITLE@': [_escaped(title)], '@STYLE@': [(PAGE / 'page.css').read_text()], '@SAID@': [said],
@@ -185,7 +189,8 @@ def page_of(title: str, runs: Sequence[Run], start: int | None = None, mote: int
             rest = behind
 
 
-def write_page(path: str | Path, title: str, runs: Sequence[Run], start: int | None = None, mote: int | None = None) -> None:
+def write_page(path: str | Path, title: str, runs: Sequence[Run], start: int | None = None,
+    mote: int | None = None) -> None:
     """Writes the page of one run or of several above one another, which share their time axis.
 
     With `start` the page opens around that moment, which is marked, and with `mote` with the lane of that mote in view.

@@ -37,7 +37,8 @@ class WebSocket:
         self.socket = socket.create_connection((name, int(port)), timeout=CALL_SECONDS)
         key = base64.b64encode(os.urandom(16)).decode('ascii')
         self.socket.sendall(('GET /%s HTTP/1.1\r\nHost: %s\r\nUpgrade: websocket\r\nConnection: Upgrade\r\n'
-                             'Sec-WebSocket-Key: %s\r\nSec-WebSocket-Version: 13\r\n\r\n' % (path, host, key)).encode('ascii'))
+                             'Sec-WebSocket-Key: %s\r\nSec-WebSocket-Version: 13\r\n\r\n' % (path, host,
+                                 key)).encode('ascii'))
         self.rest = b''
         while b'\r\n\r\n' not in self.rest:
             self.rest += self.receive()
@@ -96,10 +97,12 @@ class Browser:
 
     def __init__(self, program: str):
         self.room = tempfile.mkdtemp(prefix='motesim-browser-')
-        words = [program, '--headless=new', '--no-sandbox', '--disable-gpu', '--disable-dev-shm-usage', '--no-first-run',
+        words = [program, '--headless=new', '--no-sandbox', '--disable-gpu', '--disable-dev-shm-usage',
+            '--no-first-run',
                  '--disable-extensions', '--disable-background-networking', '--remote-debugging-port=0',
                  '--remote-allow-origins=*', '--window-size=1280,800', '--user-data-dir=' + self.room, 'about:blank']
-        self.process = subprocess.Popen(words, stdin=subprocess.DEVNULL, stdout=subprocess.DEVNULL, stderr=subprocess.DEVNULL,
+        self.process = subprocess.Popen(words, stdin=subprocess.DEVNULL, stdout=subprocess.DEVNULL,
+            stderr=subprocess.DEVNULL,
                                         start_new_session=True)
         self.socket: WebSocket | None = None
         self.number = 0
@@ -166,10 +169,12 @@ class Browser:
         return done['result'].get('value')
 
     def size(self, width: int, height: int, dots: float = 1) -> None:
-        self.call('Emulation.setDeviceMetricsOverride', width=width, height=height, deviceScaleFactor=dots, mobile=False)
+        self.call('Emulation.setDeviceMetricsOverride', width=width, height=height, deviceScaleFactor=dots,
+            mobile=False)
 
     def dark(self, is_dark: bool) -> None:
-        self.call('Emulation.setEmulatedMedia', features=[{'name': 'prefers-color-scheme', 'value': 'dark' if is_dark else 'light'}])
+        self.call('Emulation.setEmulatedMedia', features=[{'name': 'prefers-color-scheme',
+            'value': 'dark' if is_dark else 'light'}])
 
     def open(self, path: Path, fragment: str = '') -> None:
         """Opens a page, and waits until it is ready."""
@@ -206,7 +211,8 @@ class Browser:
 
     def key(self, key: str, code: str = '', number: int = 0, text: str | None = None) -> None:
         text = key if text is None and len(key) == 1 else text or ''
-        self.call('Input.dispatchKeyEvent', type='keyDown', key=key, code=code, windowsVirtualKeyCode=number, text=text)
+        self.call('Input.dispatchKeyEvent', type='keyDown', key=key, code=code, windowsVirtualKeyCode=number,
+            text=text)
         self.call('Input.dispatchKeyEvent', type='keyUp', key=key, code=code, windowsVirtualKeyCode=number)
         self.settle()
 

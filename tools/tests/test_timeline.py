@@ -50,7 +50,8 @@ def small_network():
 
 def case(name):
     nets = TOP / 'tests/cases/nets'
-    return Run(name, Report.parse((nets / (name + '.expected')).read_bytes()), Scenario.parse((nets / (name + '.toml')).read_bytes()))
+    return Run(name, Report.parse((nets / (name + '.expected')).read_bytes()),
+        Scenario.parse((nets / (name + '.toml')).read_bytes()))
 
 
 def many(motes, sends):
@@ -60,7 +61,8 @@ def many(motes, sends):
         lines += ['mote %d p' % mote, '0 start a']
         for number in range(sends):
             at = 1 + mote % 3 + 3 * number
-            lines += ['%d post %d a timer 0' % (at, number), '%d take %d a' % (at, number), '%d send %d 5' % (at, number)]
+            lines += ['%d post %d a timer 0' % (at, number), '%d take %d a' % (at, number),
+                '%d send %d 5' % (at, number)]
             medium.append((at, mote, number))
     return '\n'.join(lines + ['medium'] + ['%d %d %d 5' % packet for packet in sorted(medium)] + ['left 0', ''])
 
@@ -89,7 +91,8 @@ class Data(unittest.TestCase):
         self.assertEqual(said['losses'], [[0, 1, 2]])
 
     def test_packets_out_of_their_numbers_are_a_fault(self):
-        text = SILENT.replace('2 send 0 7', '2 send 1 7').replace('recv 0 0 7', 'recv 0 1 7').replace('2 0 0 7', '2 0 1 7')
+        text = SILENT.replace('2 send 0 7', '2 send 1 7').replace('recv 0 0 7', 'recv 0 1 7').replace('2 0 0 7',
+            '2 0 1 7')
         with self.assertRaises(Fault):
             data_of(Run('wrong', Report.parse(text), None))
 
@@ -101,7 +104,8 @@ class Data(unittest.TestCase):
         page = ''.join(page_of('<b> & @SCRIPT@', [Run('</script>', Report.parse(SILENT), None)]))
         self.assertIn('<h1>&lt;b&gt; &amp; @SCRIPT@</h1>', page)
         self.assertEqual(page.count('</script>'), 3)
-        self.assertEqual(json.loads(re.search('application/json">(.*)</script>', page)[1])['runs'][0]['name'], '</script>')
+        self.assertEqual(json.loads(re.search('application/json">(.*)</script>', page)[1])['runs'][0]['name'],
+            '</script>')
 
     def test_a_page_fetches_nothing(self):
         page = ''.join(page_of('a', [small_network()]))
@@ -116,7 +120,8 @@ class Data(unittest.TestCase):
 
 class Command(unittest.TestCase):
     def tool(self, room, *words, given=''):
-        return subprocess.run([sys.executable, '-B', str(TOP / 'tools/timeline'), *words], cwd=room, input=given, capture_output=True,
+        return subprocess.run([sys.executable, '-B', str(TOP / 'tools/timeline'), *words], cwd=room, input=given,
+            capture_output=True,
                               text=True)
 
     def test_the_page_stands_in_the_current_folder(self):
@@ -192,7 +197,8 @@ class Pages(unittest.TestCase):
         self.browser.key(key, **words)
 
     def test_the_lines_of_the_report_come_back(self):
-        for run in [small_network(), case('ring_overflows'), case('nine_copies_collide'), case('runaway_beside_another')]:
+        for run in [small_network(), case('ring_overflows'), case('nine_copies_collide'),
+            case('runaway_beside_another')]:
             self.open(run)
             rows = self.value('''(() => {
               const rows = [];
@@ -255,7 +261,8 @@ class Pages(unittest.TestCase):
         self.open(small_network())
         self.browser.click(*self.place(12))
         self.assertEqual(self.selected(), '8 send 2 30')
-        for words in ('Packet 2 of mote 0, value 30', 'line 44', '8 0 2 30 1@10', 'line 22', '10 recv 0 2 30', 'received and handed on'):
+        for words in ('Packet 2 of mote 0, value 30', 'line 44', '8 0 2 30 1@10', 'line 22', '10 recv 0 2 30',
+            'received and handed on'):
             self.assertIn(words, self.shown())
         self.key('Enter', number=13)
         self.assertEqual(self.selected(), '10 recv 0 2 30')
@@ -292,12 +299,14 @@ class Pages(unittest.TestCase):
 
     def test_silences_are_found(self):
         self.open(Run('silent', Report.parse(SILENT), None))
-        self.assertEqual(self.value('Array.from(run.silent.keys()).filter(i => run.silent[i]).map(i => run.text(i))'), ['4 take 1 a'])
+        self.assertEqual(self.value('Array.from(run.silent.keys()).filter(i => run.silent[i]).map(i => run.text(i))'),
+            ['4 take 1 a'])
         self.assertEqual(self.value('[run.groups[0].sent, run.groups[0].quiet]'), [1, 1])
 
     def test_a_search_finds_lines(self):
         self.open(small_network())
-        for words, found in [('print', 2), ('print echo', 1), ('30', 7), ('mote 2', 9), ('from 2 collide', 1), ('timer', 6), ('lost', 1),
+        for words, found in [('print', 2), ('print echo', 1), ('30', 7), ('mote 2', 9), ('from 2 collide', 1),
+            ('timer', 6), ('lost', 1),
                              ('at 4..8 send', 2), ('all', None), ('nonsense', None)]:
             self.value('document.getElementById("words").value = %s' % json.dumps(words))
             self.value('document.querySelector("#search button").click()')

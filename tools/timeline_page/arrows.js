@@ -37,7 +37,8 @@ function copiesInView(pane) {
 }
 
 function drawArrows(pane) {
-  const c = pane.context, found = copiesInView(pane), {said, run} = pane, wish = document.getElementById('arrows').value;
+  const c = pane.context, found = copiesInView(pane), {said, run} = pane,
+    wish = document.getElementById('arrows').value;
   pane.arrows = [];
   if (wish === 'none' || wish === 'auto' && (said.copies > MANY || pane.lane < 4)) return;
   const crowded = said.copies > FEW, size = pane.lane < 14 ? 3 : 4;
@@ -72,7 +73,8 @@ function arrowNear(pane, x, y, reach) {
 function drawChosen(pane) {
   if (!chosen || chosen.pane !== pane) return;
   const {run, context: c} = pane, low = pane.lane < SMALL_LANE;
-  const y = line => low ? pane.laneTop(run.moteOf(line)) + pane.lane / 2 : pane.lineY(run.silent[line] ? SEND : run.kind[line], run.moteOf(line));
+  const y = line => low ? pane.laneTop(run.moteOf(line)) + pane.lane / 2 :
+    pane.lineY(run.silent[line] ? SEND : run.kind[line], run.moteOf(line));
   const x = line => pane.lineX(line, run.moteOf(line));
   if (chosen.k >= 0) {
     for (let copy = run.copyStart[chosen.k]; copy < run.copyStart[chosen.k + 1]; copy++) {

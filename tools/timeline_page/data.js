@@ -1,5 +1,6 @@
 // The columns of a run, as tools/motesim_timeline.py wrote them, and the lines of the report made of them again.
-const KINDS = ['start', 'leave', 'post', 'full', 'take', 'drop', 'print', 'busy', 'send', 'recv', 'lost', 'collide', 'deaf',
+const KINDS = ['start', 'leave', 'post', 'full', 'take', 'drop', 'print', 'busy', 'send', 'recv', 'lost', 'collide',
+  'deaf',
   'halt'];
 const [START, LEAVE, POST, FULL, TAKE, DROP, PRINT, BUSY, SEND, RECV, LOST, COLLIDE, DEAF, HALT] = KINDS.keys();
 const ALL = 0xffff;

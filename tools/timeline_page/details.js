@@ -34,7 +34,8 @@ function selectNothing() {
   const box = document.getElementById('details');
   box.classList.add('empty');
   box.replaceChildren(element('h2', 'Nothing is selected'),
-    element('p', 'Click a mark, an arrow, or a mote on the map. With the keyboard: go to the timeline with Tab, choose with [ and ], and follow with Enter.'));
+    element('p',
+      'Click a mark, an arrow, or a mote on the map. With the keyboard: go to the timeline with Tab, choose with [ and ], and follow with Enter.'));
   redraw();
 }
 
@@ -54,7 +55,8 @@ function chooseLine(pane, line, show) {
 function chooseCopy(pane, k, copy, show) {
   const {run} = pane;
   if (run.copyLine[copy] >= 0) return chooseLine(pane, run.copyLine[copy], show);
-  chosen = {pane, mote: run.copyTo[copy], line: -1, k, copy, bows: [], next: run.sendLine[k] >= 0 ? [run.sendLine[k]] : []};
+  chosen = {pane, mote: run.copyTo[copy], line: -1, k, copy, bows: [],
+    next: run.sendLine[k] >= 0 ? [run.sendLine[k]] : []};
   tell(pane, show);
 }
 
@@ -105,7 +107,8 @@ function tellPacket(box, pane) {
       if (chosen.line === line) chosen.next = [hand >= 0 ? hand : run.sendLine[k]];
     } else {
       const arrives = arrivalOf(run, k, copy);
-      items.push(lineButton(pane, `to ${to}`, fate === MEDIUM ? `${to}@lost` : `${to}@${arrives}`, what, chosen.copy === copy,
+      items.push(lineButton(pane, `to ${to}`, fate === MEDIUM ? `${to}@lost` : `${to}@${arrives}`, what,
+        chosen.copy === copy,
         () => chooseCopy(pane, k, copy, true)));
     }
     if (items.length > MOST_LISTED) {
@@ -113,7 +116,8 @@ function tellPacket(box, pane) {
       break;
     }
   }
-  box.append(list('ul', [lineButton(pane, `line ${run.numberOfPacket(k)}`, run.packetText(k), 'in the log of the medium', false,
+  box.append(list('ul', [lineButton(pane, `line ${run.numberOfPacket(k)}`, run.packetText(k),
+    'in the log of the medium', false,
     () => run.sendLine[k] >= 0 && chooseLine(pane, run.sendLine[k], true)), ...items]));
 }
 
@@ -121,7 +125,8 @@ function tellPacket(box, pane) {
 function tellEvent(box, pane) {
   const {run} = pane, {line, mote} = chosen, serial = run.x[line], post = run.postOf(mote, serial), items = [];
   box.append(element('h2', `Event ${serial} of mote ${mote}: ${run.events[run.e[line]]} ${run.w[line]}`));
-  if (post >= 0) items.push(traceButton(pane, post, run.at[post] < run.at[line] ? `${count(run.at[line] - run.at[post], 'moment')} before` : 'posted'));
+  if (post >= 0) items.push(traceButton(pane, post,
+    run.at[post] < run.at[line] ? `${count(run.at[line] - run.at[post], 'moment')} before` : 'posted'));
   const end = run.traceStart[mote + 1];
   for (let i = post < 0 ? line : post + 1; i < end; i++) {
     const isOf = (run.kind[i] === TAKE || run.kind[i] === DROP) && run.x[i] === serial;
@@ -134,11 +139,13 @@ function tellEvent(box, pane) {
   if (items.length === (post >= 0 ? 1 : 0)) items.push(element('span', 'It is still waiting when the run ends.'));
   if (chosen.line !== post) {
     const [, to] = run.turn(line, mote);
-    for (let i = line + 1; i < to && run.kind[i] !== TAKE; i++) if (run.kind[i] === SEND || run.kind[i] === POST) chosen.next.push(i);
+    for (let i = line + 1; i < to && run.kind[i] !== TAKE; i++) if (run.kind[i] === SEND || run.kind[i] === POST)
+      chosen.next.push(i);
   }
   if (run.silent[line]) items.push(element('span', 'This timer sends in other runs; in this run it doesn\'t.'));
   for (const copy of copiesOfTurn(run, line, mote)) {
-    if (run.handLine[copy] === post && post >= 0) items.unshift(traceButton(pane, run.copyLine[copy], 'the packet that it brings'));
+    if (run.handLine[copy] === post && post >= 0) items.unshift(traceButton(pane, run.copyLine[copy],
+      'the packet that it brings'));
   }
   box.append(list('ul', items));
 }
@@ -161,10 +168,12 @@ function tellTurn(box, pane) {
   box.append(element(box.children.length ? 'h3' : 'h2', `Mote ${mote} at moment ${run.at[line]}: its turn`));
   const first = Math.max(from, Math.min(line - MOST_LISTED / 2, to - MOST_LISTED));
   for (let i = first; i < Math.min(to, first + MOST_LISTED); i++) {
-    items.push(traceButton(pane, i, run.silent[i] ? 'a timer that elsewhere sends; here the process kept silent' : ''));
+    items.push(traceButton(pane, i, run.silent[i] ? 'a timer that elsewhere sends; here the process kept silent' :
+      ''));
   }
   box.append(list('ol', items));
-  if (to - from > MOST_LISTED) box.append(element('p', `${to - from - MOST_LISTED} lines of this turn are not listed.`));
+  if (to - from > MOST_LISTED) box.append(element('p',
+    `${to - from - MOST_LISTED} lines of this turn are not listed.`));
   const more = element('button', `All of mote ${mote}`);
   more.type = 'button';
   more.addEventListener('click', () => chooseMote(pane, mote, false));
@@ -186,11 +195,14 @@ function tellMote(box, pane) {
     if (copy < 0) continue;
     const s = run.packetSender[k], sum = sums.get(s) || [0, 0, 0, 0, 0], fate = run.copyFate[copy];
     sum[0]++;
-    sum[fate === MEDIUM ? 2 : fate === COLLIDED ? 3 : fate === RING || fate === REFUSED || fate === UNHEARD || fate === GONE ? 4 : 1]++;
+    sum[fate === MEDIUM ? 2 : fate === COLLIDED ? 3 : fate === RING || fate === REFUSED || fate === UNHEARD ||
+      fate === GONE ? 4 : 1]++;
     sums.set(s, sum);
   }
-  const head = element('tr', '', ['from', 'copies', 'came', 'lost', 'collided', 'refused'].map(name => element('th', name)));
-  const rows = [...sums].sort((a, b) => a[0] - b[0]).slice(0, MOST_LISTED).map(([s, [all, came, lost, met, refused]]) => {
+  const head = element('tr', '', ['from', 'copies', 'came', 'lost', 'collided',
+    'refused'].map(name => element('th', name)));
+  const rows = [...sums].sort((a, b) => a[0] - b[0]).slice(0,
+    MOST_LISTED).map(([s, [all, came, lost, met, refused]]) => {
     const every = run.lossOf.get(s * 65536 + mote), name = `mote ${s}` + (every ? ` (loses 1 in ${every})` : '');
     return element('tr', '', [name, all, came, lost, met, refused].map(value => element('td', String(value))));
   });

@@ -4,7 +4,8 @@ let colours = {};
 /** The colours of the page, by the reader's system or for print. */
 function readColours() {
   const style = getComputedStyle(document.documentElement);
-  for (const name of ['paper', 'panel', 'ink', 'quiet', 'grid', 'edge', 'band', 'send', 'recv', 'trouble', 'print', 'timer', 'run',
+  for (const name of ['paper', 'panel', 'ink', 'quiet', 'grid', 'edge', 'band', 'send', 'recv', 'trouble', 'print',
+    'timer', 'run',
     'run-ink', 'event', 'mark', 'halo', 'cursor']) {
     colours[name] = style.getPropertyValue('--' + name).trim();
   }
@@ -12,7 +13,8 @@ function readColours() {
 
 function path(c, points, close) {
   c.beginPath();
-  for (let i = 0; i < points.length; i += 2) if (i) c.lineTo(points[i], points[i + 1]); else c.moveTo(points[i], points[i + 1]);
+  for (let i = 0; i < points.length; i += 2) if (i)
+    c.lineTo(points[i], points[i + 1]); else c.moveTo(points[i], points[i + 1]);
   if (close) c.closePath();
 }
 
@@ -108,7 +110,8 @@ const FORM = {
   leave(c, x, y, r) { bracket(c, x, y, r, colours['run-ink'], -1); },
   halt(c, x, y, r) {
     c.beginPath();
-    for (let i = 0; i < 8; i++) c.lineTo(x + Math.cos((i + 0.5) * Math.PI / 4) * r * 1.5, y + Math.sin((i + 0.5) * Math.PI / 4) * r * 1.5);
+    for (let i = 0; i < 8; i++) c.lineTo(x + Math.cos((i + 0.5) * Math.PI / 4) * r * 1.5,
+      y + Math.sin((i + 0.5) * Math.PI / 4) * r * 1.5);
     c.closePath();
     fill(c, colours.trouble);
     path(c, [x - r * 0.8, y, x + r * 0.8, y]);
@@ -194,7 +197,8 @@ function drawLegend() {
   const box = document.getElementById('forms');
   box.textContent = '';
   for (const [form, said] of LEGEND) {
-    const row = document.createElement('div'), canvas = document.createElement('canvas'), dots = window.devicePixelRatio || 1;
+    const row = document.createElement('div'), canvas = document.createElement('canvas'),
+      dots = window.devicePixelRatio || 1;
     row.className = 'form';
     canvas.width = 56 * dots;
     canvas.height = 20 * dots;

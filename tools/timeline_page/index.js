@@ -4,8 +4,10 @@
 /** What became of a copy. */
 const FATES = ['handed', 'full', 'deaf', 'ring', 'collided', 'lost', 'gone', 'left', 'received'];
 const [HANDED, REFUSED, UNHEARD, RING, COLLIDED, MEDIUM, GONE, LEFT, RECEIVED] = FATES.keys();
-const FATE_WORDS = ['received and handed on', 'received, but the event queue was full', 'received, but the program has no receiver',
-  'lost: eight packets were waiting already', 'collided with others', 'lost on the way', 'came to a mote that had halted',
+const FATE_WORDS = ['received and handed on', 'received, but the event queue was full',
+  'received, but the program has no receiver',
+  'lost: eight packets were waiting already', 'collided with others', 'lost on the way',
+    'came to a mote that had halted',
   'would arrive after the end', 'received, but not handed on'];
 
 /** Classes of lines in the overview, the most notable last. */
@@ -166,7 +168,8 @@ function findGroups(run) {
   run.groups = groups.length && groups.length <= 8 ? groups : [{motes: Array.from({length: motes}, (_, m) => m)}];
   const several = run.groups.length > 1;
   run.groups.forEach((group, g) => {
-    const list = group.motes, said = list.length === 1 ? `mote ${list[0]}` : list[list.length - 1] - list[0] === list.length - 1
+    const list = group.motes, said = list.length === 1 ? `mote ${list[0]}` :
+      list[list.length - 1] - list[0] === list.length - 1
       ? `motes ${list[0]} to ${list[list.length - 1]}` : `${list.length} motes`;
     group.name = group.alone ? `${said} that hear nobody` : several ? `Island ${g + 1}: ${said}` :
       said[0].toUpperCase() + said.slice(1);

@@ -57,7 +57,8 @@ function drawGrid(pane) {
   const c = pane.context, step = niceStep(76 / time.scale);
   const first = Math.max(0, Math.ceil(time.begin / step) * step), last = Math.min(time.end, pane.moment(pane.width));
   c.fillStyle = colours.grid;
-  for (let moment = first; moment <= last; moment += step) c.fillRect(Math.round(pane.x(moment)), AXIS, 1, pane.height);
+  for (let moment = first; moment <= last; moment += step)
+    c.fillRect(Math.round(pane.x(moment)), AXIS, 1, pane.height);
   const before = pane.x(0), behind = pane.x(pane.run.end + 1);
   c.fillStyle = colours.panel;
   if (before > pane.gutter) c.fillRect(pane.gutter, AXIS, before - pane.gutter, pane.height);
@@ -109,7 +110,8 @@ function columnsOf(pane, mote, bits) {
     }
     return;
   }
-  const [from, to] = linesInView(pane, mote), {at, kind, silent} = run, broad = Math.max(1, Math.floor(time.scale * 0.7));
+  const [from, to] = linesInView(pane, mote), {at, kind, silent} = run,
+    broad = Math.max(1, Math.floor(time.scale * 0.7));
   for (let i = from; i < to; i++) {
     const x = Math.round((at[i] + 0.5 - first) * time.scale - broad / 2), bit = silent[i] ? SILENT : CLASS[kind[i]];
     for (let j = Math.max(0, x); j < Math.min(width, x + broad); j++) bits[j] |= bit;
@@ -137,7 +139,8 @@ function drawOverview(pane, from, to) {
     let last = first;
     while (last < to && pane.groupOf[pane.order[last]] === group) last++;
     const rows = Math.max(1, Math.min(last - first, Math.ceil((last - first) * pane.lane)));
-    const image = new ImageData(width, rows), pixels = new Uint32Array(image.data.buffer), bits = new Uint8Array(width);
+    const image = new ImageData(width, rows), pixels = new Uint32Array(image.data.buffer),
+      bits = new Uint8Array(width);
     for (let row = 0, place = first; row < rows; row++) {
       bits.fill(0);
       const until = first + Math.floor((row + 1) * (last - first) / rows);
@@ -155,7 +158,8 @@ function drawOverview(pane, from, to) {
 }
 
 /** A lane with a great many lines: strokes by class, at the heights of their rows. */
-const STROKES = [[OTHER, 'run', 0.45, 0.55], [HEARD, 'recv', 0.66, 0.94], [SILENT, 'quiet', 0.3, 0.6], [SENT, 'send', 0.16, 0.6],
+const STROKES = [[OTHER, 'run', 0.45, 0.55], [HEARD, 'recv', 0.66, 0.94], [SILENT, 'quiet', 0.3, 0.6],
+  [SENT, 'send', 0.16, 0.6],
   [PRINTED, 'print', 0.08, 0.3], [TROUBLE, 'trouble', 0.04, 0.96], [HALTED, 'ink', 0, 1]];
 
 function drawStrokes(pane, mote) {
@@ -164,7 +168,8 @@ function drawStrokes(pane, mote) {
   columnsOf(pane, mote, bits);
   for (const [bit, colour, from, to] of STROKES) {
     const value = pixelOf(colours[colour]), first = Math.floor(tall * from), last = Math.ceil(tall * to);
-    for (let j = 0; j < width; j++) if (bits[j] & bit) for (let y = first; y < last; y++) pixels[y * width + j] = value;
+    for (let j = 0; j < width; j++) if (bits[j] & bit) for (let y = first; y < last; y++) pixels[y * width + j]
+      = value;
   }
   paint(pane, image, pane.laneTop(mote), pane.lane);
   const [from, to] = linesInView(pane, mote);
@@ -212,7 +217,8 @@ function putLabel(pane, text, x, y, colour, row) {
 
 /** The boxes of a turn's runs: a run goes from a start or take to the next. */
 function drawRuns(pane, mote, from, to, xOf) {
-  const {run, context: c} = pane, y = pane.lineY(START, mote), tall = Math.max(5, pane.lane * 0.2), wide = time.scale >= APART;
+  const {run, context: c} = pane, y = pane.lineY(START, mote), tall = Math.max(5, pane.lane * 0.2),
+    wide = time.scale >= APART;
   if (!wide) {
     if (Math.round(pane.x(run.at[from])) === pane.runEnd) return;
     pane.runEnd = Math.round(pane.x(run.at[from]));
@@ -252,7 +258,8 @@ function drawLanes(pane, from, to) {
 function drawLane(pane, mote) {
   const {run, said} = pane, [from, to] = linesInView(pane, mote), isFull = pane.lane >= FULL_LANE;
   if (to - from > pane.most) return drawStrokes(pane, mote);
-  const r = isFull ? Math.max(3, Math.min(6.5, Math.round(pane.lane * 0.17) / 2)) : Math.max(2.5, Math.min(5.5, Math.round(pane.lane * 0.5) / 2));
+  const r = isFull ? Math.max(3, Math.min(6.5, Math.round(pane.lane * 0.17) / 2)) :
+    Math.max(2.5, Math.min(5.5, Math.round(pane.lane * 0.5) / 2));
   const top = pane.laneTop(mote), {kind, at} = run;
   pane.marks = new Map();
   pane.labelEnd = {};
@@ -267,7 +274,8 @@ function drawLane(pane, mote) {
     const turn = [i, end], xOf = line => pane.lineX(line, mote, turn);
     if (isFull) drawRuns(pane, mote, i, end, xOf);
     for (let line = i; line < end; line++) {
-      const k = kind[line], form = formOf(run, line), isLow = !isFull && k !== SEND && k !== RECV && k !== PRINT && CLASS[k] === OTHER;
+      const k = kind[line], form = formOf(run, line),
+        isLow = !isFull && k !== SEND && k !== RECV && k !== PRINT && CLASS[k] === OTHER;
       if (isLow && form !== 'silent') {
         said.low++;
         continue;
@@ -275,7 +283,8 @@ function drawLane(pane, mote) {
       const x = xOf(line), y = form === 'silent' ? pane.lineY(isFull ? SEND : SEND, mote) : pane.lineY(k, mote);
       if (k === RECV && !isFull) {
         if (putMark(pane, 'tick', x, y, Math.min(4, pane.lane * 0.2), line)) continue;
-      } else if (putMark(pane, form, x, y, k === PRINT && !isFull ? Math.min(4, r) : r, line) && k === PRINT && pane.lane >= 14) {
+      } else if (putMark(pane, form, x, y, k === PRINT && !isFull ? Math.min(4, r) : r, line) && k === PRINT &&
+        pane.lane >= 14) {
         putLabel(pane, String(run.w[line]), x + r + 2, y, 'print', 'print');
       } else if (k === HALT && pane.lane >= 14) putLabel(pane, 'halts', x + r * 1.6 + 3, y, 'trouble', 'print');
       if (isFull && form === 'silent') putMark(pane, 'timer', x, pane.lineY(TAKE, mote), r, line);
@@ -303,7 +312,8 @@ function drawHead(pane, g, most, bin) {
   c.fillRect(0, y + HEAD - 1, pane.width, 1);
   const base = y + HEAD - 2, tall = HEAD - 22;
   sumsOf(pane, group, bin, (j, sent, quiet) => {
-    const left = Math.max(pane.gutter, pane.x(j * bin * run.piece)), right = Math.min(pane.width, pane.x((j + 1) * bin * run.piece));
+    const left = Math.max(pane.gutter, pane.x(j * bin * run.piece)),
+      right = Math.min(pane.width, pane.x((j + 1) * bin * run.piece));
     if (right <= left) return;
     const h = sent / most * tall, more = quiet / most * tall;
     c.fillStyle = colours.send;
@@ -347,7 +357,8 @@ function sumsOf(pane, group, bin, told) {
 function drawHeads(pane) {
   const {run} = pane, bin = Math.max(1, Math.round(niceStep(9 / time.scale) / run.piece));
   let most = 1;
-  for (const group of run.groups) sumsOf(pane, group, bin, (j, sent, quiet) => { most = Math.max(most, sent + quiet); });
+  for (const group of run.groups) sumsOf(pane, group, bin,
+    (j, sent, quiet) => { most = Math.max(most, sent + quiet); });
   for (let g = 0; g < run.groups.length; g++) drawHead(pane, g, most, bin);
 }
 
@@ -355,7 +366,8 @@ function drawHeads(pane) {
 function drawNames(pane, from, to) {
   const {run, context: c} = pane;
   c.fillStyle = colours.panel;
-  for (let place = from; place < to; place++) c.fillRect(0, pane.laneTopOfPlace(place), pane.gutter - 1, Math.max(1, pane.lane + 0.5));
+  for (let place = from; place < to; place++) c.fillRect(0, pane.laneTopOfPlace(place), pane.gutter - 1,
+    Math.max(1, pane.lane + 0.5));
   c.fillStyle = colours.edge;
   c.fillRect(pane.gutter - 1, AXIS, 1, pane.height);
   const step = pane.lane >= 11 ? 1 : niceStep(13 / pane.lane), several = run.programs.length > 1;
@@ -417,7 +429,8 @@ function drawFound(pane, from, to) {
     const mote = pane.order[place], [a, b] = linesInView(pane, mote);
     let before = -99;
     for (let m = lowerBound(found, a), end = lowerBound(found, b, m); m < end; m++) {
-      const x = pane.lineX(found[m], mote), y = pane.lane < SMALL_LANE ? pane.laneTop(mote) + pane.lane / 2 : pane.lineY(run.kind[found[m]], mote);
+      const x = pane.lineX(found[m], mote), y = pane.lane < SMALL_LANE ? pane.laneTop(mote) + pane.lane / 2 :
+        pane.lineY(run.kind[found[m]], mote);
       if (x - before < 3 || x < pane.gutter) continue;
       before = x;
       c.beginPath();
@@ -462,16 +475,21 @@ function sayDrawn(panes) {
     ` of ${time.end}.`];
   for (const pane of panes) {
     const {said, lanes: [from, to], run} = pane, shown = [];
-    const which = to - from >= run.begins.length ? `All ${count(run.begins.length, 'lane')}` : `${to - from} of ${count(run.begins.length, 'lane')}`;
+    const which = to - from >= run.begins.length ? `All ${count(run.begins.length, 'lane')}` :
+      `${to - from} of ${count(run.begins.length, 'lane')}`;
     shown.push(`${panes.length > 1 ? (pane.number ? 'Below: ' : 'Above: ') : ''}${which}, ${count(said.lines, 'line')} of the report.`);
-    if (said.asColours) shown.push('Lanes are too low for forms: each pixel has the colour of the most notable line in it (T makes lanes taller).');
-    if (said.strokes) shown.push(`${count(said.strokes, 'line')} drawn as strokes, by what is most notable: zoom in for forms.`);
+    if (said.asColours)
+      shown.push('Lanes are too low for forms: each pixel has the colour of the most notable line in it (T makes lanes taller).');
+    if (said.strokes)
+      shown.push(`${count(said.strokes, 'line')} drawn as strokes, by what is most notable: zoom in for forms.`);
     if (said.rings) shown.push(`${count(said.rings, 'line')} found in view, too many for rings.`);
-    if (said.thinned) shown.push(`${count(said.thinned, 'mark')} not drawn: less than a pixel or two beside another of their form.`);
+    if (said.thinned)
+      shown.push(`${count(said.thinned, 'mark')} not drawn: less than a pixel or two beside another of their form.`);
     if (said.low) shown.push(`${count(said.low, 'mark')} of events and runs not drawn in lanes this low (T).`);
     if (said.copies > said.arrows) {
       const rest = (said.about ? 'about ' : '') + (said.copies - said.arrows).toLocaleString('en');
-      shown.push(`Copies of packets without an arrow: ${rest}${said.arrows ? `, with one: ${said.arrows.toLocaleString('en')}` : ''}; zoom in.`);
+      shown.push(`Copies of packets without an arrow: ${rest}${said.arrows ? `,
+        with one: ${said.arrows.toLocaleString('en')}` : ''}; zoom in.`);
     } else if (said.copies) shown.push(`Copies of packets: ${said.copies.toLocaleString('en')}, each with its arrow.`);
     parts.push(shown.join(' '));
   }

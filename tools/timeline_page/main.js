@@ -24,13 +24,15 @@ function drawAll() {
 function resize() {
   const isWide = window.innerWidth > 900, above = document.querySelector('header').offsetHeight;
   const isAlone = document.body.classList.contains('only-timeline');
-  const room = isAlone ? window.innerHeight : isWide ? window.innerHeight - above - (panes.length > 1 ? 76 : 54) : window.innerHeight * 0.68;
+  const room = isAlone ? window.innerHeight : isWide ? window.innerHeight - above - (panes.length > 1 ? 76 : 54) :
+    window.innerHeight * 0.68;
   const titles = panes.length > 1 ? panes.length * 28 : 0;
   for (const pane of panes) {
     const wanted = pane.heads + AXIS + pane.order.length * TALL_LANE;
     pane.resize(Math.round(Math.max(150, Math.min(wanted, (Math.max(room, 380) - titles) / panes.length))));
   }
-  const width = panes[0].width - panes[0].gutter, shown = time.width / time.scale, isWhole = time.scale <= leastScale() * 1.001;
+  const width = panes[0].width - panes[0].gutter, shown = time.width / time.scale,
+    isWhole = time.scale <= leastScale() * 1.001;
   time.width = width;
   time.scale = isWhole ? leastScale() : width / shown;
   keepTime();
@@ -100,18 +102,22 @@ function act(name) {
 }
 
 const KEYS = {
-  '+': 'zoom-in', '=': 'zoom-in', '-': 'zoom-out', '_': 'zoom-out', '0': 'whole', ArrowLeft: 'left', ArrowRight: 'right',
-  ArrowUp: 'up', ArrowDown: 'down', PageUp: 'page-up', PageDown: 'page-down', Home: 'begin', End: 'end', t: 'taller', T: 'taller',
+  '+': 'zoom-in', '=': 'zoom-in', '-': 'zoom-out', '_': 'zoom-out', '0': 'whole', ArrowLeft: 'left',
+    ArrowRight: 'right',
+  ArrowUp: 'up', ArrowDown: 'down', PageUp: 'page-up', PageDown: 'page-down', Home: 'begin', End: 'end', t: 'taller',
+    T: 'taller',
   l: 'lower', L: 'lower', ' ': 'play', '.': 'step', ',': 'back',
 };
 
 /** Keys: everywhere but in fields and on buttons, where they mean something else. */
 function onKey(event) {
   if (event.ctrlKey || event.metaKey || event.altKey) return;
-  const there = event.target.closest ? event.target.closest('input, select, button, summary, #details, #matches') : null;
+  const there = event.target.closest ? event.target.closest('input, select, button, summary, #details, #matches') :
+    null;
   const isTyping = there && !there.matches('button, #details, #matches');
   if (isTyping && event.key !== 'Escape') return;
-  if (there && (event.key === ' ' || event.key === 'Enter' || event.key.startsWith('Arrow') || event.key.startsWith('Page'))) return;
+  if (there && (event.key === ' ' || event.key === 'Enter' || event.key.startsWith('Arrow') ||
+    event.key.startsWith('Page'))) return;
   const pane = panes.find(one => one.canvas === document.activeElement) || (chosen ? chosen.pane : panes[0]);
   if (event.key === '[') walk(pane, -1);
   else if (event.key === ']') walk(pane, 1);
@@ -197,7 +203,8 @@ function listenTo(pane) {
 
 function listen() {
   document.addEventListener('keydown', onKey);
-  for (const button of document.querySelectorAll('[data-do]')) button.addEventListener('click', () => act(button.dataset.do));
+  for (const button of document.querySelectorAll('[data-do]'))
+    button.addEventListener('click', () => act(button.dataset.do));
   document.getElementById('search').addEventListener('submit', event => {
     event.preventDefault();
     find(document.getElementById('words').value);
@@ -285,7 +292,8 @@ function addPane(run, number, several) {
   const canvas = element('canvas');
   canvas.tabIndex = 0;
   canvas.setAttribute('role', 'application');
-  canvas.setAttribute('aria-label', `Timeline of ${run.name}: ${count(run.begins.length, 'mote')}, moments 0 to ${run.end}. ` +
+  canvas.setAttribute('aria-label',
+    `Timeline of ${run.name}: ${count(run.begins.length, 'mote')}, moments 0 to ${run.end}. ` +
     '[ and ] choose a line, { and } another lane, Enter follows, plus and minus zoom, arrows pan.');
   canvas.setAttribute('aria-describedby', 'drawn');
   box.append(canvas);
@@ -324,7 +332,8 @@ async function open() {
 }
 
 /** For tests, and for a reader's console. */
-const page = {draws: 0, drawn: 0, ready: false, panes, time, play, search, chosen: () => chosen, redraw, drawAll, find, act, setNow, count};
+const page = {draws: 0, drawn: 0, ready: false, panes, time, play, search, chosen: () => chosen, redraw, drawAll,
+  find, act, setNow, count};
 window.motesim = page;
 open().catch(fault => {
   const about = document.getElementById('about');

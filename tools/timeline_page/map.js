@@ -69,7 +69,8 @@ class MapView {
 
   /** How large a mote is drawn: by the room that there is for each. */
   get radius() {
-    const each = Math.sqrt((this.spanX * this.fit + 30) * (this.spanY * this.fit + 30) / this.run.begins.length) * this.zoom;
+    const each = Math.sqrt((this.spanX * this.fit + 30) * (this.spanY * this.fit +
+      30) / this.run.begins.length) * this.zoom;
     return Math.max(1.5, Math.min(12, each * 0.22));
   }
 
@@ -91,8 +92,10 @@ class MapView {
       });
       stroke(c, colours.edge, this.radius > 4 ? 1.2 : 0.8);
     }
-    for (const [s, r, every] of run.losses) if (run.hearers[s] && run.hearers[s].includes(r)) this.drawLoss(c, s, r, every);
-    if (run.troubled.size <= 3000) for (const [link, sum] of run.troubled) this.drawTrouble(c, link >>> 16, link & 65535, sum);
+    for (const [s, r, every] of run.losses) if (run.hearers[s] && run.hearers[s].includes(r))
+      this.drawLoss(c, s, r, every);
+    if (run.troubled.size <= 3000) for (const [link, sum] of run.troubled)
+      this.drawTrouble(c, link >>> 16, link & 65535, sum);
     return canvas;
   }
 
@@ -143,9 +146,11 @@ class MapView {
   drawChosenPacket() {
     const {context: c, run} = this, k = chosen.k, s = run.packetSender[k];
     for (let copy = run.copyStart[k]; copy < run.copyStart[k + 1]; copy++) {
-      const r = run.copyTo[copy], dx = this.x(r) - this.x(s), dy = this.y(r) - this.y(s), long = Math.hypot(dx, dy) || 1;
+      const r = run.copyTo[copy], dx = this.x(r) - this.x(s), dy = this.y(r) - this.y(s),
+        long = Math.hypot(dx, dy) || 1;
       const cut = this.radius / long;
-      drawArrow(c, this.x(s) + dx * cut, this.y(s) + dy * cut, this.x(r) - dx * cut, this.y(r) - dy * cut, run.copyFate[copy],
+      drawArrow(c, this.x(s) + dx * cut, this.y(s) + dy * cut, this.x(r) - dx * cut, this.y(r) - dy * cut,
+        run.copyFate[copy],
         copy === chosen.copy ? 3 : 2, 4);
     }
   }
@@ -179,7 +184,8 @@ class MapView {
     const {context: c, run} = this, x = this.x(m), y = this.y(m), r = this.radius;
     if (x < -20 || y < -20 || x > this.width + 20 || y > this.height + 20) return;
     const now = Math.floor(play.now), from = Math.min(now, Math.floor(play.before) + 1), {at, traceStart, kind} = run;
-    const a = lowerBound(at, from, traceStart[m], traceStart[m + 1]), b = lowerBound(at, now + 1, a, traceStart[m + 1]);
+    const a = lowerBound(at, from, traceStart[m], traceStart[m + 1]),
+      b = lowerBound(at, now + 1, a, traceStart[m + 1]);
     let sends = false, hears = false, trouble = null, silent = false;
     for (let i = a; i < b; i++) {
       if (kind[i] === SEND) sends = true;
@@ -241,10 +247,12 @@ class MapView {
 
   listen() {
     this.canvas.setAttribute('role', 'img');
-    this.canvas.setAttribute('aria-label', 'Map of the motes: who hears whom, and the packets on their way at the moment that is played');
+    this.canvas.setAttribute('aria-label',
+      'Map of the motes: who hears whom, and the packets on their way at the moment that is played');
     this.canvas.addEventListener('wheel', event => {
       event.preventDefault();
-      const factor = Math.exp(-event.deltaY * 0.0015), zoom = Math.max(1, Math.min(40, this.zoom * factor)), by = zoom / this.zoom;
+      const factor = Math.exp(-event.deltaY * 0.0015), zoom = Math.max(1, Math.min(40, this.zoom * factor)),
+        by = zoom / this.zoom;
       const x = event.offsetX - this.width / 2, y = event.offsetY - this.height / 2;
       this.dx = zoom === 1 ? 0 : x + (this.dx - x) * by;
       this.dy = zoom === 1 ? 0 : y + (this.dy - y) * by;

@@ -24,7 +24,8 @@ function asks(run, word, next) {
 }
 
 const HAS_WORD = KINDS.map(kind => ['post', 'full', 'take', 'drop', 'print', 'send', 'recv'].includes(kind));
-const HAS_PROCESS = KINDS.map(kind => ['start', 'leave', 'post', 'full', 'take', 'drop', 'print', 'busy'].includes(kind));
+const HAS_PROCESS = KINDS.map(kind => ['start', 'leave', 'post', 'full', 'take', 'drop', 'print',
+  'busy'].includes(kind));
 const HAS_EVENT = KINDS.map(kind => ['post', 'full', 'take', 'drop'].includes(kind));
 
 function losesCopy(run, k) {
@@ -111,7 +112,8 @@ function goTo(index) {
 
 /** Some matches around the present one, as buttons. */
 function listMatches() {
-  const box = document.getElementById('matches'), items = [], first = Math.max(0, Math.min(search.at - 10, search.total - 40));
+  const box = document.getElementById('matches'), items = [],
+    first = Math.max(0, Math.min(search.at - 10, search.total - 40));
   for (let index = first; index < Math.min(search.total, first + 40); index++) {
     const [pane, line] = matchAt(index), mote = pane.run.moteOf(line);
     items.push(lineButton(pane, `mote ${mote}`, pane.run.text(line), '', index === search.at, () => goTo(index)));
