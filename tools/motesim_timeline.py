@@ -6,8 +6,9 @@
     write_page('flooding.html', 'Flooding', [read_run('examples/flooding.toml')])
     write_page('both.html', 'With slots and without', [read_run(one), read_run(other)], start=17, mote=4)
 
-docs/TIMELINE.md says what one sees. The page stands by itself. In it a run is columns of numbers, compressed by zlib and written
-in base64: `data_of` makes them, `timeline_page/data.js` reads them. What follows from a run's lines the page finds out itself.
+docs/TIMELINE.md says what one sees. The page stands by itself. In it a run is columns of numbers, compressed by zlib
+and written in base64: `data_of` makes them, `timeline_page/data.js` reads them. What follows from a run's lines the
+page finds out itself.
 """
 from __future__ import annotations
 
@@ -48,7 +49,8 @@ class Columns:
     """The columns of a run. `names` has their order, each with its kind of number."""
     names = {'traceStart': 'u32', 'at': 'u32', 'x': 'u32', 'packetAt': 'u32', 'copyAfter': 'u32', 'w': 'u16',
         'p': 'u16', 'e': 'u16',
-             'begins': 'u16', 'packetSender': 'u16', 'packetValue': 'u16', 'copyCount': 'u16', 'copyTo': 'u16', 'kind': 'u8'}
+             'begins': 'u16', 'packetSender': 'u16', 'packetValue': 'u16', 'copyCount': 'u16', 'copyTo': 'u16',
+             'kind': 'u8'}
 
     def __init__(self, report: Report):
         self.columns = {name: array(ARRAYS[kind]) for name, kind in self.names.items()}
@@ -62,7 +64,7 @@ class Columns:
             raise Fault('the report has a number that is too great for a page') from None
 
     def add_trace(self, mote: Mote) -> None:
-        """The lines of one mote. Moments stand as differences, serials and packets' numbers as those from what is expected."""
+        """The lines of one mote. Moments stand as differences, serials and numbers as those from what is expected."""
         columns, processes, events = self.columns, self.processes, self.events
         add_at, add_kind, add_p = columns['at'].append, columns['kind'].append, columns['p'].append
         add_x, add_e, add_w = columns['x'].append, columns['e'].append, columns['w'].append
@@ -161,7 +163,7 @@ def _escaped(text: str) -> str:
 
 
 def page_of(title: str, runs: Sequence[Run], start: int | None = None, mote: int | None = None) -> Iterable[str]:
-    """The page's text in parts. It opens on the whole of the runs, or around the moment `start` with `mote` in view."""
+    """The page's text in parts. It opens on the whole run, or around the moment `start` with `mote` in view."""
     table, packed = [], []
     for run in runs:
         said, columns = data_of(run)
@@ -193,7 +195,7 @@ def write_page(path: str | Path, title: str, runs: Sequence[Run], start: int | N
     mote: int | None = None) -> None:
     """Writes the page of one run or of several above one another, which share their time axis.
 
-    With `start` the page opens around that moment, which is marked, and with `mote` with the lane of that mote in view.
+    With `start` the page opens around that moment, which is marked, and with `mote` that mote's lane is in view.
     """
     parts = list(page_of(title, runs, start, mote))
     try:

@@ -1,6 +1,7 @@
-"""A headless Chromium for tests of pages, driven through its remote debugging port. It needs nothing but the standard library.
+"""A headless Chromium for tests of pages, driven through its remote debugging port, by the standard library alone.
 
-    with Browser.start() as browser:            # None where no browser is installed, or it doesn't start
+    browser, why = Browser.start()      # None where no browser is installed or it doesn't start, and why
+    with browser:
         browser.open(path)
         browser.run('1 + 1')
 """
@@ -186,7 +187,8 @@ class Browser:
         until = time.monotonic() + CALL_SECONDS
         while not self.run('Boolean(%s)' % script):
             if time.monotonic() > until:
-                raise BrowserFault('the page is not ready: %s %s' % (self.run('document.body && document.body.innerText.slice(0, 300)'),
+                shown = self.run('document.body && document.body.innerText.slice(0, 300)')
+                raise BrowserFault('the page is not ready: %s %s' % (shown,
                                                                      self.faults))
             time.sleep(0.05)
 

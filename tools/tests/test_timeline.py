@@ -1,4 +1,4 @@
-"""The pages of tools/timeline: their data, and in a headless browser, where one is installed, what they show and answer."""
+"""The pages of tools/timeline: their data, and in a headless browser, where there is one, what they show."""
 import base64
 import contextlib
 import io
@@ -174,7 +174,8 @@ class Pages(unittest.TestCase):
         self.assertEqual(self.browser.faults, [])
 
     def value(self, script):
-        return self.browser.run('(() => { const m = motesim, pane = m.panes[0], run = pane.run; return %s; })()' % script)
+        known = 'const m = motesim, pane = m.panes[0], run = pane.run'
+        return self.browser.run('(() => { %s; return %s; })()' % (known, script))
 
     def place(self, row):
         """Where the mark of a line of the report is in the window."""
@@ -230,7 +231,8 @@ class Pages(unittest.TestCase):
     def test_wheel_keys_and_buttons_zoom_and_pan(self):
         self.open(small_network())
         whole = self.value('m.time.scale')
-        x, y = self.value('(() => { const box = pane.canvas.getBoundingClientRect(); return [box.x + 500, box.y + 120]; })()')
+        left, top = self.value('[pane.canvas.getBoundingClientRect().x, pane.canvas.getBoundingClientRect().y]')
+        x, y = left + 500, top + 120
         under = 'pane.moment(500)'
         before = self.value(under)
         self.browser.wheel(x, y, -400)
@@ -368,8 +370,10 @@ class Pages(unittest.TestCase):
 
     def test_all_that_is_drawn_has_a_name_for_readers_of_screens(self):
         self.open(small_network())
-        self.assertEqual(self.value('''Array.from(document.querySelectorAll("button, input, select, canvas")).filter(it =>
-          !(it.textContent.trim() && it.matches("button")) && !it.getAttribute("aria-label") && !(it.labels && it.labels.length)).length'''), 0)
+        unnamed = self.value('''Array.from(document.querySelectorAll("button, input, select, canvas")).filter(it =>
+          !(it.textContent.trim() && it.matches("button")) && !it.getAttribute("aria-label") &&
+          !(it.labels && it.labels.length)).length''')
+        self.assertEqual(unnamed, 0)
 
     def test_many_lanes_are_drawn_as_colours_and_what_is_not_drawn_is_said(self):
         self.open(Run('many', Report.parse(many(900, 40)), None))

@@ -1,4 +1,4 @@
-// Packets: an arrow for each copy, from the lane of its sender at the moment of sending to that of its receiver at arrival.
+// Packets: an arrow for each copy, from its sender's lane at the moment of sending to its receiver's at arrival.
 const FEW = 250, MANY = 2500, MOST_ARROWS = 12000, MOST_VISITED = 15000;
 
 /** The moment at which a copy arrives, or would have arrived. */

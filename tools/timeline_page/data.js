@@ -26,7 +26,8 @@ function lowerBound(array, value, low = 0, high = array.length) {
   return low;
 }
 
-/** A run: for each line of a trace its moment (at), kind, process or sender (p), serial or number (x), event (e), value (w);
+/** A run: for each line of a trace its moment (at), kind, process or sender (p), serial or number (x), event (e) and
+    value (w);
     for each packet its moment, sender, number, value and copies. */
 class Run {
   constructor(said, buffer) {

@@ -35,7 +35,8 @@ function selectNothing() {
   box.classList.add('empty');
   box.replaceChildren(element('h2', 'Nothing is selected'),
     element('p',
-      'Click a mark, an arrow, or a mote on the map. With the keyboard: go to the timeline with Tab, choose with [ and ], and follow with Enter.'));
+      'Click a mark, an arrow, or a mote on the map. With the keyboard: go to the timeline with Tab, ' +
+      'choose with [ and ], and follow with Enter.'));
   redraw();
 }
 
@@ -212,7 +213,7 @@ function tellMote(box, pane) {
   box.append(list('ol', Array.from({length: end - first}, (_, i) => traceButton(pane, first + i, ''))));
 }
 
-/** Enter: from a send to its copies, from a copy to its event, from a post to its take, from a take to what it sent. */
+/** Enter: from a send to its copies, from a copy to its event, from a post to its take, from there to what it sent. */
 function follow() {
   if (!chosen) return;
   const {pane, next} = chosen;

@@ -1,4 +1,4 @@
-// The lanes of a pane: axis, heads of groups, marks of lines. What is smaller than a pixel is thinned out, and counted.
+// The lanes of a pane: axis, heads of groups, marks of lines. What is smaller than a pixel is thinned and counted.
 const sprites = new Map(), MOST_MARKS = 12000, MOST_RINGS = 3000;
 
 /** A form as a small picture, made once for each size. */
@@ -471,15 +471,18 @@ function drawPane(pane) {
 
 /** In words what is in view, and what of it isn't drawn. */
 function sayDrawn(panes) {
-  const parts = [`Moments ${Math.max(0, Math.floor(time.begin))} to ${Math.min(time.end, Math.ceil(time.begin + time.width / time.scale) - 1)}` +
+  const last = Math.min(time.end, Math.ceil(time.begin + time.width / time.scale) - 1);
+  const parts = [`Moments ${Math.max(0, Math.floor(time.begin))} to ${last}` +
     ` of ${time.end}.`];
   for (const pane of panes) {
     const {said, lanes: [from, to], run} = pane, shown = [];
     const which = to - from >= run.begins.length ? `All ${count(run.begins.length, 'lane')}` :
       `${to - from} of ${count(run.begins.length, 'lane')}`;
-    shown.push(`${panes.length > 1 ? (pane.number ? 'Below: ' : 'Above: ') : ''}${which}, ${count(said.lines, 'line')} of the report.`);
+    const where = panes.length === 1 ? '' : pane.number ? 'Below: ' : 'Above: ';
+    shown.push(`${where}${which}, ${count(said.lines, 'line')} of the report.`);
     if (said.asColours)
-      shown.push('Lanes are too low for forms: each pixel has the colour of the most notable line in it (T makes lanes taller).');
+      shown.push('Lanes are too low for forms: each pixel has the colour of the most notable line in it ' +
+        '(T makes lanes taller).');
     if (said.strokes)
       shown.push(`${count(said.strokes, 'line')} drawn as strokes, by what is most notable: zoom in for forms.`);
     if (said.rings) shown.push(`${count(said.rings, 'line')} found in view, too many for rings.`);

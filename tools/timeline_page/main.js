@@ -255,7 +255,7 @@ function openAt(said) {
   }
 }
 
-/** What the page's address asks for behind #: from, to, lane (a height), mote, line (a number of the report), only=timeline. */
+/** What the page's address asks for behind #: from, to, lane (a height), mote, line (its number), only=timeline. */
 function openAsAddressed() {
   const wish = new URLSearchParams(location.hash.slice(1)), number = name => Number(wish.get(name)), pane = panes[0];
   if (wish.get('only') === 'timeline') {

@@ -105,7 +105,8 @@ function goTo(index) {
   if (!search.total) return;
   search.at = (index + search.total) % search.total;
   const [pane, line] = matchAt(search.at);
-  document.getElementById('found').textContent = `${(search.at + 1).toLocaleString('en')} of ${search.total.toLocaleString('en')}`;
+  const [at, total] = [search.at + 1, search.total].map(number => number.toLocaleString('en'));
+  document.getElementById('found').textContent = `${at} of ${total}`;
   chooseLine(pane, line, true);
   listMatches();
 }
