@@ -626,6 +626,8 @@ def read_run(path: str | Path, scenario: str | Path | None = None) -> Run:
 
     A file NAME.toml is a scenario, and is run. The name `-` is a report on standard input.
     """
+    if str(path).endswith('.toml') and scenario is not None:
+        raise Fault('%s is a scenario itself, and takes no other' % path)
     data = read_file(path)
     at = path
     try:
@@ -662,6 +664,9 @@ def finish(tool: str, work: Callable[[], int]) -> NoReturn:
         sys.stdout.flush()
     except Fault as fault:
         print('%s: %s' % (tool, fault), file=sys.stderr)
+        status = 2
+    except MemoryError:
+        print('%s: out of memory' % tool, file=sys.stderr)
         status = 2
     except BrokenPipeError:
         # (nobody reads on, as behind `| head`: Python shall not complain of it at its end)

@@ -244,6 +244,8 @@ class Runs(unittest.TestCase):
                 motesim_report.read_run(scenario)
         with self.assertRaisesRegex(Fault, 'no.report: No such file'):
             motesim_report.read_run('no.report')
+        with self.assertRaisesRegex(Fault, 'a.toml is a scenario itself'):
+            motesim_report.read_run(scenario, scenario)
         with self.assertRaisesRegex(ReportFault, 'b.report: line 1: expected'):
             motesim_report.read_run(self.write('b.report', 'x\n'))
 

@@ -1,5 +1,5 @@
 // Packets: an arrow for each copy, from the lane of its sender at the moment of sending to that of its receiver at arrival.
-const FEW = 700, MANY = 2500, MOST_ARROWS = 12000, MOST_VISITED = 60000;
+const FEW = 700, MANY = 2500, MOST_ARROWS = 12000, MOST_VISITED = 15000;
 
 /** The moment at which a copy arrives, or would have arrived. */
 function arrivalOf(run, k, c) {

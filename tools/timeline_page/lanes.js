@@ -1,16 +1,14 @@
 // The lanes of a pane: axis, heads of groups, marks of lines. What is smaller than a pixel is thinned out, and counted.
-const sprites = new Map();
+const sprites = new Map(), MOST_MARKS = 12000, MOST_RINGS = 3000;
 
 /** A form as a small picture, made once for each size. */
 function sprite(form, r, dots) {
   const key = `${form} ${r} ${dots}`;
   if (!sprites.has(key)) {
-    const canvas = document.createElement('canvas'), side = Math.ceil(r * 3.4 + 2) * dots;
-    canvas.width = canvas.height = side;
-    const c = canvas.getContext('2d');
+    const side = Math.ceil(r * 3.4 + 2) * dots, canvas = new OffscreenCanvas(side, side), c = canvas.getContext('2d');
     c.scale(dots, dots);
     FORM[form](c, side / dots / 2, side / dots / 2, r);
-    sprites.set(key, canvas);
+    sprites.set(key, canvas.transferToImageBitmap());
   }
   return sprites.get(key);
 }
@@ -118,7 +116,12 @@ function columnsOf(pane, mote, bits) {
   }
 }
 
-const numberOf = colour => parseInt(colour.slice(1), 16);
+/** A colour #rrggbb as a picture's number. */
+function pixelOf(colour) {
+  const number = parseInt(colour.slice(1), 16);
+  return (0xff000000 | (number & 255) << 16 | number & 0xff00 | number >> 16) >>> 0;
+}
+
 const CLASS_COLOURS = [[HALTED, 'ink'], [TROUBLE, 'trouble'], [PRINTED, 'print'], [SENT, 'send'], [SILENT, 'quiet'],
   [HEARD, 'recv'], [OTHER, 'run']];
 
@@ -126,8 +129,7 @@ const CLASS_COLOURS = [[HALTED, 'ink'], [TROUBLE, 'trouble'], [PRINTED, 'print']
 function drawOverview(pane, from, to) {
   const {run} = pane, width = Math.max(1, Math.floor(pane.width - pane.gutter)), table = new Uint32Array(128);
   for (let mask = 1; mask < 128; mask++) {
-    const colour = numberOf(colours[CLASS_COLOURS.find(([bit]) => mask & bit)[1]]);
-    table[mask] = 0xff000000 | (colour & 255) << 16 | colour & 0xff00 | colour >> 16;
+    table[mask] = pixelOf(colours[CLASS_COLOURS.find(([bit]) => mask & bit)[1]]);
   }
   let first = from;
   while (first < to) {
@@ -142,12 +144,7 @@ function drawOverview(pane, from, to) {
       for (; place < until; place++) columnsOf(pane, pane.order[place], bits);
       for (let j = 0; j < width; j++) pixels[row * width + j] = table[bits[j]];
     }
-    pane.scratch = pane.scratch || document.createElement('canvas');
-    pane.scratch.width = width;
-    pane.scratch.height = rows;
-    pane.scratch.getContext('2d').putImageData(image, 0, 0);
-    pane.context.imageSmoothingEnabled = false;
-    pane.context.drawImage(pane.scratch, pane.gutter, pane.laneTopOfPlace(first), width, (last - first) * pane.lane);
+    paint(pane, image, pane.laneTopOfPlace(first), (last - first) * pane.lane);
     first = last;
   }
   for (let place = from; place < to; place++) {
@@ -157,37 +154,46 @@ function drawOverview(pane, from, to) {
   pane.said.asColours = true;
 }
 
-/** A lane with more lines than pixels: strokes by class, at the heights of their rows. */
+/** A lane with a great many lines: strokes by class, at the heights of their rows. */
+const STROKES = [[OTHER, 'run', 0.45, 0.55], [HEARD, 'recv', 0.66, 0.94], [SILENT, 'quiet', 0.3, 0.6], [SENT, 'send', 0.16, 0.6],
+  [PRINTED, 'print', 0.08, 0.3], [TROUBLE, 'trouble', 0.04, 0.96], [HALTED, 'ink', 0, 1]];
+
 function drawStrokes(pane, mote) {
-  const c = pane.context, bits = new Uint8Array(Math.max(1, Math.floor(pane.width - pane.gutter))), top = pane.laneTop(mote);
+  const width = Math.max(1, Math.floor(pane.width - pane.gutter)), tall = Math.max(1, Math.round(pane.lane));
+  const bits = new Uint8Array(width), image = new ImageData(width, tall), pixels = new Uint32Array(image.data.buffer);
   columnsOf(pane, mote, bits);
-  const rows = [[OTHER, 'run', 0.45, 0.55], [HEARD, 'recv', 0.66, 0.94], [SILENT, 'quiet', 0.3, 0.6], [SENT, 'send', 0.16, 0.6],
-    [PRINTED, 'print', 0.08, 0.3], [TROUBLE, 'trouble', 0.04, 0.96], [HALTED, 'ink', 0, 1]];
-  let columns = 0;
-  for (const [bit, colour, from, to] of rows) {
-    c.fillStyle = colours[colour];
-    for (let j = 0; j < bits.length; j++) {
-      if (bits[j] & bit) {
-        c.fillRect(pane.gutter + j, top + pane.lane * from, 1, pane.lane * (to - from));
-        columns++;
-      }
-    }
+  for (const [bit, colour, from, to] of STROKES) {
+    const value = pixelOf(colours[colour]), first = Math.floor(tall * from), last = Math.ceil(tall * to);
+    for (let j = 0; j < width; j++) if (bits[j] & bit) for (let y = first; y < last; y++) pixels[y * width + j] = value;
   }
+  paint(pane, image, pane.laneTop(mote), pane.lane);
   const [from, to] = linesInView(pane, mote);
   pane.said.lines += to - from;
-  pane.said.thinned += Math.max(0, to - from - columns);
+  pane.said.strokes += to - from;
+}
+
+/** Puts a picture of as many columns as the pane has into its place. */
+function paint(pane, image, top, tall) {
+  pane.scratch = pane.scratch || document.createElement('canvas');
+  pane.scratch.width = image.width;
+  pane.scratch.height = image.height;
+  pane.scratch.getContext('2d').putImageData(image, 0, 0);
+  pane.context.imageSmoothingEnabled = false;
+  pane.context.drawImage(pane.scratch, pane.gutter, top, image.width, tall);
+  pane.context.imageSmoothingEnabled = true;
 }
 
 /** A mark, unless one of its form stands in the same place; what can be clicked is noted. */
 function putMark(pane, form, x, y, r, line) {
-  const {said, last} = pane;
-  if (x - (last.get(form) ?? -99) < Math.max(1.2, r * 0.5)) {
-    said.thinned++;
+  let mark = pane.marks.get(form);
+  if (!mark) pane.marks.set(form, mark = {picture: sprite(form, r, pane.dots), last: -99});
+  if (x - mark.last < Math.max(1.2, r * 0.5)) {
+    pane.said.thinned++;
     return false;
   }
-  last.set(form, x);
-  const picture = sprite(form, r, pane.dots), side = picture.width / pane.dots;
-  pane.context.drawImage(picture, x - side / 2, y - side / 2, side, side);
+  mark.last = x;
+  const side = mark.picture.width / pane.dots;
+  pane.context.drawImage(mark.picture, x - side / 2, y - side / 2, side, side);
   pane.hits.push(x, y, line);
   return true;
 }
@@ -195,6 +201,10 @@ function putMark(pane, form, x, y, r, line) {
 function putLabel(pane, text, x, y, colour, row) {
   const c = pane.context, wide = text.length * 6.4;
   if (x < (pane.labelEnd[row] ?? -99) || x > pane.width) return;
+  c.strokeStyle = colours.paper;
+  c.lineWidth = 3;
+  c.lineJoin = 'round';
+  c.strokeText(text, x, y);
   c.fillStyle = colours[colour];
   c.fillText(text, x, y);
   pane.labelEnd[row] = x + wide + 4;
@@ -202,7 +212,7 @@ function putLabel(pane, text, x, y, colour, row) {
 
 /** The boxes of a turn's runs: a run goes from a start or take to the next. */
 function drawRuns(pane, mote, from, to, xOf) {
-  const {run, context: c} = pane, y = pane.lineY(START, mote), tall = Math.max(5, pane.lane * 0.2), wide = time.scale >= 26;
+  const {run, context: c} = pane, y = pane.lineY(START, mote), tall = Math.max(5, pane.lane * 0.2), wide = time.scale >= APART;
   if (!wide) {
     if (Math.round(pane.x(run.at[from])) === pane.runEnd) return;
     pane.runEnd = Math.round(pane.x(run.at[from]));
@@ -227,12 +237,23 @@ function drawRuns(pane, mote, from, to, xOf) {
   }
 }
 
+/** Lanes with forms, or with strokes where a lane has too many lines for forms, or all lanes together have. */
+function drawLanes(pane, from, to) {
+  let lines = 0;
+  for (let place = from; place < to; place++) {
+    const [a, b] = linesInView(pane, pane.order[place]);
+    lines += b - a;
+  }
+  pane.most = lines > MOST_MARKS ? MOST_MARKS / (to - from) : (pane.width - pane.gutter) * 2;
+  for (let place = from; place < to; place++) drawLane(pane, pane.order[place]);
+}
+
 function drawLane(pane, mote) {
   const {run, said} = pane, [from, to] = linesInView(pane, mote), isFull = pane.lane >= FULL_LANE;
-  if (to - from > 5 * (pane.width - pane.gutter)) return drawStrokes(pane, mote);
+  if (to - from > pane.most) return drawStrokes(pane, mote);
   const r = isFull ? Math.max(3, Math.min(6.5, Math.round(pane.lane * 0.17) / 2)) : Math.max(2.5, Math.min(5.5, Math.round(pane.lane * 0.5) / 2));
   const top = pane.laneTop(mote), {kind, at} = run;
-  pane.last = new Map();
+  pane.marks = new Map();
   pane.labelEnd = {};
   pane.runEnd = -99;
   said.lines += to - from;
@@ -301,7 +322,7 @@ function drawHead(pane, g, most, bin) {
   c.font = '12.5px system-ui, "DejaVu Sans", sans-serif';
   c.fillStyle = colours.quiet;
   const anySilent = run.groups.some(one => one.quiet), said = `${count(group.sent, 'packet')} sent` +
-    (anySilent ? `, ${group.quiet} times silent instead` : '');
+    (!anySilent ? '' : group.quiet ? `, ${count(group.quiet, 'time')} silent instead` : ', never silent instead');
   const moments = Math.round(bin * run.piece), bars = ` (bars: in ${count(moments, 'moment')})`;
   const room = pane.width - from - 6;
   c.fillText(c.measureText(said + bars).width < room ? said + bars : said, from, y + 10, Math.max(10, room));
@@ -379,6 +400,15 @@ function drawCursorHead(pane) {
 function drawFound(pane, from, to) {
   const {run, context: c} = pane, found = search.found[pane.number];
   if (!found || !found.length) return;
+  let inView = 0;
+  for (let place = from; place < to; place++) {
+    const [a, b] = linesInView(pane, pane.order[place]);
+    inView += lowerBound(found, b) - lowerBound(found, a);
+  }
+  if (inView > MOST_RINGS) {
+    pane.said.rings = inView;
+    return;
+  }
   c.lineWidth = 2;
   c.strokeStyle = colours.mark;
   for (let place = from; place < to; place++) {
@@ -400,7 +430,7 @@ const count = (number, name) => `${number.toLocaleString('en')} ${name}${number 
 function drawPane(pane) {
   const c = pane.context;
   pane.hits = [];
-  pane.said = {lines: 0, thinned: 0, low: 0, asColours: false, copies: 0, arrows: 0};
+  pane.said = {lines: 0, thinned: 0, low: 0, strokes: 0, rings: 0, asColours: false, copies: 0, arrows: 0};
   c.fillStyle = colours.paper;
   c.fillRect(0, 0, pane.width, pane.height);
   const [from, to] = lanesInView(pane);
@@ -413,7 +443,7 @@ function drawPane(pane) {
   drawCursor(pane);
   drawArrows(pane);
   if (pane.lane < SMALL_LANE) drawOverview(pane, from, to);
-  else for (let place = from; place < to; place++) drawLane(pane, pane.order[place]);
+  else drawLanes(pane, from, to);
   drawChosen(pane);
   drawFound(pane, from, to);
   c.restore();
@@ -433,6 +463,8 @@ function sayDrawn(panes) {
     const which = to - from >= run.begins.length ? `All ${count(run.begins.length, 'lane')}` : `${to - from} of ${count(run.begins.length, 'lane')}`;
     shown.push(`${panes.length > 1 ? (pane.number ? 'Below: ' : 'Above: ') : ''}${which}, ${count(said.lines, 'line')} of the report.`);
     if (said.asColours) shown.push('Lanes are too low for forms: each pixel has the colour of the most notable line in it (T makes lanes taller).');
+    if (said.strokes) shown.push(`${count(said.strokes, 'line')} drawn as strokes, by what is most notable: zoom in for forms.`);
+    if (said.rings) shown.push(`${count(said.rings, 'line')} found in view, too many for rings.`);
     if (said.thinned) shown.push(`${count(said.thinned, 'mark')} not drawn: less than a pixel or two beside another of their form.`);
     if (said.low) shown.push(`${count(said.low, 'mark')} of events and runs not drawn in lanes this low (T).`);
     if (said.copies > said.arrows) {

@@ -23,10 +23,10 @@ function drawAll() {
 /** Panes and maps take the room that the window has. */
 function resize() {
   const isWide = window.innerWidth > 900, above = document.querySelector('header').offsetHeight;
-  const room = isWide ? window.innerHeight - above - 34 : window.innerHeight * 0.68;
+  const room = isWide ? window.innerHeight - above - 54 : window.innerHeight * 0.68;
   const titles = panes.length > 1 ? panes.length * 28 : 0;
   for (const pane of panes) {
-    const wanted = pane.heads + AXIS + pane.order.length * 96;
+    const wanted = pane.heads + AXIS + pane.order.length * TALL_LANE;
     pane.resize(Math.round(Math.max(150, Math.min(wanted, (Math.max(room, 380) - titles) / panes.length))));
   }
   const width = panes[0].width - panes[0].gutter, shown = time.width / time.scale, isWhole = time.scale <= leastScale() * 1.001;
@@ -210,14 +210,12 @@ function listen() {
     setNow(Number(event.target.value) || 0);
     followNow();
   });
-  new ResizeObserver(() => {
+  const refit = () => {
     resize();
-    redraw();
-  }).observe(document.querySelector('main'));
-  window.addEventListener('resize', () => {
-    resize();
-    redraw();
-  });
+    drawAll();
+  };
+  new ResizeObserver(refit).observe(document.querySelector('main'));
+  window.addEventListener('resize', refit);
   window.matchMedia('(prefers-color-scheme: dark)').addEventListener('change', recolour);
   window.addEventListener('beforeprint', () => recolour(true));
   window.addEventListener('afterprint', () => recolour());

@@ -1,5 +1,5 @@
 // Where moments and motes lie on the screen. All panes share one stretch of time; each has its own lanes.
-const AXIS = 24, HEAD = 46, MOST_SCALE = 600, SMALL_LANE = 9, FULL_LANE = 32;
+const AXIS = 24, HEAD = 46, MOST_SCALE = 600, SMALL_LANE = 9, FULL_LANE = 32, TALL_LANE = 150, APART = 14;
 
 /** The stretch of time in view: `begin` is the moment at the left edge, `scale` how many pixels a moment has. */
 const time = {begin: 0, scale: 1, end: 0, width: 100};
@@ -65,7 +65,7 @@ class Pane {
 
   /** Lanes of the height at which all are in view, in so far as they can be told apart. */
   fit() {
-    this.lane = Math.min(96, this.fitting);
+    this.lane = Math.min(TALL_LANE, this.fitting);
     this.top = 0;
     this.keep();
   }
@@ -119,8 +119,8 @@ class Pane {
   /** Where a line of a trace is drawn: within its moment by its place in the turn, where there is room for that. */
   lineX(line, mote, turn) {
     const middle = this.x(this.run.at[line] + 0.5);
-    if (time.scale < 26) return middle;
-    const [from, to] = turn || this.run.turn(line, mote), share = Math.min(1, (time.scale - 26) / 30);
+    if (time.scale < APART) return middle;
+    const [from, to] = turn || this.run.turn(line, mote), share = Math.min(1, (time.scale - APART) / 20);
     return middle + time.scale * 0.86 * share * ((line - from + 0.5) / (to - from) - 0.5);
   }
 
