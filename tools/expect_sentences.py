@@ -8,11 +8,13 @@ from __future__ import annotations
 import operator
 import re
 import textwrap
+from collections.abc import Callable
 from dataclasses import dataclass
 
-from motesim_report import FIELDS, SYSTEM, Fault, Scenario
+from motesim_report import FIELDS, MOST_MOMENT, MOST_WORD, SYSTEM, Fault, Scenario
 
 WIDTH = 110
+LONGEST_NUMBER, MOST, MOST_MOTES = 9, 999_999_999, 1_000
 TOKEN = re.compile(r"\s*('[^']*'|`[^`]*`|\d+|[A-Za-z_]\w*|[^\s])")
 COMPARES = {
     'at least': operator.ge, 'at most': operator.le, 'exactly': operator.eq, 'more than': operator.gt,
@@ -185,11 +187,13 @@ class _Reader:
 
     def __init__(self, sentence: str, names: Names):
         self.sentence, self.names = sentence, names
-        found = list(TOKEN.finditer(sentence.rstrip().removesuffix('.')))
+        text = sentence.rstrip().removesuffix('.')
+        found = list(TOKEN.finditer(text))
         self.words = [it[1] for it in found]
-        self.places = [it.start(1) for it in found] + [len(sentence.rstrip().removesuffix('.'))]
+        self.places = [it.start(1) for it in found] + [len(text)]
         self.at, self.furthest = 0, 0
         self.wanted: list[str] = []
+        self.is_one = True
 
     def want(self, at: int, what: str) -> None:
         """Notes what may stand at a word."""
@@ -232,30 +236,33 @@ class _Reader:
         self.want(self.at, one if self.is_one else many)
         return False
 
-    def maybe_number(self, what: str, most: int | None = None) -> int | None:
-        if self.word().isdigit() and (most is None or int(self.word()) <= most):
+    def maybe_number(self, what: str, most: int, least: int = 0) -> int | None:
+        word = self.word()
+        if word.isdecimal() and len(word) <= LONGEST_NUMBER and least <= int(word) <= most:
             self.at += 1
-            return int(self.words[self.at - 1])
-        self.want(self.at, what)
+            return int(word)
+        self.want(self.at, '%s, %d to %d' % (what, least, most))
         return None
 
-    def number(self, what: str, most: int | None = None) -> int:
-        found = self.maybe_number(what, most)
+    def number(self, what: str, most: int = MOST, least: int = 0) -> int:
+        found = self.maybe_number(what, most, least)
         if found is None:
             raise self.fault()
         return found
 
-    def mote(self) -> int:
-        if self.names.motes is None:
-            return self.number('a mote')
-        return self.number('a mote, 0 to %d' % (self.names.motes - 1), self.names.motes - 1)
+    def moment(self, least: int = 0) -> int:
+        return self.number('a moment', MOST_MOMENT, least)
 
-    def ranges(self, one) -> list[int]:
+    def mote(self, least: int = 0) -> int:
+        motes = MOST_MOTES if self.names.motes is None else self.names.motes
+        return self.number('a mote', motes - 1, least)
+
+    def ranges(self, one: Callable[[int], int]) -> list[int]:
         """Numbers, and ranges of them, with commas or `and` between."""
         found: list[int] = []
         while True:
-            begin = one()
-            found += range(begin, one() + 1) if self.accept('to') else [begin]
+            begin = one(0)
+            found += range(begin, one(begin) + 1) if self.accept('to') else [begin]
             if not self.accept(',', 'and'):
                 return found
 
@@ -289,40 +296,37 @@ class _Reader:
         if self.word() == 'at' and self.word(1) in ('least', 'most'):
             return None
         if self.accept('at'):
-            begin = self.number('a moment')
+            begin = self.moment()
             if not self.accept('plus'):
                 return Window(begin, begin)
             hop = self.number('a number of moments')
             self.need('for each hop from mote')
             return Window(begin, begin, hop, self.mote())
         if self.accept('by'):
-            return Window(0, self.number('a moment'))
+            return Window(0, self.moment())
         if self.accept('before'):
-            return Window(0, self.number('a moment') - 1)
+            return Window(0, self.moment(1) - 1)
         if self.accept('after'):
-            return Window(self.number('a moment') + 1)
+            return Window(self.moment() + 1)
         if self.accept('between'):
-            begin = self.number('a moment')
+            begin = self.moment()
             self.need('and')
-            return Window(begin, self.number('a moment'))
+            return Window(begin, self.moment(begin))
         every = None
         if self.accept('in each'):
-            every = self.number('a number of moments from 1 on')
-            if every == 0:
-                self.at -= 1
-                self.number('a number of moments from 1 on', -1)
+            every = self.number('a number of moments', MOST_MOMENT, 1)
             self.need('from')
         elif not self.accept('from'):
             return None
-        begin = self.number('a moment')
+        begin = self.moment()
         if every is None and self.accept('on'):
             return Window(begin)
         self.need('to')
-        return Window(begin, self.number('a moment'), every=every)
+        return Window(begin, self.moment(begin), every=every)
 
     def value(self) -> Value | None:
         """A value, if one stands here."""
-        number = self.maybe_number('a value', 65_535)
+        number = self.maybe_number('a value', MOST_WORD)
         if number is not None:
             return Value('number', number)
         if self.accept('its number'):
@@ -394,7 +398,8 @@ class _Reader:
                 raise self.fault()
             return Deed((('print', process),), way, value)
         if self.accept('just'):
-            process, values = self.needed_process(), self.ranges(lambda: self.number('a value', 65_535))
+            process = self.needed_process()
+            values = self.ranges(lambda least: self.number('a value', MOST_WORD, least))
             return Deed((('print', process),), 'set' if self.accept('in any order') else 'just', values=tuple(values))
         process = self.process()
         if process is None:
@@ -404,7 +409,6 @@ class _Reader:
 
     def motes(self) -> Motes | None:
         """Of which motes the sentence speaks, where it begins with them."""
-        self.is_one = True
         for kind, phrase in ('no', 'no mote'), ('some', 'some mote'), ('each', 'every mote'):
             if self.accept(phrase):
                 return Motes(kind, None, self.but())

@@ -163,6 +163,9 @@ FAULTS = [
     ('mote 1 finally sends 3', 'sends', 'prints'), ('mote 1 halts between 3 to 4', 'to', 'and'),
     ('motes 1 to 2 together send at 4 plus 3 for each hop from mote 0', 'together', 'the verb'),
     ('all motes together finally print flood 1', 'together', 'the verb'),
+    ('motes 2 to 1 halt', '1', 'a mote, 2 to 3'), ('mote 1 halts from 9 to 8', '8', 'a moment, 9 to 1000000'),
+    ('mote 1 halts before 0', '0', 'a moment, 1 to'), ('mote 1 sends \u00b2', '\u00b2', 'a value, 0 to 65535'),
+    ('mote 1 halts by 9999999999', '9999999999', 'a moment, 0 to 1000000'),
 ]
 
 
