@@ -1,0 +1,184 @@
+"""Files of expectations: what they say, and which of their sentences hold of a scenario. tools/expect is the command.
+
+`expect(Path('a.toml'), Path('a.expect.toml'))` runs the program, prints what holds and what doesn't, and counts both.
+"""
+from __future__ import annotations
+
+import itertools
+import subprocess
+import tomllib
+from dataclasses import dataclass
+from pathlib import Path
+from typing import NamedTuple
+
+from expect_judge import Broken, Judge
+from expect_sentences import Names, Refused, Sentence, SentenceFault, names_of, read_sentence
+from motesim_report import Fault, Report, Scenario, ScenarioFault, program_path, read_file
+
+SECONDS = 600
+LONGEST_SHOWN = 150
+WHOLE = 'the report is as it is written down'
+KINDS = {list: 'an array', str: 'a text', dict: 'a table'}
+KEYS = {'expect': list, 'report': str, 'change': list, 'about': str, 'replace': dict}
+
+
+def beside(scenario: Path) -> Path:
+    """The file of expectations that stands beside a scenario."""
+    return scenario.with_suffix('.expect.toml')
+
+
+def text_of(path: Path) -> str:
+    """The text of a file."""
+    try:
+        return read_file(path).decode('utf-8')
+    except UnicodeDecodeError:
+        raise Fault('%s is not UTF-8' % path) from None
+
+
+class Answer(NamedTuple):
+    status: int
+    report: bytes
+    fault: bytes
+
+
+@dataclass(frozen=True)
+class Part:
+    """What is expected of the scenario, or of it with some text replaced by another."""
+    name: str
+    sentences: list[str]
+    report: str | None
+    replace: dict[str, str]
+
+
+class Told(NamedTuple):
+    """A sentence, whether it holds, and more to show where it doesn't."""
+    sentence: str
+    holds: bool
+    more: list[str]
+
+
+def part_of(table: dict, name: str, keys: set[str]) -> Part:
+    """What a table of the file expects."""
+    for key, value in table.items():
+        if key not in keys:
+            raise Fault('%s has a key %s; there may stand: %s' % (name, key, ', '.join(sorted(keys))))
+        if type(value) is not KEYS[key]:
+            raise Fault('%s of %s is not %s' % (key, name, KINDS[KEYS[key]]))
+    sentences, replace = table.get('expect', []), table.get('replace', {})
+    if not all(type(it) is str for it in [*sentences, *replace.values()]):
+        raise Fault('%s holds something else than texts' % name)
+    if not sentences and 'report' not in table:
+        raise Fault('%s expects nothing' % name)
+    return Part(table.get('about', name), sentences, table.get('report'), replace)
+
+
+def parts_of(text: str, name: str) -> list[Part]:
+    """What a file expects: first of the scenario as it is, then of each change."""
+    try:
+        tables = tomllib.loads(text)
+    except tomllib.TOMLDecodeError as fault:
+        raise Fault('%s is no TOML: %s' % (name, fault)) from None
+    parts = [part_of(tables, name, {'expect', 'report', 'change'})]
+    for number, table in enumerate(tables.get('change', []), 1):
+        if type(table) is not dict or not table.get('replace'):
+            raise Fault('change %d of %s has no table replace' % (number, name))
+        parts.append(part_of(table, 'change %d of %s' % (number, name), {'expect', 'report', 'about', 'replace'}))
+    return parts
+
+
+def changed(scenario: str, replace: dict[str, str]) -> str:
+    for old, new in replace.items():
+        if old not in scenario:
+            raise Fault('the scenario has no text %r to replace' % old)
+        scenario = scenario.replace(old, new)
+    return scenario
+
+
+def answer(scenario: bytes) -> Answer:
+    """What the program answers."""
+    path = program_path()
+    try:
+        done = subprocess.run([str(path.resolve())], input=scenario, capture_output=True, timeout=SECONDS)
+    except subprocess.TimeoutExpired:
+        raise Fault('no answer in %d seconds' % SECONDS) from None
+    except OSError as fault:
+        raise Fault('%s can\'t be run: %s' % (path, fault.strerror)) from None
+    return Answer(done.returncode, done.stdout, done.stderr)
+
+
+def read_all(sentences: list[str], names: Names) -> list[Sentence]:
+    """The sentences of a part. The first that can't be read is told with its number."""
+    found = []
+    for number, sentence in enumerate(sentences, 1):
+        try:
+            found.append(read_sentence(sentence, names))
+        except SentenceFault as fault:
+            raise Fault('sentence %d is not known\n%s' % (number, str(fault).split('\n', 1)[1])) from None
+    return found
+
+
+def more_of(broken: Broken, rows: list[str]) -> list[str]:
+    """What is shown of a broken sentence."""
+    if broken.row is None:
+        return [broken.why]
+    row = rows[broken.row - 1]
+    return [broken.why, 'line %d: %s' % (broken.row, row if len(row) <= LONGEST_SHOWN else row[:LONGEST_SHOWN] + '..')]
+
+
+def same_report(rows: list[str], wanted: str) -> Told:
+    """Whether the report is the one that is written down."""
+    for number, (row, line) in enumerate(itertools.zip_longest(rows, wanted.splitlines(), fillvalue='the end'), 1):
+        if row != line:
+            return Told(WHOLE, False, ['line %d: %s' % (number, row), 'expected: %s' % line])
+    return Told(WHOLE, True, [])
+
+
+def refused(part: Part, sentences: list[Sentence], got: Answer) -> list[Told]:
+    """What is told of a scenario that has no report."""
+    line = got.fault.decode('utf-8', 'backslashreplace').strip() or 'status %d' % got.status
+    more, found = ['the scenario is refused: %s' % line], []
+    for text, sentence in zip(part.sentences, sentences):
+        holds = isinstance(sentence, Refused) and got == Answer(1, b'', ('motesim: %s\n' % sentence.fault).encode())
+        found.append(Told(text, holds, more))
+    return found if part.report is None else found + [Told(WHOLE, False, more)]
+
+
+def judged(scenario: str, part: Part) -> list[Told]:
+    """Which sentences of a part hold."""
+    text = changed(scenario, part.replace)
+    try:
+        known = Scenario.parse(text)
+        names = names_of(known)
+    except ScenarioFault:
+        known, names = None, Names()
+    sentences = read_all(part.sentences, names)
+    got = answer(text.encode())
+    if got.status:
+        return refused(part, sentences, got)
+    report = Report.parse(got.report)
+    judge = Judge(report, known or Scenario.parse(text))
+    found = []
+    for sentence, it in zip(part.sentences, sentences):
+        broken = judge.broken(it)
+        found.append(Told(sentence, broken is None, more_of(broken, judge.rows) if broken else []))
+    return found + ([same_report(judge.rows, part.report)] if part.report is not None else [])
+
+
+def expect(scenario: Path, expectations: Path, is_quiet: bool = False) -> tuple[int, int]:
+    """Tells which sentences hold, or, quietly, which don't; and counts those that do and those that don't."""
+    text = text_of(scenario)
+    passed = failed = 0
+    for part in parts_of(text_of(expectations), expectations.name):
+        try:
+            told = judged(text, part)
+        except Fault as fault:
+            raise Fault('%s: %s' % (part.name, fault)) from None
+        if part.replace and not (is_quiet and all(it.holds for it in told)):
+            print('with %s:' % (part.name if part.name != expectations.name else 'a change'))
+        for it in told:
+            passed, failed = passed + it.holds, failed + (not it.holds)
+            if it.holds and not is_quiet:
+                print('holds   %s' % it.sentence)
+            elif not it.holds:
+                print('\n          '.join(['broken  %s' % it.sentence, *it.more]))
+    return passed, failed

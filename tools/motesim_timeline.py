@@ -1,0 +1,205 @@
+"""Makes an HTML page of one run, or of two above one another: a map of the motes, and a lane for each over time.
+
+    from motesim_report import read_run
+    from motesim_timeline import write_page
+
+    write_page('flooding.html', 'Flooding', [read_run('examples/flooding.toml')])
+    write_page('both.html', 'With slots and without', [read_run(one), read_run(other)], start=17, mote=4)
+
+docs/TIMELINE.md says what one sees. The page stands by itself. In it a run is columns of numbers, compressed by zlib
+and written in base64: `data_of` makes them, `timeline_page/data.js` reads them. What follows from a run's lines the
+page finds out itself.
+"""
+from __future__ import annotations
+
+import base64
+import json
+import sys
+import zlib
+from array import array
+from pathlib import Path
+from typing import Iterable, Sequence
+
+from motesim_report import FIELDS, Fault, Mote, Report, Run, Scenario
+
+PAGE = Path(__file__).resolve().parent / 'timeline_page'
+# The page's scripts, in the order in which they are put together.
+SCRIPTS = ['data.js', 'index.js', 'view.js', 'forms.js', 'lanes.js', 'arrows.js', 'map.js', 'details.js', 'search.js',
+    'play.js',
+           'main.js']
+KINDS = list(FIELDS)
+ALL = 0xFFFF
+ARRAYS = {'u8': 'B', 'u16': 'H', 'u32': 'I'}
+
+
+class _Names(dict):
+    """Names in the order in which they were met, each with its place."""
+
+    def __missing__(self, name: str) -> int:
+        self[name] = len(self)
+        return self[name]
+
+
+def _zigzag(difference: int) -> int:
+    """A number that is small where the difference is near 0, and never negative."""
+    return 2 * difference if difference >= 0 else -2 * difference - 1
+
+
+class Columns:
+    """The columns of a run. `names` has their order, each with its kind of number."""
+    names = {'traceStart': 'u32', 'at': 'u32', 'x': 'u32', 'packetAt': 'u32', 'copyAfter': 'u32', 'w': 'u16',
+        'p': 'u16', 'e': 'u16',
+             'begins': 'u16', 'packetSender': 'u16', 'packetValue': 'u16', 'copyCount': 'u16', 'copyTo': 'u16',
+             'kind': 'u8'}
+
+    def __init__(self, report: Report):
+        self.columns = {name: array(ARRAYS[kind]) for name, kind in self.names.items()}
+        self.processes, self.events, self.programs = _Names(), _Names(), _Names()
+        try:
+            self.columns['traceStart'].append(0)
+            for mote in report.motes:
+                self.add_trace(mote)
+            self.add_medium(report)
+        except OverflowError:
+            raise Fault('the report has a number that is too great for a page') from None
+
+    def add_trace(self, mote: Mote) -> None:
+        """The lines of one mote. Moments stand as differences, serials and numbers as those from what is expected."""
+        columns, processes, events = self.columns, self.processes, self.events
+        add_at, add_kind, add_p = columns['at'].append, columns['kind'].append, columns['p'].append
+        add_x, add_e, add_w = columns['x'].append, columns['e'].append, columns['w'].append
+        kinds = {kind: number for number, kind in enumerate(KINDS)}
+        last, now = dict.fromkeys(KINDS, -1), 0
+        for line in mote.lines:
+            kind = line.kind
+            add_at(line.at - now)
+            now = line.at
+            add_kind(kinds[kind])
+            p = x = e = w = 0
+            if kind in ('post', 'take', 'drop'):
+                x = _zigzag(line.serial - last[kind] - 1)
+                last[kind] = line.serial
+            elif kind in ('send', 'recv', 'lost', 'collide', 'deaf'):
+                x = _zigzag(line.number - last[kind] - 1)
+                last[kind] = line.number
+            if kind in ('recv', 'lost', 'collide', 'deaf'):
+                p = line.sender
+            elif kind not in ('send', 'halt'):
+                p = ALL if line.process == 'all' else processes[line.process]
+            if kind in ('post', 'full'):
+                e, w = events[line.event], line.word
+            elif kind in ('print', 'send', 'recv'):
+                w = line.value
+            add_p(p)
+            add_x(x)
+            add_e(e)
+            add_w(w)
+        columns['begins'].append(self.programs[mote.program])
+        columns['traceStart'].append(len(columns['at']))
+
+    def add_medium(self, report: Report) -> None:
+        """The packets with their copies; 0 stands for the time of a copy that is lost."""
+        columns, now = self.columns, 0
+        sent = [0] * len(report.motes)
+        for packet in report.medium:
+            if packet.number != sent[packet.sender]:
+                raise Fault('the packets of mote %d are not numbered 0, 1, 2, ..' % packet.sender)
+            sent[packet.sender] += 1
+            columns['packetAt'].append(packet.at - now)
+            now = packet.at
+            columns['packetSender'].append(packet.sender)
+            columns['packetValue'].append(packet.value)
+            columns['copyCount'].append(len(packet.copies))
+            columns['copyTo'].extend([copy.to for copy in packet.copies])
+            columns['copyAfter'].extend([0 if copy.at is None else copy.at - packet.at for copy in packet.copies])
+
+    def packed(self) -> bytes:
+        """All columns behind one another, each at a multiple of 4, compressed."""
+        parts = []
+        for column in self.columns.values():
+            if sys.byteorder == 'big':
+                column.byteswap()
+            part = column.tobytes()
+            parts.append(part + bytes(-len(part) % 4))
+        return zlib.compress(b''.join(parts), 6)
+
+    def said(self) -> list[list]:
+        """What the page has to know of the columns: name, kind of number, length."""
+        return [[name, kind, len(self.columns[name])] for name, kind in self.names.items()]
+
+
+def _last_moment(report: Report) -> int:
+    """The end of a run whose scenario isn't known: the last moment at which anything was written or sent."""
+    moments = [mote.lines[-1].at for mote in report.motes if mote.lines]
+    return max(moments + [packet.at for packet in report.medium[-1:]], default=0)
+
+
+def _said_of_scenario(scenario: Scenario | None) -> dict:
+    """What the page shows of a scenario: places, who hears whom, losses."""
+    if scenario is None:
+        return {'places': None}
+    return {
+        'places': [[place.x, place.y] for place in scenario.places], 'range': scenario.range, 'base': scenario.base,
+        'per': scenario.per, 'collide': scenario.collide,
+        'losses': [[sender, to, every] for (sender, to), every in scenario.losses.items()],
+    }
+
+
+def data_of(run: Run) -> tuple[dict, bytes]:
+    """What the page has of a run: a small table of names and numbers, and its packed columns."""
+    columns = Columns(run.report)
+    end = run.scenario.end if run.scenario else _last_moment(run.report)
+    said = {
+        'name': run.name, 'end': max(end,
+            _last_moment(run.report)), 'left': run.report.left, 'programs': list(columns.programs),
+        'processes': list(columns.processes), 'events': list(columns.events), 'columns': columns.said(),
+        **_said_of_scenario(run.scenario),
+    }
+    return said, columns.packed()
+
+
+def _escaped(text: str) -> str:
+    return text.replace('&', '&amp;').replace('<', '&lt;').replace('>', '&gt;')
+
+
+def page_of(title: str, runs: Sequence[Run], start: int | None = None, mote: int | None = None) -> Iterable[str]:
+    """The page's text in parts. It opens on the whole run, or around the moment `start` with `mote` in view."""
+    table, packed = [], []
+    for run in runs:
+        said, columns = data_of(run)
+        table.append(said)
+        packed.append(base64.b64encode(columns).decode('ascii'))
+    said = json.dumps({'title': title, 'start': start, 'mote': mote, 'runs': table},
+        separators=(',', ':')).replace('<', '\\u003c')
+    scripts = '\n'.join((PAGE / name).read_text() for name in SCRIPTS)
+    fill = {
+        '@TITLE@': [_escaped(title)], '@STYLE@': [(PAGE / 'page.css').read_text()], '@SAID@': [said],
+        '@COLUMNS@': ['<script id="run%d" type="text/plain">%s</script>\n' % item for item in enumerate(packed)],
+        '@SCRIPT@': ["(() => {\n'use strict';\n" + scripts + '\n})();'],
+    }
+    rest = (PAGE / 'page.html').read_text()
+    while rest:
+        before, _, behind = rest.partition('@')
+        yield before
+        name, _, after = behind.partition('@')
+        mark = '@%s@' % name
+        if mark in fill:
+            yield from fill[mark]
+            rest = after
+        else:
+            yield '@' if behind else ''
+            rest = behind
+
+
+def write_page(path: str | Path, title: str, runs: Sequence[Run], start: int | None = None,
+    mote: int | None = None) -> None:
+    """Writes the page of one run or of several above one another, which share their time axis.
+
+    With `start` the page opens around that moment, which is marked, and with `mote` that mote's lane is in view.
+    """
+    parts = list(page_of(title, runs, start, mote))
+    try:
+        with open(path, 'w', encoding='utf-8', newline='\n') as page:
+            page.writelines(parts)
+    except OSError as fault:
+        raise Fault('%s: %s' % (path, fault.strerror)) from None

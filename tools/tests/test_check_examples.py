@@ -1,0 +1,96 @@
+"""What the pages quote of an example, and what is checked beside the sentences."""
+import importlib.machinery
+import importlib.util
+import sys
+import tempfile
+import unittest
+from pathlib import Path
+from unittest import mock
+
+sys.dont_write_bytecode = True
+TOOLS = Path(__file__).resolve().parent.parent
+sys.path.insert(0, str(TOOLS))
+from motesim_report import Report, Run, Scenario
+
+
+def load(name):
+    loader = importlib.machinery.SourceFileLoader(name, str(TOOLS / name))
+    made = importlib.util.module_from_spec(importlib.util.spec_from_loader(name, loader))
+    loader.exec_module(made)
+    return made
+
+
+check_examples = load('check_examples')
+
+PAGE = """# `one.toml`
+
+```
+a line of one
+```
+
+```sh
+./run other.toml
+```
+
+And `two.toml`, with `one.expect.toml` beside it, and `two.toml`:
+
+```toml
+end = 5
+..
+```
+"""
+
+# Mote 1 stands between mote 0, the root, and mote 2.
+SCENARIO = """
+version = 1
+end = 400
+medium = { range = 10, base = 1, per = 100 }
+programs = { p = "" }
+mote = [{ x = 0, y = 0, program = "p" }, { x = 10, y = 0, program = "p" }, { x = 20, y = 0, program = "p" }]
+"""
+REPORT = """mote 0 p
+mote 1 p
+2 print parent 0
+300 send 0 1
+304 send 1 2
+mote 2 p
+3 print parent 1
+302 send 0 102
+medium
+300 1 0 1 0@302 2@302
+302 2 0 102 1@304
+304 1 1 2 0@306 2@306
+left 0
+"""
+
+
+class Quotes(unittest.TestCase):
+    def test_blocks_belong_to_the_example_that_is_named_last(self):
+        with tempfile.TemporaryDirectory() as room:
+            (Path(room) / 'PAGE.md').write_text(PAGE)
+            with mock.patch.object(check_examples, 'TOP', Path(room)):
+                found = check_examples.quoted(['PAGE.md'])
+        self.assertEqual(found, {
+            'one': [('PAGE.md', 'a line of one')], 'two': [('PAGE.md', 'end = 5'), ('PAGE.md', '..')]})
+
+    def test_a_quoted_line_stands_in_the_scenario_or_the_report(self):
+        report = Report.parse(REPORT)
+        check_examples.check_quotes(SCENARIO, report, [('P', '  end = 400'), ('P', '304 send 1 2'), ('P', '..')])
+        with self.assertRaises(check_examples.Wrong):
+            check_examples.check_quotes(SCENARIO, report, [('P', '305 send 1 2')])
+
+
+class Readings(unittest.TestCase):
+    def run_of(self, report):
+        return Run('r', Report.parse(report), Scenario.parse(SCENARIO))
+
+    def test_each_mote_sends_those_below_it(self):
+        check_examples.readings_of_those_below(self.run_of(REPORT))
+
+    def test_a_reading_that_is_not_sent(self):
+        with self.assertRaises(check_examples.Wrong):
+            check_examples.readings_of_those_below(self.run_of(REPORT.replace('304 send 1 2\n', '')))
+
+
+if __name__ == '__main__':
+    unittest.main()

@@ -1,0 +1,102 @@
+"""How check_tutorial reads a page, runs its commands, and writes what they print."""
+import importlib.machinery
+import importlib.util
+import subprocess
+import sys
+import tempfile
+import unittest
+from pathlib import Path
+
+sys.dont_write_bytecode = True
+TOOLS = Path(__file__).resolve().parent.parent
+sys.path.insert(0, str(TOOLS))
+from motesim_report import Fault
+
+
+def load(name):
+    loader = importlib.machinery.SourceFileLoader(name, str(TOOLS / name))
+    made = importlib.util.module_from_spec(importlib.util.spec_from_loader(name, loader))
+    sys.modules[name] = made
+    loader.exec_module(made)
+    return made
+
+
+tutorial = load('check_tutorial')
+
+PAGE = '''# A page
+
+Save this as `one.toml`:
+
+```toml one.toml
+end = 5
+```
+
+It is run so:
+
+```sh
+./run one.toml
+echo done
+```
+
+```
+ran end = 5
+done
+```
+
+This prints nothing:
+
+```sh
+test -e tools/run_cases -a -e examples/tdma.toml
+```
+
+And a block that is no output:
+
+```
+nothing ran this
+```
+'''
+
+
+class Pages(unittest.TestCase):
+    def setUp(self):
+        self.folder = tempfile.TemporaryDirectory()
+        self.addCleanup(self.folder.cleanup)
+        self.program = Path(self.folder.name) / 'motesim'
+        self.program.write_text('#!/bin/sh\necho "ran $(cat "$1")"\n', encoding='ascii')
+        self.program.chmod(0o755)
+
+    def check(self, text):
+        return tutorial.check('PAGE.md', text, self.program)
+
+    def test_what_is_shown_is_what_is_printed(self):
+        found = self.check(PAGE)
+        self.assertEqual((found.passed, found.faults, found.text), (2, [], PAGE))
+
+    def test_another_output_fails_and_can_be_written(self):
+        for changed in PAGE.replace('ran end = 5', 'ran end = 6'), PAGE.replace('\n```\nran end = 5\ndone\n```\n', ''):
+            found = self.check(changed)
+            self.assertEqual((found.passed, found.text), (1, PAGE))
+            self.assertEqual(found.faults[0], 'PAGE.md: the commands on line 12 print something else')
+            self.assertIn('  +ran end = 5', found.faults)
+
+    def test_commands_that_print_nothing_more_lose_their_block(self):
+        self.assertEqual(self.check('```sh\ntrue\n```\n\n```\nonce\n```\nend\n').text, '```sh\ntrue\n```\nend\n')
+
+    def test_a_block_needs_its_end(self):
+        for text, line in ('text\n```sh\ntrue\n', 2), ('```sh\n```sh\n```\n', 2):
+            with self.assertRaisesRegex(Fault, 'line %d' % line):
+                self.check(text)
+
+    def test_the_command_counts_and_writes(self):
+        page = Path(self.folder.name) / 'PAGE.md'
+        page.write_text(PAGE.replace('\ndone\n', '\nover\n'), encoding='utf-8')
+        words = [sys.executable, '-B', str(TOOLS / 'check_tutorial'), '--page', str(page), str(self.program)]
+        for more, status, last in ([], 1, '1 passed, 1 failed'), (['--write'], 0, '1 passed, 1 failed'), \
+                ([], 0, '2 passed, 0 failed'):
+            done = subprocess.run(words + more, capture_output=True, text=True)
+            self.assertEqual((done.returncode, done.stdout.split('\n')[-2]), (status, last))
+        self.assertEqual(page.read_text(encoding='utf-8'), PAGE)
+
+
+if __name__ == '__main__':
+    unittest.main()

@@ -1,0 +1,198 @@
+"""How compare finds where two reports part. The reports are worked out by hand."""
+import importlib.machinery
+import importlib.util
+import subprocess
+import sys
+import tempfile
+import unittest
+from pathlib import Path
+
+sys.dont_write_bytecode = True
+TOOLS = Path(__file__).resolve().parent.parent
+sys.path.insert(0, str(TOOLS))
+from motesim_report import Report, Run
+
+
+def load(name):
+    loader = importlib.machinery.SourceFileLoader(name, str(TOOLS / name))
+    made = importlib.util.module_from_spec(importlib.util.spec_from_loader(name, loader))
+    sys.modules[name] = made
+    loader.exec_module(made)
+    return made
+
+
+compare = load('compare')
+
+# Motes 0 and 2 send to mote 1 in turn. The event of the second timer of mote 2 is posted at 6.
+A = '''mote 0 talker
+0 start etimer
+0 send 0 1
+5 send 1 2
+mote 1 hearer
+3 recv 0 0 1
+3 post 0 hearer packet 1
+3 take 0 hearer
+8 recv 0 1 2
+8 post 1 hearer packet 2
+8 take 1 hearer
+9 recv 2 0 7
+9 post 2 hearer packet 7
+9 take 2 hearer
+mote 2 talker
+0 start etimer
+6 post 0 talker timer 1
+6 take 0 talker
+6 send 0 7
+medium
+0 0 0 1 1@3
+5 0 1 2 1@8
+6 2 0 7 1@9
+left 0
+'''
+
+# Here that timer is a moment earlier, so the two packets meet.
+B = '''mote 0 talker
+0 start etimer
+0 send 0 1
+5 send 1 2
+mote 1 hearer
+3 recv 0 0 1
+3 post 0 hearer packet 1
+3 take 0 hearer
+8 collide 0 1
+8 collide 2 0
+mote 2 talker
+0 start etimer
+5 post 0 talker timer 1
+5 take 0 talker
+5 send 0 7
+medium
+0 0 0 1 1@3
+5 0 1 2 1@8
+5 2 0 7 1@8
+left 0
+'''
+
+
+def compared(a, b):
+    lines, first, is_same = compare.compared(Run('a', Report.parse(a), None), Run('b', Report.parse(b), None), 20)
+    return '\n'.join(lines), first, is_same
+
+
+class Differences(unittest.TestCase):
+    def test_the_first_difference_is_by_moments(self):
+        found = compare.differences(Report.parse(A), Report.parse(B))
+        self.assertEqual([tuple(it) for it in found], [(5, 2, 1), (5, compare.MEDIUM, 2), (8, 1, 3)])
+
+    def test_equal_reports_are_the_same(self):
+        text, first, is_same = compared(A, A)
+        self.assertEqual((first, is_same), (None, True))
+        self.assertIn('The reports are the same: 3 motes, 24 lines.', text)
+
+    def test_the_first_difference_is_told_with_what_led_to_it(self):
+        text, first, is_same = compared(A, B)
+        self.assertFalse(is_same)
+        self.assertIn('''
+The first difference is at moment 5, in the trace of mote 2:
+  A, line 17: 6 post 0 talker timer 1
+  B, line 13: 5 post 0 talker timer 1
+Before it, the last packets and events of mote 2:
+  0 start etimer
+''', text)
+
+    def test_the_first_collision_is_told(self):
+        self.assertIn('''
+The first collision that only B has:
+  B: at moment 8 mote 1 loses packet 1 of mote 0 (sent at 5) and packet 0 of mote 2 (sent at 5)
+  copies that met others, in all: 0 in A, 2 in B
+''', compared(A, B)[0])
+        text = compared(B.replace('8 collide 2 0\n', '').replace('8 collide 0 1', '8 recv 0 1 2'), B)[0]
+        self.assertIn('The first collision that only B has, which is the first difference:\n', text)
+        self.assertNotIn('collision', compared(A, A.replace('take 2', 'drop 2'))[0])
+
+    def test_differing_lines_are_counted(self):
+        # mote 1: six lines against two; mote 2: post, take and send at another moment; a packet at another moment
+        self.assertIn('''
+Lines that differ: 10 only in A, 6 only in B
+  by mote    only A    only B
+  mote 1          6         2
+  mote 2          3         3
+  by kind    only A    only B
+  post            3         1
+  take            3         1
+  send            1         1
+  recv            2         0
+  collide         0         2
+  medium          1         1''', compared(A, B)[0])
+
+    def test_lines_of_a_moment_may_stand_in_another_order(self):
+        text, first, is_same = compared(A, A.replace('0 start etimer\n0 send 0 1\n', '0 send 0 1\n0 start etimer\n'))
+        self.assertEqual((tuple(first), is_same), ((0, 0, 0), False))
+        self.assertTrue(text.endswith('\nBoth have the same lines, in another order within a moment.'))
+
+    def test_only_the_kind_of_a_line_may_differ(self):
+        text, first, _ = compared(A, A.replace('9 take 2', '9 drop 2'))
+        self.assertEqual(tuple(first), (9, 1, 8))
+        self.assertIn('  A, line 14: 9 take 2 hearer\n      (event 2 was posted at 9: packet 7)\n', text)
+
+    def test_a_packet_may_be_lost_on_its_way(self):
+        lost = A.replace('1@9', '1@lost').replace('9 recv 2 0 7\n9 post 2 hearer packet 7\n9 take 2 hearer\n', '')
+        text, first, _ = compared(A, lost)
+        self.assertEqual(tuple(first), (6, compare.MEDIUM, 2))
+        self.assertIn('''
+The first difference is at moment 6, in the log of the medium:
+  A, line 23: 6 2 0 7 1@9
+  B, line 20: 6 2 0 7 1@lost
+Before it, the last packets and events of mote 2:
+  0 start etimer
+  6 post 0 talker timer 1
+  6 take 0 talker
+
+The first difference in a trace is at moment 9, in the trace of mote 1:
+  A, line 12: 9 recv 2 0 7
+      (packet 0 of mote 2 was sent at 6 with value 7)
+  B has no line more of it
+''', text)
+
+    def test_motes_and_programs_may_differ(self):
+        text, first, _ = compared(A, A.replace('mote 2 talker', 'mote 2 other'))
+        self.assertIsNone(first)
+        self.assertIn('  mote 2 runs talker in A and runs other in B', text)
+        text, first, _ = compared('mote 0 a\nmedium\nleft 0\n', 'mote 0 a\nmote 1 b\n4 halt\nmedium\nleft 2\n')
+        self.assertEqual(tuple(first), (4, 1, 0))
+        for line in ['  mote 1 is not in A and runs b in B', '  A has no such mote', '  B, line 3: 4 halt',
+                     'Copies that would come after the end: 0 in A, 2 in B']:
+            self.assertIn(line + '\n', text + '\n')
+
+    def test_what_came_before_has_packets_and_events(self):
+        rows = ['%d send %d 0' % (at, at) for at in range(4)] + ['%d take %d p' % (at, at) for at in range(9, 15)]
+        lines = Report.parse('mote 0 a\n%s\nmedium\nleft 0\n' % '\n'.join(rows)).motes[0].lines
+        self.assertEqual([line.at for line in compare.before(lines)], [1, 2, 3, 11, 12, 13, 14])
+
+
+class Command(unittest.TestCase):
+    def test_the_status_is_that_of_diff(self):
+        with tempfile.TemporaryDirectory() as folder:
+            paths = [Path(folder) / name for name in ('a', 'b', 'c')]
+            for path, text in zip(paths, (A, B, 'no report\n')):
+                path.write_text(text, encoding='ascii')
+            for pair, status in ((0, 0), 0), ((0, 1), 1), ((0, 2), 2), ((2, 0), 2):
+                words = [sys.executable, '-B', str(TOOLS / 'compare'), *(str(paths[it]) for it in pair)]
+                done = subprocess.run(words, capture_output=True, text=True)
+                self.assertEqual(done.returncode, status)
+                self.assertEqual(done.stderr.count('\n'), int(status == 2))
+                self.assertEqual(bool(done.stdout), status != 2)
+
+    @unittest.skipUnless((TOOLS / 'motesim_timeline.py').is_file(), 'tools/motesim_timeline.py is not here')
+    def test_a_page_shows_both(self):
+        with tempfile.TemporaryDirectory() as folder:
+            paths = [Path(folder) / name for name in ('a', 'b', 'page.html')]
+            for path, text in zip(paths, (A, B)):
+                path.write_text(text, encoding='ascii')
+            words = [sys.executable, '-B', str(TOOLS / 'compare'), *map(str, paths[:2]), '--html', str(paths[2])]
+            self.assertEqual(subprocess.run(words, capture_output=True).returncode, 1)
+            self.assertIn('<title>', paths[2].read_text(encoding='utf-8'))
+
+
+if __name__ == '__main__':
+    unittest.main()

@@ -1,0 +1,354 @@
+"""Which sentences are read, what holds of a report, and what is told of a file of expectations."""
+import contextlib
+import importlib.machinery
+import importlib.util
+import io
+import os
+import re
+import sys
+import tempfile
+import unittest
+from pathlib import Path
+from unittest import mock
+
+sys.dont_write_bytecode = True
+TOOLS = Path(__file__).resolve().parent.parent
+sys.path.insert(0, str(TOOLS))
+from expect_judge import Judge
+from expect_sentences import Count, Names, Refused, SentenceFault, names_of, read_sentence
+from expectations import expect, parts_of
+from motesim_report import Report, Scenario, finish
+
+
+def load(name):
+    loader = importlib.machinery.SourceFileLoader(name, str(TOOLS / name))
+    made = importlib.util.module_from_spec(importlib.util.spec_from_loader(name, loader))
+    loader.exec_module(made)
+    return made
+
+
+command = load('expect')
+
+# Four motes in a row, each in range of those beside it; mote 2 loses all that mote 3 sends.
+SCENARIO = """
+version = 2
+end = 100
+[medium]
+range = 10
+base = 3
+per = 1000
+collide = true
+[programs]
+p = 'process flood, hears; // process other;'
+[[mote]]
+x = 0
+y = 0
+program = "p"
+[[mote]]
+x = 10
+y = 0
+program = "p"
+[[mote]]
+x = 20
+y = 0
+program = "p"
+[[mote]]
+x = 30
+y = 0
+program = "p"
+[[loss]]
+from = 3
+to = 2
+every = 1
+"""
+
+REPORT = """mote 0 p
+0 start flood
+40 send 0 1
+46 recv 1 0 1
+80 send 1 2
+mote 1 p
+43 recv 0 0 1
+43 print flood 1
+43 print hears 1
+43 send 0 1
+49 print hears 5
+49 collide 2 0
+83 print flood 2
+mote 2 p
+46 print flood 1
+46 print hears 2
+46 send 0 1
+mote 3 p
+49 print flood 1
+49 send 0 1
+60 print flood 2
+90 halt
+medium
+40 0 0 1 1@43
+43 1 0 1 0@46 2@46
+46 2 0 1 1@49 3@49
+49 3 0 1 2@lost
+80 0 1 2 1@183
+left 1
+"""
+
+HOLDS = [
+    'mote 1 prints flood 1', 'mote 1 prints flood', 'mote 1 prints', 'mote 1 prints flood 1 at 43',
+    'mote 1 prints flood 1 by 43.', 'mote 1 prints flood 2 after 82', 'mote 1 prints flood 1 before 44',
+    'mote 1 prints flood 2 from 83 on', 'mote 1 prints flood 2 between 83 and 90',
+    'mote 1 prints flood 2 from 80 to 83', 'mote 1 prints flood 2 once', 'mote 1 prints flood exactly 2 times',
+    'mote 1 prints flood at most 1 by 60', 'mote 1 prints flood exactly once by 60',
+    'every mote but 0 prints flood 1 at 40 plus 3 for each hop from mote 0', 'every mote but 0 prints flood 1',
+    'no mote prints flood 3', 'some mote prints flood 2', 'exactly 2 motes print flood 2',
+    'at least 1 mote but 1 prints flood 2', 'at most 1 mote halts', 'fewer than 2 motes halt',
+    'more than 0 motes halt', 'mote 3 halts at 90', 'no mote but 3 halts', 'motes 0, 1 and 2 never halt',
+    'mote 0 never prints', 'motes 0 to 2 never halt', 'all motes together send exactly 5 times',
+    'motes 1 to 3 together send exactly 3 times', 'mote 0 sends twice', 'mote 0 sends 2 at 80',
+    'mote 1 receives 1 from mote 0', 'mote 0 receives from mote 1', 'mote 0 receives at most 1',
+    'mote 1 prints just flood 1, 2', 'mote 1 prints just hears 1, 5', 'mote 1 prints just flood 2, 1 in any order',
+    'mote 1 prints just flood 1 to 2 in any order', 'mote 1 prints just flood 1 by 60',
+    'mote 1 finally prints hears the set of motes that it hears',
+    'mote 2 finally prints hears the set of motes that it hears',
+    'mote 2 finally prints hears the set of motes linked with it', 'mote 1 finally prints hears 1 by 45',
+    'mote 1 finally prints hears the set of motes that it hears but 2 by 48',
+    'mote 2 prints hears its distance from mote 0', 'mote 2 prints hears its number',
+    'mote 2 prints flood a mote that it hears, one hop nearer to mote 0 at 46', "mote 1 writes 'collide 2 0' at 49",
+    "mote 1 writes 'collide' or 'print flood' exactly 3 times", 'mote 0 starts flood', 'mote 0 never leaves flood',
+    'exactly 1 copy collides', 'exactly 1 copy collides at mote 1', 'no copy collides at mote 2',
+    'no copy overflows', 'exactly 2 copies arrive', 'some copy is lost', 'exactly 1 copy is lost at mote 2',
+    'exactly 1 copy is left', 'no copy collides before 49', 'exactly 5 packets are sent',
+    'at most 4 packets are sent in each 10 from 0 to 100', 'exactly 4 packets are sent by 49',
+    'the report has exactly 29 lines', "the medium writes '49 3 0 1 2@lost'", "the medium writes '80 0'",
+    'mote 3 can hear mote 2', 'mote 2 cannot hear mote 3', 'motes 0 cannot hear mote 2',
+    'mote 1 prints flood at most once in each 40 from 40 to 119',
+    'mote 0 sends from 40 to 79 exactly once as often as from 80 on',
+    'mote 0 sends exactly 2 times as often as mote 1',
+    'motes 0 to 1 together send more than once as often as motes 2 to 3 together',
+]
+
+# Each with the row of the report that breaks it.
+BROKEN = [
+    ('mote 1 prints flood 2 by 60', 13), ('mote 1 prints flood 3', None), ('mote 1 never prints flood', 8),
+    ('mote 1 prints flood at most 1', 13), ('mote 1 prints flood at least 3', None), ('no mote halts', 22),
+    ('no mote sends', 3), ('no mote sends at least 2 times', 5), ('every mote prints flood 1', None),
+    ('every mote but 0 prints flood 1 by 45', 15), ('exactly 1 mote prints flood 2', 21),
+    ('at least 3 motes print flood 2', None), ('some mote prints flood 3', None),
+    ('mote 1 prints just flood 1', 13), ('mote 1 prints just flood 2', 8),
+    ('mote 1 prints just flood 1, 2, 3', None), ('mote 1 prints just flood 2, 2 in any order', 8),
+    ('mote 1 prints just flood 1, 2, 3 in any order', None),
+    ('mote 2 finally prints hears the set of motes that it hears but 1', 16),
+    ('mote 0 finally prints hears 1', None), ('no copy collides', 12), ('no copy is lost', 27),
+    ('no copy is left', 29), ('at most 3 packets are sent', 27), ("mote 3 writes 'halt halt'", None),
+    ('no copy arrives at mote 0', 4),
+    ('the report has fewer than 20 lines', None), ("the medium writes '49 3 0 2'", 23),
+    ('mote 2 can hear mote 3', None), ('mote 0 sends from 0 to 50 more than once as often as from 51 on', 3),
+    ('mote 0 sends at most once as often as mote 1', 5),
+    ('mote 0 prints flood 1 at 3 plus 3 for each hop from mote 3', None),
+    ("the scenario is refused with 'scenario fault 1'", None),
+]
+
+# Each with the word that can't stand, and something that may stand there.
+FAULTS = [
+    ('', '', 'every mote'), ('mote 4 halts', '4', 'a mote, 0 to 3'), ('mote 1 prins flood', 'prins', 'prints'),
+    ('mote 1 prints flod', 'flod', 'a process (etimer, ctimer, radio, flood, hears)'),
+    ('motes 1 and halt', 'halt', 'a mote, 0 to 3'), ('mote 1 prints flood 1 at', '', 'a moment'),
+    ('mote 1 prints flood 99999', '99999', 'a value'), ('mote 1 sends at least', '', 'a number'),
+    ('mote 1 halts now', 'now', 'the end'), ("mote 1 writes 'prints'", "'prints'", 'start'),
+    ('mote 1 writes print', 'print', 'words in quotes'), ('no mote never halts', 'never', 'prints'),
+    ('two motes halt', 'two', 'some mote'), ('mote 1 sends in each 0 from 1 to 2', '0', 'a number of moments'),
+    ('exactly 3 things', 'things', 'copies'),
+    ('mote 1 sends more than 2 times as often as motes 2 to 3', '', 'together'),
+    ('no copy is gone', 'gone', 'lost'), ('finally mote 1 halts', 'finally', 'mote'),
+    ('mote 1 finally sends 3', 'sends', 'prints'), ('mote 1 halts between 3 to 4', 'to', 'and'),
+    ('motes 1 to 2 together send at 4 plus 3 for each hop from mote 0', 'together', 'the verb'),
+    ('all motes together finally print flood 1', 'together', 'the verb'),
+    ('motes 2 to 1 halt', '1', 'a mote, 2 to 3'), ('mote 1 halts from 9 to 8', '8', 'a moment, 9 to 1000000'),
+    ('mote 1 halts before 0', '0', 'a moment, 1 to'), ('mote 1 sends \u00b2', '\u00b2', 'a value, 0 to 65535'),
+    ('mote 1 halts by 9999999999', '9999999999', 'a moment, 0 to 1000000'),
+]
+
+
+def judge():
+    return Judge(Report.parse(REPORT), Scenario.parse(SCENARIO))
+
+
+class Sentences(unittest.TestCase):
+    def setUp(self):
+        self.judge, self.names = judge(), names_of(Scenario.parse(SCENARIO))
+
+    def test_a_program_has_these_names(self):
+        self.assertEqual(self.names, Names(('etimer', 'ctimer', 'radio', 'flood', 'hears'), 4))
+
+    def test_what_holds(self):
+        for sentence in HOLDS:
+            with self.subTest(sentence):
+                self.assertIsNone(self.judge.broken(read_sentence(sentence, self.names)))
+
+    def test_what_is_broken_and_by_which_line(self):
+        for sentence, row in BROKEN:
+            with self.subTest(sentence):
+                broken = self.judge.broken(read_sentence(sentence, self.names))
+                self.assertIsNotNone(broken)
+                self.assertEqual(broken.row, row, broken.why)
+
+    def test_what_may_stand_is_told(self):
+        for sentence, word, wanted in FAULTS:
+            with self.subTest(sentence), self.assertRaises(SentenceFault) as caught:
+                read_sentence(sentence, self.names)
+            fault = caught.exception
+            self.assertEqual(sentence[fault.place:].split(' ')[0], word)
+            self.assertTrue(any(it.startswith(wanted) or wanted in it for it in fault.wanted), fault.wanted)
+
+    def test_counts_have_ends(self):
+        for compare, least, most in [
+            ('at least', 3, None), ('at most', 0, 3), ('exactly', 3, 3), ('more than', 4, None), ('fewer than', 0, 2),
+        ]:
+            count = Count(compare, 3)
+            self.assertEqual((count.least, count.most), (least, most))
+            admitted = [number for number in range(6) if count.admits(number)]
+            self.assertEqual(admitted, list(range(least, 6 if most is None else most + 1)))
+
+
+PROGRAM = """#!/bin/sh
+text=$(cat)
+case $text in
+*'end = 100'*) cat "$(dirname "$0")/report" ;;
+*) echo 'motesim: scenario fault 5' >&2; exit 1 ;;
+esac
+"""
+
+
+class Files(unittest.TestCase):
+    def setUp(self):
+        room = tempfile.TemporaryDirectory()
+        self.addCleanup(room.cleanup)
+        self.room = Path(room.name)
+        self.scenario, self.expected, program = (self.room / name for name in ('a.toml', 'a.expect.toml', 'motesim'))
+        self.scenario.write_text(SCENARIO)
+        (self.room / 'report').write_text(REPORT)
+        program.write_text(PROGRAM)
+        program.chmod(0o755)
+        patch = mock.patch.dict(os.environ, MOTESIM=str(program))
+        patch.start()
+        self.addCleanup(patch.stop)
+
+    def said(self, text, *words):
+        """What the command prints on both streams, and its status."""
+        self.expected.write_text(text)
+        out, err = io.StringIO(), io.StringIO()
+        with mock.patch.object(sys, 'argv', ['expect', str(self.scenario), *words]):
+            with contextlib.redirect_stdout(out), contextlib.redirect_stderr(err):
+                with self.assertRaises(SystemExit) as end:
+                    finish('expect', command.main)
+        return out.getvalue(), err.getvalue(), end.exception.code
+
+    def test_what_holds_and_what_does_not(self):
+        out, err, code = self.said('expect = ["mote 0 sends twice", "no mote halts"]')
+        self.assertEqual(out.splitlines(), [
+            'holds   mote 0 sends twice', 'broken  no mote halts', '          mote 3 does',
+            '          line 22: 90 halt', '1 passed, 1 failed'])
+        self.assertEqual((err, code), ('', 1))
+
+    def test_all_hold(self):
+        said = self.said('expect = ["mote 0 sends twice"]', str(self.expected))
+        self.assertEqual(said, ('holds   mote 0 sends twice\n1 passed, 0 failed\n', '', 0))
+
+    def test_a_change_is_refused_as_expected(self):
+        text = """expect = ["mote 0 sends"]
+            [[change]]
+            about = "a late end"
+            replace = { "end = 100" = "end = 2000000" }
+            expect = ["the scenario is refused with 'scenario fault 5'", "no mote halts"]"""
+        out, _, code = self.said(text)
+        self.assertIn('with a late end:', out)
+        self.assertIn("holds   the scenario is refused with 'scenario fault 5'", out)
+        self.assertIn('broken  no mote halts\n          the scenario is refused: motesim: scenario fault 5', out)
+        self.assertEqual(code, 1)
+
+    def test_a_whole_report(self):
+        whole = 'report = """\n%s"""'
+        self.assertEqual(self.said(whole % REPORT)[2], 0)
+        out, _, code = self.said(whole % REPORT.replace('90 halt', '91 halt'))
+        self.assertIn('line 22: 90 halt\n          expected: 91 halt', out)
+        self.assertEqual(code, 1)
+        self.assertIn('expected: the end', self.said(whole % REPORT.replace('left 1\n', ''))[0])
+
+    def test_faults_have_status_2(self):
+        change = 'expect = ["mote 0 sends"]\n[[change]]\nexpect = ["mote 0 sends"]\n'
+        for text, told in [
+            ('expect = ["mote 9 halts"]', 'sentence 1 is not known'), ('expect = [', 'is no TOML'),
+            ('', 'expects nothing'), ('expect = "x"', 'is not an array'), ('wanted = []', 'has a key wanted'),
+            ('expect = [1]', 'something else'),
+            (change, 'has no table replace'), (change + 'replace = { "no such text" = "" }', 'has no text'),
+        ]:
+            out, err, code = self.said(text)
+            self.assertIn(told, err)
+            self.assertEqual(code, 2)
+
+    def test_a_sentence_that_cannot_be_read_is_marked(self):
+        err = self.said('expect = ["mote 0 sends", "mote 0 hops"]')[1].splitlines()
+        self.assertEqual(err[0], 'expect: a.expect.toml: sentence 2 is not known')
+        self.assertEqual(err[1].index('hops'), err[2].index('^'))
+
+    def test_no_program_and_no_file(self):
+        with mock.patch.dict(os.environ, MOTESIM=str(self.room / 'none')):
+            self.assertEqual(self.said('expect = ["mote 0 sends"]')[2], 2)
+        self.assertEqual(self.said('expect = ["mote 0 sends"]', str(self.room / 'b.expect.toml'))[2], 2)
+
+    def test_quietly_only_what_is_broken_is_told(self):
+        self.expected.write_text('expect = ["mote 0 sends", "no mote halts"]')
+        out = io.StringIO()
+        with contextlib.redirect_stdout(out):
+            self.assertEqual(expect(self.scenario, self.expected, is_quiet=True), (1, 1))
+        self.assertNotIn('mote 0 sends', out.getvalue())
+
+
+class Page(unittest.TestCase):
+    def setUp(self):
+        self.page = (TOOLS.parent / 'docs/EXPECTATIONS.md').read_text('utf-8')
+
+    def forms(self, title):
+        """What stands as code in the first column of a table, by a part of its page and the title of that column."""
+        table = self.page.split('| %s |' % title)[1].split('\n\n')[0]
+        rows = re.findall(r'^\| (`.*?`) \|', table, re.M)
+        return [form for row in rows for form in re.findall(r'`([^`]+)`', row)]
+
+    def read(self, sentence):
+        with self.subTest(sentence):
+            return read_sentence(sentence, Names(('P',), 25))
+
+    def test_each_form_of_the_page_can_be_read(self):
+        for form in self.forms('MOTES'):
+            self.read(form + (' halt' if 'motes' in form else ' halts'))
+        for form in self.forms('DEED'):
+            self.read('mote 1 ' + form.replace('VALUE', '7'))
+        for form in self.forms('VALUE'):
+            self.read('mote 1 finally prints P ' + ('the set of motes that it hears ' * form.startswith('but')) + form)
+        for form in self.forms('TIMES'):
+            self.read('mote 1 sends ' + form)
+        for form in self.forms('WHEN'):
+            self.read('mote 1 sends ' + form)
+        for form in self.forms('Sentence'):
+            self.read(form)
+        self.assertGreater(len(self.forms('Sentence')), 10)
+
+
+class Examples(unittest.TestCase):
+    def test_each_example_has_expectations_that_can_be_read(self):
+        examples = TOOLS.parent / 'examples'
+        scenarios = [path for path in examples.glob('*.toml') if not path.name.endswith('.expect.toml')]
+        for path in scenarios:
+            text = path.read_text('utf-8')
+            names = names_of(Scenario.parse(text))
+            for part in parts_of(path.with_suffix('.expect.toml').read_text('utf-8'), path.name):
+                for old in part.replace:
+                    self.assertIn(old, text)
+                for sentence in part.sentences:
+                    with self.subTest(example=path.name, sentence=sentence):
+                        read_sentence(sentence, names)
+        self.assertGreater(len(scenarios), 10)
+
+
+if __name__ == '__main__':
+    unittest.main()

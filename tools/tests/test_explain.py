@@ -1,0 +1,252 @@
+"""Where faults are found, and that each kind of fault of the pages has its words."""
+import contextlib
+import importlib.machinery
+import importlib.util
+import io
+import os
+import re
+import sys
+import tempfile
+import unittest
+from pathlib import Path
+from unittest import mock
+
+sys.dont_write_bytecode = True
+TOOLS = Path(__file__).resolve().parent.parent
+TOP = TOOLS.parent
+sys.path.insert(0, str(TOOLS))
+import program_faults
+import scenario_faults
+
+
+def load(name):
+    loader = importlib.machinery.SourceFileLoader(name, str(TOOLS / name))
+    made = importlib.util.module_from_spec(importlib.util.spec_from_loader(name, loader))
+    loader.exec_module(made)
+    return made
+
+
+explain = load('explain')
+
+SCENARIO = """version = 1
+end = 5
+[medium]
+range = 10
+base = 1
+per = 100
+[programs]
+p = '''
+process a;
+code a { body { print 1; } }
+'''
+[[mote]]
+x = 0
+y = 0
+program = "p"
+[[mote]]
+x = 1
+y = 0
+program = "p"
+[[loss]]
+from = 0
+to = 1
+every = 2
+"""
+
+# Texts of programs, each with its kind, its line and column, its word, and something that may stand there.
+PROGRAMS = [
+    ('', 9, 1, 0, '', '`process`'),
+    ('process A;', 1, 1, 8, 'A', 'a new name'),
+    ('process a, a;', 4, 1, 11, 'a', 'not declared yet'),
+    ('process a;\ncode a { }', 2, 2, 9, '}', '`body`'),
+    ('process a;\ncode a { body { x = 1; } }', 3, 2, 16, 'x', 'a variable'),
+    ('process a;\ncode a { body { print 65536; } }', 5, 2, 22, '65536', '0 to 65,535'),
+    ('process a;\ncode a { ctimer c { yield; } body { } }', 6, 2, 20, 'yield', '`print`'),
+    ('process a;\ncode a { thread t { spawn t; } body { } }', 10, 2, 26, 't', 'a thread'),
+    ('process a;\n// b\n\tcode a { body { print 01; } }', 1, 3, 23, '01', 'a number'),
+    ('process a; autostart a, a;', 4, 1, 24, 'a', 'there is none'),
+    ('process a;\ncode b', 2, 2, 5, 'b', '`a`'),
+    ('process a;\ncode a { body { } }\n', 0, 0, 0, '', ''),
+    ('process a;\ncode a { body { } } process', 2, 2, 20, 'process', 'the end of the text'),
+    ('process a;\ncode a { body { set a 1; } }', 10, 2, 20, 'a', 'a timer'),
+    ('process a;\ncode a { var n = 0; body { n = (n + 1; } }', 2, 2, 37, ';', '`)`'),
+    ('process a;\ncode a { body { post a init 1; } }', 2, 2, 23, 'init', '`msg`'),
+    ('process a;\ncode a { body { print ' + '!' * 32 + '1; } }', 7, 2, 22 + 31, '!', 'less'),
+    ('process a;\ncode a { body { ' + 'yield; ' * 4097 + '} }', 8, 2, 16 + 7 * 4096, 'yield', '4,096'),
+    ('process a;\ncode a { ' + ''.join('thread t%d { } ' % n for n in range(8)), 8, 2, 114, 't7', 'at most 7'),
+    ('process a;\ncode a { body { if is(timer) { } else { } post a msg 1 into', 2, 2, 59, '', 'a variable'),
+]
+
+# Changes to the scenario, each with what is told, and the line and the text that are marked.
+SCENARIOS = [
+    ({'end = 5': 'end ='}, 'scenario fault 1', 2, ''),
+    ({'end = 5': 'end = 9223372036854775808'}, 'scenario fault 1', 2, '9223372036854775808'),
+    ({'end = 5\n': ''}, 'scenario fault 2', 1, 'version = 1'),
+    ({'y = 0\nprogram = "p"\n[[loss]]': 'program = "p"\n[[loss]]'}, 'scenario fault 2', 16, '[[mote]]'),
+    ({'version = 1': 'version = 2'}, 'scenario fault 2', 3, '[medium]'),
+    ({'end = 5': 'end = 5\nspeed = 1'}, 'scenario fault 3', 3, 'speed'),
+    ({"p = '''": "'p!' = '''"}, 'scenario fault 3', 8, "'p!'"),
+    ({'end = 5': 'end = "5"'}, 'scenario fault 4', 2, '"5"'),
+    ({'every = 2': 'every = 2.0 # all'}, 'scenario fault 4', 23, '2.0'),
+    ({'x = 1': 'x = 30001'}, 'scenario fault 5', 17, '30001'),
+    ({'x = 1': 'x = -30001'}, 'scenario fault 5', 17, '-30001'),
+    ({'y = 0\nprogram = "p"\n[[loss]]': 'y = 0\nprogram = "q"\n[[loss]]'}, 'scenario fault 6', 19, '"q"'),
+    ({'print 1': 'print z'}, 'program p fault 3 line 2', 10, 'z'),
+    ({'base = 1': 'base = 0'}, 'medium fault 2', 5, '0'),
+    ({'per = 100': 'per = 0'}, 'medium fault 3', 6, '0'),
+    ({'to = 1': 'to = 2'}, 'medium fault 4', 22, '2'),
+    ({'to = 1': 'to = 0'}, 'medium fault 4', 22, '0'),
+    ({'every = 2': 'every = 0'}, 'medium fault 4', 23, '0'),
+    ({'every = 2': 'every = 2\n[[loss]]\nfrom = 0\nto = 1\nevery = 1'}, 'medium fault 4', 24, '[[loss]]'),
+    ({'[medium]\nrange = 10\nbase = 1\nper = 100': 'medium = { range = 10, base = 0, per = 1 }'},
+     'medium fault 2', 3, '0'),
+]
+
+
+def changed(changes):
+    text = SCENARIO
+    for old, new in changes.items():
+        assert old in text, old
+        text = text.replace(old, new)
+    return text
+
+
+def mark_of(lines):
+    """The line number of what is shown, and the part of it that is marked."""
+    number = int(re.search(r'line (\d+)', lines[0])[1])
+    shown, mark = lines[1], lines[2]
+    return number, shown[mark.index('^'):mark.rindex('^') + 1]
+
+
+class Programs(unittest.TestCase):
+    def test_the_first_fault(self):
+        for text, kind, line, column, word, may in PROGRAMS:
+            with self.subTest(text[:60]):
+                fault = program_faults.find_fault(text)
+                if not kind:
+                    self.assertIsNone(fault)
+                    continue
+                self.assertEqual((fault.kind, fault.token), (kind, program_faults.Token(word, line, column)))
+                self.assertTrue(any(may in it for it in fault.may), fault.may)
+
+    def test_the_examples_of_the_page(self):
+        page = (TOP / 'docs/NOTATION.md').read_text('utf-8')
+        rows = re.findall(r'^\| `(code a .*)` \| (\d+) on line 2', page, re.M)
+        self.assertGreater(len(rows), 3)
+        for text, kind in rows:
+            fault = program_faults.find_fault('process a;\n' + text)
+            self.assertEqual((fault.kind, fault.token.line), (int(kind), 2))
+
+
+class Scenarios(unittest.TestCase):
+    def test_a_scenario_in_order(self):
+        self.assertIsNone(scenario_faults.find_fault(SCENARIO.encode()))
+
+    def test_the_place_of_a_fault(self):
+        for changes, told, line, marked in SCENARIOS:
+            with self.subTest(str(changes)):
+                text = changed(changes)
+                self.assertEqual(scenario_faults.find_fault(text.encode()).told, told)
+                lines = explain.explanation('s.toml', text.encode(), 'motesim: ' + told)
+                found = mark_of(lines)
+                self.assertEqual((found[0], found[1].strip()), (line, marked))
+                self.assertTrue(any(it.startswith('Here may stand: ') for it in lines))
+
+    def test_bytes_that_are_no_text(self):
+        lines = explain.explanation('s', b'version = 1\nx = "\xff"\n', 'motesim: scenario is not UTF-8')
+        self.assertEqual(mark_of(lines)[0], 2)
+
+    def test_a_text_that_is_too_long(self):
+        lines = explain.explanation('s', b'#\n' * 524_289, 'motesim: scenario too long')
+        self.assertEqual(mark_of(lines)[0], 524_289)
+
+    def test_a_fault_of_which_no_place_is_known(self):
+        for line in 'motesim: out of memory', 'motesim: scenario fault 4', 'motesim: anything':
+            lines = explain.explanation('s', SCENARIO.encode(), line)
+            self.assertEqual(lines[-1], 'Where it is, this tool does not know.')
+
+    def test_a_long_line_is_shown_around_the_mark(self):
+        text = 'process a; code a { body { %s print zz; } }' % ('yield; ' * 100)
+        scenario = re.sub(r"'''\n.*?'''", '"%s"' % text, SCENARIO, flags=re.S)
+        lines = explain.explanation('s', scenario.encode(), 'motesim: program p fault 3 line 1')
+        self.assertEqual(mark_of(lines)[1], 'zz')
+        self.assertTrue(all(len(line) < 120 for line in lines))
+
+
+class Pages(unittest.TestCase):
+    def test_each_kind_of_the_notation_has_its_words(self):
+        page = (TOP / 'docs/NOTATION.md').read_text('utf-8')
+        rows = re.findall(r'^\| (\d+) \| (\w+) \|', page, re.M)
+        self.assertEqual([int(kind) for kind, _ in rows], list(range(1, 12)))
+        self.assertEqual([name for _, name in rows], [name for name, _ in program_faults.RULES.values()])
+        for kind, name in rows:
+            self.assertIn(name, explain.rule_of('program p fault %s line 1' % kind))
+
+    def test_each_line_of_the_scenarios_page_has_its_words(self):
+        page = (TOP / 'docs/SCENARIO.md').read_text('utf-8').split('## Faults')[1].split('**The order')[0]
+        lines = re.findall(r'^\| `motesim: ([^`]+)` \|', page, re.M)
+        self.assertGreater(len(lines), 14)
+        for line in lines:
+            line = 'program' if line.startswith('program ') else line
+            self.assertIn(line, scenario_faults.RULES)
+        self.assertEqual(len(lines), len(scenario_faults.RULES))
+
+
+class Cases(unittest.TestCase):
+    def cases(self, folder):
+        """The scenarios of a folder of cases that are refused, each with its line."""
+        for path in sorted((TOP / 'tests/cases' / folder).glob('*.stderr')):
+            if path.with_suffix('.toml').is_file():
+                yield path.stem, path.with_suffix('.toml').read_bytes(), path.read_text('utf-8').rstrip('\n')
+
+    def test_each_fault_has_a_place_and_a_rule(self):
+        count = 0
+        for folder in 'faults', 'programs':
+            for name, data, line in self.cases(folder):
+                with self.subTest(case=name):
+                    count += 1
+                    lines = explain.explanation(name, data, line)
+                    number, _ = mark_of(lines)
+                    self.assertGreater(number, 0)
+                    rule = explain.rule_of(line.removeprefix('motesim: '))
+                    self.assertIn(rule.split()[-1], ' '.join(lines[3:]).split())
+                    self.assertTrue(any(it.startswith('Here may stand: ') for it in lines))
+        self.assertGreater(count, 80)
+
+    def test_what_has_a_report_has_no_fault(self):
+        for path in (TOP / 'tests/cases/motes').glob('*.toml'):
+            self.assertIsNone(scenario_faults.find_fault(path.read_bytes()), path.name)
+
+
+PROGRAM = """#!/bin/sh
+if grep -q 'end = 6'; then echo 'motesim: program p fault 3 line 2' >&2; exit 1; fi
+"""
+
+
+EXPLAINED = """motesim: program p fault 3 line 2
+%s, line 10, which is line 2 of program p:
+  code a { body { print z; } }
+                        ^
+UnknownName: """
+
+
+class Command(unittest.TestCase):
+    def test_what_is_printed(self):
+        with tempfile.TemporaryDirectory() as room:
+            program, scenario = Path(room) / 'motesim', Path(room) / 's.toml'
+            program.write_text(PROGRAM)
+            program.chmod(0o755)
+            for changes, status, begin in [
+                ({'print 1': 'print z', 'end = 5': 'end = 6'}, 1, EXPLAINED % scenario),
+                ({}, 0, '%s has a report, and no fault\n' % scenario),
+            ]:
+                scenario.write_text(changed(changes))
+                said = io.StringIO()
+                with mock.patch.dict(os.environ, MOTESIM=str(program)), contextlib.redirect_stdout(said):
+                    with mock.patch.object(sys, 'argv', ['explain', str(scenario)]):
+                        self.assertEqual(explain.main(), status)
+                self.assertTrue(said.getvalue().startswith(begin), said.getvalue())
+
+
+if __name__ == '__main__':
+    unittest.main()

@@ -1,0 +1,147 @@
+"""Which files the headline rests on, and in which order they are listed."""
+import contextlib
+import importlib.machinery
+import importlib.util
+import io
+import sys
+import tempfile
+import unittest
+from pathlib import Path
+from unittest import mock
+
+sys.dont_write_bytecode = True
+TOOLS = Path(__file__).resolve().parent.parent
+
+
+def load(name):
+    loader = importlib.machinery.SourceFileLoader(name, str(TOOLS / name))
+    made = importlib.util.module_from_spec(importlib.util.spec_from_loader(name, loader))
+    sys.modules[name] = made
+    loader.exec_module(made)
+    return made
+
+
+headline = load('headline_files')
+
+FILES = {
+    'crates.txt': '# Each crate.\nlow: std\nother:\nmotesim may_wait=1: low\n',
+    'crates/motesim/specs/Simulation.antt': '''-- What a simulation answers. It has a second sentence.
+use Rattle.std.specs.Prelude.{List}
+use Rattle.motesim.specs.Input.{IsText}
+use Rattle.low.specs.Ways.Far.{far}
+''',
+    'crates/motesim/specs/Input.antt': '''-- What is read, over
+-- two lines.
+use Rattle.motesim.specs.Ends as ends
+use Rattle.motesim.specs.declared.input.InputError.TheVariants as fault
+''',
+    'crates/motesim/specs/Ends.antt': '-- The ends.\n',
+    'crates/motesim/specs/Apart.antt': '-- Nobody asks for this.\nuse Rattle.motesim.specs.Simulation.{Answer}\n',
+    'crates/motesim/src/input.rt': '',
+    'crates/low/specs/Ways/Far.antt': '''-- How far it is.
+pub use Rattle.low.specs.Near.{near}
+use Rattle.low.specs.declared.place.TheConstants.{MOST}
+''',
+    'crates/low/specs/Near.antt': '-- What is near.\nuse lib.ListN.{get}\n',
+    'crates/low/src/place.rt': '',
+    'docs/HEADLINE.md': 'before\n%s\n%s\nbehind\n' % (headline.BEGIN, headline.END),
+}
+
+LIST = '''
+In all 5 files with 14 lines, in 2 crates.
+All `specs/` together have 6 files.
+
+**[crates/motesim/specs](../crates/motesim/specs)**: 3 files, 9 lines
+
+- `Simulation.antt` (4): What a simulation answers.
+- `Input.antt` (4): What is read, over two lines.
+- `Ends.antt` (1): The ends.
+
+**[crates/low/specs](../crates/low/specs)**: 2 files, 5 lines
+
+- `Ways/Far.antt` (3): How far it is.
+- `Near.antt` (2): What is near.
+
+**Types of sources** that these files name: 1, in 2 sources
+
+- `motesim/src/input.rt`: `InputError`
+- `low/src/place.rt`: its constants
+
+**Libraries** of the kit that these files import: `lib`, `std`.
+
+'''
+
+
+class Lists(unittest.TestCase):
+    def setUp(self):
+        room = tempfile.TemporaryDirectory()
+        self.addCleanup(room.cleanup)
+        self.top = Path(room.name)
+        for name, text in FILES.items():
+            self.put(name, text)
+
+    def put(self, name, text):
+        path = self.top / name
+        path.parent.mkdir(parents=True, exist_ok=True)
+        path.write_text(text, 'utf-8')
+
+    def run_with(self, *words):
+        """What the command prints, and its exit: None where all is well."""
+        said = io.StringIO()
+        with mock.patch.object(headline, 'TOP', self.top), mock.patch.object(sys, 'argv', ['headline_files', *words]):
+            with contextlib.redirect_stdout(said):
+                try:
+                    headline.main()
+                except SystemExit as end:
+                    return said.getvalue(), end.code
+        return said.getvalue(), None
+
+    def test_what_is_imported_is_listed_from_the_top_down(self):
+        self.assertEqual(headline.listed(self.top), LIST)
+
+    def test_the_page_is_written_between_its_marks(self):
+        self.assertIn('another list', self.run_with('--check')[1])
+        self.assertEqual(self.run_with('--write'), ('', None))
+        page = (self.top / 'docs/HEADLINE.md').read_text('utf-8')
+        marked = headline.BEGIN + '\n' + headline.listed(self.top) + headline.END
+        self.assertEqual(page, 'before\n' + marked + '\nbehind\n')
+        self.assertEqual(self.run_with('--check')[1], None)
+
+    def test_a_page_grows_old_where_a_file_has_a_line_more(self):
+        self.run_with('--write')
+        self.put('crates/low/specs/Near.antt', FILES['crates/low/specs/Near.antt'] + '\n')
+        self.assertIn('another list', self.run_with('--check')[1])
+
+    def test_an_import_of_no_file_is_told(self):
+        self.put('crates/low/specs/Near.antt', '-- What is near.\nuse Rattle.low.specs.Gone.{x}\n')
+        self.assertIn('no file of crates/low/specs is Gone', self.run_with('--check')[1])
+
+    def test_an_import_of_another_form_is_told(self):
+        self.put('crates/low/specs/Near.antt', '-- What is near.\nuse {x} from Rattle\n')
+        self.assertIn('an import of a form', self.run_with('--check')[1])
+
+    def test_a_file_without_a_comment_is_told(self):
+        self.put('crates/low/specs/Near.antt', 'abbrev near : Type 0\n')
+        self.assertIn('begins with no comment', self.run_with('--check')[1])
+
+    def test_files_that_import_each_other_are_told(self):
+        self.put('crates/low/specs/Near.antt', '-- What is near.\nuse Rattle.low.specs.Ways.Far.{far}\n')
+        self.assertIn('import each other', self.run_with('--check')[1])
+
+    def test_a_page_without_marks_is_told(self):
+        self.put('docs/HEADLINE.md', 'a page\n')
+        self.assertIn('lacks the marks', self.run_with('--write')[1])
+
+
+class ThisTree(unittest.TestCase):
+    def test_the_headline_rests_on_files_that_come_behind_it(self):
+        rests = headline.rests_of(headline.TOP)
+        crates = headline.crates_of(headline.TOP)
+        self.assertGreater(len(rests.files), 20)
+        for path, below in rests.files.items():
+            for it in below:
+                self.assertLessEqual(crates.index(headline.crate_of(it)), crates.index(headline.crate_of(path)))
+
+
+if __name__ == '__main__':
+    unittest.main()

@@ -1,0 +1,254 @@
+"""What the reader makes of reports and scenarios, and what it says of texts that are none."""
+import os
+import stat
+import sys
+import tempfile
+import unittest
+from pathlib import Path
+from unittest import mock
+
+sys.dont_write_bytecode = True
+TOP = Path(__file__).resolve().parent.parent.parent
+sys.path.insert(0, str(TOP / 'tools'))
+import motesim_report
+from motesim_report import Copy, Fault, Packet, ProgramFault, Report, ReportFault, Scenario, ScenarioFault
+
+# Two motes: the second one halts at 9, when its neighbour's last packet but one is on its way.
+SMALL = '''mote 0 talker
+0 start etimer
+0 send 0 7
+3 post 0 talker timer 0
+3 take 0 talker
+3 send 1 8
+6 send 2 9
+7 send 3 9
+mote 1 hearer
+4 recv 0 0 7
+4 post 0 hearer packet 7
+4 take 0 hearer
+4 print hearer 65535
+9 halt
+medium
+0 0 0 7 1@4
+3 0 1 8 1@lost
+6 0 2 9 1@10
+7 0 3 9 1@11
+left 1
+'''
+
+
+def report_in(page):
+    """The first report that a page of docs/ shows."""
+    begin = page.index('\nmote 0 ') + 1
+    return page[begin:page.index('```', begin)]
+
+
+SCENARIO_PAGE = (TOP / 'docs/SCENARIO.md').read_text(encoding='utf-8')
+EXAMPLE = SCENARIO_PAGE[SCENARIO_PAGE.index('version = 2'):SCENARIO_PAGE.index('```\n\nProgram texts')]
+EXAMPLE_REPORT = report_in((TOP / 'docs/REPORT.md').read_text(encoding='utf-8'))
+
+
+class Reports(unittest.TestCase):
+    def test_each_report_of_the_cases_comes_back_byte_for_byte(self):
+        count = 0
+        for path in (TOP / 'tests/cases').rglob('*.expected'):
+            data = path.read_bytes()
+            if data.startswith(b'mote '):
+                self.assertEqual(Report.parse(data).text().encode(), data, path)
+                count += 1
+        self.assertGreater(count, 30)
+
+    def test_lines_have_their_parts(self):
+        report = Report.parse(SMALL)
+        talker, hearer = report.motes
+        self.assertEqual((talker.number, talker.program, talker.row, hearer.row), (0, 'talker', 1, 9))
+        post = talker.lines[2]
+        self.assertEqual((post.mote, post.at, post.kind, post.serial, post.process, post.event, post.word),
+                         (0, 3, 'post', 0, 'talker', 'timer', 0))
+        self.assertEqual((post.sender, post.number, post.value, post.packet), (None, None, None, None))
+        received = hearer.lines[0]
+        self.assertEqual((received.sender, received.number, received.value, received.packet), (0, 0, 7, (0, 0)))
+        self.assertEqual(talker.lines[1].packet, (0, 0))
+        self.assertEqual(str(hearer.lines[3]), '4 print hearer 65535')
+        self.assertEqual((talker.halted(), hearer.halted()), (None, 9))
+        self.assertEqual((report.left, report.medium_row), (1, 15))
+        self.assertEqual(report.packets[0, 1], Packet(3, 0, 1, 8, (Copy(1, None),)))
+        self.assertEqual(SMALL.split('\n')[report.medium_row:report.medium_row + 4], [str(it) for it in report.medium])
+
+    def test_lines_of_different_kinds_are_never_the_same(self):
+        taken, dropped = (Report.parse(SMALL.replace('take', kind)).motes[0].lines[3] for kind in ('take', 'drop'))
+        self.assertNotEqual(taken, dropped)
+        self.assertEqual(taken, Report.parse(SMALL).motes[0].lines[3])
+
+    def test_each_line_stands_on_its_row(self):
+        rows = EXAMPLE_REPORT.split('\n')
+        for mote in Report.parse(EXAMPLE_REPORT).motes:
+            for index, line in enumerate(mote.lines):
+                self.assertEqual(rows[mote.row + index], str(line))
+
+    def test_what_became_of_each_copy(self):
+        found = [(it.packet.number, it.copy.to, it.what) for it in Report.parse(SMALL).outcomes()]
+        self.assertEqual(found, [(0, 1, 'received'), (1, 1, 'lost'), (2, 1, 'halted'), (3, 1, 'left')])
+        found = [(it.packet.sender, it.packet.number, it.what) for it in Report.parse(EXAMPLE_REPORT).outcomes()]
+        self.assertEqual(found, [(0, 0, 'collided'), (2, 0, 'collided'), (0, 1, 'lost'), (0, 2, 'received'),
+                                 (2, 1, 'left')])
+
+    def fault(self, text):
+        with self.assertRaises(ReportFault) as raised:
+            Report.parse(text)
+        return raised.exception.row, str(raised.exception)
+
+    def test_a_changed_line_has_its_fault(self):
+        for row, line, expected in [
+                (1, 'mote 1 talker', "'mote 0' and the name of its program"),
+                (1, 'mote 0 two words', "'mote 0' and the name of its program"),
+                (2, '0 start Etimer', 'a process'),
+                (2, '0 start while', 'a process'),
+                (2, '0 start', 'MOMENT start PROCESS'),
+                (2, '0  start etimer', 'a moment and one of start, leave'),
+                (2, '1000001 start etimer', 'a moment, 0 to 1000000'),
+                (3, '0 send 0 65536', 'a word of 16 bits, 0 to 65535'),
+                (3, '0 send 0 07', 'a word of 16 bits, 0 to 65535'),
+                (3, '0 send 0 7 ', 'MOMENT send NUMBER VALUE'),
+                (4, '3 post 0 talker exited 0', 'an event'),
+                (5, '2 take 0 talker', 'a moment from 3 on'),
+                (9, 'mote 2 hearer', "'mote 1' and the name of its program"),
+                (10, '4 recv 2 0 7', 'a mote of this report, 0 to 1'),
+                (13, '4 halt', 'nothing more of mote 1'),
+                (15, 'media', 'a moment and one of'),
+                (16, '0 0 0', 'MOMENT SENDER NUMBER VALUE'),
+                (16, '0 0 0 7 1@', 'an arrival'),
+                (16, '0 0 0 7 0@4', 'receivers in rising order, without the sender'),
+                (16, '0 0 0 7 1@0', 'arrivals after moment 0'),
+                (16, '6 0 1 7 1@9', 'packets in the order of moment, sender and number'),
+                (20, 'left', "'left' and a number"),
+                (20, 'right 1', 'MOMENT SENDER NUMBER VALUE')]:
+            rows = SMALL.split('\n')
+            rows[row - 1] = line
+            where, said = self.fault('\n'.join(rows))
+            if line in ('4 halt', '6 0 1 7 1@9'):
+                self.assertEqual(where, row + 1, said)
+            else:
+                self.assertEqual(where, row, said)
+            self.assertIn('expected ' + expected, said)
+
+    def test_a_text_that_is_cut_off_or_goes_on_has_its_fault(self):
+        self.assertEqual(self.fault('')[0], 1)
+        self.assertEqual(self.fault('mote 0 a\n')[0], 2)
+        self.assertEqual(self.fault(SMALL[:-1]), (21, "line 21: expected a line end behind 'left', but the text ends"))
+        self.assertEqual(self.fault(SMALL[:SMALL.index('left')])[0], 20)
+        self.assertEqual(self.fault(SMALL + '\n'), (21, "line 21: expected nothing more, but there is ''"))
+        self.assertEqual(self.fault(SMALL.replace('\n', '\r\n'))[0], 1)
+        self.assertEqual(self.fault(b'mote 0 a\n0 halt\xff\n'),
+                         (2, "line 2: expected text in ASCII, but there is '0 halt\\\\xff'"))
+        for cut in range(len(SMALL)):
+            self.fault(SMALL[:cut])
+
+    def test_what_is_taken_comes_back_whatever_was_changed(self):
+        taken = 0
+        for at in range(len(SMALL)):
+            for changed in (SMALL[:at] + SMALL[at + 1:], *(SMALL[:at] + it + SMALL[at:] for it in '0 \n@\r')):
+                try:
+                    self.assertEqual(Report.parse(changed).text(), changed)
+                    taken += 1
+                except ReportFault:
+                    pass
+        self.assertGreater(taken, 50)
+
+
+class Scenarios(unittest.TestCase):
+    def test_the_example_has_its_tables(self):
+        for mark in '', '\ufeff':
+            found = Scenario.parse((mark + EXAMPLE).encode())
+            self.assertEqual((found.version, found.end, found.range, found.base, found.per), (2, 20, 5, 2, 100))
+            self.assertEqual((found.collide, found.queue, found.losses), (True, {'listener': 1}, {(0, 1): 2}))
+            self.assertEqual([tuple(it) for it in found.places],
+                             [(0, 0, 'sender'), (5, 0, 'listener'), (10, 0, 'sender')])
+            self.assertTrue(found.programs['sender'].startswith('process sender;\n'))
+
+    def test_who_hears_whom_and_when(self):
+        found = Scenario.parse(EXAMPLE)
+        self.assertEqual([found.hearers(it) for it in range(3)], [[1], [0, 2], [1]])
+        self.assertEqual(list(found.links()), [(0, 1), (1, 2)])
+        self.assertEqual((found.delay(0, 1), found.lookahead), (2, 2))
+        self.assertEqual([found.loses(0, 1, it) for it in range(4)], [False, True, False, True])
+        self.assertFalse(found.loses(1, 0, 1))
+        alone = Scenario.parse(EXAMPLE.replace('range = 5', 'range = 4'))
+        self.assertEqual((alone.hearers(1), alone.lookahead), ([], 21))
+        # (3, 4) is 5 away: 25 / 10, rounded down
+        near = Scenario.parse(EXAMPLE.replace('x = 5\ny = 0', 'x = 3\ny = 4').replace('per = 100', 'per = 10'))
+        self.assertEqual((near.hearers(0), near.delay(0, 1), near.lookahead), ([1], 4, 4))
+
+    def test_the_medium_of_the_cases_is_the_scenarios(self):
+        for path in (TOP / 'tests/cases/nets').glob('*.toml'):
+            noted = path.with_suffix('.expected')
+            if not (noted.is_file() and noted.read_bytes().startswith(b'mote ')):
+                continue
+            scenario, report = Scenario.parse(path.read_bytes()), Report.parse(noted.read_bytes())
+            motesim_report.check_scenario(report, scenario)
+            for packet in report.medium:
+                self.assertEqual([it.to for it in packet.copies], scenario.hearers(packet.sender))
+                for copy in packet.copies:
+                    is_lost = scenario.loses(packet.sender, copy.to, packet.number)
+                    self.assertEqual(copy.at, None if is_lost else packet.at + scenario.delay(packet.sender, copy.to))
+
+    def test_a_text_that_is_no_scenario_has_its_fault(self):
+        for change, said in [(('end = 20', 'end ='), 'no TOML'), (('end = 20', ''), 'the scenario has no key end'),
+                             (('end = 20', 'end = 2.0'), 'end of the scenario is not a whole number'),
+                             (('range = 5', 'range = true'), 'range of medium is not a whole number'),
+                             (('x = 5\n', ''), 'mote 1 has no key x'), (('per = 100', 'per = 0'), 'at least 1')]:
+            with self.assertRaisesRegex(ScenarioFault, said):
+                Scenario.parse(EXAMPLE.replace(*change))
+        with self.assertRaisesRegex(ScenarioFault, 'UTF-8'):
+            Scenario.parse(b'\xff')
+
+    def test_a_report_of_other_motes_has_a_fault(self):
+        with self.assertRaisesRegex(ScenarioFault, 'the scenario has 3 motes, the report 2'):
+            motesim_report.check_scenario(Report.parse(SMALL), Scenario.parse(EXAMPLE))
+
+
+class Runs(unittest.TestCase):
+    def setUp(self):
+        self.folder = tempfile.TemporaryDirectory()
+        self.addCleanup(self.folder.cleanup)
+
+    def write(self, name, text, mode=0o644):
+        path = Path(self.folder.name) / name
+        path.write_text(text, encoding='utf-8')
+        path.chmod(mode)
+        return path
+
+    def as_program(self, text):
+        """As if the program were this script."""
+        path = self.write('motesim', text, stat.S_IRWXU)
+        return mock.patch.dict(os.environ, {'MOTESIM': str(path)})
+
+    def test_a_report_is_read_and_a_scenario_is_run(self):
+        report = self.write('a.report', EXAMPLE_REPORT)
+        scenario = self.write('a.toml', EXAMPLE)
+        found = motesim_report.read_run(report)
+        self.assertEqual((found.report.text(), found.scenario), (EXAMPLE_REPORT, None))
+        found = motesim_report.read_run(report, scenario)
+        self.assertEqual(found.scenario.end, 20)
+        with self.as_program('#!/bin/sh\ncat >/dev/null\ncat %s\n' % report):
+            found = motesim_report.read_run(scenario)
+        self.assertEqual((found.report.text(), found.scenario.end), (EXAMPLE_REPORT, 20))
+
+    def test_what_can_not_be_run_or_read_has_a_fault(self):
+        scenario = self.write('a.toml', EXAMPLE)
+        with self.as_program('#!/bin/sh\necho motesim: medium fault 2 >&2\nexit 1\n'):
+            with self.assertRaisesRegex(ProgramFault, 'a.toml: the scenario has no report: motesim: medium fault 2'):
+                motesim_report.read_run(scenario)
+        with mock.patch.dict(os.environ, {'MOTESIM': '/nowhere/motesim'}):
+            with self.assertRaisesRegex(ProgramFault, 'there is no program /nowhere/motesim'):
+                motesim_report.read_run(scenario)
+        with self.assertRaisesRegex(Fault, 'no.report: No such file'):
+            motesim_report.read_run('no.report')
+        with self.assertRaisesRegex(Fault, 'a.toml is a scenario itself'):
+            motesim_report.read_run(scenario, scenario)
+        with self.assertRaisesRegex(ReportFault, 'b.report: line 1: expected'):
+            motesim_report.read_run(self.write('b.report', 'x\n'))
+
+
+if __name__ == '__main__':
+    unittest.main()

@@ -1,0 +1,107 @@
+"""Which answers of a refused run are as they should be, and how many requests of a small program are refused."""
+import contextlib
+import importlib.machinery
+import importlib.util
+import io
+import shutil
+import subprocess
+import sys
+import tempfile
+import unittest
+from pathlib import Path
+from unittest import mock
+
+sys.dont_write_bytecode = True
+TOOLS = Path(__file__).resolve().parent.parent
+
+
+def load(name):
+    loader = importlib.machinery.SourceFileLoader(name, str(TOOLS / name))
+    made = importlib.util.module_from_spec(importlib.util.spec_from_loader(name, loader))
+    sys.modules[name] = made
+    loader.exec_module(made)
+    return made
+
+
+refuse = load('refuse_memory')
+WHOLE = refuse.Answer(0, b'mote 0 p\nleft 0\n', b'')
+NO_MEMORY = b'motesim: out of memory\n'
+NO_THREAD = b'motesim: run fault 5\n'
+
+# A program that asks for memory three times; it says so where one is refused, but for the one in CALM.
+PROGRAM = r"""
+#include <stdio.h>
+#include <stdlib.h>
+#include <unistd.h>
+
+int main(void) {
+  static char room[256];
+  setvbuf(stdout, room, _IOFBF, sizeof room);
+  for (int n = 1; n <= 3; n++) {
+    void *volatile part = malloc(100);
+    if (!part && n != CALM) return write(2, "motesim: out of memory\n", 23) == 23;
+  }
+  return write(1, "left 0\n", 7) != 7;
+}
+"""
+
+
+class Kinds(unittest.TestCase):
+    def test_answers_that_may_be(self):
+        for status, report, fault, by_workers, kind in [
+            (0, WHOLE.report, b'', False, 'the same answer'),
+            (1, b'', NO_MEMORY, False, 'out of memory'),
+            (1, b'mote 0 p\n', NO_MEMORY, True, 'out of memory'),
+            (1, b'', NO_THREAD, True, 'no thread'),
+        ]:
+            self.assertEqual(refuse.kind_of(refuse.Answer(status, report, fault), WHOLE, by_workers), kind)
+
+    def test_answers_that_may_not_be(self):
+        for status, report, fault, by_workers in [
+            (0, b'mote 0 p\n', b'', False),
+            (0, b'', NO_MEMORY, False),
+            (1, b'left 0\n', NO_MEMORY, False),
+            (1, b'', NO_THREAD, False),
+            (1, b'mote 0 p\n', NO_THREAD, True),
+            (-11, b'', b'', True),
+        ]:
+            self.assertIsNone(refuse.kind_of(refuse.Answer(status, report, fault), WHOLE, by_workers))
+
+
+class Runs(unittest.TestCase):
+    def run_with(self, *words):
+        said = io.StringIO()
+        with mock.patch.object(sys, 'argv', ['refuse_memory', *words]), contextlib.redirect_stdout(said):
+            try:
+                refuse.main()
+            except SystemExit as end:
+                return said.getvalue(), end.code
+        return said.getvalue(), None
+
+    def test_without_a_compiler_nothing_is_tried(self):
+        with mock.patch.object(refuse.shutil, 'which', lambda name: None):
+            said, code = self.run_with('--program', sys.executable)
+        self.assertIn('skipped', said)
+        self.assertEqual(said.splitlines()[-1], '0 passed, 0 failed')
+        self.assertIsNone(code)
+
+    def test_without_a_program_it_fails(self):
+        self.assertIn('there is no program', self.run_with('--program', '/nowhere/motesim')[1])
+
+    @unittest.skipUnless(shutil.which('cc'), 'there is no C compiler cc here')
+    def test_each_request_of_a_small_program(self):
+        for calm, shown in (0, '3 times out of memory'), (2, '2 times out of memory, 1 times the same answer'):
+            with self.subTest(calm=calm), tempfile.TemporaryDirectory() as room:
+                scenario, source, program = (Path(room) / name for name in ('s.toml', 'p.c', 'p'))
+                scenario.write_text('')
+                source.write_text(PROGRAM)
+                subprocess.run(['cc', '-O0', '-DCALM=%d' % calm, '-o', str(program), str(source)], check=True)
+                said, code = self.run_with('--program', str(program), str(scenario))
+                first, last = said.splitlines()
+                self.assertEqual(first, '%s: 3 requests, each refused in turn: %s' % (scenario, shown))
+                self.assertEqual(last, '1 passed, 0 failed')
+                self.assertEqual(code, 0)
+
+
+if __name__ == '__main__':
+    unittest.main()

@@ -1,0 +1,182 @@
+"""What summary counts. The values are worked out by hand from the reports."""
+import csv
+import importlib.machinery
+import importlib.util
+import io
+import json
+import subprocess
+import sys
+import tempfile
+import unittest
+from pathlib import Path
+
+sys.dont_write_bytecode = True
+TOOLS = Path(__file__).resolve().parent.parent
+sys.path.insert(0, str(TOOLS))
+from motesim_report import Report, Run, Scenario
+
+
+def load(name):
+    loader = importlib.machinery.SourceFileLoader(name, str(TOOLS / name))
+    made = importlib.util.module_from_spec(importlib.util.spec_from_loader(name, loader))
+    sys.modules[name] = made
+    loader.exec_module(made)
+    return made
+
+
+summary = load('summary')
+
+# What becomes of the six packets of mote 0 at mote 1: received, lost by the medium, collided with one of mote 2, found
+# the ring full, came when the mote had halted, and comes after the end.
+REPORT = '''mote 0 talker
+0 start etimer
+0 post 0 all msg 3
+0 take 0 talker
+0 take 0 etimer
+0 drop 0 radio
+0 send 0 7
+0 send 1 7
+2 send 2 7
+4 send 3 7
+6 send 4 7
+8 send 5 7
+mote 1 hearer
+3 recv 0 0 7
+3 post 0 hearer packet 7
+3 full hearer msg 7
+3 take 0 hearer
+3 print hearer 1
+3 print hearer 2
+5 collide 0 2
+5 collide 2 0
+7 lost 0 3
+8 halt
+mote 2 talker
+1 send 0 9
+medium
+0 0 0 7 1@3
+0 0 1 7 1@lost
+1 2 0 9 1@5
+2 0 2 7 1@5
+4 0 3 7 1@7
+6 0 4 7 1@9
+8 0 5 7 1@11
+left 1
+'''
+
+SCENARIO = '''version = 2
+end = 10
+[medium]
+range = 10
+base = 2
+per = 100
+collide = true
+[programs]
+talker = ""
+hearer = ""
+[[mote]]
+x = 0
+y = 0
+program = "talker"
+[[mote]]
+x = 10
+y = 0
+program = "hearer"
+[[mote]]
+x = 20
+y = 0
+program = "talker"
+'''
+
+MOTES = [
+    {'mote': 0, 'program': 'talker', 'sent': 6, 'copies': 0, 'received': 0, 'lost': 0, 'ring': 0, 'collided': 0,
+     'halted': 0, 'late': 0, 'ratio': None, 'posted': 1, 'taken': 2, 'dropped': 1, 'refused': 0, 'prints': 0,
+     'halt': None},
+    {'mote': 1, 'program': 'hearer', 'sent': 0, 'copies': 7, 'received': 1, 'lost': 1, 'ring': 1, 'collided': 2,
+     'halted': 1, 'late': 1, 'ratio': 0.1667, 'posted': 1, 'taken': 1, 'dropped': 0, 'refused': 1, 'prints': 2,
+     'halt': 8},
+    {'mote': 2, 'program': 'talker', 'sent': 1, 'copies': 0, 'received': 0, 'lost': 0, 'ring': 0, 'collided': 0,
+     'halted': 0, 'late': 0, 'ratio': None, 'posted': 0, 'taken': 0, 'dropped': 0, 'refused': 0, 'prints': 0,
+     'halt': None}]
+NET = {'mote': 'net', 'program': '', 'sent': 7, 'copies': 7, 'received': 1, 'lost': 1, 'ring': 1, 'collided': 2,
+       'halted': 1, 'late': 1, 'ratio': 0.1667, 'posted': 2, 'taken': 3, 'dropped': 1, 'refused': 1, 'prints': 2,
+       'halt': 1}
+LINKS = [
+    {'from': 0, 'to': 1, 'copies': 6, 'received': 1, 'lost': 1, 'ring': 1, 'collided': 1, 'halted': 1, 'late': 1,
+     'ratio': 0.2, 'delay': 3},
+    {'from': 2, 'to': 1, 'copies': 1, 'received': 0, 'lost': 0, 'ring': 0, 'collided': 1, 'halted': 0, 'late': 0,
+     'ratio': 0.0, 'delay': 4}]
+SILENT = {'copies': 0, 'received': 0, 'lost': 0, 'ring': 0, 'collided': 0, 'halted': 0, 'late': 0, 'ratio': None}
+
+
+class Counts(unittest.TestCase):
+    def test_motes_net_and_links(self):
+        motes, net, links = summary.summary(Run('', Report.parse(REPORT), None))
+        self.assertEqual(motes, MOTES)
+        self.assertEqual(net, NET)
+        self.assertEqual(links, LINKS)
+
+    def test_a_scenario_shows_silent_links_and_their_delays(self):
+        # (with all three in one another's range, motes 1 and 2 at one place)
+        near = SCENARIO.replace('x = 20', 'x = 10')
+        cases = (SCENARIO, {(1, 0): 3, (1, 2): 3}), (near, {(0, 2): 3, (1, 0): 3, (1, 2): 2, (2, 0): 3})
+        for text, pairs in cases:
+            _, _, links = summary.summary(Run('', Report.parse(REPORT), Scenario.parse(text)))
+            found = {(row['from'], row['to']): row for row in links}
+            self.assertEqual(set(found), {(0, 1), (2, 1), *pairs})
+            for pair, delay in pairs.items():
+                self.assertEqual(found[pair], {'from': pair[0], 'to': pair[1], **SILENT, 'delay': delay})
+
+    def test_nothing_sent_is_no_ratio(self):
+        motes, net, links = summary.summary(Run('', Report.parse('mote 0 a\nmedium\nleft 0\n'), None))
+        self.assertEqual((net['copies'], net['ratio'], links), (0, None, []))
+
+
+class Forms(unittest.TestCase):
+    def setUp(self):
+        self.folder = tempfile.TemporaryDirectory()
+        self.addCleanup(self.folder.cleanup)
+        self.path = Path(self.folder.name) / 'report'
+        self.path.write_text(REPORT, encoding='ascii')
+
+    def say(self, *words):
+        done = self.run_it(*words)
+        self.assertEqual((done.returncode, done.stderr), (0, ''))
+        return done.stdout
+
+    def run_it(self, *words):
+        words = [sys.executable, '-B', str(TOOLS / 'summary'), str(self.path), *words]
+        return subprocess.run(words, capture_output=True, text=True)
+
+    def test_text_has_columns(self):
+        self.assertEqual(self.say('--links'), '''\
+from to copies received lost ring collided halted late ratio delay
+   0  1      6        1    1    1        1      1    1 0.200     3
+   2  1      1        0    0    0        1      0    0 0.000     4
+''')
+        rows = self.say().split('\n')
+        self.assertEqual(rows[1].split(), '0 talker 6 0 0 0 0 0 0 0 - 1 2 1 0 0 -'.split())
+        self.assertEqual(rows[4].split(), 'net 7 7 1 1 1 2 1 1 0.167 2 3 1 1 2 1'.split())
+        self.assertEqual(self.say('--motes'), '\n'.join(rows[:5]) + '\n')
+
+    def test_csv_is_a_table(self):
+        rows = list(csv.DictReader(io.StringIO(self.say('--csv'))))
+        for row, wanted in zip(rows, [*MOTES, NET], strict=True):
+            self.assertEqual(row, {name: '' if value is None else str(value) for name, value in wanted.items()})
+        rows = list(csv.DictReader(io.StringIO(self.say('--csv', '--links'))))
+        self.assertEqual([row['delay'] for row in rows], ['3', '4'])
+
+    def test_json_has_all(self):
+        net = {name: value for name, value in NET.items() if name not in ('mote', 'program')}
+        self.assertEqual(json.loads(self.say('--json')), {'motes': MOTES, 'net': net, 'links': LINKS})
+        self.assertEqual(json.loads(self.say('--json', '--links')), {'links': LINKS})
+
+    def test_what_is_no_report_has_status_2(self):
+        self.path.write_text(REPORT[:-2], encoding='ascii')
+        done = self.run_it()
+        self.assertEqual((done.returncode, done.stdout), (2, ''))
+        self.assertRegex(done.stderr, '^summary: .*report: line %d: expected a number' % REPORT.count('\n'))
+
+
+if __name__ == '__main__':
+    unittest.main()

@@ -1,0 +1,390 @@
+"""The pages of tools/timeline: their data, and in a headless browser, where there is one, what they show."""
+import base64
+import contextlib
+import io
+import json
+import re
+import subprocess
+import sys
+import tempfile
+import unittest
+import zlib
+from pathlib import Path
+
+sys.dont_write_bytecode = True
+TOP = Path(__file__).resolve().parent.parent.parent
+sys.path[:0] = [str(TOP / 'tools'), str(TOP / 'tools/tests')]
+
+from browser import Browser  # noqa: E402
+from motesim_report import Fault, Report, Run, Scenario  # noqa: E402
+from motesim_timeline import KINDS, SCRIPTS, data_of, page_of, write_page  # noqa: E402
+
+CONTROL = 2
+SHIFT = 8
+# Mote 0 sends at 2 by its timer, and not at 4; its third event is never taken.
+SILENT = '''mote 0 p
+0 start a
+2 post 0 a timer 0
+2 take 0 a
+2 send 0 7
+4 post 1 a timer 0
+4 take 1 a
+4 print a 9
+5 post 2 a msg 1
+mote 1 p
+0 start a
+3 recv 0 0 7
+3 post 0 a packet 7
+3 take 0 a
+medium
+2 0 0 7 1@3
+left 0
+'''
+
+
+def small_network():
+    """The run of examples/small_network.toml, whose report stands in docs/REPORT.md."""
+    text = (TOP / 'docs/REPORT.md').read_text().split('```\n')[1]
+    return Run('small', Report.parse(text), Scenario.parse((TOP / 'examples/small_network.toml').read_bytes()))
+
+
+def case(name):
+    nets = TOP / 'tests/cases/nets'
+    return Run(name, Report.parse((nets / (name + '.expected')).read_bytes()),
+        Scenario.parse((nets / (name + '.toml')).read_bytes()))
+
+
+def many(motes, sends):
+    """A report in which many motes, each of them alone, wake by a timer and send."""
+    lines, medium = [], []
+    for mote in range(motes):
+        lines += ['mote %d p' % mote, '0 start a']
+        for number in range(sends):
+            at = 1 + mote % 3 + 3 * number
+            lines += ['%d post %d a timer 0' % (at, number), '%d take %d a' % (at, number),
+                '%d send %d 5' % (at, number)]
+            medium.append((at, mote, number))
+    return '\n'.join(lines + ['medium'] + ['%d %d %d 5' % packet for packet in sorted(medium)] + ['left 0', ''])
+
+
+def columns_of(run):
+    """The columns of a run's data, as the page reads them."""
+    said, packed = data_of(run)
+    data, place, found = zlib.decompress(packed), 0, {}
+    for name, kind, length in said['columns']:
+        wide = {'u8': 1, 'u16': 2, 'u32': 4}[kind]
+        found[name] = [int.from_bytes(data[place + wide * i:place + wide * (i + 1)], 'little') for i in range(length)]
+        place += -(-length * wide // 4) * 4
+    return said, found, len(data) - place
+
+
+class Data(unittest.TestCase):
+    def test_columns_have_what_the_report_says(self):
+        said, columns, rest = columns_of(small_network())
+        self.assertEqual(rest, 0)
+        self.assertEqual(columns['traceStart'], [0, 12, 27, 36])
+        self.assertEqual(columns['at'][:8], [0, 0, 0, 0, 0, 4, 0, 0])
+        self.assertEqual([KINDS[kind] for kind in columns['kind'][4:8]], ['send', 'post', 'take', 'send'])
+        self.assertEqual(columns['copyTo'], [1] * 5)
+        self.assertEqual(columns['copyAfter'], [2, 2, 0, 2, 2])
+        self.assertEqual(said['places'], [[0, 0], [5, 0], [10, 0]])
+        self.assertEqual(said['losses'], [[0, 1, 2]])
+
+    def test_packets_out_of_their_numbers_are_a_fault(self):
+        text = SILENT.replace('2 send 0 7', '2 send 1 7').replace('recv 0 0 7', 'recv 0 1 7').replace('2 0 0 7',
+            '2 0 1 7')
+        with self.assertRaises(Fault):
+            data_of(Run('wrong', Report.parse(text), None))
+
+    def test_numbers_beyond_a_page_are_a_fault(self):
+        with self.assertRaises(Fault):
+            data_of(Run('wrong', Report.parse(SILENT.replace('post 2 a', 'post 9876543210 a')), None))
+
+    def test_a_title_is_text_in_the_page(self):
+        page = ''.join(page_of('<b> & @SCRIPT@', [Run('</script>', Report.parse(SILENT), None)]))
+        self.assertIn('<h1>&lt;b&gt; &amp; @SCRIPT@</h1>', page)
+        self.assertEqual(page.count('</script>'), 3)
+        self.assertEqual(json.loads(re.search('application/json">(.*)</script>', page)[1])['runs'][0]['name'],
+            '</script>')
+
+    def test_a_page_fetches_nothing(self):
+        page = ''.join(page_of('a', [small_network()]))
+        packed = re.search('id="run0" type="text/plain">(.*)</script>', page)[1]
+        self.assertGreater(len(zlib.decompress(base64.b64decode(packed))), 100)
+        for word in ('http:', 'https:', ' src=', '@import', 'url('):
+            self.assertNotIn(word, page.replace(packed, ''))
+
+    def test_the_page_is_put_together_from_all_its_scripts(self):
+        self.assertEqual(sorted(SCRIPTS), sorted(path.name for path in (TOP / 'tools/timeline_page').glob('*.js')))
+
+
+class Command(unittest.TestCase):
+    def tool(self, room, *words, given=''):
+        return subprocess.run([sys.executable, '-B', str(TOP / 'tools/timeline'), *words], cwd=room, input=given,
+            capture_output=True,
+                              text=True)
+
+    def test_the_page_stands_in_the_current_folder(self):
+        with tempfile.TemporaryDirectory() as room:
+            Path(room, 'a.txt').write_text(SILENT)
+            done = self.tool(room, 'a.txt')
+            self.assertEqual((done.returncode, done.stdout, done.stderr), (0, 'a.html\n', ''))
+            self.assertIn('<h1>a</h1>', Path(room, 'a.html').read_text())
+            done = self.tool(room, '-', '-o', 'b.html', '--title', 'Two motes', given=SILENT)
+            self.assertEqual((done.returncode, done.stdout), (0, 'b.html\n'))
+            self.assertIn('<h1>Two motes</h1>', Path(room, 'b.html').read_text())
+
+    def test_a_fault_is_one_line(self):
+        with tempfile.TemporaryDirectory() as room:
+            for words in (['-'], ['nowhere.txt'], ['-', '--scenario', 'nowhere.toml']):
+                done = self.tool(room, *words, given='nothing')
+                self.assertEqual((done.returncode, done.stdout), (2, ''))
+                self.assertRegex(done.stderr, r'\Atimeline: .+\n\Z')
+            self.assertEqual(list(Path(room).iterdir()), [])
+
+
+class Pages(unittest.TestCase):
+    """What a page shows and answers, in a browser."""
+
+    @classmethod
+    def setUpClass(cls):
+        cls.browser, why = Browser.start()
+        if cls.browser is None:
+            said = 'the pages of tools/timeline are not tried: ' + why
+            with contextlib.suppress(OSError):
+                print(said, file=sys.stderr)
+            raise unittest.SkipTest(said)
+        cls.room = tempfile.TemporaryDirectory()
+
+    @classmethod
+    def tearDownClass(cls):
+        if cls.browser is not None:
+            cls.browser.close()
+            cls.room.cleanup()
+
+    def open(self, *runs, fragment='', **words):
+        page = Path(self.room.name, 'page.html')
+        write_page(page, 'A page', runs, **words)
+        self.browser.faults.clear()
+        self.browser.size(1280, 800)
+        self.browser.open(page, fragment)
+        self.browser.settle()
+
+    def tearDown(self):
+        self.assertEqual(self.browser.faults, [])
+
+    def value(self, script):
+        known = 'const m = motesim, pane = m.panes[0], run = pane.run'
+        return self.browser.run('(() => { %s; return %s; })()' % (known, script))
+
+    def place(self, row):
+        """Where the mark of a line of the report is in the window."""
+        return self.value('''(() => {
+          const {x: left, y: top} = pane.canvas.getBoundingClientRect();
+          for (let i = 0; i < pane.hits.length; i += 3) {
+            const line = pane.hits[i + 2];
+            if (run.numberOf(line, run.moteOf(line)) === %d) return [left + pane.hits[i], top + pane.hits[i + 1]];
+          }
+        })()''' % row)
+
+    def shown(self):
+        return self.value('document.getElementById("details").innerText')
+
+    def selected(self):
+        return self.value('m.chosen() && m.chosen().line >= 0 ? run.text(m.chosen().line) : null')
+
+    def key(self, key, **words):
+        self.value('pane.canvas.focus()')
+        self.browser.key(key, **words)
+
+    def test_the_lines_of_the_report_come_back(self):
+        for run in [small_network(), case('ring_overflows'), case('nine_copies_collide'),
+            case('runaway_beside_another')]:
+            self.open(run)
+            rows = self.value('''(() => {
+              const rows = [];
+              for (let mote = 0; mote < run.begins.length; mote++) {
+                rows.push(`mote ${mote} ${run.programs[run.begins[mote]]}`);
+                for (let i = run.traceStart[mote]; i < run.traceStart[mote + 1]; i++) {
+                  rows.push(run.text(i));
+                  if (run.numberOf(i, mote) !== rows.length) rows.push('a wrong number');
+                }
+              }
+              rows.push('medium');
+              for (let k = 0; k < run.packets; k++) {
+                rows.push(run.packetText(k));
+                if (run.numberOfPacket(k) !== rows.length) rows.push('a wrong number');
+              }
+              return rows.concat([`left ${run.left}`]);
+            })()''')
+            self.assertEqual('\n'.join(rows) + '\n', run.report.text())
+
+    def test_copies_become_what_the_report_says(self):
+        words = {'received': [0, 1, 2, 8], 'full': [3], 'collided': [4], 'lost': [5], 'halted': [6], 'left': [7]}
+        for run in [small_network(), case('ring_overflows'), case('nine_copies_collide'), case('copy_past_the_end')]:
+            self.open(run)
+            fates, outcomes = self.value('Array.from(run.copyFate)'), run.report.outcomes()
+            self.assertEqual(len(fates), len(outcomes))
+            for fate, outcome in zip(fates, outcomes):
+                self.assertIn(fate, words[outcome.what])
+
+    def test_wheel_keys_and_buttons_zoom_and_pan(self):
+        self.open(small_network())
+        whole = self.value('m.time.scale')
+        left, top = self.value('[pane.canvas.getBoundingClientRect().x, pane.canvas.getBoundingClientRect().y]')
+        x, y = left + 500, top + 120
+        under = 'pane.moment(500)'
+        before = self.value(under)
+        self.browser.wheel(x, y, -400)
+        self.assertGreater(self.value('m.time.scale'), whole * 1.5)
+        self.assertAlmostEqual(self.value(under), before, places=6)
+        begin = self.value('m.time.begin')
+        self.browser.wheel(x, y, 100, SHIFT)
+        self.assertGreater(self.value('m.time.begin'), begin)
+        lane = self.value('pane.lane')
+        self.browser.wheel(x, y, -200, CONTROL)
+        self.assertGreater(self.value('pane.lane'), lane)
+        self.key('0')
+        self.assertEqual((self.value('m.time.scale'), self.value('pane.lane')), (whole, lane))
+        self.key('+')
+        self.assertAlmostEqual(self.value('m.time.scale'), whole * 1.5, places=6)
+        begin = self.value('m.time.begin')
+        self.key('ArrowRight', number=39)
+        self.assertGreater(self.value('m.time.begin'), begin)
+        begin = self.value('m.time.begin')
+        self.browser.drag(x, y, x + 60, y)
+        self.assertLess(self.value('m.time.begin'), begin)
+        for button, sign in (('zoom-in', 1), ('zoom-out', -1)):
+            scale = self.value('m.time.scale')
+            self.value('document.querySelector("[data-do=%s]").click()' % button)
+            self.assertGreater((self.value('m.time.scale') - scale) * sign, 0)
+
+    def test_a_click_shows_a_packet_and_its_copies(self):
+        self.open(small_network())
+        self.browser.click(*self.place(12))
+        self.assertEqual(self.selected(), '8 send 2 30')
+        for words in ('Packet 2 of mote 0, value 30', 'line 44', '8 0 2 30 1@10', 'line 22', '10 recv 0 2 30',
+            'received and handed on'):
+            self.assertIn(words, self.shown())
+        self.key('Enter', number=13)
+        self.assertEqual(self.selected(), '10 recv 0 2 30')
+        self.key('Enter', number=13)
+        self.assertEqual(self.selected(), '10 post 0 listener packet 30')
+        self.key('Enter', number=13)
+        self.assertEqual(self.selected(), '10 take 0 listener')
+        self.key('Enter', number=13)
+        self.assertEqual(self.selected(), '10 post 1 echo msg 30')
+        self.key(']')
+        self.assertEqual(self.selected(), '10 full echo msg 31')
+        self.key('Escape', number=27)
+        self.assertIsNone(self.selected())
+
+    def test_a_click_on_an_arrow_shows_its_copy(self):
+        self.open(small_network())
+        x, y = self.value('''(() => {
+          const {x: left, y: top} = pane.canvas.getBoundingClientRect(), a = pane.arrows;
+          for (let i = 0; i < a.length; i += 6) {
+            if (run.packetNumber[a[i + 4]] === 1 && run.packetSender[a[i + 4]] === 0) {
+              return [left + a[i] + (a[i + 2] - a[i]) * 0.5, top + a[i + 1] + (a[i + 3] - a[i + 1]) * 0.5];
+            }
+          }
+        })()''')
+        self.browser.click(x, y)
+        self.assertIn('Packet 1 of mote 0, value 20', self.shown())
+        self.assertIn('mote 1: lost on the way', self.shown())
+
+    def test_an_event_is_followed_from_its_post(self):
+        self.open(Run('silent', Report.parse(SILENT), None))
+        self.browser.click(*self.place(9))
+        self.assertIn('Event 2 of mote 0: msg 1', self.shown())
+        self.assertIn('still waiting when the run ends', self.shown())
+
+    def test_silences_are_found(self):
+        self.open(Run('silent', Report.parse(SILENT), None))
+        self.assertEqual(self.value('Array.from(run.silent.keys()).filter(i => run.silent[i]).map(i => run.text(i))'),
+            ['4 take 1 a'])
+        self.assertEqual(self.value('[run.groups[0].sent, run.groups[0].quiet]'), [1, 1])
+
+    def test_a_search_finds_lines(self):
+        self.open(small_network())
+        for words, found in [('print', 2), ('print echo', 1), ('30', 7), ('mote 2', 9), ('from 2 collide', 1),
+            ('timer', 6), ('lost', 1),
+                             ('at 4..8 send', 2), ('all', None), ('nonsense', None)]:
+            self.value('document.getElementById("words").value = %s' % json.dumps(words))
+            self.value('document.querySelector("#search button").click()')
+            self.browser.settle()
+            said = self.value('document.getElementById("found").textContent')
+            self.assertEqual(self.value('m.search.total'), found or 0, words)
+            self.assertRegex(said, r'^\d+ of %d$' % found if found else r'^No ')
+        self.value('m.setNow(0)')
+        self.value('m.find("send")')
+        self.assertEqual(self.selected(), '0 send 0 10')
+        self.key('n')
+        self.assertEqual(self.selected(), '4 send 1 20')
+        self.key('p')
+        self.assertEqual(self.selected(), '0 send 0 10')
+        self.assertIn('5 lines found', self.value('document.getElementById("matches").innerText'))
+
+    def test_a_run_is_played(self):
+        self.open(small_network())
+        moments = []
+        for _ in range(6):
+            self.key('.')
+            moments.append(self.value('m.play.now'))
+        self.assertEqual(moments, [2, 4, 8, 10, 19, 20])
+        self.key(',')
+        self.assertEqual(self.value('m.play.now'), 19)
+        self.value('m.setNow(0)')
+        self.value('document.getElementById("speed").value = "100"')
+        self.key(' ')
+        self.browser.wait('motesim.play.now === 20 && !motesim.play.runs')
+
+    def test_two_runs_share_their_time(self):
+        self.open(small_network(), case('two_senders_collide'), start=10, mote=1)
+        self.assertEqual(self.value('m.panes.length'), 2)
+        self.assertEqual(self.value('m.panes[0].x(7) - m.panes[1].x(7)'), 0)
+        self.assertEqual(self.value('m.play.now'), 10)
+        self.assertEqual(self.selected(), '10 recv 0 2 30')
+
+    def test_an_address_says_what_is_shown(self):
+        self.open(small_network(), fragment='#from=4&to=12&line=22&only=timeline')
+        self.assertEqual(self.selected(), '10 recv 0 2 30')
+        self.assertAlmostEqual(self.value('pane.moment(pane.gutter)'), 4, places=6)
+        self.assertFalse(self.value('document.querySelector("aside").offsetHeight'))
+
+    def test_forms_are_drawn_light_dark_narrow_and_for_print(self):
+        self.open(small_network())
+        light = self.value('pane.canvas.toDataURL()')
+        self.browser.dark(True)
+        self.browser.settle()
+        self.assertNotEqual(self.value('pane.canvas.toDataURL()'), light)
+        self.browser.dark(False)
+        self.browser.settle()
+        self.assertEqual(self.value('pane.canvas.toDataURL()'), light)
+        self.browser.size(390, 800)
+        self.browser.settle()
+        self.assertLessEqual(self.value('document.documentElement.scrollWidth'), 390)
+        pdf = Path(self.room.name, 'page.pdf')
+        self.browser.print(pdf)
+        self.assertEqual(pdf.read_bytes()[:5], b'%PDF-')
+
+    def test_all_that_is_drawn_has_a_name_for_readers_of_screens(self):
+        self.open(small_network())
+        unnamed = self.value('''Array.from(document.querySelectorAll("button, input, select, canvas")).filter(it =>
+          !(it.textContent.trim() && it.matches("button")) && !it.getAttribute("aria-label") &&
+          !(it.labels && it.labels.length)).length''')
+        self.assertEqual(unnamed, 0)
+
+    def test_many_lanes_are_drawn_as_colours_and_what_is_not_drawn_is_said(self):
+        self.open(Run('many', Report.parse(many(900, 40)), None))
+        said = self.value('document.getElementById("drawn").textContent')
+        self.assertIn('All 900 lanes, 108,900 lines of the report.', said)
+        self.assertIn('each pixel has the colour', said)
+        self.value('pane.zoomLanes(20 / pane.lane)')
+        self.value('m.drawAll()')
+        said = self.value('document.getElementById("drawn").textContent')
+        self.assertRegex(said, r'[0-9,]+ marks? of events and runs not drawn')
+
+
+if __name__ == '__main__':
+    unittest.main()

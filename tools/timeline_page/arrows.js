@@ -1,0 +1,103 @@
+// Packets: an arrow for each copy, from its sender's lane at the moment of sending to its receiver's at arrival.
+const FEW = 250, MANY = 2500, MOST_ARROWS = 12000, MOST_VISITED = 15000;
+
+/** The moment at which a copy arrives, or would have arrived. */
+function arrivalOf(run, k, c) {
+  const after = run.copyAfter[c] || delayOf(run, run.packetSender[k], run.copyTo[c]);
+  return run.packetAt[k] + after;
+}
+
+/** Where the arrow of a copy goes from and to. */
+function arrowEnds(pane, k, c) {
+  const {run} = pane, sender = run.packetSender[k], to = run.copyTo[c], line = run.copyLine[c], send = run.sendLine[k];
+  const x0 = send >= 0 ? pane.lineX(send, sender) : pane.x(run.packetAt[k] + 0.5);
+  const x1 = line >= 0 ? pane.lineX(line, to) : pane.x(arrivalOf(run, k, c) + 0.5);
+  return [x0, pane.lineY(SEND, sender), x1, pane.lane < FULL_LANE ? pane.lineY(SEND, to) : pane.lineY(RECV, to)];
+}
+
+/** Collects the copies whose arrows cross the view; from a great many packets a sample is counted. */
+function copiesInView(pane) {
+  const {run, said} = pane, found = [], begin = pane.moment(pane.gutter), end = pane.moment(pane.width);
+  const first = lowerBound(run.packetAt, begin - run.longest - 1), last = lowerBound(run.packetAt, end + 1, first);
+  const stride = Math.max(1, Math.ceil((last - first) / MOST_VISITED)), bottom = pane.height;
+  let copies = 0;
+  for (let k = first; k < last; k += stride) {
+    const y0 = pane.laneTop(run.packetSender[k]);
+    for (let c = run.copyStart[k]; c < run.copyStart[k + 1]; c++) {
+      const y1 = pane.laneTop(run.copyTo[c]);
+      if (y0 < AXIS - pane.lane && y1 < AXIS - pane.lane || y0 > bottom && y1 > bottom) continue;
+      if (run.packetAt[k] + (run.copyAfter[c] || run.longest) < begin) continue;
+      copies++;
+      if (found.length < 2 * MOST_ARROWS) found.push(k, c);
+    }
+  }
+  said.copies = copies * stride;
+  said.about = stride > 1;
+  return found;
+}
+
+function drawArrows(pane) {
+  const c = pane.context, found = copiesInView(pane), {said, run} = pane,
+    wish = document.getElementById('arrows').value;
+  pane.arrows = [];
+  if (wish === 'none' || wish === 'auto' && (said.copies > MANY || pane.lane < 4)) return;
+  const crowded = said.copies > FEW, size = pane.lane < 14 ? 3 : 4;
+  c.save();
+  c.globalAlpha = crowded ? 0.4 : 0.85;
+  for (let i = 0; i < found.length; i += 2) {
+    const k = found[i], copy = found[i + 1], [x0, y0, x1, y1] = arrowEnds(pane, k, copy);
+    drawArrow(c, x0, y0, x1, y1, run.copyFate[copy], 1, size);
+    pane.arrows.push(x0, y0, x1, y1, k, copy);
+  }
+  c.restore();
+  said.arrows = found.length / 2;
+}
+
+/** The copy whose arrow passes near a point, as packet and copy, or null. */
+function arrowNear(pane, x, y, reach) {
+  let best = reach, found = null;
+  const {arrows} = pane;
+  for (let i = 0; i < arrows.length; i += 6) {
+    const dx = arrows[i + 2] - arrows[i], dy = arrows[i + 3] - arrows[i + 1], square = dx * dx + dy * dy || 1;
+    const share = Math.max(0, Math.min(1, ((x - arrows[i]) * dx + (y - arrows[i + 1]) * dy) / square));
+    const away = Math.hypot(x - arrows[i] - share * dx, y - arrows[i + 1] - share * dy);
+    if (away < best) {
+      best = away;
+      found = {k: arrows[i + 4], copy: arrows[i + 5]};
+    }
+  }
+  return found;
+}
+
+/** What is selected: a ring around its line, the arrows of its packet, and a bow from an event's post to its takes. */
+function drawChosen(pane) {
+  if (!chosen || chosen.pane !== pane) return;
+  const {run, context: c} = pane, low = pane.lane < SMALL_LANE;
+  const y = line => low ? pane.laneTop(run.moteOf(line)) + pane.lane / 2 :
+    pane.lineY(run.silent[line] ? SEND : run.kind[line], run.moteOf(line));
+  const x = line => pane.lineX(line, run.moteOf(line));
+  if (chosen.k >= 0) {
+    for (let copy = run.copyStart[chosen.k]; copy < run.copyStart[chosen.k + 1]; copy++) {
+      const [x0, y0, x1, y1] = arrowEnds(pane, chosen.k, copy);
+      path(c, [x0, y0, x1, y1]);
+      c.save();
+      c.globalAlpha = 0.6;
+      stroke(c, colours.halo, copy === chosen.copy ? 9 : 6);
+      c.restore();
+      drawArrow(c, x0, y0, x1, y1, run.copyFate[copy], copy === chosen.copy ? 3 : 2, 5);
+    }
+  }
+  for (const [from, to] of chosen.bows || []) {
+    const x0 = x(from), y0 = y(from), x1 = x(to), y1 = y(to), lift = Math.max(8, Math.min(26, pane.lane * 0.5));
+    c.beginPath();
+    c.moveTo(x0, y0);
+    c.bezierCurveTo(x0, y0 - lift, x1, y1 - lift, x1, y1);
+    stroke(c, colours.mark, 2);
+    head(c, x1, y1 - lift, x1, y1 - 4, 7, colours.mark, true);
+  }
+  if (chosen.line >= 0) {
+    c.beginPath();
+    c.arc(x(chosen.line), y(chosen.line), Math.max(7, Math.min(11, pane.lane * 0.3)), 0, 7);
+    stroke(c, colours.mark, 2.5);
+  }
+}

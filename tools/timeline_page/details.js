@@ -1,0 +1,246 @@
+// What is selected: its lines of the report, and what belongs to it. Each line is a button that selects that line.
+let chosen = null;
+const MOST_LISTED = 120;
+
+function element(name, text, inside = []) {
+  const made = document.createElement(name);
+  if (text) made.textContent = text;
+  made.append(...inside);
+  return made;
+}
+
+/** A line of the report as a button. */
+function lineButton(pane, where, text, what, isCurrent, act) {
+  const button = element('button');
+  button.type = 'button';
+  button.className = 'line';
+  button.append(Object.assign(element('span', where), {className: 'where'}), element('code', text));
+  if (what) button.append(Object.assign(element('span', what), {className: 'what'}));
+  if (isCurrent) button.setAttribute('aria-current', 'true');
+  button.addEventListener('click', act);
+  return button;
+}
+
+function traceButton(pane, line, what) {
+  const {run} = pane, mote = run.moteOf(line);
+  return lineButton(pane, `line ${run.numberOf(line, mote)}`, run.text(line), what, chosen.line === line,
+    () => chooseLine(pane, line, true));
+}
+
+const list = (name, items) => element(name, '', items.map(item => element('li', '', [item])));
+
+function selectNothing() {
+  chosen = null;
+  const box = document.getElementById('details');
+  box.classList.add('empty');
+  box.replaceChildren(element('h2', 'Nothing is selected'),
+    element('p',
+      'Click a mark, an arrow, or a mote on the map. With the keyboard: go to the timeline with Tab, ' +
+      'choose with [ and ], and follow with Enter.'));
+  redraw();
+}
+
+/** Selects a line of a trace; `show` brings it into view. */
+function chooseLine(pane, line, show) {
+  const {run} = pane, mote = run.moteOf(line), kind = run.kind[line];
+  chosen = {pane, mote, line, k: -1, copy: -1, bows: [], next: []};
+  if (kind === SEND) chosen.k = run.packetOf(mote, run.x[line]);
+  else if (kind === RECV || kind === LOST || kind === COLLIDE || kind === DEAF) {
+    chosen.k = run.packetOf(run.p[line], run.x[line]);
+    chosen.copy = chosen.k < 0 ? -1 : run.copyFor(chosen.k, mote);
+  }
+  tell(pane, show);
+}
+
+/** Selects a copy of a packet by its arrow. */
+function chooseCopy(pane, k, copy, show) {
+  const {run} = pane;
+  if (run.copyLine[copy] >= 0) return chooseLine(pane, run.copyLine[copy], show);
+  chosen = {pane, mote: run.copyTo[copy], line: -1, k, copy, bows: [],
+    next: run.sendLine[k] >= 0 ? [run.sendLine[k]] : []};
+  tell(pane, show);
+}
+
+function chooseMote(pane, mote, show) {
+  chosen = {pane, mote, line: -1, k: -1, copy: -1, bows: [], next: []};
+  tell(pane, show);
+}
+
+function tell(pane, show) {
+  const box = document.getElementById('details'), {run} = pane, {line, k} = chosen;
+  box.replaceChildren();
+  if (line >= 0 || k >= 0) {
+    const moment = line >= 0 ? run.at[line] : arrivalOf(run, k, chosen.copy);
+    setNow(Math.min(moment, run.end));
+    if (show) revealMoment(pane, moment, chosen.mote);
+  } else if (show) pane.reveal(chosen.mote);
+  if (panes.length > 1) box.append(element('p', `In ${run.name}:`));
+  if (k >= 0) tellPacket(box, pane);
+  if (line >= 0 && [POST, TAKE, DROP].includes(run.kind[line])) tellEvent(box, pane);
+  if (line >= 0) tellTurn(box, pane); else if (k < 0) tellMote(box, pane);
+  box.classList.remove('empty');
+  speak(pane);
+  redraw();
+}
+
+/** What a screen reader is told of what was selected. */
+function speak(pane) {
+  const {run} = pane, {line, k, mote} = chosen, parts = [`Mote ${mote}`];
+  if (line >= 0) parts.push(`moment ${run.at[line]}`, run.words(line));
+  if (k >= 0) parts.push(`packet ${run.packetNumber[k]} of mote ${run.packetSender[k]}`);
+  if (chosen.copy >= 0) parts.push(FATE_WORDS[run.copyFate[chosen.copy]]);
+  document.getElementById('spoken').textContent = parts.join(', ');
+}
+
+/** A packet: the medium's line, the send, each copy and what became of it. */
+function tellPacket(box, pane) {
+  const {run} = pane, {k, mote} = chosen, s = run.packetSender[k];
+  box.append(element('h2', `Packet ${run.packetNumber[k]} of mote ${s}, value ${run.packetValue[k]}`));
+  const items = [];
+  if (run.sendLine[k] >= 0) items.push(traceButton(pane, run.sendLine[k], `sent by mote ${s}`));
+  for (let copy = run.copyStart[k]; copy < run.copyStart[k + 1]; copy++) {
+    const to = run.copyTo[copy], fate = run.copyFate[copy], line = run.copyLine[copy], hand = run.handLine[copy];
+    const what = `mote ${to}: ${FATE_WORDS[fate]}`;
+    if (line >= 0) {
+      items.push(traceButton(pane, line, what));
+      if (chosen.line === line && hand >= 0) items.push(traceButton(pane, hand, 'handed on, in the same turn'));
+      if (chosen.line === run.sendLine[k]) chosen.next.push(line);
+      if (chosen.line === line) chosen.next = [hand >= 0 ? hand : run.sendLine[k]];
+    } else {
+      const arrives = arrivalOf(run, k, copy);
+      items.push(lineButton(pane, `to ${to}`, fate === MEDIUM ? `${to}@lost` : `${to}@${arrives}`, what,
+        chosen.copy === copy,
+        () => chooseCopy(pane, k, copy, true)));
+    }
+    if (items.length > MOST_LISTED) {
+      items.push(element('span', `and ${run.copyStart[k + 1] - copy - 1} copies more`));
+      break;
+    }
+  }
+  box.append(list('ul', [lineButton(pane, `line ${run.numberOfPacket(k)}`, run.packetText(k),
+    'in the log of the medium', false,
+    () => run.sendLine[k] >= 0 && chooseLine(pane, run.sendLine[k], true)), ...items]));
+}
+
+/** An event from its post to where it is taken or dropped. */
+function tellEvent(box, pane) {
+  const {run} = pane, {line, mote} = chosen, serial = run.x[line], post = run.postOf(mote, serial), items = [];
+  box.append(element('h2', `Event ${serial} of mote ${mote}: ${run.events[run.e[line]]} ${run.w[line]}`));
+  if (post >= 0) items.push(traceButton(pane, post,
+    run.at[post] < run.at[line] ? `${count(run.at[line] - run.at[post], 'moment')} before` : 'posted'));
+  const end = run.traceStart[mote + 1];
+  for (let i = post < 0 ? line : post + 1; i < end; i++) {
+    const isOf = (run.kind[i] === TAKE || run.kind[i] === DROP) && run.x[i] === serial;
+    if ((run.kind[i] === TAKE || run.kind[i] === DROP) && run.x[i] > serial) break;
+    if (!isOf) continue;
+    items.push(traceButton(pane, i, run.kind[i] === TAKE ? 'taken' : 'dropped: the process isn\'t there'));
+    if (post >= 0) chosen.bows.push([post, i]);
+    if (chosen.line === post && !chosen.next.length) chosen.next.push(i);
+  }
+  if (items.length === (post >= 0 ? 1 : 0)) items.push(element('span', 'It is still waiting when the run ends.'));
+  if (chosen.line !== post) {
+    const [, to] = run.turn(line, mote);
+    for (let i = line + 1; i < to && run.kind[i] !== TAKE; i++) if (run.kind[i] === SEND || run.kind[i] === POST)
+      chosen.next.push(i);
+  }
+  if (run.silent[line]) items.push(element('span', 'This timer sends in other runs; in this run it doesn\'t.'));
+  for (const copy of copiesOfTurn(run, line, mote)) {
+    if (run.handLine[copy] === post && post >= 0) items.unshift(traceButton(pane, run.copyLine[copy],
+      'the packet that it brings'));
+  }
+  box.append(list('ul', items));
+}
+
+/** The copies that were received in the turn in which an event was posted. */
+function copiesOfTurn(run, line, mote) {
+  const post = run.postOf(mote, run.x[line]), found = [];
+  if (post < 0 || run.e[post] !== run.packetEvent) return found;
+  const [from, to] = run.turn(post, mote);
+  for (let i = from; i < to; i++) {
+    const k = run.kind[i] === RECV ? run.packetOf(run.p[i], run.x[i]) : -1, copy = k < 0 ? -1 : run.copyFor(k, mote);
+    if (copy >= 0) found.push(copy);
+  }
+  return found;
+}
+
+/** All lines that the mote wrote at this moment. */
+function tellTurn(box, pane) {
+  const {run} = pane, {line, mote} = chosen, [from, to] = run.turn(line, mote), items = [];
+  box.append(element(box.children.length ? 'h3' : 'h2', `Mote ${mote} at moment ${run.at[line]}: its turn`));
+  const first = Math.max(from, Math.min(line - MOST_LISTED / 2, to - MOST_LISTED));
+  for (let i = first; i < Math.min(to, first + MOST_LISTED); i++) {
+    items.push(traceButton(pane, i, run.silent[i] ? 'a timer that elsewhere sends; here the process kept silent' :
+      ''));
+  }
+  box.append(list('ol', items));
+  if (to - from > MOST_LISTED) box.append(element('p',
+    `${to - from - MOST_LISTED} lines of this turn are not listed.`));
+  const more = element('button', `All of mote ${mote}`);
+  more.type = 'button';
+  more.addEventListener('click', () => chooseMote(pane, mote, false));
+  box.append(element('p', '', [more]));
+}
+
+/** A mote: what it runs, whom it hears, what came over each link. */
+function tellMote(box, pane) {
+  const {run} = pane, {mote} = chosen, sums = new Map(), kinds = new Array(KINDS.length).fill(0);
+  for (let i = run.traceStart[mote]; i < run.traceStart[mote + 1]; i++) kinds[run.kind[i]]++;
+  box.append(element('h2', `Mote ${mote}, which runs ${run.programs[run.begins[mote]]}`));
+  const place = run.places ? `It stands at ${run.places[mote][0]}, ${run.places[mote][1]}. ` : '';
+  const hears = run.hearers[mote];
+  box.append(element('p', place + (hears.length ? `It hears ${count(hears.length, 'mote')}` +
+    (hears.length <= 30 ? `: ${hears.join(', ')}. ` : '. ') : 'It hears nobody. ') +
+    KINDS.map((kind, k) => kinds[k] ? `${kind} ${kinds[k]}` : '').filter(Boolean).join(', ') + '.'));
+  for (let k = 0; k < run.packets; k++) {
+    const copy = run.copyFor(k, mote);
+    if (copy < 0) continue;
+    const s = run.packetSender[k], sum = sums.get(s) || [0, 0, 0, 0, 0], fate = run.copyFate[copy];
+    sum[0]++;
+    sum[fate === MEDIUM ? 2 : fate === COLLIDED ? 3 : fate === RING || fate === REFUSED || fate === UNHEARD ||
+      fate === GONE ? 4 : 1]++;
+    sums.set(s, sum);
+  }
+  const head = element('tr', '', ['from', 'copies', 'came', 'lost', 'collided',
+    'refused'].map(name => element('th', name)));
+  const rows = [...sums].sort((a, b) => a[0] - b[0]).slice(0,
+    MOST_LISTED).map(([s, [all, came, lost, met, refused]]) => {
+    const every = run.lossOf.get(s * 65536 + mote), name = `mote ${s}` + (every ? ` (loses 1 in ${every})` : '');
+    return element('tr', '', [name, all, came, lost, met, refused].map(value => element('td', String(value))));
+  });
+  if (rows.length) box.append(element('table', '', [element('thead', '', [head]), element('tbody', '', rows)]));
+  const first = run.traceStart[mote], end = Math.min(run.traceStart[mote + 1], first + 40);
+  box.append(element('h3', 'Its first lines'));
+  box.append(list('ol', Array.from({length: end - first}, (_, i) => traceButton(pane, first + i, ''))));
+}
+
+/** Enter: from a send to its copies, from a copy to its event, from a post to its take, from there to what it sent. */
+function follow() {
+  if (!chosen) return;
+  const {pane, next} = chosen;
+  if (next.length && next[0] >= 0) chooseLine(pane, next[0], true);
+}
+
+/** The line before or behind the one that is selected; the first in view where none is. */
+function walk(pane, by) {
+  const {run} = pane;
+  if (!chosen || chosen.pane !== pane) {
+    const [from] = lanesInView(pane), mote = pane.order[Math.min(from, pane.order.length - 1)];
+    const line = linesInView(pane, mote)[0];
+    return line < run.traceStart[mote + 1] ? chooseLine(pane, line, true) : chooseMote(pane, mote, true);
+  }
+  const {mote} = chosen, first = run.traceStart[mote], end = run.traceStart[mote + 1];
+  if (first === end) return;
+  const now = chosen.line >= 0 ? chosen.line + by : lowerBound(run.at, Math.floor(play.now), first, end - 1);
+  chooseLine(pane, Math.max(first, Math.min(end - 1, now)), true);
+}
+
+/** The same moment on the lane above or below. */
+function walkLanes(pane, by) {
+  if (!chosen || chosen.pane !== pane) return walk(pane, 0);
+  const {run} = pane, place = pane.place[chosen.mote] + by;
+  if (place < 0 || place >= pane.order.length) return;
+  const mote = pane.order[place], first = run.traceStart[mote], end = run.traceStart[mote + 1];
+  const moment = chosen.line >= 0 ? run.at[chosen.line] : Math.floor(play.now);
+  if (first === end) return chooseMote(pane, mote, true);
+  chooseLine(pane, Math.min(end - 1, lowerBound(run.at, moment, first, end)), true);
+}

@@ -1,0 +1,343 @@
+// Reads the page's runs, and answers mouse, keys and buttons.
+const panes = [], maps = [];
+let isWaiting = false, wasPrinting = false;
+
+/** Draws everything before the browser shows the next picture, however often it is called. */
+function redraw() {
+  if (isWaiting) return;
+  isWaiting = true;
+  requestAnimationFrame(drawAll);
+}
+
+function drawAll() {
+  isWaiting = false;
+  if (!panes.length) return;
+  const begin = performance.now();
+  for (const pane of panes) drawPane(pane);
+  for (const map of maps) map.draw();
+  sayDrawn(panes);
+  page.drawn = performance.now() - begin;
+  page.draws++;
+}
+
+/** Panes and maps take the room that the window has. */
+function resize() {
+  const isWide = window.innerWidth > 900, above = document.querySelector('header').offsetHeight;
+  const isAlone = document.body.classList.contains('only-timeline');
+  const room = isAlone ? window.innerHeight : isWide ? window.innerHeight - above - (panes.length > 1 ? 76 : 54) :
+    window.innerHeight * 0.68;
+  const titles = panes.length > 1 ? panes.length * 28 : 0;
+  for (const pane of panes) {
+    const wanted = pane.heads + AXIS + pane.order.length * TALL_LANE;
+    pane.resize(Math.round(Math.max(150, Math.min(wanted, (Math.max(room, 380) - titles) / panes.length))));
+  }
+  const width = panes[0].width - panes[0].gutter, shown = time.width / time.scale,
+    isWhole = time.scale <= leastScale() * 1.001;
+  time.width = width;
+  time.scale = isWhole ? leastScale() : width / shown;
+  keepTime();
+  for (const pane of panes) pane.keep();
+  for (const map of maps) map.resize();
+}
+
+function revealMoment(pane, moment, mote) {
+  const x = (moment + 0.5 - time.begin) * time.scale;
+  if (x < 20 || x > time.width - 20) {
+    time.begin = moment + 0.5 - time.width / 2 / time.scale;
+    keepTime();
+  }
+  pane.reveal(mote);
+}
+
+/** Zooms so that what is selected fills the view. */
+function zoomToChosen() {
+  if (!chosen || chosen.line < 0 && chosen.k < 0) return;
+  const {pane, k, line} = chosen, {run} = pane;
+  let first = line >= 0 ? run.at[line] : run.packetAt[k], last = first;
+  if (k >= 0) {
+    first = Math.min(first, run.packetAt[k]);
+    for (let c = run.copyStart[k]; c < run.copyStart[k + 1]; c++) last = Math.max(last, arrivalOf(run, k, c));
+  }
+  for (const [from, to] of chosen.bows) {
+    first = Math.min(first, run.at[from]);
+    last = Math.max(last, run.at[to]);
+  }
+  const more = Math.max(2, (last - first) * 0.5);
+  showTime(Math.floor(first - more), Math.ceil(last + more));
+  if (pane.lane < FULL_LANE) pane.zoomLanes(FULL_LANE * 1.3 / pane.lane);
+  pane.reveal(chosen.mote);
+  redraw();
+}
+
+function whole() {
+  time.scale = leastScale();
+  keepTime();
+  for (const pane of panes) pane.fit();
+}
+
+const DO = {
+  'zoom-in': () => zoomTime(1.5),
+  'zoom-out': () => zoomTime(1 / 1.5),
+  left: () => { time.begin -= time.width / time.scale * 0.2; },
+  right: () => { time.begin += time.width / time.scale * 0.2; },
+  up: () => panes.forEach(pane => { pane.top -= Math.max(40, pane.height * 0.2); }),
+  down: () => panes.forEach(pane => { pane.top += Math.max(40, pane.height * 0.2); }),
+  'page-up': () => panes.forEach(pane => { pane.top -= pane.height * 0.8; }),
+  'page-down': () => panes.forEach(pane => { pane.top += pane.height * 0.8; }),
+  taller: () => panes.forEach(pane => pane.zoomLanes(1.4)),
+  lower: () => panes.forEach(pane => pane.zoomLanes(1 / 1.4)),
+  whole,
+  begin: () => { time.begin = 0; },
+  end: () => { time.begin = time.end + 1 - time.width / time.scale; },
+  play: () => play.runs ? stopPlaying() : startPlaying(),
+  step: () => step(1),
+  back: () => step(-1),
+};
+
+function act(name) {
+  DO[name]();
+  keepTime();
+  for (const pane of panes) pane.keep();
+  redraw();
+}
+
+const KEYS = {
+  '+': 'zoom-in', '=': 'zoom-in', '-': 'zoom-out', '_': 'zoom-out', '0': 'whole', ArrowLeft: 'left',
+    ArrowRight: 'right',
+  ArrowUp: 'up', ArrowDown: 'down', PageUp: 'page-up', PageDown: 'page-down', Home: 'begin', End: 'end', t: 'taller',
+    T: 'taller',
+  l: 'lower', L: 'lower', ' ': 'play', '.': 'step', ',': 'back',
+};
+
+/** Keys: everywhere but in fields and on buttons, where they mean something else. */
+function onKey(event) {
+  if (event.ctrlKey || event.metaKey || event.altKey) return;
+  const there = event.target.closest ? event.target.closest('input, select, button, summary, #details, #matches') :
+    null;
+  const isTyping = there && !there.matches('button, #details, #matches');
+  if (isTyping && event.key !== 'Escape') return;
+  if (there && (event.key === ' ' || event.key === 'Enter' || event.key.startsWith('Arrow') ||
+    event.key.startsWith('Page'))) return;
+  const pane = panes.find(one => one.canvas === document.activeElement) || (chosen ? chosen.pane : panes[0]);
+  if (event.key === '[') walk(pane, -1);
+  else if (event.key === ']') walk(pane, 1);
+  else if (event.key === '{') walkLanes(pane, -1);
+  else if (event.key === '}') walkLanes(pane, 1);
+  else if (event.key === 'Enter') follow();
+  else if (event.key === 'f' || event.key === 'F') zoomToChosen();
+  else if (event.key === 'n' || event.key === 'N') goTo(search.at + 1);
+  else if (event.key === 'p' || event.key === 'P') goTo(search.at - 1);
+  else if (event.key === '/') document.getElementById('words').focus();
+  else if (event.key === 'Escape') {
+    if (isTyping) event.target.blur(); else selectNothing();
+  } else if (KEYS[event.key]) act(KEYS[event.key]); else return;
+  event.preventDefault();
+}
+
+/** Wheel: time; with Shift along it, with Ctrl the height of lanes; over the names up and down. */
+function onWheel(pane, event) {
+  event.preventDefault();
+  const by = event.deltaMode === 1 ? 30 : 1, dx = event.deltaX * by, dy = event.deltaY * by;
+  if (event.ctrlKey) pane.zoomLanes(Math.exp(-dy * 0.0015), event.offsetY);
+  else if (event.shiftKey || Math.abs(dx) > Math.abs(dy)) time.begin += (dx || dy) / time.scale;
+  else if (event.offsetX < pane.gutter) pane.top += dy;
+  else zoomTime(Math.exp(-dy * 0.0015), event.offsetX - pane.gutter);
+  keepTime();
+  pane.keep();
+  redraw();
+}
+
+/** A click: the nearest mark, else the nearest arrow, else the lane and the moment. */
+function onClick(pane, x, y) {
+  if (x < pane.gutter) {
+    const mote = pane.moteAt(y);
+    return mote >= 0 && chooseMote(pane, mote, false);
+  }
+  let best = 10, line = -1;
+  for (let i = 0; i < pane.hits.length; i += 3) {
+    const away = Math.hypot(pane.hits[i] - x, pane.hits[i + 1] - y);
+    if (away < best) {
+      best = away;
+      line = pane.hits[i + 2];
+    }
+  }
+  const arrow = arrowNear(pane, x, y, line >= 0 ? Math.min(3, best - 3) : 7);
+  if (arrow) return chooseCopy(pane, arrow.k, arrow.copy, false);
+  if (line >= 0) return chooseLine(pane, line, false);
+  const mote = pane.moteAt(y), moment = Math.floor(pane.moment(x));
+  if (mote >= 0 && pane.lane < SMALL_LANE) {
+    const [from, to] = linesInView(pane, mote), near = lowerBound(pane.run.at, moment, from, to);
+    if (near < to && (pane.run.at[near] - moment) * time.scale < 6) return chooseLine(pane, near, false);
+  }
+  setNow(moment);
+}
+
+function listenTo(pane) {
+  const {canvas} = pane;
+  let held = null;
+  canvas.addEventListener('wheel', event => onWheel(pane, event), {passive: false});
+  canvas.addEventListener('pointerdown', event => {
+    if (event.button) return;
+    held = {x: event.clientX, y: event.clientY, moved: false};
+    canvas.setPointerCapture(event.pointerId);
+    canvas.classList.add('held');
+  });
+  canvas.addEventListener('pointermove', event => {
+    if (!held) return;
+    const dx = event.clientX - held.x, dy = event.clientY - held.y;
+    if (!held.moved && Math.hypot(dx, dy) < 4) return;
+    Object.assign(held, {x: event.clientX, y: event.clientY, moved: true});
+    time.begin -= dx / time.scale;
+    pane.top -= dy;
+    keepTime();
+    pane.keep();
+    redraw();
+  });
+  canvas.addEventListener('pointerup', event => {
+    canvas.classList.remove('held');
+    if (held && !held.moved) onClick(pane, event.offsetX, event.offsetY);
+    held = null;
+  });
+  canvas.addEventListener('pointercancel', () => { held = null; });
+}
+
+function listen() {
+  document.addEventListener('keydown', onKey);
+  for (const button of document.querySelectorAll('[data-do]'))
+    button.addEventListener('click', () => act(button.dataset.do));
+  document.getElementById('search').addEventListener('submit', event => {
+    event.preventDefault();
+    find(document.getElementById('words').value);
+  });
+  document.getElementById('words').addEventListener('search', event => { if (!event.target.value) find(''); });
+  document.getElementById('found-next').addEventListener('click', () => goTo(search.at + 1));
+  document.getElementById('found-before').addEventListener('click', () => goTo(search.at - 1));
+  document.getElementById('arrows').addEventListener('change', redraw);
+  document.getElementById('now').addEventListener('change', event => {
+    stopPlaying();
+    setNow(Number(event.target.value) || 0);
+    followNow();
+  });
+  const refit = () => {
+    resize();
+    drawAll();
+  };
+  new ResizeObserver(refit).observe(document.querySelector('main'));
+  window.addEventListener('resize', refit);
+  window.matchMedia('(prefers-color-scheme: dark)').addEventListener('change', recolour);
+  window.addEventListener('beforeprint', () => recolour(true));
+  window.addEventListener('afterprint', () => recolour());
+  window.matchMedia('print').addEventListener('change', event => recolour(event.matches));
+}
+
+/** The colours changed: everything is drawn again, at once where the page is being printed. */
+function recolour(now) {
+  readColours();
+  sprites.clear();
+  drawLegend();
+  for (const map of maps) map.still = null;
+  if (now === true) drawAll(); else redraw();
+}
+
+/** The page opens on the whole run, or around the moment that it was made for. */
+function openAt(said) {
+  whole();
+  if (said.start === null) return;
+  showTime(Math.max(0, said.start - 15), Math.min(time.end, said.start + 45));
+  setNow(said.start);
+  if (said.mote !== null) {
+    for (const pane of panes) {
+      if (said.mote >= pane.order.length) continue;
+      if (pane.lane < FULL_LANE) pane.zoomLanes(FULL_LANE * 1.2 / pane.lane);
+      pane.reveal(said.mote);
+    }
+    chooseAt(said);
+  }
+}
+
+/** What the page's address asks for behind #: from, to, lane (a height), mote, line (its number), only=timeline. */
+function openAsAddressed() {
+  const wish = new URLSearchParams(location.hash.slice(1)), number = name => Number(wish.get(name)), pane = panes[0];
+  if (wish.get('only') === 'timeline') {
+    document.body.classList.add('only-timeline');
+    resize();
+    whole();
+  }
+  if (wish.has('from')) showTime(number('from'), wish.has('to') ? number('to') : number('from') + 60);
+  if (wish.has('lane')) pane.zoomLanes(number('lane') / pane.lane, AXIS);
+  if (wish.has('mote') && number('mote') < pane.order.length) pane.reveal(number('mote'));
+  if (wish.has('line')) {
+    const {traceStart} = pane.run, wanted = number('line');
+    let mote = 0;
+    while (mote + 1 < pane.order.length && traceStart[mote + 1] + mote + 2 < wanted) mote++;
+    const line = wanted - mote - 2;
+    if (line >= traceStart[mote] && line < traceStart[mote + 1]) chooseLine(pane, line, !wish.has('from'));
+  }
+}
+
+/** Selects the first line of the mote from the start on, in the first run that has one. */
+function chooseAt({start, mote}) {
+  for (const pane of panes) {
+    const {at, traceStart} = pane.run;
+    if (mote >= pane.order.length) continue;
+    const line = lowerBound(at, start, traceStart[mote], traceStart[mote + 1]);
+    if (line < traceStart[mote + 1] && at[line] === start) return chooseLine(pane, line, false);
+  }
+}
+
+function addPane(run, number, several) {
+  const box = element('div');
+  box.className = 'pane';
+  if (several) box.append(element('h2', run.name));
+  const canvas = element('canvas');
+  canvas.tabIndex = 0;
+  canvas.setAttribute('role', 'application');
+  canvas.setAttribute('aria-label',
+    `Timeline of ${run.name}: ${count(run.begins.length, 'mote')}, moments 0 to ${run.end}. ` +
+    '[ and ] choose a line, { and } another lane, Enter follows, plus and minus zoom, arrows pan.');
+  canvas.setAttribute('aria-describedby', 'drawn');
+  box.append(canvas);
+  document.getElementById('panes').append(box);
+  const pane = new Pane(run, number, box);
+  const mapBox = element('section');
+  mapBox.className = 'map';
+  document.getElementById('maps').append(mapBox);
+  panes.push(pane);
+  maps.push(new MapView(pane, mapBox, several));
+  listenTo(pane);
+}
+
+async function open() {
+  const said = JSON.parse(document.getElementById('said').textContent), runs = [], begin = performance.now();
+  readColours();
+  for (const [number, table] of said.runs.entries()) {
+    const run = new Run(table, await unpack(`run${number}`));
+    await breathe();
+    await indexRun(run);
+    runs.push(run);
+  }
+  time.end = Math.max(...runs.map(run => run.end));
+  runs.forEach((run, number) => addPane(run, number, runs.length > 1));
+  document.getElementById('about').textContent = runs.map(run => `${run.name}: ${count(run.begins.length, 'mote')}, ` +
+    `${count(run.end + 1, 'moment')}, ${count(run.packets, 'packet')}, ${count(run.count, 'line')}`).join('; ');
+  document.getElementById('now').max = time.end;
+  fillSpeeds();
+  drawLegend();
+  resize();
+  openAt(said);
+  openAsAddressed();
+  listen();
+  Object.assign(page, {opened: performance.now() - begin, ready: true});
+  drawAll();
+}
+
+/** For tests, and for a reader's console. */
+const page = {draws: 0, drawn: 0, ready: false, panes, time, play, search, chosen: () => chosen, redraw, drawAll,
+  find, act, setNow, count};
+window.motesim = page;
+open().catch(fault => {
+  const about = document.getElementById('about');
+  about.className = 'fault';
+  about.textContent = `This page can't be shown here: ${fault.message}`;
+  console.error(fault);
+});

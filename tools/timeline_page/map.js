@@ -1,0 +1,286 @@
+// The map of a run: motes at their places, who hears whom, what is lost where, and the packets that are on their way.
+const MOST_LINKS = 12000;
+
+/** Places along one axis, in which wide empty stretches are shortened. */
+function shortened(values, most) {
+  const sorted = [...new Set(values)].sort((a, b) => a - b), at = new Map();
+  let place = 0, isShort = false;
+  sorted.forEach((value, i) => {
+    const gap = i ? value - sorted[i - 1] : 0;
+    place += Math.min(gap, most);
+    isShort = isShort || gap > most;
+    at.set(value, place);
+  });
+  return [values.map(value => at.get(value)), isShort];
+}
+
+class MapView {
+  constructor(pane, box, several) {
+    this.pane = pane;
+    this.run = pane.run;
+    box.innerHTML = '<h2></h2><canvas></canvas><p></p>';
+    box.querySelector('h2').textContent = several ? `Map of ${this.run.name}` : 'Map';
+    this.canvas = box.querySelector('canvas');
+    this.said = box.querySelector('p');
+    this.context = this.canvas.getContext('2d');
+    this.zoom = 1;
+    this.dx = this.dy = 0;
+    this.layOut();
+    this.listen();
+  }
+
+  layOut() {
+    const {run} = this, motes = run.begins.length;
+    if (run.places) {
+      const most = run.range ? run.range * 1.6 : Infinity;
+      const [xs, shortX] = shortened(run.places.map(place => place[0]), most);
+      const [ys, shortY] = shortened(run.places.map(place => place[1]), most);
+      this.xs = xs;
+      this.ys = ys;
+      this.isShort = shortX || shortY;
+    } else {
+      this.xs = Array.from({length: motes}, (_, m) => Math.sin(m / motes * 2 * Math.PI));
+      this.ys = Array.from({length: motes}, (_, m) => -Math.cos(m / motes * 2 * Math.PI));
+    }
+    this.left = Math.min(...this.xs);
+    this.upper = Math.min(...this.ys);
+    this.spanX = Math.max(...this.xs) - this.left;
+    this.spanY = Math.max(...this.ys) - this.upper;
+    this.links = this.run.hearers.reduce((sum, list) => sum + list.length, 0) / 2;
+  }
+
+  resize() {
+    const dots = window.devicePixelRatio || 1, width = Math.max(120, this.canvas.parentElement.clientWidth - 24);
+    const ratio = this.spanX > 0 ? Math.min(1, Math.max(0.3, (this.spanY + this.spanX * 0.1) / this.spanX)) : 0.6;
+    this.width = width;
+    this.height = Math.round(Math.min(440, Math.max(110, width * ratio)));
+    this.canvas.style.height = this.height + 'px';
+    this.canvas.width = width * dots;
+    this.canvas.height = this.height * dots;
+    this.context.setTransform(dots, 0, 0, dots, 0, 0);
+    const room = 26;
+    this.fit = Math.min((width - 2 * room) / (this.spanX || 1), (this.height - 2 * room) / (this.spanY || 1));
+    if (!this.spanX && !this.spanY) this.fit = 1;
+    this.still = null;
+  }
+
+  x(m) { return this.width / 2 + this.dx + (this.xs[m] - this.left - this.spanX / 2) * this.fit * this.zoom; }
+  y(m) { return this.height / 2 + this.dy + (this.ys[m] - this.upper - this.spanY / 2) * this.fit * this.zoom; }
+
+  /** How large a mote is drawn: by the room that there is for each. */
+  get radius() {
+    const each = Math.sqrt((this.spanX * this.fit + 30) * (this.spanY * this.fit +
+      30) / this.run.begins.length) * this.zoom;
+    return Math.max(1.5, Math.min(12, each * 0.22));
+  }
+
+  /** Links and losses, which don't change with the moment, are kept as a picture. */
+  drawStill() {
+    const {run} = this, dots = window.devicePixelRatio || 1, canvas = document.createElement('canvas');
+    canvas.width = this.canvas.width;
+    canvas.height = this.canvas.height;
+    const c = canvas.getContext('2d');
+    c.scale(dots, dots);
+    if (this.links <= MOST_LINKS) {
+      c.beginPath();
+      run.hearers.forEach((list, s) => {
+        for (const r of list) {
+          if (r < s && run.places) continue;
+          c.moveTo(this.x(s), this.y(s));
+          c.lineTo(this.x(r), this.y(r));
+        }
+      });
+      stroke(c, colours.edge, this.radius > 4 ? 1.2 : 0.8);
+    }
+    for (const [s, r, every] of run.losses) if (run.hearers[s] && run.hearers[s].includes(r))
+      this.drawLoss(c, s, r, every);
+    if (run.troubled.size <= 3000) for (const [link, sum] of run.troubled)
+      this.drawTrouble(c, link >>> 16, link & 65535, sum);
+    return canvas;
+  }
+
+  /** The half of a link at the receiver that loses packets, dashed, with a cross and which of them. */
+  drawLoss(c, s, r, every) {
+    const x0 = this.x(s), y0 = this.y(s), x1 = this.x(r), y1 = this.y(r), mx = (x0 + x1) / 2, my = (y0 + y1) / 2;
+    path(c, [mx, my, x1, y1]);
+    stroke(c, colours.paper, 3);
+    c.setLineDash([4, 3]);
+    path(c, [mx, my, x1, y1]);
+    stroke(c, colours.trouble, 1.8);
+    c.setLineDash([]);
+    if (Math.hypot(x1 - x0, y1 - y0) < 20) return;
+    cross(c, mx, my, 4, colours.trouble, 1.8);
+    if (Math.hypot(x1 - x0, y1 - y0) > 44) {
+      c.font = '11px system-ui, "DejaVu Sans", sans-serif';
+      c.fillStyle = colours.trouble;
+      c.textAlign = 'center';
+      c.textBaseline = 'bottom';
+      c.fillText(every === 1 ? 'all' : `1 in ${every}`, mx, my - 6);
+    }
+  }
+
+  /** A star at the receiver's end of a link on which copies collided, a box where they found no room. */
+  drawTrouble(c, s, r, [, collided, ring]) {
+    const dx = this.x(s) - this.x(r), dy = this.y(s) - this.y(r), long = Math.hypot(dx, dy);
+    if (long < 4 * this.radius || long < 16 || !collided && !ring) return;
+    const away = this.radius + 7, x = this.x(r) + dx / long * away, y = this.y(r) + dy / long * away;
+    if (collided) star(c, x, y, 4, colours.trouble, 1.4); else FORM.lost(c, x, y, 3);
+  }
+
+  draw() {
+    const {context: c, run} = this;
+    if (!this.still) this.still = this.drawStill();
+    c.fillStyle = colours.paper;
+    c.fillRect(0, 0, this.width, this.height);
+    c.drawImage(this.still, 0, 0, this.width, this.height);
+    const flying = this.drawFlying();
+    for (let m = 0; m < run.begins.length; m++) this.drawMote(m);
+    if (chosen && chosen.pane === this.pane && chosen.k >= 0) this.drawChosenPacket();
+    const parts = [`Moment ${Math.floor(play.now)}: ${flying} on the way.`];
+    if (this.links > MOST_LINKS) parts.push(`${count(this.links, 'link')} not drawn.`);
+    if (this.isShort) parts.push('Wide empty stretches are shortened.');
+    if (!run.places) parts.push('The places are not known without a scenario.');
+    this.said.textContent = parts.join(' ');
+  }
+
+  drawChosenPacket() {
+    const {context: c, run} = this, k = chosen.k, s = run.packetSender[k];
+    for (let copy = run.copyStart[k]; copy < run.copyStart[k + 1]; copy++) {
+      const r = run.copyTo[copy], dx = this.x(r) - this.x(s), dy = this.y(r) - this.y(s),
+        long = Math.hypot(dx, dy) || 1;
+      const cut = this.radius / long;
+      drawArrow(c, this.x(s) + dx * cut, this.y(s) + dy * cut, this.x(r) - dx * cut, this.y(r) - dy * cut,
+        run.copyFate[copy],
+        copy === chosen.copy ? 3 : 2, 4);
+    }
+  }
+
+  /** A dot for each copy between its sender and its receiver; a cross where it was lost on the way. */
+  drawFlying() {
+    const {context: c, run} = this, now = play.now;
+    const last = lowerBound(run.packetAt, now + 1e-9);
+    let flying = 0;
+    for (let k = lowerBound(run.packetAt, now - run.longest); k < last; k++) {
+      const s = run.packetSender[k];
+      for (let copy = run.copyStart[k]; copy < run.copyStart[k + 1]; copy++) {
+        const arrives = arrivalOf(run, k, copy), share = (now - run.packetAt[k]) / (arrives - run.packetAt[k]);
+        if (share >= 1) continue;
+        flying++;
+        if (flying > 4000) continue;
+        const r = run.copyTo[copy], fate = run.copyFate[copy], isLost = fate === MEDIUM && share > 0.55;
+        const way = isLost ? 0.6 : 0.12 + 0.76 * share, x = this.x(s) + (this.x(r) - this.x(s)) * way;
+        const y = this.y(s) + (this.y(r) - this.y(s)) * way, size = Math.max(2, this.radius * 0.4);
+        if (isLost) cross(c, x, y, size, colours.trouble, 2); else {
+          c.beginPath();
+          c.arc(x, y, size, 0, 7);
+          fill(c, fate === HANDED ? colours.send : colours.trouble);
+        }
+      }
+    }
+    return count(flying, 'copy').replace('copys', 'copies');
+  }
+
+  drawMote(m) {
+    const {context: c, run} = this, x = this.x(m), y = this.y(m), r = this.radius;
+    if (x < -20 || y < -20 || x > this.width + 20 || y > this.height + 20) return;
+    const now = Math.floor(play.now), from = Math.min(now, Math.floor(play.before) + 1), {at, traceStart, kind} = run;
+    const a = lowerBound(at, from, traceStart[m], traceStart[m + 1]),
+      b = lowerBound(at, now + 1, a, traceStart[m + 1]);
+    let sends = false, hears = false, trouble = null, silent = false;
+    for (let i = a; i < b; i++) {
+      if (kind[i] === SEND) sends = true;
+      else if (kind[i] === RECV) hears = true;
+      else if (kind[i] === COLLIDE || kind[i] === LOST || kind[i] === DEAF) trouble = KINDS[kind[i]];
+      else if (run.silent[i]) silent = true;
+    }
+    const isChosen = chosen && chosen.pane === this.pane && chosen.mote === m, isHalted = run.haltAt[m] <= now;
+    c.beginPath();
+    c.arc(x, y, r, 0, 7);
+    fill(c, sends ? colours.send : isHalted ? colours.grid : hears ? colours.recv : colours.run);
+    stroke(c, isChosen ? colours.mark : colours.quiet, isChosen ? 3 : 1);
+    if (sends) {
+      c.beginPath();
+      c.arc(x, y, r + 4, 0, 7);
+      stroke(c, colours.send, 1.5);
+    }
+    if (silent && !sends && r >= 4) FORM.silent(c, x + r, y - r, Math.max(3, r * 0.45));
+    if (trouble && r >= 3) FORM[trouble](c, x - r, y - r, Math.max(3.5, r * 0.5));
+    if (isHalted) cross(c, x, y, r * 0.7, colours.trouble, 1.6);
+    if (r >= 7 && !isHalted) {
+      c.font = `${r >= 10 ? 11 : 9.5}px system-ui, "DejaVu Sans", sans-serif`;
+      c.textAlign = 'center';
+      c.textBaseline = 'middle';
+      c.fillStyle = sends || hears ? colours.paper : colours.ink;
+      c.fillText(String(m), x, y + 0.5);
+    }
+    if (r >= 5) this.drawPrinted(m, now, x, y + r + 2);
+  }
+
+  /** What a mote printed last. */
+  drawPrinted(m, now, x, y) {
+    const prints = this.run.prints[m];
+    let low = 0, high = prints.length;
+    while (low < high) {
+      const middle = (low + high) >>> 1;
+      if (this.run.at[prints[middle]] <= now) low = middle + 1; else high = middle;
+    }
+    if (!low) return;
+    const c = this.context;
+    c.font = '10.5px system-ui, "DejaVu Sans", sans-serif';
+    c.textAlign = 'center';
+    c.textBaseline = 'top';
+    c.fillStyle = colours.print;
+    c.fillText(String(this.run.w[prints[low - 1]]), x, y);
+  }
+
+  moteNear(x, y) {
+    let best = Math.max(12, this.radius + 4), found = -1;
+    for (let m = 0; m < this.run.begins.length; m++) {
+      const away = Math.hypot(x - this.x(m), y - this.y(m));
+      if (away < best) {
+        best = away;
+        found = m;
+      }
+    }
+    return found;
+  }
+
+  listen() {
+    this.canvas.setAttribute('role', 'img');
+    this.canvas.setAttribute('aria-label',
+      'Map of the motes: who hears whom, and the packets on their way at the moment that is played');
+    this.canvas.addEventListener('wheel', event => {
+      event.preventDefault();
+      const factor = Math.exp(-event.deltaY * 0.0015), zoom = Math.max(1, Math.min(40, this.zoom * factor)),
+        by = zoom / this.zoom;
+      const x = event.offsetX - this.width / 2, y = event.offsetY - this.height / 2;
+      this.dx = zoom === 1 ? 0 : x + (this.dx - x) * by;
+      this.dy = zoom === 1 ? 0 : y + (this.dy - y) * by;
+      this.zoom = zoom;
+      this.still = null;
+      redraw();
+    }, {passive: false});
+    let held = null;
+    this.canvas.addEventListener('pointerdown', event => {
+      held = {x: event.offsetX, y: event.offsetY, moved: false};
+      this.canvas.setPointerCapture(event.pointerId);
+    });
+    this.canvas.addEventListener('pointermove', event => {
+      if (!held) return;
+      const dx = event.offsetX - held.x, dy = event.offsetY - held.y;
+      if (!held.moved && Math.hypot(dx, dy) < 4) return;
+      Object.assign(held, {x: event.offsetX, y: event.offsetY, moved: true});
+      this.dx += dx;
+      this.dy += dy;
+      this.still = null;
+      redraw();
+    });
+    this.canvas.addEventListener('pointerup', event => {
+      if (held && !held.moved) {
+        const mote = this.moteNear(event.offsetX, event.offsetY);
+        if (mote >= 0) chooseMote(this.pane, mote, true);
+      }
+      held = null;
+    });
+  }
+}

@@ -1,0 +1,70 @@
+// The moment that the map shows, and playing from moment to moment.
+const play = {now: 0, before: -1, runs: false, last: 0};
+const SPEEDS = [0.5, 1, 2, 5, 10, 20, 50, 100, 200, 500, 1000, 5000, 20000];
+
+function setNow(moment) {
+  play.now = Math.max(0, Math.min(time.end, moment));
+  play.before = play.now - 1;
+  document.getElementById('now').value = Math.floor(play.now);
+  redraw();
+}
+
+/** The next moment, or the one before, at which anything happens in a run. */
+function nextBusy(by) {
+  let moment = Math.floor(play.now) + by;
+  while (moment >= 0 && moment <= time.end && !panes.some(pane => pane.run.busy[moment])) moment += by;
+  return Math.max(0, Math.min(time.end, moment));
+}
+
+function step(by) {
+  stopPlaying();
+  setNow(nextBusy(by));
+  followNow();
+}
+
+/** Keeps the moment that is played in view. */
+function followNow() {
+  const x = (play.now - time.begin) * time.scale;
+  if (x < 0 || x > time.width * 0.92) {
+    time.begin = play.now - time.width * 0.1 / time.scale;
+    keepTime();
+  }
+}
+
+function stopPlaying() {
+  play.runs = false;
+  document.getElementById('play').textContent = 'Play';
+}
+
+function startPlaying() {
+  if (play.now >= time.end) setNow(0);
+  play.runs = true;
+  play.last = performance.now();
+  document.getElementById('play').textContent = 'Stop';
+  requestAnimationFrame(playOn);
+}
+
+function playOn(now) {
+  if (!play.runs) return;
+  const past = Math.min(200, Math.max(0, now - play.last)) / 1000;
+  play.last = now;
+  play.before = play.now;
+  play.now = Math.min(time.end, play.now + past * Number(document.getElementById('speed').value));
+  document.getElementById('now').value = Math.floor(play.now);
+  followNow();
+  redraw();
+  if (play.now >= time.end) stopPlaying(); else requestAnimationFrame(playOn);
+}
+
+/** Speeds to choose from; at first the whole run takes some 25 seconds. */
+function fillSpeeds() {
+  const box = document.getElementById('speed'), wish = (time.end + 1) / 25;
+  let best = SPEEDS[0];
+  for (const speed of SPEEDS) {
+    if (speed <= wish) best = speed;
+    const option = element('option', speed < 1 ? '1 moment in 2 s' : `${count(speed, 'moment')} a second`);
+    option.value = speed;
+    box.append(option);
+  }
+  box.value = best;
+}
