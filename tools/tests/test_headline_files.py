@@ -24,20 +24,20 @@ def load(name):
 headline = load('headline_files')
 
 FILES = {
-    'crates.txt': '# Each crate.\nlow: std\nother:\nmotesim may_wait=1: low\n',
-    'crates/motesim/specs/Simulation.antt': '''-- What a simulation answers. It has a second sentence.
+    'crates.txt': '# Each crate.\nlow: std\nother:\nsimulation may_wait=1: low\n',
+    'crates/simulation/specs/Simulation.antt': '''-- What a simulation answers. It has a second sentence.
 use Rattle.std.specs.Prelude.{List}
-use Rattle.motesim.specs.Input.{IsText}
+use Rattle.simulation.specs.Input.{IsText}
 use Rattle.low.specs.Ways.Far.{far}
 ''',
-    'crates/motesim/specs/Input.antt': '''-- What is read, over
+    'crates/simulation/specs/Input.antt': '''-- What is read, over
 -- two lines.
-use Rattle.motesim.specs.Ends as ends
-use Rattle.motesim.specs.declared.input.InputError.TheVariants as fault
+use Rattle.simulation.specs.Ends as ends
+use Rattle.simulation.specs.declared.input.InputError.TheVariants as fault
 ''',
-    'crates/motesim/specs/Ends.antt': '-- The ends.\n',
-    'crates/motesim/specs/Apart.antt': '-- Nobody asks for this.\nuse Rattle.motesim.specs.Simulation.{Answer}\n',
-    'crates/motesim/src/input.rt': '',
+    'crates/simulation/specs/Ends.antt': '-- The ends.\n',
+    'crates/simulation/specs/Apart.antt': '-- Nobody asks for this.\nuse Rattle.simulation.specs.Simulation.{Answer}\n',
+    'crates/simulation/src/input.rt': '',
     'crates/low/specs/Ways/Far.antt': '''-- How far it is.
 pub use Rattle.low.specs.Near.{near}
 use Rattle.low.specs.declared.place.TheConstants.{MOST}
@@ -51,7 +51,7 @@ LIST = '''
 In all 5 files with 14 lines, in 2 crates.
 All `specs/` together have 6 files.
 
-**[crates/motesim/specs](../crates/motesim/specs)**: 3 files, 9 lines
+**[crates/simulation/specs](../crates/simulation/specs)**: 3 files, 9 lines
 
 - `Simulation.antt` (4): What a simulation answers.
 - `Input.antt` (4): What is read, over two lines.
@@ -64,7 +64,7 @@ All `specs/` together have 6 files.
 
 **Types of sources** that these files name: 1, in 2 sources
 
-- `motesim/src/input.rt`: `InputError`
+- `simulation/src/input.rt`: `InputError`
 - `low/src/place.rt`: its constants
 
 **Libraries** of the kit that these files import: `lib`, `std`.
