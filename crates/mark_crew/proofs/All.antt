@@ -1,7 +1,7 @@
 -- What all workers did, worker by worker.
 use Rattle.std.proofs.Common.{ℕ, ◌<◌, List, Option}
 use Rattle.std.specs.List.{AllByRecursion as Each}
-use Rattle.net_scenario.specs.Net.{NetTold}
+use Rattle.mote_net.specs.Net.{NetTold}
 use Rattle.copy_inbox.specs.declared.items.Item.{Item}
 use Rattle.copy_inbox.specs.Items.{part, BeginsWith}
 use Rattle.copy_inbox.specs.Handles.{SenderView}

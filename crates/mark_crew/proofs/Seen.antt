@@ -4,7 +4,7 @@ use Rattle.std.specs.List.{filter, slice_get, AllByRecursion as Each}
 use Rattle.std.specs.Option.{option_map_or}
 use Rattle.std.proofs.lemmas.Bool.{le-ltb, false≢true}
 use Rattle.radio_packet.specs.declared.copy.RadioCopy.{RadioCopy}
-use Rattle.net_scenario.specs.Net.{NetTold}
+use Rattle.mote_net.specs.Net.{NetTold}
 use Rattle.window_law.specs.Windows.{is_from_sender, is_within}
 use Rattle.window_law.proofs.Lists.{filter_filter, every_filter}
 use Rattle.worker_cut.specs.Crossed.{is_own, is_to}

@@ -1,7 +1,7 @@
 -- All workers at the end of a run with marks.
 use Rattle.std.specs.Prelude.{ℕ, ◌≡◌, suc, ◌<◌, ◌≤◌, List, length, slice_index_or, Option, None}
 use Rattle.std.specs.List.{AllByRecursion as Each}
-use Rattle.net_scenario.specs.Net.{NetTold}
+use Rattle.mote_net.specs.Net.{NetTold}
 use Rattle.window_law.specs.System.{RunsForward}
 use Rattle.net_agenda.specs.NetSystem.{system_of}
 use Rattle.copy_inbox.specs.Items.{part, BeginsWith}

@@ -3,7 +3,7 @@ use Rattle.std.proofs.Common.{◌≡◌, ℕ, Some, refl}
 use Rattle.process_kernel.specs.Mote.{unbooted}
 use Rattle.mote_node.specs.Node.{new_node}
 use Rattle.mote_node.specs.Wake.{wake_of}
-use Rattle.net_scenario.specs.Net.{NetTold}
+use Rattle.mote_net.specs.Net.{NetTold}
 use Rattle.net_agenda.specs.NetSystem.{first_node_in}
 
 pub new_wakes : (n : NetTold) (k : ℕ) → wake_of (first_node_in n k) ≡ Some 0

@@ -9,7 +9,7 @@ use Rattle.radio_packet.specs.declared.copy.RadioCopy.{RadioCopy}
 use Rattle.radio_medium.specs.Medium.{medium_fault}
 use Rattle.radio_medium.proofs.Copies.{copies_later}
 use Rattle.radio_medium.proofs.Delays.{lookahead-above}
-use Rattle.net_scenario.specs.Net.{MoteTold, NetTold}
+use Rattle.mote_net.specs.Net.{MoteTold, NetTold}
 use Rattle.window_law.specs.System.{RunsForward}
 use Rattle.window_law.proofs.Lists.{every_weaker}
 use Rattle.net_agenda.specs.Buckets.{arrival_of}

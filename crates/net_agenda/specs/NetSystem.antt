@@ -8,7 +8,7 @@ use Rattle.mote_node.specs.Turn.{turn_of}
 use Rattle.mote_node.specs.Turn as node
 use Rattle.radio_packet.specs.declared.copy.RadioCopy.{RadioCopy}
 use Rattle.radio_medium.specs.Medium.{copies, lookahead}
-use Rattle.net_scenario.specs.Net.{MoteTold, NetTold}
+use Rattle.mote_net.specs.Net.{MoteTold, NetTold}
 use Rattle.window_law.specs.System.{System, Turned}
 use Rattle.net_agenda.specs.Buckets.{arrival_of}
 

@@ -2,11 +2,11 @@
 
 ghost use Rattle.std.specs.Prelude.{◌≡◌, ◌<◌, length, Some, IfOk};
 ghost use Rattle.mote_node.specs.Public.{node_in};
-ghost use Rattle.net_scenario.specs.Net.{net_of};
+ghost use Rattle.mote_net.specs.Net.{net_of};
 ghost use Rattle.net_agenda.specs.NetSystem.{first_node_in, tree_at};
 
 use mote_node::Mote;
-use net_scenario::Net;
+use mote_net::Net;
 use std::alloc::{AllocError, Global};
 
 /// The mote with this number, before its first turn.

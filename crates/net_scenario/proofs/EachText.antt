@@ -16,8 +16,10 @@ use Rattle.net_scenario.specs.declared.error.TableFault.TheVariants as table
 use Rattle.net_scenario.specs.Limits.{longest_text}
 use Rattle.net_scenario.specs.Errors.{of_table}
 use Rattle.net_scenario.specs.Document.{table_at, document_fault}
-use Rattle.net_scenario.specs.Programs.{ProgramText, NamedTree, texts_of, AllRead, FirstRefused}
-use Rattle.net_scenario.specs.Net.{NetTold, net_told, radio_told}
+use Rattle.mote_net.specs.Programs.{NamedTree}
+use Rattle.net_scenario.specs.Programs.{ProgramText, texts_of, AllRead, FirstRefused}
+use Rattle.mote_net.specs.Net.{NetTold}
+use Rattle.net_scenario.specs.Net.{net_told, radio_told}
 use Rattle.net_scenario.specs.Reading.{Document, document_of, faultless, HasTrees, TellsNet, TellsFault}
 use Rattle.net_scenario.specs.Laws.{NetOrFault}
 

@@ -11,12 +11,13 @@ use Rattle.std.proofs.lemmas.Map.Text.{is_eq-slice_cmp}
 use Rattle.std.proofs.lemmas.Slice.Eq.{bytes_eq-Decides}
 use Rattle.toml.specs.Data.{Data, string, integer, float, boolean, datetime, array, table, Items, no_items, item, Members, no_members, member, get_member, as_array}
 use Rattle.net_scenario.specs.declared.version.Version.{Version}
-use Rattle.net_scenario.specs.Limits.{shortest_queue, longest_queue}
+use Rattle.mote_net.specs.Limits.{shortest_queue, longest_queue}
 use Rattle.net_scenario.specs.Names.{values_any, queue_length, lengths_fault}
 use Rattle.net_scenario.specs.declared.rules.Kind.TheVariants.{Tables}
 use Rattle.net_scenario.specs.Rules.{items_len, are_tables, has_kind, is_in_range, needed}
 use Rattle.net_scenario.specs.Document.{HoldsNumber, integer_at, first_some, tables_in, items_at, program_fault}
-use Rattle.net_scenario.specs.Programs.{NamedTree, texts_of, AllRead}
+use Rattle.mote_net.specs.Programs.{NamedTree}
+use Rattle.net_scenario.specs.Programs.{texts_of, AllRead}
 use Rattle.net_scenario.specs.Net.{unread_fault}
 use Rattle.net_scenario.proofs.Each.{or_none}
 use Rattle.net_scenario.proofs.Keeps.{Keeps, passed, neither, both, le_of}

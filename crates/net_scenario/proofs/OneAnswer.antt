@@ -8,7 +8,8 @@ use Rattle.program_tree.specs.declared.error.ReadErrorKind.{ReadErrorKind}
 use Rattle.radio_medium.specs.declared.error.MediumError.{MediumError}
 use Rattle.net_scenario.specs.declared.error.ScenarioError.{ScenarioError}
 use Rattle.net_scenario.specs.declared.error.ScenarioError.TheVariants.{Toml, MissingKey, UnknownKey, WrongKind, OutOfRange, UnknownProgram, Program, Medium, Memory}
-use Rattle.net_scenario.specs.Programs.{ProgramText, NamedTree, AllRead, FirstRefused}
+use Rattle.mote_net.specs.Programs.{NamedTree}
+use Rattle.net_scenario.specs.Programs.{ProgramText, AllRead, FirstRefused}
 use Rattle.net_scenario.specs.Net.{net_told}
 use Rattle.net_scenario.specs.Reading.{Document, document_of, IsNetOf, IsRefusedProgramOf, IsMediumFaultOf, TellsFault}
 use Rattle.net_scenario.specs.Laws.{ProgramLaws, OneNet, NeverBoth, OneFault}

@@ -2,10 +2,11 @@
 use Rattle.std.proofs.Common.{◌≡◌, map, List, [], ◌∷◌, ◌++◌, refl, sym, ◌∙◌, append_assoc, append-nil, Ok, Err}
 use Rattle.std.proofs.lemmas.List.{map-append}
 use Rattle.program_tree.specs.Reading.{IsTreeOf}
-use Rattle.net_scenario.specs.declared.programs.NamedProgram.{NamedProgram}
+use Rattle.mote_net.specs.declared.programs.NamedProgram.{NamedProgram}
 use Rattle.net_scenario.specs.declared.error.ScenarioError.{ScenarioError}
 use Rattle.net_scenario.specs.declared.error.ScenarioError.TheVariants.{Toml, MissingKey, UnknownKey, WrongKind, OutOfRange, UnknownProgram, Program, Medium, Memory}
-use Rattle.net_scenario.specs.Programs.{ProgramText, NamedTree, named_tree, AllRead, ReadsProgram, ReadsPrograms}
+use Rattle.mote_net.specs.Programs.{NamedTree, named_tree}
+use Rattle.net_scenario.specs.Programs.{ProgramText, AllRead, ReadsProgram, ReadsPrograms}
 
 -- the programs read so far are the front of all, and the rest is to come
 pub record ReadSoFar (texts : List ProgramText) (trees : List NamedTree) (rest : List ProgramText) : Type 0 where

@@ -5,8 +5,9 @@ use Rattle.std.proofs.lemmas.List.{length-map}
 use Rattle.toml.specs.Data.{Members}
 use Rattle.toml.specs.Parse.{parse_document}
 use Rattle.radio_medium.specs.Medium.{Radio, MakesMedium}
-use Rattle.net_scenario.specs.declared.net.Mote.{Mote}
-use Rattle.net_scenario.specs.Limits.{longest_text, fewest_motes, most_motes}
+use Rattle.mote_net.specs.declared.net.Mote.{Mote}
+use Rattle.mote_net.specs.Limits.{fewest_motes, most_motes}
+use Rattle.net_scenario.specs.Limits.{longest_text}
 use Rattle.net_scenario.specs.Rules.{top_rules}
 use Rattle.net_scenario.proofs.Each.{Faultless}
 use Rattle.net_scenario.proofs.Keeps.{keeps_all}
@@ -15,12 +16,14 @@ use Rattle.radio_medium.specs.declared.error.MediumError.{MediumError}
 use Rattle.radio_medium.specs.declared.error.MediumError.TheVariants as medium
 use Rattle.net_scenario.specs.declared.error.ScenarioError.{ScenarioError}
 use Rattle.net_scenario.specs.declared.error.ScenarioError.TheVariants.{Toml, MissingKey, UnknownKey, WrongKind, OutOfRange, UnknownProgram, Program, Medium, Memory}
-use Rattle.net_scenario.specs.declared.net.Net.{Net}
-use Rattle.net_scenario.specs.declared.programs.NamedProgram.{NamedProgram}
+use Rattle.mote_net.specs.declared.net.Net.{Net}
+use Rattle.mote_net.specs.declared.programs.NamedProgram.{NamedProgram}
 use Rattle.net_scenario.specs.Errors.{of_medium}
 use Rattle.net_scenario.specs.Document.{version_of, natural, integer_at, natural_at, boolean_at, table_at, tables_at, document_fault}
-use Rattle.net_scenario.specs.Programs.{named_tree, texts_of, AllRead, ReadsPrograms}
-use Rattle.net_scenario.specs.Net.{MoteTold, mote_of_table, mote_told, place_told, radio_told}
+use Rattle.mote_net.specs.Programs.{named_tree}
+use Rattle.net_scenario.specs.Programs.{texts_of, AllRead, ReadsPrograms}
+use Rattle.mote_net.specs.Net.{MoteTold, mote_told}
+use Rattle.net_scenario.specs.Net.{mote_of_table, place_told, radio_told}
 use Rattle.net_scenario.specs.Reading.{document_of, HasTrees, IsNetOf, MakesRadio, MakesNet, Answers}
 
 -- a document makes what its text tells

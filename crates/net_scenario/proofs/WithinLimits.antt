@@ -5,7 +5,7 @@ use Rattle.toml.specs.Data.{Members}
 use Rattle.radio_medium.specs.Medium.{IsWithinLimits}
 use Rattle.radio_medium.specs.declared.place.Place.{Place}
 use Rattle.net_scenario.specs.Document.{version_of, natural, integer_at, table_at, tables_at, first_some}
-use Rattle.net_scenario.specs.Limits.{latest_end}
+use Rattle.mote_net.specs.Limits.{latest_end}
 use Rattle.net_scenario.specs.Net.{place_told, loss_of, radio_told}
 use Rattle.net_scenario.specs.Rules.{keys_fault, top_rules, medium_rules, mote_rules}
 use Rattle.net_scenario.specs.declared.version.Version.TheVariants.{First}

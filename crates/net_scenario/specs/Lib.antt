@@ -3,7 +3,6 @@ pub mod Document
 pub mod Errors
 pub mod Laws
 pub mod Limits
-pub mod Motes
 pub mod Names
 pub mod Net
 pub mod Programs

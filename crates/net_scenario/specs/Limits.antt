@@ -5,12 +5,6 @@ use Rattle.std.specs.Prelude.{ℕ}
 abbrev pub longest_text : ℕ
 longest_text = 1048576
 
-abbrev pub fewest_motes : ℕ
-fewest_motes = 1
-
-abbrev pub most_motes : ℕ
-most_motes = 1000
-
 abbrev pub most_programs : ℕ
 most_programs = 100
 
@@ -20,10 +14,6 @@ most_losses = 10000
 -- bytes of a program's name
 abbrev pub longest_name : ℕ
 longest_name = 32
-
--- the last moment at which turns are taken
-abbrev pub latest_end : ℕ
-latest_end = 1000000
 
 -- of a coordinate, to either side of 0
 abbrev pub farthest : ℕ
@@ -39,13 +29,6 @@ largest_base_or_per = 1000000
 -- of each number of a loss
 abbrev pub largest_in_loss : ℕ
 largest_in_loss = 1000000
-
--- events in the queue of a mote
-abbrev pub shortest_queue : ℕ
-shortest_queue = 1
-
-abbrev pub longest_queue : ℕ
-longest_queue = 128
 
 -- where the scenario doesn't say
 abbrev pub usual_queue : ℕ

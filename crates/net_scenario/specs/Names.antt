@@ -6,7 +6,8 @@ use Rattle.net_scenario.specs.declared.error.TableFault.{TableFault}
 use Rattle.net_scenario.specs.declared.error.TableFault.TheVariants.{UnknownKey, WrongKind, OutOfRange}
 use Rattle.net_scenario.specs.declared.rules.Kind.{Kind}
 use Rattle.net_scenario.specs.declared.rules.Kind.TheVariants.{Number}
-use Rattle.net_scenario.specs.Limits.{most_programs, longest_name, shortest_queue, longest_queue}
+use Rattle.mote_net.specs.Limits.{shortest_queue, longest_queue}
+use Rattle.net_scenario.specs.Limits.{most_programs, longest_name}
 use Rattle.net_scenario.specs.Rules.{has_kind, is_in_range, members_any}
 
 abbrev pub is_between : ℕ → ℕ → ℕ → Bool

@@ -1,40 +1,17 @@
--- A net: what its motes and its medium are.
-use Rattle.std.specs.Prelude.{ℕ, Bool, List, [], map, codes, slice_get, Option, Some, None, option_map, unwrap_or, find, is_none, if◌then◌else◌}
+-- The net of a document: what its motes and its medium are.
+use Rattle.std.specs.Prelude.{ℕ, List, map, codes, Option, Some, None, unwrap_or, find, is_none, if◌then◌else◌}
 use Rattle.std.specs.Option.{option_map_or}
 use Rattle.std.specs.Str.{bytes_eq}
 use Rattle.toml.specs.Data.{Members}
-use Rattle.program_tree.specs.Code.{Tree}
 use Rattle.radio_medium.specs.Medium.{Radio}
 use Rattle.radio_medium.specs.declared.place.Place.{Place}
 use Rattle.radio_medium.specs.declared.place.Loss.{Loss}
 use Rattle.net_scenario.specs.declared.error.TableFault.{TableFault}
 use Rattle.net_scenario.specs.declared.error.TableFault.TheVariants.{UnknownProgram}
-use Rattle.net_scenario.specs.declared.net.Mote.{Mote}
-use Rattle.net_scenario.specs.declared.net.Net.{Net}
-use Rattle.net_scenario.specs.declared.programs.NamedProgram.{NamedProgram}
+use Rattle.mote_net.specs.Net.{MoteTold, NetTold, no_program}
 use Rattle.net_scenario.specs.Limits.{usual_queue}
 use Rattle.net_scenario.specs.Document.{natural, number_at, natural_at, integer_at, boolean_at, text_at, table_at, tables_at}
-use Rattle.net_scenario.specs.Programs.{NamedTree, named_tree}
-
--- a mote: its program's name and tree, and how many events its queue holds
-pub record MoteTold : Type 0 where
-  pub program : List ℕ
-  pub tree : Tree
-  pub queue : ℕ
-
--- a net: its last moment, whether packets collide, its medium with the places of the motes, and its motes in order
-pub record NetTold : Type 0 where
-  pub end : ℕ
-  pub collide : Bool
-  pub radio : Radio
-  pub motes : List MoteTold
-
--- stands for a program that isn't there, which no net has
-abbrev pub no_program : NamedTree
-no_program = record {
-  name = [];
-  tree = record { events = []; semaphores = []; counts = []; processes = []; autostart = []; receiver = None; codes = []; timers = [] };
-}
+use Rattle.mote_net.specs.Programs.{NamedTree}
 
 -- the program of a name
 abbrev pub program_named : List NamedTree → List ℕ → NamedTree
@@ -74,22 +51,6 @@ net_told top trees = record {
   collide = boolean_at (codes "collide") (table_at (codes "medium") top);
   radio = radio_told top;
   motes = map (mote_of_table (table_at (codes "queue") top) trees) (tables_at (codes "mote") top);
-}
-
--- the program at an index
-abbrev pub program_at : List NamedProgram → ℕ → NamedTree
-program_at programs i = unwrap_or (option_map named_tree (slice_get programs i)) no_program
-
-abbrev pub mote_told : List NamedProgram → Mote → MoteTold
-mote_told programs m = record { program = (program_at programs m.program).name; tree = (program_at programs m.program).tree; queue = m.queue }
-
--- what a `Net` means
-abbrev pub net_of : Net → NetTold
-net_of n = record {
-  end = n.end;
-  collide = n.collide;
-  radio = n.medium;
-  motes = map (mote_told n.programs.items) n.motes.items;
 }
 
 -- a mote's program has to be among those read

@@ -5,11 +5,11 @@ use Rattle.std.specs.List.Sorted.{IsStrictlySortedBy}
 use Rattle.std.specs.Ordering.{nat_cmp}
 use Rattle.std.specs.declared.alloc.Global.{Global}
 use Rattle.toml.specs.Data.{Members, no_members, member, as_str}
-use Rattle.program_tree.specs.Code.{Tree}
 use Rattle.program_tree.specs.Program.{tree_of}
 use Rattle.program_tree.specs.Reading.{IsTreeOf, IsToldOf}
 use Rattle.program_tree.specs.declared.error.ReadError.{ReadError}
-use Rattle.net_scenario.specs.declared.programs.NamedProgram.{NamedProgram}
+use Rattle.mote_net.specs.declared.programs.NamedProgram.{NamedProgram}
+use Rattle.mote_net.specs.Programs.{NamedTree, named_tree}
 use Rattle.net_scenario.specs.declared.error.ScenarioError.{ScenarioError}
 use Rattle.net_scenario.specs.declared.error.ScenarioError.TheVariants.{Program, Memory}
 
@@ -17,14 +17,6 @@ use Rattle.net_scenario.specs.declared.error.ScenarioError.TheVariants.{Program,
 pub record ProgramText : Type 0 where
   pub name : List ℕ
   pub text : List ℕ
-
--- a program that was read: its name and its tree
-pub record NamedTree : Type 0 where
-  pub name : List ℕ
-  pub tree : Tree
-
-abbrev pub named_tree : NamedProgram → NamedTree
-named_tree p = record { name = p.name; tree = tree_of p.program }
 
 -- the programs of a table, whose members stand in byte order of their names
 abbrev pub texts_of : Members → List ProgramText

@@ -12,12 +12,14 @@ use Rattle.radio_medium.specs.Medium.{Radio, medium_fault}
 use Rattle.radio_medium.specs.declared.error.MediumError.{MediumError}
 use Rattle.net_scenario.specs.declared.error.ScenarioError.{ScenarioError}
 use Rattle.net_scenario.specs.declared.error.ScenarioError.TheVariants.{Toml, OutOfRange, Program, Medium, Memory}
-use Rattle.net_scenario.specs.declared.net.Net.{Net}
+use Rattle.mote_net.specs.declared.net.Net.{Net}
 use Rattle.net_scenario.specs.Limits.{longest_text}
 use Rattle.net_scenario.specs.Errors.{of_table}
 use Rattle.net_scenario.specs.Document.{table_at, document_fault}
-use Rattle.net_scenario.specs.Programs.{NamedTree, texts_of, AllRead, FirstRefused}
-use Rattle.net_scenario.specs.Net.{NetTold, net_told, net_of, radio_told}
+use Rattle.mote_net.specs.Programs.{NamedTree}
+use Rattle.net_scenario.specs.Programs.{texts_of, AllRead, FirstRefused}
+use Rattle.mote_net.specs.Net.{NetTold, net_of}
+use Rattle.net_scenario.specs.Net.{net_told, radio_told}
 
 -- a table without fault, or its first fault
 abbrev pub faultless : Option Members → Result Members ScenarioError

@@ -12,7 +12,8 @@ use Rattle.net_scenario.specs.declared.rules.Kind.TheVariants.{Number, Boolean, 
 use Rattle.net_scenario.specs.declared.rules.Key.{Key}
 use Rattle.net_scenario.specs.declared.error.TableFault.{TableFault}
 use Rattle.net_scenario.specs.declared.error.TableFault.TheVariants.{MissingKey, UnknownKey, WrongKind, OutOfRange}
-use Rattle.net_scenario.specs.Limits.{fewest_motes, most_motes, most_losses, latest_end, farthest, widest_range, largest_base_or_per, largest_in_loss}
+use Rattle.mote_net.specs.Limits.{fewest_motes, most_motes, latest_end}
+use Rattle.net_scenario.specs.Limits.{most_losses, farthest, widest_range, largest_base_or_per, largest_in_loss}
 
 -- one key of a table, and the version in which it came
 pub record Rule : Type 0 where

@@ -1,7 +1,7 @@
 //! Why a scenario was refused.
 ghost use Rattle.std.specs.Prelude.{◌≡◌};
 
-use crate::program_name::ProgramName;
+use mote_net::ProgramName;
 use program_tree::ReadError;
 use radio_medium::MediumError;
 use std::alloc::{AllocError, AllocFailed};

@@ -20,9 +20,7 @@ pub mod laws;
 mod limits;
 mod motes;
 mod names;
-mod net;
 mod places;
-mod program_name;
 mod programs;
 mod queues;
 mod read;
@@ -32,6 +30,5 @@ mod version;
 
 pub use error::ScenarioError;
 pub use limits::LONGEST_TEXT;
-pub use net::Net;
-pub use program_name::ProgramName;
+pub use mote_net::{Net, ProgramName};
 pub use read::read_scenario;

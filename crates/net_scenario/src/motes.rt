@@ -5,14 +5,15 @@ ghost use Rattle.std.specs.Str.{bytes_eq};
 ghost use Rattle.toml.specs.View.{items_view, table_view};
 ghost use Rattle.net_scenario.specs.Document.{first_some, members_of, tables_in};
 ghost use Rattle.net_scenario.specs.Names.{lengths_fault};
-ghost use Rattle.net_scenario.specs.Programs.{AreInOrder, named_tree};
-ghost use Rattle.net_scenario.specs.Motes.{is_mote_of};
-ghost use Rattle.net_scenario.specs.Net.{mote_of_table, mote_told, unread_fault};
+ghost use Rattle.mote_net.specs.Programs.{named_tree};
+ghost use Rattle.net_scenario.specs.Programs.{AreInOrder};
+ghost use Rattle.mote_net.specs.Motes.{is_mote_of};
+ghost use Rattle.mote_net.specs.Net.{mote_told};
+ghost use Rattle.net_scenario.specs.Net.{mote_of_table, unread_fault};
 
-use crate::net::Mote;
-use crate::programs::NamedProgram;
 use crate::queues::queue_of;
 use crate::values::text_at;
+use mote_net::{Mote, NamedProgram};
 use std::alloc::{AllocError, Global};
 use toml::{Table, Value};
 

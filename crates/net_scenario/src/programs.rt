@@ -4,19 +4,12 @@ ghost use Rattle.toml.specs.View.{table_view};
 ghost use Rattle.net_scenario.specs.Programs.{texts_of, AreInOrder, ReadsProgram, ReadsPrograms};
 
 use crate::error::ScenarioError;
-use crate::program_name::ProgramName;
 use crate::values::text_of;
+use mote_net::{NamedProgram, ProgramName};
 use mote_program::read;
-use program_tree::{Program, ReadErrorKind};
+use program_tree::ReadErrorKind;
 use std::alloc::Global;
 use toml::Table;
-
-/// A program with the name that motes call it by.
-#[derive(Drop)]
-pub struct NamedProgram {
-    pub name: ProgramName,
-    pub program: Program,
-}
 
 /// The program of a text, or the fault told of it.
 fn read_program(alloc: Global, name: &str, text: &str) -> Result<NamedProgram, ScenarioError>

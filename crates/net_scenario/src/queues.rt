@@ -5,7 +5,7 @@ ghost use Rattle.std.specs.Map.{keys_of, values_of};
 ghost use Rattle.toml.specs.Data.{get_member};
 ghost use Rattle.toml.specs.View.{view, table_view};
 ghost use Rattle.net_scenario.specs.Document.{members_of, queue_fault};
-ghost use Rattle.net_scenario.specs.Limits.{shortest_queue, longest_queue};
+ghost use Rattle.mote_net.specs.Limits.{shortest_queue, longest_queue};
 ghost use Rattle.net_scenario.specs.Names.{queue_length, lengths_fault};
 ghost use Rattle.net_scenario.specs.Net.{queue_of};
 ghost use Rattle.net_scenario.specs.Rules.{Checks, has_kind, is_in_range};

@@ -1,13 +1,13 @@
 //! The run of a net by workers, as the options name them.
 ghost use Rattle.std.specs.Prelude.{◌≡◌, ◌<◌, length, vec_len, IfOk, Some, None};
-ghost use Rattle.net_scenario.specs.Net.{net_of};
+ghost use Rattle.mote_net.specs.Net.{net_of};
 ghost use Rattle.window_workers.specs.Fits.{cut_fault};
 ghost use Rattle.simulation.specs.Cuts.{of_kind};
 ghost use Rattle.simulation.specs.Simulation.{MayRun, RunsWith};
 
 use crate::options::CutKind;
 use net_report::Report;
-use net_scenario::Net;
+use mote_net::Net;
 use std::alloc::{AllocError, Global};
 use std::random::RandomSource;
 use std::sync::Wait;

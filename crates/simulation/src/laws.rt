@@ -1,8 +1,8 @@
 //! Laws of the definitions. Nothing runs here: each function's contract is a law.
-ghost use Rattle.simulation.specs.Laws.{OneReport};
+ghost use Rattle.simulation.specs.Laws.{OneReport, ScenarioHasReport};
 
 use net_scenario::laws::at_most_one_net;
-use window_workers::laws::report_is_one;
+use window_workers::laws::{report_is_one, report_is_there};
 
 /// The same scenario, the same bytes, on one thread or by any number of workers: a text has at most one report.
 pub fn at_most_one_report()
@@ -10,4 +10,11 @@ pub fn at_most_one_report()
 {
     at_most_one_net();
     report_is_one();
+}
+
+/// The net that a scenario's text tells has a report.
+pub fn scenario_has_report()
+    ensures { ScenarioHasReport }
+{
+    report_is_there();
 }

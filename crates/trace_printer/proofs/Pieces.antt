@@ -3,7 +3,7 @@ use Rattle.std.proofs.Common.{◌≡◌, ◌+◌, ◌<◌, ◌≤◌, append_ass
 use Rattle.std.specs.List.{flat_map}
 use Rattle.program_tree.specs.Code.{Tree}
 use Rattle.process_kernel.specs.declared.line.Line.{Line}
-use Rattle.net_scenario.specs.Net.{MoteTold}
+use Rattle.mote_net.specs.Net.{MoteTold}
 use Rattle.net_report.specs.Report.{lines_in}
 use Rattle.trace_printer.specs.ReportText.{line_text, mote_text, motes_text}
 use Rattle.trace_printer.specs.Words.{line_of}

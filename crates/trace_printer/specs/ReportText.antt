@@ -4,7 +4,7 @@ use Rattle.std.specs.Prelude.{ℕ, ◌+◌, List, [], ◌∷◌, ◌++◌, codes
 use Rattle.std.specs.List.{flat_map}
 use Rattle.program_tree.specs.Code.{Tree}
 use Rattle.process_kernel.specs.declared.line.Line.{Line}
-use Rattle.net_scenario.specs.Net.{MoteTold, NetTold}
+use Rattle.mote_net.specs.Net.{MoteTold, NetTold}
 use Rattle.net_report.specs.Report.{Packet, ReportTold}
 use Rattle.trace_printer.specs.Words.{line_of, words_of, fate_word}
 

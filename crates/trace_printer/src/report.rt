@@ -2,7 +2,7 @@
 ghost use Rattle.std.specs.Prelude.{◌≡◌, ◌++◌, ◌∷◌, [], length, map, vec_len, codes, decimal};
 ghost use Rattle.std.specs.List.{flat_map};
 ghost use Rattle.program_tree.specs.Program.{tree_of};
-ghost use Rattle.net_scenario.specs.Net.{net_of};
+ghost use Rattle.mote_net.specs.Net.{net_of};
 ghost use Rattle.net_report.specs.Report.{lines_in, told_line, report_of};
 ghost use Rattle.trace_printer.specs.Output.{Writes};
 ghost use Rattle.trace_printer.specs.Page.{Prints};
@@ -14,7 +14,7 @@ use crate::lines::{put_head, put_left, put_medium, put_packet, put_trace_line};
 use crate::output::WriteFault;
 use crate::page::Page;
 use net_report::{LogLine, Report};
-use net_scenario::Net;
+use mote_net::Net;
 use process_kernel::Line;
 use program_tree::Program;
 use std::alloc::Global;

@@ -4,7 +4,7 @@ ghost use Rattle.std.specs.Prelude.{◌≡◌, ◌≤◌, ◌<◌, ◌^◌, true
 ghost use Rattle.std.specs.List.{list_all};
 ghost use Rattle.mote_node.specs.declared.mote.MoteError.TheVariants.{Memory};
 ghost use Rattle.futures.specs.Task.{Keeps};
-ghost use Rattle.net_scenario.specs.Net.{net_of};
+ghost use Rattle.mote_net.specs.Net.{net_of};
 ghost use Rattle.window_run.specs.declared.out.WindowOut.{WindowOut as OutOfCode};
 ghost use Rattle.window_run.specs.Shares.{AreGoingOn, AreInNet, GivesList, ResidentGives, ResidentGoesOn};
 ghost use Rattle.window_run.specs.Slots.{SlotsGive, SlotsGoOn, WorkerMayAnswer, is_done};
@@ -19,7 +19,7 @@ use futures::Future;
 use futures::executor::block_on;
 use futures::task::{Context, Poll};
 use mote_node::MoteError;
-use net_scenario::Net;
+use mote_net::Net;
 use std::alloc::{AllocError, AllocGlobal, Global};
 use std::mem;
 use std::random::RandomSource;

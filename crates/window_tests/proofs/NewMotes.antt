@@ -6,7 +6,7 @@ use Rattle.mote_node.specs.declared.mote.Mote.{Mote}
 use Rattle.mote_node.specs.Node.{new_node}
 use Rattle.mote_node.specs.Public.{node_in}
 use Rattle.radio_packet.specs.declared.copy.RadioCopy.{RadioCopy}
-use Rattle.net_scenario.specs.Net.{MoteTold}
+use Rattle.mote_net.specs.Net.{MoteTold}
 use Rattle.window_run.specs.Window.{opened}
 use Rattle.window_run.specs.Turns.{CanGoOn}
 

@@ -8,7 +8,7 @@ use Rattle.std.proofs.lemmas.List.Elements.{All-from_recursion}
 use Rattle.process_kernel.specs.declared.line.Line.{Line}
 use Rattle.kernel_laws.specs.Going.{IsInOrder}
 use Rattle.radio_medium.specs.Medium.{medium_fault}
-use Rattle.net_scenario.specs.Net.{NetTold}
+use Rattle.mote_net.specs.Net.{NetTold}
 use Rattle.net_agenda.specs.NetSystem.{system_of}
 use Rattle.net_agenda.proofs.Systems.{system_is}
 use Rattle.window_law.specs.Agenda.{up_to}

@@ -11,7 +11,7 @@ use Rattle.radio_packet.specs.declared.sent.Sent.{Sent}
 use Rattle.radio_packet.specs.declared.fate.Fate.{Fate}
 use Rattle.radio_packet.specs.declared.copy.RadioCopy.{RadioCopy}
 use Rattle.radio_medium.specs.Medium.{Radio, copies, copy_of, fates}
-use Rattle.net_scenario.specs.Net.{NetTold}
+use Rattle.mote_net.specs.Net.{NetTold}
 use Rattle.window_law.specs.System.{System}
 use Rattle.window_law.specs.Agenda.{Item, Wake, Packet, moment_of, comes_at, is_left, packets, wake_items, up_to}
 use Rattle.window_law.proofs.Agenda.{packets_append, packets_map, packets_wakes}

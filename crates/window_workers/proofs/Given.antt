@@ -7,7 +7,7 @@ use Rattle.std.proofs.lemmas.Bool.Decides.{nat_tests}
 use Rattle.std.proofs.lemmas.List.Elements.{filter-append, All-from_recursion, recursion_from_All}
 use Rattle.std.proofs.lemmas.List.Sorted.{IsPermutation-refl, IsPermutation-sym, IsPermutation-trans, IsPermutation-cons, IsPermutation-middle, IsPermutation-append_left, IsPermutation-append_right, All-permutation}
 use Rattle.radio_packet.specs.declared.copy.RadioCopy.{RadioCopy}
-use Rattle.net_scenario.specs.Net.{NetTold}
+use Rattle.mote_net.specs.Net.{NetTold}
 use Rattle.window_law.specs.System.{System}
 use Rattle.window_law.specs.Agenda.{Item, Wake, Packet, moment_of, comes_at, is_left, packets, up_to}
 use Rattle.window_law.specs.Order.{in_order}

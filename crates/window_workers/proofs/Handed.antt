@@ -6,7 +6,7 @@ use Rattle.kernel_laws.specs.Going.{GoesWith}
 use Rattle.kernel_laws.proofs.Motes.{in_order}
 use Rattle.mote_laws.proofs.Turns.{turn_keeps, new_goes}
 use Rattle.mote_node.specs.Node.{Node}
-use Rattle.net_scenario.specs.Net.{NetTold}
+use Rattle.mote_net.specs.Net.{NetTold}
 use Rattle.net_agenda.specs.NetSystem.{system_of, mote_at}
 use Rattle.window_law.specs.NetStep.{NetState, Run, Done, Turn, boot, turn_at}
 use Rattle.window_workers.specs.Laws.{TracesHandOn}

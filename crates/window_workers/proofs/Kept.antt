@@ -10,7 +10,7 @@ use Rattle.radio_packet.specs.declared.copy.RadioCopy.{RadioCopy}
 use Rattle.mote_node.specs.Node.{Node}
 use Rattle.mote_node.specs.Turn.{turn_of}
 use Rattle.mote_node.specs.Wake.{wake_of}
-use Rattle.net_scenario.specs.Net.{NetTold}
+use Rattle.mote_net.specs.Net.{NetTold}
 use Rattle.window_law.specs.System.{Turned, RunsForward}
 use Rattle.window_law.specs.Agenda.{Item, Packet, mote_of, comes_at, is_wake_of, is_left, wake_items}
 use Rattle.window_law.proofs.Agenda.{no_wake_in_packets, own_wake, other_wake}

@@ -12,7 +12,6 @@ pub mod OnTime
 pub mod Pairs
 pub mod Reached
 pub mod Reports
-pub mod Scenarios
 pub mod SentOut
 pub mod Stamped
 pub mod Stamps

@@ -10,7 +10,7 @@ use Rattle.mote_node.specs.declared.mote.Mote.{Mote}
 use Rattle.mote_node.specs.Node.{Node, new_node, is_past}
 use Rattle.mote_node.specs.Public.{node_in}
 use Rattle.mote_node.specs.Turn.{turn_of}
-use Rattle.net_scenario.specs.Net.{NetTold}
+use Rattle.mote_net.specs.Net.{NetTold}
 use Rattle.window_law.specs.System.{Turned, IsCopyOf, RunsForward, IsLater}
 use Rattle.window_law.specs.Agenda.{Item, Packet, moment_of, mote_of, comes_at, is_left, is_from, wake_items, IsLeast}
 use Rattle.window_law.specs.NetStep.{NetState, boot, put, stamped, turned_at, turn_at}

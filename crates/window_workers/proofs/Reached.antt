@@ -5,7 +5,7 @@ use Rattle.std.proofs.lemmas.Bool.{lt-ltb, eqb-true, and_parts}
 use Rattle.std.proofs.lemmas.Bool.Decides.{nat_tests}
 use Rattle.process_kernel.specs.declared.line.Line.{Line}
 use Rattle.mote_node.specs.Node.{Node}
-use Rattle.net_scenario.specs.Net.{NetTold}
+use Rattle.mote_net.specs.Net.{NetTold}
 use Rattle.window_workers.specs.declared.engine.Engine.{Engine}
 use Rattle.window_law.specs.System.{RunsForward}
 use Rattle.window_law.specs.Agenda.{Wake, moment_of, mote_of, comes_at, wake_items, IsLeast, up_to}

@@ -8,7 +8,7 @@ use Rattle.radio_packet.specs.declared.sent.Sent.{Sent}
 use Rattle.kernel_laws.specs.Stamps.{PacketsBear}
 use Rattle.mote_laws.proofs.Stamps.{turns_stamp, new_is}
 use Rattle.mote_node.specs.Node.{Node}
-use Rattle.net_scenario.specs.Net.{NetTold}
+use Rattle.mote_net.specs.Net.{NetTold}
 use Rattle.window_law.specs.NetStep.{NetState, Run, Done, Turn, boot, stamped, sends_of, turned_at, turn_at}
 use Rattle.net_agenda.specs.NetSystem.{system_of, mote_at}
 use Rattle.window_workers.specs.Stamps.{AreStamped, SendsAreStamped}

@@ -15,7 +15,7 @@ use Rattle.mote_laws.proofs.Stamps.{turns_stamp, new_is}
 use Rattle.mote_node.specs.Node.{Node}
 use Rattle.mote_node.proofs.WakeLaws.{wakes_later}
 use Rattle.radio_medium.proofs.Copies.{copies_later}
-use Rattle.net_scenario.specs.Net.{NetTold}
+use Rattle.mote_net.specs.Net.{NetTold}
 use Rattle.window_law.specs.System.{Turned, IsLater}
 use Rattle.window_law.specs.Agenda.{Item, Packet, moment_of, mote_of, comes_at, is_left, is_from, wake_items, IsLeast, up_to}
 use Rattle.net_agenda.specs.NetSystem.{system_of, mote_at}

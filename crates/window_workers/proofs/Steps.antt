@@ -17,7 +17,7 @@ use Rattle.mote_node.specs.Turn as node
 use Rattle.mote_node.specs.Turn.{turn_of}
 use Rattle.mote_node.specs.Wake.{wake_of}
 use Rattle.radio_medium.specs.Medium.{copies}
-use Rattle.net_scenario.specs.Net.{NetTold}
+use Rattle.mote_net.specs.Net.{NetTold}
 use Rattle.net_report.specs.Report.{told_line}
 use Rattle.window_workers.specs.declared.engine.Engine.{Engine}
 use Rattle.window_law.specs.Agenda.{Item, Packet, comes_at, is_wake_of, is_left, wake_items}

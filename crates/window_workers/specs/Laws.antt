@@ -8,8 +8,7 @@ use Rattle.kernel_laws.specs.Going.{IsInOrder}
 use Rattle.mote_node.specs.Node.{Node}
 use Rattle.radio_packet.specs.declared.copy.RadioCopy.{RadioCopy}
 use Rattle.radio_medium.specs.Medium.{medium_fault}
-use Rattle.net_scenario.specs.Net.{NetTold}
-use Rattle.net_scenario.specs.Reading.{TellsNet}
+use Rattle.mote_net.specs.Net.{NetTold}
 use Rattle.window_law.specs.System.{System, RunsForward}
 use Rattle.window_law.specs.Order.{is_sooner}
 use Rattle.window_law.specs.Agenda.{Item, is_wake_of, up_to}
@@ -33,10 +32,6 @@ NetsRunForward = (n : NetTold) → medium_fault n.radio ≡ None → length n.ra
 -- so it has a report
 abbrev pub ReportIsThere : Type 0
 ReportIsThere = (n : NetTold) → medium_fault n.radio ≡ None → length n.radio.places ≡ length n.motes → (r : ReportTold) × IsReportOf n r
-
--- and so has the net of each scenario's text
-abbrev pub ScenarioHasReport : Type 0
-ScenarioHasReport = (text : List ℕ) (n : NetTold) → TellsNet text n → (r : ReportTold) × IsReportOf n r
 
 -- the packets that the motes sent, sorted by moment, sender and number
 pub record IsMediumLog (n : NetTold) (motes : (number : ℕ) → LoneMote Node Line) (log : List Sent) : Type 0 where

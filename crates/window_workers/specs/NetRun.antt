@@ -4,7 +4,7 @@ use Rattle.process_kernel.specs.declared.line.Line.{Line}
 use Rattle.radio_packet.specs.declared.sent.Sent.{Sent}
 use Rattle.mote_node.specs.Node.{Node}
 use Rattle.radio_medium.specs.Medium.{Radio, fates}
-use Rattle.net_scenario.specs.Net.{NetTold}
+use Rattle.mote_net.specs.Net.{NetTold}
 use Rattle.window_law.specs.Agenda.{packets, up_to}
 use Rattle.window_law.specs.NetStep.{NetState, Run, boot}
 use Rattle.net_agenda.specs.NetSystem.{system_of}

@@ -6,7 +6,7 @@ use Rattle.std.specs.declared.alloc.Global.{Global}
 use Rattle.process_kernel.specs.declared.line.Line.{Line}
 use Rattle.radio_packet.specs.declared.sent.Sent.{Sent}
 use Rattle.radio_packet.specs.declared.copy.RadioCopy.{RadioCopy}
-use Rattle.net_scenario.specs.Net.{NetTold}
+use Rattle.mote_net.specs.Net.{NetTold}
 use Rattle.window_law.specs.Order.{is_sooner}
 use Rattle.worker_share.specs.declared.share.Share.{Share}
 use Rattle.worker_share.specs.declared.share.Ended.{Ended}

@@ -4,7 +4,7 @@ use Rattle.std.specs.List.{filter}
 use Rattle.radio_packet.specs.declared.sent.Sent.{Sent}
 use Rattle.kernel_laws.specs.Stamps.{AreNumberedFrom}
 use Rattle.mote_laws.specs.Stamps.{NeverGoBack}
-use Rattle.net_scenario.specs.Net.{NetTold}
+use Rattle.mote_net.specs.Net.{NetTold}
 use Rattle.net_report.specs.Report.{ReportTold}
 use Rattle.window_law.specs.System.{System}
 use Rattle.window_law.specs.NetStep.{NetState, Run, Done, Turn, sends_of, turned_at}

@@ -10,7 +10,7 @@ use Rattle.mote_node.specs.Node.{Node}
 use Rattle.mote_node.specs.Public.{node_in, turn_told}
 use Rattle.mote_node.specs.Turn.{turn_of}
 use Rattle.mote_node.specs.Wake.{wake_of}
-use Rattle.net_scenario.specs.Net.{NetTold}
+use Rattle.mote_net.specs.Net.{NetTold}
 use Rattle.net_report.specs.Report.{told_line}
 use Rattle.window_workers.specs.declared.engine.Engine.{Engine}
 use Rattle.window_law.specs.Agenda.{mote_of, is_wake_of, wake_items}

@@ -1,7 +1,7 @@
 //! Laws of the run of a net. Each is the contract of a function that does nothing, or no more than to ask for a length.
 
 ghost use Rattle.window_workers.specs.Counted.{CopiesAreGiven, CopiesComeInTime, FatesTellLeft, LateCopiesStay, LeftIsCounted, TurnsAreGivenAll};
-ghost use Rattle.window_workers.specs.Laws.{AlwaysOneWake, BucketsHoldItems, NetsRunForward, ReportIsOne, ReportIsThere, ScenarioHasReport, TracesHandOn, WakesAlwaysDiffer, WindowsCommuteInNets};
+ghost use Rattle.window_workers.specs.Laws.{AlwaysOneWake, BucketsHoldItems, NetsRunForward, ReportIsOne, ReportIsThere, TracesHandOn, WakesAlwaysDiffer, WindowsCommuteInNets};
 ghost use Rattle.window_workers.specs.Stamps.{LogCountsUp, SendsAreStamped, TracesNeverGoBack};
 
 use net_agenda::Agenda;
@@ -12,11 +12,10 @@ pub fn report_is_one()
 {}
 
 /// A net whose medium is without fault and has a place for each mote, as in every `Net`, has a report: its wakes and copies come
-/// later than the turns that make them. So the net that a scenario's text tells has one.
+/// later than the turns that make them.
 pub fn report_is_there()
     ensures forward { NetsRunForward }
     ensures there { ReportIsThere }
-    ensures scenario { ScenarioHasReport }
 {}
 
 /// Windows commute. Cut 0 to end + 1 at any rising bounds whose steps are at most the lookahead, and run each mote alone through

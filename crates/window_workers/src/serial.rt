@@ -2,7 +2,7 @@
 
 ghost use Rattle.std.specs.Prelude.{◌≡◌, ◌<◌, length, vec_len, All, IfOk, OnOk, IfErr};
 ghost use Rattle.kernel_laws.specs.Going.{IsInOrder};
-ghost use Rattle.net_scenario.specs.Net.{net_of};
+ghost use Rattle.mote_net.specs.Net.{net_of};
 ghost use Rattle.net_agenda.specs.NetSystem.{system_of};
 ghost use Rattle.net_report.specs.Report.{report_of};
 ghost use Rattle.window_workers.specs.NetRun.{IsReportOf};
@@ -13,7 +13,7 @@ ghost use Rattle.window_workers.specs.Ended.{HasEnded};
 use crate::engine::Engine;
 use crate::error::RunError;
 use net_report::Report;
-use net_scenario::Net;
+use mote_net::Net;
 use std::alloc::{AllocError, Global};
 
 /// Takes turns until nothing is to come at or before the end.

@@ -3,7 +3,7 @@
 ghost use Rattle.std.specs.Prelude.{◌≡◌, suc, length, map, vec_len, All, None, IfOk, IfErr};
 ghost use Rattle.std.specs.List.{AllByRecursion as Each};
 ghost use Rattle.kernel_laws.specs.Going.{IsInOrder};
-ghost use Rattle.net_scenario.specs.Net.{net_of};
+ghost use Rattle.mote_net.specs.Net.{net_of};
 ghost use Rattle.copy_exchange.specs.Inboxes.{IsFresh, IsPlain, IsSettled};
 ghost use Rattle.worker_crew.specs.Crew.{IsAt};
 ghost use Rattle.net_report.specs.Report.{report_of};
@@ -19,7 +19,7 @@ use crate::traces::joined_traces;
 use copy_exchange::{make_inboxes, paired, parted};
 use copy_inbox::{Inbox, Taker};
 use net_report::Report;
-use net_scenario::Net;
+use mote_net::Net;
 use std::alloc::{AllocGlobal, Global};
 use std::random::RandomSource;
 use std::sync::Wait;

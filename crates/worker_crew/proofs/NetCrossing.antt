@@ -3,11 +3,11 @@ use denote.Hole.{as_row}
 use denote.Param.Send.{IsSync, sendable}
 use denote.Param.SendFields.{declared_sync}
 use denote.Struct.Field.{u32-field, bool-field}
-use Rattle.net_scenario.proofs.net.Mote.TheSendSync as mote
-use Rattle.net_scenario.proofs.program_name.ProgramName.TheSendSync as name
-use Rattle.net_scenario.specs.contracts.net.Mote as Mote
-use Rattle.net_scenario.specs.contracts.net.Net as Net
-use Rattle.net_scenario.specs.contracts.programs.NamedProgram as NamedProgram
+use Rattle.mote_net.proofs.net.Mote.TheSendSync as mote
+use Rattle.mote_net.proofs.program_name.ProgramName.TheSendSync as name
+use Rattle.mote_net.specs.contracts.net.Mote as Mote
+use Rattle.mote_net.specs.contracts.net.Net as Net
+use Rattle.mote_net.specs.contracts.programs.NamedProgram as NamedProgram
 use Rattle.radio_medium.proofs.medium.Medium.TheSendSync as medium
 use Rattle.std.proofs.Crossing.{Vec-sync}
 use Rattle.worker_crew.proofs.ProgramCrossing as programs

@@ -4,7 +4,7 @@ use Rattle.std.specs.List.{filter, zip, slice_get, range_with_len, AllZip, AllBy
 use Rattle.std.proofs.lemmas.List.Elements.{filter-append}
 use Rattle.std.proofs.lemmas.List.FromFn.{get_or-range_with_len}
 use Rattle.radio_packet.specs.declared.copy.RadioCopy.{RadioCopy}
-use Rattle.net_scenario.specs.Net.{NetTold}
+use Rattle.mote_net.specs.Net.{NetTold}
 use Rattle.window_law.specs.Windows.{WakesFrom, is_from_sender}
 use Rattle.window_law.proofs.Lists.{every_weaker, every_both}
 use Rattle.copy_inbox.specs.Items.{copies_of}

@@ -1,7 +1,7 @@
 -- The workers stand until the next window begins, and no window is longer than the lookahead.
 use Rattle.std.proofs.Common.{ℕ, ◌≡◌, ◌+◌, ◌≤◌, List, Option, Some, None, sym, subst, arith}
 use Rattle.std.proofs.Math.Nat.{le-min, min-le_left}
-use Rattle.net_scenario.specs.Net.{NetTold}
+use Rattle.mote_net.specs.Net.{NetTold}
 use Rattle.window_law.specs.System.{RunsForward}
 use Rattle.window_law.specs.Windows.{WakesFrom}
 use Rattle.net_agenda.specs.NetSystem.{system_of}

@@ -6,7 +6,7 @@ use Rattle.radio_packet.specs.declared.sent.Sent.{Sent}
 use Rattle.mote_node.specs.Node.{is_past}
 use Rattle.mote_node.specs.Wake.{wake_of}
 use Rattle.radio_packet.specs.declared.copy.RadioCopy.{RadioCopy}
-use Rattle.net_scenario.specs.Net.{NetTold}
+use Rattle.mote_net.specs.Net.{NetTold}
 use Rattle.window_law.specs.Agenda.{Item, wake_items}
 use Rattle.window_law.specs.Windows.{WakesFrom, copies_by}
 use Rattle.net_agenda.specs.NetSystem.{system_of}

@@ -3,7 +3,7 @@ use Rattle.std.proofs.Common.{◌≡◌, Bool, ℕ, zero, suc, ◌<◌, ltb, eqb
 use Rattle.std.specs.List.{filter, AllZip}
 use Rattle.std.proofs.lemmas.Bool.{cases_Bool, eq-eqb}
 use Rattle.radio_packet.specs.declared.copy.RadioCopy.{RadioCopy}
-use Rattle.net_scenario.specs.Net.{NetTold}
+use Rattle.mote_net.specs.Net.{NetTold}
 use Rattle.net_agenda.specs.NetSystem.{system_of}
 use Rattle.window_law.specs.System.{System}
 use Rattle.window_law.specs.Windows.{first_mote, copies_by, Last}

@@ -4,7 +4,7 @@ use Rattle.std.specs.List.{flat_map}
 use Rattle.process_kernel.specs.declared.line.Line.{Line}
 use Rattle.mote_node.specs.Node.{Node}
 use Rattle.radio_packet.specs.declared.copy.RadioCopy.{RadioCopy}
-use Rattle.net_scenario.specs.Net.{NetTold}
+use Rattle.mote_net.specs.Net.{NetTold}
 use Rattle.window_law.specs.System.{RunsForward}
 use Rattle.window_law.specs.Agenda.{Item, packets, up_to}
 use Rattle.window_law.specs.NetStep.{NetState, Run, boot}

@@ -1,7 +1,7 @@
 -- Laws of a window of all workers.
 use Rattle.std.specs.Prelude.{ℕ, ◌≡◌, ◌+◌, ◌<◌, ◌≤◌, List, map, Option, None}
 use Rattle.std.specs.List.{zip, AllZip}
-use Rattle.net_scenario.specs.Net.{NetTold}
+use Rattle.mote_net.specs.Net.{NetTold}
 use Rattle.window_law.specs.System.{RunsForward}
 use Rattle.window_law.specs.Windows.{WakesFrom}
 use Rattle.net_agenda.specs.NetSystem.{system_of}

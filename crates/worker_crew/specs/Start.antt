@@ -1,6 +1,6 @@
 -- The workers before the motes' first turns.
 use Rattle.std.specs.Prelude.{ℕ, ◌≡◌, ◌<◌, List, [], length, slice_index_or}
-use Rattle.net_scenario.specs.Net.{NetTold}
+use Rattle.mote_net.specs.Net.{NetTold}
 use Rattle.window_law.specs.Windows.{first_mote}
 use Rattle.net_agenda.specs.NetSystem.{system_of}
 use Rattle.worker_share.specs.declared.share.Share.{Share}

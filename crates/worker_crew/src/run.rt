@@ -1,8 +1,8 @@
 //! The run of all workers, window by window.
 
 ghost use Rattle.std.specs.Prelude.{◌≡◌, ◌+◌, ◌<◌, ◌≤◌, suc, length, IfOk};
-ghost use Rattle.net_scenario.specs.Limits.{latest_end};
-ghost use Rattle.net_scenario.specs.Net.{net_of};
+ghost use Rattle.mote_net.specs.Limits.{latest_end};
+ghost use Rattle.mote_net.specs.Net.{net_of};
 ghost use Rattle.net_agenda.specs.NetSystem.{system_of};
 ghost use Rattle.window_law.specs.System.{RunsForward};
 ghost use Rattle.std.specs.List.{AllByRecursion as Each};
@@ -12,7 +12,7 @@ ghost use Rattle.worker_crew.specs.Run.{BeginsAt, end_of_window, length_of_windo
 
 use crate::crew::Crew;
 use fork_join::Refused;
-use net_scenario::Net;
+use mote_net::Net;
 use std::alloc::{AllocGlobal, Global};
 use std::random::RandomSource;
 use std::sync::Wait;

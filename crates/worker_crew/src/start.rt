@@ -3,7 +3,7 @@
 ghost use Rattle.std.specs.Prelude.{◌≡◌, ◌≤◌, length, IfOk, IfErr};
 ghost use Rattle.std.specs.List.{AllZip};
 ghost use Rattle.fork_join.specs.declared.work.Refused.TheVariants.{Memory};
-ghost use Rattle.net_scenario.specs.Net.{net_of};
+ghost use Rattle.mote_net.specs.Net.{net_of};
 ghost use Rattle.copy_exchange.specs.Inboxes.{IsFresh};
 ghost use Rattle.worker_crew.specs.Crew.{IsAt};
 ghost use Rattle.worker_crew.specs.Start.{AreFirst};
@@ -12,7 +12,7 @@ ghost use Rattle.worker_crew.specs.Worker.{IsCut};
 use crate::crew::Crew;
 use copy_inbox::{Inbox, Taker};
 use fork_join::Refused;
-use net_scenario::Net;
+use mote_net::Net;
 use std::alloc::Global;
 use worker_share::Share;
 

@@ -2,7 +2,7 @@
 
 ghost use Rattle.std.specs.Prelude.{◌≡◌, ℕ, ◌+◌, ◌^◌, ◌<◌, ◌≤◌, length, map, IfOk};
 ghost use Rattle.std.specs.List.{AllByRecursion as Each, AllZip, zip};
-ghost use Rattle.net_scenario.specs.Net.{net_of};
+ghost use Rattle.mote_net.specs.Net.{net_of};
 ghost use Rattle.net_agenda.specs.NetSystem.{system_of};
 ghost use Rattle.window_law.specs.System.{RunsForward};
 ghost use Rattle.copy_exchange.specs.Inboxes.{IsPlain};
@@ -14,7 +14,7 @@ use crate::crew::{Crew, first_of_all};
 use crate::worker::{CrewWindow, Runner, Worker};
 use copy_exchange::{Courier, couriers, gathered};
 use fork_join::{Refused, fork_join};
-use net_scenario::Net;
+use mote_net::Net;
 use std::alloc::{AllocGlobal, Global};
 use std::random::RandomSource;
 use std::sync::Wait;

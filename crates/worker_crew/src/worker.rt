@@ -2,7 +2,7 @@
 
 ghost use Rattle.std.specs.Prelude.{ℕ, IfOk};
 ghost use Rattle.std.specs.Prelude.{◌≤◌, IfSome};
-ghost use Rattle.net_scenario.specs.Net.{net_of};
+ghost use Rattle.mote_net.specs.Net.{net_of};
 ghost use Rattle.radio_packet.specs.declared.copy.RadioCopy.{RadioCopy};
 ghost use Rattle.window_law.specs.Windows.{WakesFrom};
 ghost use Rattle.worker_crew.specs.Worker.{IsReady, RunsWorker, IsFirstOf, IsNotBefore};
@@ -10,7 +10,7 @@ ghost use Rattle.worker_crew.specs.Worker.{IsReady, RunsWorker, IsFirstOf, IsNot
 use copy_exchange::Courier;
 use copy_inbox::Inbox;
 use fork_join::{Refused, Work};
-use net_scenario::Net;
+use mote_net::Net;
 use radio_packet::RadioCopy;
 use std::random::RandomSource;
 use std::sync::Wait;

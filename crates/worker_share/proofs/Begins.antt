@@ -10,7 +10,7 @@ use Rattle.std.proofs.lemmas.Option.{slice_get_cases}
 use Rattle.process_kernel.specs.declared.line.Line.{Line}
 use Rattle.mote_node.specs.Node.{is_past}
 use Rattle.mote_node.specs.Wake.{wake_of}
-use Rattle.net_scenario.specs.Net.{NetTold}
+use Rattle.mote_net.specs.Net.{NetTold}
 use Rattle.window_law.specs.Agenda.{Wake, packets, is_wake_of, wake_items, mote_of, up_to}
 use Rattle.window_law.specs.Windows.{first_mote, is_from_sender, is_sent_by}
 use Rattle.window_law.proofs.Agenda.{first_wakes, packets_wakes}

@@ -6,7 +6,7 @@ use Rattle.std.proofs.lemmas.List.Elements.{filter-append}
 use Rattle.radio_packet.specs.declared.copy.RadioCopy.{RadioCopy}
 use Rattle.radio_medium.specs.Medium.{copies}
 use Rattle.radio_medium.proofs.Copies.{copies_later}
-use Rattle.net_scenario.specs.Net.{NetTold}
+use Rattle.mote_net.specs.Net.{NetTold}
 use Rattle.window_law.specs.Agenda.{wake_items}
 use Rattle.window_law.specs.Windows.{Alone, is_at, is_within, is_from_sender}
 use Rattle.window_law.proofs.Lists.{every_append, every_weaker, every_filter, every_flat_map}

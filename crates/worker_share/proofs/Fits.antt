@@ -5,7 +5,7 @@ use Rattle.program_tree.specs.Code.{Tree}
 use Rattle.mote_node.specs.declared.mote.Mote.{Mote}
 use Rattle.mote_node.specs.Node.{Node}
 use Rattle.radio_packet.specs.declared.copy.RadioCopy.{RadioCopy}
-use Rattle.net_scenario.specs.Net.{NetTold}
+use Rattle.mote_net.specs.Net.{NetTold}
 use Rattle.window_law.specs.Agenda.{Item, Packet, mote_of}
 use Rattle.window_law.specs.Windows.{WakesFrom}
 use Rattle.window_law.proofs.Lists.{every_weaker, every_append, every_map}

@@ -13,7 +13,7 @@ use Rattle.mote_laws.proofs.Stamps.{turns_stamp}
 use Rattle.radio_packet.specs.declared.copy.RadioCopy.{RadioCopy}
 use Rattle.radio_medium.specs.Medium.{copies, lookahead}
 use Rattle.radio_medium.proofs.Copies.{copies_later}
-use Rattle.net_scenario.specs.Net.{MoteTold, NetTold}
+use Rattle.mote_net.specs.Net.{MoteTold, NetTold}
 use Rattle.window_law.specs.System.{IsLater}
 use Rattle.window_law.specs.NetStep.{stamped}
 use Rattle.window_law.specs.Windows.{LoneMote, WakesFrom, own_turn, IsQuiet, Alone}

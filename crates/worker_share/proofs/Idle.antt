@@ -4,7 +4,7 @@ use Rattle.std.specs.List.{filter, AllByRecursion}
 use Rattle.std.proofs.lemmas.Bool.{and_parts, eqb-true}
 use Rattle.std.proofs.lemmas.Bool.Decides.{nat_tests}
 use Rattle.radio_packet.specs.declared.copy.RadioCopy.{RadioCopy}
-use Rattle.net_scenario.specs.Net.{NetTold}
+use Rattle.mote_net.specs.Net.{NetTold}
 use Rattle.window_law.specs.Agenda.{Item, moment_of, mote_of, comes_at, packets, wake_items, IsLeast}
 use Rattle.window_law.specs.Windows.{WakesFrom, is_from_sender}
 use Rattle.window_law.proofs.Lists.{any_every, every_weaker, every_filter, filter_both, filter_every}

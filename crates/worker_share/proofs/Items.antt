@@ -4,7 +4,7 @@ use Rattle.std.specs.List.{filter, AllByRecursion}
 use Rattle.std.proofs.lemmas.Bool.{cases_Bool, eq-eqb, and_parts}
 use Rattle.std.proofs.lemmas.Bool.Decides.{nat_tests}
 use Rattle.radio_packet.specs.declared.copy.RadioCopy.{RadioCopy}
-use Rattle.net_scenario.specs.Net.{NetTold}
+use Rattle.mote_net.specs.Net.{NetTold}
 use Rattle.window_law.specs.Agenda.{Item, Wake, Packet, moment_of, mote_of, is_wake_of, packets, wake_items}
 use Rattle.window_law.specs.Windows.{WakesFrom, is_from_sender}
 use Rattle.window_law.proofs.Lists.{every_passes, every_weaker}

@@ -5,7 +5,7 @@ use Rattle.std.proofs.lemmas.Bool.{cases_Bool, cases_lt, eq-eqb, ne_eqb, eqb-tru
 use Rattle.std.proofs.lemmas.Bool.Decides.{nat_tests}
 use Rattle.std.proofs.lemmas.List.Elements.{filter-append}
 use Rattle.radio_packet.specs.declared.copy.RadioCopy.{RadioCopy}
-use Rattle.net_scenario.specs.Net.{NetTold}
+use Rattle.mote_net.specs.Net.{NetTold}
 use Rattle.window_law.specs.Order.{in_order}
 use Rattle.window_law.specs.Agenda.{Item, Packet, moment_of, mote_of, is_wake_of, comes_at, packets, wake_items}
 use Rattle.window_law.specs.Windows.{WakesFrom, is_at, is_from_sender, is_within, copies_by, Alone, Rests}

@@ -5,7 +5,7 @@ use Rattle.std.proofs.lemmas.Bool.{cases_Bool, eqb-true, and_parts}
 use Rattle.mote_node.specs.Public.{wake_in}
 use Rattle.mote_node.specs.Wake.{wake_of}
 use Rattle.radio_packet.specs.declared.copy.RadioCopy.{RadioCopy}
-use Rattle.net_scenario.specs.Net.{NetTold}
+use Rattle.mote_net.specs.Net.{NetTold}
 use Rattle.window_law.specs.Agenda.{Item, moment_of, mote_of, is_wake_of, wake_items}
 use Rattle.window_law.specs.Windows.{is_sent_by, WakesFrom, IsQuiet}
 use Rattle.window_law.proofs.Lists.{any_every, every_weaker, filter_filter}

@@ -9,7 +9,7 @@ use Rattle.mote_node.specs.Node.{Node, is_past}
 use Rattle.mote_node.specs.Public.{node_in}
 use Rattle.mote_node.specs.Wake.{wake_of}
 use Rattle.radio_packet.specs.declared.copy.RadioCopy.{RadioCopy}
-use Rattle.net_scenario.specs.Net.{NetTold}
+use Rattle.mote_net.specs.Net.{NetTold}
 use Rattle.window_law.specs.Agenda.{Item, is_wake_of, packets, wake_items}
 use Rattle.window_law.specs.Windows.{LoneMote, WakesFrom, copies_by, is_from_sender, is_sent_by}
 use Rattle.net_agenda.specs.Buckets.{Buckets, Holds}

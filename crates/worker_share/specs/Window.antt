@@ -2,7 +2,7 @@
 use Rattle.std.specs.Prelude.{ℕ, ◌≡◌, ◌<◌, ◌≤◌, Bool, true, false, not, if◌then◌else◌, List, [], ◌++◌, length}
 use Rattle.std.specs.List.{filter, AllByRecursion as Each}
 use Rattle.radio_packet.specs.declared.copy.RadioCopy.{RadioCopy}
-use Rattle.net_scenario.specs.Net.{NetTold}
+use Rattle.mote_net.specs.Net.{NetTold}
 use Rattle.window_law.specs.Windows.{Alone, copies_by, is_at, is_from_sender, is_within}
 use Rattle.net_agenda.specs.NetSystem.{system_of}
 use Rattle.worker_cut.specs.Crossed.{leaves, is_own, copies_known}

@@ -5,7 +5,7 @@ ghost use Rattle.std.specs.List.{filter, AllByRecursion};
 ghost use Rattle.radio_packet.specs.declared.copy.RadioCopy.{RadioCopy};
 ghost use Rattle.window_law.specs.Agenda.{Item, Wake};
 ghost use Rattle.window_law.specs.Windows.{WakesFrom, first_mote};
-ghost use Rattle.net_scenario.specs.Net.{NetTold, net_of};
+ghost use Rattle.mote_net.specs.Net.{NetTold, net_of};
 ghost use Rattle.net_agenda.specs.NetSystem.{first_node_in, system_of, tree_at};
 ghost use Rattle.net_agenda.specs.Buckets.{Holds};
 ghost use Rattle.worker_cut.specs.Crossed.{is_own, copies_known};
@@ -14,7 +14,7 @@ ghost use Rattle.worker_share.specs.Ended.{TellsAtEnd};
 
 use mote_node::Mote;
 use net_agenda::{Agenda, new_mote};
-use net_scenario::Net;
+use mote_net::Net;
 use process_kernel::Line;
 use radio_packet::Sent;
 use std::alloc::{AllocError, Global};

@@ -1,7 +1,7 @@
 //! Writers that fail in the middle of a report.
 
 ghost use Rattle.std.specs.Prelude.{◌≡◌, length, vec_len, IfOk};
-ghost use Rattle.net_scenario.specs.Net.{net_of};
+ghost use Rattle.mote_net.specs.Net.{net_of};
 
 use super::reports::report_of_one;
 use net_report::Report;

@@ -1,7 +1,7 @@
 //! A trace that fills many pages.
 
 ghost use Rattle.std.specs.Prelude.{◌≡◌, IfOk, length, vec_len};
-ghost use Rattle.net_scenario.specs.Net.{net_of};
+ghost use Rattle.mote_net.specs.Net.{net_of};
 
 use super::failing_writers::PRINT_THEN_YIELD;
 use super::reports::report_of_one;

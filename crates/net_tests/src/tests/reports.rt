@@ -1,7 +1,7 @@
 //! Reports with their texts, worked by hand.
 
 ghost use Rattle.std.specs.Prelude.{◌≡◌, length, IfOk, vec_len};
-ghost use Rattle.net_scenario.specs.Net.{net_of};
+ghost use Rattle.mote_net.specs.Net.{net_of};
 
 use net_report::{LogLine, Report};
 use net_scenario::{Net, read_scenario};

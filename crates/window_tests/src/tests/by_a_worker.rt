@@ -1,7 +1,7 @@
 //! The windows of two motes of one worker.
 
 ghost use Rattle.std.specs.Prelude.{◌≡◌, ◌≤◌, ◌<◌, ℕ, true, length, IfOk};
-ghost use Rattle.net_scenario.specs.Net.{net_of};
+ghost use Rattle.mote_net.specs.Net.{net_of};
 ghost use Rattle.window_run.specs.Shares.{AreGoingOn, AreInNet, ResidentGoesOn};
 ghost use Rattle.window_run.specs.Window.{is_rising};
 

@@ -2,9 +2,10 @@ use Rattle.std.proofs.Common.{◌≡◌, ◌++◌, None, drop, length, map, IsTr
 use Rattle.std.specs.List.{list_all}
 use Rattle.toml.specs.View.{items_view}
 use Rattle.net_scenario.specs.Document.{first_some, members_of, tables_in}
-use Rattle.net_scenario.specs.Motes.{is_mote_of}
-use Rattle.net_scenario.specs.Programs.{named_tree}
-use Rattle.net_scenario.specs.Net.{mote_of_table, mote_told, unread_fault}
+use Rattle.mote_net.specs.Motes.{is_mote_of}
+use Rattle.mote_net.specs.Programs.{named_tree}
+use Rattle.mote_net.specs.Net.{mote_told}
+use Rattle.net_scenario.specs.Net.{mote_of_table, unread_fault}
 use Rattle.net_scenario.proofs.motes.motes_of.Given as goal
 
 -- no fault is to come, and the motes so far and those to come are all of them

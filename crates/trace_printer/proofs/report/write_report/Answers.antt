@@ -1,7 +1,7 @@
 use Rattle.std.proofs.Common.{◌≡◌, ◌++◌, ap, sym, List, map, Vec, Global}
 use Rattle.std.proofs.lemmas.Result.{err_from_is_err_and}
 use Rattle.process_kernel.specs.declared.line.Line.{Line}
-use Rattle.net_scenario.specs.Net.{NetTold, net_of}
+use Rattle.mote_net.specs.Net.{NetTold, net_of}
 use Rattle.net_report.specs.Report.{lines_in, told_line, report_of}
 use Rattle.net_report.specs.declared.LogLine.{LogLine}
 use Rattle.net_report.specs.declared.Report.{Report}

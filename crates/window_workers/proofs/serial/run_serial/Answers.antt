@@ -1,5 +1,5 @@
 use Rattle.std.proofs.Common.{refl}
-use Rattle.net_scenario.specs.Net.{net_of}
+use Rattle.mote_net.specs.Net.{net_of}
 use Rattle.window_workers.proofs.Reports.{report_is, all_in_order}
 use Rattle.window_workers.proofs.serial.run_serial.Goals as goal
 

@@ -1,5 +1,5 @@
 use Rattle.std.proofs.Common.{length}
-use Rattle.net_scenario.specs.Net.{net_of}
+use Rattle.mote_net.specs.Net.{net_of}
 use Rattle.net_agenda.specs.Buckets.{first_key}
 use Rattle.window_workers.specs.Ended.{HasReached}
 use Rattle.window_workers.specs.Stands.{IsWhole}

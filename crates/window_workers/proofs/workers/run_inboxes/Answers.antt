@@ -5,7 +5,7 @@ use Rattle.std.specs.List.{AllZip, AllByRecursion as Each}
 use Rattle.std.proofs.lemmas.List.{length-map}
 use Rattle.process_kernel.specs.declared.line.Line.{Line}
 use Rattle.kernel_laws.specs.Going.{IsInOrder}
-use Rattle.net_scenario.specs.Net.{net_of}
+use Rattle.mote_net.specs.Net.{net_of}
 use Rattle.copy_exchange.specs.Inboxes.{IsFresh, IsPlain}
 use Rattle.worker_crew.specs.Worker.{IsCut}
 use Rattle.net_report.specs.declared.Report.{Report}

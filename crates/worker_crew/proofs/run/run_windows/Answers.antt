@@ -1,5 +1,5 @@
 use Rattle.std.proofs.Common.{◌∙◌, refl, arith}
-use Rattle.net_scenario.specs.Net.{net_of}
+use Rattle.mote_net.specs.Net.{net_of}
 use Rattle.worker_crew.proofs.Runs.{begins_later, short_enough, stands_there}
 use Rattle.worker_crew.proofs.run.run_windows.Goals as goal
 

@@ -1,5 +1,5 @@
 use Rattle.std.proofs.Common.{◌≡◌, ◌+◌, ◌-◌, ◌≤◌}
-use Rattle.net_scenario.specs.Net.{net_of}
+use Rattle.mote_net.specs.Net.{net_of}
 use Rattle.std.specs.List.{AllByRecursion as Each}
 use Rattle.copy_exchange.specs.Inboxes.{IsPlain}
 use Rattle.worker_crew.specs.Crew.{IsAt}

@@ -1,4 +1,4 @@
-use Rattle.net_scenario.specs.Net.{net_of}
+use Rattle.mote_net.specs.Net.{net_of}
 use Rattle.worker_crew.specs.Start.{AreFirst}
 use Rattle.worker_crew.proofs.start.first_shares.Given as goal
 

@@ -2,7 +2,7 @@ use Rattle.std.proofs.Common.{rules, ◌≡◌, sym, subst, ◌∙◌, map-id, v
 use Rattle.std.specs.Vec.Iter.{into_iter_items}
 use Rattle.std.proofs.lemmas.Iterator.Adapters.{YieldsList-from_vec}
 use Rattle.std.proofs.lemmas.Iterator.Consumers.{YieldsList-end}
-use Rattle.net_scenario.specs.Net.{net_of}
+use Rattle.mote_net.specs.Net.{net_of}
 use Rattle.window_run.specs.Shares.{AreGoingOn}
 use Rattle.window_run.proofs.Zips.{all_from, first_all, push_zip, zip_zip}
 use Rattle.window_run.proofs.worker.ShareWindow.new.Goals as goal

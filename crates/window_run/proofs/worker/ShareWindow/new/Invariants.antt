@@ -1,6 +1,6 @@
 use Rattle.std.specs.List.{AllZip}
 use Rattle.std.specs.Vec.Iter.{into_iter_items}
-use Rattle.net_scenario.specs.Net.{net_of}
+use Rattle.mote_net.specs.Net.{net_of}
 use Rattle.window_run.specs.Shares.{AreInNet, ResidentGoesOn}
 use Rattle.window_run.specs.Slots.{IsOf, SlotGoesOn}
 use Rattle.window_run.proofs.worker.ShareWindow.new.Given as goal

@@ -1,6 +1,6 @@
 use Rattle.std.specs.List.{slice_get}
 use Rattle.program_tree.specs.Program.{tree_of}
-use Rattle.net_scenario.specs.Net.{net_of}
+use Rattle.mote_net.specs.Net.{net_of}
 use Rattle.window_tests.proofs.NewMotes.{new_goes_on}
 use Rattle.window_tests.proofs.tests.by_a_worker.resident.Goals as goal
 

@@ -1,4 +1,4 @@
-use Rattle.net_scenario.specs.Net.{net_of}
+use Rattle.mote_net.specs.Net.{net_of}
 use Rattle.worker_crew.proofs.Ready.{ready}
 use Rattle.worker_crew.proofs.Returned.{returned}
 use Rattle.worker_crew.proofs.crew.Crew.run_all.Goals as goal

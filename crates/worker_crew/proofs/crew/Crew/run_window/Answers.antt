@@ -1,6 +1,6 @@
 use Rattle.std.proofs.Common.{ℕ, ◌+◌, ◌<◌, ◌≤◌}
 use Rattle.std.proofs.lemmas.Result.{IfOk-weaker}
-use Rattle.net_scenario.specs.Net.{net_of}
+use Rattle.mote_net.specs.Net.{net_of}
 use Rattle.net_agenda.specs.NetSystem.{system_of}
 use Rattle.worker_crew.specs.Crew.{IsAt}
 use Rattle.worker_crew.specs.Laws.{RunsAll}

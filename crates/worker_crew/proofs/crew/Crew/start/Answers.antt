@@ -1,5 +1,5 @@
 use Rattle.std.proofs.Common.{rules, ◌≡◌, ◌∙◌, refl, subst, vec_len, length}
-use Rattle.net_scenario.specs.Net.{net_of}
+use Rattle.mote_net.specs.Net.{net_of}
 use Rattle.worker_crew.specs.Start.{AreFirst}
 use Rattle.worker_crew.proofs.Starts.{starts}
 use Rattle.worker_crew.proofs.crew.Crew.start.Goals as goal

@@ -2,7 +2,7 @@ use Rattle.std.proofs.Common.{◌≡◌, ◌∙◌, ◌++◌, ℕ, length, map, 
 use Rattle.std.specs.List.{AllByRecursion, filter, flat_map}
 use Rattle.std.proofs.lemmas.List.{length-set, nil_from_length}
 use Rattle.radio_medium.specs.Medium.{Radio, copies}
-use Rattle.net_scenario.specs.Net.{net_of}
+use Rattle.mote_net.specs.Net.{net_of}
 use Rattle.window_law.specs.Agenda.{Packet}
 use Rattle.window_law.proofs.Lists.{every_append}
 use Rattle.net_agenda.specs.Buckets.{Holds}

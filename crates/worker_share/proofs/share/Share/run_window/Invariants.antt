@@ -1,7 +1,7 @@
 use Rattle.std.proofs.Common.{◌≡◌, ◌≤◌, ◌+◌, ◌++◌, ℕ, List, length}
 use Rattle.std.specs.List.{AllByRecursion}
 use Rattle.radio_packet.specs.declared.copy.RadioCopy.{RadioCopy}
-use Rattle.net_scenario.specs.Net.{net_of}
+use Rattle.mote_net.specs.Net.{net_of}
 use Rattle.net_agenda.specs.NetSystem.{system_of}
 use Rattle.worker_share.specs.Share.{Motes, Keeps}
 use Rattle.worker_share.specs.Window.{ComesIn, GoesOut}

@@ -1,6 +1,6 @@
 use Rattle.std.proofs.Common.{◌≡◌, get_or, rules}
-use Rattle.net_scenario.proofs.NetMotes.{program_of_mote}
-use Rattle.net_scenario.proofs.net.Net.program_name.Goals as goal
+use Rattle.mote_net.proofs.NetMotes.{program_of_mote}
+use Rattle.mote_net.proofs.net.Net.program_name.Goals as goal
 
 pub returns : goal.returns
 returns c =

@@ -1,7 +1,7 @@
 -- What holds of the motes of every net.
 use Rattle.std.specs.Prelude.{ℕ, Bool, ◌&&◌, nat_lt, nat_le}
-use Rattle.net_scenario.specs.declared.net.Mote.{Mote}
-use Rattle.net_scenario.specs.Limits.{shortest_queue, longest_queue}
+use Rattle.mote_net.specs.declared.net.Mote.{Mote}
+use Rattle.mote_net.specs.Limits.{shortest_queue, longest_queue}
 
 -- a mote's program is one of so many, and the length of its queue is within the limits
 abbrev pub is_mote_of : (programs : ℕ) → Mote → Bool

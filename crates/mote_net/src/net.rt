@@ -1,8 +1,8 @@
 //! Nets: motes, each with a program and a queue, and the medium between them.
 ghost use Rattle.std.specs.Prelude.{◌≡◌, ◌<◌, ◌≤◌, length, map, IsTrue, Some, option_map, slice_get};
 ghost use Rattle.std.specs.List.{list_all};
-ghost use Rattle.net_scenario.specs.Limits.{latest_end, fewest_motes, most_motes, shortest_queue, longest_queue};
-ghost use Rattle.net_scenario.specs.Motes.{is_mote_of};
+ghost use Rattle.mote_net.specs.Limits.{latest_end, fewest_motes, most_motes, shortest_queue, longest_queue};
+ghost use Rattle.mote_net.specs.Motes.{is_mote_of};
 
 use crate::programs::NamedProgram;
 use program_tree::Program;
@@ -45,10 +45,11 @@ impl Drop for Net {
 
 impl Net {
     ghost use Rattle.program_tree.specs.Program.{tree_of};
-    ghost use Rattle.net_scenario.specs.Net.{net_of, mote_told};
+    ghost use Rattle.mote_net.specs.Net.{net_of, mote_told};
 
-    /// The net of these parts, of which each mote's program is one.
-    pub(crate) fn new(
+    /// The net of these parts: `end` is its last moment, the medium has a place for each mote, and each mote's program is one
+    /// of the programs.
+    pub fn new(
         end: u32,
         collide: bool,
         medium: Medium,

@@ -3,8 +3,9 @@ use Rattle.std.proofs.Common.{◌≡◌, codes, length, None, sym, ap, ◌∙◌
 use Rattle.std.proofs.lemmas.List.{length-map}
 use Rattle.radio_medium.specs.Medium.{medium_fault}
 use Rattle.net_scenario.specs.Document.{tables_at}
-use Rattle.net_scenario.specs.Net.{NetTold}
-use Rattle.window_workers.specs.Laws.{ReportIsThere, ScenarioHasReport}
+use Rattle.mote_net.specs.Net.{NetTold}
+use Rattle.window_workers.specs.Laws.{ReportIsThere}
+use Rattle.simulation.specs.Laws.{ScenarioHasReport}
 
 pub scenario_has_report : ReportIsThere → ScenarioHasReport
 scenario_has_report there text n tells =
