@@ -66,10 +66,10 @@ abbrev pub DeliversOwn : (worker_of : ℕ → ℕ) → Courier → Type 0
 DeliversOwn worker_of c = (s v : ℕ) → (worker_of s == c.worker) ≡ false → filter (is_from_sender s) (delivered c v) ≡ []
 
 -- ---- from the start of a window to its end
--- which sender it is
-abbrev pub seat_of : Option SenderView → Option (InboxId × ℕ)
+-- which sender it is, and whether its inbox has marks
+abbrev pub seat_of : Option SenderView → Option (InboxId × ℕ × Bool)
 seat_of None = None
-seat_of (Some s) = Some (s.inbox, s.post.number)
+seat_of (Some s) = Some (s.inbox, s.post.number, s.post.marked)
 
 -- the same courier, whatever it took and delivered
 pub record Stays (old new : Courier) : Type 0 where
