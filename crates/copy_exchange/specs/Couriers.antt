@@ -44,6 +44,14 @@ pushed_list (Some s) = s.post.pushed
 abbrev pub pushed_to : Courier → (v : ℕ) → List Carried
 pushed_to c v = pushed_list (sender_to c v)
 
+-- its senders are those of inboxes with marks
+abbrev pub HasMarks : Courier → Type 0
+HasMarks c = (v : ℕ) (s : SenderView) → sender_to c v ≡ Some s → s.post.marked ≡ true
+
+-- nothing went through its senders yet, no copy and no mark
+abbrev pub HasPushedNothing : Courier → Type 0
+HasPushedNothing c = (v : ℕ) → pushed_to c v ≡ []
+
 -- its taker and its senders are those of these inboxes
 pub record IsSeated (inboxes : List InboxId) (c : Courier) : Type 0 where
   pub taker : slice_get inboxes c.worker ≡ Some c.taker.inbox
