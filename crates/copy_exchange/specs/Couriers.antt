@@ -1,11 +1,11 @@
 -- What a courier carries to and fro in one window.
-use Rattle.std.specs.Prelude.{◌≡◌, ℕ, ◌+◌, ◌<◌, ◌≤◌, ◌==◌, Bool, true, false, List, [], ◌++◌, length, map, filter, slice_get, slice_index, slice_index_or, Option, Some, None}
+use Rattle.std.specs.Prelude.{◌≡◌, ℕ, ◌+◌, ◌<◌, ◌≤◌, ◌==◌, Bool, true, false, List, [], ◌∷◌, ◌++◌, length, map, filter, slice_get, slice_index, slice_index_or, Option, Some, None}
 use Rattle.std.specs.List.{AllByRecursion as Each, AllZip, filter_map, flat_map, range_with_len}
 use Rattle.std.specs.Option.{IsSomeAnd}
 use Rattle.radio_packet.specs.declared.copy.RadioCopy.{RadioCopy}
 use Rattle.worker_cut.specs.Crossed.{is_to}
 use Rattle.copy_inbox.specs.declared.items.Carried.{Carried}
-use Rattle.copy_inbox.specs.declared.items.Carried.TheVariants.{Packet}
+use Rattle.copy_inbox.specs.declared.items.Carried.TheVariants.{Packet, Mark}
 use Rattle.copy_inbox.specs.declared.rule.Desk.{Desk}
 use Rattle.copy_inbox.specs.Gathered.{is_gathered, Whole}
 use Rattle.copy_inbox.specs.Handles.{InboxId, TakerView, SenderView}
@@ -120,6 +120,12 @@ pub record PushesOut (of : List ℕ) (old new : Courier) (copies : List RadioCop
   pub stays : Stays old new
   pub taker : new.taker ≡ old.taker
   pub pushes : (v : ℕ) → (v == old.worker) ≡ false → pushed_to new v ≡ pushed_to old v ++ map Packet (filter (is_to of v) copies)
+
+-- it pushed the mark of this window to each other of so many workers, and nothing else
+pub record PushesMarks (workers window : ℕ) (old new : Courier) : Type 0 where
+  pub stays : Stays old new
+  pub taker : new.taker ≡ old.taker
+  pub pushes : (v : ℕ) → v < workers → (v == old.worker) ≡ false → pushed_to new v ≡ pushed_to old v ++ Mark window ∷ []
 
 -- ---- the couriers of one window
 -- the courier of this taker at the start of a window
