@@ -1,5 +1,5 @@
 -- What the takers have gathered when all couriers are back.
-use Rattle.std.proofs.Common.{◌≡◌, ℕ, zero, suc, ◌+◌, ◌<◌, ◌==◌, Bool, true, false, List, [], ◌∷◌, ◌++◌, length, map, get_or, Option, Some, None, Vec, refl, sym, ap, ◌∙◌, subst, arith}
+use Rattle.std.proofs.Common.{◌≡◌, ℕ, zero, suc, ◌+◌, ◌<◌, Bool, List, [], ◌∷◌, ◌++◌, length, map, get_or, slice_get, Option, Some, None, Vec, refl, sym, ap, ◌∙◌, subst, arith}
 use Rattle.std.specs.List.{AllByRecursion as Each, AllZip, cons_option, filter_map, range_with_len}
 use Rattle.std.proofs.lemmas.List.{length-map}
 use Rattle.std.proofs.lemmas.List.Elements.{filter_map-append}
@@ -13,11 +13,12 @@ use Rattle.copy_inbox.specs.Gathered.{is_gathered}
 use Rattle.copy_inbox.specs.Handles.{InboxId, TakerView, SenderView, after_gather, AllGathered, PacketsLeft}
 use Rattle.copy_exchange.specs.declared.courier.Courier.{Courier}
 use Rattle.copy_exchange.specs.Desks.{copies_in, IsOrderly}
-use Rattle.copy_exchange.specs.Couriers.{IsCourier, IsCollected, DeliversOwn, Stays, AreOpen, Returns, AllReturn, ComesHome, IsSenderOn, sender_to, senders_to, seat_of}
+use Rattle.copy_exchange.specs.Couriers.{IsCourier, IsSeated, IsCollected, DeliversOwn, Stays, AreOpen, Returns, AllReturn, ComesHome, sender_to, senders_to, seat_of}
 use Rattle.copy_exchange.specs.Inboxes.{IsPlain, IsSettled, Settled}
-use Rattle.copy_exchange.specs.Steps.{AreTakersOf, AreSendersOn, GathersRow, TellsOf, gather_into, at_place}
-use Rattle.copy_exchange.proofs.Gathers.{gather_posts, gather_is, with_joined, numbers_of, joined_copies, all_gathered, stands_then, packets_then, OneOf}
-use Rattle.copy_exchange.proofs.Lists.{each_at, each_from, each_join, each_map}
+use Rattle.copy_exchange.specs.Steps.{AreTakersOf, GathersRow, GathersBack, TellsOf, gather_into, gather_posts, at_place}
+use Rattle.copy_exchange.proofs.Gathers.{gather_is, with_joined, numbers_of, joined_copies, all_gathered, stands_then, packets_then, OneOf}
+use Rattle.copy_exchange.proofs.Delivered.{seated}
+use Rattle.copy_exchange.proofs.Lists.{each_from, each_join, each_map}
 use Rattle.copy_exchange.proofs.Rows.{into_inbox}
 use Rattle.copy_exchange.proofs.Owns.{workers_of, delivered_is, one_of}
 
@@ -101,6 +102,9 @@ module _ (inboxes : List InboxId) (cs : List Courier) (back : AllReturn inboxes 
 
   pub owns : Each (DeliversOwn back.worker_of) cs
   owns = each_back inboxes back.worker_of (DeliversOwn back.worker_of) (λ a b r. r.own) before cs back.each
+
+  pub all_seated : Each (IsSeated inboxes) cs
+  all_seated = each_back inboxes back.worker_of (IsSeated inboxes) (λ a b r. seated inboxes b r.courier) before cs back.each
 
   one : (s v : ℕ) → OneOf s (senders_to cs v)
   one s v = one_of back.worker_of s v 0 cs (workers ∙ ap (range_with_len 0) (sym count)) owns
@@ -207,34 +211,6 @@ takers_after inboxes old new senders a r =
       its = λ v id t lt. ap (λ (u : TakerView). u.inbox) (r.taker v t (omega arith)) ∙ (into_inbox (get_or old v t) (at_place senders v) ∙ a.its v id t lt);
     }
 
-sender_id : (id : InboxId) (own : Bool) (s : SenderView) → IsSenderOn id own (Some s) → s.inbox ≡ id
-sender_id id true s h = absurd cc
-sender_id id false s h = h
-
-pub senders_on : (inboxes : List InboxId) (c : Courier) → IsCourier inboxes c → AreSendersOn inboxes c.senders.items
-senders_on inboxes c h = record {
-  count = h.count;
-  its = λ v id s lt at.
-      let found = slice_get-get_or inboxes v id lt in
-      let P : Option SenderView → Type 0 = λ o. IsSenderOn (get_or inboxes v id) (v == c.worker) o in
-      sender_id (get_or inboxes v id) (v == c.worker) s (subst P at (h.each v (get_or inboxes v id) found));
-}
-
-rows_of : (cs : List Courier) (v : ℕ) → row_senders (map (λ (c : Courier). c.senders) cs) v ≡ senders_to cs v
-rows_of [] v = refl
-rows_of (c ∷ cs) v = ap (cons_option (sender_to c v)) (rows_of cs v)
-
-each_row : (inboxes : List InboxId) (cs : List Courier) → Each (IsCourier inboxes) cs → Each (λ (r : Row). AreSendersOn inboxes r.items) (map (λ (c : Courier). c.senders) cs)
-each_row inboxes [] h = tt
-each_row inboxes (c ∷ cs) h = (senders_on inboxes c h.0, each_row inboxes cs h.1)
-
-pub row_fits : (inboxes : List InboxId) (cs : List Courier) (rows : List Row) (k : ℕ) (row : Row) → AllReturn inboxes cs → rows ≡ map (λ (c : Courier). c.senders) cs → k < length rows → row ≡ get_or rows k row
-    → AreSendersOn inboxes row.items
-row_fits inboxes cs rows k row back e lt is =
-    let P : Row → Type 0 = λ r. AreSendersOn inboxes r.items in
-    let each : Each P (map (λ (c : Courier). c.senders) cs) = each_row inboxes cs (each_back inboxes back.worker_of (IsCourier inboxes) (λ a b r. r.courier) back.before cs back.each) in
-    subst P (sym is) (each_at P rows k row (subst (λ (l : List Row). Each P l) (sym e) each) lt)
-
 -- ---- place by place
 module _ (P : Courier → Type 0) where
   pub pick : (k : ℕ) (cs : List Courier) → workers_of cs ≡ range_with_len k (length cs) → Each P cs → (v : ℕ) → v < length cs
@@ -267,51 +243,43 @@ module _ (inboxes : List InboxId) (cs : List Courier) (back : AllReturn inboxes 
       let same : v ≡ p.0.worker = omega arith in
       sym (ap (λ k. get_or inboxes k id) same ∙ get_or_from_slice_get inboxes p.0.worker p.0.taker.inbox id p.4.0.taker)
 
-  pub start_takers : AreTakersOf inboxes (map (λ (x : Courier). x.taker) cs)
-  start_takers = record {
-    count = length-map cs (λ (c : Courier). c.taker) ∙ long;
-    its = λ v id t lt. let n = long in let inside : v < length cs = omega arith in ap (λ (u : TakerView). u.inbox) ((picked v inside).2 t) ∙ inbox_of v id inside;
-  }
-
-  module _ (ts : List TakerView) (h : GathersRows (map (λ (x : Courier). x.taker) cs) ts (map (λ (x : Courier). x.senders) cs)) where
-    lengths : length ts ≡ length cs
-    lengths = h.count ∙ length-map cs (λ (c : Courier). c.taker)
-
+  module _ (ts : List TakerView) (h : GathersBack cs ts) where
     taker_is : (v : ℕ) (t : TakerView) (lt : v < length cs) → get_or ts v t ≡ gather_posts (picked v lt).0.taker (senders_to cs (picked v lt).0.worker)
     taker_is v t lt =
         let p = picked v lt in
-        let n = length-map cs (λ (c : Courier). c.taker) in
+        let n = h.count in
         let is = p.1 in
         let same : v ≡ p.0.worker = omega arith in
-        h.taker v t (omega arith) ∙ ((λ i. gather_posts (p.2 t i) (rows_of cs v i)) ∙ ap (λ k. gather_posts p.0.taker (senders_to cs k)) same)
+        let found : slice_get cs v ≡ Some p.0 = slice_get-get_or cs v p.0 lt ∙ ap Some (p.3 p.0) in
+        h.taker v p.0 (get_or ts v t) found (slice_get-get_or ts v t (omega arith)) ∙ ap (λ k. gather_posts p.0.taker (senders_to cs k)) same
 
-    told_at : (v : ℕ) (t : TakerView) (lt : v < length cs) → Each (λ (s : SenderView). TellsOf (picked v lt).0.taker.desk s.post) (senders_to cs (picked v lt).0.worker)
-    told_at v t lt =
+    told_at : (v : ℕ) (lt : v < length cs) → Each (λ (s : SenderView). TellsOf (picked v lt).0.taker.desk s.post) (senders_to cs (picked v lt).0.worker)
+    told_at v lt =
         let p = picked v lt in
-        let n = length-map cs (λ (c : Courier). c.taker) in
         let is = p.1 in
         let same : v ≡ p.0.worker = omega arith in
-        let Q : TakerView × List SenderView → Type 0 = λ x. Each (λ (s : SenderView). TellsOf x.0.desk s.post) x.1 in
-        subst Q (λ i. (p.2 t i, (rows_of cs v ∙ ap (senders_to cs) same) i)) (h.told v t (omega arith))
+        let found : slice_get cs v ≡ Some p.0 = slice_get-get_or cs v p.0 lt ∙ ap Some (p.3 p.0) in
+        let Q : ℕ → Type 0 = λ k. Each (λ (s : SenderView). TellsOf p.0.taker.desk s.post) (senders_to cs k) in
+        subst Q same (h.told v p.0 found)
 
     pub settled : Settled inboxes ts
-    settled = zip_each IsSettled inboxes ts (lengths ∙ long) (λ v id t lt.
+    settled = zip_each IsSettled inboxes ts (h.count ∙ long) (λ v id t lt.
         let n = long in
         let inside : v < length cs = omega arith in
         let P : InboxId × TakerView → Type 0 = λ x. IsSettled x.0 x.1 in
-        subst P (λ i. (inbox_of v id inside i, sym (taker_is v t inside) i)) (settled_at inboxes cs back (picked v inside).0 (picked v inside).4 (told_at v t inside)))
+        subst P (λ i. (inbox_of v id inside i, sym (taker_is v t inside) i)) (settled_at inboxes cs back (picked v inside).0 (picked v inside).4 (told_at v inside)))
 
     still_marked : (t : TakerView) (ss : List SenderView) → (gather_posts t ss).desk.marked ≡ t.desk.marked
     still_marked t ss = ap (λ (u : TakerView). u.desk.marked) (gather_is t ss)
 
     pub plain_home : Each IsPlain ts
     plain_home = each_from IsPlain ts (λ v t lt.
-        let n = lengths in
+        let n = h.count in
         let inside : v < length cs = omega arith in
         let p = picked v inside in
         ap (λ (u : TakerView). u.desk.marked) (taker_is v t inside) ∙ (still_marked p.0.taker (senders_to cs p.0.worker) ∙ p.4.3.1))
 
     pub came_home : AllZip (ComesHome cs) cs ts
-    came_home = zip_each (ComesHome cs) cs ts lengths (λ v d t lt.
+    came_home = zip_each (ComesHome cs) cs ts h.count (λ v d t lt.
         let P : Courier × TakerView → Type 0 = λ x. ComesHome cs x.0 x.1 in
         subst P (λ i. (sym ((picked v lt).3 d) i, sym (taker_is v t lt) i)) (picked v lt).4.2)

@@ -1,3 +1,4 @@
+pub mod Back
 pub mod Collected
 pub mod Counted
 pub mod Delivered

@@ -1,10 +1,10 @@
 //! Before a window and after it.
 
 ghost use Rattle.std.specs.Prelude.{◌≡◌, ◌≤◌, ◌^◌, true, length, map, IfOk, IfSome, OnOk};
-ghost use Rattle.std.specs.List.{AllByRecursion as Each, AllZip};
-ghost use Rattle.copy_exchange.specs.Couriers.{Together, SetsOut, HasMarks, HasPushedNothing, AllReturn, ComesHome};
+ghost use Rattle.std.specs.List.{AllByRecursion as Each, AllZip, range_with_len};
+ghost use Rattle.copy_exchange.specs.Couriers.{IsSeated, Together, SetsOut, HasMarks, HasPushedNothing, AllReturn, ComesHome};
 ghost use Rattle.copy_exchange.specs.Inboxes.{IsPlain, Settled};
-ghost use Rattle.copy_exchange.specs.Steps.{AreTakersOf, Opens, opened_taker, opened_sender, AreSendersOn, gather_into, GathersRow, TellsOf};
+ghost use Rattle.copy_exchange.specs.Steps.{AreTakersOf, Opens, opened_taker, opened_sender, AreSendersOn, gather_into, GathersRow, GathersBack, TellsOf};
 
 use crate::courier::Courier;
 use copy_inbox::{Inbox, InboxError, Sender, Taker};
@@ -83,6 +83,21 @@ pub fn gathered<R: Wait>(
     ensures settled { IfOk result (λ takers. Settled inboxes.now takers.items) }
     ensures plain { IfOk result (λ takers. Each IsPlain takers.items) }
     ensures came_home { IfOk result (λ takers. AllZip (ComesHome couriers.items) couriers.items takers.items) }
+{
+    gather_back(rt, alloc, inboxes, couriers)
+}
+
+/// When all couriers are back: each worker's taker gathers the senders on its inbox, one after another, in the order of
+/// the workers.
+pub fn gather_back<R: Wait>(
+    rt: &R,
+    alloc: Global,
+    inboxes: &[Inbox],
+    couriers: Vec<Courier>,
+) -> Result<Vec<Taker>, InboxError>
+    requires workers { map (λ courier. courier.worker) couriers.items ≡ range_with_len 0 (length inboxes.now) }
+    requires seated { Each (IsSeated inboxes.now) couriers.items }
+    ensures { IfOk result (λ takers. GathersBack couriers.items takers.items) }
 {
     let (mut takers, rows) = unloaded(alloc, couriers)?;
     for senders in rows {
