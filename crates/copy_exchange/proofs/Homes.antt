@@ -40,33 +40,40 @@ numbers_same (Some p) (Some q) ss us e h =
     let number : p.post.number ≡ q.post.number = ap (λ (x : InboxId × ℕ × Bool). x.1) seat in
     λ i. number i ∷ h i
 
+pub same_workers : (old new : List Courier) → AllZip Stays old new → workers_of new ≡ workers_of old
+same_workers [] [] h = refl
+same_workers (a ∷ as') (b ∷ bs) h = λ i. h.0.worker i ∷ same_workers as' bs h.1 i
+same_workers [] (b ∷ bs) h = absurd h
+same_workers (a ∷ as') [] h = absurd h
+
+same_numbers : (old new : List Courier) (v : ℕ) → AllZip Stays old new → numbers_of (senders_to new v) ≡ numbers_of (senders_to old v)
+same_numbers [] [] v h = refl
+same_numbers (a ∷ as') (b ∷ bs) v h = numbers_same (sender_to b v) (sender_to a v) (senders_to bs v) (senders_to as' v) (same_seat a b v h.0) (same_numbers as' bs v h.1)
+same_numbers [] (b ∷ bs) v h = absurd h
+same_numbers (a ∷ as') [] v h = absurd h
+
+module _ (P Q : Courier → Type 0) (f : (a b : Courier) → P a → Stays a b → Q b) where
+  pub each_staying : (old new : List Courier) → Each P old → AllZip Stays old new → Each Q new
+  each_staying [] [] e h = tt
+  each_staying (a ∷ as') (b ∷ bs) e h = (f a b e.0 h.0, each_staying as' bs e.1 h.1)
+  each_staying [] (b ∷ bs) e h = absurd h
+  each_staying (a ∷ as') [] e h = absurd h
+
 module _ (inboxes : List InboxId) (worker_of : ℕ → ℕ) where
   abbrev Back : List Courier → List Courier → Type 0
   Back old new = AllZip (Returns inboxes worker_of) old new
 
-  same_workers : (old new : List Courier) → Back old new → workers_of new ≡ workers_of old
-  same_workers [] [] h = refl
-  same_workers (a ∷ as') (b ∷ bs) h = λ i. h.0.stays.worker i ∷ same_workers as' bs h.1 i
-  same_workers [] (b ∷ bs) h = absurd h
-  same_workers (a ∷ as') [] h = absurd h
-
-  same_numbers : (old new : List Courier) (v : ℕ) → Back old new → numbers_of (senders_to new v) ≡ numbers_of (senders_to old v)
-  same_numbers [] [] v h = refl
-  same_numbers (a ∷ as') (b ∷ bs) v h = numbers_same (sender_to b v) (sender_to a v) (senders_to bs v) (senders_to as' v) (same_seat a b v h.0.stays) (same_numbers as' bs v h.1)
-  same_numbers [] (b ∷ bs) v h = absurd h
-  same_numbers (a ∷ as') [] v h = absurd h
+  stayed : (old new : List Courier) → Back old new → AllZip Stays old new
+  stayed [] [] h = tt
+  stayed (a ∷ as') (b ∷ bs) h = (h.0.stays, stayed as' bs h.1)
+  stayed [] (b ∷ bs) h = absurd h
+  stayed (a ∷ as') [] h = absurd h
 
   each_back : (P : Courier → Type 0) → ((a b : Courier) → Returns inboxes worker_of a b → P b) → (old new : List Courier) → Back old new → Each P new
   each_back P f [] [] h = tt
   each_back P f (a ∷ as') (b ∷ bs) h = (f a b h.0, each_back P f as' bs h.1)
   each_back P f [] (b ∷ bs) h = absurd h
   each_back P f (a ∷ as') [] h = absurd h
-
-  each_still : (P Q : Courier → Type 0) → ((a b : Courier) → P a → Returns inboxes worker_of a b → Q b) → (old new : List Courier) → Each P old → Back old new → Each Q new
-  each_still P Q f [] [] e h = tt
-  each_still P Q f (a ∷ as') (b ∷ bs) e h = (f a b e.0 h.0, each_still P Q f as' bs e.1 h.1)
-  each_still P Q f [] (b ∷ bs) e h = absurd h
-  each_still P Q f (a ∷ as') [] e h = absurd h
 
 open_same : (ss us : List SenderView) (d e : Desk) → AreOpen ss d → numbers_of us ≡ numbers_of ss → e.made ≡ d.made → e.gathered ≡ d.gathered → AreOpen us e
 open_same ss us d e h numbers made gathered =
@@ -79,6 +86,13 @@ open_same ss us d e h numbers made gathered =
       newer = λ i le. ap (λ g. is_gathered g i) gathered ∙ h.newer i le;
     }
 
+-- whose senders are open stays so while the couriers stay the same
+pub open_staying : (old new : List Courier) → AllZip Stays old new → Each (λ (c : Courier). AreOpen (senders_to old c.worker) c.taker.desk) old → Each (λ (c : Courier). AreOpen (senders_to new c.worker) c.taker.desk) new
+open_staying old new stays are_open =
+    each_staying (λ c. AreOpen (senders_to old c.worker) c.taker.desk) (λ c. AreOpen (senders_to new c.worker) c.taker.desk)
+    (λ a b h r. open_same (senders_to old a.worker) (senders_to new b.worker) a.taker.desk b.taker.desk h (same_numbers old new b.worker stays ∙ ap (λ v. numbers_of (senders_to old v)) r.worker) r.made r.gathered)
+    old new are_open stays
+
 module _ (P Q R S : Courier → Type 0) where
   each_three : ((c : Courier) → P c → Q c → R c → S c) → (cs : List Courier) → Each P cs → Each Q cs → Each R cs → Each S cs
   each_three f [] p q r = tt
@@ -88,17 +102,17 @@ module _ (inboxes : List InboxId) (cs : List Courier) (back : AllReturn inboxes 
   abbrev before : List Courier
   before = back.before
 
+  stays : AllZip Stays before cs
+  stays = stayed inboxes back.worker_of before cs back.each
+
   pub workers : workers_of cs ≡ range_with_len 0 (length inboxes)
-  workers = same_workers inboxes back.worker_of before cs back.each ∙ back.together.workers
+  workers = same_workers before cs stays ∙ back.together.workers
 
   pub count : length cs ≡ length inboxes
   count = sym (length-map cs (λ (c : Courier). c.worker)) ∙ (ap length workers ∙ length-range_with_len 0 (length inboxes))
 
   still_open : Each (λ (c : Courier). AreOpen (senders_to cs c.worker) c.taker.desk) cs
-  still_open = each_still inboxes back.worker_of (λ c. AreOpen (senders_to before c.worker) c.taker.desk) (λ c. AreOpen (senders_to cs c.worker) c.taker.desk)
-      (λ a b h r. open_same (senders_to before a.worker) (senders_to cs b.worker) a.taker.desk b.taker.desk h
-      (same_numbers inboxes back.worker_of before cs b.worker back.each ∙ ap (λ v. numbers_of (senders_to before v)) r.stays.worker) r.stays.made r.stays.gathered)
-      before cs back.together.are_open back.each
+  still_open = open_staying before cs stays back.together.are_open
 
   pub owns : Each (DeliversOwn back.worker_of) cs
   owns = each_back inboxes back.worker_of (DeliversOwn back.worker_of) (λ a b r. r.own) before cs back.each

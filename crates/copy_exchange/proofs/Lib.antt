@@ -6,6 +6,7 @@ pub mod Gathers
 pub mod Homes
 pub mod Lists
 pub mod Marked
+pub mod Open
 pub mod Owns
 pub mod Parts
 pub mod Rows
