@@ -17,12 +17,9 @@ use Rattle.copy_inbox.specs.Handles.{TakerView, SenderView, after_gather, AllGat
 use Rattle.copy_inbox.proofs.Parts.{part-append}
 use Rattle.copy_exchange.specs.Desks.{SameOfEach, copies_pushed, copies_in, IsRest, IsOrderly}
 use Rattle.copy_exchange.specs.Couriers.{AreOpen}
+use Rattle.copy_exchange.specs.Steps.{gather_posts}
 use Rattle.copy_exchange.proofs.Lists.{each_map}
 use Rattle.copy_exchange.proofs.Parts.{from, from-append, copies-append, OnlyIn, of_one_sender, nothing_more}
-
-abbrev pub gather_posts : TakerView → List SenderView → TakerView
-gather_posts t [] = t
-gather_posts t (s ∷ ss) = gather_posts (after_gather t s.post) ss
 
 abbrev pub copies_by : SenderView → List RadioCopy
 copies_by s = copies_pushed s.post.pushed

@@ -1,5 +1,5 @@
 -- What the takers have gathered when all couriers are back.
-use Rattle.std.proofs.Common.{◌≡◌, ℕ, zero, suc, ◌+◌, ◌<◌, ◌==◌, Bool, true, false, List, [], ◌∷◌, ◌++◌, length, map, get_or, Option, Some, None, Vec, refl, sym, ap, ◌∙◌, subst, arith}
+use Rattle.std.proofs.Common.{◌≡◌, ℕ, zero, suc, ◌+◌, ◌<◌, Bool, List, [], ◌∷◌, ◌++◌, length, map, get_or, slice_get, Option, Some, None, Vec, refl, sym, ap, ◌∙◌, subst, arith}
 use Rattle.std.specs.List.{AllByRecursion as Each, AllZip, cons_option, filter_map, range_with_len}
 use Rattle.std.proofs.lemmas.List.{length-map}
 use Rattle.std.proofs.lemmas.List.Elements.{filter_map-append}
@@ -13,11 +13,12 @@ use Rattle.copy_inbox.specs.Gathered.{is_gathered}
 use Rattle.copy_inbox.specs.Handles.{InboxId, TakerView, SenderView, after_gather, AllGathered, PacketsLeft}
 use Rattle.copy_exchange.specs.declared.courier.Courier.{Courier}
 use Rattle.copy_exchange.specs.Desks.{copies_in, IsOrderly}
-use Rattle.copy_exchange.specs.Couriers.{IsCourier, IsCollected, DeliversOwn, Stays, AreOpen, Returns, AllReturn, ComesHome, IsSenderOn, sender_to, senders_to, seat_of}
+use Rattle.copy_exchange.specs.Couriers.{IsCourier, IsSeated, IsCollected, DeliversOwn, Stays, AreOpen, Returns, AllReturn, ComesHome, sender_to, senders_to, seat_of}
 use Rattle.copy_exchange.specs.Inboxes.{IsPlain, IsSettled, Settled}
-use Rattle.copy_exchange.specs.Steps.{AreTakersOf, AreSendersOn, GathersRow, TellsOf, gather_into, at_place}
-use Rattle.copy_exchange.proofs.Gathers.{gather_posts, gather_is, with_joined, numbers_of, joined_copies, all_gathered, stands_then, packets_then, OneOf}
-use Rattle.copy_exchange.proofs.Lists.{each_at, each_from, each_join, each_map}
+use Rattle.copy_exchange.specs.Steps.{AreTakersOf, GathersRow, GathersBack, TellsOf, gather_into, gather_posts, at_place}
+use Rattle.copy_exchange.proofs.Gathers.{gather_is, with_joined, numbers_of, joined_copies, all_gathered, stands_then, packets_then, OneOf}
+use Rattle.copy_exchange.proofs.Delivered.{seated}
+use Rattle.copy_exchange.proofs.Lists.{each_from, each_join, each_map}
 use Rattle.copy_exchange.proofs.Rows.{into_inbox}
 use Rattle.copy_exchange.proofs.Owns.{workers_of, delivered_is, one_of}
 
@@ -27,7 +28,7 @@ read_map [] v = refl
 read_map (x ∷ xs) zero = refl
 read_map (x ∷ xs) (suc v) = read_map xs v
 
-same_seat : (old new : Courier) (v : ℕ) → Stays old new → seat_of (sender_to new v) ≡ seat_of (sender_to old v)
+pub same_seat : (old new : Courier) (v : ℕ) → Stays old new → seat_of (sender_to new v) ≡ seat_of (sender_to old v)
 same_seat old new v h = read_map new.senders.items v ∙ (ap (λ l. get_or l v None) h.seats ∙ sym (read_map old.senders.items v))
 
 numbers_same : (o p : Option SenderView) (ss us : List SenderView) → seat_of o ≡ seat_of p → numbers_of ss ≡ numbers_of us → numbers_of (cons_option o ss) ≡ numbers_of (cons_option p us)
@@ -35,37 +36,44 @@ numbers_same None None ss us e h = h
 numbers_same None (Some q) ss us e h = absurd cc
 numbers_same (Some p) None ss us e h = absurd cc
 numbers_same (Some p) (Some q) ss us e h =
-    let pair : (p.inbox, p.post.number) ≡ (q.inbox, q.post.number) = cc in
-    let number : p.post.number ≡ q.post.number = ap (λ (x : InboxId × ℕ). x.1) pair in
+    let seat : (p.inbox, p.post.number, p.post.marked) ≡ (q.inbox, q.post.number, q.post.marked) = cc in
+    let number : p.post.number ≡ q.post.number = ap (λ (x : InboxId × ℕ × Bool). x.1) seat in
     λ i. number i ∷ h i
+
+pub same_workers : (old new : List Courier) → AllZip Stays old new → workers_of new ≡ workers_of old
+same_workers [] [] h = refl
+same_workers (a ∷ as') (b ∷ bs) h = λ i. h.0.worker i ∷ same_workers as' bs h.1 i
+same_workers [] (b ∷ bs) h = absurd h
+same_workers (a ∷ as') [] h = absurd h
+
+same_numbers : (old new : List Courier) (v : ℕ) → AllZip Stays old new → numbers_of (senders_to new v) ≡ numbers_of (senders_to old v)
+same_numbers [] [] v h = refl
+same_numbers (a ∷ as') (b ∷ bs) v h = numbers_same (sender_to b v) (sender_to a v) (senders_to bs v) (senders_to as' v) (same_seat a b v h.0) (same_numbers as' bs v h.1)
+same_numbers [] (b ∷ bs) v h = absurd h
+same_numbers (a ∷ as') [] v h = absurd h
+
+module _ (P Q : Courier → Type 0) (f : (a b : Courier) → P a → Stays a b → Q b) where
+  pub each_staying : (old new : List Courier) → Each P old → AllZip Stays old new → Each Q new
+  each_staying [] [] e h = tt
+  each_staying (a ∷ as') (b ∷ bs) e h = (f a b e.0 h.0, each_staying as' bs e.1 h.1)
+  each_staying [] (b ∷ bs) e h = absurd h
+  each_staying (a ∷ as') [] e h = absurd h
 
 module _ (inboxes : List InboxId) (worker_of : ℕ → ℕ) where
   abbrev Back : List Courier → List Courier → Type 0
   Back old new = AllZip (Returns inboxes worker_of) old new
 
-  same_workers : (old new : List Courier) → Back old new → workers_of new ≡ workers_of old
-  same_workers [] [] h = refl
-  same_workers (a ∷ as') (b ∷ bs) h = λ i. h.0.stays.worker i ∷ same_workers as' bs h.1 i
-  same_workers [] (b ∷ bs) h = absurd h
-  same_workers (a ∷ as') [] h = absurd h
-
-  same_numbers : (old new : List Courier) (v : ℕ) → Back old new → numbers_of (senders_to new v) ≡ numbers_of (senders_to old v)
-  same_numbers [] [] v h = refl
-  same_numbers (a ∷ as') (b ∷ bs) v h = numbers_same (sender_to b v) (sender_to a v) (senders_to bs v) (senders_to as' v) (same_seat a b v h.0.stays) (same_numbers as' bs v h.1)
-  same_numbers [] (b ∷ bs) v h = absurd h
-  same_numbers (a ∷ as') [] v h = absurd h
+  stayed : (old new : List Courier) → Back old new → AllZip Stays old new
+  stayed [] [] h = tt
+  stayed (a ∷ as') (b ∷ bs) h = (h.0.stays, stayed as' bs h.1)
+  stayed [] (b ∷ bs) h = absurd h
+  stayed (a ∷ as') [] h = absurd h
 
   each_back : (P : Courier → Type 0) → ((a b : Courier) → Returns inboxes worker_of a b → P b) → (old new : List Courier) → Back old new → Each P new
   each_back P f [] [] h = tt
   each_back P f (a ∷ as') (b ∷ bs) h = (f a b h.0, each_back P f as' bs h.1)
   each_back P f [] (b ∷ bs) h = absurd h
   each_back P f (a ∷ as') [] h = absurd h
-
-  each_still : (P Q : Courier → Type 0) → ((a b : Courier) → P a → Returns inboxes worker_of a b → Q b) → (old new : List Courier) → Each P old → Back old new → Each Q new
-  each_still P Q f [] [] e h = tt
-  each_still P Q f (a ∷ as') (b ∷ bs) e h = (f a b e.0 h.0, each_still P Q f as' bs e.1 h.1)
-  each_still P Q f [] (b ∷ bs) e h = absurd h
-  each_still P Q f (a ∷ as') [] e h = absurd h
 
 open_same : (ss us : List SenderView) (d e : Desk) → AreOpen ss d → numbers_of us ≡ numbers_of ss → e.made ≡ d.made → e.gathered ≡ d.gathered → AreOpen us e
 open_same ss us d e h numbers made gathered =
@@ -78,6 +86,13 @@ open_same ss us d e h numbers made gathered =
       newer = λ i le. ap (λ g. is_gathered g i) gathered ∙ h.newer i le;
     }
 
+-- whose senders are open stays so while the couriers stay the same
+pub open_staying : (old new : List Courier) → AllZip Stays old new → Each (λ (c : Courier). AreOpen (senders_to old c.worker) c.taker.desk) old → Each (λ (c : Courier). AreOpen (senders_to new c.worker) c.taker.desk) new
+open_staying old new stays are_open =
+    each_staying (λ c. AreOpen (senders_to old c.worker) c.taker.desk) (λ c. AreOpen (senders_to new c.worker) c.taker.desk)
+    (λ a b h r. open_same (senders_to old a.worker) (senders_to new b.worker) a.taker.desk b.taker.desk h (same_numbers old new b.worker stays ∙ ap (λ v. numbers_of (senders_to old v)) r.worker) r.made r.gathered)
+    old new are_open stays
+
 module _ (P Q R S : Courier → Type 0) where
   each_three : ((c : Courier) → P c → Q c → R c → S c) → (cs : List Courier) → Each P cs → Each Q cs → Each R cs → Each S cs
   each_three f [] p q r = tt
@@ -87,20 +102,23 @@ module _ (inboxes : List InboxId) (cs : List Courier) (back : AllReturn inboxes 
   abbrev before : List Courier
   before = back.before
 
+  stays : AllZip Stays before cs
+  stays = stayed inboxes back.worker_of before cs back.each
+
   pub workers : workers_of cs ≡ range_with_len 0 (length inboxes)
-  workers = same_workers inboxes back.worker_of before cs back.each ∙ back.together.workers
+  workers = same_workers before cs stays ∙ back.together.workers
 
   pub count : length cs ≡ length inboxes
   count = sym (length-map cs (λ (c : Courier). c.worker)) ∙ (ap length workers ∙ length-range_with_len 0 (length inboxes))
 
   still_open : Each (λ (c : Courier). AreOpen (senders_to cs c.worker) c.taker.desk) cs
-  still_open = each_still inboxes back.worker_of (λ c. AreOpen (senders_to before c.worker) c.taker.desk) (λ c. AreOpen (senders_to cs c.worker) c.taker.desk)
-      (λ a b h r. open_same (senders_to before a.worker) (senders_to cs b.worker) a.taker.desk b.taker.desk h
-      (same_numbers inboxes back.worker_of before cs b.worker back.each ∙ ap (λ v. numbers_of (senders_to before v)) r.stays.worker) r.stays.made r.stays.gathered)
-      before cs back.together.are_open back.each
+  still_open = open_staying before cs stays back.together.are_open
 
   pub owns : Each (DeliversOwn back.worker_of) cs
   owns = each_back inboxes back.worker_of (DeliversOwn back.worker_of) (λ a b r. r.own) before cs back.each
+
+  pub all_seated : Each (IsSeated inboxes) cs
+  all_seated = each_back inboxes back.worker_of (IsSeated inboxes) (λ a b r. seated inboxes b r.courier) before cs back.each
 
   one : (s v : ℕ) → OneOf s (senders_to cs v)
   one s v = one_of back.worker_of s v 0 cs (workers ∙ ap (range_with_len 0) (sym count)) owns
@@ -207,34 +225,6 @@ takers_after inboxes old new senders a r =
       its = λ v id t lt. ap (λ (u : TakerView). u.inbox) (r.taker v t (omega arith)) ∙ (into_inbox (get_or old v t) (at_place senders v) ∙ a.its v id t lt);
     }
 
-sender_id : (id : InboxId) (own : Bool) (s : SenderView) → IsSenderOn id own (Some s) → s.inbox ≡ id
-sender_id id true s h = absurd cc
-sender_id id false s h = h
-
-pub senders_on : (inboxes : List InboxId) (c : Courier) → IsCourier inboxes c → AreSendersOn inboxes c.senders.items
-senders_on inboxes c h = record {
-  count = h.count;
-  its = λ v id s lt at.
-      let found = slice_get-get_or inboxes v id lt in
-      let P : Option SenderView → Type 0 = λ o. IsSenderOn (get_or inboxes v id) (v == c.worker) o in
-      sender_id (get_or inboxes v id) (v == c.worker) s (subst P at (h.each v (get_or inboxes v id) found));
-}
-
-rows_of : (cs : List Courier) (v : ℕ) → row_senders (map (λ (c : Courier). c.senders) cs) v ≡ senders_to cs v
-rows_of [] v = refl
-rows_of (c ∷ cs) v = ap (cons_option (sender_to c v)) (rows_of cs v)
-
-each_row : (inboxes : List InboxId) (cs : List Courier) → Each (IsCourier inboxes) cs → Each (λ (r : Row). AreSendersOn inboxes r.items) (map (λ (c : Courier). c.senders) cs)
-each_row inboxes [] h = tt
-each_row inboxes (c ∷ cs) h = (senders_on inboxes c h.0, each_row inboxes cs h.1)
-
-pub row_fits : (inboxes : List InboxId) (cs : List Courier) (rows : List Row) (k : ℕ) (row : Row) → AllReturn inboxes cs → rows ≡ map (λ (c : Courier). c.senders) cs → k < length rows → row ≡ get_or rows k row
-    → AreSendersOn inboxes row.items
-row_fits inboxes cs rows k row back e lt is =
-    let P : Row → Type 0 = λ r. AreSendersOn inboxes r.items in
-    let each : Each P (map (λ (c : Courier). c.senders) cs) = each_row inboxes cs (each_back inboxes back.worker_of (IsCourier inboxes) (λ a b r. r.courier) back.before cs back.each) in
-    subst P (sym is) (each_at P rows k row (subst (λ (l : List Row). Each P l) (sym e) each) lt)
-
 -- ---- place by place
 module _ (P : Courier → Type 0) where
   pub pick : (k : ℕ) (cs : List Courier) → workers_of cs ≡ range_with_len k (length cs) → Each P cs → (v : ℕ) → v < length cs
@@ -267,51 +257,43 @@ module _ (inboxes : List InboxId) (cs : List Courier) (back : AllReturn inboxes 
       let same : v ≡ p.0.worker = omega arith in
       sym (ap (λ k. get_or inboxes k id) same ∙ get_or_from_slice_get inboxes p.0.worker p.0.taker.inbox id p.4.0.taker)
 
-  pub start_takers : AreTakersOf inboxes (map (λ (x : Courier). x.taker) cs)
-  start_takers = record {
-    count = length-map cs (λ (c : Courier). c.taker) ∙ long;
-    its = λ v id t lt. let n = long in let inside : v < length cs = omega arith in ap (λ (u : TakerView). u.inbox) ((picked v inside).2 t) ∙ inbox_of v id inside;
-  }
-
-  module _ (ts : List TakerView) (h : GathersRows (map (λ (x : Courier). x.taker) cs) ts (map (λ (x : Courier). x.senders) cs)) where
-    lengths : length ts ≡ length cs
-    lengths = h.count ∙ length-map cs (λ (c : Courier). c.taker)
-
+  module _ (ts : List TakerView) (h : GathersBack cs ts) where
     taker_is : (v : ℕ) (t : TakerView) (lt : v < length cs) → get_or ts v t ≡ gather_posts (picked v lt).0.taker (senders_to cs (picked v lt).0.worker)
     taker_is v t lt =
         let p = picked v lt in
-        let n = length-map cs (λ (c : Courier). c.taker) in
+        let n = h.count in
         let is = p.1 in
         let same : v ≡ p.0.worker = omega arith in
-        h.taker v t (omega arith) ∙ ((λ i. gather_posts (p.2 t i) (rows_of cs v i)) ∙ ap (λ k. gather_posts p.0.taker (senders_to cs k)) same)
+        let found : slice_get cs v ≡ Some p.0 = slice_get-get_or cs v p.0 lt ∙ ap Some (p.3 p.0) in
+        h.taker v p.0 (get_or ts v t) found (slice_get-get_or ts v t (omega arith)) ∙ ap (λ k. gather_posts p.0.taker (senders_to cs k)) same
 
-    told_at : (v : ℕ) (t : TakerView) (lt : v < length cs) → Each (λ (s : SenderView). TellsOf (picked v lt).0.taker.desk s.post) (senders_to cs (picked v lt).0.worker)
-    told_at v t lt =
+    told_at : (v : ℕ) (lt : v < length cs) → Each (λ (s : SenderView). TellsOf (picked v lt).0.taker.desk s.post) (senders_to cs (picked v lt).0.worker)
+    told_at v lt =
         let p = picked v lt in
-        let n = length-map cs (λ (c : Courier). c.taker) in
         let is = p.1 in
         let same : v ≡ p.0.worker = omega arith in
-        let Q : TakerView × List SenderView → Type 0 = λ x. Each (λ (s : SenderView). TellsOf x.0.desk s.post) x.1 in
-        subst Q (λ i. (p.2 t i, (rows_of cs v ∙ ap (senders_to cs) same) i)) (h.told v t (omega arith))
+        let found : slice_get cs v ≡ Some p.0 = slice_get-get_or cs v p.0 lt ∙ ap Some (p.3 p.0) in
+        let Q : ℕ → Type 0 = λ k. Each (λ (s : SenderView). TellsOf p.0.taker.desk s.post) (senders_to cs k) in
+        subst Q same (h.told v p.0 found)
 
     pub settled : Settled inboxes ts
-    settled = zip_each IsSettled inboxes ts (lengths ∙ long) (λ v id t lt.
+    settled = zip_each IsSettled inboxes ts (h.count ∙ long) (λ v id t lt.
         let n = long in
         let inside : v < length cs = omega arith in
         let P : InboxId × TakerView → Type 0 = λ x. IsSettled x.0 x.1 in
-        subst P (λ i. (inbox_of v id inside i, sym (taker_is v t inside) i)) (settled_at inboxes cs back (picked v inside).0 (picked v inside).4 (told_at v t inside)))
+        subst P (λ i. (inbox_of v id inside i, sym (taker_is v t inside) i)) (settled_at inboxes cs back (picked v inside).0 (picked v inside).4 (told_at v inside)))
 
     still_marked : (t : TakerView) (ss : List SenderView) → (gather_posts t ss).desk.marked ≡ t.desk.marked
     still_marked t ss = ap (λ (u : TakerView). u.desk.marked) (gather_is t ss)
 
     pub plain_home : Each IsPlain ts
     plain_home = each_from IsPlain ts (λ v t lt.
-        let n = lengths in
+        let n = h.count in
         let inside : v < length cs = omega arith in
         let p = picked v inside in
         ap (λ (u : TakerView). u.desk.marked) (taker_is v t inside) ∙ (still_marked p.0.taker (senders_to cs p.0.worker) ∙ p.4.3.1))
 
     pub came_home : AllZip (ComesHome cs) cs ts
-    came_home = zip_each (ComesHome cs) cs ts lengths (λ v d t lt.
+    came_home = zip_each (ComesHome cs) cs ts h.count (λ v d t lt.
         let P : Courier × TakerView → Type 0 = λ x. ComesHome cs x.0 x.1 in
         subst P (λ i. (sym ((picked v lt).3 d) i, sym (taker_is v t lt) i)) (picked v lt).4.2)

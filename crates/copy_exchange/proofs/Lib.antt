@@ -1,9 +1,12 @@
+pub mod Back
 pub mod Collected
 pub mod Counted
 pub mod Delivered
 pub mod Gathers
 pub mod Homes
 pub mod Lists
+pub mod Marked
+pub mod Open
 pub mod Owns
 pub mod Parts
 pub mod Rows

@@ -1,10 +1,15 @@
 -- The steps before a window and after it, inbox by inbox.
-use Rattle.std.specs.Prelude.{◌≡◌, ℕ, ◌<◌, ◌==◌, Bool, false, cond, List, [], length, slice_index_or, Option, Some, None}
+use Rattle.std.specs.Prelude.{◌≡◌, ◌≢◌, ℕ, ◌<◌, ◌==◌, Bool, false, cond, List, [], ◌∷◌, ◌++◌, length, slice_get, slice_index_or, Option, Some, None}
+use Rattle.std.specs.List.{AllByRecursion as Each}
+use Rattle.copy_inbox.specs.declared.items.Carried.{Carried}
+use Rattle.copy_inbox.specs.declared.items.Carried.TheVariants.{Mark}
 use Rattle.copy_inbox.specs.declared.rule.Desk.{Desk}
 use Rattle.copy_inbox.specs.declared.rule.Post.{Post}
 use Rattle.copy_inbox.specs.Items.{Packets, BeginsWith, part}
 use Rattle.copy_inbox.specs.Views.{make_post}
 use Rattle.copy_inbox.specs.Handles.{InboxId, TakerView, SenderView, after_sender, after_gather}
+use Rattle.copy_exchange.specs.declared.courier.Courier.{Courier}
+use Rattle.copy_exchange.specs.Couriers.{Stays, sender_to, senders_to, pushed_to}
 
 -- each taker is that of the inbox at its place
 pub record AreTakersOf (inboxes : List InboxId) (takers : List TakerView) : Type 0 where
@@ -49,3 +54,26 @@ pub record GathersRow (old new : List TakerView) (senders : List (Option SenderV
   pub taker : (v : ℕ) (t : TakerView) → v < length old → slice_index_or new v t ≡ gather_into (slice_index_or old v t) (at_place senders v)
   pub told : (v : ℕ) (t : TakerView) (s : SenderView) → v < length old → at_place senders v ≡ Some s
       → TellsOf (slice_index_or old v t).desk s.post
+
+-- the taker has gathered these senders, one after another
+abbrev pub gather_posts : TakerView → List SenderView → TakerView
+gather_posts t [] = t
+gather_posts t (s ∷ senders) = gather_posts (after_gather t s.post) senders
+
+-- the taker of each courier has gathered all senders on its inbox, in the order of their couriers
+pub record GathersBack (couriers : List Courier) (takers : List TakerView) : Type 0 where
+  pub count : length takers ≡ length couriers
+  pub taker : (v : ℕ) (c : Courier) (t : TakerView) → slice_get couriers v ≡ Some c → slice_get takers v ≡ Some t → t ≡ gather_posts c.taker (senders_to couriers v)
+  pub told : (v : ℕ) (c : Courier) → slice_get couriers v ≡ Some c → Each (λ (s : SenderView). TellsOf c.taker.desk s.post) (senders_to couriers v)
+
+-- ---- a mark goes through one sender
+abbrev pub pushed_with_mark : Option SenderView → (window : ℕ) → List Carried
+pushed_with_mark None window = []
+pushed_with_mark (Some s) window = s.post.pushed ++ Mark window ∷ []
+
+-- the sender at this place, if there is one, pushed the mark; all else is as it was
+pub record MarksOne (to window : ℕ) (old new : Courier) : Type 0 where
+  pub stays : Stays old new
+  pub taker : new.taker ≡ old.taker
+  pub here : pushed_to new to ≡ pushed_with_mark (sender_to old to) window
+  pub others : (v : ℕ) → v ≢ to → sender_to new v ≡ sender_to old v

@@ -8,4 +8,4 @@ mod window;
 
 pub use courier::Courier;
 pub use inboxes::{known, make_inboxes, paired, parted};
-pub use window::{couriers, gathered};
+pub use window::{couriers, gather_back, gathered};

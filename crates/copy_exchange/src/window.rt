@@ -1,10 +1,10 @@
 //! Before a window and after it.
 
-ghost use Rattle.std.specs.Prelude.{◌≡◌, ◌≤◌, ◌^◌, length, map, IfOk, IfSome, OnOk};
-ghost use Rattle.std.specs.List.{AllByRecursion as Each, AllZip};
-ghost use Rattle.copy_exchange.specs.Couriers.{Together, SetsOut, AllReturn, ComesHome};
+ghost use Rattle.std.specs.Prelude.{◌≡◌, ◌≤◌, ◌^◌, true, length, map, IfOk, IfSome, OnOk};
+ghost use Rattle.std.specs.List.{AllByRecursion as Each, AllZip, range_with_len};
+ghost use Rattle.copy_exchange.specs.Couriers.{IsSeated, Together, SetsOut, HasMarks, HasPushedNothing, AllReturn, ComesHome};
 ghost use Rattle.copy_exchange.specs.Inboxes.{IsPlain, Settled};
-ghost use Rattle.copy_exchange.specs.Steps.{AreTakersOf, Opens, opened_taker, opened_sender, AreSendersOn, gather_into, GathersRow, TellsOf};
+ghost use Rattle.copy_exchange.specs.Steps.{AreTakersOf, Opens, opened_taker, opened_sender, AreSendersOn, gather_into, GathersRow, GathersBack, TellsOf};
 
 use crate::courier::Courier;
 use copy_inbox::{Inbox, InboxError, Sender, Taker};
@@ -21,6 +21,8 @@ pub fn couriers(
     requires settled { Settled inboxes.now takers.items }
     ensures together { IfOk result (λ couriers. Together inboxes.now couriers.items) }
     ensures set_out { IfOk result (λ couriers. AllZip SetsOut takers.items couriers.items) }
+    ensures nothing { IfOk result (λ couriers. Each HasPushedNothing couriers.items) }
+    ensures marked { IfOk result (λ couriers. Each (λ taker. taker.desk.marked ≡ true) takers.items → Each HasMarks couriers.items) }
 {
     let mut takers = takers;
     let mut rows = Vec::with_capacity(alloc, inboxes.len())?;
@@ -81,6 +83,21 @@ pub fn gathered<R: Wait>(
     ensures settled { IfOk result (λ takers. Settled inboxes.now takers.items) }
     ensures plain { IfOk result (λ takers. Each IsPlain takers.items) }
     ensures came_home { IfOk result (λ takers. AllZip (ComesHome couriers.items) couriers.items takers.items) }
+{
+    gather_back(rt, alloc, inboxes, couriers)
+}
+
+/// When all couriers are back: each worker's taker gathers the senders on its inbox, one after another, in the order of
+/// the workers.
+pub fn gather_back<R: Wait>(
+    rt: &R,
+    alloc: Global,
+    inboxes: &[Inbox],
+    couriers: Vec<Courier>,
+) -> Result<Vec<Taker>, InboxError>
+    requires workers { map (λ courier. courier.worker) couriers.items ≡ range_with_len 0 (length inboxes.now) }
+    requires seated { Each (IsSeated inboxes.now) couriers.items }
+    ensures { IfOk result (λ takers. GathersBack couriers.items takers.items) }
 {
     let (mut takers, rows) = unloaded(alloc, couriers)?;
     for senders in rows {

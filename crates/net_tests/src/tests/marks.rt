@@ -59,7 +59,7 @@ fn end<R: Wait>(
 /// What two senders pushed is taken in order, each with its sender's number, though nothing is known of them; then
 /// nothing is there.
 #[test]
-fn marks_in_one_thread(rt: HostRuntime) -> Result<(), Fail> {
+fn marked_inbox(rt: HostRuntime) -> Result<(), Fail> {
     let (inbox, mut taker) = Inbox::make_marked(rt.alloc())?;
     let mut first = inbox.sender(&mut taker)?;
     let mut second = inbox.sender(&mut taker)?;

@@ -1,51 +1,37 @@
-use Rattle.std.proofs.Common.{rules, ◌≡◌, List, length, map, vec_len, sym, ◌∙◌, subst, map-id}
-use Rattle.std.proofs.lemmas.Iterator.Adapters.{YieldsList-from_vec}
-use Rattle.std.proofs.lemmas.Iterator.Consumers.{YieldsList-turn, YieldsList-end}
+use Rattle.std.proofs.Common.{Vec}
+use Rattle.std.specs.List.{AllByRecursion as Each, AllZip}
+use Rattle.std.specs.declared.alloc.Global.{Global}
+use Rattle.std.proofs.lemmas.Result.{IfOk-weaker}
 use Rattle.copy_inbox.specs.Handles.{TakerView}
-use Rattle.copy_exchange.specs.declared.courier.Courier.{Courier}
-use Rattle.copy_exchange.specs.Steps.{AreTakersOf}
-use Rattle.copy_exchange.proofs.Homes.{Row, GathersRows, start_takers, settled, plain_home, came_home, row_fits, no_rows, more_rows, takers_after}
+use Rattle.copy_exchange.specs.Couriers.{ComesHome}
+use Rattle.copy_exchange.specs.Inboxes.{IsPlain, Settled}
+use Rattle.copy_exchange.specs.Steps.{GathersBack}
+use Rattle.copy_exchange.proofs.Homes.{workers, all_seated, settled, plain_home, came_home}
 use Rattle.copy_exchange.proofs.window.gathered.Goals as goal
-use Rattle.copy_exchange.proofs.window.gathered.Goals.{After-drop-senders-iterator}
 
-pub gather_all-requires-clause-senders : goal.gather_all-requires-clause-senders
-gather_all-requires-clause-senders g c =
-    let rest = c.into_iter-senders-iterator.ensures.into_iter_gives in
-    let len : vec_len c.in_ok-takers.rows ≡ length c.in_ok-takers.rows.items = search rules in
-    let t = YieldsList-turn (YieldsList-from_vec c.in_ok-takers.rows.items rest.0 (rest.1 ∙ len)) c.loop-senders.yielded c.loop-senders.senders-iterator c.loop-senders.yielded_by c.next.result c.next.new.self c.in-Some.senders c.in-Some.is c.next.ensures.steps in
-    row_fits c.args.inboxes.now c.args.couriers.items c.in_ok-takers.rows.items (length c.loop-senders.yielded) c.in-Some.senders c.requires c.in_ok-takers.ensures.rows t.0 t.1
+pub gather_back-requires-clause-workers : goal.gather_back-requires-clause-workers
+gather_back-requires-clause-workers g c = workers c.args.inboxes.now c.args.couriers.items c.requires
 
-pub loop-senders-init : goal.loop-senders-init
-loop-senders-init g c =
-    let P : List TakerView → Type 0 = λ l. AreTakersOf c.args.inboxes.now l in
-    record {
-      gathered = no_rows c.in_ok-takers.takers.items;
-      takers = subst P (sym c.in_ok-takers.ensures.takers) (start_takers c.args.inboxes.now c.args.couriers.items c.requires);
-    }
-
-pub loop-senders-preserved : goal.loop-senders-preserved
-loop-senders-preserved g c =
-    let i = c.loop-senders.invariant in
-    record {
-      gathered = more_rows c.in_ok-takers.takers.items c.loop-senders.takers.items c.gather_all.new.takers.items c.loop-senders.yielded c.in-Some.senders i.gathered c.gather_all.ensures;
-      takers = takers_after c.args.inboxes.now c.loop-senders.takers.items c.gather_all.new.takers.items c.in-Some.senders.items i.takers c.gather_all.ensures;
-    }
-
--- all senders of all couriers
-all_rows : (g : _) (c : After-drop-senders-iterator g) → GathersRows (map (λ (x : Courier). x.taker) c.args.couriers.items) c.loop-senders.takers.items (map (λ (x : Courier). x.senders) c.args.couriers.items)
-all_rows g c =
-    let rest = c.into_iter-senders-iterator.ensures.into_iter_gives in
-    let len : vec_len c.in_ok-takers.rows ≡ length c.in_ok-takers.rows.items = search rules in
-    let t = YieldsList-end (YieldsList-from_vec c.in_ok-takers.rows.items rest.0 (rest.1 ∙ len)) c.loop-senders.yielded c.loop-senders.senders-iterator c.loop-senders.yielded_by c.next.result c.next.new.self c.in-None.is c.next.ensures.steps in
-    let all : c.loop-senders.yielded ≡ map (λ (x : Courier). x.senders) c.args.couriers.items = sym (map-id c.loop-senders.yielded) ∙ (t.0 ∙ c.in_ok-takers.ensures.rows) in
-    let P : List TakerView × List Row → Type 0 = λ x. GathersRows x.0 c.loop-senders.takers.items x.1 in
-    subst P (λ i. (c.in_ok-takers.ensures.takers i, all i)) c.loop-senders.invariant.gathered
+pub gather_back-requires-clause-seated : goal.gather_back-requires-clause-seated
+gather_back-requires-clause-seated g c = all_seated c.args.inboxes.now c.args.couriers.items c.requires
 
 pub returns-clause-settled : goal.returns-clause-settled
-returns-clause-settled g c = settled c.args.inboxes.now c.args.couriers.items c.requires c.loop-senders.takers.items (all_rows g c)
+returns-clause-settled g c = IfOk-weaker c.gather_back.result
+    (λ (ts : Vec TakerView Global). GathersBack c.args.couriers.items ts.items)
+    (λ (ts : Vec TakerView Global). Settled c.args.inboxes.now ts.items)
+    (λ ts back. settled c.args.inboxes.now c.args.couriers.items c.requires ts.items back)
+    c.gather_back.ensures
 
 pub returns-clause-plain : goal.returns-clause-plain
-returns-clause-plain g c = plain_home c.args.inboxes.now c.args.couriers.items c.requires c.loop-senders.takers.items (all_rows g c)
+returns-clause-plain g c = IfOk-weaker c.gather_back.result
+    (λ (ts : Vec TakerView Global). GathersBack c.args.couriers.items ts.items)
+    (λ (ts : Vec TakerView Global). Each IsPlain ts.items)
+    (λ ts back. plain_home c.args.inboxes.now c.args.couriers.items c.requires ts.items back)
+    c.gather_back.ensures
 
 pub returns-clause-came_home : goal.returns-clause-came_home
-returns-clause-came_home g c = came_home c.args.inboxes.now c.args.couriers.items c.requires c.loop-senders.takers.items (all_rows g c)
+returns-clause-came_home g c = IfOk-weaker c.gather_back.result
+    (λ (ts : Vec TakerView Global). GathersBack c.args.couriers.items ts.items)
+    (λ (ts : Vec TakerView Global). AllZip (ComesHome c.args.couriers.items) c.args.couriers.items ts.items)
+    (λ ts back. came_home c.args.inboxes.now c.args.couriers.items c.requires ts.items back)
+    c.gather_back.ensures

@@ -1,6 +1,6 @@
 use Rattle.copy_exchange.specs.Steps.{AreTakersOf}
 use Rattle.copy_exchange.proofs.Homes.{GathersRows}
-use Rattle.copy_exchange.proofs.window.gathered.Given as goal
+use Rattle.copy_exchange.proofs.window.gather_back.Given as goal
 
 abbrev pub invariant-loop-senders : goal.invariant-loop-senders
 invariant-loop-senders g l = record {
