@@ -7,8 +7,6 @@ mod kernels;
 mod looked_up;
 mod motes;
 mod protothreads;
-mod queues;
-mod reader;
 mod timers;
 
 use process_kernel::Line;

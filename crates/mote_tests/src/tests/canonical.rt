@@ -23,10 +23,10 @@ fn prints(alloc: Global, text: &str, want: &str) -> Result<(), Fail> {
     has_canonical(alloc, want, want)
 }
 
-#[test]
-fn print_then_yield(rt: HostRuntime) -> Result<(), Fail> {
-    let text = "process a; autostart a; code a { body { print 1; yield; print 2; } }";
-    let want = "process a;
+const PRINT_THEN_YIELD: &str =
+    "process a; autostart a; code a { body { print 1; yield; print 2; } }";
+
+const PRINT_THEN_YIELD_PRINTED: &str = "process a;
 autostart a;
 code a {
   body {
@@ -36,15 +36,13 @@ code a {
   }
 }
 ";
-    prints(rt.alloc(), text, want)
-}
 
-#[test]
-fn declarations_and_empty_parts(rt: HostRuntime) -> Result<(), Fail> {
-    let text = "event e;event f;semaphore s=3;process a,b;autostart b,a;receiver b;
+const DECLARATIONS_AND_EMPTY_PARTS: &str =
+    "event e;event f;semaphore s=3;process a,b;autostart b,a;receiver b;
         code a{var x=1;var y=65535;etimer t;ctimer c{}thread h{}onpoll{}onexit{print 0;}body{}}
         code b{body{}}";
-    let want = "event e;
+
+const DECLARATIONS_AND_EMPTY_PARTS_PRINTED: &str = "event e;
 event f;
 semaphore s = 3;
 process a, b;
@@ -71,16 +69,14 @@ code b {
   }
 }
 ";
-    prints(rt.alloc(), text, want)
-}
 
-#[test]
-fn statements(rt: HostRuntime) -> Result<(), Fail> {
-    let text = "event e;semaphore s=0;process a;code a{var x=0;etimer t;thread h{restart;}body{
+const STATEMENTS: &str =
+    "event e;semaphore s=0;process a;code a{var x=0;etimer t;thread h{restart;}body{
         x=1;send x;wait_until 1;wait_while 0;yield;yield_until x;spawn h;exit;pause;acquire s;signal s;
         post a e x into x;post a exit 0;broadcast msg x into x;broadcast com 1;synch a packet 2;poll a;
         start a;kill a;set t 5;reset t;restart_timer t;stop t;}}";
-    let want = "event e;
+
+const STATEMENTS_PRINTED: &str = "event e;
 semaphore s = 0;
 process a;
 code a {
@@ -116,16 +112,13 @@ code a {
   }
 }
 ";
-    prints(rt.alloc(), text, want)
-}
 
-#[test]
-fn branches_and_expressions(rt: HostRuntime) -> Result<(), Fail> {
-    let text = "semaphore s=0;process a;code a{var x=0;etimer t;body{
+const BRANCHES_AND_EXPRESSIONS: &str = "semaphore s=0;process a;code a{var x=0;etimer t;body{
         if x{}else{if(x==1){print !x;}}while((x+1)<(2*!!from)){}
         print(is(continue)||(is(init)&&is(exit)));print((fired(t)!=expired(t))>=gone(a));
         print((running(a)<=count(s))>(now-(self/(data%7))));}}";
-    let want = "semaphore s = 0;
+
+const BRANCHES_AND_EXPRESSIONS_PRINTED: &str = "semaphore s = 0;
 process a;
 code a {
   var x = 0;
@@ -145,5 +138,19 @@ code a {
   }
 }
 ";
-    prints(rt.alloc(), text, want)
+
+#[test]
+fn canonical_texts(rt: HostRuntime) -> Result<(), Fail> {
+    for (text, want) in [
+        (PRINT_THEN_YIELD, PRINT_THEN_YIELD_PRINTED),
+        (
+            DECLARATIONS_AND_EMPTY_PARTS,
+            DECLARATIONS_AND_EMPTY_PARTS_PRINTED,
+        ),
+        (STATEMENTS, STATEMENTS_PRINTED),
+        (BRANCHES_AND_EXPRESSIONS, BRANCHES_AND_EXPRESSIONS_PRINTED),
+    ] {
+        prints(rt.alloc(), text, want)?;
+    }
+    Ok(())
 }

@@ -3,6 +3,7 @@
 use super::{PRINT_THEN_YIELD, SENDER, same_text, write_lines, write_sends};
 use mote_node::{Mote, MoteError, TurnOut};
 use mote_program::read;
+use process_kernel::KernelError;
 use program_tree::Program;
 use radio_packet::Arrival;
 use std::alloc::{AllocError, Global};
@@ -96,26 +97,19 @@ fn tells(alloc: Global, program: &str, turns: &[Turn], want: &str) -> Result<(),
 }
 
 /// A turn at a moment that isn't above the last turn's is refused, and the next one that is above it isn't.
-#[test]
-fn moments_rise(rt: HostRuntime) -> Result<(), Fail> {
-    let turns = [(0, None), (0, None), (1, None)];
-    tells(
-        rt.alloc(),
-        PRINT_THEN_YIELD,
-        &turns,
-        "Some(0)|0 Start(Etimer)|0 Start(Ctimer)|0 Start(Radio)|0 Start(Own(0))|0 Print(Own(0), 1)|wake None|None|Past|None|wake None|None|",
-    )
-}
+const PAST_TURN: &str =
+    "Some(0)|0 Start(Etimer)|0 Start(Ctimer)|0 Start(Radio)|0 Start(Own(0))|0 Print(Own(0), 1)|wake None|None|Past|None|wake None|None|";
+
+/// A mote sends a packet, and gets one that its program has no receiver for.
+const DEAF: &str =
+    "Some(0)|0 Start(Etimer)|0 Start(Ctimer)|0 Start(Radio)|0 Start(Own(0))|0 Send(0, 12)|sent 0 7 0 12|wake None|None|2 Recv(4, 0, 9)|2 Deaf(4, 0)|wake None|None|";
 
 #[test]
-fn mote_by_hand(rt: HostRuntime) -> Result<(), Fail> {
-    let turns = [(0, None), (2, Some(PACKET))];
-    tells(
-        rt.alloc(),
-        SENDER,
-        &turns,
-        "Some(0)|0 Start(Etimer)|0 Start(Ctimer)|0 Start(Radio)|0 Start(Own(0))|0 Send(0, 12)|sent 0 7 0 12|wake None|None|2 Recv(4, 0, 9)|2 Deaf(4, 0)|wake None|None|",
-    )
+fn turns_by_hand(rt: HostRuntime) -> Result<(), Fail> {
+    let alloc = rt.alloc();
+    let turns = [(0, None), (0, None), (1, None)];
+    tells(alloc, PRINT_THEN_YIELD, &turns, PAST_TURN)?;
+    tells(alloc, SENDER, &[(0, None), (2, Some(PACKET))], DEAF)
 }
 
 /// Nine packets of mote 4, with values from 9 on.
@@ -151,11 +145,10 @@ fn nine_told(alloc: Global) -> Result<String, Fail> {
 #[test]
 fn nine_arrivals(rt: HostRuntime) -> Result<(), Fail> {
     let told = nine_told(rt.alloc())?;
-    assert_eq!(rt;
+    same_text(
         told.as_str(),
-        "0 Start(Etimer)|0 Start(Ctimer)|0 Start(Radio)|0 Start(Own(0))|0 Send(0, 12)|sent 0 7 0 12|wake None|None|2 Recv(4, 0, 9)|2 Recv(4, 1, 10)|2 Recv(4, 2, 11)|2 Recv(4, 3, 12)|2 Recv(4, 4, 13)|2 Recv(4, 5, 14)|2 Recv(4, 6, 15)|2 Recv(4, 7, 16)|2 Lost(4, 8)|2 Deaf(4, 0)|2 Deaf(4, 1)|2 Deaf(4, 2)|2 Deaf(4, 3)|2 Deaf(4, 4)|2 Deaf(4, 5)|2 Deaf(4, 6)|2 Deaf(4, 7)|wake None|"
-    );
-    Ok(())
+        "0 Start(Etimer)|0 Start(Ctimer)|0 Start(Radio)|0 Start(Own(0))|0 Send(0, 12)|sent 0 7 0 12|wake None|None|2 Recv(4, 0, 9)|2 Recv(4, 1, 10)|2 Recv(4, 2, 11)|2 Recv(4, 3, 12)|2 Recv(4, 4, 13)|2 Recv(4, 5, 14)|2 Recv(4, 6, 15)|2 Recv(4, 7, 16)|2 Lost(4, 8)|2 Deaf(4, 0)|2 Deaf(4, 1)|2 Deaf(4, 2)|2 Deaf(4, 3)|2 Deaf(4, 4)|2 Deaf(4, 5)|2 Deaf(4, 6)|2 Deaf(4, 7)|wake None|",
+    )
 }
 
 /// Whether a mote whose turn found no memory fails for good, and never wakes.
@@ -178,14 +171,14 @@ fn a_refused_turn_fails_for_good(rt: HostRuntime) -> Result<(), Fail> {
     Ok(())
 }
 
-/// The numbers by which the errors are told.
+/// The numbers by which the errors of motes and of kernels are told.
 #[test]
-fn numbers_of_mote_errors(rt: HostRuntime) -> Result<(), Fail> {
-    let numbers = [
+fn numbers_of_errors(rt: HostRuntime) {
+    let motes = [
         MoteError::Memory as u8,
         MoteError::Failed as u8,
         MoteError::Past as u8,
     ];
-    assert!(rt; numbers == [1, 2, 3]);
-    Ok(())
+    let kernels = [KernelError::Memory as u8, KernelError::Failed as u8];
+    assert!(rt; motes == [1, 2, 3] && kernels == [1, 2]);
 }
