@@ -19,7 +19,7 @@ use Rattle.copy_exchange.specs.Couriers.{IsCourier, IsSeated, IsSenderOn, Leaves
 use Rattle.worker_cut.proofs.Owners.{own_is}
 use Rattle.copy_exchange.proofs.Parts.{pushed-append}
 
-same_at : (senders : List (Option SenderView)) (v : ℕ) (d e : Option SenderView) → v < length senders → get_or senders v d ≡ get_or senders v e
+pub same_at : (senders : List (Option SenderView)) (v : ℕ) (d e : Option SenderView) → v < length senders → get_or senders v d ≡ get_or senders v e
 same_at [] v d e lt = absurd (omega arith)
 same_at (s ∷ ss) zero d e lt = refl
 same_at (s ∷ ss) (suc v) d e lt = same_at ss v d e (omega arith)
@@ -126,7 +126,7 @@ module _ (inboxes : List InboxId) (of : List ℕ) (c : Courier) (copy : RadioCop
       marked = refl;
       made = refl;
       gathered = refl;
-      seats = map-set_same seat_of c.senders.items to (Some t) (Some s) (ap Some (λ i. (same_inbox i, (post i).number)) ∙ ap seat_of was);
+      seats = map-set_same seat_of c.senders.items to (Some t) (Some s) (ap Some (λ i. (same_inbox i, (post i).number, (post i).marked)) ∙ ap seat_of was);
     };
     taker = refl;
     adds = adds_at;

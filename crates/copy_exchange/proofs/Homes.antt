@@ -27,7 +27,7 @@ read_map [] v = refl
 read_map (x ∷ xs) zero = refl
 read_map (x ∷ xs) (suc v) = read_map xs v
 
-same_seat : (old new : Courier) (v : ℕ) → Stays old new → seat_of (sender_to new v) ≡ seat_of (sender_to old v)
+pub same_seat : (old new : Courier) (v : ℕ) → Stays old new → seat_of (sender_to new v) ≡ seat_of (sender_to old v)
 same_seat old new v h = read_map new.senders.items v ∙ (ap (λ l. get_or l v None) h.seats ∙ sym (read_map old.senders.items v))
 
 numbers_same : (o p : Option SenderView) (ss us : List SenderView) → seat_of o ≡ seat_of p → numbers_of ss ≡ numbers_of us → numbers_of (cons_option o ss) ≡ numbers_of (cons_option p us)
@@ -35,8 +35,8 @@ numbers_same None None ss us e h = h
 numbers_same None (Some q) ss us e h = absurd cc
 numbers_same (Some p) None ss us e h = absurd cc
 numbers_same (Some p) (Some q) ss us e h =
-    let pair : (p.inbox, p.post.number) ≡ (q.inbox, q.post.number) = cc in
-    let number : p.post.number ≡ q.post.number = ap (λ (x : InboxId × ℕ). x.1) pair in
+    let seat : (p.inbox, p.post.number, p.post.marked) ≡ (q.inbox, q.post.number, q.post.marked) = cc in
+    let number : p.post.number ≡ q.post.number = ap (λ (x : InboxId × ℕ × Bool). x.1) seat in
     λ i. number i ∷ h i
 
 module _ (inboxes : List InboxId) (worker_of : ℕ → ℕ) where

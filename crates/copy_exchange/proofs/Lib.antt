@@ -4,6 +4,7 @@ pub mod Delivered
 pub mod Gathers
 pub mod Homes
 pub mod Lists
+pub mod Marked
 pub mod Owns
 pub mod Parts
 pub mod Rows

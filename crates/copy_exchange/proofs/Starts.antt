@@ -11,11 +11,11 @@ use Rattle.copy_inbox.specs.Gathered.{is_gathered}
 use Rattle.copy_inbox.specs.Views.{make_desk, make_post}
 use Rattle.copy_inbox.specs.Handles.{InboxId, TakerView, SenderView, AllGathered}
 use Rattle.copy_exchange.specs.declared.courier.Courier.{Courier}
-use Rattle.copy_exchange.specs.Desks.{IsOrderly}
-use Rattle.copy_exchange.specs.Couriers.{IsCourier, IsSenderOn, AreOpen, Together, SetsOut, senders_to, pushed_by}
+use Rattle.copy_exchange.specs.Desks.{copies_pushed, IsOrderly}
+use Rattle.copy_exchange.specs.Couriers.{IsCourier, IsSenderOn, AreOpen, Together, SetsOut, HasMarks, HasPushedNothing, senders_to, pushed_by, pushed_list}
 use Rattle.copy_exchange.specs.Inboxes.{IsSettled, Settled}
 use Rattle.copy_exchange.specs.Steps.{AreTakersOf, Opens, at_place, opened_taker, opened_sender}
-use Rattle.copy_exchange.proofs.Lists.{each_map}
+use Rattle.copy_exchange.proofs.Lists.{each_at, each_map, each_more}
 use Rattle.copy_exchange.proofs.Gathers.{numbers_of, gathered_more}
 use Rattle.copy_exchange.proofs.Owns.{workers_of}
 use Rattle.copy_exchange.proofs.Rows.{opened_takers, same_read}
@@ -49,7 +49,11 @@ stands_more t n h all =
 pub record IsRow (inboxes : List InboxId) (u : ℕ) (row : Row) : Type 0 where
   pub count : length row.items ≡ length inboxes
   pub each : (v : ℕ) (id : InboxId) → slice_get inboxes v ≡ Some id → IsSenderOn id (v == u) (at_place row.items v)
-  pub nothing : (v : ℕ) → pushed_by (at_place row.items v) ≡ []
+  pub nothing : (v : ℕ) → pushed_list (at_place row.items v) ≡ []
+
+-- each of a worker's new senders is of an inbox with marks where the inbox's taker is
+abbrev pub HasMarksOf : List InboxId → List TakerView → Row → Type 0
+HasMarksOf inboxes takers row = (v : ℕ) (t : TakerView) (s : SenderView) → v < length inboxes → at_place row.items v ≡ Some s → s.post.marked ≡ (get_or takers v t).desk.marked
 
 abbrev pub AreRows : List InboxId → (u : ℕ) → List Row → Type 0
 AreRows inboxes u [] = Unit {0}
@@ -58,6 +62,7 @@ AreRows inboxes u (r ∷ rs) = IsRow inboxes u r × AreRows inboxes (u + 1) rs
 pub record OpensRows (inboxes : List InboxId) (old new : List TakerView) (rows : List Row) : Type 0 where
   pub takers : AreTakersOf inboxes new
   pub are_rows : AreRows inboxes 0 rows
+  pub marked : Each (HasMarksOf inboxes old) rows
   pub taker : (v : ℕ) (t : TakerView) → v < length inboxes → get_or new v t ≡ with_more (get_or old v t) (length (row_senders rows v))
   pub numbered : (v : ℕ) (t : TakerView) → v < length inboxes → numbers_of (row_senders rows v) ≡ range_with_len (get_or old v t).desk.made (length (row_senders rows v))
 
@@ -81,6 +86,7 @@ pub opens_no_rows : (inboxes : List InboxId) (old : List TakerView) → Settled 
 opens_no_rows inboxes old h = record {
   takers = settled_takers inboxes old h;
   are_rows = tt;
+  marked = tt;
   taker = λ v t lt. λ i. record { inbox = (get_or old v t).inbox; desk = record { marked = (get_or old v t).desk.marked; made = sym (add-zero (get_or old v t).desk.made) i; taken = (get_or old v t).desk.taken; gathered = (get_or old v t).desk.gathered } };
   numbered = λ v t lt. refl;
 }
@@ -94,9 +100,16 @@ opening_fits : (own : Bool) (t : TakerView) → IsSenderOn t.inbox own (opened_s
 opening_fits true t = refl
 opening_fits false t = refl
 
-opening_nothing : (own : Bool) (t : TakerView) → pushed_by (opened_sender own t) ≡ []
+opening_nothing : (own : Bool) (t : TakerView) → pushed_list (opened_sender own t) ≡ []
 opening_nothing true t = refl
 opening_nothing false t = refl
+
+opening_marked : (own : Bool) (t : TakerView) (s : SenderView) → opened_sender own t ≡ Some s → s.post.marked ≡ t.desk.marked
+opening_marked true t s e = absurd cc
+opening_marked false t s e =
+    let opened : SenderView = record { inbox = t.inbox; post = make_post t.desk.marked t.desk.made [] } in
+    let same : opened ≡ s = cc in
+    ap (λ (x : SenderView). x.post.marked) (sym same)
 
 -- a default where the list isn't empty
 first_of : (xs : List TakerView) (v : ℕ) → v < length xs → TakerView
@@ -121,8 +134,8 @@ opens_row inboxes u old new row a h =
           let P : InboxId × Option SenderView → Type 0 = λ x. IsSenderOn x.0 (v == u) x.1 in
           subst P (λ i. (is i, sym (h.sender v t inside) i)) (opening_fits (v == u) (get_or old v t));
       nothing = λ v. ⊎_elim
-          (λ (lt : v < length old). ap pushed_by (h.sender v (first_of old v lt) lt) ∙ opening_nothing (v == u) (get_or old v (first_of old v lt)))
-          (λ (le : length old ≤ v). ap pushed_by (past row.items v (omega arith)))
+          (λ (lt : v < length old). ap pushed_list (h.sender v (first_of old v lt) lt) ∙ opening_nothing (v == u) (get_or old v (first_of old v lt)))
+          (λ (le : length old ≤ v). ap pushed_list (past row.items v (omega arith)))
           (cases_lt v (length old));
     }
 
@@ -163,6 +176,7 @@ opens_more_rows inboxes u old mid new rows row h r e =
     record {
       takers = opened_takers inboxes u mid new row.items h.takers r;
       are_rows = rows_more inboxes 0 rows row h.are_rows (subst P (let z : u ≡ 0 + length rows = omega arith in z) (opens_row inboxes u mid new row h.takers r));
+      marked = each_more (HasMarksOf inboxes old) rows row h.marked (λ v t s lt found. opening_marked (v == u) (with_more (get_or old v t) (length (row_senders rows v))) s (sym (same v t lt) ∙ found));
       taker = λ v t lt.
           r.taker v t (omega arith) ∙ (ap (opened_taker (v == u)) (h.taker v t lt)
           ∙ (opened_more (v == u) (get_or old v t) (length (row_senders rows v)) (row_senders rows v) refl ∙ ap (λ l. with_more (get_or old v t) (length l)) (sym (joined v t lt))));
@@ -233,6 +247,10 @@ module _ (R : TakerView → Courier → Type 0) where
   built_zip u [] (t ∷ ts) rows e same f = absurd (omega arith)
   built_zip u (o ∷ os) [] rows e same f = absurd (omega arith)
   built_zip u (o ∷ os) (t ∷ ts) [] e same f = absurd (omega arith)
+
+none_delivered : (o : Option SenderView) → pushed_list o ≡ [] → pushed_by o ≡ []
+none_delivered None e = refl
+none_delivered (Some s) e = ap copies_pushed e
 
 row_at : (inboxes : List InboxId) (u : ℕ) (rows : List Row) (i : ℕ) (d : Row) → AreRows inboxes u rows → i < length rows → IsRow inboxes (u + i) (get_or rows i d)
 row_at inboxes u [] i d h lt = absurd (omega arith)
@@ -309,5 +327,22 @@ module _ (inboxes : List InboxId) (olds ts : List TakerView) (rows : List Row) (
         same_marked = ap (λ (x : TakerView). x.desk.marked) (h.taker i t inside) ∙ ap (λ (x : TakerView). x.desk.marked) same;
         same_taken = ap (λ (x : TakerView). x.desk.taken) (h.taker i t inside) ∙ ap (λ (x : TakerView). x.desk.taken) same;
         same_gathered = ap (λ (x : TakerView). x.desk.gathered) (h.taker i t inside) ∙ ap (λ (x : TakerView). x.desk.gathered) same;
-        nothing = row.nothing;
+        nothing = λ v. none_delivered (at_place (get_or rows i r).items v) (row.nothing v);
       })
+
+  pub pushed_nothing : Each HasPushedNothing Made
+  pushed_nothing = built_each HasPushedNothing 0 ts rows row_long (λ i t r lt.
+      let n = row_long in
+      (row_at inboxes 0 rows i r h.are_rows (omega arith)).nothing)
+
+  pub has_marks : Each (λ (t : TakerView). t.desk.marked ≡ true) olds → Each HasMarks Made
+  has_marks all = built_each HasMarks 0 ts rows row_long (λ i t r lt v s found.
+      let n = row_long in
+      let k = old_long in
+      let row = row_at inboxes 0 rows i r h.are_rows (omega arith) in
+      let count = row.count in
+      let inside : v < length inboxes = ⊎_elim
+      (λ (less : v < length inboxes). less)
+      (λ (over : length inboxes ≤ v). absurd (let none : None ≡ Some s = sym (past (get_or rows i r).items v (omega arith)) ∙ found in cc))
+      (cases_lt v (length inboxes)) in
+      each_at (HasMarksOf inboxes olds) rows i r h.marked (omega arith) v t s inside found ∙ each_at (λ (x : TakerView). x.desk.marked ≡ true) olds v t all (omega arith))

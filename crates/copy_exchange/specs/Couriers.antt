@@ -1,11 +1,11 @@
 -- What a courier carries to and fro in one window.
-use Rattle.std.specs.Prelude.{◌≡◌, ℕ, ◌+◌, ◌<◌, ◌≤◌, ◌==◌, Bool, true, false, List, [], ◌++◌, length, map, filter, slice_get, slice_index, slice_index_or, Option, Some, None}
+use Rattle.std.specs.Prelude.{◌≡◌, ℕ, ◌+◌, ◌<◌, ◌≤◌, ◌==◌, Bool, true, false, List, [], ◌∷◌, ◌++◌, length, map, filter, slice_get, slice_index, slice_index_or, Option, Some, None}
 use Rattle.std.specs.List.{AllByRecursion as Each, AllZip, filter_map, flat_map, range_with_len}
 use Rattle.std.specs.Option.{IsSomeAnd}
 use Rattle.radio_packet.specs.declared.copy.RadioCopy.{RadioCopy}
 use Rattle.worker_cut.specs.Crossed.{is_to}
 use Rattle.copy_inbox.specs.declared.items.Carried.{Carried}
-use Rattle.copy_inbox.specs.declared.items.Carried.TheVariants.{Packet}
+use Rattle.copy_inbox.specs.declared.items.Carried.TheVariants.{Packet, Mark}
 use Rattle.copy_inbox.specs.declared.rule.Desk.{Desk}
 use Rattle.copy_inbox.specs.Gathered.{is_gathered, Whole}
 use Rattle.copy_inbox.specs.Handles.{InboxId, TakerView, SenderView}
@@ -44,6 +44,14 @@ pushed_list (Some s) = s.post.pushed
 abbrev pub pushed_to : Courier → (v : ℕ) → List Carried
 pushed_to c v = pushed_list (sender_to c v)
 
+-- its senders are those of inboxes with marks
+abbrev pub HasMarks : Courier → Type 0
+HasMarks c = (v : ℕ) (s : SenderView) → sender_to c v ≡ Some s → s.post.marked ≡ true
+
+-- nothing went through its senders yet, no copy and no mark
+abbrev pub HasPushedNothing : Courier → Type 0
+HasPushedNothing c = (v : ℕ) → pushed_to c v ≡ []
+
 -- its taker and its senders are those of these inboxes
 pub record IsSeated (inboxes : List InboxId) (c : Courier) : Type 0 where
   pub taker : slice_get inboxes c.worker ≡ Some c.taker.inbox
@@ -66,10 +74,10 @@ abbrev pub DeliversOwn : (worker_of : ℕ → ℕ) → Courier → Type 0
 DeliversOwn worker_of c = (s v : ℕ) → (worker_of s == c.worker) ≡ false → filter (is_from_sender s) (delivered c v) ≡ []
 
 -- ---- from the start of a window to its end
--- which sender it is
-abbrev pub seat_of : Option SenderView → Option (InboxId × ℕ)
+-- which sender it is, and whether its inbox has marks
+abbrev pub seat_of : Option SenderView → Option (InboxId × ℕ × Bool)
 seat_of None = None
-seat_of (Some s) = Some (s.inbox, s.post.number)
+seat_of (Some s) = Some (s.inbox, s.post.number, s.post.marked)
 
 -- the same courier, whatever it took and delivered
 pub record Stays (old new : Courier) : Type 0 where
@@ -112,6 +120,12 @@ pub record PushesOut (of : List ℕ) (old new : Courier) (copies : List RadioCop
   pub stays : Stays old new
   pub taker : new.taker ≡ old.taker
   pub pushes : (v : ℕ) → (v == old.worker) ≡ false → pushed_to new v ≡ pushed_to old v ++ map Packet (filter (is_to of v) copies)
+
+-- it pushed the mark of this window to each other of so many workers, and nothing else
+pub record PushesMarks (workers window : ℕ) (old new : Courier) : Type 0 where
+  pub stays : Stays old new
+  pub taker : new.taker ≡ old.taker
+  pub pushes : (v : ℕ) → v < workers → (v == old.worker) ≡ false → pushed_to new v ≡ pushed_to old v ++ Mark window ∷ []
 
 -- ---- the couriers of one window
 -- the courier of this taker at the start of a window

@@ -1,10 +1,14 @@
 -- The steps before a window and after it, inbox by inbox.
-use Rattle.std.specs.Prelude.{◌≡◌, ℕ, ◌<◌, ◌==◌, Bool, false, cond, List, [], length, slice_index_or, Option, Some, None}
+use Rattle.std.specs.Prelude.{◌≡◌, ◌≢◌, ℕ, ◌<◌, ◌==◌, Bool, false, cond, List, [], ◌∷◌, ◌++◌, length, slice_index_or, Option, Some, None}
+use Rattle.copy_inbox.specs.declared.items.Carried.{Carried}
+use Rattle.copy_inbox.specs.declared.items.Carried.TheVariants.{Mark}
 use Rattle.copy_inbox.specs.declared.rule.Desk.{Desk}
 use Rattle.copy_inbox.specs.declared.rule.Post.{Post}
 use Rattle.copy_inbox.specs.Items.{Packets, BeginsWith, part}
 use Rattle.copy_inbox.specs.Views.{make_post}
 use Rattle.copy_inbox.specs.Handles.{InboxId, TakerView, SenderView, after_sender, after_gather}
+use Rattle.copy_exchange.specs.declared.courier.Courier.{Courier}
+use Rattle.copy_exchange.specs.Couriers.{Stays, sender_to, pushed_to}
 
 -- each taker is that of the inbox at its place
 pub record AreTakersOf (inboxes : List InboxId) (takers : List TakerView) : Type 0 where
@@ -49,3 +53,15 @@ pub record GathersRow (old new : List TakerView) (senders : List (Option SenderV
   pub taker : (v : ℕ) (t : TakerView) → v < length old → slice_index_or new v t ≡ gather_into (slice_index_or old v t) (at_place senders v)
   pub told : (v : ℕ) (t : TakerView) (s : SenderView) → v < length old → at_place senders v ≡ Some s
       → TellsOf (slice_index_or old v t).desk s.post
+
+-- ---- a mark goes through one sender
+abbrev pub pushed_with_mark : Option SenderView → (window : ℕ) → List Carried
+pushed_with_mark None window = []
+pushed_with_mark (Some s) window = s.post.pushed ++ Mark window ∷ []
+
+-- the sender at this place, if there is one, pushed the mark; all else is as it was
+pub record MarksOne (to window : ℕ) (old new : Courier) : Type 0 where
+  pub stays : Stays old new
+  pub taker : new.taker ≡ old.taker
+  pub here : pushed_to new to ≡ pushed_with_mark (sender_to old to) window
+  pub others : (v : ℕ) → v ≢ to → sender_to new v ≡ sender_to old v

@@ -1,9 +1,10 @@
 //! What a worker takes along into its thread.
 
-ghost use Rattle.std.specs.Prelude.{[], ◌∷◌, length, IfOk, OnOk, OnErr, ◌≡◌};
+ghost use Rattle.std.specs.Prelude.{[], ◌∷◌, ◌<◌, true, length, IfOk, IfSome, OnOk, OnErr, ◌≡◌};
 ghost use Rattle.std.specs.List.{AllByRecursion as Each};
-ghost use Rattle.copy_exchange.specs.Couriers.{IsCourier, IsSeated, Collects, Delivers, Leaves, Reaches, PushesOut};
+ghost use Rattle.copy_exchange.specs.Couriers.{IsCourier, IsSeated, HasMarks, Collects, Delivers, Leaves, Reaches, PushesOut, PushesMarks, sender_to};
 ghost use Rattle.copy_exchange.specs.Inboxes.{IsPlain};
+ghost use Rattle.copy_exchange.specs.Steps.{MarksOne};
 
 use copy_inbox::{Inbox, InboxError, Sender, Taker};
 use radio_packet::RadioCopy;
@@ -118,6 +119,45 @@ impl Courier {
             return Ok(());
         }
         self.deliver_one(rt, inboxes, of, copy)
+    }
+
+    /// Pushes the mark of a window to each other worker. The inboxes have marks. A mark that comes back is
+    /// [`InboxError::Memory`]; what was pushed before it stays.
+    pub fn push_marks<R: Wait>(
+        &mut self,
+        rt: &R,
+        inboxes: &[Inbox],
+        window: u64,
+    ) -> Result<(), InboxError>
+        requires seated { IsSeated inboxes.now self.old }
+        requires marked { HasMarks self.old }
+        ensures pushes { OnOk result (PushesMarks (length inboxes.now) window self.old self.new) }
+        ensures seated { OnOk result (IsSeated inboxes.now self.new) }
+    {
+        for to in 0..inboxes.len() {
+            self.push_mark_to(rt, &inboxes[to], to, window)?;
+        }
+        Ok(())
+    }
+
+    // Pushes the mark through the sender at a place, where there is one.
+    fn push_mark_to<R: Wait>(
+        &mut self,
+        rt: &R,
+        inbox: &Inbox,
+        to: usize,
+        window: u64,
+    ) -> Result<(), InboxError>
+        requires there { to < length self.old.senders.items }
+        requires sender { IfSome (sender_to self.old to) (λ s. (s.inbox ≡ inbox.now) × (s.post.marked ≡ true)) }
+        ensures marks { OnOk result (MarksOne to window self.old self.new) }
+    {
+        if let Some(sender) = &mut self.senders[to] {
+            inbox
+                .push_mark(rt, sender, window)
+                .map_err(|_| InboxError::Memory)?;
+        }
+        Ok(())
     }
 
     // Delivers one copy.

@@ -1,8 +1,8 @@
 //! Before a window and after it.
 
-ghost use Rattle.std.specs.Prelude.{◌≡◌, ◌≤◌, ◌^◌, length, map, IfOk, IfSome, OnOk};
+ghost use Rattle.std.specs.Prelude.{◌≡◌, ◌≤◌, ◌^◌, true, length, map, IfOk, IfSome, OnOk};
 ghost use Rattle.std.specs.List.{AllByRecursion as Each, AllZip};
-ghost use Rattle.copy_exchange.specs.Couriers.{Together, SetsOut, AllReturn, ComesHome};
+ghost use Rattle.copy_exchange.specs.Couriers.{Together, SetsOut, HasMarks, HasPushedNothing, AllReturn, ComesHome};
 ghost use Rattle.copy_exchange.specs.Inboxes.{IsPlain, Settled};
 ghost use Rattle.copy_exchange.specs.Steps.{AreTakersOf, Opens, opened_taker, opened_sender, AreSendersOn, gather_into, GathersRow, TellsOf};
 
@@ -21,6 +21,8 @@ pub fn couriers(
     requires settled { Settled inboxes.now takers.items }
     ensures together { IfOk result (λ couriers. Together inboxes.now couriers.items) }
     ensures set_out { IfOk result (λ couriers. AllZip SetsOut takers.items couriers.items) }
+    ensures nothing { IfOk result (λ couriers. Each HasPushedNothing couriers.items) }
+    ensures marked { IfOk result (λ couriers. Each (λ taker. taker.desk.marked ≡ true) takers.items → Each HasMarks couriers.items) }
 {
     let mut takers = takers;
     let mut rows = Vec::with_capacity(alloc, inboxes.len())?;

@@ -1,9 +1,8 @@
 -- One item more is counted.
-use Rattle.std.proofs.Common.{◌≡◌, ◌≢◌, ℕ, ◌+◌, ◌<◌, ◌≤◌, ◌^◌, true, false, eqb, List, [], ◌∷◌, ◌++◌, length, set, get_or, filter, refl, sym, ap, ◌∙◌, subst, ⊎_elim, arith, length-append, length-set, append-nil, append_assoc, zero, suc}
+use Rattle.std.proofs.Common.{◌≡◌, ◌≢◌, ℕ, ◌+◌, ◌<◌, ◌≤◌, ◌^◌, true, false, eqb, List, [], ◌∷◌, ◌++◌, length, set, get_or, refl, sym, ap, ◌∙◌, subst, ⊎_elim, arith, length-set, append-nil, append_assoc, zero, suc}
 use Rattle.std.specs.List.{AllByRecursion as Each}
 use Rattle.std.proofs.lemmas.Bool.Decides.{eqb_tells}
 use Rattle.std.proofs.lemmas.List.{get_or-set_same, get_or-set_other}
-use Rattle.std.proofs.lemmas.List.Elements.{filter-append}
 use Rattle.radio_packet.specs.declared.copy.RadioCopy.{RadioCopy}
 use Rattle.copy_inbox.specs.declared.items.Carried.{Carried}
 use Rattle.copy_inbox.specs.declared.items.Carried.TheVariants.{Packet, Mark}
@@ -15,7 +14,9 @@ use Rattle.copy_inbox.proofs.Parts.{part-append, part-here, part-else}
 use Rattle.copy_exchange.proofs.Lists.{each_join}
 use Rattle.copy_exchange.proofs.Parts.{copies-append}
 use Rattle.mark_exchange.specs.Due.{IsDue, AddsCopy, TakesDue}
-use Rattle.mark_exchange.specs.Marks.{is_mark, marks_in, marks_of, Counts, AreNone}
+use Rattle.mark_exchange.specs.Marks.{marks_of, Counts, AreNone}
+use Rattle.mark_law.specs.Marks.{marks_in}
+use Rattle.mark_law.proofs.Whole.{marks_append}
 
 -- ---- marks of what was taken, with one item more
 pub same_read : (xs : List ℕ) (i d e : ℕ) → i < length xs → get_or xs i d ≡ get_or xs i e
@@ -23,11 +24,8 @@ same_read [] i d e lt = absurd (omega arith)
 same_read (x ∷ xs) zero d e lt = refl
 same_read (x ∷ xs) (suc i) d e lt = same_read xs i d e (omega arith)
 
-marks-append : (xs ys : List Carried) → marks_in (xs ++ ys) ≡ marks_in xs + marks_in ys
-marks-append xs ys = ap length (filter-append is_mark xs ys) ∙ length-append (filter is_mark xs) (filter is_mark ys)
-
 marks_here : (s : ℕ) (taken : List Item) (x : Item) → x.sender ≡ s → marks_of s (taken ++ x ∷ []) ≡ marks_of s taken + marks_in (x.what ∷ [])
-marks_here s taken x e = ap marks_in (part-append s taken (x ∷ []) ∙ ap (λ l. part s taken ++ l) (part-here s x [] e)) ∙ marks-append (part s taken) (x.what ∷ [])
+marks_here s taken x e = ap marks_in (part-append s taken (x ∷ []) ∙ ap (λ l. part s taken ++ l) (part-here s x [] e)) ∙ marks_append (part s taken) (x.what ∷ [])
 
 marks_else : (s : ℕ) (taken : List Item) (x : Item) → x.sender ≢ s → marks_of s (taken ++ x ∷ []) ≡ marks_of s taken
 marks_else s taken x e = ap marks_in (part-append s taken (x ∷ []) ∙ (ap (λ l. part s taken ++ l) (part-else s x [] e) ∙ append-nil (part s taken)))
@@ -78,17 +76,21 @@ module _ (of : List ℕ) (worker from : ℕ) where
   pub takes_none : (t : TakerView) → TakesDue of worker from t t []
   takes_none t = record {
     items = [];
+    made = tt;
     taker = λ i. record { inbox = t.inbox; desk = record { marked = t.desk.marked; made = t.desk.made; taken = sym (append-nil t.desk.taken) i; gathered = t.desk.gathered } };
     arrived = refl;
     due = tt;
   }
 
-  pub takes_more : (old mid new : TakerView) (x : Item) (copies more : List RadioCopy) → TakesDue of worker from old mid copies → new ≡ after_taking mid (x ∷ []) → AddsCopy of worker from x copies more
+  pub takes_more : (old mid new : TakerView) (x : Item) (copies more : List RadioCopy) → TakesDue of worker from old mid copies → x.sender < mid.desk.made → new ≡ after_taking mid (x ∷ []) → AddsCopy of worker from x copies more
       → TakesDue of worker from old new more
-  takes_more old mid new x copies more h e a =
+  takes_more old mid new x copies more h lt e a =
       let P : List RadioCopy → Type 0 = λ l. Each (IsDue of worker from) l in
+      let same : mid.desk.made ≡ old.desk.made = ap (λ (t : TakerView). t.desk.made) h.taker in
+      let Q : ℕ → Type 0 = λ made. x.sender < made in
       record {
         items = h.items ++ x ∷ [];
+        made = each_join (λ (y : Item). y.sender < old.desk.made) h.items (x ∷ []) h.made (subst Q same lt, tt);
         taker = e ∙ (ap (λ t. after_taking t (x ∷ [])) h.taker
             ∙ (λ i. record { inbox = old.inbox; desk = record { marked = old.desk.marked; made = old.desk.made; taken = append_assoc old.desk.taken h.items (x ∷ []) i; gathered = old.desk.gathered } }));
         arrived = a.adds ∙ (ap (λ l. l ++ copies_of (x ∷ [])) h.arrived ∙ sym (copies-append h.items (x ∷ [])));

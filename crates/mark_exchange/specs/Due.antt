@@ -1,5 +1,5 @@
 -- What a worker takes until a window's marks have come.
-use Rattle.std.specs.Prelude.{◌≡◌, ℕ, ◌≤◌, true, false, List, [], ◌∷◌, ◌++◌}
+use Rattle.std.specs.Prelude.{◌≡◌, ℕ, ◌<◌, ◌≤◌, true, false, List, [], ◌∷◌, ◌++◌}
 use Rattle.std.specs.List.{AllByRecursion as Each}
 use Rattle.radio_packet.specs.declared.copy.RadioCopy.{RadioCopy}
 use Rattle.worker_cut.specs.Crossed.{is_own}
@@ -18,9 +18,10 @@ pub record AddsCopy (of : List ℕ) (worker from : ℕ) (x : Item) (old new : Li
   pub adds : new ≡ old ++ copies_of (x ∷ [])
   pub due : Each (IsDue of worker from) (copies_of (x ∷ []))
 
--- items were taken, these are their copies, in order, and each is due
+-- items of senders that the taker made were taken, these are their copies, in order, and each is due
 pub record TakesDue (of : List ℕ) (worker from : ℕ) (old new : TakerView) (copies : List RadioCopy) : Type 0 where
   pub items : List Item
+  pub made : Each (λ (x : Item). x.sender < old.desk.made) items
   pub taker : new ≡ after_taking old items
   pub arrived : copies ≡ copies_of items
   pub due : Each (IsDue of worker from) copies

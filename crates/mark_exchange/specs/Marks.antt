@@ -1,18 +1,9 @@
 -- Marks among what was pushed and taken.
-use Rattle.std.specs.Prelude.{◌≡◌, ℕ, ◌<◌, Bool, true, false, List, filter, length, slice_index_or}
-use Rattle.copy_inbox.specs.declared.items.Carried.{Carried}
-use Rattle.copy_inbox.specs.declared.items.Carried.TheVariants.{Packet, Mark}
+use Rattle.std.specs.Prelude.{◌≡◌, ℕ, ◌<◌, List, length, slice_index_or}
 use Rattle.copy_inbox.specs.declared.items.Item.{Item}
 use Rattle.copy_inbox.specs.declared.rule.Desk.{Desk}
 use Rattle.copy_inbox.specs.Items.{part}
-
-abbrev pub is_mark : Carried → Bool
-is_mark (Packet copy) = false
-is_mark (Mark window) = true
-
--- how many marks there are
-abbrev pub marks_in : List Carried → ℕ
-marks_in pushed = length (filter is_mark pushed)
+use Rattle.mark_law.specs.Marks.{marks_in}
 
 -- how many marks were taken of the sender numbered s
 abbrev pub marks_of : ℕ → List Item → ℕ

@@ -1,14 +1,14 @@
-use Rattle.std.proofs.Common.{rules, ◌≡◌, ◌+◌, ◌^◌, ◌<◌, List, [], ◌∷◌, ◌++◌, length, vec_len, sym, ap, ◌∙◌, subst, arith, length-append, map-id}
-use Rattle.std.specs.List.{AllZip, zip}
+use Rattle.std.proofs.Common.{rules, ◌≡◌, ◌+◌, ◌^◌, ◌<◌, true, List, [], ◌∷◌, ◌++◌, length, vec_len, sym, ap, ◌∙◌, subst, arith, length-append, map-id}
+use Rattle.std.specs.List.{AllByRecursion as Each, AllZip, zip}
 use Rattle.std.proofs.lemmas.Iterator.{YieldsList-from_zip}
 use Rattle.std.proofs.lemmas.Iterator.Adapters.{YieldsList-from_vec}
 use Rattle.std.proofs.lemmas.Iterator.Consumers.{YieldsList-turn, YieldsList-end}
 use Rattle.std.proofs.lemmas.Slice.Zip.{length-zip}
 use Rattle.copy_inbox.specs.Handles.{TakerView}
 use Rattle.copy_exchange.specs.declared.courier.Courier.{Courier}
-use Rattle.copy_exchange.specs.Couriers.{Together, SetsOut}
+use Rattle.copy_exchange.specs.Couriers.{Together, SetsOut, HasMarks, HasPushedNothing}
 use Rattle.copy_exchange.proofs.Homes.{Row}
-use Rattle.copy_exchange.proofs.Starts.{opens_no_rows, opens_more_rows, built, built_more, together, set_out}
+use Rattle.copy_exchange.proofs.Starts.{opens_no_rows, opens_more_rows, built, built_more, together, set_out, pushed_nothing, has_marks}
 use Rattle.copy_exchange.proofs.window.couriers.Goals as goal
 use Rattle.copy_exchange.proofs.window.couriers.Goals.{After-drop-taker-iterator-2}
 
@@ -127,3 +127,21 @@ returns-clause-set_out c =
     let is : vec_len c.loop-worker.rows ≡ length c.loop-worker.rows.items = search rules in
     let P : List Courier → Type 0 = λ l. AllZip SetsOut c.args.takers.items l in
     subst P (sym (all_built c)) (set_out c.args.inboxes.now c.args.takers.items c.loop-worker.takers.items c.loop-worker.rows.items c.requires.settled c.loop-worker.invariant.opened (omega arith))
+
+pub returns-clause-nothing : goal.returns-clause-nothing
+returns-clause-nothing c =
+    let over = c.loop-worker-test.false in
+    let most = c.loop-worker.auto.worker-end in
+    let long = c.loop-worker.invariant.long in
+    let is : vec_len c.loop-worker.rows ≡ length c.loop-worker.rows.items = search rules in
+    let P : List Courier → Type 0 = λ l. Each HasPushedNothing l in
+    subst P (sym (all_built c)) (pushed_nothing c.args.inboxes.now c.args.takers.items c.loop-worker.takers.items c.loop-worker.rows.items c.requires.settled c.loop-worker.invariant.opened (omega arith))
+
+pub returns-clause-marked : goal.returns-clause-marked
+returns-clause-marked c =
+    let over = c.loop-worker-test.false in
+    let most = c.loop-worker.auto.worker-end in
+    let long = c.loop-worker.invariant.long in
+    let is : vec_len c.loop-worker.rows ≡ length c.loop-worker.rows.items = search rules in
+    let P : List Courier → Type 0 = λ l. Each (λ (t : TakerView). t.desk.marked ≡ true) c.args.takers.items → Each HasMarks l in
+    subst P (sym (all_built c)) (has_marks c.args.inboxes.now c.args.takers.items c.loop-worker.takers.items c.loop-worker.rows.items c.requires.settled c.loop-worker.invariant.opened (omega arith))
