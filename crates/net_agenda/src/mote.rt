@@ -5,8 +5,8 @@ ghost use Rattle.mote_node.specs.Public.{node_in};
 ghost use Rattle.mote_net.specs.Net.{net_of};
 ghost use Rattle.net_agenda.specs.NetSystem.{first_node_in, tree_at};
 
-use mote_node::Mote;
 use mote_net::Net;
+use mote_node::Mote;
 use std::alloc::{AllocError, Global};
 
 /// The mote with this number, before its first turn.

@@ -6,8 +6,8 @@ ghost use Rattle.simulation.specs.Cuts.{of_kind};
 ghost use Rattle.simulation.specs.Simulation.{MayRun, RunsWith};
 
 use crate::options::CutKind;
-use net_report::Report;
 use mote_net::Net;
+use net_report::Report;
 use std::alloc::{AllocError, Global};
 use std::random::RandomSource;
 use std::sync::Wait;

@@ -15,10 +15,10 @@ ghost use Rattle.window_workers.specs.OnTime.{CanTurn};
 ghost use Rattle.window_workers.specs.Stands.{StandsAt, IsWhole, KeepsWakes, OneTakesTurn, AddsLines};
 
 use crate::sends::send_all;
+use mote_net::Net;
 use mote_node::{Mote, MoteError, TurnOut};
 use net_agenda::{Agenda, new_mote};
 use net_report::LogLine;
-use mote_net::Net;
 use process_kernel::Line;
 use program_tree::Program;
 use radio_packet::Arrival;

@@ -12,8 +12,8 @@ ghost use Rattle.window_workers.specs.Ended.{HasEnded};
 
 use crate::engine::Engine;
 use crate::error::RunError;
-use net_report::Report;
 use mote_net::Net;
+use net_report::Report;
 use std::alloc::{AllocError, Global};
 
 /// Takes turns until nothing is to come at or before the end.

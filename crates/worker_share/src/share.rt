@@ -12,9 +12,9 @@ ghost use Rattle.worker_cut.specs.Crossed.{is_own, copies_known};
 ghost use Rattle.worker_share.specs.Share.{Motes, Keeps, node_at, is_to_come};
 ghost use Rattle.worker_share.specs.Ended.{TellsAtEnd};
 
+use mote_net::Net;
 use mote_node::Mote;
 use net_agenda::{Agenda, new_mote};
-use mote_net::Net;
 use process_kernel::Line;
 use radio_packet::Sent;
 use std::alloc::{AllocError, Global};

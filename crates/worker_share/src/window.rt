@@ -19,9 +19,9 @@ ghost use Rattle.worker_share.specs.Leaving.{wake_from, MotesLeave, HasNumber, I
 
 use crate::calls::{CalledMotes, gather};
 use crate::share::{Share, is_own};
+use mote_net::Net;
 use mote_node::Mote;
 use net_agenda::Agenda;
-use mote_net::Net;
 use process_kernel::Line;
 use radio_medium::Medium;
 use radio_packet::{RadioCopy, Sent};
