@@ -1,2 +1,3 @@
+pub mod Delivers
 pub mod Due
 pub mod Marks

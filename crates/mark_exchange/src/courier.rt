@@ -1,6 +1,9 @@
 //! What a worker with marks carries for the whole run.
 
-ghost use Rattle.std.specs.Prelude.{◌≡◌, [], IfOk, OnOk};
+ghost use Rattle.std.specs.Prelude.{◌≡◌, [], length, IfOk, OnOk};
+ghost use Rattle.std.specs.List.{AllByRecursion as Each};
+ghost use Rattle.copy_exchange.specs.Couriers.{HasMarks, IsSeated, Reaches};
+ghost use Rattle.mark_exchange.specs.Delivers.{PushesWindow};
 ghost use Rattle.mark_exchange.specs.Due.{TakesDue};
 ghost use Rattle.mark_exchange.specs.Marks.{Counts, AllPast};
 
@@ -31,6 +34,28 @@ impl MarkCourier {
     {
         let marks = no_marks(alloc, senders)?;
         Ok(MarkCourier { courier, marks })
+    }
+
+    /// Pushes the copies of a window, each to the worker of its receiver, and then the window's mark to each other
+    /// worker; `of` is the worker of each mote. What comes back is [`InboxError::Memory`]; what was pushed before it
+    /// stays.
+    pub fn deliver_window<R: Wait>(
+        &mut self,
+        rt: &R,
+        inboxes: &[Inbox],
+        of: &[u16],
+        copies: &[RadioCopy],
+        window: u64,
+    ) -> Result<(), InboxError>
+        requires seated { IsSeated inboxes.now self.old.courier }
+        requires marked { HasMarks self.old.courier }
+        requires reaches { Each (Reaches of.now (length inboxes.now)) copies.now }
+        ensures pushes { OnOk result (PushesWindow of.now (length inboxes.now) window self.old.courier self.new.courier copies.now) }
+        ensures seated { OnOk result (IsSeated inboxes.now self.new.courier) }
+        ensures counts { OnOk result (self.new.marks ≡ self.old.marks) }
+    {
+        self.courier.push_copies(rt, inboxes, of, copies)?;
+        self.courier.push_marks(rt, inboxes, window)
     }
 
     /// Takes items until of each sender the mark of the window has come, those of later windows too where they come
