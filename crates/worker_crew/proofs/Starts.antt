@@ -44,13 +44,13 @@ settled_first inbox t fresh = record {
   no_mark = subst PacketsLeft (sym fresh.1) tt;
 }
 
-all_settled : (inboxes : List InboxId) (takers : List TakerView) → AllZip IsFresh inboxes takers → Settled inboxes takers
+pub all_settled : (inboxes : List InboxId) (takers : List TakerView) → AllZip IsFresh inboxes takers → Settled inboxes takers
 all_settled [] [] h = tt
 all_settled [] (t ∷ ts) h = h
 all_settled (i ∷ is) [] h = h
 all_settled (i ∷ is) (t ∷ ts) h = (settled_first i t h.0, all_settled is ts h.1)
 
-fresh_at : (inboxes : List InboxId) (takers : List TakerView) → AllZip IsFresh inboxes takers → (v : ℕ) (d : TakerView) → v < length inboxes
+pub fresh_at : (inboxes : List InboxId) (takers : List TakerView) → AllZip IsFresh inboxes takers → (v : ℕ) (d : TakerView) → v < length inboxes
     → (get_or takers v d).desk ≡ make_desk (get_or takers v d).desk.marked 0 [] []
 fresh_at [] ts h v d low = absurd (omega arith)
 fresh_at (i ∷ is) [] h v d low = absurd h

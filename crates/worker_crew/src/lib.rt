@@ -9,5 +9,5 @@ mod window;
 mod worker;
 
 pub use crew::{Crew, first_of_all};
-pub use run::run_windows;
+pub use run::{lookahead_of, run_windows, window_end, window_length};
 pub use worker::{CrewWindow, Runner, Worker};

@@ -20,7 +20,7 @@ use std::thread::Threads;
 use window_run::Gate;
 
 /// The lookahead of a net. Every net runs forward: its wakes and copies come later than the turns that make them.
-fn lookahead_of(net: &Net) -> u64
+pub fn lookahead_of(net: &Net) -> u64
     ensures value { result ≡ (system_of (net_of net.now)).lookahead }
     ensures forward { RunsForward (system_of (net_of net.now)) }
 {
@@ -28,7 +28,7 @@ fn lookahead_of(net: &Net) -> u64
 }
 
 /// How long a window lasts: as long as the lookahead, or `longest`, where that is above 0 and less.
-fn window_length(lookahead: u64, longest: u32) -> u64
+pub fn window_length(lookahead: u64, longest: u32) -> u64
     requires { 0 < lookahead }
     ensures value { result ≡ length_of_window lookahead longest }
     ensures above_zero { 0 < result }
@@ -56,7 +56,7 @@ fn window_start(crew: &Crew, end: u64) -> u64
 }
 
 /// The moment before which a window ends that begins at or before the end and may last so long.
-fn window_end(from: u64, length: u64, end: u64) -> u64
+pub fn window_end(from: u64, length: u64, end: u64) -> u64
     requires above_zero { 0 < length }
     requires early { end ≤ latest_end }
     requires from { from ≤ end }

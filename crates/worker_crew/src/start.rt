@@ -47,6 +47,7 @@ impl Crew {
         requires cut { IsCut (length (net_of net.now).motes) (length inboxes.items) of.now }
         requires fresh { AllZip IsFresh inboxes.items takers.items }
         ensures at { IfOk result (λ crew. IsAt (net_of net.now) of.now 0 crew) }
+        ensures first { IfOk result (λ crew. AreFirst (net_of net.now) of.now (length inboxes.items) crew.shares.items) }
         ensures inboxes { IfOk result (λ crew. crew.inboxes.items ≡ inboxes.items) }
         ensures takers { IfOk result (λ crew. crew.takers.items ≡ takers.items) }
         ensures err { IfErr result (λ e. e ≡ Memory) }
