@@ -21,7 +21,6 @@ use std::alloc::{AllocError, Global};
 
 /// What one worker of a net has. Motes and traces stand by the number of the mote, with none and an empty one for the motes of
 /// other workers; the packets of the worker's motes, each mote's in order; and what is to come to its motes.
-#[derive(Drop)]
 pub struct Share {
     pub(crate) alloc: Global,
     pub(crate) worker: u16,
@@ -29,6 +28,20 @@ pub struct Share {
     pub(crate) traces: Vec<Vec<Line>>,
     pub(crate) log: Vec<Sent>,
     pub(crate) agenda: Agenda,
+}
+
+/// By hand, so that a share is dropped by one call: the check of a function that owns one sees no more of it.
+impl Drop for Share {
+    fn drop(self) {
+        let Share {
+            alloc: _,
+            worker: _,
+            motes: _,
+            traces: _,
+            log: _,
+            agenda: _,
+        } = self;
+    }
 }
 
 /// What a worker has to tell at the end: the traces of its motes, by number, the packets that they sent, each mote's in order, and
