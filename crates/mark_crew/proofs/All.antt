@@ -5,7 +5,8 @@ use Rattle.mote_net.specs.Net.{NetTold}
 use Rattle.copy_inbox.specs.declared.items.Item.{Item}
 use Rattle.copy_inbox.specs.Items.{part, BeginsWith}
 use Rattle.copy_inbox.specs.Handles.{SenderView}
-use Rattle.mark_crew.specs.Senders.{AreSenders, pushed_through}
+use Rattle.copy_exchange.specs.Couriers.{pushed_list}
+use Rattle.mark_crew.specs.Senders.{AreSenders}
 use Rattle.mark_crew.specs.Story.{Story, RunsWindows}
 
 pub record AllRan (n : NetTold) (of : List ℕ) (width windows workers : ℕ) : Type 0 where
@@ -14,6 +15,6 @@ pub record AllRan (n : NetTold) (of : List ℕ) (width windows workers : ℕ) : 
   pub sender : (inbox worker : ℕ) → Option SenderView
   pub senders : (inbox : ℕ) → List SenderView
   pub story : ℕ → Story
-  pub ran : (v : ℕ) → v < workers → RunsWindows n of width windows workers v (made v) (taken v) (λ u. pushed_through (sender u v)) (story v)
+  pub ran : (v : ℕ) → v < workers → RunsWindows n of width windows workers v (made v) (taken v) (λ u. pushed_list (sender u v)) (story v)
   pub are_senders : (u : ℕ) → u < workers → AreSenders workers u (sender u) (made u) (senders u)
   pub begun : (u : ℕ) → u < workers → Each (λ (s : SenderView). BeginsWith s.post.pushed (part s.post.number (taken u))) (senders u)

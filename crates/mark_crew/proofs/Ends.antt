@@ -8,6 +8,7 @@ use Rattle.window_law.specs.Windows.{first_mote, Windows, WakesFrom}
 use Rattle.net_agenda.specs.NetSystem.{system_of}
 use Rattle.worker_cut.specs.Crossed.{is_own, crossed}
 use Rattle.copy_inbox.specs.declared.rule.Desk.{Desk}
+use Rattle.copy_inbox.specs.Gathered.{Whole}
 use Rattle.copy_inbox.specs.Items.{copies_of, part, BeginsWith}
 use Rattle.copy_inbox.specs.Handles.{InboxId, TakerView, SenderView, AllGathered, PacketsLeft}
 use Rattle.copy_inbox.specs.Views.{make_desk}
@@ -23,18 +24,19 @@ use Rattle.worker_share.specs.Share.{Motes, Keeps}
 use Rattle.worker_crew.specs.declared.crew.Crew.{Crew}
 use Rattle.worker_crew.specs.Crew.{IsAt, IsWorkerAt}
 use Rattle.worker_crew.proofs.Choose.{choose}
-use Rattle.worker_crew.proofs.Lookups.{there, read, each_at}
+use Rattle.worker_crew.proofs.Lookups.{there, inside, read, same_found, each_at, each_from}
 use Rattle.worker_crew.proofs.Same.{keeps_same}
 use Rattle.worker_crew.proofs.Step.{own_of, own_by}
 use Rattle.mark_crew.specs.Bounds.{bound, AreWindows}
 use Rattle.mark_crew.specs.Crew.{EndsMarked, EndAllMarked}
-use Rattle.mark_crew.specs.Senders.{AreSenders, pushed_through}
+use Rattle.copy_exchange.specs.Couriers.{pushed_list}
+use Rattle.mark_crew.specs.Senders.{AreSenders}
 use Rattle.mark_crew.specs.Story.{Story, RunsWindows}
 use Rattle.mark_crew.proofs.All.{AllRan}
 use Rattle.mark_crew.proofs.Bounds.{at_the_end}
 use Rattle.mark_crew.proofs.Pairs.{not_other, pair, copies_from, copies_none}
 use Rattle.mark_crew.proofs.Seen.{nobodys, sent_so_far, of_worker, of_nobody}
-use Rattle.mark_crew.proofs.Settles.{pair_taken, all_taken, one, after_is, gathered_all, no_mark, stands, same_of_each}
+use Rattle.mark_crew.proofs.Settles.{pair_taken, all_taken, one, after_is, gathered_all, whole_then, no_mark, stands, same_of_each}
 use Rattle.mark_crew.proofs.Stages.{stage, own_stage, Reached, reached}
 
 module _ (n : NetTold) (of : List ℕ) (width windows : ℕ) (crew : Crew) (h : EndAllMarked n of width windows crew) where
@@ -52,7 +54,7 @@ module _ (n : NetTold) (of : List ℕ) (width windows : ℕ) (crew : Crew) (h : 
     taker : TakerView
     share_at : slice_get crew.shares.items v ≡ Some share
     taker_at : slice_get crew.takers.items v ≡ Some taker
-    ran : RunsWindows n of width windows workers v z.desk.made z.desk.taken (λ u. pushed_through (h.sender u v)) z.story
+    ran : RunsWindows n of width windows workers v z.desk.made z.desk.taken (λ u. pushed_list (h.sender u v)) z.story
     keeps : Keeps n of v (bound width n.end windows) (z.story.motes windows) (copies_of z.desk.taken) share
     are_senders : AreSenders workers v (h.sender v) z.desk.made z.senders
     begun : Each (λ (s : SenderView). BeginsWith s.post.pushed (part s.post.number z.desk.taken)) z.senders
@@ -164,6 +166,10 @@ module _ (n : NetTold) (of : List ℕ) (width windows : ℕ) (crew : Crew) (h : 
         waits = λ s. record { rest = []; all = sym (append-nil (from s (taken_by p.taker)) ∙ taken_gathered s); later = tt };
       }
 
+      whole_at : Whole p.taker.desk.gathered p.taker.desk.taken
+      whole_at = subst (λ (t : TakerView). Whole t.desk.gathered t.desk.taken) (sym p.taker_is)
+          (whole_then workers v (h.sender v) z.desk z.senders p.are_senders p.ran.of_made p.begun (all_taken n of width windows workers all v low) its_one)
+
       settled_one : (id : InboxId) (taker : TakerView) → IsSettled (get_or crew.inboxes.items v id) (get_or crew.takers.items v taker)
       settled_one id taker =
           let is = read crew.takers.items v p.taker taker p.taker_at in
@@ -190,6 +196,13 @@ module _ (n : NetTold) (of : List ℕ) (width windows : ℕ) (crew : Crew) (h : 
       each = λ v low share taker. worker_at v low share taker;
     }
 
+    pub all_whole : Each (λ (t : TakerView). Whole t.desk.gathered t.desk.taken) crew.takers.items
+    unfolding parts p
+    all_whole = each_from _ crew.takers.items (λ v t e.
+        let low : v < workers = subst (λ l. v < l) h.takers (inside crew.takers.items v t e) in
+        let p : IsPart v (parts.0 v) = parts.1 v low in
+        subst (λ (x : TakerView). Whole x.desk.gathered x.desk.taken) (same_found (slice_get crew.takers.items v) p.taker t p.taker_at e) (whole_at v low))
+
 pub ends : (n : NetTold) → RunsForward (system_of n) → (of : List ℕ) (width windows : ℕ) → width ≤ (system_of n).lookahead → AreWindows width n.end windows
-    → (crew : Crew) → EndAllMarked n of width windows crew → IsAt n of (suc n.end) crew
-ends n fine of width windows short are crew all = all_at_end n of width windows crew all fine short are
+    → (crew : Crew) → EndAllMarked n of width windows crew → IsAt n of (suc n.end) crew × Each (λ (t : TakerView). Whole t.desk.gathered t.desk.taken) crew.takers.items
+ends n fine of width windows short are crew all = (all_at_end n of width windows crew all fine short are, all_whole n of width windows crew all fine short are)

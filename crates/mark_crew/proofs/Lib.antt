@@ -9,3 +9,4 @@ pub mod Promise
 pub mod Seen
 pub mod Settles
 pub mod Stages
+pub mod Windows

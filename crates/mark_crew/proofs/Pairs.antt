@@ -16,7 +16,7 @@ use Rattle.mark_law.specs.Marks.{packets_in, pushes}
 use Rattle.mark_law.proofs.Early.{packets_append, packets_pushes}
 use Rattle.worker_share.specs.Window.{GoesOut}
 use Rattle.worker_crew.proofs.Lookups.{there, inside, read, mapped, same_found, each_at}
-use Rattle.mark_crew.specs.Senders.{pushed_through}
+use Rattle.copy_exchange.specs.Couriers.{pushed_list}
 use Rattle.mark_crew.proofs.All.{AllRan}
 use Rattle.mark_crew.proofs.Fronts.{part_begins}
 use Rattle.mark_crew.proofs.Lists.{first_none, none_before}
@@ -58,7 +58,7 @@ module _ (n : NetTold) (of : List ℕ) (width windows workers : ℕ) (all : AllR
   pair u v lu lv ne =
       let are = all.are_senders u lu in
       let w = are.of_worker v lv ne in
-      let is : w.0.post.pushed ≡ pushes windows (sent_to v u) = sym (ap pushed_through w.1) ∙ (all.ran v lv).pushes_then u lu (λ e. ne (sym e)) in
+      let is : w.0.post.pushed ≡ pushes windows (sent_to v u) = sym (ap pushed_list w.1) ∙ (all.ran v lv).pushes_then u lu (λ e. ne (sym e)) in
       let low = inside (all.senders u) w.0.post.number w.0 w.2 in
       let long = are.made_is in
       record {
@@ -74,7 +74,7 @@ module _ (n : NetTold) (of : List ℕ) (width windows workers : ℕ) (all : AllR
     pub front : (v : ℕ) (lv : v < workers) (ne : v ≢ u) → BeginsWith (pushes windows (sent_to v u)) (part (pair u v lu lv ne).number ((all.story u).taken k))
     front v lv ne =
         let p = pair u v lu lv ne in
-        let more = part_begins n of width windows workers u (all.made u) (all.taken u) (λ w. pushed_through (all.sender w u)) (all.story u) (all.ran u lu) k le p.number in
+        let more = part_begins n of width windows workers u (all.made u) (all.taken u) (λ w. pushed_list (all.sender w u)) (all.story u) (all.ran u lu) k le p.number in
         (more.0 ++ p.begins.0, p.begins.1 ∙ (ap (λ l. l ++ p.begins.0) more.1 ∙ append_assoc (part p.number ((all.story u).taken k)) more.0 p.begins.0))
 
     module _ (s : ℕ) where
@@ -102,7 +102,7 @@ module _ (n : NetTold) (of : List ℕ) (width windows workers : ℕ) (all : AllR
               let same = sym ((pair u w.0 lu w.1 w.2).only a.0 w.3) ∙ number in
               subst (λ i. from s (packets_in (part i ((all.story u).taken k))) ≡ []) same (none_of_pair w.0 w.1 w.2 (other w.0 w.1 w.2 a.0 w.3 number))
           of_case (inr high) =
-              let more = part_begins n of width windows workers u (all.made u) (all.taken u) (λ w. pushed_through (all.sender w u)) (all.story u) (all.ran u lu) k le j in
+              let more = part_begins n of width windows workers u (all.made u) (all.taken u) (λ w. pushed_list (all.sender w u)) (all.story u) (all.ran u lu) k le j in
               ap (λ l. from s (packets_in l)) (first_none (part j ((all.story u).taken k)) more.0 (sym more.1 ∙ (all.ran u lu).of_made j high))
 
       pub copies_from : (v : ℕ) (lv : v < workers) (ne : v ≢ u) → slice_get of s ≡ Some v → from s (copies_of ((all.story u).taken k)) ≡ from s (packets_in (part (pair u v lu lv ne).number ((all.story u).taken k)))

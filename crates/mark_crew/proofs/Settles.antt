@@ -13,7 +13,7 @@ use Rattle.copy_inbox.specs.Items.{copies_of, Packets, part, BeginsWith, OfMade}
 use Rattle.copy_inbox.specs.Gathered.{is_gathered, untaken_of, Whole}
 use Rattle.copy_inbox.specs.Handles.{TakerView, SenderView, after_gather, AllGathered, PacketsLeft}
 use Rattle.copy_inbox.proofs.Parts.{part-not_nil}
-use Rattle.copy_exchange.specs.Couriers.{AreOpen}
+use Rattle.copy_exchange.specs.Couriers.{AreOpen, pushed_list}
 use Rattle.copy_exchange.specs.Desks.{copies_in, IsOrderly}
 use Rattle.copy_exchange.proofs.Gathers.{OneOf, copies_by, as_gathered, joined, with_joined, all_gathered, stands_then}
 use Rattle.copy_exchange.proofs.Parts.{from}
@@ -22,7 +22,7 @@ use Rattle.mark_law.proofs.Early.{packets_pushes}
 use Rattle.mark_law.proofs.Whole.{all_is_taken}
 use Rattle.worker_crew.specs.Worker.{IsCut}
 use Rattle.worker_crew.proofs.Lookups.{each_at, each_from}
-use Rattle.mark_crew.specs.Senders.{AreSenders, after_all, pushed_through}
+use Rattle.mark_crew.specs.Senders.{AreSenders, after_all}
 use Rattle.mark_crew.proofs.All.{AllRan}
 use Rattle.mark_crew.proofs.Lists.{none_before}
 use Rattle.mark_crew.proofs.Pairs.{sent_to, none_sent, not_other, Pair, pair}
@@ -46,7 +46,7 @@ module _ (n : NetTold) (of : List ℕ) (width windows workers : ℕ) (all : AllR
         there = w.1;
         other = w.2;
         at = w.3;
-        pushed = sym (ap pushed_through w.3) ∙ (all.ran w.0 w.1).pushes_then u lu (λ same. w.2 (sym same));
+        pushed = sym (ap pushed_list w.3) ∙ (all.ran w.0 w.1).pushes_then u lu (λ same. w.2 (sym same));
       }
 
   -- all that the worker of a pair pushed was taken

@@ -4,6 +4,7 @@ use Rattle.std.specs.List.{AllByRecursion as Each}
 use Rattle.mote_net.specs.Net.{NetTold}
 use Rattle.window_law.specs.System.{RunsForward}
 use Rattle.net_agenda.specs.NetSystem.{system_of}
+use Rattle.copy_inbox.specs.Gathered.{Whole}
 use Rattle.copy_inbox.specs.Items.{part, BeginsWith}
 use Rattle.copy_inbox.specs.Handles.{InboxId, TakerView, SenderView}
 use Rattle.worker_share.specs.declared.share.Share.{Share}
@@ -11,7 +12,8 @@ use Rattle.worker_crew.specs.declared.crew.Crew.{Crew}
 use Rattle.worker_crew.specs.Crew.{IsAt}
 use Rattle.worker_crew.specs.Worker.{IsCut}
 use Rattle.mark_crew.specs.Bounds.{AreWindows}
-use Rattle.mark_crew.specs.Senders.{AreSenders, after_all, pushed_through}
+use Rattle.copy_exchange.specs.Couriers.{pushed_list}
+use Rattle.mark_crew.specs.Senders.{AreSenders, after_all}
 use Rattle.mark_crew.specs.Story.{RunsMarked}
 
 -- One worker when all threads are joined: it ran all windows as it promised, and then gathered the senders on its
@@ -19,7 +21,7 @@ use Rattle.mark_crew.specs.Story.{RunsMarked}
 -- worker on an inbox.
 pub record EndsMarked (n : NetTold) (of : List ℕ) (width windows workers : ℕ) (sender : (inbox worker : ℕ) → Option SenderView) (worker : ℕ) (share : Share) (taker : TakerView) : Type 0 where
   pub before : TakerView
-  pub promise : RunsMarked n of width windows workers worker share before.desk (λ v. pushed_through (sender v worker))
+  pub promise : RunsMarked n of width windows workers worker share before.desk (λ v. pushed_list (sender v worker))
   pub senders : List SenderView
   pub are_senders : AreSenders workers worker (sender worker) before.desk.made senders
   pub begun : Each (λ (s : SenderView). BeginsWith s.post.pushed (part s.post.number before.desk.taken)) senders
@@ -37,7 +39,8 @@ pub record EndAllMarked (n : NetTold) (of : List ℕ) (width windows : ℕ) (cre
       → EndsMarked n of width windows (length crew.inboxes.items) sender worker (slice_index_or crew.shares.items worker share) (slice_index_or crew.takers.items worker taker)
 
 -- However the threads took turns, all workers stand at the end, as if all copies had changed hands between the
--- windows.
+-- windows, and each has taken all that was pushed to it, every mark too.
 abbrev pub MarkedWindowsLeadToTheEnd : Type 0
 MarkedWindowsLeadToTheEnd = (n : NetTold) → RunsForward (system_of n) → (of : List ℕ) (width windows : ℕ) → width ≤ (system_of n).lookahead → AreWindows width n.end windows
-    → (crew : Crew) → EndAllMarked n of width windows crew → IsAt n of (suc n.end) crew
+    → (crew : Crew) → EndAllMarked n of width windows crew
+    → IsAt n of (suc n.end) crew × Each (λ (t : TakerView). Whole t.desk.gathered t.desk.taken) crew.takers.items

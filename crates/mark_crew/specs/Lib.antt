@@ -2,3 +2,4 @@ pub mod Bounds
 pub mod Crew
 pub mod Senders
 pub mod Story
+pub mod Thread

@@ -2,3 +2,8 @@
 #![tactic(auto)]
 
 pub mod laws;
+mod thread;
+mod worker;
+
+pub use thread::MarkRunner;
+pub use worker::{CrewRun, MarkWorker};
