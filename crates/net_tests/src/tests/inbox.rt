@@ -20,80 +20,151 @@ fn copy(sender: u16, number: u64) -> RadioCopy {
     }
 }
 
+// Pushes a copy. Where memory is refused, it is not there to be taken.
+fn push<R: Wait>(rt: &R, inbox: &Inbox, sender: &mut Sender, copied: RadioCopy)
+    requires { sender.old.inbox ≡ inbox.now }
+    ensures { (sender.new.inbox ≡ inbox.now) × (sender.new.post.number ≡ sender.old.post.number) }
+{
+    let _ = inbox.push_copy(rt, sender, copied);
+}
+
+/// What a test saw of an inbox: how many copies were known, time after time, what was taken, and what the closing
+/// gave.
+#[derive(Drop)]
+struct Seen {
+    known: [u64; 4],
+    taken: Vec<RadioCopy>,
+    rest: Vec<RadioCopy>,
+}
+
+// Takes so many copies, or all that are known where those are fewer.
+fn drain<R: Wait>(
+    rt: &R,
+    inbox: &Inbox,
+    taker: &mut Taker,
+    most: u64,
+) -> Result<Vec<RadioCopy>, InboxError>
+    requires { (taker.old.inbox ≡ inbox.now) × (taker.old.desk.marked ≡ false) }
+    ensures { (taker.new.inbox ≡ inbox.now) × (taker.new.desk.marked ≡ false) × (taker.new.desk.made ≡ taker.old.desk.made) × (taker.new.desk.gathered ≡ taker.old.desk.gathered) }
+{
+    let known = inbox.known(taker);
+    inbox.drain(rt, taker, most.min(known))
+}
+
+impl Seen {
+    fn is(&self, known: [u64; 4], taken: &[RadioCopy], rest: &[RadioCopy]) -> bool {
+        self.known == known && self.taken.as_slice() == taken && self.rest.as_slice() == rest
+    }
+}
+
+fn two_in_turn<R: Wait>(rt: &R, alloc: Global) -> Result<Seen, InboxError> {
+    let (inbox, mut taker) = Inbox::make(alloc)?;
+    let mut first = inbox.sender(&mut taker)?;
+    let mut second = inbox.sender(&mut taker)?;
+    push(rt, &inbox, &mut first, copy(0, 0));
+    push(rt, &inbox, &mut second, copy(1, 0));
+    push(rt, &inbox, &mut second, copy(1, 1));
+    push(rt, &inbox, &mut first, copy(0, 1));
+    inbox.gather(rt, &mut taker, first);
+    let after_one = inbox.known(&taker);
+    inbox.gather(rt, &mut taker, second);
+    let after_both = inbox.known(&taker);
+    let taken = drain(rt, &inbox, &mut taker, 3);
+    let at_last = inbox.known(&taker);
+    let rest = inbox.close(rt, taker);
+    Ok(Seen {
+        known: [0, after_one, after_both, at_last],
+        taken: taken?,
+        rest: rest?,
+    })
+}
+
 /// Two copies of each of two senders, taken by three and by the closing.
 #[test]
 fn two_senders_closed(rt: HostRuntime) -> Result<(), Fail> {
-    let (inbox, mut taker) = Inbox::make(rt.alloc())?;
+    let seen = two_in_turn(&rt, rt.alloc())?;
+    let taken = [copy(0, 0), copy(1, 0), copy(1, 1)];
+    assert!(rt; seen.is([0, 2, 4, 1], &taken, &[copy(0, 1)]));
+    Ok(())
+}
+
+fn taken_before_the_gather<R: Wait>(rt: &R, alloc: Global) -> Result<Seen, InboxError> {
+    let (inbox, mut taker) = Inbox::make(alloc)?;
     let mut first = inbox.sender(&mut taker)?;
     let mut second = inbox.sender(&mut taker)?;
-    inbox.push_copy(&rt, &mut first, copy(0, 0))?;
-    inbox.push_copy(&rt, &mut second, copy(1, 0))?;
-    inbox.push_copy(&rt, &mut second, copy(1, 1))?;
-    inbox.push_copy(&rt, &mut first, copy(0, 1))?;
-    inbox.gather(&rt, &mut taker, first);
-    inbox.gather(&rt, &mut taker, second);
-    assert_eq!(rt; inbox.known(&taker), 4);
-    let taken = inbox.drain(&rt, &mut taker, 3)?;
-    assert_eq!(rt;
-        taken.as_slice(),
-        [copy(0, 0), copy(1, 0), copy(1, 1)].as_slice()
-    );
-    assert_eq!(rt; inbox.known(&taker), 1);
-    let rest = inbox.close(&rt, taker)?;
-    assert_eq!(rt; rest.as_slice(), [copy(0, 1)].as_slice());
-    Ok(())
+    push(rt, &inbox, &mut first, copy(0, 7));
+    push(rt, &inbox, &mut second, copy(1, 8));
+    let before = inbox.known(&taker);
+    inbox.gather(rt, &mut taker, second);
+    let after_one = inbox.known(&taker);
+    let taken = drain(rt, &inbox, &mut taker, 1);
+    let drained = inbox.known(&taker);
+    inbox.gather(rt, &mut taker, first);
+    let at_last = inbox.known(&taker);
+    let rest = inbox.close(rt, taker);
+    Ok(Seen {
+        known: [before, after_one, drained, at_last],
+        taken: taken?,
+        rest: rest?,
+    })
 }
 
 /// What a sender pushed is in the inbox before the sender is gathered: the taker takes it, though it knows only of the
 /// other's.
 #[test]
 fn inbox_in_one_thread(rt: HostRuntime) -> Result<(), Fail> {
-    let (inbox, mut taker) = Inbox::make(rt.alloc())?;
-    let mut first = inbox.sender(&mut taker)?;
-    let mut second = inbox.sender(&mut taker)?;
-    inbox.push_copy(&rt, &mut first, copy(0, 7))?;
-    inbox.push_copy(&rt, &mut second, copy(1, 8))?;
-    assert_eq!(rt; inbox.known(&taker), 0);
-    inbox.gather(&rt, &mut taker, second);
-    assert_eq!(rt; inbox.known(&taker), 1);
-    let taken = inbox.drain(&rt, &mut taker, 1)?;
-    assert_eq!(rt; taken.as_slice(), [copy(0, 7)].as_slice());
-    assert_eq!(rt; inbox.known(&taker), 1);
-    inbox.gather(&rt, &mut taker, first);
-    assert_eq!(rt; inbox.known(&taker), 1);
-    let rest = inbox.close(&rt, taker)?;
-    assert_eq!(rt; rest.as_slice(), [copy(1, 8)].as_slice());
+    let seen = taken_before_the_gather(&rt, rt.alloc())?;
+    assert!(rt; seen.is([0, 1, 1, 1], &[copy(0, 7)], &[copy(1, 8)]));
     Ok(())
+}
+
+fn one_behind_the_other<R: Wait>(rt: &R, alloc: Global) -> Result<Seen, InboxError> {
+    let (inbox, mut taker) = Inbox::make(alloc)?;
+    let mut first = inbox.sender(&mut taker)?;
+    push(rt, &inbox, &mut first, copy(0, 7));
+    inbox.gather(rt, &mut taker, first);
+    let mut second = inbox.sender(&mut taker)?;
+    push(rt, &inbox, &mut second, copy(1, 8));
+    let before = inbox.known(&taker);
+    let taken = drain(rt, &inbox, &mut taker, 1);
+    let drained = inbox.known(&taker);
+    inbox.gather(rt, &mut taker, second);
+    let at_last = inbox.known(&taker);
+    let rest = inbox.close(rt, taker);
+    Ok(Seen {
+        known: [0, before, drained, at_last],
+        taken: taken?,
+        rest: rest?,
+    })
 }
 
 /// A sender that is made after another was gathered pushes behind it.
 #[test]
 fn sender_made_after_a_gather(rt: HostRuntime) -> Result<(), Fail> {
-    let (inbox, mut taker) = Inbox::make(rt.alloc())?;
-    let mut first = inbox.sender(&mut taker)?;
-    inbox.push_copy(&rt, &mut first, copy(0, 7))?;
-    inbox.gather(&rt, &mut taker, first);
-    let mut second = inbox.sender(&mut taker)?;
-    inbox.push_copy(&rt, &mut second, copy(1, 8))?;
-    assert_eq!(rt; inbox.known(&taker), 1);
-    let taken = inbox.drain(&rt, &mut taker, 1)?;
-    assert_eq!(rt; taken.as_slice(), [copy(0, 7)].as_slice());
-    assert_eq!(rt; inbox.known(&taker), 0);
-    inbox.gather(&rt, &mut taker, second);
-    let rest = inbox.close(&rt, taker)?;
-    assert_eq!(rt; rest.as_slice(), [copy(1, 8)].as_slice());
+    let seen = one_behind_the_other(&rt, rt.alloc())?;
+    assert!(rt; seen.is([0, 1, 0, 1], &[copy(0, 7)], &[copy(1, 8)]));
     Ok(())
+}
+
+fn of_nobody<R: Wait>(rt: &R, alloc: Global) -> Result<Seen, InboxError> {
+    let (inbox, mut taker) = Inbox::make(alloc)?;
+    let only = inbox.sender(&mut taker)?;
+    inbox.gather(rt, &mut taker, only);
+    let known = inbox.known(&taker);
+    let taken = drain(rt, &inbox, &mut taker, 0);
+    let rest = inbox.close(rt, taker);
+    Ok(Seen {
+        known: [0, 0, 0, known],
+        taken: taken?,
+        rest: rest?,
+    })
 }
 
 /// An inbox that nobody pushed into.
 #[test]
 fn nothing_pushed(rt: HostRuntime) -> Result<(), Fail> {
-    let (inbox, mut taker) = Inbox::make(rt.alloc())?;
-    let only = inbox.sender(&mut taker)?;
-    inbox.gather(&rt, &mut taker, only);
-    assert_eq!(rt; inbox.known(&taker), 0);
-    assert!(rt; inbox.drain(&rt, &mut taker, 0)?.is_empty());
-    assert!(rt; inbox.close(&rt, taker)?.is_empty());
+    let seen = of_nobody(&rt, rt.alloc())?;
+    assert!(rt; seen.is([0; 4], &[], &[]));
     Ok(())
 }
 
@@ -206,19 +277,24 @@ fn from_three<R: Threads + Wait + Sync>(
     inbox.close(rt, taker)
 }
 
+// Whether these are so many copies of each of three senders, those of each in its order.
+fn are_in_order(copies: &[RadioCopy], count: u64) -> bool {
+    let mut next = [0u64; 3];
+    for copied in copies {
+        let mote = usize::from(copied.sender);
+        if mote >= 3 || *copied != copy(copied.sender, next[mote]) {
+            return false;
+        }
+        next[mote] = next[mote].wrapping_add(1);
+    }
+    next == [count; 3]
+}
+
 /// Three threads push 1,000 copies each: all come out, those of each sender in its order.
 #[test]
 fn three_threads(rt: HostRuntime) -> Result<(), Fail> {
     let copies = from_three(&rt, rt.alloc(), 1000)?;
-    assert_eq!(rt; copies.len(), 3000);
-    let mut next = [0u64; 3];
-    for copied in &copies {
-        let mote = usize::from(copied.sender);
-        assert!(rt; mote < 3);
-        assert_eq!(rt; *copied, copy(copied.sender, next[mote]));
-        next[mote] = next[mote].wrapping_add(1);
-    }
-    assert_eq!(rt; next, [1000, 1000, 1000]);
+    assert!(rt; are_in_order(&copies, 1000));
     Ok(())
 }
 
@@ -264,16 +340,22 @@ fn while_another_pushes<R: Threads + Wait + Sync>(
     Ok((taken?, rest))
 }
 
+// Whether these are so many copies of one sender, in order.
+fn are_of(copies: &[RadioCopy], mote: u16, count: usize) -> bool {
+    let mut number = 0;
+    for copied in copies {
+        if *copied != copy(mote, number) {
+            return false;
+        }
+        number = number.wrapping_add(1);
+    }
+    copies.len() == count
+}
+
 /// The taker takes what it knows of one sender while another pushes behind that.
 #[test]
 fn taken_while_another_pushes(rt: HostRuntime) -> Result<(), Fail> {
     let (taken, rest) = while_another_pushes(&rt, rt.alloc(), 1000)?;
-    assert_eq!(rt; (taken.len(), rest.len()), (1000, 1000));
-    for (number, copied) in taken.iter().enumerate() {
-        assert_eq!(rt; *copied, copy(0, number as u64));
-    }
-    for (number, copied) in rest.iter().enumerate() {
-        assert_eq!(rt; *copied, copy(1, number as u64));
-    }
+    assert!(rt; are_of(&taken, 0, 1000) && are_of(&rest, 1, 1000));
     Ok(())
 }

@@ -9,7 +9,6 @@ use std::sync::atomic::{AtomicBool, AtomicU64};
 use std::test::Fail;
 
 /// Adds ten to the number of each worker, but gives up at some, and lets one not start.
-#[derive(Drop)]
 struct AddTen {
     /// At this number it finds no memory.
     no_memory: u64,
@@ -23,6 +22,26 @@ struct AddTen {
     asked: AtomicU64,
     /// How often it was told to give up.
     given_up: AtomicU64,
+}
+
+impl Drop for AddTen {
+    fn drop(self) {
+        let AddTen {
+            no_memory: _,
+            no_thread: _,
+            stopped: _,
+            shut_out: _,
+            asked: _,
+            given_up: _,
+        } = self;
+    }
+}
+
+impl AddTen {
+    /// How many workers were asked for, and how often it was told to give up.
+    fn counts(&self) -> (u64, u64) {
+        (self.asked.load(SeqCst), self.given_up.load(SeqCst))
+    }
 }
 
 fn add_ten(no_memory: u64, no_thread: u64, stopped: u64, shut_out: u64) -> AddTen {
@@ -67,10 +86,9 @@ impl Work<u64> for AddTen {
 #[test]
 fn three_workers(rt: HostRuntime) -> Result<(), Fail> {
     let work = add_ten(0, 0, 0, 0);
-    let done = fork_join(&rt, rt.alloc(), vec![in rt.alloc(); 3, 1, 2]?, &work)?;
-    assert_eq!(rt; done.as_slice(), [13, 11, 12].as_slice());
-    assert_eq!(rt; work.asked.load(SeqCst), 3);
-    assert_eq!(rt; work.given_up.load(SeqCst), 0);
+    let workers = Vec::from_array(rt.alloc(), [3, 1, 2])?;
+    let done = fork_join(&rt, rt.alloc(), workers, &work)?;
+    assert!(rt; done.as_slice() == [13, 11, 12].as_slice() && work.counts() == (3, 0));
     Ok(())
 }
 
@@ -90,9 +108,7 @@ fn some_workers_give_up(rt: HostRuntime) -> Result<(), Fail> {
         let work = add_ten(2, 3, 4, 0);
         let workers = Vec::from_array(rt.alloc(), workers)?;
         let found = fork_join(&rt, rt.alloc(), workers, &work).err();
-        assert_eq!(rt; found, Some(error));
-        assert_eq!(rt; work.asked.load(SeqCst), 3);
-        assert_eq!(rt; work.given_up.load(SeqCst), 0);
+        assert!(rt; found == Some(error) && work.counts() == (3, 0));
     }
     Ok(())
 }
@@ -101,10 +117,9 @@ fn some_workers_give_up(rt: HostRuntime) -> Result<(), Fail> {
 #[test]
 fn second_worker_is_shut_out(rt: HostRuntime) -> Result<(), Fail> {
     let work = add_ten(0, 0, 0, 2);
-    let found = fork_join(&rt, rt.alloc(), vec![in rt.alloc(); 1, 2, 3]?, &work).err();
-    assert_eq!(rt; found, Some(Refused::Thread));
-    assert_eq!(rt; work.asked.load(SeqCst), 2);
-    assert_eq!(rt; work.given_up.load(SeqCst), 1);
+    let workers = Vec::from_array(rt.alloc(), [1, 2, 3])?;
+    let found = fork_join(&rt, rt.alloc(), workers, &work).err();
+    assert!(rt; found == Some(Refused::Thread) && work.counts() == (2, 1));
     Ok(())
 }
 
@@ -113,17 +128,26 @@ fn second_worker_is_shut_out(rt: HostRuntime) -> Result<(), Fail> {
 fn an_error_before_a_start(rt: HostRuntime) -> Result<(), Fail> {
     for (worker, error) in [(1, Refused::Memory), (4, Refused::Thread)] {
         let work = add_ten(1, 0, 4, 2);
-        let found = fork_join(&rt, rt.alloc(), vec![in rt.alloc(); worker, 2, 3]?, &work).err();
-        assert_eq!(rt; found, Some(error));
+        let workers = Vec::from_array(rt.alloc(), [worker, 2, 3])?;
+        let found = fork_join(&rt, rt.alloc(), workers, &work).err();
+        assert!(rt; found == Some(error));
     }
     Ok(())
 }
 
 /// Each worker waits until it is told to stop, but one that isn't let start.
-#[derive(Drop)]
 struct WaitForStop {
     shut_out: u64,
     stop: AtomicBool,
+}
+
+impl Drop for WaitForStop {
+    fn drop(self) {
+        let WaitForStop {
+            shut_out: _,
+            stop: _,
+        } = self;
+    }
 }
 
 impl Work<u64> for WaitForStop {
@@ -157,8 +181,9 @@ fn a_start_refused_at_each_in_turn(rt: HostRuntime) -> Result<(), Fail> {
             shut_out,
             stop: AtomicBool::new(false),
         };
-        let found = fork_join(&rt, rt.alloc(), vec![in rt.alloc(); 0, 1, 2, 3]?, &work).err();
-        assert_eq!(rt; found, Some(Refused::Thread));
+        let workers = Vec::from_array(rt.alloc(), [0, 1, 2, 3])?;
+        let found = fork_join(&rt, rt.alloc(), workers, &work).err();
+        assert!(rt; found == Some(Refused::Thread));
     }
     Ok(())
 }
