@@ -1,10 +1,9 @@
 -- A worker's windows, one after another: what each makes of what its thread promises.
-use Rattle.std.proofs.Common.{◌≡◌, ◌≢◌, ◌⊎◌, ◌==◌, ℕ, suc, ◌<◌, ◌≤◌, false, List, [], ◌∷◌, ◌++◌, length, get_or, map, refl, sym, ap, ◌∙◌, subst, inl, inr, arith, None}
+use Rattle.std.proofs.Common.{◌≡◌, ◌≢◌, ◌==◌, ℕ, suc, ◌<◌, ◌≤◌, List, [], ◌∷◌, ◌++◌, length, get_or, map, refl, sym, ap, ◌∙◌, subst, arith, None}
 use Rattle.std.specs.List.{filter, AllByRecursion as Each}
-use Rattle.std.proofs.lemmas.Bool.{cases_lt, cases_eq, ne_eqb}
+use Rattle.std.proofs.lemmas.Bool.{ne_eqb}
 use Rattle.radio_packet.specs.declared.copy.RadioCopy.{RadioCopy}
 use Rattle.mote_net.specs.Net.{NetTold}
-use Rattle.window_law.specs.Windows.{first_mote}
 use Rattle.window_law.proofs.Lists.{every_weaker}
 use Rattle.net_agenda.specs.NetSystem.{system_of}
 use Rattle.worker_cut.specs.Crossed.{is_to}
@@ -15,16 +14,13 @@ use Rattle.copy_inbox.specs.declared.rule.Desk.{Desk}
 use Rattle.copy_inbox.specs.Items.{copies_of, part, OfMade}
 use Rattle.copy_inbox.specs.Handles.{InboxId, TakerView, after_taking}
 use Rattle.copy_inbox.proofs.Parts.{part-append, part-else}
-use Rattle.copy_exchange.specs.declared.courier.Courier.{Courier}
-use Rattle.copy_exchange.specs.Couriers.{HasMarks, IsSeated, Reaches, Stays, pushed_list, pushed_to}
+use Rattle.copy_exchange.specs.Couriers.{IsSeated, Reaches, Stays, pushed_list, pushed_to}
 use Rattle.copy_exchange.proofs.Delivered.{stays_on}
 use Rattle.copy_exchange.proofs.Marked.{marks_stay, stays_same}
 use Rattle.mark_law.specs.Marks.{marks_in}
 use Rattle.mark_exchange.specs.Due.{IsDue}
-use Rattle.mark_exchange.specs.Marks.{Counts}
 use Rattle.mark_exchange.proofs.Delivered.{takes_stays, takes_seated}
-use Rattle.worker_share.specs.declared.share.Share.{Share}
-use Rattle.worker_share.specs.Share.{Keeps, Motes}
+use Rattle.worker_share.specs.Share.{Keeps}
 use Rattle.worker_share.specs.Window.{CanRun, ComesIn, GoesOut, RunsWindow}
 use Rattle.worker_crew.specs.Worker.{IsCut}
 use Rattle.worker_crew.proofs.Working.{leaves_sent}

@@ -1,9 +1,9 @@
-use Rattle.std.proofs.Common.{◌≡◌, ◌+◌, ◌∙◌, ◌<◌, ◌≤◌, sym, ap, subst, refl, suc, length, arith, ℕ}
+use Rattle.std.proofs.Common.{◌≡◌, ◌+◌, ◌∙◌, ◌<◌, ◌≤◌, sym, ap, subst, suc, arith}
 use Rattle.mote_net.specs.Net.{net_of}
 use Rattle.worker_crew.specs.Run.{end_of_window}
 use Rattle.mark_crew.specs.Bounds.{bound, windows_of}
 use Rattle.mark_crew.specs.Thread.{HasRun}
-use Rattle.mark_crew.proofs.Bounds.{at_first, are_windows, goes_on, over, next_bound, few_windows}
+use Rattle.mark_crew.proofs.Bounds.{at_first, are_windows, goes_on, over, next_bound}
 use Rattle.mark_crew.proofs.Windows.{no_window}
 use Rattle.mark_crew.proofs.thread.run_through.Goals as goal
 

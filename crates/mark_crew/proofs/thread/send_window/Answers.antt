@@ -1,4 +1,4 @@
-use Rattle.std.proofs.Common.{sym, ap, subst, append-nil, ◌++◌, ◌∙◌, List}
+use Rattle.std.proofs.Common.{subst, append-nil, List}
 use Rattle.radio_packet.specs.declared.copy.RadioCopy.{RadioCopy}
 use Rattle.mote_net.specs.Net.{net_of}
 use Rattle.worker_share.specs.Window.{RunsWindow}
