@@ -1,7 +1,7 @@
 //! The classes of names.
 
 /// What a name can stand for.
-#[derive(Clone, Copy, Debug, PartialEq, Eq)]
+#[derive(Clone, Copy)]
 pub enum Class {
     Event,
     Semaphore,

@@ -1,7 +1,7 @@
 //! The keywords of the notation.
 
 /// A word that no program can have as a name. `Own` is `self`.
-#[derive(Clone, Copy, Debug, PartialEq, Eq)]
+#[derive(Clone, Copy, PartialEq, Eq)]
 pub enum Keyword {
     Event,
     Semaphore,

@@ -11,7 +11,7 @@ use crate::names::Names;
 use crate::tree::Block;
 
 /// What a process runs: its variables with their first values, its timers, its threads, and its blocks.
-#[derive(Debug, Drop)]
+#[derive(Drop)]
 pub struct ProcessText {
     pub number: u8,
     pub variables: Names,

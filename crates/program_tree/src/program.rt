@@ -11,10 +11,11 @@ use crate::event_name::FIRST_DECLARED;
 use crate::names::Names;
 use crate::process_text::ProcessText;
 use crate::timer::Timer;
+use std::fmt;
+use std::fmt::{Debug, Formatter};
 
 /// A program: its declared events and semaphores, its processes in the order of its `process` line, those that start at
 /// boot, the one that packets go to, what each runs, and the timers of all of them.
-#[derive(Debug)]
 pub struct Program {
     pub events: Names,
     pub semaphores: Names,
@@ -58,6 +59,15 @@ impl Drop for Program {
             codes: _,
             timers: _,
         } = self;
+    }
+}
+
+/// By hand, and without what the processes run: `mote_program::print_program` writes the whole text.
+impl Debug for Program {
+    fn fmt<W: fmt::Write>(&self, f: &mut Formatter<W>) -> fmt::Result {
+        f.debug_struct("Program")
+            .field("processes", &self.processes)
+            .finish_non_exhaustive()
     }
 }
 

@@ -4,7 +4,7 @@ use crate::keyword::Keyword;
 use crate::tree::Operator;
 
 /// A token.
-#[derive(Clone, Copy, Debug)]
+#[derive(Clone, Copy)]
 pub enum Token<'a> {
     Keyword(Keyword),
     Semicolon,

@@ -24,7 +24,7 @@ pub enum Operator {
 
 /// An expression. Variables have the numbers of their declarations in the process, processes and semaphores those of their
 /// declarations in the program, and timers of both kinds are numbered together through the program.
-#[derive(Debug, Drop)]
+#[derive(Drop)]
 pub enum Expr {
     Number(u16),
     Variable(u8),
@@ -53,7 +53,7 @@ pub enum Expr {
 }
 
 /// A statement that has no block.
-#[derive(Debug, Drop)]
+#[derive(Drop)]
 pub enum Action {
     /// A variable gets a value.
     Assign(u8, Expr),
@@ -85,7 +85,7 @@ pub enum Action {
 }
 
 /// A statement.
-#[derive(Debug, Drop)]
+#[derive(Drop)]
 #[cycle(statement)]
 pub enum Stmt {
     Do(Action),
@@ -94,7 +94,7 @@ pub enum Stmt {
 }
 
 /// The statements between two braces.
-#[derive(Debug, Drop)]
+#[derive(Drop)]
 #[cycle(statement)]
 pub struct Block {
     pub statements: Vec<Stmt>,

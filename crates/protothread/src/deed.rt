@@ -10,7 +10,7 @@ use crate::vars::Vars;
 use program_tree::{Action, Event, Proc, SystemEvent, Target};
 
 /// What a statement does to the thread that stands at it.
-#[derive(Clone, Copy, Debug, PartialEq, Eq)]
+#[derive(Clone, Copy)]
 pub(crate) enum Deed {
     /// Nothing; the thread goes on behind it.
     Passes,

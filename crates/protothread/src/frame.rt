@@ -8,7 +8,7 @@ ghost use Rattle.protothread.specs.Remainder.{thread_block};
 use program_tree::{Action, ProcessText, Stmt};
 
 /// Which block of a statement: one of its own, or that of the thread that it spawns.
-#[derive(Clone, Copy, Debug, Default, PartialEq, Eq)]
+#[derive(Clone, Copy, Default)]
 pub(crate) enum Branch {
     #[default]
     Then,
@@ -19,7 +19,7 @@ pub(crate) enum Branch {
 
 /// A block that the thread stands in: which block of a statement it is, and where the block around goes on behind it.
 /// That is at a `while` itself, whose test comes again, and behind any other statement.
-#[derive(Clone, Copy, Debug, Default, PartialEq, Eq)]
+#[derive(Clone, Copy, Default)]
 pub(crate) struct Frame {
     pub(crate) branch: Branch,
     pub(crate) position: u16,

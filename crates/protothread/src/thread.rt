@@ -27,7 +27,7 @@ const STACKS: u8 = 8;
 const DEPTH: usize = 256;
 
 /// What a thread did last.
-#[derive(Clone, Copy, Debug, PartialEq, Eq)]
+#[derive(Clone, Copy)]
 enum Mark {
     /// It answered `Done`, or is fresh.
     AtRest,
