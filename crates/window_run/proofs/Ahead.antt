@@ -1,5 +1,5 @@
 -- After a turn, all that comes does so later.
-use Rattle.std.proofs.Common.{◌≡◌, ℕ, suc, ◌<◌, ◌≤◌, Bool, true, false, not, nat_le, eqb, List, [], ◌∷◌, map, Option, Some, None, refl, inl, inr, arith}
+use Rattle.std.proofs.Common.{◌≡◌, ℕ, suc, ◌≤◌, false, not, nat_le, List, [], ◌∷◌, map, Option, Some, None, inl, inr, arith}
 use Rattle.std.specs.List.{filter, AllByRecursion}
 use Rattle.std.proofs.lemmas.Bool.{cases_Bool, eqb-false}
 use Rattle.std.proofs.lemmas.Bool.Decides.{nat_tests}
@@ -11,7 +11,6 @@ use Rattle.window_law.specs.System.{IsLater}
 use Rattle.window_law.specs.Windows.{is_at, WakesFrom, IsQuiet}
 use Rattle.net_agenda.specs.Buckets.{arrival_of}
 use Rattle.window_run.specs.Laws.{NoTurnIsPast}
-use Rattle.window_run.specs.Window.{window_after_turn}
 use Rattle.window_run.proofs.Ends.{not_before}
 
 later_copies : (m : ℕ) (xs : List RadioCopy) → AllByRecursion (λ copy. m ≤ copy.at) xs → AllByRecursion (λ copy. suc m ≤ copy.at) (filter (λ copy. not (is_at m copy)) xs)

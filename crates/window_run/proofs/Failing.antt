@@ -1,11 +1,8 @@
 -- A window over a mote that had failed.
-use Rattle.std.proofs.Common.{◌≡◌, ℕ, List, [], Option, Some, None, refl, sym, ◌∙◌, ap, subst}
+use Rattle.std.proofs.Common.{◌≡◌, ℕ, List, Option, Some, None, sym, subst}
 use Rattle.std.specs.Prelude.{MatchOption, IsSomeAnd}
 use Rattle.program_tree.specs.Code.{Tree}
-use Rattle.process_kernel.specs.declared.line.Line.{Line}
-use Rattle.radio_packet.specs.declared.sent.Sent.{Sent}
 use Rattle.mote_node.specs.Node.{Node}
-use Rattle.mote_node.specs.Public.{node_in}
 use Rattle.radio_packet.specs.declared.copy.RadioCopy.{RadioCopy}
 use Rattle.window_run.specs.declared.out.WindowOut.{WindowOut}
 use Rattle.window_run.specs.declared.own.OwnWindow.{OwnWindow}

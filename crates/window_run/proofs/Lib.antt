@@ -2,6 +2,7 @@ pub mod Ahead
 pub mod Behind
 pub mod Ends
 pub mod Failing
+pub mod Fronts
 pub mod Orders
 pub mod Polls
 pub mod Takes

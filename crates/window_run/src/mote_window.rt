@@ -12,12 +12,14 @@ ghost use Rattle.window_run.specs.Turns.{MayAnswer, TakesTurn, RestsAs, ErrsAs};
 use crate::gate::Gate;
 use crate::out::WindowOut;
 use crate::own::OwnWindow;
+use crate::room::TurnRoom;
 use futures::Future;
 use futures::task::{Context, Poll};
 use mote_node::{Mote, MoteError};
 use program_tree::Program;
 use radio_packet::RadioCopy;
 use std::alloc::Global;
+use std::mem;
 
 /// A mote in its window, until it was ready. A poll with a turn left takes exactly that turn, at the lesser of the mote's wake and
 /// the next copy's moment, and yields; with no turn left below the bound it is ready.
@@ -25,6 +27,7 @@ pub struct MoteWindow<'a, G> {
     own: Option<OwnWindow<'a>>,
     worker: u16,
     gate: &'a G,
+    room: Option<Box<TurnRoom>>,
 }
 
 impl<G> Drop for MoteWindow<'_, G> {
@@ -33,6 +36,7 @@ impl<G> Drop for MoteWindow<'_, G> {
             own: _,
             worker: _,
             gate: _,
+            room: _,
         } = self;
     }
 }
@@ -60,7 +64,15 @@ impl<'a, G: Gate> MoteWindow<'a, G> {
             own: Some(own),
             worker,
             gate,
+            room: None,
         }
+    }
+
+    /// Gives the window this room for its turns, and takes what it had.
+    pub(crate) fn swap_room(&mut self, room: &mut Option<Box<TurnRoom>>)
+        ensures { self.new.own ≡ self.old.own }
+    {
+        mem::swap(&mut self.room, room);
     }
 }
 
@@ -86,16 +98,17 @@ impl<G: Gate> Future for MoteWindow<'_, G> {
         ensures err { IfReady result (λ r. IfErr r (ErrsAs self.old.own)) }
         ensures given_up { IfReady result (λ _. self.new.own ≡ None) }
     {
-        let Some(mut own) = self.own.take() else {
+        let Some(own) = &mut self.own else {
             return Poll::Ready(Err(MoteError::Failed));
         };
         let Some(moment) = own.next_moment() else {
+            let own = self.own.take().unwrap();
             return Poll::Ready(Ok(own.finish()));
         };
-        if let Err(e) = own.turn(moment, self.worker, self.gate) {
+        if let Err(e) = own.turn(moment, self.worker, self.gate, &mut self.room) {
+            self.own = None;
             return Poll::Ready(Err(e));
         }
-        self.own = Some(own);
         cx.yield_now()
     }
 }

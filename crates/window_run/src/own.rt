@@ -1,6 +1,6 @@
 //! The engine of one mote's window.
 
-ghost use Rattle.std.specs.Prelude.{◌≡◌, ◌≤◌, ◌^◌, ◌++◌, true, Some, map, vec_len, IfOk, IfErr, IfSome, MatchOption, OnOk, None, []};
+ghost use Rattle.std.specs.Prelude.{◌≡◌, ◌≤◌, ◌^◌, true, Some, map, vec_len, IfErr, IfSome, MatchOption, OnOk, None, []};
 ghost use Rattle.std.specs.List.{take_while};
 ghost use Rattle.program_tree.specs.Program.{tree_of};
 ghost use Rattle.mote_node.specs.Public.{node_in};
@@ -10,7 +10,8 @@ ghost use Rattle.window_run.specs.Window.{Window, HasTurn, IsOver, IsNextOf, is_
 
 use crate::gate::Gate;
 use crate::out::WindowOut;
-use mote_node::{Mote, MoteError, TurnOut};
+use crate::room::{TurnRoom, room_in};
+use mote_node::{Mote, MoteError};
 use process_kernel::Line;
 use program_tree::Program;
 use radio_packet::{Arrival, RadioCopy, Sent};
@@ -97,26 +98,34 @@ impl<'a> OwnWindow<'a> {
         }
     }
 
-    /// Takes the turn at that moment. Once the copies for it are there, the gate is called, and then the mote takes them.
+    /// Takes the turn at that moment, in the room that an earlier turn left, or in one that is made now. Once the copies for it are
+    /// there, the gate is called, and then the mote takes them.
     ///
     /// # Errors
-    /// That of `Mote::turn`, so `Failed` where the mote had failed; `Memory` also where the copies, lines or packets found none.
+    /// That of `Mote::turn`, so `Failed` where the mote had failed; `Memory` also where the room, copies, lines or packets found none.
     #[tactic(auto, unfolding(crate::specs::Own::window_in))]
-    pub fn turn<G: Gate>(&mut self, moment: u64, worker: u16, gate: &G) -> Result<(), MoteError>
+    pub fn turn<G: Gate>(
+        &mut self,
+        moment: u64,
+        worker: u16,
+        gate: &G,
+        room: &mut Option<Box<TurnRoom>>,
+    ) -> Result<(), MoteError>
         requires early { moment ≤ 2 ^ 40 }
         requires left { IfSome (window_in self.old) (HasTurn moment) }
         ensures ok { OnOk result (TurnsTo moment (window_in self.old) (window_in self.new)) }
         ensures err { IfErr result (λ e. IfSome (window_in self.old) (IsErrorAt moment e)) }
         ensures refusal { IfErr result (λ e. window_in self.old ≡ None → IsRefusal e) }
     {
-        let arrivals = arrivals_at(self.alloc, &self.copies[self.next..], moment)?;
-        self.next += arrivals.len();
+        let room = room_in(self.alloc, room)?;
+        take_arrivals(&self.copies[self.next..], moment, &mut room.arrivals)?;
+        self.next += room.arrivals.len();
         gate.inside(worker, moment, self.mote.number());
-        let out = self.mote.turn(self.program, moment, &arrivals)?;
-        let TurnOut { lines, sends, wake } = out;
-        self.wake = wake;
-        put_behind(&mut self.lines, lines)?;
-        put_behind(&mut self.sends, sends)?;
+        self.mote
+            .turn_into(self.program, moment, &room.arrivals, &mut room.out)?;
+        self.wake = room.out.wake;
+        self.lines.append(&mut room.out.lines)?;
+        self.sends.append(&mut room.out.sends)?;
         Ok(())
     }
 
@@ -146,19 +155,6 @@ impl<'a> OwnWindow<'a> {
     }
 }
 
-/// Puts a turn's lines or packets behind those that are there. Where there are none, nothing is copied.
-fn put_behind<T: Drop>(all: &mut Vec<T>, more: Vec<T>) -> Result<(), AllocError>
-    ensures { OnOk result (all.new.items ≡ all.old.items ++ more.items) }
-{
-    if all.is_empty() {
-        *all = more;
-        return Ok(());
-    }
-    let mut more = more;
-    all.append(&mut more)?;
-    Ok(())
-}
-
 /// The lesser of the wake and the first copy's moment.
 fn least(wake: Option<u64>, copies: &[RadioCopy]) -> Option<u64>
     requires { is_rising copies.now ≡ true }
@@ -183,13 +179,20 @@ fn arrival(copy: &RadioCopy) -> Arrival
     }
 }
 
-/// The copies at the front that arrive at this moment.
-fn arrivals_at(alloc: Global, copies: &[RadioCopy], moment: u64) -> Result<Vec<Arrival>, AllocError>
-    ensures { IfOk result (λ arrivals. arrivals.items ≡ map arrival_of (take_while (is_at moment) copies.now)) }
+/// Takes the copies at the front that arrive at this moment.
+fn take_arrivals(
+    copies: &[RadioCopy],
+    moment: u64,
+    arrivals: &mut Vec<Arrival>,
+) -> Result<(), AllocError>
+    ensures { OnOk result (arrivals.new.items ≡ map arrival_of (take_while (is_at moment) copies.now)) }
 {
-    copies
-        .iter()
-        .take_while(|copy| copy.at == moment)
-        .map(arrival)
-        .collect(alloc)
+    arrivals.clear();
+    for copy in copies {
+        if copy.at != moment {
+            return Ok(());
+        }
+        arrivals.push(arrival(copy))?;
+    }
+    Ok(())
 }

@@ -8,6 +8,7 @@ ghost use Rattle.window_run.specs.Slots.{SlotGives, SlotGoesOn, is_done};
 use crate::gate::Gate;
 use crate::mote_window::MoteWindow;
 use crate::out::WindowOut;
+use crate::room::TurnRoom;
 use futures::Future;
 use futures::task::{Context, Poll};
 use mote_node::MoteError;
@@ -47,8 +48,12 @@ impl<G: Gate> Slot<'_, G> {
         }
     }
 
-    /// Polls the window once, where it was not ready before.
-    pub(crate) fn advance(&mut self, cx: &mut Context<'_>) -> Result<(), MoteError>
+    /// Polls the window once, where it was not ready before. Its turn takes place in this room.
+    pub(crate) fn advance(
+        &mut self,
+        room: &mut Option<Box<TurnRoom>>,
+        cx: &mut Context<'_>,
+    ) -> Result<(), MoteError>
         ensures same { OnOk result ((out : _) → SlotGives self.new out → SlotGives self.old out) }
         ensures goes_on { OnOk result (SlotGoesOn self.old → SlotGoesOn self.new) }
         ensures err { IfErr result (λ e. SlotGoesOn self.old → e ≡ Memory) }
@@ -57,7 +62,10 @@ impl<G: Gate> Slot<'_, G> {
         let Slot::Running(window) = self else {
             return Ok(());
         };
-        if let Poll::Ready(answer) = window.poll(cx) {
+        window.swap_room(room);
+        let polled = window.poll(cx);
+        window.swap_room(room);
+        if let Poll::Ready(answer) = polled {
             *self = Slot::Done(answer?);
         }
         Ok(())

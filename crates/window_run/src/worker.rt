@@ -13,6 +13,7 @@ ghost use Rattle.window_run.specs.Turns.{MayGive, HasTurns};
 use crate::gate::Gate;
 use crate::mote_window::MoteWindow;
 use crate::out::WindowOut;
+use crate::room::TurnRoom;
 use crate::share::{Resident, Residents, ShareError};
 use crate::slot::Slot;
 use futures::Future;
@@ -30,11 +31,17 @@ use std::sync::Wait;
 pub struct ShareWindow<'a, G> {
     alloc: Global,
     slots: Vec<Slot<'a, G>>,
+    /// The room of the turns, which goes from window to window.
+    room: Option<Box<TurnRoom>>,
 }
 
 impl<G> Drop for ShareWindow<'_, G> {
     fn drop(self) {
-        let ShareWindow { alloc: _, slots: _ } = self;
+        let ShareWindow {
+            alloc: _,
+            slots: _,
+            room: _,
+        } = self;
     }
 }
 
@@ -82,7 +89,11 @@ impl<'a, G: Gate> ShareWindow<'a, G> {
             let window = open(alloc, net, resident, until, worker, gate);
             slots.push(Slot::Running(window))?;
         }
-        Ok(ShareWindow { alloc, slots })
+        Ok(ShareWindow {
+            alloc,
+            slots,
+            room: None,
+        })
     }
 }
 
@@ -92,7 +103,7 @@ impl<G: Gate> Future for ShareWindow<'_, G> {
     ghost gives = { λ w r. WorkerMayAnswer w.slots.items r };
 
     fn poll(&mut self, cx: &mut Context<'_>) -> Poll<Self::Output> {
-        if let Err(e) = advance_each(&mut self.slots, cx) {
+        if let Err(e) = advance_each(&mut self.slots, &mut self.room, cx) {
             return Poll::Ready(Err(e));
         }
         if !all_done(&self.slots) {
@@ -106,6 +117,7 @@ impl<G: Gate> Future for ShareWindow<'_, G> {
 /// Polls each unfinished window once.
 fn advance_each<G: Gate>(
     slots: &mut Vec<Slot<'_, G>>,
+    room: &mut Option<Box<TurnRoom>>,
     cx: &mut Context<'_>,
 ) -> Result<(), MoteError>
     ensures same { OnOk result ((outs : List OutOfCode) → SlotsGive slots.new.items outs → SlotsGive slots.old.items outs) }
@@ -114,7 +126,7 @@ fn advance_each<G: Gate>(
     ensures kept { Keeps cx.old cx.new }
 {
     for k in 0..slots.len() {
-        if let Err(e) = slots[k].advance(cx) {
+        if let Err(e) = slots[k].advance(room, cx) {
             return Err(e);
         }
     }

@@ -1,9 +1,13 @@
-use Rattle.std.proofs.Common.{Ok}
+use Rattle.std.proofs.Common.{Ok, subst, sym}
+use Rattle.window_run.specs.Turns.{HasTurns, MayGive}
 use Rattle.window_run.proofs.Polls.{goes_on}
 use Rattle.window_run.proofs.slot.Slot.advance.Goals as goal
 
-pub returns-in_default-poll-clause-same : goal.returns-in_default-poll-clause-same
-returns-in_default-poll-clause-same g c = λ out h. rw c.in-Running.is (c.in_default-poll.ensures.same (Ok out) h)
+pub returns-in_default-polled-clause-same : goal.returns-in_default-polled-clause-same
+returns-in_default-polled-clause-same g c = λ out h.
+    rw c.in-Running.is
+    (subst (λ own. MayGive own out) c.swap_room.ensures (c.in_default-polled.ensures.same (Ok out) (subst (λ own. MayGive own out) c.swap_room-2.ensures h)))
 
-pub returns-in_default-poll-clause-goes_on : goal.returns-in_default-poll-clause-goes_on
-returns-in_default-poll-clause-goes_on g c = λ on. goes_on _ _ c.in_default-poll.ensures.turn (rw c.in-Running.is at on)
+pub returns-in_default-polled-clause-goes_on : goal.returns-in_default-polled-clause-goes_on
+returns-in_default-polled-clause-goes_on g c = λ on.
+    subst HasTurns (sym c.swap_room-2.ensures) (goes_on _ _ c.in_default-polled.ensures.turn (subst HasTurns (sym c.swap_room.ensures) (rw c.in-Running.is at on)))

@@ -1,0 +1,31 @@
+//! The room that a worker's turns write into.
+
+use mote_node::TurnOut;
+use radio_packet::Arrival;
+use std::alloc::{AllocError, Global};
+
+/// What comes to a mote in a turn, and what the turn tells. Each turn begins with both anew, so the room goes from turn to turn, and
+/// from mote to mote.
+#[derive(Drop)]
+pub struct TurnRoom {
+    pub(crate) arrivals: Vec<Arrival>,
+    pub(crate) out: TurnOut,
+}
+
+/// The room that is there, or else one that is made.
+pub(crate) fn room_in(
+    alloc: Global,
+    room: &mut Option<Box<TurnRoom>>,
+) -> Result<&mut TurnRoom, AllocError> {
+    if room.is_none() {
+        let made = TurnRoom {
+            arrivals: Vec::new(alloc),
+            out: TurnOut::new(alloc),
+        };
+        *room = Some(Box::new(alloc, made)?);
+    }
+    match room {
+        Some(room) => Ok(&mut **room),
+        None => Err(AllocError),
+    }
+}
