@@ -1,11 +1,14 @@
 pub mod All
 pub mod Bounds
+pub mod Crossing
 pub mod Ends
 pub mod Fronts
 pub mod Lists
 pub mod Longer
 pub mod Pairs
 pub mod Promise
+pub mod Ready
+pub mod Runs
 pub mod Seen
 pub mod Settles
 pub mod Stages

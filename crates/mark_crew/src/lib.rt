@@ -2,8 +2,10 @@
 #![tactic(auto)]
 
 pub mod laws;
+mod run;
 mod thread;
 mod worker;
 
+pub use run::run_marked;
 pub use thread::MarkRunner;
 pub use worker::{CrewRun, MarkWorker};

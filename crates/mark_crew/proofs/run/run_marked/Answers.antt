@@ -1,0 +1,26 @@
+use Rattle.std.proofs.Common.{suc, ◌≤◌, subst}
+use Rattle.std.specs.List.{AllByRecursion as Each}
+use Rattle.std.proofs.lemmas.Result.{IfOk-weaker}
+use Rattle.mote_net.specs.Net.{net_of}
+use Rattle.copy_inbox.specs.Gathered.{Whole}
+use Rattle.copy_inbox.specs.Handles.{TakerView}
+use Rattle.worker_crew.specs.Crew.{IsAt}
+use Rattle.mark_crew.specs.Run.{RunsAllMarked}
+use Rattle.mark_crew.proofs.Runs.{ended}
+use Rattle.mark_crew.proofs.run.run_marked.Goals as goal
+
+pub returns-clause-at : goal.returns-clause-at
+returns-clause-at g c =
+    let n = net_of c.args.net.now in
+    let width = c.window_length-width.result in
+    let short = subst (λ l. width ≤ l) c.lookahead_of.ensures.value c.window_length-width.ensures.within in
+    IfOk-weaker c.run_threads.result (RunsAllMarked n c.args.of.now width c.args.crew) (λ done. IsAt n c.args.of.now (suc n.end) done)
+    (λ done all. (ended n c.lookahead_of.ensures.forward c.args.of.now width c.window_length-width.ensures.above_zero short c.args.crew done c.requires.cut all).0) c.run_threads.ensures
+
+pub returns-clause-all_taken : goal.returns-clause-all_taken
+returns-clause-all_taken g c =
+    let n = net_of c.args.net.now in
+    let width = c.window_length-width.result in
+    let short = subst (λ l. width ≤ l) c.lookahead_of.ensures.value c.window_length-width.ensures.within in
+    IfOk-weaker c.run_threads.result (RunsAllMarked n c.args.of.now width c.args.crew) (λ done. Each (λ (t : TakerView). Whole t.desk.gathered t.desk.taken) done.takers.items)
+    (λ done all. (ended n c.lookahead_of.ensures.forward c.args.of.now width c.window_length-width.ensures.above_zero short c.args.crew done c.requires.cut all).1) c.run_threads.ensures
