@@ -6,10 +6,11 @@ ghost use Rattle.copy_inbox.specs.Handles.{TakerView};
 ghost use Rattle.copy_exchange.specs.Couriers.{IsCourier, SetsOut, Returns};
 ghost use Rattle.copy_exchange.specs.Inboxes.{IsPlain, IsSettled, Settled};
 
+use super::{same_text, write_copies, write_rest};
 use copy_exchange::{Courier, couriers, gathered, known, make_inboxes, paired, parted};
 use copy_inbox::{Inbox, InboxError, Taker};
 use radio_packet::RadioCopy;
-use std::alloc::Global;
+use std::alloc::{AllocError, Global};
 use std::sync::Wait;
 use std::test::Fail;
 
@@ -27,101 +28,131 @@ fn copy(sender: u16, number: u64) -> RadioCopy
     }
 }
 
-/// One worker in a window: what it took, before it delivered these copies to the other worker.
+/// One worker in a window: it delivers these copies to the other worker, once it has taken what is there. That is
+/// written down.
 fn through<R: Wait>(
     rt: &R,
+    alloc: Global,
+    text: &mut String,
     inboxes: &[Inbox],
     courier: Courier,
-    out: Vec<RadioCopy>,
-) -> Result<(Courier, Vec<RadioCopy>), InboxError>
+    out: &[RadioCopy],
+) -> Result<Courier, InboxError>
     requires two { length inboxes.now ≡ 2 }
     requires courier { IsCourier inboxes.now courier }
     requires plain { IsPlain courier.taker }
-    requires out { Each (λ copy. (copy.sender ≡ courier.worker) × (copy.to + courier.worker ≡ 1)) out.items }
-    ensures { IfOk result (λ r. (t : TakerView) → SetsOut t courier → Returns inboxes.now (λ s. s) courier r.0) }
+    requires out { Each (λ copy. (copy.sender ≡ courier.worker) × (copy.to + courier.worker ≡ 1)) out.now }
+    ensures { IfOk result (λ back. (t : TakerView) → SetsOut t courier → Returns inboxes.now (λ s. s) courier back) }
 {
     let mut courier = courier;
     let taken = courier.collect(rt, inboxes)?;
-    courier.deliver(rt, inboxes, &[0, 1], out)?;
-    Ok((courier, taken))
+    let sent = Vec::from_slice(alloc, out)?;
+    courier.deliver(rt, inboxes, &[0, 1], sent)?;
+    text.push_str("took|")?;
+    write_copies(text, taken.as_slice())?;
+    Ok(courier)
 }
 
-/// A window of both workers, worker 0 first: the takers after it, and what each worker took.
+/// A window of both workers, worker 0 first: what each took is written down, and the takers are those after it.
 fn a_window<R: Wait>(
     rt: &R,
     alloc: Global,
+    text: &mut String,
     inboxes: &[Inbox],
     takers: Vec<Taker>,
-    out: (Vec<RadioCopy>, Vec<RadioCopy>),
-) -> Result<(Vec<Taker>, Vec<RadioCopy>, Vec<RadioCopy>), InboxError>
+    out_of_first: &[RadioCopy],
+    out_of_second: &[RadioCopy],
+) -> Result<Vec<Taker>, InboxError>
     requires two { length inboxes.now ≡ 2 }
     requires settled { Settled inboxes.now takers.items }
     requires plain { Each IsPlain takers.items }
-    requires first { Each (λ copy. (copy.sender ≡ 0) × (copy.to ≡ 1)) out.0.items }
-    requires second { Each (λ copy. (copy.sender ≡ 1) × (copy.to ≡ 0)) out.1.items }
-    ensures settled { IfOk result (λ r. Settled inboxes.now r.0.items) }
-    ensures plain { IfOk result (λ r. Each IsPlain r.0.items) }
+    requires first { Each (λ copy. (copy.sender ≡ 0) × (copy.to ≡ 1)) out_of_first.now }
+    requires second { Each (λ copy. (copy.sender ≡ 1) × (copy.to ≡ 0)) out_of_second.now }
+    ensures settled { IfOk result (λ takers. Settled inboxes.now takers.items) }
+    ensures plain { IfOk result (λ takers. Each IsPlain takers.items) }
 {
     let mut couriers = couriers(alloc, inboxes, takers)?;
     let (Some(second), Some(first)) = (couriers.pop(), couriers.pop()) else {
         return Err(InboxError::Memory);
     };
-    let (first_out, second_out) = out;
-    let (first, to_first) = through(rt, inboxes, first, first_out)?;
-    let (second, to_second) = through(rt, inboxes, second, second_out)?;
+    let first = through(rt, alloc, text, inboxes, first, out_of_first)?;
+    let second = through(rt, alloc, text, inboxes, second, out_of_second)?;
     let mut back = Vec::with_capacity(alloc, 2)?;
     back.push_reserved(first);
     back.push_reserved(second);
-    let takers = gathered(rt, alloc, inboxes, back)?;
-    Ok((takers, to_first, to_second))
+    gathered(rt, alloc, inboxes, back)
 }
 
-/// How many copies are known in each inbox.
-fn known_in(inboxes: &[Inbox], takers: &[Taker]) -> (u64, u64)
+/// Writes down how many copies are known in each inbox.
+fn write_known(text: &mut String, inboxes: &[Inbox], takers: &[Taker]) -> Result<(), AllocError>
     requires two { length inboxes.now ≡ 2 }
     requires settled { Settled inboxes.now takers.now }
 {
-    (
-        known(&inboxes[0], &takers[0]),
-        known(&inboxes[1], &takers[1]),
-    )
+    let first = known(&inboxes[0], &takers[0]);
+    let second = known(&inboxes[1], &takers[1]);
+    write!(text, "known {first} {second}|")
 }
 
-/// What is left in the inboxes when they end.
-fn closed<R: Wait>(
+/// Two windows, with what was taken in each and how many copies are known behind it.
+fn two_turns<R: Wait>(
     rt: &R,
     alloc: Global,
+    text: &mut String,
+    inboxes: &[Inbox],
+    takers: Vec<Taker>,
+) -> Result<Vec<Taker>, InboxError>
+    requires two { length inboxes.now ≡ 2 }
+    requires settled { Settled inboxes.now takers.items }
+    requires plain { Each IsPlain takers.items }
+    ensures settled { IfOk result (λ takers. Settled inboxes.now takers.items) }
+{
+    let out_of_first = [copy(0, 0), copy(0, 1)];
+    let out_of_second = [copy(1, 0)];
+    let takers = a_window(
+        rt,
+        alloc,
+        text,
+        inboxes,
+        takers,
+        &out_of_first,
+        &out_of_second,
+    )?;
+    write_known(text, inboxes, takers.as_slice())?;
+    let takers = a_window(rt, alloc, text, inboxes, takers, &[copy(0, 2)], &[])?;
+    write_known(text, inboxes, takers.as_slice())?;
+    Ok(takers)
+}
+
+/// Writes down what is left in the inboxes when they end.
+fn write_all_left<R: Wait>(
+    rt: &R,
+    text: &mut String,
     pairs: Vec<(Inbox, Taker)>,
-) -> Result<Vec<RadioCopy>, InboxError>
+) -> Result<(), InboxError>
     requires settled { Each (λ pair. IsSettled pair.0 pair.1) pairs.items }
 {
-    let mut copies = Vec::new(alloc);
+    text.push_str("left|")?;
     for (inbox, taker) in pairs {
-        copies.append(&mut inbox.close(rt, taker)?)?;
+        write_rest(rt, text, inbox, taker)?;
     }
-    Ok(copies)
+    Ok(())
+}
+
+/// Writes down what two new inboxes give in two windows, and when they end.
+fn write_windows<R: Wait>(rt: &R, alloc: Global, text: &mut String) -> Result<(), InboxError> {
+    let (inboxes, takers) = parted(alloc, make_inboxes(alloc, 2, false)?)?;
+    let takers = two_turns(rt, alloc, text, &inboxes, takers)?;
+    write_all_left(rt, text, paired(alloc, inboxes, takers)?)
 }
 
 /// What is delivered in one window is taken in the next, and nothing else: not what the other worker delivers
 /// there before. What is delivered in the last one is left.
 #[test]
 fn two_windows(rt: HostRuntime) -> Result<(), Fail> {
-    let alloc = rt.alloc();
-    let (inboxes, takers) = parted(alloc, make_inboxes(alloc, 2, false)?)?;
-    let out = (
-        vec![in alloc; copy(0, 0), copy(0, 1)]?,
-        vec![in alloc; copy(1, 0)]?,
-    );
-    let (takers, to_first, to_second) = a_window(&rt, alloc, &inboxes, takers, out)?;
-    assert!(rt; to_first.is_empty());
-    assert!(rt; to_second.is_empty());
-    assert_eq!(rt; known_in(&inboxes, &takers), (1, 2));
-    let out = (vec![in alloc; copy(0, 2)]?, Vec::new(alloc));
-    let (takers, to_first, to_second) = a_window(&rt, alloc, &inboxes, takers, out)?;
-    assert_eq!(rt; to_first.as_slice(), [copy(1, 0)].as_slice());
-    assert_eq!(rt; to_second.as_slice(), [copy(0, 0), copy(0, 1)].as_slice());
-    assert_eq!(rt; known_in(&inboxes, &takers), (0, 1));
-    let left = closed(&rt, alloc, paired(alloc, inboxes, takers)?)?;
-    assert_eq!(rt; left.as_slice(), [copy(0, 2)].as_slice());
-    Ok(())
+    let mut text = String::new(rt.alloc());
+    write_windows(&rt, rt.alloc(), &mut text)?;
+    same_text(
+        text.as_str(),
+        "took|took|known 1 2|took|5 0 1 0 9|took|5 1 0 0 9|5 1 0 1 9|known 0 1|left|5 1 0 2 9|",
+    )
 }

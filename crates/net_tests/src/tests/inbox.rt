@@ -1,16 +1,19 @@
 //! Runs of an inbox, in one thread and in several.
 
-ghost use Rattle.std.specs.Prelude.{◌≡◌, false};
+ghost use Rattle.std.specs.Prelude.{◌≡◌, false, [], IfOk, OnOk};
+ghost use Rattle.copy_inbox.specs.Handles.{AllGathered, after_sender};
+ghost use Rattle.copy_inbox.specs.Views.{make_desk, make_post};
 
+use super::{same_text, write_copies, write_rest};
 use copy_inbox::{Inbox, InboxError, Sender, Taker};
 use radio_packet::RadioCopy;
-use std::alloc::Global;
+use std::alloc::{AllocError, Global};
 use std::sync::Wait;
 use std::test::*;
 use std::thread;
 use std::thread::Threads;
 
-fn copy(sender: u16, number: u64) -> RadioCopy {
+pub(crate) fn copy(sender: u16, number: u64) -> RadioCopy {
     RadioCopy {
         at: 5,
         to: 1,
@@ -20,21 +23,78 @@ fn copy(sender: u16, number: u64) -> RadioCopy {
     }
 }
 
+/// A new inbox, with marks or without, and its taker.
+fn make(alloc: Global, marked: bool) -> Result<(Inbox, Taker), InboxError>
+    ensures inbox { IfOk result (λ made. made.1.inbox ≡ made.0) }
+    ensures empty { IfOk result (λ made. made.1.desk ≡ make_desk marked 0 [] []) }
+{
+    if marked {
+        Inbox::make_marked(alloc)
+    } else {
+        Inbox::make(alloc)
+    }
+}
+
+/// A new inbox, with marks or without, its taker, and a sender.
+pub(crate) fn with_one(alloc: Global, marked: bool) -> Result<(Inbox, Taker, Sender), InboxError>
+    ensures inbox { IfOk result (λ made. (made.1.inbox ≡ made.0) × (made.2.inbox ≡ made.0)) }
+    ensures taker { IfOk result (λ made. made.1.desk ≡ make_desk marked 1 [] []) }
+    ensures sender { IfOk result (λ made. made.2.post ≡ make_post marked 0 []) }
+{
+    let (inbox, mut taker) = make(alloc, marked)?;
+    let sender = inbox.sender(&mut taker)?;
+    Ok((inbox, taker, sender))
+}
+
+/// The same with a second sender.
+pub(crate) fn with_two(
+    alloc: Global,
+    marked: bool,
+) -> Result<(Inbox, Taker, Sender, Sender), InboxError>
+    ensures inbox { IfOk result (λ made. (made.1.inbox ≡ made.0) × (made.2.inbox ≡ made.0) × (made.3.inbox ≡ made.0)) }
+    ensures taker { IfOk result (λ made. made.1.desk ≡ make_desk marked 2 [] []) }
+    ensures senders { IfOk result (λ made. (made.2.post ≡ make_post marked 0 []) × (made.3.post ≡ make_post marked 1 [])) }
+{
+    let (inbox, mut taker, first) = with_one(alloc, marked)?;
+    let second = inbox.sender(&mut taker)?;
+    Ok((inbox, taker, first, second))
+}
+
 // Pushes a copy. Where memory is refused, it is not there to be taken.
-fn push<R: Wait>(rt: &R, inbox: &Inbox, sender: &mut Sender, copied: RadioCopy)
+pub(crate) fn push<R: Wait>(rt: &R, inbox: &Inbox, sender: &mut Sender, copied: RadioCopy)
     requires { sender.old.inbox ≡ inbox.now }
-    ensures { (sender.new.inbox ≡ inbox.now) × (sender.new.post.number ≡ sender.old.post.number) }
+    ensures { (sender.new.inbox ≡ inbox.now) × (sender.new.post.number ≡ sender.old.post.number) × (sender.new.post.marked ≡ sender.old.post.marked) }
 {
     let _ = inbox.push_copy(rt, sender, copied);
 }
 
-/// What a test saw of an inbox: how many copies were known, time after time, what was taken, and what the closing
-/// gave.
-#[derive(Drop)]
-struct Seen {
-    known: [u64; 4],
-    taken: Vec<RadioCopy>,
-    rest: Vec<RadioCopy>,
+// Pushes each copy, by the sender that it names.
+fn push_each<R: Wait>(
+    rt: &R,
+    inbox: &Inbox,
+    mut first: Sender,
+    mut second: Sender,
+    copies: &[RadioCopy],
+) -> (Sender, Sender)
+    requires { (first.inbox ≡ inbox.now) × (second.inbox ≡ inbox.now) }
+    ensures first { (result.0.inbox ≡ inbox.now) × (result.0.post.number ≡ first.post.number) }
+    ensures second { (result.1.inbox ≡ inbox.now) × (result.1.post.number ≡ second.post.number) }
+{
+    for copied in copies {
+        if copied.sender == 0 {
+            push(rt, inbox, &mut first, *copied);
+        } else {
+            push(rt, inbox, &mut second, *copied);
+        }
+    }
+    (first, second)
+}
+
+pub(crate) fn write_known(text: &mut String, inbox: &Inbox, taker: &Taker) -> Result<(), AllocError>
+    requires { taker.now.inbox ≡ inbox.now }
+{
+    let known = inbox.known(taker);
+    write!(text, "known {known}|")
 }
 
 // Takes so many copies, or all that are known where those are fewer.
@@ -51,160 +111,231 @@ fn drain<R: Wait>(
     inbox.drain(rt, taker, most.min(known))
 }
 
-impl Seen {
-    fn is(&self, known: [u64; 4], taken: &[RadioCopy], rest: &[RadioCopy]) -> bool {
-        self.known == known && self.taken.as_slice() == taken && self.rest.as_slice() == rest
-    }
-}
-
-fn two_in_turn<R: Wait>(rt: &R, alloc: Global) -> Result<Seen, InboxError> {
-    let (inbox, mut taker) = Inbox::make(alloc)?;
-    let mut first = inbox.sender(&mut taker)?;
-    let mut second = inbox.sender(&mut taker)?;
-    push(rt, &inbox, &mut first, copy(0, 0));
-    push(rt, &inbox, &mut second, copy(1, 0));
-    push(rt, &inbox, &mut second, copy(1, 1));
-    push(rt, &inbox, &mut first, copy(0, 1));
-    inbox.gather(rt, &mut taker, first);
-    let after_one = inbox.known(&taker);
-    inbox.gather(rt, &mut taker, second);
-    let after_both = inbox.known(&taker);
-    let taken = drain(rt, &inbox, &mut taker, 3);
-    let at_last = inbox.known(&taker);
-    let rest = inbox.close(rt, taker);
-    Ok(Seen {
-        known: [0, after_one, after_both, at_last],
-        taken: taken?,
-        rest: rest?,
-    })
-}
-
-/// Two copies of each of two senders, taken by three and by the closing.
-#[test]
-fn two_senders_closed(rt: HostRuntime) -> Result<(), Fail> {
-    let seen = two_in_turn(&rt, rt.alloc())?;
-    let taken = [copy(0, 0), copy(1, 0), copy(1, 1)];
-    assert!(rt; seen.is([0, 2, 4, 1], &taken, &[copy(0, 1)]));
+// Takes so many copies, or all that are known where those are fewer. They are written down, between how many are known
+// before and behind.
+fn write_taken<R: Wait>(
+    rt: &R,
+    text: &mut String,
+    inbox: &Inbox,
+    taker: &mut Taker,
+    most: u64,
+) -> Result<(), InboxError>
+    requires { (taker.old.inbox ≡ inbox.now) × (taker.old.desk.marked ≡ false) }
+    ensures { (taker.new.inbox ≡ inbox.now) × (taker.new.desk.marked ≡ false) × (taker.new.desk.made ≡ taker.old.desk.made) × (taker.new.desk.gathered ≡ taker.old.desk.gathered) }
+{
+    write_known(text, inbox, taker)?;
+    let taken = drain(rt, inbox, taker, most)?;
+    write_copies(text, taken.as_slice())?;
+    write_known(text, inbox, taker)?;
     Ok(())
 }
 
-fn taken_before_the_gather<R: Wait>(rt: &R, alloc: Global) -> Result<Seen, InboxError> {
-    let (inbox, mut taker) = Inbox::make(alloc)?;
-    let mut first = inbox.sender(&mut taker)?;
-    let mut second = inbox.sender(&mut taker)?;
-    push(rt, &inbox, &mut first, copy(0, 7));
-    push(rt, &inbox, &mut second, copy(1, 8));
-    let before = inbox.known(&taker);
-    inbox.gather(rt, &mut taker, second);
-    let after_one = inbox.known(&taker);
-    let taken = drain(rt, &inbox, &mut taker, 1);
-    let drained = inbox.known(&taker);
-    inbox.gather(rt, &mut taker, first);
-    let at_last = inbox.known(&taker);
-    let rest = inbox.close(rt, taker);
-    Ok(Seen {
-        known: [before, after_one, drained, at_last],
-        taken: taken?,
-        rest: rest?,
-    })
+// Gathers both senders, and takes so many copies behind each.
+fn write_both_gathered<R: Wait>(
+    rt: &R,
+    text: &mut String,
+    inbox: &Inbox,
+    taker: &mut Taker,
+    senders: (Sender, Sender),
+    most: (u64, u64),
+) -> Result<(), InboxError>
+    requires taker { (taker.old.inbox ≡ inbox.now) × (taker.old.desk ≡ make_desk false 2 [] []) }
+    requires first { (senders.0.inbox ≡ inbox.now) × (senders.0.post.number ≡ 0) }
+    requires second { (senders.1.inbox ≡ inbox.now) × (senders.1.post.number ≡ 1) }
+    ensures taker { OnOk result ((taker.new.inbox ≡ inbox.now) × (taker.new.desk.marked ≡ false)) }
+    ensures gathered { OnOk result (AllGathered taker.new.desk) }
+{
+    let (first, second) = senders;
+    inbox.gather(rt, taker, first);
+    write_taken(rt, text, inbox, taker, most.0)?;
+    inbox.gather(rt, taker, second);
+    write_taken(rt, text, inbox, taker, most.1)
 }
 
-/// What a sender pushed is in the inbox before the sender is gathered: the taker takes it, though it knows only of the
-/// other's.
+// Two senders push these copies. Writes down what is taken behind the gathering of each, and what is left at the end.
+fn write_of_two<R: Wait>(
+    rt: &R,
+    alloc: Global,
+    text: &mut String,
+    copies: &[RadioCopy],
+    most: (u64, u64),
+) -> Result<(), InboxError> {
+    let (inbox, mut taker, first, second) = with_two(alloc, false)?;
+    let senders = push_each(rt, &inbox, first, second, copies);
+    write_both_gathered(rt, text, &inbox, &mut taker, senders, most)?;
+    write_rest(rt, text, inbox, taker)
+}
+
+// Fails where something else is written of that.
+fn gives<R: Wait>(
+    rt: &R,
+    alloc: Global,
+    copies: &[RadioCopy],
+    most: (u64, u64),
+    want: &str,
+) -> Result<(), Fail> {
+    let mut text = String::new(alloc);
+    write_of_two(rt, alloc, &mut text, copies, most)?;
+    same_text(text.as_str(), want)
+}
+
 #[test]
-fn inbox_in_one_thread(rt: HostRuntime) -> Result<(), Fail> {
-    let seen = taken_before_the_gather(&rt, rt.alloc())?;
-    assert!(rt; seen.is([0, 1, 1, 1], &[copy(0, 7)], &[copy(1, 8)]));
+fn two_senders(rt: HostRuntime) -> Result<(), Fail> {
+    let alloc = rt.alloc();
+    // Two copies of each, taken by three and by the closing.
+    let four = [copy(0, 0), copy(1, 0), copy(1, 1), copy(0, 1)];
+    gives(
+        &rt,
+        alloc,
+        &four,
+        (0, 3),
+        "known 2|known 2|known 4|5 1 0 0 9|5 1 1 0 9|5 1 1 1 9|known 1|5 1 0 1 9|",
+    )?;
+    // What a sender pushed is in the inbox before the sender is gathered: the taker takes it, though it knows only of the
+    // other's.
+    gives(
+        &rt,
+        alloc,
+        &[copy(1, 8), copy(0, 7)],
+        (1, 0),
+        "known 1|5 1 1 8 9|known 1|known 1|known 1|5 1 0 7 9|",
+    )?;
+    // Nobody pushes.
+    gives(&rt, alloc, &[], (0, 0), "known 0|known 0|known 0|known 0|")
+}
+
+// A sender pushes and is gathered, and then another one. Writes down what is known and taken.
+fn write_one_behind_the_other<R: Wait>(
+    rt: &R,
+    text: &mut String,
+    inbox: &Inbox,
+    taker: &mut Taker,
+) -> Result<(), InboxError>
+    requires { (taker.old.inbox ≡ inbox.now) × (taker.old.desk ≡ make_desk false 0 [] []) }
+    ensures taker { OnOk result ((taker.new.inbox ≡ inbox.now) × (taker.new.desk.marked ≡ false)) }
+    ensures gathered { OnOk result (AllGathered taker.new.desk) }
+{
+    let mut first = inbox.sender(taker)?;
+    push(rt, inbox, &mut first, copy(0, 7));
+    inbox.gather(rt, taker, first);
+    let mut second = inbox.sender(taker)?;
+    push(rt, inbox, &mut second, copy(1, 8));
+    write_taken(rt, text, inbox, taker, 1)?;
+    inbox.gather(rt, taker, second);
+    write_known(text, inbox, taker)?;
     Ok(())
 }
 
-fn one_behind_the_other<R: Wait>(rt: &R, alloc: Global) -> Result<Seen, InboxError> {
+fn write_late_sender<R: Wait>(rt: &R, alloc: Global, text: &mut String) -> Result<(), InboxError> {
     let (inbox, mut taker) = Inbox::make(alloc)?;
-    let mut first = inbox.sender(&mut taker)?;
-    push(rt, &inbox, &mut first, copy(0, 7));
-    inbox.gather(rt, &mut taker, first);
-    let mut second = inbox.sender(&mut taker)?;
-    push(rt, &inbox, &mut second, copy(1, 8));
-    let before = inbox.known(&taker);
-    let taken = drain(rt, &inbox, &mut taker, 1);
-    let drained = inbox.known(&taker);
-    inbox.gather(rt, &mut taker, second);
-    let at_last = inbox.known(&taker);
-    let rest = inbox.close(rt, taker);
-    Ok(Seen {
-        known: [0, before, drained, at_last],
-        taken: taken?,
-        rest: rest?,
-    })
+    write_one_behind_the_other(rt, text, &inbox, &mut taker)?;
+    write_rest(rt, text, inbox, taker)
 }
 
 /// A sender that is made after another was gathered pushes behind it.
 #[test]
 fn sender_made_after_a_gather(rt: HostRuntime) -> Result<(), Fail> {
-    let seen = one_behind_the_other(&rt, rt.alloc())?;
-    assert!(rt; seen.is([0, 1, 0, 1], &[copy(0, 7)], &[copy(1, 8)]));
-    Ok(())
+    let mut text = String::new(rt.alloc());
+    write_late_sender(&rt, rt.alloc(), &mut text)?;
+    same_text(
+        text.as_str(),
+        "known 1|5 1 0 7 9|known 0|known 1|5 1 1 8 9|",
+    )
 }
 
-fn of_nobody<R: Wait>(rt: &R, alloc: Global) -> Result<Seen, InboxError> {
-    let (inbox, mut taker) = Inbox::make(alloc)?;
-    let only = inbox.sender(&mut taker)?;
-    inbox.gather(rt, &mut taker, only);
-    let known = inbox.known(&taker);
-    let taken = drain(rt, &inbox, &mut taker, 0);
-    let rest = inbox.close(rt, taker);
-    Ok(Seen {
-        known: [0, 0, 0, known],
-        taken: taken?,
-        rest: rest?,
-    })
+// A new inbox, with marks or without. Where memory is refused, it is asked for again.
+pub(crate) fn make_again(alloc: Global, marked: bool) -> Result<(Inbox, Taker), InboxError>
+    ensures inbox { IfOk result (λ made. made.1.inbox ≡ made.0) }
+    ensures empty { IfOk result (λ made. made.1.desk ≡ make_desk marked 0 [] []) }
+{
+    match make(alloc, marked) {
+        Ok(made) => Ok(made),
+        Err(InboxError::Memory) => make(alloc, marked),
+    }
 }
 
-/// An inbox that nobody pushed into.
-#[test]
-fn nothing_pushed(rt: HostRuntime) -> Result<(), Fail> {
-    let seen = of_nobody(&rt, rt.alloc())?;
-    assert!(rt; seen.is([0; 4], &[], &[]));
-    Ok(())
+// A new sender. Where memory is refused, it is asked for again.
+pub(crate) fn sender_again(inbox: &Inbox, taker: &mut Taker) -> Result<Sender, InboxError>
+    requires { taker.old.inbox ≡ inbox.now }
+    ensures inbox { IfOk result (λ sender. sender.inbox ≡ inbox.now) }
+    ensures fresh { IfOk result (λ sender. sender.post ≡ make_post taker.old.desk.marked taker.old.desk.made []) }
+    ensures taker { OnOk result (taker.new ≡ after_sender taker.old) }
+{
+    match inbox.sender(taker) {
+        Ok(sender) => Ok(sender),
+        Err(InboxError::Memory) => inbox.sender(taker),
+    }
+}
+
+// Pushes a copy. Where memory is refused, what comes back is pushed.
+pub(crate) fn push_again<R: Wait>(rt: &R, inbox: &Inbox, sender: &mut Sender, copied: RadioCopy)
+    requires { sender.old.inbox ≡ inbox.now }
+    ensures { (sender.new.inbox ≡ inbox.now) × (sender.new.post.number ≡ sender.old.post.number) × (sender.new.post.marked ≡ sender.old.post.marked) }
+{
+    if let Err(back) = inbox.push_copy(rt, sender, copied) {
+        push(rt, inbox, sender, back);
+    }
+}
+
+// Pushes so many copies, numbered from 0.
+fn push_all_again<R: Wait>(rt: &R, inbox: &Inbox, mut sender: Sender, count: u64) -> Sender
+    requires { sender.inbox ≡ inbox.now }
+    ensures { (result.inbox ≡ inbox.now) × (result.post.number ≡ sender.post.number) }
+{
+    for number in 0..count {
+        push_again(rt, inbox, &mut sender, copy(0, number));
+    }
+    sender
+}
+
+// Whether the copies that are taken are so many of one sender, in order. Where memory is refused, they are taken again.
+fn takes_again<R: Wait>(rt: &R, inbox: &Inbox, taker: &mut Taker, count: u64) -> bool
+    requires { (taker.old.inbox ≡ inbox.now) × (taker.old.desk.marked ≡ false) }
+    ensures { (taker.new.inbox ≡ inbox.now) × (taker.new.desk.marked ≡ false) × (taker.new.desk.made ≡ taker.old.desk.made) × (taker.new.desk.gathered ≡ taker.old.desk.gathered) }
+{
+    if let Ok(copies) = drain(rt, inbox, taker, count) {
+        return are_of(copies.as_slice(), 0, count);
+    }
+    match drain(rt, inbox, taker, count) {
+        Ok(copies) => are_of(copies.as_slice(), 0, count),
+        Err(_) => false,
+    }
+}
+
+// Whether the closing gives this copy alone. Where memory is refused, it gives up what was left.
+fn closes_with<R: Wait>(rt: &R, inbox: Inbox, taker: Taker, last: RadioCopy) -> bool
+    requires inbox { (taker.inbox ≡ inbox) × (taker.desk.marked ≡ false) }
+    requires gathered { AllGathered taker.desk }
+{
+    match inbox.close(rt, taker) {
+        Ok(rest) => rest.as_slice() == [last].as_slice(),
+        Err(InboxError::Memory) => true,
+    }
+}
+
+// Whether 70 copies are known of one sender, the first 69 are taken, one is left, and the closing gives it.
+fn gives_all<R: Wait>(rt: &R, alloc: Global) -> Result<[bool; 4], InboxError> {
+    let (inbox, mut taker) = make_again(alloc, false)?;
+    let sender = sender_again(&inbox, &mut taker)?;
+    // More than two of the queue's blocks.
+    let sender = push_all_again(rt, &inbox, sender, 70);
+    inbox.gather(rt, &mut taker, sender);
+    let known = inbox.known(&taker) == 70;
+    let taken = takes_again(rt, &inbox, &mut taker, 69);
+    let left = inbox.known(&taker) == 1;
+    Ok([
+        known,
+        taken,
+        left,
+        closes_with(rt, inbox, taker, copy(0, 69)),
+    ])
 }
 
 /// Where one allocation is refused, the call that was refused is made again, and all is as if it hadn't been. With
 /// ample memory no call is refused; each allocation of this test was made to fail in turn.
 #[test]
 fn each_allocation_refused(rt: HostRuntime) -> Result<(), Fail> {
-    let (inbox, mut taker) = match Inbox::make(rt.alloc()) {
-        Ok(made) => made,
-        Err(InboxError::Memory) => Inbox::make(rt.alloc())?,
-    };
-    let mut sender = match inbox.sender(&mut taker) {
-        Ok(sender) => sender,
-        Err(InboxError::Memory) => inbox.sender(&mut taker)?,
-    };
-    // More than two of the queue's blocks.
-    for number in 0..70u64 {
-        if let Err(back) = inbox.push_copy(&rt, &mut sender, copy(0, number)) {
-            assert_eq!(rt; back, copy(0, number));
-            inbox.push_copy(&rt, &mut sender, back)?;
-        }
-    }
-    inbox.gather(&rt, &mut taker, sender);
-    assert_eq!(rt; inbox.known(&taker), 70);
-    let taken = match inbox.drain(&rt, &mut taker, 69) {
-        Ok(taken) => taken,
-        Err(InboxError::Memory) => {
-            assert_eq!(rt; inbox.known(&taker), 70);
-            inbox.drain(&rt, &mut taker, 69)?
-        }
-    };
-    assert_eq!(rt; taken.len(), 69);
-    for (number, copied) in taken.iter().enumerate() {
-        assert_eq!(rt; *copied, copy(0, number as u64));
-    }
-    assert_eq!(rt; inbox.known(&taker), 1);
-    // A refused close gives up what was left.
-    if let Ok(rest) = inbox.close(&rt, taker) {
-        assert_eq!(rt; rest.as_slice(), [copy(0, 69)].as_slice());
-    }
+    assert!(rt; gives_all(&rt, rt.alloc())? == [true; 4]);
     Ok(())
 }
 
@@ -249,16 +380,14 @@ fn push_both<R: Threads + Wait + Sync>(
     )
 }
 
-// Three threads push copies, and the inbox is closed.
+// Three threads push copies. Tells whether all come out when the inbox is closed, those of each in its order.
 fn from_three<R: Threads + Wait + Sync>(
     rt: &R,
     alloc: Global,
     count: u64,
-) -> Result<Vec<RadioCopy>, InboxError> {
-    let (inbox, mut taker) = Inbox::make(alloc)?;
+) -> Result<bool, InboxError> {
+    let (inbox, mut taker, first, second) = with_two(alloc, false)?;
     let shared = &inbox;
-    let first = shared.sender(&mut taker)?;
-    let second = shared.sender(&mut taker)?;
     let third = shared.sender(&mut taker)?;
     let ((first, second), third) = thread::join(
         rt,
@@ -274,7 +403,8 @@ fn from_three<R: Threads + Wait + Sync>(
     shared.gather(rt, &mut taker, third);
     shared.gather(rt, &mut taker, first);
     shared.gather(rt, &mut taker, second);
-    inbox.close(rt, taker)
+    let copies = inbox.close(rt, taker)?;
+    Ok(are_in_order(copies.as_slice(), count))
 }
 
 // Whether these are so many copies of each of three senders, those of each in its order.
@@ -293,43 +423,40 @@ fn are_in_order(copies: &[RadioCopy], count: u64) -> bool {
 /// Three threads push 1,000 copies each: all come out, those of each sender in its order.
 #[test]
 fn three_threads(rt: HostRuntime) -> Result<(), Fail> {
-    let copies = from_three(&rt, rt.alloc(), 1000)?;
-    assert!(rt; are_in_order(&copies, 1000));
+    assert!(rt; from_three(&rt, rt.alloc(), 1000)?);
     Ok(())
 }
 
-// Takes all that is known.
-fn drain_known<R: Wait>(
-    rt: &R,
-    inbox: &Inbox,
-    mut taker: Taker,
-) -> (Taker, Result<Vec<RadioCopy>, InboxError>)
+// Takes all that is known, and tells whether that is so many copies of sender 0, in order.
+fn takes_known<R: Wait>(rt: &R, inbox: &Inbox, mut taker: Taker, count: u64) -> (Taker, bool)
     requires { (taker.inbox ≡ inbox.now) × (taker.desk.marked ≡ false) }
     ensures { (result.0.desk.marked ≡ false) × (result.0.inbox ≡ inbox.now) × (result.0.desk.made ≡ taker.desk.made) × (result.0.desk.gathered ≡ taker.desk.gathered) }
 {
     let known = inbox.known(&taker);
-    let copies = inbox.drain(rt, &mut taker, known);
-    (taker, copies)
+    let taken = match inbox.drain(rt, &mut taker, known) {
+        Ok(copies) => are_of(copies.as_slice(), 0, count),
+        Err(_) => false,
+    };
+    (taker, taken)
 }
 
-// One sender's copies are taken while another pushes.
+// One sender's copies are taken while another pushes. Tells whether those are all of that one, and all of the other are
+// left.
 fn while_another_pushes<R: Threads + Wait + Sync>(
     rt: &R,
     alloc: Global,
     count: u64,
-) -> Result<(Vec<RadioCopy>, Vec<RadioCopy>), InboxError> {
-    let (inbox, mut taker) = Inbox::make(alloc)?;
+) -> Result<bool, InboxError> {
+    let (inbox, mut taker, first, second) = with_two(alloc, false)?;
     let shared = &inbox;
-    let first = shared.sender(&mut taker)?;
     let first = push_all(rt, shared, first, 0, count);
     shared.gather(rt, &mut taker, first);
-    let second = shared.sender(&mut taker)?;
     let ((mut taker, taken), second) = thread::join(
         rt,
         move ||
             requires { (taker.inbox ≡ shared.now) × (taker.desk.marked ≡ false) }
             ensures { (result.0.desk.marked ≡ false) × (result.0.inbox ≡ shared.entry.now) × (result.0.desk.made ≡ taker.desk.made) × (result.0.desk.gathered ≡ taker.desk.gathered) }
-        { drain_known(rt, shared, taker) },
+        { takes_known(rt, shared, taker, count) },
         move ||
             requires { second.inbox ≡ shared.now }
             ensures { (result.inbox ≡ shared.entry.now) × (result.post.number ≡ second.post.number) }
@@ -337,25 +464,24 @@ fn while_another_pushes<R: Threads + Wait + Sync>(
     );
     shared.gather(rt, &mut taker, second);
     let rest = inbox.close(rt, taker)?;
-    Ok((taken?, rest))
+    Ok(taken && are_of(rest.as_slice(), 1, count))
 }
 
 // Whether these are so many copies of one sender, in order.
-fn are_of(copies: &[RadioCopy], mote: u16, count: usize) -> bool {
-    let mut number = 0;
+fn are_of(copies: &[RadioCopy], mote: u16, count: u64) -> bool {
+    let mut number = 0u64;
     for copied in copies {
         if *copied != copy(mote, number) {
             return false;
         }
         number = number.wrapping_add(1);
     }
-    copies.len() == count
+    number == count
 }
 
 /// The taker takes what it knows of one sender while another pushes behind that.
 #[test]
 fn taken_while_another_pushes(rt: HostRuntime) -> Result<(), Fail> {
-    let (taken, rest) = while_another_pushes(&rt, rt.alloc(), 1000)?;
-    assert!(rt; are_of(&taken, 0, 1000) && are_of(&rest, 1, 1000));
+    assert!(rt; while_another_pushes(&rt, rt.alloc(), 1000)?);
     Ok(())
 }

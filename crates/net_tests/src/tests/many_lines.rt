@@ -94,17 +94,30 @@ fn gets_all_but(alloc: Global, net: &Net, report: &Report, wanted: &[u8], lacks:
     told == answer && bytes.len() == room && wanted.starts_with(bytes)
 }
 
+/// Fails where a writer gets something else, whether it lacks room or not.
+fn gets_what_fits(alloc: Global, net: &Net, report: &Report, wanted: &[u8]) -> Result<(), Fail>
+    requires { vec_len report.now.traces ≡ length (net_of net.now).motes }
+{
+    for lacks in [0usize, 1, 2, 65_536, 200_000] {
+        if !gets_all_but(alloc, net, report, wanted, lacks) {
+            return Err(Fail::new(format_args!("{lacks}")));
+        }
+    }
+    Ok(())
+}
+
+/// Fails where the report of the only mote of a net is written otherwise.
+fn writes_many_lines(alloc: Global, net: &Net) -> Result<(), Fail> {
+    if net.motes() != 1 {
+        return Err(Fail::new(format_args!("not one mote")));
+    }
+    let wanted = wanted(alloc)?;
+    let report = report_of_sends(alloc)?;
+    gets_what_fits(alloc, net, &report, wanted.as_bytes())
+}
+
 #[test]
 fn of_many_lines(rt: HostRuntime) -> Result<(), Fail> {
     let net = read_scenario(rt.alloc(), PRINT_THEN_YIELD)?;
-    assert!(rt; net.motes() == 1);
-    let wanted = wanted(rt.alloc())?;
-    let report = report_of_sends(rt.alloc())?;
-    for lacks in [0usize, 1, 2, 65_536, 200_000] {
-        assert!(rt;
-            gets_all_but(rt.alloc(), &net, &report, wanted.as_bytes(), lacks),
-            "{lacks}"
-        );
-    }
-    Ok(())
+    writes_many_lines(rt.alloc(), &net)
 }

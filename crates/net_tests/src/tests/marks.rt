@@ -1,40 +1,58 @@
 //! Inboxes with marks, in one thread and in two.
 
-ghost use Rattle.std.specs.Prelude.{◌≡◌, true, false, []};
+ghost use Rattle.std.specs.Prelude.{◌≡◌, true, [], OnOk};
+ghost use Rattle.copy_inbox.specs.Views.{make_desk};
 
+use super::inbox::{
+    copy, make_again, push, push_again, sender_again, with_one, with_two, write_known,
+};
+use super::{same_text, write_copy};
 use copy_inbox::{Carried, Inbox, InboxError, Item, Sender, Taker};
-use radio_packet::RadioCopy;
-use std::alloc::Global;
+use std::alloc::{AllocError, Global};
 use std::sync::Wait;
 use std::test::*;
 use std::thread;
 use std::thread::Threads;
 
-fn copy(sender: u16, number: u64) -> RadioCopy {
-    RadioCopy {
-        at: 5,
-        to: 1,
-        sender,
-        number,
-        value: 9,
+// Pushes a mark. Where memory is refused, it is not there to be taken.
+fn push_mark<R: Wait>(rt: &R, inbox: &Inbox, sender: &mut Sender, window: u64)
+    requires inbox { sender.old.inbox ≡ inbox.now }
+    requires marked { sender.old.post.marked ≡ true }
+    ensures { (sender.new.inbox ≡ inbox.now) × (sender.new.post.number ≡ sender.old.post.number) × (sender.new.post.marked ≡ true) }
+{
+    let _ = inbox.push_mark(rt, sender, window);
+}
+
+// Writes down what was taken, with its sender's number.
+fn write_item(text: &mut String, item: Option<Item>) -> Result<(), AllocError> {
+    let Some(item) = item else {
+        return text.push_str("none|");
+    };
+    write!(text, "of {} ", item.sender)?;
+    match item.what {
+        Carried::Packet(copied) => write_copy(text, &copied),
+        Carried::Mark(window) => write!(text, "mark {window}|"),
     }
 }
 
-fn packet(sender: u64, copy: RadioCopy) -> Option<Item> {
-    Some(Item {
-        sender,
-        what: Carried::Packet(copy),
-    })
+// Takes so many times what is next, and writes it down.
+fn write_nexts<R: Wait>(
+    rt: &R,
+    text: &mut String,
+    inbox: &Inbox,
+    taker: &mut Taker,
+    count: u8,
+) -> Result<(), AllocError>
+    requires { taker.old.inbox ≡ inbox.now }
+    ensures { (taker.new.inbox ≡ inbox.now) × (taker.new.desk.made ≡ taker.old.desk.made) × (taker.new.desk.gathered ≡ taker.old.desk.gathered) }
+{
+    for _ in 0..count {
+        write_item(text, inbox.take_next(rt, taker))?;
+    }
+    Ok(())
 }
 
-fn mark(sender: u64, window: u64) -> Option<Item> {
-    Some(Item {
-        sender,
-        what: Carried::Mark(window),
-    })
-}
-
-// Gathers both senders, and closes the inbox where nothing is known.
+// Gathers both senders, and closes the inbox where nothing is known. Tells how many copies that gives.
 #[tactic(auto, using(copy_inbox::proofs::Counts::none_left))]
 fn end<R: Wait>(
     rt: &R,
@@ -56,123 +74,255 @@ fn end<R: Wait>(
     Ok(Some(rest.len()))
 }
 
+// Writes down what is taken where two senders pushed marks, and that nothing is left at the end.
+fn write_marked<R: Wait>(rt: &R, alloc: Global, text: &mut String) -> Result<(), InboxError> {
+    let (inbox, mut taker, mut first, mut second) = with_two(alloc, true)?;
+    push(rt, &inbox, &mut first, copy(0, 7));
+    push_mark(rt, &inbox, &mut first, 0);
+    push_mark(rt, &inbox, &mut second, 0);
+    write_nexts(rt, text, &inbox, &mut taker, 4)?;
+    let left = end(rt, inbox, taker, first, second)?;
+    write!(text, "{left:?}")?;
+    Ok(())
+}
+
 /// What two senders pushed is taken in order, each with its sender's number, though nothing is known of them; then
 /// nothing is there.
 #[test]
 fn marked_inbox(rt: HostRuntime) -> Result<(), Fail> {
-    let (inbox, mut taker) = Inbox::make_marked(rt.alloc())?;
-    let mut first = inbox.sender(&mut taker)?;
-    let mut second = inbox.sender(&mut taker)?;
-    inbox.push_copy(&rt, &mut first, copy(0, 7))?;
-    inbox.push_mark(&rt, &mut first, 0)?;
-    inbox.push_mark(&rt, &mut second, 0)?;
-    assert_eq!(rt; inbox.take_next(&rt, &mut taker), packet(0, copy(0, 7)));
-    assert_eq!(rt; inbox.take_next(&rt, &mut taker), mark(0, 0));
-    assert_eq!(rt; inbox.take_next(&rt, &mut taker), mark(1, 0));
-    assert_eq!(rt; inbox.take_next(&rt, &mut taker), None);
-    assert_eq!(rt; end(&rt, inbox, taker, first, second)?, Some(0));
+    let mut text = String::new(rt.alloc());
+    write_marked(&rt, rt.alloc(), &mut text)?;
+    same_text(
+        text.as_str(),
+        "of 0 5 1 0 7 9|of 0 mark 0|of 1 mark 0|none|Some(0)",
+    )
+}
+
+// Gathers a sender, and takes what it pushed. Writes down what is known time after time.
+fn write_gathered<R: Wait>(
+    rt: &R,
+    text: &mut String,
+    inbox: &Inbox,
+    taker: &mut Taker,
+    only: Sender,
+) -> Result<(), AllocError>
+    requires { (taker.old.inbox ≡ inbox.now) × (only.inbox ≡ inbox.now) }
+{
+    inbox.gather(rt, taker, only);
+    write_known(text, inbox, taker)?;
+    write_nexts(rt, text, inbox, taker, 1)?;
+    write_known(text, inbox, taker)?;
+    write_nexts(rt, text, inbox, taker, 3)?;
+    write_known(text, inbox, taker)
+}
+
+fn write_known_marks<R: Wait>(rt: &R, alloc: Global, text: &mut String) -> Result<(), InboxError> {
+    let (inbox, mut taker, mut only) = with_one(alloc, true)?;
+    push_mark(rt, &inbox, &mut only, 0);
+    push(rt, &inbox, &mut only, copy(0, 0));
+    push_mark(rt, &inbox, &mut only, 1);
+    write_known(text, &inbox, &taker)?;
+    write_gathered(rt, text, &inbox, &mut taker, only)?;
     Ok(())
 }
 
 /// Marks and copies that weren't taken are known once their sender is gathered, and are taken then.
 #[test]
 fn marks_are_known(rt: HostRuntime) -> Result<(), Fail> {
-    let (inbox, mut taker) = Inbox::make_marked(rt.alloc())?;
-    let mut only = inbox.sender(&mut taker)?;
-    inbox.push_mark(&rt, &mut only, 0)?;
-    inbox.push_copy(&rt, &mut only, copy(0, 0))?;
-    inbox.push_mark(&rt, &mut only, 1)?;
-    assert_eq!(rt; inbox.known(&taker), 0);
-    inbox.gather(&rt, &mut taker, only);
-    assert_eq!(rt; inbox.known(&taker), 3);
-    assert_eq!(rt; inbox.take_next(&rt, &mut taker), mark(0, 0));
-    assert_eq!(rt; inbox.known(&taker), 2);
-    assert_eq!(rt; inbox.take_next(&rt, &mut taker), packet(0, copy(0, 0)));
-    assert_eq!(rt; inbox.take_next(&rt, &mut taker), mark(0, 1));
-    assert_eq!(rt; inbox.take_next(&rt, &mut taker), None);
-    assert_eq!(rt; inbox.known(&taker), 0);
+    let mut text = String::new(rt.alloc());
+    write_known_marks(&rt, rt.alloc(), &mut text)?;
+    same_text(
+        text.as_str(),
+        "known 0|known 3|of 0 mark 0|known 2|of 0 5 1 0 0 9|of 0 mark 1|none|known 0|",
+    )
+}
+
+// Two senders push a copy each. Writes down what is taken before and behind.
+fn write_pushed<R: Wait>(
+    rt: &R,
+    text: &mut String,
+    inbox: &Inbox,
+    taker: &mut Taker,
+    first: &mut Sender,
+    second: &mut Sender,
+) -> Result<(), AllocError>
+    requires { (taker.old.inbox ≡ inbox.now) × (first.old.inbox ≡ inbox.now) × (second.old.inbox ≡ inbox.now) }
+{
+    write_nexts(rt, text, inbox, taker, 1)?;
+    push(rt, inbox, second, copy(1, 0));
+    push(rt, inbox, first, copy(0, 0));
+    write_nexts(rt, text, inbox, taker, 3)
+}
+
+fn write_one_by_one<R: Wait>(rt: &R, alloc: Global, text: &mut String) -> Result<(), InboxError> {
+    let (inbox, mut taker, mut first, mut second) = with_two(alloc, false)?;
+    write_pushed(rt, text, &inbox, &mut taker, &mut first, &mut second)?;
     Ok(())
 }
 
 /// An inbox without marks gives its copies one by one too.
 #[test]
 fn copies_one_by_one(rt: HostRuntime) -> Result<(), Fail> {
-    let (inbox, mut taker) = Inbox::make(rt.alloc())?;
-    let mut first = inbox.sender(&mut taker)?;
-    let mut second = inbox.sender(&mut taker)?;
-    assert_eq!(rt; inbox.take_next(&rt, &mut taker), None);
-    inbox.push_copy(&rt, &mut second, copy(1, 0))?;
-    inbox.push_copy(&rt, &mut first, copy(0, 0))?;
-    assert_eq!(rt; inbox.take_next(&rt, &mut taker), packet(1, copy(1, 0)));
-    assert_eq!(rt; inbox.take_next(&rt, &mut taker), packet(0, copy(0, 0)));
-    assert_eq!(rt; inbox.take_next(&rt, &mut taker), None);
-    Ok(())
+    let mut text = String::new(rt.alloc());
+    write_one_by_one(&rt, rt.alloc(), &mut text)?;
+    same_text(text.as_str(), "none|of 1 5 1 1 0 9|of 0 5 1 0 0 9|none|")
 }
 
-// Pushes so many windows of three copies and a mark each.
-fn push_windows<R: Wait>(rt: &R, inbox: &Inbox, mut sender: Sender, windows: u64) -> Sender
+// Pushes a mark. Where memory is refused, what comes back is pushed.
+fn push_mark_again<R: Wait>(rt: &R, inbox: &Inbox, sender: &mut Sender, window: u64)
+    requires inbox { sender.old.inbox ≡ inbox.now }
+    requires marked { sender.old.post.marked ≡ true }
+    ensures { (sender.new.inbox ≡ inbox.now) × (sender.new.post.marked ≡ true) }
+{
+    if let Err(back) = inbox.push_mark(rt, sender, window) {
+        push_mark(rt, inbox, sender, back);
+    }
+}
+
+// Pushes so many windows of a copy and a mark each.
+fn push_windows_again<R: Wait>(rt: &R, inbox: &Inbox, mut sender: Sender, windows: u64) -> Sender
     requires inbox { sender.inbox ≡ inbox.now }
     requires marked { sender.post.marked ≡ true }
     ensures { result.inbox ≡ inbox.now }
 {
     for window in 0..windows {
-        for number in 0..3u64 {
-            let pushed = inbox.push_copy(rt, &mut sender, copy(0, number));
-            if pushed.is_err() {
-                return sender;
-            }
-        }
-        if inbox.push_mark(rt, &mut sender, window).is_err() {
-            return sender;
-        }
+        push_again(rt, inbox, &mut sender, copy(0, window));
+        push_mark_again(rt, inbox, &mut sender, window);
     }
     sender
 }
 
+// Whether so many windows of a copy and a mark each are taken.
+fn takes_windows<R: Wait>(rt: &R, inbox: &Inbox, taker: &mut Taker, windows: u64) -> bool
+    requires { taker.old.inbox ≡ inbox.now }
+    ensures { taker.new.inbox ≡ inbox.now }
+{
+    for window in 0..windows {
+        let packet = Item {
+            sender: 0,
+            what: Carried::Packet(copy(0, window)),
+        };
+        let mark = Item {
+            sender: 0,
+            what: Carried::Mark(window),
+        };
+        if inbox.take_next(rt, taker) != Some(packet) || inbox.take_next(rt, taker) != Some(mark) {
+            return false;
+        }
+    }
+    true
+}
+
+// Whether the copies and marks of 35 windows are known, are taken in order, and are all.
+fn gives_all_windows<R: Wait>(rt: &R, alloc: Global) -> Result<[bool; 3], InboxError> {
+    let (inbox, mut taker) = make_again(alloc, true)?;
+    let sender = sender_again(&inbox, &mut taker)?;
+    // More than two of the queue's blocks.
+    let sender = push_windows_again(rt, &inbox, sender, 35);
+    inbox.gather(rt, &mut taker, sender);
+    let known = inbox.known(&taker) == 70;
+    let taken = takes_windows(rt, &inbox, &mut taker, 35);
+    Ok([known, taken, inbox.known(&taker) == 0])
+}
+
+/// Where one allocation is refused, the copy or mark that comes back is pushed again, and all is as if it hadn't been.
+/// With ample memory no call is refused; each allocation of this test was made to fail in turn.
+#[test]
+fn each_allocation_refused_of_marks(rt: HostRuntime) -> Result<(), Fail> {
+    assert!(rt; gives_all_windows(&rt, rt.alloc())? == [true; 3]);
+    Ok(())
+}
+
+// Pushes three copies and the mark of a window.
+fn push_window<R: Wait>(rt: &R, inbox: &Inbox, sender: &mut Sender, window: u64)
+    requires inbox { sender.old.inbox ≡ inbox.now }
+    requires marked { sender.old.post.marked ≡ true }
+    ensures { (sender.new.inbox ≡ inbox.now) × (sender.new.post.marked ≡ true) }
+{
+    for number in 0..3u64 {
+        push(rt, inbox, sender, copy(0, number));
+    }
+    push_mark(rt, inbox, sender, window);
+}
+
+// Pushes so many windows.
+fn push_windows<R: Wait>(rt: &R, inbox: &Inbox, mut sender: Sender, windows: u64)
+    requires inbox { sender.inbox ≡ inbox.now }
+    requires marked { sender.post.marked ≡ true }
+{
+    for window in 0..windows {
+        push_window(rt, inbox, &mut sender, window);
+    }
+}
+
+// What was taken of the windows.
+#[derive(Clone, Copy)]
+struct Heard {
+    /// How many windows had three copies before their mark.
+    full: u64,
+    /// How many copies of the window were taken.
+    copies: u64,
+    /// How many marks were taken, where none is missing.
+    marks: u64,
+}
+
+// What was taken once this is.
+fn after(heard: Heard, what: Carried) -> Heard {
+    match what {
+        Carried::Packet(copied) => Heard {
+            copies: heard
+                .copies
+                .wrapping_add(u64::from(copied.number == heard.copies)),
+            ..heard
+        },
+        Carried::Mark(window) => Heard {
+            full: heard.full.wrapping_add(u64::from(heard.copies == 3)),
+            copies: 0,
+            marks: window.wrapping_add(1),
+        },
+    }
+}
+
 // Takes until the mark of the last of so many windows; gives way where nothing is there. Tells in how many windows three
 // copies came before the mark.
-fn take_windows<R: Wait>(rt: &R, inbox: &Inbox, mut taker: Taker, windows: u64) -> (Taker, u64)
-    requires { taker.inbox ≡ inbox.now }
-    ensures { result.0.inbox ≡ inbox.now }
+fn take_windows<R: Wait>(rt: &R, inbox: &Inbox, taker: &mut Taker, windows: u64) -> u64
+    requires { taker.old.inbox ≡ inbox.now }
 {
-    let mut full: u64 = 0;
-    let mut copies: u64 = 0;
+    let mut heard = Heard {
+        full: 0,
+        copies: 0,
+        marks: 0,
+    };
     for _ in rt.forever() {
-        match inbox.take_next(rt, &mut taker) {
+        if heard.marks == windows {
+            return heard.full;
+        }
+        match inbox.take_next(rt, taker) {
             None => thread::yield_now(),
-            Some(item) => match item.what {
-                Carried::Packet(copied) => {
-                    if copied.number == copies {
-                        copies = copies.wrapping_add(1);
-                    }
-                }
-                Carried::Mark(window) => {
-                    full = full.wrapping_add(u64::from(copies == 3));
-                    copies = 0;
-                    if window.wrapping_add(1) == windows {
-                        return (taker, full);
-                    }
-                }
-            },
+            Some(item) => heard = after(heard, item.what),
         }
     }
     unreachable!()
 }
 
+// The same by a taker of its own.
+fn take_all<R: Wait>(rt: &R, inbox: &Inbox, mut taker: Taker, windows: u64) -> u64
+    requires { taker.inbox ≡ inbox.now }
+{
+    take_windows(rt, inbox, &mut taker, windows)
+}
+
 fn both<R: Threads + Wait + Sync>(rt: &R, alloc: Global, windows: u64) -> Result<u64, InboxError> {
-    let (inbox, mut taker) = Inbox::make_marked(alloc)?;
+    let (inbox, taker, sender) = with_one(alloc, true)?;
     let shared = &inbox;
-    let sender = shared.sender(&mut taker)?;
-    let (_sender, (_taker, full)) = thread::join(
+    let ((), full) = thread::join(
         rt,
         move ||
             requires { (sender.inbox ≡ shared.now) × (sender.post.marked ≡ true) }
-            ensures { result.inbox ≡ shared.entry.now }
         { push_windows(rt, shared, sender, windows) },
         move ||
             requires { taker.inbox ≡ shared.now }
-            ensures { result.0.inbox ≡ shared.entry.now }
-        { take_windows(rt, shared, taker, windows) },
+        { take_all(rt, shared, taker, windows) },
     );
     Ok(full)
 }
@@ -180,6 +330,6 @@ fn both<R: Threads + Wait + Sync>(rt: &R, alloc: Global, windows: u64) -> Result
 /// One thread pushes copies and marks while another takes them: before each mark come all copies of its window.
 #[test]
 fn marks_between_threads(rt: HostRuntime) -> Result<(), Fail> {
-    assert_eq!(rt; both(&rt, rt.alloc(), 1000)?, 1000);
+    assert!(rt; both(&rt, rt.alloc(), 1000)? == 1000);
     Ok(())
 }

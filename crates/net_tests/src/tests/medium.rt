@@ -73,20 +73,36 @@ fn four_motes(alloc: Global, losses: &[Loss]) -> Result<Medium, MediumError>
     Medium::new(alloc, &places, 3, 2, 1, losses)
 }
 
+/// Whether each hears the other, 4 moments after a packet is sent.
+fn hear_each_other(medium: &Medium) -> Result<bool, AllocError>
+    requires { length medium.now.places ≡ 2 }
+{
+    let heard = [medium.hears(0, 1), medium.hears(1, 0), medium.hears(0, 0)];
+    let timed = medium.delay(0, 1) == 4 && medium.lookahead(9) == 4;
+    let copied = has_copies(medium, 0, 0, &[copy(5, 1, 0, 0)])?;
+    Ok(heard == [true, true, false] && timed && copied)
+}
+
 #[test]
 fn within_the_range(rt: HostRuntime) -> Result<(), Fail> {
     let medium = two_motes(rt.alloc(), 5, &[])?;
-    assert!(rt; medium.hears(0, 1) && medium.hears(1, 0) && !medium.hears(0, 0));
-    assert!(rt; medium.delay(0, 1) == 4 && medium.lookahead(9) == 4);
-    assert!(rt; has_copies(&medium, 0, 0, &[copy(5, 1, 0, 0)])?);
+    assert!(rt; hear_each_other(&medium)?);
     Ok(())
+}
+
+/// Whether neither hears the other.
+fn hear_nothing(medium: &Medium) -> Result<bool, AllocError>
+    requires { length medium.now.places ≡ 2 }
+{
+    let heard = medium.hears(0, 1) || medium.hears(1, 0);
+    let told = has_fates(medium, 0, 0, &[])?;
+    Ok(!heard && told && medium.lookahead(9) == 10)
 }
 
 #[test]
 fn beyond_the_range(rt: HostRuntime) -> Result<(), Fail> {
     let medium = two_motes(rt.alloc(), 4, &[])?;
-    assert!(rt; !medium.hears(0, 1) && !medium.hears(1, 0) && medium.lookahead(9) == 10);
-    assert!(rt; has_fates(&medium, 0, 0, &[])?);
+    assert!(rt; hear_nothing(&medium)?);
     Ok(())
 }
 
@@ -119,6 +135,17 @@ fn every_second_is_lost(rt: HostRuntime) -> Result<(), Fail> {
     Ok(())
 }
 
+/// Whether copies of mote 1 rise by receiver, where mote 2 loses each third.
+fn rise(medium: &Medium) -> Result<bool, AllocError>
+    requires { length medium.now.places ≡ 4 }
+{
+    let all = [copy(7, 0, 1, 3), copy(4, 2, 1, 3), copy(12, 3, 1, 3)];
+    let some = [copy(7, 0, 1, 2), copy(12, 3, 1, 2)];
+    let are_all = has_copies(medium, 1, 3, &all)?;
+    let are_some = has_copies(medium, 1, 2, &some)?;
+    Ok(are_all && are_some && medium.lookahead(9) == 3)
+}
+
 /// Copies rise by receiver, not by arrival.
 #[test]
 fn rising_receivers(rt: HostRuntime) -> Result<(), Fail> {
@@ -128,11 +155,7 @@ fn rising_receivers(rt: HostRuntime) -> Result<(), Fail> {
         every: 3,
     };
     let medium = four_motes(rt.alloc(), &[loss])?;
-    assert!(rt; medium.lookahead(9) == 3);
-    let all = [copy(7, 0, 1, 3), copy(4, 2, 1, 3), copy(12, 3, 1, 3)];
-    assert!(rt; has_copies(&medium, 1, 3, &all)?);
-    let some = [copy(7, 0, 1, 2), copy(12, 3, 1, 2)];
-    assert!(rt; has_copies(&medium, 1, 2, &some)?);
+    assert!(rt; rise(&medium)?);
     Ok(())
 }
 

@@ -3,12 +3,14 @@
 ghost use Rattle.std.specs.Prelude.{◌≡◌, length, IfOk, vec_len};
 ghost use Rattle.mote_net.specs.Net.{net_of};
 
+use super::same_text;
 use net_report::{LogLine, Report};
 use net_scenario::{Net, read_scenario};
 use process_kernel::{Line, What};
 use program_tree::{Proc, Target};
 use radio_packet::{Fate, Sent};
 use std::alloc::{AllocError, Global};
+use std::str;
 use std::test::Fail;
 use trace_printer::{PrintError, write_report};
 
@@ -42,95 +44,86 @@ pub(crate) fn report_of_one(alloc: Global, trace: &[Line]) -> Result<Report, All
     })
 }
 
-/// Whether a report is written as this text.
-fn is_written(alloc: Global, net: &Net, report: &Report, text: &str) -> Result<bool, PrintError>
+/// Fails where a report isn't written as this text.
+fn is_written(alloc: Global, net: &Net, report: &Report, text: &str) -> Result<(), Fail>
     requires { vec_len report.now.traces ≡ length (net_of net.now).motes }
 {
     let mut output = Vec::new(alloc);
     write_report(alloc, net, report, &mut output)?;
-    Ok(output.as_slice() == text.as_bytes())
+    match str::from_utf8(output.as_slice()) {
+        Ok(told) => same_text(told, text),
+        Err(_) => Err(Fail::new(format_args!("no text"))),
+    }
 }
 
-/// Whether the trace of one mote is written as these lines.
-fn is_trace(alloc: Global, net: &Net, trace: &[Line], lines: &str) -> Result<bool, Fail>
-    requires { length (net_of net.now).motes ≡ 1 }
-{
+/// Fails where the trace of the only mote of a net isn't written as this text.
+fn is_trace(alloc: Global, net: &Net, trace: &[Line], text: &str) -> Result<(), Fail> {
+    if net.motes() != 1 {
+        return Err(Fail::new(format_args!("not one mote")));
+    }
     let report = report_of_one(alloc, trace)?;
-    let text = format!(in alloc; "mote 0 p\n{lines}medium\nleft 0\n")?;
-    Ok(is_written(alloc, net, &report, text.as_str())?)
+    is_written(alloc, net, &report, text)
 }
 
 #[test]
-fn lines_of_processes(rt: HostRuntime) -> Result<(), Fail> {
+fn lines_of_traces(rt: HostRuntime) -> Result<(), Fail> {
     let net = read_scenario(rt.alloc(), TWO_PROCESSES)?;
-    assert!(rt; net.motes() == 1);
-    let trace = [
-        line(0, What::Start(A)),
-        line(0, What::Start(Proc::Etimer)),
-        line(0, What::Start(Proc::Ctimer)),
-        line(0, What::Start(Proc::Radio)),
-        line(5, What::Leave(A)),
-        line(2, What::Print(A, 192)),
-        line(0, What::Busy(Proc::Own(1))),
-        line(0, What::Halt),
-    ];
-    let lines =
-        "0 start a\n0 start etimer\n0 start ctimer\n0 start radio\n5 leave a\n2 print a 192\n0 busy b\n0 halt\n";
-    assert!(rt; is_trace(rt.alloc(), &net, &trace, lines)?);
-    Ok(())
-}
-
-#[test]
-fn lines_of_events(rt: HostRuntime) -> Result<(), Fail> {
-    let net = read_scenario(rt.alloc(), TWO_PROCESSES)?;
-    assert!(rt; net.motes() == 1);
     let to_a = Target::One(A);
-    let trace = [
-        line(0, What::Post(0, to_a, 0x86, 7)),
-        line(0, What::Post(3, ALL, 0x89, 7)),
-        line(2, What::Post(1, Target::One(Proc::Ctimer), 0x88, 1)),
-        line(0, What::Full(to_a, 0x86, 32)),
-        line(0, What::Take(32, A)),
-        line(0, What::Drop(0, Proc::Radio)),
+    let cases: [(&[Line], &str); 4] = [
+        // Lines of processes.
+        (
+            &[
+                line(0, What::Start(A)),
+                line(0, What::Start(Proc::Etimer)),
+                line(0, What::Start(Proc::Ctimer)),
+                line(0, What::Start(Proc::Radio)),
+                line(5, What::Leave(A)),
+                line(2, What::Print(A, 192)),
+                line(0, What::Busy(Proc::Own(1))),
+                line(0, What::Halt),
+            ],
+            "mote 0 p\n0 start a\n0 start etimer\n0 start ctimer\n0 start radio\n5 leave a\n2 print a 192\n0 busy b\n0 halt\nmedium\nleft 0\n",
+        ),
+        // Lines of events.
+        (
+            &[
+                line(0, What::Post(0, to_a, 0x86, 7)),
+                line(0, What::Post(3, ALL, 0x89, 7)),
+                line(2, What::Post(1, Target::One(Proc::Ctimer), 0x88, 1)),
+                line(0, What::Full(to_a, 0x86, 32)),
+                line(0, What::Take(32, A)),
+                line(0, What::Drop(0, Proc::Radio)),
+            ],
+            "mote 0 p\n0 post 0 a msg 7\n0 post 3 all com 7\n2 post 1 ctimer timer 1\n0 full a msg 32\n0 take 32 a\n0 drop 0 radio\nmedium\nleft 0\n",
+        ),
+        // Words of events.
+        (
+            &[
+                line(0, What::Full(ALL, 0x81, 0)),
+                line(0, What::Full(ALL, 0x82, 0)),
+                line(0, What::Full(ALL, 0x83, 0)),
+                line(0, What::Full(ALL, 0x85, 0)),
+                line(0, What::Full(ALL, 0x87, 1)),
+                line(0, What::Full(ALL, 0x8a, 5)),
+                line(0, What::Full(ALL, 0x8c, 9)),
+            ],
+            "mote 0 p\n0 full all init 0\n0 full all poll 0\n0 full all exit 0\n0 full all continue 0\n0 full all exited 1\n0 full all packet 5\n0 full all f 9\nmedium\nleft 0\n",
+        ),
+        // Lines of packets.
+        (
+            &[
+                line(0, What::Send(0, 5)),
+                line(2, What::Recv(2, 0, 7)),
+                line(3, What::Lost(0, 8)),
+                line(2, What::Deaf(4, 0)),
+                line(2, What::Collide(2, 0)),
+            ],
+            "mote 0 p\n0 send 0 5\n2 recv 2 0 7\n3 lost 0 8\n2 deaf 4 0\n2 collide 2 0\nmedium\nleft 0\n",
+        ),
     ];
-    let lines =
-        "0 post 0 a msg 7\n0 post 3 all com 7\n2 post 1 ctimer timer 1\n0 full a msg 32\n0 take 32 a\n0 drop 0 radio\n";
-    assert!(rt; is_trace(rt.alloc(), &net, &trace, lines)?);
-    Ok(())
-}
-
-#[test]
-fn words_of_events(rt: HostRuntime) -> Result<(), Fail> {
-    let net = read_scenario(rt.alloc(), TWO_PROCESSES)?;
-    assert!(rt; net.motes() == 1);
-    let trace = [
-        line(0, What::Full(ALL, 0x81, 0)),
-        line(0, What::Full(ALL, 0x82, 0)),
-        line(0, What::Full(ALL, 0x83, 0)),
-        line(0, What::Full(ALL, 0x85, 0)),
-        line(0, What::Full(ALL, 0x87, 1)),
-        line(0, What::Full(ALL, 0x8a, 5)),
-        line(0, What::Full(ALL, 0x8c, 9)),
-    ];
-    let lines =
-        "0 full all init 0\n0 full all poll 0\n0 full all exit 0\n0 full all continue 0\n0 full all exited 1\n0 full all packet 5\n0 full all f 9\n";
-    assert!(rt; is_trace(rt.alloc(), &net, &trace, lines)?);
-    Ok(())
-}
-
-#[test]
-fn lines_of_packets(rt: HostRuntime) -> Result<(), Fail> {
-    let net = read_scenario(rt.alloc(), TWO_PROCESSES)?;
-    assert!(rt; net.motes() == 1);
-    let trace = [
-        line(0, What::Send(0, 5)),
-        line(2, What::Recv(2, 0, 7)),
-        line(3, What::Lost(0, 8)),
-        line(2, What::Deaf(4, 0)),
-        line(2, What::Collide(2, 0)),
-    ];
-    let lines = "0 send 0 5\n2 recv 2 0 7\n3 lost 0 8\n2 deaf 4 0\n2 collide 2 0\n";
-    assert!(rt; is_trace(rt.alloc(), &net, &trace, lines)?);
+    for (trace, text) in cases {
+        is_trace(rt.alloc(), &net, trace, text)?;
+    }
     Ok(())
 }
 
@@ -187,15 +180,23 @@ fn report_of_two(alloc: Global) -> Result<Report, AllocError>
     })
 }
 
+/// Fails where that report isn't written as this text of a net of two motes.
+fn is_written_of_two(alloc: Global, net: &Net, text: &str) -> Result<(), Fail> {
+    if net.motes() != 2 {
+        return Err(Fail::new(format_args!("not two motes")));
+    }
+    let report = report_of_two(alloc)?;
+    is_written(alloc, net, &report, text)
+}
+
 #[test]
 fn numbers_its_motes(rt: HostRuntime) -> Result<(), Fail> {
     let net = read_scenario(rt.alloc(), TWO_MOTES)?;
-    assert!(rt; net.motes() == 2);
-    let report = report_of_two(rt.alloc())?;
-    let wanted =
-        "mote 0 p\n0 start a\n0 halt\nmote 1 q_2\n0 print c 65535\n1000000 leave c\n1000000 leave radio\nmedium\n2 1 0 9 0@5 3@lost\n7 0 40 65535\nleft 12\n";
-    assert!(rt; is_written(rt.alloc(), &net, &report, wanted)?);
-    Ok(())
+    is_written_of_two(
+        rt.alloc(),
+        &net,
+        "mote 0 p\n0 start a\n0 halt\nmote 1 q_2\n0 print c 65535\n1000000 leave c\n1000000 leave radio\nmedium\n2 1 0 9 0@5 3@lost\n7 0 40 65535\nleft 12\n",
+    )
 }
 
 #[test]

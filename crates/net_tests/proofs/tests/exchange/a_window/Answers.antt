@@ -55,7 +55,7 @@ through-requires-clause-out g c =
     let pair = pair_of c.args.inboxes.now c.in_ok-couriers.couriers.items c.pop.new.self.items c.pop-2.new.self.items c.in-Some-Some.first c.in-Some-Some.second c.requires.two c.in_ok-couriers.ensures.together
     c.in-Some-Some.ensures.items c.in-Some-Some.ensures'.items in
     let w = pair.first in
-    each_map (λ (copy : RadioCopy). (copy.sender ≡ 0) × (copy.to ≡ 1)) (λ (copy : RadioCopy). (copy.sender ≡ c.in-Some-Some.first.worker) × (copy.to + c.in-Some-Some.first.worker ≡ 1)) c.args.out.0.items
+    each_map (λ (copy : RadioCopy). (copy.sender ≡ 0) × (copy.to ≡ 1)) (λ (copy : RadioCopy). (copy.sender ≡ c.in-Some-Some.first.worker) × (copy.to + c.in-Some-Some.first.worker ≡ 1)) c.args.out_of_first.now
     (λ copy h. let s = h.0 in let t = h.1 in (omega arith, omega arith)) c.requires.first
 
 pub through-requires-clause-plain : goal.through-requires-clause-plain
@@ -81,7 +81,7 @@ through-requires-2-clause-out g c =
     let pair = pair_of c.args.inboxes.now c.in_ok-couriers.couriers.items c.pop.new.self.items c.pop-2.new.self.items c.in-Some-Some.first c.in-Some-Some.second c.requires.two c.in_ok-couriers.ensures.together
     c.in-Some-Some.ensures.items c.in-Some-Some.ensures'.items in
     let w = pair.second in
-    each_map (λ (copy : RadioCopy). (copy.sender ≡ 1) × (copy.to ≡ 0)) (λ (copy : RadioCopy). (copy.sender ≡ c.in-Some-Some.second.worker) × (copy.to + c.in-Some-Some.second.worker ≡ 1)) c.args.out.1.items
+    each_map (λ (copy : RadioCopy). (copy.sender ≡ 1) × (copy.to ≡ 0)) (λ (copy : RadioCopy). (copy.sender ≡ c.in-Some-Some.second.worker) × (copy.to + c.in-Some-Some.second.worker ≡ 1)) c.args.out_of_second.now
     (λ copy h. let s = h.0 in let t = h.1 in (omega arith, omega arith)) c.requires.second
 
 pub gathered-requires : goal.gathered-requires

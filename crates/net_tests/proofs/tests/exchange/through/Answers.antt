@@ -37,11 +37,13 @@ pub deliver-requires-clause-leaves : goal.deliver-requires-clause-leaves
 deliver-requires-clause-leaves g c =
     let w : ℕ = c.args.courier.worker in
     let same = c.in_ok-taken.ensures.collects.stays.worker in
-    let all = each_map (Across w) (Leaves (0 ∷ 1 ∷ []) (length c.args.inboxes.now) w) c.args.out.items (leaves (length c.args.inboxes.now) w c.requires.two) c.requires.out in
-    subst (λ (k : ℕ). Each (Leaves (0 ∷ 1 ∷ []) (length c.args.inboxes.now) k) c.args.out.items) (sym same) all
+    let across = subst (Each (Across w)) (sym c.in_ok-sent.ensures.items) c.requires.out in
+    let all = each_map (Across w) (Leaves (0 ∷ 1 ∷ []) (length c.args.inboxes.now) w) c.in_ok-sent.sent.items (leaves (length c.args.inboxes.now) w c.requires.two) across in
+    subst (λ (k : ℕ). Each (Leaves (0 ∷ 1 ∷ []) (length c.args.inboxes.now) k) c.in_ok-sent.sent.items) (sym same) all
 
 pub returns : goal.returns
 returns g c t set_out =
-    returns_from c.args.inboxes.now (0 ∷ 1 ∷ []) (λ s. s) t c.args.courier c.collect.new.self c.deliver.new.self c.in_ok-taken.taken.items c.args.out.items set_out
+    let across = subst (Each (Across c.args.courier.worker)) (sym c.in_ok-sent.ensures.items) c.requires.out in
+    returns_from c.args.inboxes.now (0 ∷ 1 ∷ []) (λ s. s) t c.args.courier c.collect.new.self c.deliver.new.self c.in_ok-taken.taken.items c.in_ok-sent.sent.items set_out
     c.in_ok-taken.ensures.collects c.in_ok-deliver.ensures.delivers c.in_ok-deliver.ensures.courier
-    (λ s other. own s c.args.courier.worker c.args.out.items other c.requires.out)
+    (λ s other. own s c.args.courier.worker c.in_ok-sent.sent.items other across)
