@@ -1,6 +1,7 @@
 -- The moments of the buckets, and what a map has at them.
 use Rattle.std.proofs.Common.{◌≡◌, ℕ, Bool, true, false, cond, not, ltb, eqb, if◌then◌else◌, refl, inl, inr, arith, Option, option_map}
-use Rattle.std.specs.Ordering.{nat_cmp, is_eq, is_gt}
+use Rattle.std.specs.Ordering.{nat_cmp, is_eq, is_gt, is_lt}
+use Rattle.std.specs.declared.cmp.Ordering.TheVariants.{Less, Equal, Greater}
 use Rattle.std.proofs.lemmas.Bool.{cases_order, lt-ltb, le-ltb, eq-eqb, ne_eqb}
 
 pub same_number : (k j : ℕ) → is_eq (nat_cmp k j) ≡ eqb k j
@@ -22,3 +23,11 @@ not_greater k j =
 pub updated : {A B : Type 0} (f : A → B) (b c : Bool) (w x : Option A) → b ≡ c → option_map f (cond b w x) ≡ (if c then option_map f w else option_map f x)
 updated f b true w x e = rw e refl
 updated f b false w x e = rw e refl
+
+pub less_number : (k j : ℕ) → is_lt (nat_cmp k j) ≡ ltb k j
+less_number k j = of (ltb k j) (eqb k j)
+  where
+    of : (p q : Bool) → is_lt (cond p Less (cond q Equal Greater)) ≡ p
+    of true q = refl
+    of false true = refl
+    of false false = refl

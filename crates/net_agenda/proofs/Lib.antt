@@ -1,8 +1,12 @@
 pub mod Boots
 pub mod Falls
 pub mod Gathered
+pub mod Items
 pub mod Keys
+pub mod Left
+pub mod Moments
 pub mod NewWakes
 pub mod Orders
+pub mod Ranks
 pub mod Systems
 pub mod Woken

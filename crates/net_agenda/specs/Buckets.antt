@@ -67,9 +67,9 @@ Falls (first ∷ rest) = AllByRecursion (λ coming. coming.mote ≤ first.mote) 
 abbrev pub FallsIfSaid : Bucket → Type 0
 FallsIfSaid bucket = bucket.falls ≡ true → Falls bucket.coming.items
 
-abbrev pub is_none : List Coming → Bool
-is_none [] = true
-is_none (first ∷ rest) = false
+abbrev pub is_nothing : List Coming → Bool
+is_nothing [] = true
+is_nothing (first ∷ rest) = false
 
 abbrev pub lower_mote : Option ℕ → ℕ → Option ℕ
 lower_mote None mote = Some mote
@@ -92,7 +92,7 @@ pub record IsTaken (mote : ℕ) (old new : Bucket) : Type 0 where
   pub falls : FallsIfSaid new
 
 pub record IsReady (bucket : Bucket) : Type 0 where
-  pub filled : is_none bucket.coming.items ≡ false
+  pub filled : is_nothing bucket.coming.items ≡ false
   pub falls : FallsIfSaid bucket
 
 -- the buckets of all moments
@@ -152,10 +152,10 @@ wake_but_at moment (Some wake) = if wake == moment then None else Some wake
 abbrev pub arrivals_at : (moment mote : ℕ) → List Item → List Arrival
 arrivals_at moment mote items = map arrival_of (in_order (packets (filter (comes_at moment mote) items)))
 
+abbrev pub first_of : Option (ℕ × Bucket) → Option (ℕ × ℕ)
+first_of None = None
+first_of (Some entry) = option_map (λ mote. (entry.0, mote)) (first_mote entry.1)
+
 -- the least moment, and the least mote of its bucket
 abbrev pub first_key : Buckets → Option (ℕ × ℕ)
 first_key buckets = first_of (slice_get buckets.entries 0)
-  where
-    first_of : Option (ℕ × Bucket) → Option (ℕ × ℕ)
-    first_of None = None
-    first_of (Some entry) = option_map (λ mote. (entry.0, mote)) (first_mote entry.1)
