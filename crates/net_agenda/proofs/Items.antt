@@ -6,7 +6,7 @@ use Rattle.std.specs.Map.{lookup, keys_of}
 use Rattle.std.specs.BTreeMap.{is_at, IsOrdered}
 use Rattle.std.specs.Ordering.{is_eq, nat_cmp}
 use Rattle.std.specs.declared.cmp.Ordering.TheVariants.{Less}
-use Rattle.std.proofs.lemmas.Bool.{cases_Bool, eq-eqb, eqb-true, and_parts, false≢true}
+use Rattle.std.proofs.lemmas.Bool.{cases_Bool, eq-eqb, eqb-true, and_parts, false≢true, lt-ltb}
 use Rattle.std.proofs.lemmas.Bool.Decides.{nat_tests}
 use Rattle.std.proofs.lemmas.List.Elements.{filter-append}
 use Rattle.std.proofs.lemmas.List.Filters.{length-filter_both}
@@ -46,24 +46,25 @@ none_elsewhere t m u (c ∷ cs) e = let f : comes_at t m (item_at u c) ≡ false
 
 at_its_moment : (es : Entries) → IsStrictlySortedBy nat_cmp (keys_of es) → (t m : ℕ) → filter (comes_at t m) (items_among es) ≡ filter (comes_at t m) (items_in t (lookup (is_at (nat_cmp t)) es))
 at_its_moment [] sorted t m = refl
-at_its_moment (e ∷ es) sorted t m =
-    filter-append (comes_at t m) (bucket_items e.0 e.1) (items_among es) ∙ elim (cases_Bool (eqb t e.0)) [
-      | inl h ↦ (let f : is_at (nat_cmp t) e.0 ≡ true = same_number t e.0 ∙ h in
-          let none : lookup (is_at (nat_cmp t)) es ≡ None = ap (λ k. lookup (is_at (nat_cmp k)) es) (eqb-true t e.0 h) ∙ not_among e.0 es (sorted_head nat_cmp e.0 (keys_of es) sorted) in
-          let rest : filter (comes_at t m) (items_among es) ≡ [] = later ∙ ap (λ o. filter (comes_at t m) (items_in t o)) none in
-          ap (λ l. filter (comes_at t m) (bucket_items e.0 e.1) ++ l) rest ∙ (append-nil _ ∙ (ap (λ k. filter (comes_at t m) (bucket_items k e.1)) (sym (eqb-true t e.0 h)) ∙ ap (λ o. filter (comes_at t m) (items_in t o)) (found f))))
-      | inr h ↦ (let f : is_at (nat_cmp t) e.0 ≡ false = same_number t e.0 ∙ h in
-          ap (λ l. l ++ filter (comes_at t m) (items_among es)) (none_elsewhere t m e.0 e.1.coming.items h) ∙ (later ∙ ap (λ o. filter (comes_at t m) (items_in t o)) (passed f)))
-    ]
+at_its_moment (e ∷ es) sorted t m = filter-append (comes_at t m) (bucket_items e.0 e.1) (items_among es) ∙ of (at_its_moment es (sorted_tail nat_cmp e.0 (keys_of es) sorted) t m)
   where
-    later : filter (comes_at t m) (items_among es) ≡ filter (comes_at t m) (items_in t (lookup (is_at (nat_cmp t)) es))
-    later = at_its_moment es (sorted_tail nat_cmp e.0 (keys_of es) sorted) t m
-
     found : is_at (nat_cmp t) e.0 ≡ true → Some e.1 ≡ lookup (is_at (nat_cmp t)) (e ∷ es)
     found f = rw f refl
 
     passed : is_at (nat_cmp t) e.0 ≡ false → lookup (is_at (nat_cmp t)) es ≡ lookup (is_at (nat_cmp t)) (e ∷ es)
     passed f = rw f refl
+
+    of : filter (comes_at t m) (items_among es) ≡ filter (comes_at t m) (items_in t (lookup (is_at (nat_cmp t)) es))
+        → filter (comes_at t m) (bucket_items e.0 e.1) ++ filter (comes_at t m) (items_among es) ≡ filter (comes_at t m) (items_in t (lookup (is_at (nat_cmp t)) (e ∷ es)))
+    of later =
+        elim (cases_Bool (eqb t e.0)) [
+          | inl h ↦ (let f : is_at (nat_cmp t) e.0 ≡ true = same_number t e.0 ∙ h in
+              let none : lookup (is_at (nat_cmp t)) es ≡ None = ap (λ k. lookup (is_at (nat_cmp k)) es) (eqb-true t e.0 h) ∙ not_among e.0 es (sorted_head nat_cmp e.0 (keys_of es) sorted) in
+              let rest : filter (comes_at t m) (items_among es) ≡ [] = later ∙ ap (λ o. filter (comes_at t m) (items_in t o)) none in
+              ap (λ l. filter (comes_at t m) (bucket_items e.0 e.1) ++ l) rest ∙ (append-nil _ ∙ (ap (λ k. filter (comes_at t m) (bucket_items k e.1)) (sym (eqb-true t e.0 h)) ∙ ap (λ o. filter (comes_at t m) (items_in t o)) (found f))))
+          | inr h ↦ (let f : is_at (nat_cmp t) e.0 ≡ false = same_number t e.0 ∙ h in
+              ap (λ l. l ++ filter (comes_at t m) (items_among es)) (none_elsewhere t m e.0 e.1.coming.items h) ∙ (later ∙ ap (λ o. filter (comes_at t m) (items_in t o)) (passed f)))
+        ]
 
 -- lists with the same due everywhere have the same items
 
@@ -180,7 +181,7 @@ any_due_wake u k (x ∷ xs) =
 
 any_counted : (xs : List Item) → list_any is_wake xs ≡ ltb 0 (length (filter is_wake xs))
 any_counted [] = refl
-any_counted (Wake u k ∷ xs) = refl
+any_counted (Wake u k ∷ xs) = sym (lt-ltb 0 (suc (length (filter is_wake xs))) (omega arith))
 any_counted (Packet c ∷ xs) = any_counted xs
 
 any_wake : (u k : ℕ) (items : List Item) → list_any (is_wake_at u k) items ≡ ltb 0 (due_all (filter (comes_at u k) items)).wakes

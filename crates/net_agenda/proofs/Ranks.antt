@@ -44,7 +44,7 @@ first_due buckets items u k holds e = of buckets.entries refl (e)
         at : (t : ℕ) (b : Bucket) → get nat_cmp buckets t ≡ Some b → (o : Option ℕ) → first_mote b ≡ o → option_map {U = ℕ × ℕ} (λ m. (t, m)) o ≡ Some (u, k) → list_any (comes_at u k) items ≡ true
         at t b found None h e = absurd (cc)
         at t b found (Some m) h e =
-            let same : (t, m) ≡ (u, k) = cc in
+            let same : ◌≡◌ {A = ℕ × ℕ} (t, m) (u, k) = cc in
             subst (λ p. list_any (comes_at p.0 p.1) items ≡ true) same (there_of buckets t m b items holds found h)
 
 -- what is to come first is later, where nothing is left up to a place

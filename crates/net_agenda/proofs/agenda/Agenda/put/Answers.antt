@@ -13,7 +13,7 @@ returns-in-Some c =
     let b = c.in-Some.bucket.now in
     let d = c.put.new.self in
     let found : get nat_cmp old t ≡ Some b = sym c.in-Some.ensures.value in
-    on_ok_weaker c.put.result _ _ (λ more items holds.
+    on_ok_weaker c.put.result (λ more items holds.
     put_more old (c.get_mut.follows.lender d) t c.args.coming d b.coming.items items holds (ap (items_in t) found) more c.put.ensures.falls
     ((c.get_mut.follows.holds d).3 (subst IsSome (sym found) refl)).0) c.put.ensures.more
 
