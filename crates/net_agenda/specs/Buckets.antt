@@ -7,12 +7,9 @@ use Rattle.radio_packet.specs.declared.arrival.Arrival.{Arrival}
 use Rattle.radio_packet.specs.declared.copy.RadioCopy.{RadioCopy}
 use Rattle.net_agenda.specs.declared.bucket.Bucket.{Bucket}
 use Rattle.net_agenda.specs.declared.bucket.Coming.{Coming}
+pub use Rattle.net_agenda.specs.Arrivals.{arrival_of}
 use Rattle.window_law.specs.Order.{sorted_by, in_order}
 use Rattle.window_law.specs.Agenda.{Item, Wake, Packet, comes_at, packets}
-
--- what a mote is given of a copy
-abbrev pub arrival_of : RadioCopy → Arrival
-arrival_of copy = record { sender = copy.sender; number = copy.number; value = copy.value }
 
 -- by sender, then by number; those with the same of both keep their order
 abbrev pub arrivals_in_order : List Arrival → List Arrival
