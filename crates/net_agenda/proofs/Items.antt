@@ -1,5 +1,5 @@
 -- The items that are read back from buckets are those of the list that the buckets hold.
-use Rattle.std.proofs.Common.{◌≡◌, ℕ, zero, suc, ◌<◌, ◌≤◌, Bool, true, false, not, ◌&&◌, ◌||◌, eqb, ltb, List, [], ◌∷◌, ◌++◌, length, map, replicate, refl, sym, ap, ◌∙◌, subst, inl, inr, arith, append-nil, Option, Some, None, unwrap_or}
+use Rattle.std.proofs.Common.{◌≡◌, ℕ, zero, suc, ◌≤◌, Bool, true, false, not, ◌&&◌, ◌||◌, eqb, ltb, List, [], ◌∷◌, ◌++◌, length, map, replicate, refl, sym, ap, ◌∙◌, subst, inl, inr, arith, append-nil, Some, None, unwrap_or}
 use Rattle.std.specs.List.{filter, list_any, flat_map, AllByRecursion}
 use Rattle.std.specs.List.Sorted.{IsPermutation, IsStrictlySortedBy}
 use Rattle.std.specs.Map.{lookup, keys_of}
@@ -12,8 +12,6 @@ use Rattle.std.proofs.lemmas.List.Elements.{filter-append}
 use Rattle.std.proofs.lemmas.List.Filters.{length-filter_both}
 use Rattle.std.proofs.lemmas.List.Sorted.{IsPermutation-refl, IsPermutation-sym, IsPermutation-trans, IsPermutation-append, IsPermutation-filter_both}
 use Rattle.std.proofs.lemmas.Map.Keys.{sorted_head, sorted_tail}
-use Rattle.radio_packet.specs.declared.arrival.Arrival.{Arrival}
-use Rattle.radio_packet.specs.declared.copy.RadioCopy.{RadioCopy}
 use Rattle.window_law.specs.Agenda.{Item, Wake, Packet, comes_at, moment_of, mote_of, packets}
 use Rattle.window_law.proofs.Agenda.{packets_filter}
 use Rattle.window_law.proofs.Lists.{every_passes}
@@ -139,13 +137,12 @@ pub same_permute : (n : ℕ) (xs ys : List Item) → length xs ≤ n → IsSame 
 same_permute n [] ys h same = let e = none_same ys same in (subst (IsPermutation []) e (IsPermutation-refl []), subst (λ l. IsPermutation [] (packets l)) e (IsPermutation-refl []))
 same_permute zero (x ∷ xs) ys h same = absurd (omega arith)
 same_permute (suc n) (x ∷ xs) ys h same =
-    let later = same_permute n (filter others (x ∷ xs)) (filter others ys) fewer (rest_same t m (x ∷ xs) ys same) in
-    (
+    let later = same_permute n (filter others (x ∷ xs)) (filter others ys) fewer (rest_same t m (x ∷ xs) ys same) in (
       IsPermutation-trans _ _ _ (IsPermutation-filter_both p others (λ item. refl) (x ∷ xs))
-      (IsPermutation-trans _ _ _ (IsPermutation-append _ _ _ _ (permutes_here t m (x ∷ xs) ys (same t m)) later.0) (IsPermutation-sym _ _ (IsPermutation-filter_both p others (λ item. refl) ys))),
+          (IsPermutation-trans _ _ _ (IsPermutation-append _ _ _ _ (permutes_here t m (x ∷ xs) ys (same t m)) later.0) (IsPermutation-sym _ _ (IsPermutation-filter_both p others (λ item. refl) ys))),
       IsPermutation-trans _ _ _ (parted p (x ∷ xs))
-      (IsPermutation-trans _ _ _ (IsPermutation-append _ _ _ _ (subst (IsPermutation (packets (filter p (x ∷ xs)))) (packets_here t m (x ∷ xs) ys (same t m)) (IsPermutation-refl _)) later.1)
-      (IsPermutation-sym _ _ (parted p ys))),
+          (IsPermutation-trans _ _ _ (IsPermutation-append _ _ _ _ (subst (IsPermutation (packets (filter p (x ∷ xs)))) (packets_here t m (x ∷ xs) ys (same t m)) (IsPermutation-refl _)) later.1)
+          (IsPermutation-sym _ _ (parted p ys))),
     )
   where
     t : ℕ

@@ -1,21 +1,21 @@
 -- A bucket changed at one moment, and the agenda that the buckets hold then.
 use Rattle.std.proofs.Common.{◌≡◌, ℕ, Bool, true, false, cond, not, ◌&&◌, ◌||◌, ltb, eqb, if◌then◌else◌, List, [], ◌∷◌, ◌++◌, map, refl, sym, ap, ◌∙◌, subst, inl, inr, arith, ◌<◌, ◌≤◌, Option, Some, None, IsSome, unwrap_or}
-use Rattle.std.specs.List.{filter, filter_map, list_any, AllByRecursion}
+use Rattle.std.specs.List.{filter, list_any}
 use Rattle.std.specs.Ordering.{nat_cmp, is_eq, is_gt}
 use Rattle.std.specs.BTreeMap.{get, is_at}
 use Rattle.std.specs.Map.{lookup}
-use Rattle.std.proofs.lemmas.Bool.{cases_Bool, cases_order, eq-eqb, eqb-true, false≢true, lt-ltb, le-ltb, ltb-false}
+use Rattle.std.proofs.lemmas.Bool.{cases_Bool, cases_order, eq-eqb, eqb-true, false≢true, ltb-false}
 use Rattle.std.proofs.lemmas.Bool.Decides.{nat_tests}
 use Rattle.std.proofs.lemmas.List.{map-append}
 use Rattle.radio_packet.specs.declared.arrival.Arrival.{Arrival}
-use Rattle.window_law.specs.Agenda.{Item, Wake, Packet, IsLeast, comes_at, is_wake_of, moment_of, mote_of, packets}
+use Rattle.window_law.specs.Agenda.{Item, Wake, IsLeast, comes_at, is_wake_of, moment_of, mote_of, packets}
 use Rattle.window_law.proofs.Lists.{any_every}
 use Rattle.net_agenda.specs.declared.bucket.Bucket.{Bucket}
 use Rattle.net_agenda.specs.declared.bucket.Coming.{Coming}
-use Rattle.net_agenda.specs.Buckets.{arrival_of, arrivals_in_order, arrivals_at, nothing_due, gathered, due_of, is_here, is_for, of_mote, is_packet, is_wake_for, packets_of, FallsIfSaid, is_nothing, first_mote, IsTaken, IsReady, Buckets, Holds, item_of, item_at, items_in, items_at, without_wake}
-use Rattle.net_agenda.proofs.Falls.{falls_filter, first_low}
+use Rattle.net_agenda.specs.Buckets.{arrival_of, arrivals_in_order, arrivals_at, nothing_due, gathered, due_of, is_here, is_for, of_mote, is_wake_for, packets_of, FallsIfSaid, is_nothing, first_mote, IsTaken, IsReady, Buckets, Holds, item_of, item_at, items_in, items_at, without_wake}
+use Rattle.net_agenda.proofs.Falls.{first_low}
 use Rattle.net_agenda.proofs.Gathered.{unwrapped, due_both, due_elsewhere, due_taken, due_unwoken, due_asleep, any_same, from_due, held, then_out}
-use Rattle.net_agenda.proofs.Keys.{not_greater, same_number}
+use Rattle.net_agenda.proofs.Keys.{not_greater}
 use Rattle.net_agenda.proofs.Orders.{given_in_order, none_in_order}
 
 -- the items of one bucket

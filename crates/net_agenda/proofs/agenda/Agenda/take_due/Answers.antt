@@ -1,4 +1,4 @@
-use Rattle.std.proofs.Common.{rules, ◌≡◌, ap, ◌∙◌, subst, sym, refl, not, IsSome, Some, None}
+use Rattle.std.proofs.Common.{rules, ◌≡◌, ◌∙◌, subst, sym, refl, not, IsSome, Some, None}
 use Rattle.std.specs.List.{filter}
 use Rattle.std.specs.Ordering.{nat_cmp}
 use Rattle.std.specs.BTreeMap.{get}
