@@ -1,61 +1,73 @@
 -- The items that are read back from buckets are those of the list that the buckets hold.
-use Rattle.std.proofs.Common.{◌≡◌, ℕ, ◌≤◌, Bool, true, false, not, ◌&&◌, ◌||◌, eqb, if◌then◌else◌, List, [], ◌∷◌, ◌++◌, length, map, refl, sym, ap, ◌∙◌, subst, inl, inr, arith, Option, Some, None, unwrap_or, option_map}
+use Rattle.std.proofs.Common.{◌≡◌, ℕ, zero, suc, ◌≤◌, Bool, true, false, not, ◌&&◌, ◌||◌, eqb, ltb, List, [], ◌∷◌, ◌++◌, length, map, replicate, refl, sym, ap, ◌∙◌, subst, inl, inr, arith, append-nil, Some, None, unwrap_or}
 use Rattle.std.specs.List.{filter, list_any, flat_map, AllByRecursion}
 use Rattle.std.specs.List.Sorted.{IsPermutation, IsStrictlySortedBy}
 use Rattle.std.specs.Map.{lookup, keys_of}
 use Rattle.std.specs.BTreeMap.{is_at, IsOrdered}
-use Rattle.std.specs.Ordering.{is_eq}
+use Rattle.std.specs.Ordering.{is_eq, nat_cmp}
 use Rattle.std.specs.declared.cmp.Ordering.TheVariants.{Less}
-use Rattle.std.proofs.lemmas.Bool.{cases_Bool, eq-eqb, eqb-true, and_parts, and_from}
+use Rattle.std.proofs.lemmas.Bool.{cases_Bool, eq-eqb, eqb-true, and_parts, false≢true, lt-ltb}
 use Rattle.std.proofs.lemmas.Bool.Decides.{nat_tests}
-use Rattle.std.proofs.lemmas.List.Folds.{list_any-append}
-use Rattle.std.proofs.lemmas.List.{nil_from_length}
+use Rattle.std.proofs.lemmas.List.Elements.{filter-append}
 use Rattle.std.proofs.lemmas.List.Filters.{length-filter_both}
-use Rattle.std.proofs.lemmas.List.Sorted.{IsPermutation-refl, IsPermutation-trans, IsPermutation-append, IsPermutation-filter_both}
+use Rattle.std.proofs.lemmas.List.Sorted.{IsPermutation-refl, IsPermutation-sym, IsPermutation-trans, IsPermutation-append, IsPermutation-filter_both}
 use Rattle.std.proofs.lemmas.Map.Keys.{sorted_head, sorted_tail}
-use Rattle.radio_packet.specs.declared.arrival.Arrival.{Arrival}
-use Rattle.radio_packet.specs.declared.copy.RadioCopy.{RadioCopy}
 use Rattle.window_law.specs.Agenda.{Item, Wake, Packet, comes_at, moment_of, mote_of, packets}
-use Rattle.window_law.proofs.Agenda.{packets_append, packets_filter, packets_map}
-use Rattle.window_law.proofs.Lists.{every_passes, filter_both, filter_filter}
+use Rattle.window_law.proofs.Agenda.{packets_filter}
+use Rattle.window_law.proofs.Lists.{every_passes}
 use Rattle.net_agenda.specs.declared.bucket.Bucket.{Bucket}
-use Rattle.net_agenda.specs.Buckets.{arrival_of, Due, nothing_due, is_wake, gathered, due_of, told_bucket, key_cmp, is_here, Buckets, Holds}
-use Rattle.net_agenda.specs.Items.{copy_at, bucket_items, items_of, is_wake_at, AreSameItems, WakesDiffer}
-use Rattle.net_agenda.proofs.Gathered.{Is, due_among, removed, unwrapped}
-use Rattle.net_agenda.proofs.Keys.{key_is, updated}
+use Rattle.net_agenda.specs.declared.bucket.Coming.{Coming}
+use Rattle.net_agenda.specs.Buckets.{arrival_of, Due, nothing_due, is_wake, due_all, gathered, due_of, is_here, item_at, items_in, Buckets, Holds}
+use Rattle.net_agenda.specs.Items.{copy_at, bucket_items, items_of, is_wake_at, AreSameItems}
+use Rattle.net_agenda.proofs.Gathered.{unwrapped, due_taken, any_same}
+use Rattle.net_agenda.proofs.Keys.{same_number}
+use Rattle.net_agenda.proofs.Moments.{moment_at}
 
-abbrev Entries : Type 0
-Entries = List ((ℕ × ℕ) × Bucket)
+-- what is due in the items of all buckets is what is due in the bucket of its moment
 
-abbrev items_among : Entries → List Item
-items_among entries = flat_map (λ (entry : (ℕ × ℕ) × Bucket). bucket_items entry.0.0 entry.0.1 entry.1) entries
+abbrev pub Entries : Type 0
+Entries = List (ℕ × Bucket)
 
--- what entries have at a key
+abbrev pub items_among : Entries → List Item
+items_among entries = flat_map (λ (entry : ℕ × Bucket). bucket_items entry.0 entry.1) entries
 
-turned : (u k t m : ℕ) → (eqb u t && eqb k m) ≡ (eqb t u && eqb m k)
-turned u k t m = grind (arith, nat_tests)
-
-first_or_later : (e : (ℕ × ℕ) × Bucket) (es : Entries) (u k : ℕ) → due_among (e ∷ es) u k ≡ (if is_here e.0.0 e.0.1 u k then Some (told_bucket e.1) else due_among es u k)
-first_or_later e es u k = updated told_bucket _ _ (Some e.1) _ (key_is u k e.0.0 e.0.1 ∙ turned u k e.0.0 e.0.1)
-
-at_its_key : (e : (ℕ × ℕ) × Bucket) (es : Entries) → due_among (e ∷ es) e.0.0 e.0.1 ≡ Some (told_bucket e.1)
-at_its_key e es = first_or_later e es e.0.0 e.0.1 ∙ first (is_here e.0.0 e.0.1 e.0.0 e.0.1) (and_from _ _ (eq-eqb e.0.0 e.0.0 refl) (eq-eqb e.0.1 e.0.1 refl))
-  where
-    first : (b : Bool) → b ≡ true → (if b then Some (told_bucket e.1) else due_among es e.0.0 e.0.1) ≡ Some (told_bucket e.1)
-    first b h = rw h refl
-
-not_among : (key : ℕ × ℕ) (es : Entries) → AllByRecursion (λ q. key_cmp key q ≡ Less) (keys_of es) → lookup (is_at (key_cmp key)) es ≡ None
+not_among : (key : ℕ) (es : Entries) → AllByRecursion (λ q. nat_cmp key q ≡ Less) (keys_of es) → lookup (is_at (nat_cmp key)) es ≡ None
 not_among key [] h = refl
-not_among key (e ∷ es) h = let f : is_at (key_cmp key) e.0 ≡ false = ap is_eq h.0 in rw f (not_among key es h.1)
+not_among key (e ∷ es) h = let f : is_at (nat_cmp key) e.0 ≡ false = ap is_eq h.0 in rw f (not_among key es h.1)
 
--- later keys are others
-none_later : (e : (ℕ × ℕ) × Bucket) (es : Entries) (u k : ℕ) → IsStrictlySortedBy key_cmp (keys_of (e ∷ es)) → is_here e.0.0 e.0.1 u k ≡ true → due_among es u k ≡ None
-none_later e es u k sorted h =
-    let same = and_parts (eqb e.0.0 u) (eqb e.0.1 k) h in
-    let none = ap (option_map told_bucket) (not_among e.0 es (sorted_head key_cmp e.0 (keys_of es) sorted)) in
-    ap (λ x. due_among es x k) (sym (eqb-true e.0.0 u same.0)) ∙ (ap (due_among es e.0.0) (sym (eqb-true e.0.1 k same.1)) ∙ none)
+none_elsewhere : (t m u : ℕ) (cs : List Coming) → eqb t u ≡ false → filter (comes_at t m) (map (item_at u) cs) ≡ []
+none_elsewhere t m u [] e = refl
+none_elsewhere t m u (c ∷ cs) e = let f : comes_at t m (item_at u c) ≡ false = other (moment_of (item_at u c)) (mote_of (item_at u c)) (moment_at u c) in rw f (none_elsewhere t m u cs e)
+  where
+    other : (a b : ℕ) → a ≡ u → (eqb a t && eqb b m) ≡ false
+    other a b f = grind (arith, nat_tests)
 
--- packets
+at_its_moment : (es : Entries) → IsStrictlySortedBy nat_cmp (keys_of es) → (t m : ℕ) → filter (comes_at t m) (items_among es) ≡ filter (comes_at t m) (items_in t (lookup (is_at (nat_cmp t)) es))
+at_its_moment [] sorted t m = refl
+at_its_moment (e ∷ es) sorted t m = filter-append (comes_at t m) (bucket_items e.0 e.1) (items_among es) ∙ of (at_its_moment es (sorted_tail nat_cmp e.0 (keys_of es) sorted) t m)
+  where
+    found : is_at (nat_cmp t) e.0 ≡ true → Some e.1 ≡ lookup (is_at (nat_cmp t)) (e ∷ es)
+    found f = rw f refl
+
+    passed : is_at (nat_cmp t) e.0 ≡ false → lookup (is_at (nat_cmp t)) es ≡ lookup (is_at (nat_cmp t)) (e ∷ es)
+    passed f = rw f refl
+
+    of : filter (comes_at t m) (items_among es) ≡ filter (comes_at t m) (items_in t (lookup (is_at (nat_cmp t)) es))
+        → filter (comes_at t m) (bucket_items e.0 e.1) ++ filter (comes_at t m) (items_among es) ≡ filter (comes_at t m) (items_in t (lookup (is_at (nat_cmp t)) (e ∷ es)))
+    of later =
+        elim (cases_Bool (eqb t e.0)) [
+          | inl h ↦ (let f : is_at (nat_cmp t) e.0 ≡ true = same_number t e.0 ∙ h in
+              let none : lookup (is_at (nat_cmp t)) es ≡ None = ap (λ k. lookup (is_at (nat_cmp k)) es) (eqb-true t e.0 h) ∙ not_among e.0 es (sorted_head nat_cmp e.0 (keys_of es) sorted) in
+              let rest : filter (comes_at t m) (items_among es) ≡ [] = later ∙ ap (λ o. filter (comes_at t m) (items_in t o)) none in
+              ap (λ l. filter (comes_at t m) (bucket_items e.0 e.1) ++ l) rest ∙ (append-nil _ ∙ (ap (λ k. filter (comes_at t m) (bucket_items k e.1)) (sym (eqb-true t e.0 h)) ∙ ap (λ o. filter (comes_at t m) (items_in t o)) (found f))))
+          | inr h ↦ (let f : is_at (nat_cmp t) e.0 ≡ false = same_number t e.0 ∙ h in
+              ap (λ l. l ++ filter (comes_at t m) (items_among es)) (none_elsewhere t m e.0 e.1.coming.items h) ∙ (later ∙ ap (λ o. filter (comes_at t m) (items_in t o)) (passed f)))
+        ]
+
+-- lists with the same due everywhere have the same items
+
+abbrev IsSame : List Item → List Item → Type 0
+IsSame xs ys = (t m : ℕ) → due_of t m xs ≡ due_of t m ys
 
 put_back : (t m : ℕ) (xs : List Item) → AllByRecursion (λ item. comes_at t m item ≡ true) xs → map (copy_at t m) (map arrival_of (packets xs)) ≡ packets xs
 put_back t m [] h = refl
@@ -66,23 +78,39 @@ put_back t m (Packet c ∷ xs) h = ap (λ l. copy_at t m (arrival_of c) ∷ l) (
     same = let there = and_parts (eqb c.at t) (eqb c.to m) h.0 in
         ap (λ x. copy_at x m (arrival_of c)) (sym (eqb-true c.at t there.0)) ∙ ap (λ x. copy_at c.at x (arrival_of c)) (sym (eqb-true c.to m there.1))
 
-gathered_copies : (xs : List Item) (d : Due) → gathered xs ≡ Some d → d.copies ≡ map arrival_of (packets xs)
-gathered_copies xs d f = ap (λ o. (unwrap_or o nothing_due).copies) (sym f) ∙ ap (λ x. x.copies) (unwrapped xs)
+wakes_are : (t m : ℕ) (xs : List Item) → AllByRecursion (λ item. comes_at t m item ≡ true) xs → filter is_wake xs ≡ replicate (length (filter is_wake xs)) (Wake t m)
+wakes_are t m [] h = refl
+wakes_are t m (Wake u k ∷ xs) h =
+    let there = and_parts (eqb u t) (eqb k m) h.0 in
+    ap (λ l. Wake u k ∷ l) (wakes_are t m xs h.1) ∙ (ap (λ x. Wake x k ∷ replicate (length (filter is_wake xs)) (Wake t m)) (eqb-true u t there.0) ∙ ap (λ x. Wake t x ∷ replicate (length (filter is_wake xs)) (Wake t m)) (eqb-true k m there.1))
+wakes_are t m (Packet c ∷ xs) h = wakes_are t m xs h.1
 
--- the packets of one bucket
-of_bucket : (t m : ℕ) (copies : List Arrival) (xs : List Item) → AllByRecursion (λ item. comes_at t m item ≡ true) xs → copies ≡ map arrival_of (packets xs)
-    → packets xs ≡ map (copy_at t m) copies
-of_bucket t m copies xs due e = sym (ap (map (copy_at t m)) e ∙ put_back t m xs due)
+not_wakes : (xs : List Item) → filter (λ item. not (is_wake item)) xs ≡ map Packet (packets xs)
+not_wakes [] = refl
+not_wakes (Wake u k ∷ xs) = not_wakes xs
+not_wakes (Packet c ∷ xs) = ap (λ l. Packet c ∷ l) (not_wakes xs)
 
-bucket_packets : (t m : ℕ) (b : Bucket) → packets (bucket_items t m b) ≡ map (copy_at t m) b.copies.items
-bucket_packets t m b = packets_append (if b.wakes then Wake t m ∷ [] else []) (map Packet copies) ∙ (ap (λ l. l ++ packets (map Packet copies)) (no_packet b.wakes) ∙ packets_map copies)
-  where
-    copies : List RadioCopy
-    copies = map (copy_at t m) b.copies.items
+-- what is due, told as items again
+abbrev told : (t m : ℕ) → Due → List Item
+told t m due = replicate due.wakes (Wake t m) ++ map Packet (map (copy_at t m) due.copies)
 
-    no_packet : (w : Bool) → packets (if w then Wake t m ∷ [] else []) ≡ []
-    no_packet true = refl
-    no_packet false = refl
+told_permutes : (t m : ℕ) (xs : List Item) → AllByRecursion (λ item. comes_at t m item ≡ true) xs → IsPermutation xs (told t m (due_all xs))
+told_permutes t m xs h =
+    subst (λ l. IsPermutation xs (replicate (length (filter is_wake xs)) (Wake t m) ++ map Packet l)) (sym (put_back t m xs h))
+    (subst (λ l. IsPermutation xs (replicate (length (filter is_wake xs)) (Wake t m) ++ l)) (not_wakes xs)
+    (subst (λ l. IsPermutation xs (l ++ filter (λ item. not (is_wake item)) xs)) (wakes_are t m xs h) (IsPermutation-filter_both is_wake (λ item. not (is_wake item)) (λ item. refl) xs)))
+
+due_alls : (t m : ℕ) (xs ys : List Item) → due_of t m xs ≡ due_of t m ys → due_all (filter (comes_at t m) xs) ≡ due_all (filter (comes_at t m) ys)
+due_alls t m xs ys e = sym (unwrapped (filter (comes_at t m) xs)) ∙ (ap (λ o. unwrap_or o nothing_due) e ∙ unwrapped (filter (comes_at t m) ys))
+
+permutes_here : (t m : ℕ) (xs ys : List Item) → due_of t m xs ≡ due_of t m ys → IsPermutation (filter (comes_at t m) xs) (filter (comes_at t m) ys)
+permutes_here t m xs ys e =
+    IsPermutation-trans _ _ _ (subst (λ d. IsPermutation (filter (comes_at t m) xs) (told t m d)) (due_alls t m xs ys e) (told_permutes t m (filter (comes_at t m) xs) (every_passes (comes_at t m) xs)))
+    (IsPermutation-sym _ _ (told_permutes t m (filter (comes_at t m) ys) (every_passes (comes_at t m) ys)))
+
+packets_here : (t m : ℕ) (xs ys : List Item) → due_of t m xs ≡ due_of t m ys → packets (filter (comes_at t m) xs) ≡ packets (filter (comes_at t m) ys)
+packets_here t m xs ys e =
+    sym (put_back t m (filter (comes_at t m) xs) (every_passes (comes_at t m) xs)) ∙ (ap (λ (d : Due). map (copy_at t m) d.copies) (due_alls t m xs ys e) ∙ put_back t m (filter (comes_at t m) ys) (every_passes (comes_at t m) ys))
 
 -- the packets that pass a test, and the others
 parted : (p : Item → Bool) (items : List Item) → IsPermutation (packets items) (packets (filter p items) ++ packets (filter (λ item. not (p item)) items))
@@ -91,56 +119,54 @@ parted p items =
     (subst (λ l. IsPermutation (packets items) (filter (λ c. p (Packet c)) (packets items) ++ l)) (sym (packets_filter (λ item. not (p item)) items))
     (IsPermutation-filter_both (λ c. p (Packet c)) (λ c. not (p (Packet c))) (λ c. refl) (packets items)))
 
-none_held : (items : List Item) → Is (due_among []) items → items ≡ []
-none_held [] is = refl
-none_held (x ∷ xs) is =
-    let i = eq-eqb (moment_of x) (moment_of x) refl in
-    let j = eq-eqb (mote_of x) (mote_of x) refl in
-    let there = rw (i, j) at (is (moment_of x) (mote_of x)) in
-    cc
+none_same : (ys : List Item) → IsSame [] ys → [] ≡ ys
+none_same [] same = refl
+none_same (y ∷ ys) same =
+    let i = eq-eqb (moment_of y) (moment_of y) refl in
+    let j = eq-eqb (mote_of y) (mote_of y) refl in
+    let there : list_any (comes_at (moment_of y) (mote_of y)) (y ∷ ys) ≡ true = rw (i, j) refl in
+    absurd (false≢true (any_same (moment_of y) (mote_of y) [] (y ∷ ys) (same (moment_of y) (mote_of y)) ∙ there))
 
--- the first bucket has what is due there, and the later ones hold the others
+rest_same : (t m : ℕ) (xs ys : List Item) → IsSame xs ys → IsSame (filter (λ item. not (comes_at t m item)) xs) (filter (λ item. not (comes_at t m item)) ys)
+rest_same t m xs ys same u k = due_taken xs t m u k ∙ (elim (cases_Bool (is_here t m u k)) [ inl e ↦ rw e refl | inr e ↦ rw e (same u k) ] ∙ sym (due_taken ys t m u k))
 
-found : (e : (ℕ × ℕ) × Bucket) (es : Entries) (items : List Item) → Is (due_among (e ∷ es)) items → gathered (filter (comes_at e.0.0 e.0.1) items) ≡ Some (told_bucket e.1)
-found e es items is = sym (is e.0.0 e.0.1) ∙ at_its_key e es
+no_more : (p : Item → Bool) (xs : List Item) → length (filter p xs) ≤ length xs
+no_more p xs = let both = length-filter_both p (λ x. not (p x)) (λ x. refl) xs in omega arith
 
-rest_held : (e : (ℕ × ℕ) × Bucket) (es : Entries) (items : List Item) → IsStrictlySortedBy key_cmp (keys_of (e ∷ es)) → Is (due_among (e ∷ es)) items
-    → Is (due_among es) (filter (λ item. not (comes_at e.0.0 e.0.1 item)) items)
-rest_held e es items sorted is = removed (due_among (e ∷ es)) (due_among es) e.0.0 e.0.1 items is without
+pub same_permute : (n : ℕ) (xs ys : List Item) → length xs ≤ n → IsSame xs ys → IsPermutation xs ys × IsPermutation (packets xs) (packets ys)
+same_permute n [] ys h same = let e = none_same ys same in (subst (IsPermutation []) e (IsPermutation-refl []), subst (λ l. IsPermutation [] (packets l)) e (IsPermutation-refl []))
+same_permute zero (x ∷ xs) ys h same = absurd (omega arith)
+same_permute (suc n) (x ∷ xs) ys h same =
+    let later = same_permute n (filter others (x ∷ xs)) (filter others ys) fewer (rest_same t m (x ∷ xs) ys same) in (
+      IsPermutation-trans _ _ _ (IsPermutation-filter_both p others (λ item. refl) (x ∷ xs))
+          (IsPermutation-trans _ _ _ (IsPermutation-append _ _ _ _ (permutes_here t m (x ∷ xs) ys (same t m)) later.0) (IsPermutation-sym _ _ (IsPermutation-filter_both p others (λ item. refl) ys))),
+      IsPermutation-trans _ _ _ (parted p (x ∷ xs))
+          (IsPermutation-trans _ _ _ (IsPermutation-append _ _ _ _ (subst (IsPermutation (packets (filter p (x ∷ xs)))) (packets_here t m (x ∷ xs) ys (same t m)) (IsPermutation-refl _)) later.1)
+          (IsPermutation-sym _ _ (parted p ys))),
+    )
   where
-    without : (u k : ℕ) → due_among es u k ≡ (if is_here e.0.0 e.0.1 u k then None else due_among (e ∷ es) u k)
-    without u k =
-        elim (cases_Bool (is_here e.0.0 e.0.1 u k)) [
-          | inl h ↦ rw h (none_later e es u k sorted h)
-          | inr h ↦ (let later = rw h at (first_or_later e es u k) in rw h (sym later))
-        ]
+    t : ℕ
+    t = moment_of x
 
-packets_among : (es : Entries) (items : List Item) → IsStrictlySortedBy key_cmp (keys_of es) → Is (due_among es) items → IsPermutation (packets items) (packets (items_among es))
-packets_among [] items sorted is = subst (λ l. IsPermutation (packets l) []) (sym (none_held items is)) (IsPermutation-refl [])
-packets_among (e ∷ es) items sorted is =
-    subst (IsPermutation (packets items)) (sym (packets_append (bucket_items e.0.0 e.0.1 e.1) (items_among es) ∙ ap (λ l. l ++ packets (items_among es)) (bucket_packets e.0.0 e.0.1 e.1)))
-    (IsPermutation-trans _ _ _ (parted p items)
-    (IsPermutation-append _ _ _ _ here (packets_among es (filter (λ item. not (p item)) items) (sorted_tail key_cmp e.0 (keys_of es) sorted) (rest_held e es items sorted is))))
-  where
+    m : ℕ
+    m = mote_of x
+
     p : Item → Bool
-    p = comes_at e.0.0 e.0.1
+    p = comes_at t m
 
-    here : IsPermutation (packets (filter p items)) (map (copy_at e.0.0 e.0.1) e.1.copies.items)
-    here = subst (IsPermutation (packets (filter p items))) (of_bucket e.0.0 e.0.1 e.1.copies.items (filter p items) (every_passes p items) (gathered_copies (filter p items) (told_bucket e.1) (found e es items is)))
-        (IsPermutation-refl (packets (filter p items)))
+    others : Item → Bool
+    others item = not (comes_at t m item)
+
+    fewer : length (filter others (x ∷ xs)) ≤ n
+    fewer =
+        let i = eq-eqb t t refl in
+        let j = eq-eqb m m refl in
+        let gone : filter others (x ∷ xs) ≡ filter others xs = rw (i, j) refl in
+        let same_length = ap length gone in
+        let less = no_more others xs in
+        omega arith
 
 -- wakes
-
-or_false : (b : Bool) → (b || false) ≡ b
-or_false true = refl
-or_false false = refl
-
-and_false : (b : Bool) → (b && false) ≡ false
-and_false true = refl
-and_false false = refl
-
-abbrev wakes_in : Option Due → Bool
-wakes_in o = (unwrap_or o nothing_due).wakes
 
 any_due_wake : (u k : ℕ) (items : List Item) → list_any (is_wake_at u k) items ≡ list_any is_wake (filter (comes_at u k) items)
 any_due_wake u k [] = refl
@@ -150,100 +176,25 @@ any_due_wake u k (x ∷ xs) =
       | inr e ↦ rw e (any_due_wake u k xs)
     ]
 
-wakes_held : (u k : ℕ) (items : List Item) → list_any (is_wake_at u k) items ≡ wakes_in (due_of u k items)
-wakes_held u k items = any_due_wake u k items ∙ sym (ap (λ d. d.wakes) (unwrapped (filter (comes_at u k) items)))
+any_counted : (xs : List Item) → list_any is_wake xs ≡ ltb 0 (length (filter is_wake xs))
+any_counted [] = refl
+any_counted (Wake u k ∷ xs) = sym (lt-ltb 0 (suc (length (filter is_wake xs))) (omega arith))
+any_counted (Packet c ∷ xs) = any_counted xs
 
-no_wake : (u k : ℕ) (copies : List RadioCopy) → list_any (is_wake_at u k) (map Packet copies) ≡ false
-no_wake u k [] = refl
-no_wake u k (c ∷ cs) = ap (λ b. b || list_any (is_wake_at u k) (map Packet cs)) (and_false (comes_at u k (Packet c))) ∙ no_wake u k cs
+any_wake : (u k : ℕ) (items : List Item) → list_any (is_wake_at u k) items ≡ ltb 0 (due_all (filter (comes_at u k) items)).wakes
+any_wake u k items = any_due_wake u k items ∙ any_counted (filter (comes_at u k) items)
 
-bucket_wake : (t m u k : ℕ) (b : Bucket) → list_any (is_wake_at u k) (bucket_items t m b) ≡ (is_here t m u k && b.wakes)
-bucket_wake t m u k b =
-    list_any-append (is_wake_at u k) (if b.wakes then Wake t m ∷ [] else []) (map Packet copies)
-    ∙ (ap (λ x. list_any (is_wake_at u k) (if b.wakes then Wake t m ∷ [] else []) || x) (no_wake u k copies) ∙ (or_false _ ∙ one b.wakes))
-  where
-    copies : List RadioCopy
-    copies = map (copy_at t m) b.copies.items
+-- the law
 
-    one : (w : Bool) → list_any (is_wake_at u k) (if w then Wake t m ∷ [] else []) ≡ (is_here t m u k && w)
-    one true = or_false _
-    one false = sym (and_false (is_here t m u k))
+pub same_due : (buckets : Buckets) → IsOrdered nat_cmp buckets → (items : List Item) → Holds buckets items → IsSame items (items_of buckets)
+same_due buckets ordered items holds t m = sym (holds.due t m) ∙ ap gathered (sym (at_its_moment buckets.entries ordered t m))
 
-wakes_among : (es : Entries) (u k : ℕ) → IsStrictlySortedBy key_cmp (keys_of es) → list_any (is_wake_at u k) (items_among es) ≡ wakes_in (due_among es u k)
-wakes_among [] u k sorted = refl
-wakes_among (e ∷ es) u k sorted =
-    list_any-append (is_wake_at u k) (bucket_items e.0.0 e.0.1 e.1) (items_among es)
-    ∙ (ap (λ x. x || list_any (is_wake_at u k) (items_among es)) (bucket_wake e.0.0 e.0.1 u k e.1) ∙ joined (list_any (is_wake_at u k) (items_among es)) (wakes_among es u k (sorted_tail key_cmp e.0 (keys_of es) sorted)))
-  where
-    joined : (later : Bool) → later ≡ wakes_in (due_among es u k) → ((is_here e.0.0 e.0.1 u k && e.1.wakes) || later) ≡ wakes_in (due_among (e ∷ es) u k)
-    joined later same =
-        elim (cases_Bool (is_here e.0.0 e.0.1 u k)) [
-          | inl h ↦ (let first = rw h at (first_or_later e es u k) in
-              rw h (ap (λ x. e.1.wakes || x) (same ∙ ap wakes_in (none_later e es u k sorted h)) ∙ (or_false e.1.wakes ∙ ap wakes_in (sym first))))
-          | inr h ↦ (let first = rw h at (first_or_later e es u k) in rw h (same ∙ ap wakes_in (sym first)))
-        ]
-
--- all items, where no mote has two wakes at one moment
-
-one_wake : (t m : ℕ) (xs : List Item) → AllByRecursion (λ item. comes_at t m item ≡ true) xs → length (filter is_wake xs) ≤ 1 → filter is_wake xs ≡ (if list_any is_wake xs then Wake t m ∷ [] else [])
-one_wake t m [] due h = refl
-one_wake t m (Packet c ∷ xs) due h = one_wake t m xs due.1 h
-one_wake t m (Wake u k ∷ xs) due h =
-    let there = and_parts (eqb u t) (eqb k m) due.0 in
-    let none : filter is_wake xs ≡ [] = nil_from_length (filter is_wake xs) (omega arith) in
-    ap (λ l. Wake u k ∷ l) none ∙ (ap (λ x. Wake x k ∷ []) (eqb-true u t there.0) ∙ ap (λ x. Wake t x ∷ []) (eqb-true k m there.1))
-
-not_wakes : (xs : List Item) → filter (λ item. not (is_wake item)) xs ≡ map Packet (packets xs)
-not_wakes [] = refl
-not_wakes (Wake u k ∷ xs) = not_wakes xs
-not_wakes (Packet c ∷ xs) = ap (λ l. Packet c ∷ l) (not_wakes xs)
-
-bucket_permutes : (t m : ℕ) (b : Bucket) (xs : List Item) → AllByRecursion (λ item. comes_at t m item ≡ true) xs → gathered xs ≡ Some (told_bucket b) → length (filter is_wake xs) ≤ 1
-    → IsPermutation xs (bucket_items t m b)
-bucket_permutes t m b xs due e one =
-    subst (λ l. IsPermutation xs (wakes ++ map Packet l)) (of_bucket t m b.copies.items xs due (gathered_copies xs (told_bucket b) e))
-    (subst (λ l. IsPermutation xs (wakes ++ l)) (not_wakes xs) (subst (λ l. IsPermutation xs (l ++ filter (λ item. not (is_wake item)) xs)) woken (IsPermutation-filter_both is_wake (λ item. not (is_wake item)) (λ item. refl) xs)))
-  where
-    wakes : List Item
-    wakes = if b.wakes then Wake t m ∷ [] else []
-
-    same : list_any is_wake xs ≡ b.wakes
-    same = sym (ap (λ d. d.wakes) (unwrapped xs)) ∙ ap (λ o. (unwrap_or o nothing_due).wakes) e
-
-    woken : filter is_wake xs ≡ wakes
-    woken = one_wake t m xs due one ∙ ap (λ w. if w then Wake t m ∷ [] else []) same
-
-no_more : {X : Type 0} (p : X → Bool) (xs : List X) → length (filter p xs) ≤ length xs
-no_more p xs = let both = length-filter_both p (λ x. not (p x)) (λ x. refl) xs in omega arith
-
-items_among_permute : (es : Entries) (items : List Item) → IsStrictlySortedBy key_cmp (keys_of es) → Is (due_among es) items → WakesDiffer items → IsPermutation items (items_among es)
-items_among_permute [] items sorted is one = subst (λ l. IsPermutation l []) (sym (none_held items is)) (IsPermutation-refl [])
-items_among_permute (e ∷ es) items sorted is one =
-    IsPermutation-trans _ _ _ (IsPermutation-filter_both p (λ item. not (p item)) (λ item. refl) items)
-    (IsPermutation-append _ _ _ _ here (items_among_permute es rest (sorted_tail key_cmp e.0 (keys_of es) sorted) (rest_held e es items sorted is) fewer))
-  where
-    p : Item → Bool
-    p = comes_at e.0.0 e.0.1
-
-    rest : List Item
-    rest = filter (λ item. not (p item)) items
-
-    fewer : WakesDiffer rest
-    fewer u k =
-        let same = ap length (filter_filter (is_wake_at u k) (λ item. not (p item)) items) in
-        let less = no_more (λ item. not (p item)) (filter (is_wake_at u k) items) in
-        let at_most = one u k in
-        omega arith
-
-    here : IsPermutation (filter p items) (bucket_items e.0.0 e.0.1 e.1)
-    here =
-        let same = ap length (filter_both is_wake p (is_wake_at e.0.0 e.0.1) (λ item. refl) items) in
-        let at_most = one e.0.0 e.0.1 in
-        bucket_permutes e.0.0 e.0.1 e.1 (filter p items) (every_passes p items) (found e es items is) (omega arith)
-
-pub items_held : (buckets : Buckets) → IsOrdered key_cmp buckets → (items : List Item) → Holds buckets items → AreSameItems items (items_of buckets)
-items_held buckets ordered items holds = record {
-  same_packets = packets_among buckets.entries items ordered holds;
-  same_wakes = λ u k. wakes_held u k items ∙ (ap wakes_in (sym (holds u k)) ∙ sym (wakes_among buckets.entries u k ordered));
-  permuted = items_among_permute buckets.entries items ordered holds;
-}
+pub items_held : (buckets : Buckets) → IsOrdered nat_cmp buckets → (items : List Item) → Holds buckets items → AreSameItems items (items_of buckets)
+items_held buckets ordered items holds =
+    let same = same_due buckets ordered items holds in
+    let permuted = same_permute (length items) items (items_of buckets) (omega arith) same in
+    record {
+      same_packets = permuted.1;
+      same_wakes = λ u k. any_wake u k items ∙ (ap (λ (d : Due). ltb 0 d.wakes) (due_alls u k items (items_of buckets) (same u k)) ∙ sym (any_wake u k (items_of buckets)));
+      permuted = λ one. permuted.0;
+    }

@@ -1,7 +1,10 @@
 pub mod Boots
+pub mod Falls
 pub mod Gathered
 pub mod Items
 pub mod Keys
+pub mod Left
+pub mod Moments
 pub mod NewWakes
 pub mod Orders
 pub mod Ranks

@@ -2,16 +2,17 @@
 use Rattle.std.proofs.Common.{◌≡◌, ℕ, suc, ◌+◌, ◌-◌, ◌*◌, ◌<◌, ◌≤◌, true, not, ◌&&◌, ◌||◌, ltb, eqb, List, [], ◌∷◌, sym, ap, ◌∙◌, refl, subst, arith, Option, Some, None, option_map, slice_get, inl, inr, suc-mul, ◌⊎◌}
 use Rattle.std.specs.List.{list_any, AllByRecursion}
 use Rattle.std.specs.Map.{lookup}
-use Rattle.std.specs.BTreeMap.{is_at}
+use Rattle.std.specs.BTreeMap.{get, is_at}
+use Rattle.std.specs.Ordering.{nat_cmp}
 use Rattle.std.proofs.Math.Nat.{mul-le-mul_right}
 use Rattle.std.proofs.lemmas.Bool.{and_parts, eqb-true, eq-eqb}
 use Rattle.std.proofs.lemmas.Bool.Decides.{nat_tests}
 use Rattle.net_agenda.specs.declared.bucket.Bucket.{Bucket}
 use Rattle.window_law.specs.Agenda.{Item, moment_of, mote_of, comes_at, is_from}
-use Rattle.net_agenda.specs.Buckets.{Buckets, Holds, told_bucket, key_cmp, first_key}
+use Rattle.net_agenda.specs.Buckets.{Buckets, Holds, first_key, first_of, first_mote}
 use Rattle.window_law.proofs.Lists.{any_every}
-use Rattle.net_agenda.proofs.Gathered.{any_from_some}
-use Rattle.net_agenda.proofs.Keys.{key_is}
+use Rattle.net_agenda.proofs.Keys.{same_number}
+use Rattle.net_agenda.proofs.Moments.{there_of}
 
 -- how many turns there may still be, where this is to come first
 abbrev pub turns_left : (motes end : ℕ) → Option (ℕ × ℕ) → ℕ
@@ -29,19 +30,22 @@ later_place n t m u k h e =
     elim (place t m u k h) [ inl g ↦ over_row n t u m k g e | inr g ↦ (let r = g.1 in let q : u * n ≡ t * n = ap (λ x. x * n) g.0 in omega arith) ]
 
 pub first_due : (buckets : Buckets) (items : List Item) (u k : ℕ) → Holds buckets items → first_key buckets ≡ Some (u, k) → list_any (comes_at u k) items ≡ true
-first_due buckets items u k holds e = of buckets.entries refl
+first_due buckets items u k holds e = of buckets.entries refl (e)
   where
-    at : (es : List ((ℕ × ℕ) × Bucket)) → option_map (λ (x : (ℕ × ℕ) × Bucket). x.0) (slice_get es 0) ≡ Some (u, k) → (b : Bucket) × (lookup (is_at (key_cmp (u, k))) es ≡ Some b)
-    at [] f = absurd (cc)
-    at (x ∷ es) f =
-        let g : x.0 ≡ (u, k) = cc in
-        let i = eq-eqb u u refl in
-        let j = eq-eqb k k refl in
-        let self : is_at (key_cmp (u, k)) x.0 ≡ true = ap (is_at (key_cmp (u, k))) g ∙ (key_is u k u k ∙ rw (i, j) refl) in
-        (x.1, rw self refl)
-
-    of : (es : List ((ℕ × ℕ) × Bucket)) → es ≡ buckets.entries → list_any (comes_at u k) items ≡ true
-    of es f = let b = at buckets.entries e in any_from_some u k items (told_bucket b.0) (sym (holds u k) ∙ ap (option_map told_bucket) b.1)
+    of : (es : List (ℕ × Bucket)) → es ≡ buckets.entries → first_key buckets ≡ Some (u, k) → list_any (comes_at u k) items ≡ true
+    of [] f e = let g : first_key buckets ≡ None = ap (λ l. first_of (slice_get l 0)) (sym f) in absurd (cc)
+    of (x ∷ es) f e =
+        let g : first_key buckets ≡ option_map {U = ℕ × ℕ} (λ m. (x.0, m)) (first_mote x.1) = ap (λ l. first_of (slice_get l 0)) (sym f) in
+        let i = eq-eqb x.0 x.0 refl in
+        let self : is_at (nat_cmp x.0) x.0 ≡ true = same_number x.0 x.0 ∙ i in
+        let found : get nat_cmp buckets x.0 ≡ Some x.1 = ap (lookup (is_at (nat_cmp x.0))) (sym f) ∙ (rw self refl) in
+        at x.0 x.1 found (first_mote x.1) refl (sym g ∙ e)
+      where
+        at : (t : ℕ) (b : Bucket) → get nat_cmp buckets t ≡ Some b → (o : Option ℕ) → first_mote b ≡ o → option_map {U = ℕ × ℕ} (λ m. (t, m)) o ≡ Some (u, k) → list_any (comes_at u k) items ≡ true
+        at t b found None h e = absurd (cc)
+        at t b found (Some m) h e =
+            let same : ◌≡◌ {A = ℕ × ℕ} (t, m) (u, k) = cc in
+            subst (λ p. list_any (comes_at p.0 p.1) items ≡ true) same (there_of buckets t m b items holds found h)
 
 -- what is to come first is later, where nothing is left up to a place
 pub left_falls : (motes end t m : ℕ) (items : List Item) (old new : Option (ℕ × ℕ)) (buckets : Buckets) → old ≡ Some (t, m) → m < motes → t ≤ end

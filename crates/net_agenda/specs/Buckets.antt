@@ -1,37 +1,33 @@
--- What an agenda has for one mote at one moment, gathered in a bucket.
-use Rattle.std.specs.Prelude.{ℕ, ◌≡◌, Bool, true, false, ◌&&◌, ◌==◌, if◌then◌else◌, List, [], ◌∷◌, ◌++◌, map, Option, Some, None, option_map, slice_get}
-use Rattle.std.specs.List.{list_any, filter}
-use Rattle.std.specs.Ordering.{nat_cmp, ordering_then}
-use Rattle.std.specs.declared.cmp.Ordering.{Ordering}
+-- What an agenda has for the motes at each moment, gathered in a bucket.
+use Rattle.std.specs.Prelude.{ℕ, suc, ◌≡◌, ◌≤◌, ◌-◌, Bool, true, false, not, ◌&&◌, ◌==◌, nat_lt, if◌then◌else◌, List, [], ◌∷◌, ◌++◌, length, map, Option, Some, None, option_map, is_some, slice_get}
+use Rattle.std.specs.List.{filter, filter_map, AllByRecursion}
+use Rattle.std.specs.Ordering.{nat_cmp}
 use Rattle.std.specs.BTreeMap.{BTreeMap, get}
 use Rattle.radio_packet.specs.declared.arrival.Arrival.{Arrival}
-use Rattle.radio_packet.specs.declared.copy.RadioCopy.{RadioCopy}
 use Rattle.net_agenda.specs.declared.bucket.Bucket.{Bucket}
+use Rattle.net_agenda.specs.declared.bucket.Coming.{Coming}
+pub use Rattle.net_agenda.specs.Arrivals.{arrival_of}
 use Rattle.window_law.specs.Order.{sorted_by, in_order}
 use Rattle.window_law.specs.Agenda.{Item, Wake, Packet, comes_at, packets}
-
--- what a mote is given of a copy
-abbrev pub arrival_of : RadioCopy → Arrival
-arrival_of copy = record { sender = copy.sender; number = copy.number; value = copy.value }
 
 -- by sender, then by number; those with the same of both keep their order
 abbrev pub arrivals_in_order : List Arrival → List Arrival
 arrivals_in_order arrivals = sorted_by (λ arrival. arrival.sender) (λ arrival. arrival.number) arrivals
 
--- whether the mote wakes, and the copies for it, as they came
+-- how often the mote wakes, and the copies for it, as they came
 pub record Due : Type 0 where
-  pub wakes : Bool
+  pub wakes : ℕ
   pub copies : List Arrival
 
 abbrev pub nothing_due : Due
-nothing_due = record { wakes = false; copies = [] }
+nothing_due = record { wakes = 0; copies = [] }
 
 abbrev pub is_wake : Item → Bool
 is_wake (Wake moment mote) = true
 is_wake (Packet copy) = false
 
 abbrev pub due_all : List Item → Due
-due_all items = record { wakes = list_any is_wake items; copies = map arrival_of (packets items) }
+due_all items = record { wakes = length (filter is_wake items); copies = map arrival_of (packets items) }
 
 -- what items for one mote at one moment come to, if there are any
 abbrev pub gathered : List Item → Option Due
@@ -42,33 +38,97 @@ gathered (item ∷ items) = Some (due_all (item ∷ items))
 abbrev pub due_of : (moment mote : ℕ) → List Item → Option Due
 due_of moment mote items = gathered (filter (comes_at moment mote) items)
 
-abbrev pub told_bucket : Bucket → Due
-told_bucket b = record { wakes = b.wakes; copies = b.copies.items }
+-- one bucket: what is to come at a moment
 
--- the order of the keys: by moment, then by mote
-abbrev pub key_cmp : ℕ × ℕ → ℕ × ℕ → Ordering
-key_cmp x y = ordering_then (nat_cmp x.0 y.0) (nat_cmp x.1 y.1)
+abbrev pub is_for : (mote : ℕ) → Coming → Bool
+is_for mote coming = coming.mote == mote
+
+abbrev pub of_mote : (mote : ℕ) → List Coming → List Coming
+of_mote mote all = filter (is_for mote) all
+
+abbrev pub is_packet : Coming → Bool
+is_packet coming = is_some coming.packet
+
+abbrev pub is_wake_for : (mote : ℕ) → Coming → Bool
+is_wake_for mote coming = is_for mote coming && not (is_packet coming)
+
+abbrev pub packets_of : List Coming → List Arrival
+packets_of all = filter_map (λ coming. coming.packet) all
+
+-- no mote is above one before it
+abbrev pub Falls : List Coming → Type 0
+Falls [] = Unit {0}
+Falls (first ∷ rest) = AllByRecursion (λ coming. coming.mote ≤ first.mote) rest × Falls rest
+
+abbrev pub FallsIfSaid : Bucket → Type 0
+FallsIfSaid bucket = bucket.falls ≡ true → Falls bucket.coming.items
+
+abbrev pub is_nothing : List Coming → Bool
+is_nothing [] = true
+is_nothing (first ∷ rest) = false
+
+abbrev pub lower_mote : Option ℕ → ℕ → Option ℕ
+lower_mote None mote = Some mote
+lower_mote (Some other) mote = if nat_lt mote other then Some mote else Some other
+
+abbrev pub least_from : Option ℕ → List Coming → Option ℕ
+least_from least [] = least
+least_from least (first ∷ rest) = least_from (lower_mote least first.mote) rest
+
+abbrev pub least_mote : List Coming → Option ℕ
+least_mote all = least_from None all
+
+-- the least mote, which is that of the last where the motes fall
+abbrev pub first_mote : Bucket → Option ℕ
+first_mote bucket = if bucket.falls then option_map (λ coming. coming.mote) (slice_get bucket.coming.items (length bucket.coming.items - 1)) else least_mote bucket.coming.items
+
+-- all of this mote was taken out; the others keep theirs
+pub record IsTaken (mote : ℕ) (old new : Bucket) : Type 0 where
+  pub others : (other : ℕ) → of_mote other new.coming.items ≡ (if mote == other then [] else of_mote other old.coming.items)
+  pub falls : FallsIfSaid new
+
+pub record IsReady (bucket : Bucket) : Type 0 where
+  pub filled : is_nothing bucket.coming.items ≡ false
+  pub falls : FallsIfSaid bucket
+
+-- the buckets of all moments
 
 abbrev pub Buckets : Type 0
-Buckets = BTreeMap (ℕ × ℕ) Bucket
+Buckets = BTreeMap ℕ Bucket
+
+-- the item that is to come at a moment
+abbrev pub item_of : (moment mote : ℕ) → Option Arrival → Item
+item_of moment mote None = Wake moment mote
+item_of moment mote (Some a) = Packet (record { at = moment; to = mote; sender = a.sender; number = a.number; value = a.value })
+
+abbrev pub item_at : (moment : ℕ) → Coming → Item
+item_at moment coming = item_of moment coming.mote coming.packet
+
+abbrev pub items_in : (moment : ℕ) → Option Bucket → List Item
+items_in moment None = []
+items_in moment (Some bucket) = map (item_at moment) bucket.coming.items
+
+abbrev pub items_at : Buckets → (moment : ℕ) → List Item
+items_at buckets moment = items_in moment (get nat_cmp buckets moment)
 
 abbrev pub due_in : Buckets → (moment mote : ℕ) → Option Due
-due_in buckets moment mote = option_map told_bucket (get key_cmp buckets (moment, mote))
+due_in buckets moment mote = due_of moment mote (items_at buckets moment)
 
--- the key is this one
+-- the place is this one
 abbrev pub is_here : (moment mote t k : ℕ) → Bool
 is_here moment mote t k = (moment == t) && (mote == k)
 
--- the buckets hold the items of this agenda: each has all that is due there, and no bucket is empty
-abbrev pub Holds : Buckets → List Item → Type 0
-Holds buckets items = (moment mote : ℕ) → due_in buckets moment mote ≡ due_of moment mote items
+-- the buckets hold the items of this agenda: each has all that is due there, no bucket is empty, and the motes of one that says so fall
+pub record Holds (buckets : Buckets) (items : List Item) : Type 0 where
+  pub due : (moment mote : ℕ) → due_in buckets moment mote ≡ due_of moment mote items
+  pub ready : (moment : ℕ) (bucket : Bucket) → get nat_cmp buckets moment ≡ Some bucket → IsReady bucket
 
 -- a packet more
 abbrev pub with_copy : Arrival → Due → Due
 with_copy a due = record due { copies = due.copies ++ a ∷ [] }
 
 abbrev pub with_wake : Due → Due
-with_wake due = record due { wakes = true }
+with_wake due = record due { wakes = suc due.wakes }
 
 abbrev pub is_none_left : List Arrival → Bool
 is_none_left [] = true
@@ -77,7 +137,7 @@ is_none_left (a ∷ rest) = false
 -- without the wake, where packets are left
 abbrev pub without_wake : Option Due → Option Due
 without_wake None = None
-without_wake (Some due) = if is_none_left due.copies then None else Some (record due { wakes = false })
+without_wake (Some due) = if is_none_left due.copies then None else Some (record due { wakes = 0 })
 
 -- a wake at another moment than this
 abbrev pub wake_but_at : (moment : ℕ) → Option ℕ → Option ℕ
@@ -88,6 +148,10 @@ wake_but_at moment (Some wake) = if wake == moment then None else Some wake
 abbrev pub arrivals_at : (moment mote : ℕ) → List Item → List Arrival
 arrivals_at moment mote items = map arrival_of (in_order (packets (filter (comes_at moment mote) items)))
 
--- the least key
+abbrev pub first_of : Option (ℕ × Bucket) → Option (ℕ × ℕ)
+first_of None = None
+first_of (Some entry) = option_map (λ mote. (entry.0, mote)) (first_mote entry.1)
+
+-- the least moment, and the least mote of its bucket
 abbrev pub first_key : Buckets → Option (ℕ × ℕ)
-first_key buckets = option_map (λ e. e.0) (slice_get buckets.entries 0)
+first_key buckets = first_of (slice_get buckets.entries 0)

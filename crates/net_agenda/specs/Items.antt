@@ -1,24 +1,24 @@
 -- The items that are in buckets, read back from them.
-use Rattle.std.specs.Prelude.{ℕ, ◌≡◌, ◌≤◌, Bool, ◌&&◌, if◌then◌else◌, List, [], ◌∷◌, ◌++◌, length, map}
+use Rattle.std.specs.Prelude.{ℕ, ◌≡◌, ◌≤◌, Bool, ◌&&◌, List, length, map}
 use Rattle.std.specs.List.{filter, list_any, flat_map}
 use Rattle.std.specs.List.Sorted.{IsPermutation}
 use Rattle.radio_packet.specs.declared.arrival.Arrival.{Arrival}
 use Rattle.radio_packet.specs.declared.copy.RadioCopy.{RadioCopy}
 use Rattle.net_agenda.specs.declared.bucket.Bucket.{Bucket}
-use Rattle.window_law.specs.Agenda.{Item, Wake, Packet, comes_at, packets}
-use Rattle.net_agenda.specs.Buckets.{Buckets, is_wake}
+use Rattle.window_law.specs.Agenda.{Item, comes_at, packets}
+use Rattle.net_agenda.specs.Buckets.{Buckets, is_wake, item_at}
 
 -- the copy of which a mote is given this at a moment
 abbrev pub copy_at : (moment mote : ℕ) → Arrival → RadioCopy
 copy_at moment mote a = record { at = moment; to = mote; sender = a.sender; number = a.number; value = a.value }
 
--- the items of one bucket: the mote's wake, if it wakes, then its packets
-abbrev pub bucket_items : (moment mote : ℕ) → Bucket → List Item
-bucket_items moment mote bucket = (if bucket.wakes then Wake moment mote ∷ [] else []) ++ map Packet (map (copy_at moment mote) bucket.copies.items)
+-- the items of one bucket: wakes and packets, as they stand there
+abbrev pub bucket_items : (moment : ℕ) → Bucket → List Item
+bucket_items moment bucket = map (item_at moment) bucket.coming.items
 
--- the items of all buckets, one bucket after another, in the order of the keys: a key has the moment, then the mote
+-- the items of all buckets, one bucket after another, in the order of the moments
 abbrev pub items_of : Buckets → List Item
-items_of buckets = flat_map (λ entry. bucket_items entry.0.0 entry.0.1 entry.1) buckets.entries
+items_of buckets = flat_map (λ entry. bucket_items entry.0 entry.1) buckets.entries
 
 -- a wake of this mote at this moment
 abbrev pub is_wake_at : (moment mote : ℕ) → Item → Bool

@@ -1,3 +1,4 @@
+pub mod Arrivals
 pub mod Buckets
 pub mod Items
 pub mod NetSystem

@@ -1,21 +1,21 @@
-//! What is to come in a net, in buckets by moment and mote.
+//! What is to come in a net, in a bucket for each moment.
 
-ghost use Rattle.std.specs.Prelude.{◌≡◌, ℕ, length, not, List, [], ◌∷◌, ◌++◌, map, OnOk, IfOk, IfSome, MatchOption, Some, None, if◌then◌else◌, ◌&&◌, ◌==◌, option_map, unwrap_or};
+ghost use Rattle.std.specs.Prelude.{◌≡◌, ℕ, length, not, List, [], ◌∷◌, ◌++◌, map, OnOk, IfOk, MatchOption};
 ghost use Rattle.std.specs.List.{filter, filter_map};
 ghost use Rattle.radio_medium.specs.Medium.{copy_of};
 ghost use Rattle.window_law.specs.Agenda.{Item, Wake, Packet, IsLeast, comes_at, is_wake_of, packets, wake_items};
-ghost use Rattle.net_agenda.specs.Buckets.{Holds, due_in, due_of, told_bucket, nothing_due, is_here, arrivals_at, first_key};
+ghost use Rattle.net_agenda.specs.Buckets.{Holds, arrivals_at, first_key, item_at};
 
-use crate::bucket::Bucket;
+use crate::bucket::{Bucket, Coming};
 use radio_packet::{Arrival, Fate, RadioCopy, Sent};
 use std::alloc::{AllocError, Global};
 use std::collections::BTreeMap;
 
-/// The motes' wakes and the copies of packets on their way: all that is to come, by moment, then by mote.
+/// The motes' wakes and the copies of packets on their way: all that is to come, by moment.
 #[derive(Drop)]
 pub struct Agenda {
     alloc: Global,
-    pub buckets: BTreeMap<(u64, u16), Bucket>,
+    pub buckets: BTreeMap<u64, Bucket>,
 }
 
 impl Agenda {
@@ -29,22 +29,16 @@ impl Agenda {
         }
     }
 
-    /// Takes out the bucket of a mote at a moment, or makes an empty one.
-    fn take(&mut self, moment: u64, mote: u16) -> Bucket
-        ensures bucket { told_bucket result ≡ unwrap_or (due_in self.old.buckets moment mote) nothing_due }
-        ensures others { (t k : ℕ) → due_in self.new.buckets t k ≡ (if is_here moment mote t k then None else due_in self.old.buckets t k) }
+    /// Adds what is to come to a mote at a moment.
+    fn put(&mut self, moment: u64, coming: Coming) -> Result<(), AllocError>
+        ensures { OnOk result ((items : List Item) → Holds self.old.buckets items → Holds self.new.buckets (items ++ item_at moment coming ∷ [])) }
     {
-        match self.buckets.remove(&(moment, mote)) {
-            Some(bucket) => bucket,
-            None => Bucket::new(self.alloc),
+        if let Some(bucket) = self.buckets.get_mut(&moment) {
+            return bucket.put(coming);
         }
-    }
-
-    /// Puts a bucket in its place.
-    fn put(&mut self, moment: u64, mote: u16, bucket: Bucket) -> Result<(), AllocError>
-        ensures { OnOk result ((t k : ℕ) → due_in self.new.buckets t k ≡ (if is_here moment mote t k then Some (told_bucket bucket) else due_in self.old.buckets t k)) }
-    {
-        self.buckets.insert((moment, mote), bucket)?;
+        let mut bucket = Bucket::new(self.alloc);
+        bucket.put(coming)?;
+        self.buckets.insert(moment, bucket)?;
         Ok(())
     }
 
@@ -52,10 +46,7 @@ impl Agenda {
     pub fn put_wake(&mut self, moment: u64, mote: u16) -> Result<(), AllocError>
         ensures { OnOk result ((items : List Item) → Holds self.old.buckets items → Holds self.new.buckets (items ++ Wake moment mote ∷ [])) }
     {
-        let empty = Bucket::new(self.alloc);
-        let bucket = self.buckets.entry((moment, mote))?.or_insert(empty);
-        bucket.set_wake();
-        Ok(())
+        self.put(moment, Coming { mote, packet: None })
     }
 
     /// Adds the next wake of a mote, if it has one.
@@ -72,14 +63,18 @@ impl Agenda {
     fn put_copy(&mut self, copy: &RadioCopy) -> Result<(), AllocError>
         ensures { OnOk result ((items : List Item) → Holds self.old.buckets items → Holds self.new.buckets (items ++ Packet copy.now ∷ [])) }
     {
-        let empty = Bucket::new(self.alloc);
-        let bucket = self.buckets.entry((copy.at, copy.to))?.or_insert(empty);
-        bucket.put(Arrival {
+        let packet = Arrival {
             sender: copy.sender,
             number: copy.number,
             value: copy.value,
-        })?;
-        Ok(())
+        };
+        self.put(
+            copy.at,
+            Coming {
+                mote: copy.to,
+                packet: Some(packet),
+            },
+        )
     }
 
     /// Adds packets on their way.
@@ -122,17 +117,16 @@ impl Agenda {
     pub fn drop_wake(&mut self, wake: Option<u64>, mote: u16) -> Result<(), AllocError>
         ensures { OnOk result ((items : List Item) → Holds self.old.buckets items → filter (is_wake_of mote) items ≡ wake_items mote wake → Holds self.new.buckets (filter (λ item. not (is_wake_of mote item)) items)) }
     {
-        match wake {
-            Some(moment) => {
-                let mut bucket = self.take(moment, mote);
-                if bucket.has_packets() {
-                    bucket.wakes = false;
-                    self.put(moment, mote, bucket)?;
-                }
-                Ok(())
+        let Some(moment) = wake else {
+            return Ok(());
+        };
+        if let Some(bucket) = self.buckets.get_mut(&moment) {
+            bucket.drop_wake(mote);
+            if bucket.is_empty() {
+                let _bucket = self.buckets.remove(&moment);
             }
-            None => Ok(()),
         }
+        Ok(())
     }
 
     /// Moves the one wake of a mote, if it has one, to its next one.
@@ -157,7 +151,14 @@ impl Agenda {
         ensures copies { IfOk result (λ arrivals. (items : List Item) → Holds self.old.buckets items → arrivals.items ≡ arrivals_at moment mote items) }
         ensures rest { (items : List Item) → Holds self.old.buckets items → Holds self.new.buckets (filter (λ item. not (comes_at moment mote item)) items) }
     {
-        self.take(moment, mote).into_arrivals()
+        let Some(bucket) = self.buckets.get_mut(&moment) else {
+            return Ok(Vec::new(self.alloc));
+        };
+        let arrivals = bucket.take(self.alloc, mote);
+        if bucket.is_empty() {
+            let _bucket = self.buckets.remove(&moment);
+        }
+        arrivals
     }
 
     /// The moment and the mote of what is to come first.
@@ -166,7 +167,10 @@ impl Agenda {
         ensures least { (items : List Item) → Holds self.now.buckets items → MatchOption result (items ≡ []) (λ p. IsLeast p.0 p.1 items) }
     {
         match self.buckets.first_key_value() {
-            Some((key, _)) => Some(*key),
+            Some((moment, bucket)) => match bucket.first() {
+                Some(mote) => Some((*moment, mote)),
+                None => None,
+            },
             None => None,
         }
     }
@@ -175,10 +179,11 @@ impl Agenda {
     pub fn left(self) -> Result<u64, AllocError>
         ensures { (items : List Item) → Holds self.buckets items → IfOk result (λ left. left ≡ length (packets items)) }
     {
-        let mut left = Vec::new(self.alloc);
+        let mut left = Vec::with_capacity(self.alloc, self.buckets.len())?;
         let mut buckets = self.buckets;
         while let Some((_, mut bucket)) = buckets.pop_first() {
-            left.append(&mut bucket.copies)?;
+            bucket.drop_wakes();
+            left.append(&mut bucket.coming)?;
         }
         Ok(left.len() as u64)
     }

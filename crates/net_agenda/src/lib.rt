@@ -1,4 +1,4 @@
-//! What is to come in a net: an agenda in buckets, by moment, then by mote; and a net's motes as they begin.
+//! What is to come in a net: an agenda in buckets, one for each moment; and a net's motes as they begin.
 #![tactic(auto)]
 
 mod agenda;
@@ -6,5 +6,5 @@ mod bucket;
 mod mote;
 
 pub use agenda::Agenda;
-pub use bucket::Bucket;
+pub use bucket::{Bucket, Coming};
 pub use mote::new_mote;

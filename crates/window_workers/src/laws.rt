@@ -33,7 +33,7 @@ pub fn traces_hand_on()
 /// The items that are in the buckets of an agenda, read back from one bucket after another, are those of the net's one list: the
 /// same packets, each as often, and a wake of a mote at a moment where the list has one; so they are a permutation of the list where
 /// no mote has two wakes at one moment. The map is asked for its length since it then says that its keys rise: no two
-/// buckets are of one mote and moment.
+/// buckets are of one moment.
 pub fn buckets_hold_items(agenda: &Agenda)
     ensures { BucketsHoldItems agenda.now.buckets }
 {

@@ -1,20 +1,42 @@
-use Rattle.std.proofs.Common.{ap, ◌∙◌}
-use Rattle.net_agenda.specs.Buckets.{due_in, told_bucket}
-use Rattle.window_law.proofs.Lists.{filter_not}
-use Rattle.net_agenda.proofs.Gathered.{Is, unwoken_left, unwoken_gone}
+use Rattle.std.proofs.Common.{rules, ◌≡◌, ap, ◌∙◌, subst, sym, refl, not, IsSome, Some, None}
+use Rattle.std.specs.List.{filter}
+use Rattle.std.specs.Ordering.{nat_cmp}
+use Rattle.std.specs.BTreeMap.{get}
 use Rattle.window_law.specs.Agenda.{is_wake_of, wake_items}
-use Rattle.std.proofs.Common.{subst, sym, not}
+use Rattle.window_law.proofs.Lists.{filter_not}
+use Rattle.net_agenda.specs.Buckets.{Buckets, Holds}
+use Rattle.net_agenda.proofs.Moments.{unwoken, none_unwoken, changed_left, changed_gone}
 use Rattle.net_agenda.proofs.agenda.Agenda.drop_wake.Goals as goal
 
-pub returns-in_ok-put-in-Some : goal.returns-in_ok-put-in-Some
-returns-in_ok-put-in-Some c = λ items holds one.
-    unwoken_left (due_in c.args.self.now.buckets) (due_in c.take-bucket.new.self.buckets) (due_in c.put.new.self.buckets) c.in-Some.moment c.args.mote (told_bucket c.take-bucket.result) items
-    holds (one ∙ ap (wake_items c.args.mote) c.in-Some.is) c.take-bucket.ensures.bucket (c.has_packets.ensures ∙ ap not c.if-has_packets.true) c.take-bucket.ensures.others c.in_ok-put-in-Some.ensures
+pub returns-in_default : goal.returns-in_default
+returns-in_default c = λ items holds none. subst (Holds c.args.self.now.buckets) (sym (filter_not (is_wake_of c.args.mote) items (none ∙ ap (wake_items c.args.mote) c.in_default.is))) holds
 
-pub returns-else-has_packets : goal.returns-else-has_packets
-returns-else-has_packets c = λ items holds one.
-    unwoken_gone (due_in c.args.self.now.buckets) (due_in c.take-bucket.new.self.buckets) c.in-Some.moment c.args.mote (told_bucket c.take-bucket.result) items
-    holds (one ∙ ap (wake_items c.args.mote) c.in-Some.is) c.take-bucket.ensures.bucket (c.has_packets.ensures ∙ ap not c.if-has_packets.false) c.take-bucket.ensures.others
+pub returns-then-is_empty : goal.returns-then-is_empty
+returns-then-is_empty c = λ items holds one.
+    let old = c.args.self.now.buckets in
+    let t = c.in-Some.moment in
+    let b = c.in-Some-get_mut.bucket.now in
+    let d = c.drop_wake.new.self in
+    let found : get nat_cmp old t ≡ Some b = sym c.in-Some-get_mut.ensures.value in
+    let put = ((c.get_mut.follows.holds d).3 (subst IsSome (sym found) refl)).0 in
+    unwoken old c.remove-bucket.new.self t c.args.mote b d items holds found c.drop_wake.ensures.rest (c.drop_wake.ensures.falls (holds.ready t b found).falls) (one ∙ ap (wake_items c.args.mote) c.in-Some.is)
+    (changed_gone old (c.get_mut.follows.lender d) c.remove-bucket.new.self t d (sym c.is_empty.ensures ∙ c.if-is_empty.true) put c.remove-bucket.ensures.updates.0)
 
-pub returns-in-None : goal.returns-in-None
-returns-in-None c = λ items holds none. subst (Is (due_in c.args.self.now.buckets)) (sym (filter_not (is_wake_of c.args.mote) items (none ∙ ap (wake_items c.args.mote) c.in-None.is))) holds
+pub returns-else-is_empty : goal.returns-else-is_empty
+returns-else-is_empty c = λ items holds one.
+    let old = c.args.self.now.buckets in
+    let t = c.in-Some.moment in
+    let b = c.in-Some-get_mut.bucket.now in
+    let d = c.drop_wake.new.self in
+    let found : get nat_cmp old t ≡ Some b = sym c.in-Some-get_mut.ensures.value in
+    let put = ((c.get_mut.follows.holds d).3 (subst IsSome (sym found) refl)).0 in
+    unwoken old (c.get_mut.follows.lender d) t c.args.mote b d items holds found c.drop_wake.ensures.rest (c.drop_wake.ensures.falls (holds.ready t b found).falls) (one ∙ ap (wake_items c.args.mote) c.in-Some.is)
+    (changed_left old (c.get_mut.follows.lender d) t d (sym c.is_empty.ensures ∙ c.if-is_empty.false) put)
+
+pub returns-in_default-get_mut : goal.returns-in_default-get_mut
+returns-in_default-get_mut c = λ items holds one.
+    let old = c.args.self.now.buckets in
+    let t = c.in-Some.moment in
+    let none : get nat_cmp old t ≡ None = search rules in
+    subst (λ (m : Buckets). Holds m (filter (λ item. not (is_wake_of c.args.mote item)) items)) (sym c.get_mut.follows.holds-at-none)
+    (none_unwoken old t c.args.mote items holds none (one ∙ ap (wake_items c.args.mote) c.in-Some.is))

@@ -1,10 +1,17 @@
+use Rattle.std.proofs.Common.{sym, ◌∙◌}
 use Rattle.std.proofs.lemmas.List.{nil_from_length}
-use Rattle.net_agenda.proofs.Gathered.{least_of, none_of, zero_from}
+use Rattle.net_agenda.proofs.Falls.{first_some}
+use Rattle.net_agenda.proofs.Gathered.{zero_from}
+use Rattle.net_agenda.proofs.Moments.{least_of, none_of}
 use Rattle.net_agenda.proofs.agenda.Agenda.first.Goals as goal
 
-pub returns-in-Some-clause-least : goal.returns-in-Some-clause-least
-returns-in-Some-clause-least c = λ items holds.
-    least_of c.args.self.now.buckets c.in-Some.key.now.0 c.in-Some.key.now.1 c.in-Some.field-0-1.now items holds c.in-Some.ensures.value c.in-Some.ensures.least
+pub returns-in-Some-first-clause-least : goal.returns-in-Some-first-clause-least
+returns-in-Some-first-clause-least c = λ items holds.
+    least_of c.args.self.now.buckets c.in-Some.moment.now c.in-Some-first.mote c.in-Some.bucket.now items holds c.in-Some.ensures.value (sym c.first.ensures ∙ c.in-Some-first.is) c.in-Some.ensures.least
+
+pub returns-in-None-first-clause-least : goal.returns-in-None-first-clause-least
+returns-in-None-first-clause-least c = λ items holds.
+    absurd (first_some c.in-Some.bucket.now (holds.ready c.in-Some.moment.now c.in-Some.bucket.now c.in-Some.ensures.value) (sym c.first.ensures ∙ c.in-None-first.is))
 
 pub returns-in-None-clause-least : goal.returns-in-None-clause-least
 returns-in-None-clause-least c = λ items holds.

@@ -1,11 +1,11 @@
-use Rattle.std.proofs.Common.{List, length}
-use Rattle.window_law.specs.Agenda.{Item}
+use Rattle.std.proofs.Common.{◌≡◌, ◌+◌, List, length}
+use Rattle.window_law.specs.Agenda.{Item, packets}
 use Rattle.net_agenda.specs.Buckets.{Holds}
-use Rattle.net_agenda.proofs.Gathered.{IsPart}
+use Rattle.net_agenda.proofs.Items.{items_among}
 use Rattle.net_agenda.proofs.agenda.Agenda.left.Given as goal
 
 abbrev pub invariant-loop-bucket : goal.invariant-loop-bucket
-invariant-loop-bucket l = (items : List Item) → Holds l.fn.self.buckets items → IsPart l.buckets (length l.left.items) items
+invariant-loop-bucket l = (items : List Item) → Holds l.fn.self.buckets items → length l.left.items + length (packets (items_among l.buckets.entries)) ≡ length (packets items)
 
 abbrev pub decreases-loop-bucket : goal.decreases-loop-bucket
 decreases-loop-bucket l = length l.buckets.entries
