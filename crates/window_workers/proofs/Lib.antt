@@ -8,6 +8,7 @@ pub mod Handed
 pub mod Joined
 pub mod Kept
 pub mod OneWake
+pub mod Marked
 pub mod OnTime
 pub mod Pairs
 pub mod Reached

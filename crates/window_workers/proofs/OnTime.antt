@@ -1,5 +1,5 @@
 -- The run of a net gives each mote its turns at rising moments.
-use Rattle.std.proofs.Common.{◌≡◌, ◌⊎◌, ℕ, suc, length, ◌<◌, ◌≤◌, true, false, not, ◌&&◌, ◌||◌, nat_le, ltb, eqb, List, [], ◌∷◌, ◌++◌, map, get_or, Option, Some, None, refl, sym, ap, ◌∙◌, subst, inl, inr, arith, zero-le}
+use Rattle.std.proofs.Common.{◌≡◌, ◌⊎◌, ℕ, suc, length, ◌<◌, ◌≤◌, true, false, not, ◌&&◌, ◌||◌, nat_le, ltb, eqb, List, [], ◌∷◌, map, get_or, Option, Some, None, refl, sym, ap, ◌∙◌, subst, inl, inr, arith, zero-le}
 use Rattle.std.specs.List.{filter, flat_map, AllByRecursion}
 use Rattle.std.proofs.lemmas.Bool.{cases_eq, eq-eqb, ne_eqb, eqb-true, and_parts}
 use Rattle.std.proofs.lemmas.Bool.Decides.{nat_tests}
@@ -11,7 +11,7 @@ use Rattle.mote_node.specs.Node.{Node, new_node, is_past}
 use Rattle.mote_node.specs.Public.{node_in}
 use Rattle.mote_node.specs.Turn.{turn_of}
 use Rattle.mote_net.specs.Net.{NetTold}
-use Rattle.window_law.specs.System.{Turned, IsCopyOf, RunsForward, IsLater}
+use Rattle.window_law.specs.System.{Turned, IsCopyOf, RunsForward}
 use Rattle.window_law.specs.Agenda.{Item, Packet, moment_of, mote_of, comes_at, is_left, is_from, wake_items, IsLeast}
 use Rattle.window_law.specs.NetStep.{NetState, boot, put, stamped, turned_at, turn_at}
 use Rattle.window_law.proofs.Ahead.{turn_ahead}

@@ -1,5 +1,5 @@
 -- What is left at the end for one worker: what was still to come to its motes, and what lies in its inbox.
-use Rattle.std.proofs.Common.{◌≡◌, ℕ, suc, ◌+◌, ◌≤◌, false, not, ltb, List, [], ◌++◌, length, refl, sym, ap, ◌∙◌, arith, append-nil, length-append, Option}
+use Rattle.std.proofs.Common.{◌≡◌, ℕ, suc, ◌+◌, ◌≤◌, false, not, ltb, List, [], ◌++◌, length, sym, ap, ◌∙◌, arith, append-nil, length-append, Option}
 use Rattle.std.specs.Prelude.{IsPermutation}
 use Rattle.std.specs.List.{filter}
 use Rattle.std.proofs.lemmas.Bool.Decides.{nat_tests}

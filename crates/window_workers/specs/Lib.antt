@@ -9,3 +9,4 @@ pub mod Over
 pub mod RunErrors
 pub mod Stamps
 pub mod Stands
+pub mod Sync

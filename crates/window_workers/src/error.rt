@@ -4,6 +4,7 @@ ghost use Rattle.std.specs.Prelude.{◌≡◌, Some};
 ghost use Rattle.window_workers.specs.declared.error.RunError.TheVariants.{Memory};
 ghost use Rattle.window_workers.specs.Fits.{of_refused};
 
+use crate::sync::SyncKind;
 use copy_inbox::InboxError;
 use fork_join::Refused;
 use std::alloc::AllocError;
@@ -23,6 +24,8 @@ pub enum RunError {
     Memory = 4,
     /// A thread couldn't be started, the gate refused a start, or the executor in a thread answered an error.
     Thread = 5,
+    /// With marks: a worker ended since another failed, and none of them found `Memory` or `Thread`.
+    Stopped = 6,
 }
 
 impl fmt::Display for RunError {
@@ -37,6 +40,7 @@ impl fmt::Display for RunError {
             RunError::CutWorker => f.write_str("run fault 3"),
             RunError::Memory => f.write_str("out of memory"),
             RunError::Thread => f.write_str("run fault 5"),
+            RunError::Stopped => f.write_str("run fault 6"),
         }
     }
 }
@@ -59,14 +63,14 @@ impl From<InboxError> for RunError {
     }
 }
 
-impl From<Refused> for RunError {
-    ghost from_gives = { λ refused e. e ≡ of_refused refused };
-
-    fn from(refused: Refused) -> RunError {
-        match refused {
-            Refused::Memory => RunError::Memory,
-            // Between two windows all workers are joined, so none stops for another.
-            Refused::Thread | Refused::Stopped => RunError::Thread,
-        }
+/// Why a worker gave up, as an error of the run. With joins all workers are joined between two windows, so none stops for
+/// another.
+pub(crate) fn of_refused(sync: SyncKind, refused: Refused) -> RunError
+    ensures { result ≡ of_refused sync refused }
+{
+    match (refused, sync) {
+        (Refused::Memory, _) => RunError::Memory,
+        (Refused::Thread, _) | (Refused::Stopped, SyncKind::Joins) => RunError::Thread,
+        (Refused::Stopped, SyncKind::Marks) => RunError::Stopped,
     }
 }

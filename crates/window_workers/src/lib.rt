@@ -9,6 +9,7 @@ pub mod laws;
 mod medium_log;
 mod sends;
 mod serial;
+mod sync;
 mod traces;
 mod workers;
 
@@ -16,6 +17,7 @@ pub use error::RunError;
 pub use fits::MOST_WORKERS;
 pub use net_report::{LogLine, Report};
 pub use serial::run_serial;
+pub use sync::SyncKind;
 pub use window_run::{Gate, MoteWindow, NoGate, WindowOut};
 pub use worker_cut::Cut;
 pub use workers::{run_inboxes, run_workers};

@@ -1,23 +1,30 @@
-//! The run of a net by workers, each in threads of its own, window by window.
+//! The run of a net by workers, each in threads of its own, window by window, or in one thread for the whole run.
 
-ghost use Rattle.std.specs.Prelude.{◌≡◌, suc, length, map, vec_len, All, None, IfOk, IfErr};
-ghost use Rattle.std.specs.List.{AllByRecursion as Each};
+ghost use Rattle.std.specs.Prelude.{◌≡◌, ◌≤◌, suc, length, map, vec_len, All, None, IfOk, IfErr};
+ghost use Rattle.std.specs.List.{AllByRecursion as Each, AllZip, zip};
 ghost use Rattle.kernel_laws.specs.Going.{IsInOrder};
 ghost use Rattle.mote_net.specs.Net.{net_of};
-ghost use Rattle.copy_exchange.specs.Inboxes.{IsFresh, IsPlain, IsSettled};
+ghost use Rattle.copy_inbox.specs.Gathered.{Whole, known_of};
+ghost use Rattle.copy_exchange.specs.Inboxes.{IsFresh, IsSettled};
 ghost use Rattle.worker_crew.specs.Crew.{IsAt};
+ghost use Rattle.worker_crew.specs.Start.{AreFirst};
+ghost use Rattle.worker_crew.specs.Worker.{IsCut};
 ghost use Rattle.net_report.specs.Report.{report_of};
 ghost use Rattle.window_workers.specs.Carried.{AllCarried};
 ghost use Rattle.window_workers.specs.Fits.{cut_fault, IsAnswerTo};
 ghost use Rattle.window_workers.specs.NetRun.{IsReportOf};
+ghost use Rattle.window_workers.specs.Sync.{IsFor};
+ghost use Rattle.window_workers.specs.declared.sync.SyncKind.TheVariants.{Marks};
 
 use crate::ended::{end_all, left_of_all};
-use crate::error::RunError;
+use crate::error::{RunError, of_refused};
 use crate::fits::fault_of;
 use crate::medium_log::medium_log;
+use crate::sync::SyncKind;
 use crate::traces::joined_traces;
 use copy_exchange::{make_inboxes, paired, parted};
 use copy_inbox::{Inbox, Taker};
+use mark_crew::run_marked;
 use mote_net::Net;
 use net_report::Report;
 use std::alloc::{AllocGlobal, Global};
@@ -38,6 +45,7 @@ fn told(
     requires { let n = net_of net.now in IsAt n of.now (suc n.end) crew }
     ensures report { IfOk result (λ r. IsReportOf (net_of net.now) (report_of r.0)) }
     ensures inboxes { IfOk result (λ r. map (λ pair. pair.0) r.1.items ≡ crew.inboxes.items) }
+    ensures pairs { IfOk result (λ r. r.1.items ≡ zip crew.inboxes.items crew.takers.items) }
     ensures settled { IfOk result (λ r. Each (λ pair. IsSettled pair.0 pair.1) r.1.items) }
     ensures carried { IfOk result (λ r. AllCarried (net_of net.now) of.now (report_of r.0) r.1.items) }
     ensures err { IfErr result (λ e. e ≡ RunError.Memory) }
@@ -64,17 +72,55 @@ fn told(
     Ok((report, pairs))
 }
 
+/// All windows of the run, by workers that wait for one another in this way.
+fn run_crew<R, G>(
+    rt: &R,
+    alloc: Global,
+    net: &Net,
+    of: &[u16],
+    longest: u32,
+    sync: SyncKind,
+    gate: &G,
+    crew: Crew,
+) -> Result<Crew, RunError>
+where
+    R: Threads + Wait + RandomSource + AllocGlobal + Sync,
+    G: Gate + Sync,
+    requires few { length crew.inboxes.items ≤ 16 }
+    requires cut { IsCut (length (net_of net.now).motes) (length crew.inboxes.items) of.now }
+    requires at { IsAt (net_of net.now) of.now 0 crew }
+    requires fresh { AllZip IsFresh crew.inboxes.items crew.takers.items }
+    requires kind { Each (IsFor sync) crew.takers.items }
+    requires first { AreFirst (net_of net.now) of.now (length crew.inboxes.items) crew.shares.items }
+    ensures at { let n = net_of net.now in IfOk result (λ done. IsAt n of.now (suc n.end) done) }
+    ensures inboxes { IfOk result (λ done. done.inboxes.items ≡ crew.inboxes.items) }
+    ensures all_taken { IfOk result (λ done. sync ≡ Marks → Each (λ taker. Whole taker.desk.gathered taker.desk.taken) done.takers.items) }
+    ensures err { IfErr result (IsAnswerTo sync None) }
+{
+    let ran = match sync {
+        SyncKind::Joins => run_windows(rt, alloc, net, of, longest, gate, crew),
+        SyncKind::Marks => run_marked(rt, alloc, net, of, longest, gate, crew),
+    };
+    match ran {
+        Ok(crew) => Ok(crew),
+        Err(refused) => Err(of_refused(sync, refused)),
+    }
+}
+
 /// The report of a net, by one worker for each inbox: copies from a mote of one worker to a mote of another go through the inbox of
-/// the receiver's worker. It is the report of one thread, whatever the cut. At the end every sender is gathered.
+/// the receiver's worker. It is the report of one thread, whatever the cut, and however workers wait for one another: with joins
+/// the inboxes have no marks, and with marks they have. At the end every sender is gathered.
 ///
 /// # Errors
 /// `Workers`, `CutLength` and `CutWorker` exactly where the cut doesn't fit, the first of them that holds; else `Memory`, or `Thread`
-/// where a thread couldn't be started, the gate refused a start, or an executor answered an error. The inboxes are then given up.
+/// where a thread couldn't be started, the gate refused a start, or an executor answered an error; with marks also `Stopped`, where
+/// a worker stopped for another and none found one of these. The inboxes are then given up.
 pub fn run_inboxes<R, G>(
     rt: &R,
     alloc: Global,
     net: &Net,
     cut: &Cut,
+    sync: SyncKind,
     gate: &G,
     pairs: Vec<(Inbox, Taker)>,
 ) -> Result<(Report, Vec<(Inbox, Taker)>), RunError>
@@ -82,7 +128,7 @@ where
     R: Threads + Wait + RandomSource + AllocGlobal + Sync,
     G: Gate + Sync,
     requires fresh { Each (λ pair. IsFresh pair.0 pair.1) pairs.items }
-    requires plain { Each (λ pair. IsPlain pair.1) pairs.items }
+    requires kind { Each (λ pair. IsFor sync pair.1) pairs.items }
     ensures report { IfOk result (λ r. IsReportOf (net_of net.now) (report_of r.0)) }
     // There is a trace for each mote.
     ensures traces { IfOk result (λ r. vec_len r.0.traces ≡ length (net_of net.now).motes) }
@@ -91,34 +137,39 @@ where
     // The inboxes come back, in order, each with its taker, which has gathered all senders.
     ensures inboxes { IfOk result (λ r. map (λ pair. pair.0) r.1.items ≡ map (λ pair. pair.0) pairs.items) }
     ensures settled { IfOk result (λ r. Each (λ pair. IsSettled pair.0 pair.1) r.1.items) }
+    // With marks nothing is left in them.
+    ensures none_known { IfOk result (λ r. sync ≡ Marks → Each (λ pair. known_of pair.1.desk.gathered pair.1.desk.taken ≡ 0) r.1.items) }
     // They carried the copies that went from worker to worker, each once and nothing else.
     ensures carried { IfOk result (λ r. AllCarried (net_of net.now) cut.now.of.items (report_of r.0) r.1.items) }
     // A fault of the cut is answered exactly where there is one.
     ensures fits { IfOk result (λ r. cut_fault (length (net_of net.now).motes) (length pairs.items) cut.now.of.items ≡ None) }
-    ensures err { IfErr result (IsAnswerTo (cut_fault (length (net_of net.now).motes) (length pairs.items) cut.now.of.items)) }
+    ensures err { IfErr result (IsAnswerTo sync (cut_fault (length (net_of net.now).motes) (length pairs.items) cut.now.of.items)) }
 {
     let of = cut.of.as_slice();
     if let Some(fault) = fault_of(net.motes(), pairs.len(), of) {
         return Err(fault);
     }
     let (inboxes, takers) = parted(alloc, pairs)?;
-    let crew = Crew::start(alloc, net, of, inboxes, takers)?;
-    let crew = run_windows(rt, alloc, net, of, cut.longest, gate, crew)?;
+    let Ok(crew) = Crew::start(alloc, net, of, inboxes, takers) else {
+        return Err(RunError::Memory);
+    };
+    let crew = run_crew(rt, alloc, net, of, cut.longest, sync, gate, crew)?;
     told(alloc, net, of, crew)
 }
 
-/// The report of a net, by so many workers, each in threads of its own: that of one thread, whatever the cut. Its inboxes are new ones,
-/// and end with it: the copies that are left in them are given up.
+/// The report of a net, by so many workers, each in threads of its own: that of one thread, whatever the cut, and however workers
+/// wait for one another. Its inboxes are new ones, and end with it: the copies that are left in them are given up.
 ///
 /// # Errors
 /// `Workers`, `CutLength` and `CutWorker` exactly where the cut doesn't fit, the first of them that holds; else `Memory`, or `Thread`
-/// where a thread couldn't be started, the gate refused a start, or an executor answered an error.
+/// where a thread couldn't be started, the gate refused a start, or an executor answered an error; with marks also `Stopped`.
 pub fn run_workers<R, G>(
     rt: &R,
     alloc: Global,
     net: &Net,
     workers: u16,
     cut: &Cut,
+    sync: SyncKind,
     gate: &G,
 ) -> Result<Report, RunError>
 where
@@ -131,12 +182,12 @@ where
     ensures handed_on { IfOk result (λ r. All (λ trace. IsInOrder trace.items) r.traces.items) }
     // A fault of the cut is answered exactly where there is one.
     ensures fits { IfOk result (λ r. cut_fault (length (net_of net.now).motes) workers cut.now.of.items ≡ None) }
-    ensures err { IfErr result (IsAnswerTo (cut_fault (length (net_of net.now).motes) workers cut.now.of.items)) }
+    ensures err { IfErr result (IsAnswerTo sync (cut_fault (length (net_of net.now).motes) workers cut.now.of.items)) }
 {
     if let Some(fault) = fault_of(net.motes(), usize::from(workers), &cut.of) {
         return Err(fault);
     }
-    let pairs = make_inboxes(alloc, usize::from(workers), false)?;
-    let (report, _pairs) = run_inboxes(rt, alloc, net, cut, gate, pairs)?;
+    let pairs = make_inboxes(alloc, usize::from(workers), sync.has_marks())?;
+    let (report, _pairs) = run_inboxes(rt, alloc, net, cut, sync, gate, pairs)?;
     Ok(report)
 }

@@ -1,4 +1,6 @@
-//! The values of nets, and runs by workers with gates, lengths of windows, cuts and inboxes that no command line names.
+//! The values of nets, and runs by workers with gates, lengths of windows, cuts and inboxes that no command line names. Most tests
+//! write what they see into one text and compare it once, in a function that they share: so a test owns little where it can end
+//! early, which is what its proof costs most.
 
 mod cuts;
 mod inboxes;
@@ -12,9 +14,10 @@ use net_scenario::Net;
 use std::alloc::{AllocError, AllocGlobal, Global};
 use std::random::RandomSource;
 use std::sync::Wait;
+use std::test::Fail;
 use std::thread::Threads;
 use window_run::Gate;
-use window_workers::{run_serial, run_workers};
+use window_workers::{RunError, SyncKind, run_serial, run_workers};
 use worker_cut::Cut;
 
 /// A receiver between two senders.
@@ -41,6 +44,42 @@ const BUSY_PAIR: &str =
 const BUSY_TRIO: &str =
     "version = 1\nend = 2\n[medium]\nrange = 10\nbase = 1\nper = 100\n[programs]\np = \"process a; autostart a; code a { var n = 0; body { poll a; while 1 { yield; n = (n + 1); poll a; if (n == 192) { print n; } } } }\"\n[[mote]]\nx = 0\ny = 0\nprogram = \"p\"\n[[mote]]\nx = 20\ny = 0\nprogram = \"p\"\n[[mote]]\nx = 40\ny = 0\nprogram = \"p\"\n";
 
+/// A run: how many workers there are, the worker of each mote, and how long windows are at most.
+#[derive(Clone, Copy)]
+struct Run<'a> {
+    workers: u16,
+    of: &'a [u16],
+    longest: u32,
+}
+
+/// The run by so many workers, with the worker of each mote, and windows of so many moments at most, or as many as may be.
+fn by(workers: u16, of: &[u16], longest: u32) -> Run<'_> {
+    Run {
+        workers,
+        of,
+        longest,
+    }
+}
+
+/// The cut of a run.
+fn cut_of(alloc: Global, run: &Run<'_>) -> Result<Cut, AllocError> {
+    Ok(Cut {
+        of: run.of.to_vec(alloc)?,
+        longest: run.longest,
+    })
+}
+
+/// What comes of a run.
+#[derive(Clone, Copy, Debug)]
+enum Told {
+    /// The report of one thread, in which so many copies are left.
+    Same(u64),
+    /// Another report.
+    Other,
+    /// No report.
+    Fault(RunError),
+}
+
 /// Whether two reports have one text.
 fn are_same(alloc: Global, first: &Report, second: &Report) -> Result<bool, AllocError> {
     let first = format!(in alloc; "{first:?}")?;
@@ -56,14 +95,38 @@ fn is_of_one_thread(alloc: Global, net: &Net, report: &Report) -> bool {
     }
 }
 
-/// Whether so many workers, by this cut and with this gate, give the report of one thread.
-fn same_by_workers<R, G>(rt: &R, net: &Net, workers: u16, cut: &Cut, gate: &G) -> bool
+/// What a report is beside that of one thread.
+fn told(alloc: Global, net: &Net, report: &Report) -> Told {
+    if is_of_one_thread(alloc, net, report) {
+        Told::Same(report.left)
+    } else {
+        Told::Other
+    }
+}
+
+/// What comes of a run by workers that wait for one another in this way, with this gate.
+fn told_by_workers<R, G>(
+    rt: &R,
+    net: &Net,
+    sync: SyncKind,
+    run: &Run<'_>,
+    gate: &G,
+) -> Result<Told, AllocError>
 where
     R: Threads + Wait + Sync + RandomSource + AllocGlobal,
     G: Gate + Sync,
 {
-    match run_workers(rt, rt.alloc(), net, workers, cut, gate) {
-        Ok(report) => is_of_one_thread(rt.alloc(), net, &report),
-        Err(_) => false,
+    let cut = cut_of(rt.alloc(), run)?;
+    match run_workers(rt, rt.alloc(), net, run.workers, &cut, sync, gate) {
+        Ok(report) => Ok(told(rt.alloc(), net, &report)),
+        Err(error) => Ok(Told::Fault(error)),
     }
+}
+
+/// Fails where two texts differ, and shows both.
+fn same_text(told: &str, want: &str) -> Result<(), Fail> {
+    if told == want {
+        return Ok(());
+    }
+    Err(Fail::new(format_args!("{told} in place of {want}")))
 }

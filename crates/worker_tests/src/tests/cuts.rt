@@ -1,8 +1,9 @@
 //! Cuts: who runs which mote, how long windows are, and what doesn't fit.
-ghost use Rattle.std.specs.Prelude.{◌<◌};
 
-use super::{PACKET_AFTER_TIMER, THREE_APART, same_by_workers};
-use copy_exchange::make_inboxes;
+use super::{
+    COPY_PAST_THE_END, PACKET_AFTER_TIMER, Run, THREE_APART, TWO_SENDERS, by, same_text,
+    told_by_workers,
+};
 use net_scenario::{Net, read_scenario};
 use std::alloc::{AllocError, AllocGlobal, Global};
 use std::random::RandomSource;
@@ -10,118 +11,129 @@ use std::sync::Wait;
 use std::test::Fail;
 use std::thread::Threads;
 use window_run::NoGate;
-use window_workers::{RunError, run_inboxes, run_workers};
+use window_workers::SyncKind;
 use worker_cut::Cut;
 
-/// The cut in blocks, with windows of so many moments at most, or as many as may be.
-pub(super) fn blocks(
-    alloc: Global,
-    motes: u16,
-    workers: u16,
-    longest: u32,
-) -> Result<Cut, AllocError>
-    requires motes { 0 < motes }
-    requires workers { 0 < workers }
-{
-    let mut cut = Cut::block(alloc, motes, workers)?;
-    cut.longest = longest;
-    Ok(cut)
+/// What is told of both cuts of five motes among two workers, and of three motes among 16, most of which have none.
+fn cuts_told(alloc: Global) -> Result<String, AllocError> {
+    let mut text = String::new(alloc);
+    write_cut(&mut text, &Cut::block(alloc, 5, 2)?)?;
+    write_cut(&mut text, &Cut::stripe(alloc, 5, 2)?)?;
+    write_cut(&mut text, &Cut::block(alloc, 3, 16)?)?;
+    Ok(text)
 }
 
-/// Whether the motes have these workers, and windows are as long as may be.
-fn is_cut(cut: &Cut, of: &[u16]) -> bool {
-    cut.of.as_slice() == of && cut.longest == 0
+/// Writes down the worker of each mote, and how long windows are at most.
+fn write_cut(text: &mut String, cut: &Cut) -> Result<(), AllocError> {
+    write!(text, "{:?} {}|", cut.of, cut.longest)
 }
 
-/// Five motes and two workers, in blocks and in stripes.
 #[test]
-fn small_cuts(rt: HostRuntime) -> Result<(), Fail> {
-    let block = Cut::block(rt.alloc(), 5, 2)?;
-    let stripe = Cut::stripe(rt.alloc(), 5, 2)?;
-    let are_small = is_cut(&block, &[0, 0, 0, 1, 1]) && is_cut(&stripe, &[0, 1, 0, 1, 0]);
-    assert!(rt; are_small);
-    Ok(())
+fn cuts_of_few_motes(rt: HostRuntime) -> Result<(), Fail> {
+    let told = cuts_told(rt.alloc())?;
+    same_text(
+        told.as_str(),
+        "[0, 0, 0, 1, 1] 0|[0, 1, 0, 1, 0] 0|[0, 5, 10] 0|",
+    )
 }
 
-/// Most workers have no mote.
-#[test]
-fn more_workers_than_motes(rt: HostRuntime) -> Result<(), Fail> {
-    let block = Cut::block(rt.alloc(), 3, 16)?;
-    assert!(rt; is_cut(&block, &[0, 5, 10]));
-    Ok(())
-}
-
-/// Whether two workers give the report of one thread of a net of two motes by windows of so many moments at most.
-fn same_by_windows<R>(rt: &R, net: &Net, longest: u32) -> Result<bool, AllocError>
+/// Writes down what comes of each of these runs, by workers that wait for one another in this way.
+fn write_runs<R>(
+    rt: &R,
+    net: &Net,
+    sync: SyncKind,
+    runs: &[Run<'_>],
+    text: &mut String,
+) -> Result<(), AllocError>
 where
     R: Threads + Wait + Sync + RandomSource + AllocGlobal,
 {
-    let cut = blocks(rt.alloc(), 2, 2, longest)?;
-    Ok(same_by_workers(rt, net, 2, &cut, &NoGate))
+    for run in runs {
+        let told = told_by_workers(rt, net, sync, run, &NoGate)?;
+        write!(text, "{told:?}|")?;
+    }
+    Ok(())
 }
 
-/// No window is longer than is wished.
+/// What is written of that.
+fn runs_told<R>(rt: &R, net: &Net, sync: SyncKind, runs: &[Run<'_>]) -> Result<String, AllocError>
+where
+    R: Threads + Wait + Sync + RandomSource + AllocGlobal,
+{
+    let mut text = String::new(rt.alloc());
+    write_runs(rt, net, sync, runs, &mut text)?;
+    Ok(text)
+}
+
+/// Fails where something else comes of these runs of a scenario, with joins or with marks.
+fn tells<R>(rt: &R, scenario: &str, runs: &[Run<'_>], want: &str) -> Result<(), Fail>
+where
+    R: Threads + Wait + Sync + RandomSource + AllocGlobal,
+{
+    let net = read_scenario(rt.alloc(), scenario)?;
+    for sync in [SyncKind::Joins, SyncKind::Marks] {
+        let told = runs_told(rt, &net, sync, runs)?;
+        same_text(told.as_str(), want)?;
+    }
+    Ok(())
+}
+
+/// Each of these cuts gives the report of one thread: in blocks and in stripes, with workers that have no mote, and with the
+/// motes the other way round.
+#[test]
+fn cuts_of_two_senders(rt: HostRuntime) -> Result<(), Fail> {
+    let runs = [
+        by(1, &[0, 0, 0], 0),
+        by(2, &[0, 0, 1], 0),
+        by(2, &[0, 1, 0], 0),
+        by(2, &[1, 1, 0], 0),
+        by(3, &[0, 1, 2], 0),
+        by(3, &[2, 1, 0], 0),
+        by(4, &[0, 1, 2], 1),
+        by(16, &[0, 5, 10], 0),
+    ];
+    let want = "Same(0)|Same(0)|Same(0)|Same(0)|Same(0)|Same(0)|Same(0)|Same(0)|";
+    tells(&rt, TWO_SENDERS, &runs, want)
+}
+
+/// Windows may be shorter than they could be, and no window is longer than is wished: the reports are those of one thread.
 #[test]
 fn longest_windows(rt: HostRuntime) -> Result<(), Fail> {
-    let net = read_scenario(rt.alloc(), PACKET_AFTER_TIMER)?;
-    for longest in 1..=3u32 {
-        assert!(rt; same_by_windows(&rt, &net, longest)?, "{longest}");
-    }
-    Ok(())
+    let runs = [
+        by(2, &[0, 1], 0),
+        by(2, &[0, 1], 1),
+        by(2, &[0, 1], 2),
+        by(2, &[0, 1], 3),
+        by(3, &[2, 0], 2),
+    ];
+    tells(
+        &rt,
+        PACKET_AFTER_TIMER,
+        &runs,
+        "Same(0)|Same(0)|Same(0)|Same(0)|Same(0)|",
+    )?;
+    tells(
+        &rt,
+        COPY_PAST_THE_END,
+        &runs,
+        "Same(1)|Same(1)|Same(1)|Same(1)|Same(1)|",
+    )
 }
 
-/// Why so many workers with this cut give no report.
-fn refusal<R>(rt: &R, net: &Net, workers: u16, of: &[u16]) -> Result<Option<RunError>, AllocError>
-where
-    R: Threads + Wait + Sync + RandomSource + AllocGlobal,
-{
-    let cut = Cut {
-        of: of.to_vec(rt.alloc())?,
-        longest: 0,
-    };
-    Ok(run_workers(rt, rt.alloc(), net, workers, &cut, &NoGate).err())
-}
-
+/// Of several faults the first is told, in the order of the first three here.
 #[test]
 fn refused_workers_and_cuts(rt: HostRuntime) -> Result<(), Fail> {
-    let net = read_scenario(rt.alloc(), THREE_APART)?;
-    for (workers, of, error) in [
-        (0, [0u16, 0, 0].as_slice(), RunError::Workers),
-        (17, [0u16, 0, 0].as_slice(), RunError::Workers),
-        (2, [0u16, 1].as_slice(), RunError::CutLength),
-        (2, [0u16, 1, 0, 1].as_slice(), RunError::CutLength),
-        (16, [0u16, 16, 0].as_slice(), RunError::CutWorker),
-        // Of several faults the first in this order is told.
-        (17, [0u16, 17].as_slice(), RunError::Workers),
-        (2, [0u16, 2].as_slice(), RunError::CutLength),
-    ] {
-        let found = refusal(&rt, &net, workers, of)?;
-        assert_eq!(rt; found, Some(error), "{workers} {of:?}");
-    }
-    Ok(())
-}
-
-/// Why so many inboxes with a cut in blocks for two workers give no report of three motes.
-fn refusal_of_inboxes<R>(rt: &R, net: &Net, count: usize) -> Result<Option<RunError>, Fail>
-where
-    R: Threads + Wait + Sync + RandomSource + AllocGlobal,
-{
-    let cut = Cut::block(rt.alloc(), 3, 2)?;
-    let pairs = make_inboxes(rt.alloc(), count, false)?;
-    Ok(run_inboxes(rt, rt.alloc(), net, &cut, &NoGate, pairs).err())
-}
-
-#[test]
-fn refused_inboxes(rt: HostRuntime) -> Result<(), Fail> {
-    let net = read_scenario(rt.alloc(), THREE_APART)?;
-    for (count, error) in [
-        (0, Some(RunError::Workers)),
-        (17, Some(RunError::Workers)),
-        (1, Some(RunError::CutWorker)),
-        (2, None),
-    ] {
-        let found = refusal_of_inboxes(&rt, &net, count)?;
-        assert_eq!(rt; found, error, "{count}");
-    }
-    Ok(())
+    let runs = [
+        by(0, &[0, 0, 0], 0),
+        by(2, &[0, 1], 0),
+        by(16, &[0, 16, 0], 0),
+        by(17, &[0, 0, 0], 0),
+        by(2, &[0, 1, 0, 1], 0),
+        by(17, &[0, 17], 0),
+        by(2, &[0, 2], 0),
+        by(16, &[0, 15, 0], 0),
+    ];
+    let want =
+        "Fault(Workers)|Fault(CutLength)|Fault(CutWorker)|Fault(Workers)|Fault(CutLength)|Fault(Workers)|Fault(CutLength)|Same(0)|";
+    tells(&rt, THREE_APART, &runs, want)
 }

@@ -1,5 +1,9 @@
 //! The values of a net, and a text that the program's reader would refuse before.
 
+ghost use Rattle.std.specs.Prelude.{◌<◌, length};
+ghost use Rattle.mote_net.specs.Net.{net_of};
+
+use super::same_text;
 use net_scenario::{Net, read_scenario};
 use std::alloc::{AllocError, Global};
 use std::test::Fail;
@@ -10,59 +14,72 @@ const PRINT_THEN_YIELD: &str =
 const THREE_MOTES: &str =
     "version = 2\nend = 7\n[medium]\nrange = 5\nbase = 2\nper = 10\ncollide = true\n[programs]\np = \"process a; code a { body { } }\"\nq = \"process b, c; code b { body { } } code c { body { } }\"\n[queue]\nq = 3\n[[mote]]\nx = 0\ny = 0\nprogram = \"q\"\n[[mote]]\nx = 3\ny = 4\nprogram = \"p\"\n[[mote]]\nx = -30000\ny = 4\nprogram = \"q\"\n[[loss]]\nfrom = 0\nto = 1\nevery = 2\n";
 
-/// Whether a net is that of `PRINT_THEN_YIELD`.
-fn prints_then_yields(net: &Net) -> bool {
-    net.motes() == 1
-        && net.end() == 5
-        && net.medium().lookahead(5) == 6
-        && net.program_name(0) == "p"
-        && net.program(0).processes() == 1
-}
-
-#[test]
-fn net_of_one_mote(rt: HostRuntime) -> Result<(), Fail> {
-    let net = read_scenario(rt.alloc(), PRINT_THEN_YIELD)?;
-    assert!(rt; prints_then_yields(&net));
+/// Writes down the program of each mote, how many processes it has, and how long the mote's queue is.
+fn write_motes(text: &mut String, net: &Net) -> Result<(), AllocError> {
+    for mote in 0..net.motes() {
+        let name = net.program_name(mote);
+        let processes = net.program(mote).processes();
+        write!(text, "{name} {processes} {}|", net.queue(mote))?;
+    }
     Ok(())
 }
 
-/// Whether a net has the end, the programs and the queues of `THREE_MOTES`.
-fn has_three_motes(net: &Net) -> bool {
-    net.motes() == 3
-        && net.end() == 7
-        && net.collide()
-        && net.program_name(0) == "q"
-        && net.program_name(1) == "p"
-        && net.program_name(2) == "q"
-        && net.program(0).processes() == 2
-        && net.program(1).processes() == 1
-        && net.queue(0) == 3
-        && net.queue(1) == 32
-        && net.queue(2) == 3
-}
-
-#[test]
-fn readers_of_a_net(rt: HostRuntime) -> Result<(), Fail> {
-    let net = read_scenario(rt.alloc(), THREE_MOTES)?;
-    assert!(rt; has_three_motes(&net));
-    Ok(())
-}
-
-/// Whether a net has the medium of `THREE_MOTES`.
-fn carries_to_the_second(net: &Net) -> bool {
+/// Writes down who hears a mote, and how long its packets take.
+fn write_hearers(text: &mut String, net: &Net, sender: u16) -> Result<(), AllocError>
+    requires { sender < length (net_of net.now).motes }
+{
     let medium = net.medium();
-    net.motes() == 3
-        && medium.hears(1, 0)
-        && !medium.hears(2, 0)
-        && medium.delay(0, 1) == 4
-        && medium.lookahead(9) == 4
+    for receiver in 0..net.motes() {
+        if medium.hears(receiver, sender) {
+            write!(
+                text,
+                "{sender} to {receiver} {}|",
+                medium.delay(sender, receiver)
+            )?;
+        }
+    }
+    Ok(())
+}
+
+/// Writes down all values of a net.
+fn write_net(text: &mut String, net: &Net) -> Result<(), AllocError> {
+    let ahead = net.medium().lookahead(net.end());
+    write!(
+        text,
+        "{} {} {} {ahead}|",
+        net.motes(),
+        net.end(),
+        net.collide()
+    )?;
+    write_motes(text, net)?;
+    for sender in 0..net.motes() {
+        write_hearers(text, net, sender)?;
+    }
+    Ok(())
+}
+
+/// What is written of that.
+fn net_told(alloc: Global, net: &Net) -> Result<String, AllocError> {
+    let mut text = String::new(alloc);
+    write_net(&mut text, net)?;
+    Ok(text)
+}
+
+/// Fails where something else is written of a scenario's net.
+fn tells(alloc: Global, scenario: &str, want: &str) -> Result<(), Fail> {
+    let net = read_scenario(alloc, scenario)?;
+    let told = net_told(alloc, &net)?;
+    same_text(told.as_str(), want)
 }
 
 #[test]
-fn medium_of_a_net(rt: HostRuntime) -> Result<(), Fail> {
-    let net = read_scenario(rt.alloc(), THREE_MOTES)?;
-    assert!(rt; carries_to_the_second(&net));
-    Ok(())
+fn values_of_nets(rt: HostRuntime) -> Result<(), Fail> {
+    tells(rt.alloc(), PRINT_THEN_YIELD, "1 5 false 6|p 1 32|")?;
+    tells(
+        rt.alloc(),
+        THREE_MOTES,
+        "3 7 true 4|q 2 3|p 1 32|q 2 3|0 to 1 4|1 to 0 4|",
+    )
 }
 
 /// A comment of 1,048,577 bytes.
@@ -82,11 +99,16 @@ fn fault_number(alloc: Global, text: &str) -> u8 {
     }
 }
 
+/// The length of a text that is too long, and the number of its fault.
+fn too_long_told(alloc: Global) -> Result<String, AllocError> {
+    let text = long_comment(alloc)?;
+    let number = fault_number(alloc, text.as_str());
+    format!(in alloc; "{} {number}", text.len())
+}
+
 /// One byte more than a text may have is told before all that the text lacks.
 #[test]
 fn text_too_long(rt: HostRuntime) -> Result<(), Fail> {
-    let text = long_comment(rt.alloc())?;
-    assert_eq!(rt; text.len(), 1_048_577);
-    assert_eq!(rt; fault_number(rt.alloc(), text.as_str()), 5);
-    Ok(())
+    let told = too_long_told(rt.alloc())?;
+    same_text(told.as_str(), "1048577 5")
 }

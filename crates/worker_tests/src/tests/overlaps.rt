@@ -1,11 +1,10 @@
 //! That turns of workers overlap in time, shown by gates at which they wait for one another. The gate is called inside a turn, so
 //! a lock that is held round each turn lets none of them meet.
 
-use super::cuts::blocks;
-use super::{BUSY_PAIR, BUSY_TRIO, is_of_one_thread, same_by_workers};
-use copy_exchange::make_inboxes;
+use super::inboxes::write_inboxes;
+use super::{BUSY_PAIR, BUSY_TRIO, Run, by, same_text, told_by_workers};
 use net_scenario::{Net, read_scenario};
-use std::alloc::AllocGlobal;
+use std::alloc::{AllocError, AllocGlobal};
 use std::random::RandomSource;
 use std::sync::Wait;
 use std::sync::atomic::AtomicU64;
@@ -13,115 +12,29 @@ use std::sync::atomic::Ordering::SeqCst;
 use std::test::Fail;
 use std::thread::Threads;
 use window_run::Gate;
-use window_workers::run_inboxes;
+use window_workers::SyncKind;
 
-/// Each turn of one worker waits, for a while, until the other worker is inside its turn of the same moment.
-#[derive(Drop)]
-struct Meeting {
-    /// Whether a worker came to its turn of a moment: at 2 * moment + worker.
-    inside: [AtomicU64; 6],
-    /// How often the other worker was seen there from inside that turn.
-    seen: [AtomicU64; 6],
-}
-
-fn zeros() -> [AtomicU64; 6] {
-    [
-        AtomicU64::new(0),
-        AtomicU64::new(0),
-        AtomicU64::new(0),
-        AtomicU64::new(0),
-        AtomicU64::new(0),
-        AtomicU64::new(0),
-    ]
-}
-
-impl Meeting {
-    fn new() -> Meeting {
-        Meeting {
-            inside: zeros(),
-            seen: zeros(),
-        }
-    }
-}
-
-impl Gate for Meeting {
-    fn inside(&self, worker: u16, moment: u64, _mote: u16) {
-        if worker > 1 || moment > 2 {
-            return;
-        }
-        let first = 2 * moment as usize;
-        let own = first + usize::from(worker);
-        let other = first + usize::from(1 - worker);
-        self.inside[own].store(1, SeqCst);
-        for _ in 0..50_000_000u64 {
-            if self.inside[other].load(SeqCst) == 1 {
-                self.seen[own].fetch_add(1, SeqCst);
-                return;
-            }
-        }
-    }
-}
-
-/// Whether in each of the three windows each worker, which has one turn there, saw the other one inside its turn.
-fn all_met(gate: &Meeting) -> bool {
-    let mut met = true;
-    for seen in &gate.seen {
-        if seen.load(SeqCst) != 1 {
-            met = false;
-        }
-    }
-    met
-}
-
-/// Whether two workers meet in each window, and give the report of one thread.
-fn two_meet<R>(rt: &R, net: &Net) -> Result<bool, Fail>
-where
-    R: Threads + Wait + Sync + RandomSource + AllocGlobal,
-{
-    let cut = blocks(rt.alloc(), 2, 2, 1)?;
-    let gate = Meeting::new();
-    Ok(same_by_workers(rt, net, 2, &cut, &gate) && all_met(&gate))
-}
-
-#[test]
-fn turns_of_workers_overlap(rt: HostRuntime) -> Result<(), Fail> {
-    let net = read_scenario(rt.alloc(), BUSY_PAIR)?;
-    assert!(rt; two_meet(&rt, &net)?);
-    Ok(())
-}
-
-/// The same, over inboxes that the caller made.
-fn two_meet_with_inboxes<R>(rt: &R, net: &Net) -> Result<bool, Fail>
-where
-    R: Threads + Wait + Sync + RandomSource + AllocGlobal,
-{
-    let cut = blocks(rt.alloc(), 2, 2, 1)?;
-    let pairs = make_inboxes(rt.alloc(), 2, false)?;
-    let gate = Meeting::new();
-    match run_inboxes(rt, rt.alloc(), net, &cut, &gate, pairs) {
-        Ok((report, _pairs)) => { Ok(is_of_one_thread(rt.alloc(), net, &report) && all_met(&gate)) }
-        Err(_) => Ok(false),
-    }
-}
-
-#[test]
-fn turns_overlap_with_inboxes(rt: HostRuntime) -> Result<(), Fail> {
-    let net = read_scenario(rt.alloc(), BUSY_PAIR)?;
-    assert!(rt; two_meet_with_inboxes(&rt, &net)?);
-    Ok(())
-}
-
-/// Each of three workers waits inside its turn of a moment, for a while, until all three came to theirs.
+/// Each worker waits inside its turn of a moment, for a while, until all came to theirs.
 #[derive(Drop)]
 struct Rendezvous {
+    /// How many workers there are, with a mote each.
+    all: u64,
     /// How many workers came to their turn of a moment.
     came: [AtomicU64; 3],
-    /// How many of them saw all three there.
+    /// How many of them saw all there.
     met: [AtomicU64; 3],
 }
 
-fn three_zeros() -> [AtomicU64; 3] {
+fn zeros() -> [AtomicU64; 3] {
     [AtomicU64::new(0), AtomicU64::new(0), AtomicU64::new(0)]
+}
+
+fn make_rendezvous(workers: u16) -> Rendezvous {
+    Rendezvous {
+        all: u64::from(workers),
+        came: zeros(),
+        met: zeros(),
+    }
 }
 
 impl Gate for Rendezvous {
@@ -132,7 +45,7 @@ impl Gate for Rendezvous {
         let place = moment as usize;
         self.came[place].fetch_add(1, SeqCst);
         for _ in 0..50_000_000u64 {
-            if self.came[place].load(SeqCst) == 3 {
+            if self.came[place].load(SeqCst) == self.all {
                 self.met[place].fetch_add(1, SeqCst);
                 return;
             }
@@ -140,33 +53,67 @@ impl Gate for Rendezvous {
     }
 }
 
-/// Whether in each of the three windows all three workers saw one another.
-fn all_three_met(gate: &Rendezvous) -> bool {
-    let mut met = true;
-    for seen in &gate.met {
-        if seen.load(SeqCst) != 3 {
-            met = false;
-        }
+/// Writes down how many workers saw all others inside their turns of each moment.
+fn write_meetings(text: &mut String, gate: &Rendezvous) -> Result<(), AllocError> {
+    for met in &gate.met {
+        write!(text, "{} ", met.load(SeqCst))?;
     }
-    met
+    Ok(())
 }
 
-/// Whether three workers with a mote each meet in each window, and give the report of one thread.
-fn three_meet<R>(rt: &R, net: &Net) -> Result<bool, Fail>
+/// Writes down what comes of a run and who meets, and the same over inboxes that the caller makes.
+fn write_run<R>(
+    rt: &R,
+    net: &Net,
+    sync: SyncKind,
+    run: &Run<'_>,
+    text: &mut String,
+) -> Result<(), Fail>
 where
     R: Threads + Wait + Sync + RandomSource + AllocGlobal,
 {
-    let cut = blocks(rt.alloc(), 3, 3, 1)?;
-    let gate = Rendezvous {
-        came: three_zeros(),
-        met: three_zeros(),
-    };
-    Ok(same_by_workers(rt, net, 3, &cut, &gate) && all_three_met(&gate))
+    let gate = make_rendezvous(run.workers);
+    let told = told_by_workers(rt, net, sync, run, &gate)?;
+    write!(text, "{told:?}|")?;
+    write_meetings(text, &gate)?;
+    let gate = make_rendezvous(run.workers);
+    write_inboxes(rt, net, sync, run, &gate, text)?;
+    write_meetings(text, &gate)?;
+    Ok(())
 }
 
+/// What is written of that, with joins and then with marks.
+fn meetings_told<R>(rt: &R, net: &Net, run: &Run<'_>) -> Result<String, Fail>
+where
+    R: Threads + Wait + Sync + RandomSource + AllocGlobal,
+{
+    let mut text = String::new(rt.alloc());
+    write_run(rt, net, SyncKind::Joins, run, &mut text)?;
+    write_run(rt, net, SyncKind::Marks, run, &mut text)?;
+    Ok(text)
+}
+
+/// Fails where something else is written of a scenario.
+fn tells<R>(rt: &R, scenario: &str, run: &Run<'_>, want: &str) -> Result<(), Fail>
+where
+    R: Threads + Wait + Sync + RandomSource + AllocGlobal,
+{
+    let net = read_scenario(rt.alloc(), scenario)?;
+    let told = meetings_told(rt, &net, run)?;
+    same_text(told.as_str(), want)
+}
+
+/// Two workers with a mote each meet in each of three windows.
+#[test]
+fn turns_of_workers_overlap(rt: HostRuntime) -> Result<(), Fail> {
+    let want = "Same(0)|2 2 2 Same(0)|0 []|0 []|2 2 2 Same(0)|2 2 2 Same(0)|0 []|0 []|2 2 2 ";
+    tells(&rt, BUSY_PAIR, &by(2, &[0, 1], 1), want)
+}
+
+/// And so do three.
 #[test]
 fn turns_of_three_workers_overlap(rt: HostRuntime) -> Result<(), Fail> {
-    let net = read_scenario(rt.alloc(), BUSY_TRIO)?;
-    assert!(rt; three_meet(&rt, &net)?);
-    Ok(())
+    let want =
+        "Same(0)|3 3 3 Same(0)|0 []|0 []|0 []|3 3 3 Same(0)|3 3 3 Same(0)|0 []|0 []|0 []|3 3 3 ";
+    tells(&rt, BUSY_TRIO, &by(3, &[0, 1, 2], 1), want)
 }

@@ -3,7 +3,7 @@
 ghost use Rattle.std.specs.Prelude.{◌≡◌, length};
 ghost use Rattle.mote_net.specs.Net.{net_of};
 
-use super::COPY_PAST_THE_END;
+use super::{COPY_PAST_THE_END, same_text};
 use net_scenario::{Net, read_scenario};
 use radio_packet::RadioCopy;
 use std::alloc::{AllocError, Global};
@@ -31,12 +31,19 @@ fn left_of_three(alloc: Global, net: &Net) -> Result<u64, AllocError>
     Ok(share.end()?.left)
 }
 
+/// What is told of that, where the net has two motes.
+fn left_told(alloc: Global, net: &Net) -> Result<String, AllocError> {
+    if net.motes() != 2 {
+        return String::from_str(alloc, "not two motes");
+    }
+    let left = left_of_three(alloc, net)?;
+    format!(in alloc; "{left}")
+}
+
 /// All copies that a share takes in are to come.
 #[test]
 fn copies_taken_in(rt: HostRuntime) -> Result<(), Fail> {
     let net = read_scenario(rt.alloc(), COPY_PAST_THE_END)?;
-    if net.motes() == 2 {
-        assert_eq!(rt; left_of_three(rt.alloc(), &net)?, 3);
-    }
-    Ok(())
+    let told = left_told(rt.alloc(), &net)?;
+    same_text(told.as_str(), "3")
 }

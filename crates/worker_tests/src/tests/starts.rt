@@ -1,10 +1,10 @@
 //! How often threads are started, a start that is refused, and which error of several is told.
-ghost use Rattle.std.specs.Prelude.{◌<◌};
 
-use super::cuts::blocks;
-use super::{BUSY_PAIR, BUSY_TRIO, PACKET_AFTER_TIMER, TWO_SENDERS};
+use super::{
+    BUSY_PAIR, BUSY_TRIO, PACKET_AFTER_TIMER, Run, TWO_SENDERS, by, same_text, told_by_workers,
+};
 use net_scenario::{Net, read_scenario};
-use std::alloc::AllocGlobal;
+use std::alloc::{AllocError, AllocGlobal};
 use std::random::RandomSource;
 use std::sync::Wait;
 use std::sync::atomic::AtomicU64;
@@ -12,7 +12,7 @@ use std::sync::atomic::Ordering::SeqCst;
 use std::test::Fail;
 use std::thread::Threads;
 use window_run::Gate;
-use window_workers::{RunError, run_workers};
+use window_workers::SyncKind;
 
 /// Counts the starts that it is asked for, and refuses those of one worker. It counts the turns too.
 #[derive(Drop)]
@@ -41,38 +41,82 @@ impl Gate for Doorkeeper {
     }
 }
 
-/// The error of so many workers on three motes where worker 1 isn't let start, and how many starts were asked for.
-fn refused<R>(rt: &R, net: &Net, workers: u16) -> Result<(Option<RunError>, u64), Fail>
+/// A run, and the worker that isn't let start.
+type Row<'a> = (Run<'a>, u16);
+
+/// Lets every worker start.
+const NONE: u16 = 16;
+
+/// Writes down what comes of each of these runs, how many starts were asked for, and how many turns were taken.
+fn write_starts<R>(
+    rt: &R,
+    net: &Net,
+    sync: SyncKind,
+    rows: &[Row<'_>],
+    text: &mut String,
+) -> Result<(), AllocError>
 where
     R: Threads + Wait + Sync + RandomSource + AllocGlobal,
-    requires { 0 < workers }
 {
-    let cut = blocks(rt.alloc(), 3, workers, 0)?;
-    let gate = make_doorkeeper(1);
-    let found = run_workers(rt, rt.alloc(), net, workers, &cut, &gate).err();
-    Ok((found, gate.asked.load(SeqCst)))
-}
-
-/// The worker that isn't let start is told, and no worker behind it is asked for.
-#[test]
-fn a_start_that_is_refused(rt: HostRuntime) -> Result<(), Fail> {
-    let net = read_scenario(rt.alloc(), TWO_SENDERS)?;
-    for workers in 2..=3u16 {
-        let found = refused(&rt, &net, workers)?;
-        assert_eq!(rt; found, (Some(RunError::Thread), 2), "{workers}");
+    for (run, refuses) in rows {
+        let gate = make_doorkeeper(*refuses);
+        let told = told_by_workers(rt, net, sync, run, &gate)?;
+        let asked = gate.asked.load(SeqCst);
+        let turns = gate.turns.load(SeqCst);
+        write!(text, "{told:?} {asked} {turns}|")?;
     }
     Ok(())
 }
 
-/// The error of two workers where worker 1 isn't let start, and how many turns worker 0 took in their one window.
-fn beside_a_refused_start<R>(rt: &R, net: &Net) -> Result<(Option<RunError>, u64), Fail>
+/// What is written of that.
+fn starts_told<R>(rt: &R, net: &Net, sync: SyncKind, rows: &[Row<'_>]) -> Result<String, AllocError>
 where
     R: Threads + Wait + Sync + RandomSource + AllocGlobal,
 {
-    let cut = blocks(rt.alloc(), 2, 2, 0)?;
-    let gate = make_doorkeeper(1);
-    let found = run_workers(rt, rt.alloc(), net, 2, &cut, &gate).err();
-    Ok((found, gate.turns.load(SeqCst)))
+    let mut text = String::new(rt.alloc());
+    write_starts(rt, net, sync, rows, &mut text)?;
+    Ok(text)
+}
+
+/// Fails where something else comes of these runs of a scenario: this with joins, and that with marks.
+fn tells<R>(rt: &R, scenario: &str, rows: &[Row<'_>], joins: &str, marks: &str) -> Result<(), Fail>
+where
+    R: Threads + Wait + Sync + RandomSource + AllocGlobal,
+{
+    let net = read_scenario(rt.alloc(), scenario)?;
+    for (sync, want) in [(SyncKind::Joins, joins), (SyncKind::Marks, marks)] {
+        let told = starts_told(rt, &net, sync, rows)?;
+        same_text(told.as_str(), want)?;
+    }
+    Ok(())
+}
+
+/// The worker that isn't let start is told, and no worker behind it is asked for. With marks the workers before it wait for it in
+/// vain, and end nevertheless.
+#[test]
+fn a_start_that_is_refused(rt: HostRuntime) -> Result<(), Fail> {
+    let rows = [
+        (by(1, &[0, 0, 0], 0), 0),
+        (by(2, &[0, 0, 1], 0), 0),
+        (by(2, &[0, 0, 1], 0), 1),
+        (by(3, &[0, 1, 2], 0), 1),
+        (by(3, &[0, 1, 2], 0), 2),
+    ];
+    let want =
+        "Fault(Thread) 1 0|Fault(Thread) 1 0|Fault(Thread) 2 2|Fault(Thread) 2 1|Fault(Thread) 3 2|";
+    tells(&rt, TWO_SENDERS, &rows, want, want)
+}
+
+/// Fails where another error is told than the refused start of worker 1, or want of memory.
+fn lowest_error<R>(rt: &R, net: &Net, sync: SyncKind) -> Result<(), Fail>
+where
+    R: Threads + Wait + Sync + RandomSource + AllocGlobal,
+{
+    let told = starts_told(rt, net, sync, &[(by(2, &[0, 1], 0), 1)])?;
+    if told.as_str().starts_with("Fault(Memory)") {
+        return Ok(());
+    }
+    same_text(told.as_str(), "Fault(Thread) 2 3|")
 }
 
 /// The error of the lowest worker is told: the refused start of worker 1 only where worker 0, which was started, came through its three
@@ -80,45 +124,38 @@ where
 #[test]
 fn the_lowest_workers_error(rt: HostRuntime) -> Result<(), Fail> {
     let net = read_scenario(rt.alloc(), BUSY_PAIR)?;
-    let found = beside_a_refused_start(&rt, &net)?;
-    let (error, _) = found;
-    assert!(rt; found == (Some(RunError::Thread), 3) || error == Some(RunError::Memory));
-    Ok(())
+    lowest_error(&rt, &net, SyncKind::Joins)?;
+    lowest_error(&rt, &net, SyncKind::Marks)
 }
 
-/// How many starts are asked for by so many workers on so many motes, by windows of so many moments at most.
-fn starts<R>(rt: &R, net: &Net, motes: u16, workers: u16, longest: u32) -> Result<u64, Fail>
-where
-    R: Threads + Wait + Sync + RandomSource + AllocGlobal,
-    requires motes { 0 < motes }
-    requires workers { 0 < workers }
-{
-    let cut = blocks(rt.alloc(), motes, workers, longest)?;
-    let gate = make_doorkeeper(workers);
-    match run_workers(rt, rt.alloc(), net, workers, &cut, &gate) {
-        Ok(_) => Ok(gate.asked.load(SeqCst)),
-        Err(_) => Err(Fail::from("there is no report")),
-    }
-}
-
-/// Each window starts all workers: turns at 0, 2 and 5 are in two windows of three moments, or in three shorter ones.
+/// With joins each window starts all workers: turns at 0, 2 and 5 are in two windows of three moments, or in three shorter ones. With
+/// marks each worker is started once.
 #[test]
 fn starts_are_counted(rt: HostRuntime) -> Result<(), Fail> {
-    let net = read_scenario(rt.alloc(), PACKET_AFTER_TIMER)?;
-    for (longest, wanted) in [(0, 4), (1, 6), (2, 6), (3, 4)] {
-        let found = starts(&rt, &net, 2, 2, longest)?;
-        assert_eq!(rt; found, wanted, "{longest}");
-    }
-    Ok(())
+    let rows = [
+        (by(2, &[0, 1], 0), NONE),
+        (by(2, &[0, 1], 1), NONE),
+        (by(2, &[0, 1], 2), NONE),
+        (by(2, &[0, 1], 3), NONE),
+    ];
+    let joins = "Same(0) 4 4|Same(0) 6 4|Same(0) 6 4|Same(0) 4 4|";
+    let marks = "Same(0) 2 4|Same(0) 2 4|Same(0) 2 4|Same(0) 2 4|";
+    tells(&rt, PACKET_AFTER_TIMER, &rows, joins, marks)
 }
 
-/// Each of 16 workers is started in each window, also the 13 that have no mote: in three windows of one moment, or in one.
+/// Each of 16 workers is started, also the 13 that have no mote: with joins in each of three windows of one moment, or in the one
+/// window that there is, and with marks once.
 #[test]
 fn workers_without_motes_are_started(rt: HostRuntime) -> Result<(), Fail> {
-    let net = read_scenario(rt.alloc(), BUSY_TRIO)?;
-    for (longest, wanted) in [(1, 48), (0, 16)] {
-        let found = starts(&rt, &net, 3, 16, longest)?;
-        assert_eq!(rt; found, wanted, "{longest}");
-    }
-    Ok(())
+    let rows = [
+        (by(16, &[0, 5, 10], 1), NONE),
+        (by(16, &[0, 5, 10], 0), NONE),
+    ];
+    tells(
+        &rt,
+        BUSY_TRIO,
+        &rows,
+        "Same(0) 48 9|Same(0) 16 9|",
+        "Same(0) 16 9|Same(0) 16 9|",
+    )
 }

@@ -1,20 +1,26 @@
-use Rattle.std.proofs.Common.{rules, ◌≡◌, length, map, vec_len, Vec, None, sym, ap, ◌∙◌, subst}
+use Rattle.std.proofs.Common.{rules, ◌≡◌, ℕ, List, length, map, vec_len, Vec, None, sym, ap, ◌∙◌, subst}
 use Rattle.std.specs.Prelude.{All, IfOk}
 use Rattle.std.specs.declared.alloc.Global.{Global}
-use Rattle.std.specs.List.{AllZip, AllByRecursion as Each}
+use Rattle.std.specs.List.{AllZip, zip, AllByRecursion as Each}
 use Rattle.std.proofs.lemmas.List.{length-map}
 use Rattle.process_kernel.specs.declared.line.Line.{Line}
 use Rattle.kernel_laws.specs.Going.{IsInOrder}
 use Rattle.mote_net.specs.Net.{net_of}
-use Rattle.copy_exchange.specs.Inboxes.{IsFresh, IsPlain}
+use Rattle.copy_inbox.specs.Gathered.{known_of}
+use Rattle.copy_inbox.specs.Handles.{InboxId, TakerView}
+use Rattle.copy_exchange.specs.Inboxes.{IsFresh}
+use Rattle.worker_crew.specs.Start.{AreFirst}
 use Rattle.worker_crew.specs.Worker.{IsCut}
 use Rattle.net_report.specs.declared.Report.{Report}
 use Rattle.net_report.specs.Report.{report_of}
 use Rattle.window_workers.specs.Carried.{Pair, AllCarried}
 use Rattle.window_workers.specs.Fits.{cut_fault}
 use Rattle.window_workers.specs.NetRun.{IsReportOf}
+use Rattle.window_workers.specs.Sync.{IsFor}
+use Rattle.window_workers.specs.declared.sync.SyncKind.TheVariants.{Marks}
 use Rattle.window_workers.proofs.ByWorkers.{one_trace_each, all_hand_on}
 use Rattle.window_workers.proofs.Fitting.{fits_is}
+use Rattle.window_workers.proofs.Marked.{none_known}
 use Rattle.window_workers.proofs.Pairs.{zip_each, seconds_have, if_ok}
 use Rattle.window_workers.proofs.workers.run_inboxes.Goals as goal
 
@@ -24,22 +30,44 @@ long_as v = search rules
 pairs_long : (v : Vec Pair Global) → vec_len v ≡ length v.items
 pairs_long v = search rules
 
+-- the cut is one for these inboxes
+is_cut : (motes there workers : ℕ) (pairs : List Pair) (inboxes : List InboxId) (of : List ℕ) → cut_fault motes workers of ≡ None → motes ≡ there → workers ≡ length pairs → inboxes ≡ map (λ (pair : Pair). pair.0) pairs
+    → IsCut there (length inboxes) of
+is_cut motes there workers pairs inboxes of none all each same =
+    let cut : IsCut motes workers of = (fits_is motes workers of none).1 in
+    let long : workers ≡ length inboxes = each ∙ (sym (length-map pairs (λ (pair : Pair). pair.0)) ∙ ap length (sym same)) in
+    subst (λ k. IsCut k (length inboxes) of) all (subst (λ k. IsCut motes k of) long cut)
+
+are_fresh : (pairs : List Pair) (inboxes : List InboxId) (takers : List TakerView) → inboxes ≡ map (λ (pair : Pair). pair.0) pairs → takers ≡ map (λ (pair : Pair). pair.1) pairs → Each (λ (pair : Pair). IsFresh pair.0 pair.1) pairs
+    → AllZip IsFresh inboxes takers
+are_fresh pairs inboxes takers e f fresh =
+    subst (λ l. AllZip IsFresh l takers) (sym e) (subst (λ l. AllZip IsFresh (map (λ (pair : Pair). pair.0) pairs) l) (sym f) (zip_each IsFresh pairs fresh))
+
 pub start-requires-clause-cut : goal.start-requires-clause-cut
 start-requires-clause-cut g c =
-    let n = net_of c.args.net.now in
-    let none : cut_fault c.motes.result c.len.result c.as_slice-of.result.now ≡ None = sym c.fault_of.ensures ∙ c.in_default.is in
-    let cut : IsCut c.motes.result c.len.result c.as_slice-of.result.now = (fits_is c.motes.result c.len.result c.as_slice-of.result.now none).1 in
-    let long : c.len.result ≡ length c.in_ok-inboxes.inboxes.items = c.len.ensures ∙ (pairs_long c.args.pairs ∙ (sym (length-map c.args.pairs.items (λ (pair : Pair). pair.0)) ∙ ap length (sym c.in_ok-inboxes.ensures.inboxes))) in
-    subst (λ k. IsCut k (length c.in_ok-inboxes.inboxes.items) c.as_slice-of.result.now) c.motes.ensures.value (subst (λ k. IsCut c.motes.result k c.as_slice-of.result.now) long cut)
+    is_cut c.motes.result (length (net_of c.args.net.now).motes) c.len.result c.args.pairs.items c.in_ok-inboxes.inboxes.items c.as_slice-of.result.now
+    (sym c.fault_of.ensures ∙ c.in_default.is) c.motes.ensures.value (c.len.ensures ∙ pairs_long c.args.pairs) c.in_ok-inboxes.ensures.inboxes
 
 pub start-requires-clause-fresh : goal.start-requires-clause-fresh
-start-requires-clause-fresh g c =
-    subst (λ l. AllZip IsFresh l c.in_ok-inboxes.takers.items) (sym c.in_ok-inboxes.ensures.inboxes)
-    (subst (λ l. AllZip IsFresh (map (λ (pair : Pair). pair.0) c.args.pairs.items) l) (sym c.in_ok-inboxes.ensures.takers) (zip_each IsFresh c.args.pairs.items c.requires.fresh))
+start-requires-clause-fresh g c = are_fresh c.args.pairs.items c.in_ok-inboxes.inboxes.items c.in_ok-inboxes.takers.items c.in_ok-inboxes.ensures.inboxes c.in_ok-inboxes.ensures.takers c.requires.fresh
 
-pub run_windows-requires-clause-plain : goal.run_windows-requires-clause-plain
-run_windows-requires-clause-plain g c κs within =
-    subst (Each IsPlain) (sym (c.in_ok-crew.ensures.takers ∙ c.in_ok-inboxes.ensures.takers)) (seconds_have IsPlain c.args.pairs.items c.requires.plain)
+pub run_crew-requires-clause-cut : goal.run_crew-requires-clause-cut
+run_crew-requires-clause-cut g c κs within =
+    is_cut c.motes.result (length (net_of c.args.net.now).motes) c.len.result c.args.pairs.items c.in-Ok.crew.inboxes.items c.as_slice-of.result.now
+    (sym c.fault_of.ensures ∙ c.in_default.is) c.motes.ensures.value (c.len.ensures ∙ pairs_long c.args.pairs) (c.in-Ok.ensures.inboxes ∙ c.in_ok-inboxes.ensures.inboxes)
+
+pub run_crew-requires-clause-fresh : goal.run_crew-requires-clause-fresh
+run_crew-requires-clause-fresh g c κs within =
+    are_fresh c.args.pairs.items c.in-Ok.crew.inboxes.items c.in-Ok.crew.takers.items
+    (c.in-Ok.ensures.inboxes ∙ c.in_ok-inboxes.ensures.inboxes) (c.in-Ok.ensures.takers ∙ c.in_ok-inboxes.ensures.takers) c.requires.fresh
+
+pub run_crew-requires-clause-kind : goal.run_crew-requires-clause-kind
+run_crew-requires-clause-kind g c κs within =
+    subst (Each (IsFor c.args.sync)) (sym (c.in-Ok.ensures.takers ∙ c.in_ok-inboxes.ensures.takers)) (seconds_have (IsFor c.args.sync) c.args.pairs.items c.requires.kind)
+
+pub run_crew-requires-clause-first : goal.run_crew-requires-clause-first
+run_crew-requires-clause-first g c κs within =
+    subst (λ l. AreFirst (net_of c.args.net.now) c.as_slice-of.result.now (length l) c.in-Ok.crew.shares.items) (sym c.in-Ok.ensures.inboxes) c.in-Ok.ensures.first
 
 pub returns-clause-traces : goal.returns-clause-traces
 returns-clause-traces g c =
@@ -55,3 +83,10 @@ pub returns-clause-carried : goal.returns-clause-carried
 returns-clause-carried g c =
     let n = net_of c.args.net.now in
     subst (λ l. IfOk c.told.result (λ (r : Report × Vec Pair Global). AllCarried n l (report_of r.0) r.1.items)) c.as_slice-of.ensures.value c.told.ensures.carried
+
+pub returns-clause-none_known : goal.returns-clause-none_known
+returns-clause-none_known g c =
+    let crew = c.in_ok-crew.crew in
+    let NoneKnown : List Pair → Type 0 = Each (λ (pair : Pair). known_of pair.1.desk.gathered pair.1.desk.taken ≡ 0) in
+    if_ok (λ (r : Report × Vec Pair Global). r.1.items ≡ zip crew.inboxes.items crew.takers.items) (λ (r : Report × Vec Pair Global). c.args.sync ≡ Marks → NoneKnown r.1.items) c.told.result
+    (λ r e marks. subst NoneKnown (sym e) (none_known crew.inboxes.items crew.takers.items (c.in_ok-crew.ensures.all_taken marks))) c.told.ensures.pairs

@@ -1,0 +1,13 @@
+-- How workers wait for one another, and the inboxes for it.
+use Rattle.std.specs.Prelude.{◌≡◌, Bool, true, false}
+use Rattle.copy_inbox.specs.Handles.{TakerView}
+use Rattle.window_workers.specs.declared.sync.SyncKind.{SyncKind}
+use Rattle.window_workers.specs.declared.sync.SyncKind.TheVariants.{Joins, Marks}
+
+abbrev pub has_marks : SyncKind → Bool
+has_marks Joins = false
+has_marks Marks = true
+
+-- the inbox is one for this kind
+abbrev pub IsFor : SyncKind → TakerView → Type 0
+IsFor sync t = t.desk.marked ≡ has_marks sync

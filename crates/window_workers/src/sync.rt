@@ -1,0 +1,26 @@
+//! How workers wait for one another.
+
+ghost use Rattle.std.specs.Prelude.{◌≡◌};
+ghost use Rattle.window_workers.specs.Sync.{has_marks};
+
+/// How workers wait for one another. The report is the same.
+#[derive(Clone, Copy, Debug, Default, PartialEq, Eq)]
+pub enum SyncKind {
+    /// Each window has threads of its own, which are joined at its end. The inboxes have no marks.
+    #[default]
+    Joins,
+    /// Each worker has one thread for the whole run, and waits in it for the marks of the others. The inboxes have marks.
+    Marks,
+}
+
+impl SyncKind {
+    /// Whether the inboxes for it have marks.
+    pub fn has_marks(self) -> bool
+        ensures { result ≡ has_marks self }
+    {
+        match self {
+            SyncKind::Joins => false,
+            SyncKind::Marks => true,
+        }
+    }
+}
