@@ -7,6 +7,15 @@ mod by_hand;
 use process_kernel::Line;
 use radio_packet::Sent;
 use std::alloc::AllocError;
+use std::test::Fail;
+
+/// Fails where two texts differ, and shows both.
+fn same_text(told: &str, want: &str) -> Result<(), Fail> {
+    if told == want {
+        return Ok(());
+    }
+    Err(Fail::new(format_args!("{told} in place of {want}")))
+}
 
 /// Writes each line down as its moment and what happened.
 fn write_lines(text: &mut String, lines: &[Line]) -> Result<(), AllocError> {

@@ -145,6 +145,7 @@ fn write_both_gathered<R: Wait>(
     ensures taker { OnOk result ((taker.new.inbox ≡ inbox.now) × (taker.new.desk.marked ≡ false)) }
     ensures gathered { OnOk result (AllGathered taker.new.desk) }
 {
+    write_known(text, inbox, taker)?;
     let (first, second) = senders;
     inbox.gather(rt, taker, first);
     write_taken(rt, text, inbox, taker, most.0)?;
@@ -189,7 +190,7 @@ fn two_senders(rt: HostRuntime) -> Result<(), Fail> {
         alloc,
         &four,
         (0, 3),
-        "known 2|known 2|known 4|5 1 0 0 9|5 1 1 0 9|5 1 1 1 9|known 1|5 1 0 1 9|",
+        "known 0|known 2|known 2|known 4|5 1 0 0 9|5 1 1 0 9|5 1 1 1 9|known 1|5 1 0 1 9|",
     )?;
     // What a sender pushed is in the inbox before the sender is gathered: the taker takes it, though it knows only of the
     // other's.
@@ -198,10 +199,16 @@ fn two_senders(rt: HostRuntime) -> Result<(), Fail> {
         alloc,
         &[copy(1, 8), copy(0, 7)],
         (1, 0),
-        "known 1|5 1 1 8 9|known 1|known 1|known 1|5 1 0 7 9|",
+        "known 0|known 1|5 1 1 8 9|known 1|known 1|known 1|5 1 0 7 9|",
     )?;
     // Nobody pushes.
-    gives(&rt, alloc, &[], (0, 0), "known 0|known 0|known 0|known 0|")
+    gives(
+        &rt,
+        alloc,
+        &[],
+        (0, 0),
+        "known 0|known 0|known 0|known 0|known 0|",
+    )
 }
 
 // A sender pushes and is gathered, and then another one. Writes down what is known and taken.

@@ -5,7 +5,7 @@ ghost use Rattle.mote_net.specs.Net.{net_of};
 ghost use Rattle.window_run.specs.Shares.{AreGoingOn, AreInNet, ResidentGoesOn};
 ghost use Rattle.window_run.specs.Window.{is_rising};
 
-use super::{write_lines, write_sends};
+use super::{same_text, write_lines, write_sends};
 use mote_node::Mote;
 use net_scenario::{Net, read_scenario};
 use radio_packet::RadioCopy;
@@ -106,17 +106,24 @@ fn told(alloc: Global, outs: &[WindowOut]) -> Result<String, AllocError> {
     Ok(text)
 }
 
+/// Fails where the two motes of a net give something else.
+fn give<R: Wait + RandomSource + AllocGlobal>(rt: &R, net: &Net, want: &str) -> Result<(), Fail> {
+    if net.motes() != 2 {
+        return Err(Fail::new(format_args!("not two motes")));
+    }
+    let outs = outs_with_a_copy(rt, net)?;
+    let told = told(rt.alloc(), outs.as_slice())?;
+    same_text(told.as_str(), want)
+}
+
 #[test]
 fn a_share_of_two_motes(rt: HostRuntime) -> Result<(), Fail> {
     let net = read_scenario(rt.alloc(), SENDER_AND_RECEIVER)?;
-    assert!(rt; net.motes() == 2);
-    let outs = outs_with_a_copy(&rt, &net)?;
-    let told = told(rt.alloc(), outs.as_slice())?;
-    assert_eq!(rt;
-        told.as_str(),
-        "mote|0 Start(Etimer)|0 Start(Ctimer)|0 Start(Radio)|0 Start(Own(0))|0 Send(0, 5)|0 Leave(Own(0))|sent 0 0 0 5|mote|0 Start(Etimer)|0 Start(Ctimer)|0 Start(Radio)|0 Start(Own(0))|2 Recv(0, 0, 5)|2 Post(0, One(Own(0)), 138, 5)|2 Take(0, Own(0))|2 Print(Own(0), 0)|2 Print(Own(0), 5)|"
-    );
-    Ok(())
+    give(
+        &rt,
+        &net,
+        "mote|0 Start(Etimer)|0 Start(Ctimer)|0 Start(Radio)|0 Start(Own(0))|0 Send(0, 5)|0 Leave(Own(0))|sent 0 0 0 5|mote|0 Start(Etimer)|0 Start(Ctimer)|0 Start(Radio)|0 Start(Own(0))|2 Recv(0, 0, 5)|2 Post(0, One(Own(0)), 138, 5)|2 Take(0, Own(0))|2 Print(Own(0), 0)|2 Print(Own(0), 5)|",
+    )
 }
 
 /// Writes down the motes in the order of their turns, each as a digit.
@@ -148,11 +155,18 @@ fn order_of_turns<R: Wait + RandomSource + AllocGlobal>(
     Ok((diary.motes.load(SeqCst), outs.len()))
 }
 
+/// Whether the two motes of a net take their turns alternately, and both give something.
+fn alternate<R: Wait + RandomSource + AllocGlobal>(rt: &R, net: &Net) -> Result<bool, ShareError> {
+    if net.motes() != 2 {
+        return Ok(false);
+    }
+    Ok(order_of_turns(rt, net)? == (121212, 2))
+}
+
 /// The motes of one worker take their turns alternately.
 #[test]
 fn motes_alternate(rt: HostRuntime) -> Result<(), Fail> {
     let net = read_scenario(rt.alloc(), BUSY_PAIR)?;
-    assert!(rt; net.motes() == 2);
-    assert!(rt; order_of_turns(&rt, &net)? == (121212, 2));
+    assert!(rt; alternate(&rt, &net)?);
     Ok(())
 }

@@ -3,7 +3,7 @@
 ghost use Rattle.std.specs.Prelude.{◌≡◌, ◌≤◌, ◌^◌, true, IfOk};
 ghost use Rattle.window_run.specs.Window.{is_rising};
 
-use super::write_lines;
+use super::{same_text, write_lines};
 use futures::Future;
 use futures::task::Poll;
 use futures::test::MockTask;
@@ -50,10 +50,18 @@ fn write_poll(
 }
 
 /// A program, and a task that polls the window of its mote.
-#[derive(Drop)]
 struct Bench {
     task: MockTask,
     program: Program,
+}
+
+impl Drop for Bench {
+    fn drop(self) {
+        let Bench {
+            task: _,
+            program: _,
+        } = self;
+    }
 }
 
 fn new_bench<R: RandomSource + AllocGlobal>(rt: &R, text: &str) -> Result<Bench, Fail> {
@@ -99,16 +107,28 @@ fn told_of_a_new_mote(alloc: Global, bench: &Bench) -> Result<String, Fail> {
     Ok(told(alloc, bench, mote, Vec::new(alloc))?)
 }
 
+/// Fails where something else is written of that.
+fn new_mote_gives(alloc: Global, bench: &Bench, want: &str) -> Result<(), Fail> {
+    let told = told_of_a_new_mote(alloc, bench)?;
+    same_text(told.as_str(), want)
+}
+
 /// After its turn the window is ready, and given up.
 #[test]
 fn a_window_of_one_turn(rt: HostRuntime) -> Result<(), Fail> {
     let bench = new_bench(&rt, PRINT_THEN_YIELD)?;
-    let told = told_of_a_new_mote(rt.alloc(), &bench)?;
-    assert_eq!(rt;
-        told.as_str(),
-        "pending|0 Start(Etimer)|0 Start(Ctimer)|0 Start(Radio)|0 Start(Own(0))|0 Print(Own(0), 1)|Failed|"
-    );
-    Ok(())
+    new_mote_gives(
+        rt.alloc(),
+        &bench,
+        "pending|0 Start(Etimer)|0 Start(Ctimer)|0 Start(Radio)|0 Start(Own(0))|0 Print(Own(0), 1)|Failed|",
+    )
+}
+
+/// Whether the window of a new mote goes on or is given up for want of memory.
+fn goes_on_or_fails(alloc: Global, bench: &Bench) -> Result<bool, Fail> {
+    let told = told_of_a_new_mote(alloc, bench)?;
+    let text = told.as_str();
+    Ok(text.starts_with("pending|") || text == "Memory|Failed|Failed|")
 }
 
 /// A window whose turn found no memory is given up. With each allocation refused in turn this is looked at;
@@ -116,9 +136,7 @@ fn a_window_of_one_turn(rt: HostRuntime) -> Result<(), Fail> {
 #[test]
 fn a_refused_turn(rt: HostRuntime) -> Result<(), Fail> {
     let bench = new_bench(&rt, PRINT_THEN_YIELD)?;
-    let told = told_of_a_new_mote(rt.alloc(), &bench)?;
-    let text = told.as_str();
-    assert!(rt; text.starts_with("pending|") || text == "Memory|Failed|Failed|");
+    assert!(rt; goes_on_or_fails(rt.alloc(), &bench)?);
     Ok(())
 }
 
@@ -143,29 +161,38 @@ fn one_copy(alloc: Global) -> Result<Vec<RadioCopy>, AllocError>
     Ok(vec![in alloc; copy]?)
 }
 
-/// What three polls give of a mote to which a copy comes before its last turn.
-fn told_of_the_past(alloc: Global, bench: &Bench) -> Result<String, Fail> {
+/// Fails where three polls give something else of a mote to which a copy comes before its last turn.
+fn late_copy_gives(alloc: Global, bench: &Bench, want: &str) -> Result<(), Fail> {
     let mote = turned_mote(alloc, &bench.program)?;
     let copies = one_copy(alloc)?;
-    Ok(told(alloc, bench, mote, copies)?)
+    let told = told(alloc, bench, mote, copies)?;
+    same_text(told.as_str(), want)
 }
 
 /// A copy comes before the mote's last turn, so the turn is refused, and the window is given up.
 #[test]
 fn a_turn_in_the_past(rt: HostRuntime) -> Result<(), Fail> {
     let bench = new_bench(&rt, PRINT_THEN_YIELD)?;
-    let told = told_of_the_past(rt.alloc(), &bench)?;
-    assert_eq!(rt; told.as_str(), "Past|Failed|Failed|");
-    Ok(())
+    late_copy_gives(rt.alloc(), &bench, "Past|Failed|Failed|")
 }
 
 /// Two windows that are polled in some order, and what was written of each.
-#[derive(Drop)]
 struct Pair<'a> {
     first: MoteWindow<'a, NoGate>,
     second: MoteWindow<'a, NoGate>,
     first_told: String,
     second_told: String,
+}
+
+impl Drop for Pair<'_> {
+    fn drop(self) {
+        let Pair {
+            first: _,
+            second: _,
+            first_told: _,
+            second_told: _,
+        } = self;
+    }
 }
 
 /// The window of a new mote to which no copy comes.
@@ -207,6 +234,19 @@ impl Pair<'_> {
     }
 }
 
+/// Whether the two windows have given what they give alone.
+fn gave_the_same(pair: &Pair<'_>) -> bool {
+    pair.first_told.as_str() == THREE_TIMERS_TOLD && pair.second_told.as_str() == POLLS_TOLD
+}
+
+/// Polls both windows in this order.
+fn poll_in_order(pair: &mut Pair<'_>, task: &MockTask, order: &[bool]) -> Result<(), AllocError> {
+    for is_first in order {
+        pair.poll(task, *is_first)?;
+    }
+    Ok(())
+}
+
 /// Whether the two windows give what they give alone, when they are polled in this order.
 fn same_in_order(
     alloc: Global,
@@ -215,10 +255,23 @@ fn same_in_order(
     order: &[bool],
 ) -> Result<bool, Fail> {
     let mut pair = new_pair(alloc, &timers.program, polls)?;
-    for is_first in order {
-        pair.poll(&timers.task, *is_first)?;
+    poll_in_order(&mut pair, &timers.task, order)?;
+    Ok(gave_the_same(&pair))
+}
+
+/// Fails where they don't in some order: all of one before the other, or alternately, whichever is polled first.
+fn same_in_each_order(alloc: Global, timers: &Bench, polls: &Program) -> Result<(), Fail> {
+    for order in [
+        [true, true, true, false, false, false, false],
+        [true, false, true, true, false, false, false],
+        [true, false, true, false, true, false, false],
+        [false, false, false, false, true, true, true],
+    ] {
+        if !same_in_order(alloc, timers, polls, &order)? {
+            return Err(Fail::new(format_args!("{order:?}")));
+        }
     }
-    Ok(pair.first_told.as_str() == THREE_TIMERS_TOLD && pair.second_told.as_str() == POLLS_TOLD)
+    Ok(())
 }
 
 /// Whichever is polled first: all of one before the other, or alternately.
@@ -226,16 +279,5 @@ fn same_in_order(
 fn windows_polled_alternately(rt: HostRuntime) -> Result<(), Fail> {
     let timers = new_bench(&rt, THREE_TIMERS)?;
     let polls = read(rt.alloc(), POLLS)?;
-    for order in [
-        [true, true, true, false, false, false, false],
-        [true, false, true, true, false, false, false],
-        [true, false, true, false, true, false, false],
-        [false, false, false, false, true, true, true],
-    ] {
-        assert!(rt;
-            same_in_order(rt.alloc(), &timers, &polls, &order)?,
-            "{order:?}"
-        );
-    }
-    Ok(())
+    same_in_each_order(rt.alloc(), &timers, &polls)
 }
