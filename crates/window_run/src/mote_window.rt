@@ -1,6 +1,6 @@
 //! A mote's window as a future: each poll takes one turn.
 
-ghost use Rattle.std.specs.Prelude.{◌≡◌, ◌≤◌, ◌^◌, true, None, IsSomeAnd, IfOk, IfErr, ⊤};
+ghost use Rattle.std.specs.Prelude.{◌≡◌, ◌≤◌, ◌^◌, true, Some, None, IsSomeAnd, IfOk, IfErr, ⊤};
 ghost use Rattle.futures.specs.Poll.{IfReady, OnPending};
 ghost use Rattle.futures.specs.Task.{Covers, Keeps};
 ghost use Rattle.program_tree.specs.Program.{tree_of};
@@ -12,7 +12,7 @@ ghost use Rattle.window_run.specs.Turns.{MayAnswer, TakesTurn, RestsAs, ErrsAs};
 use crate::gate::Gate;
 use crate::out::WindowOut;
 use crate::own::OwnWindow;
-use crate::room::TurnRoom;
+use crate::room::{TurnRoom, WindowRoom};
 use futures::Future;
 use futures::task::{Context, Poll};
 use mote_node::{Mote, MoteError};
@@ -59,7 +59,16 @@ impl<'a, G: Gate> MoteWindow<'a, G> {
         ensures window { let p = tree_of program.now in IsSomeAnd result.own (λ own. window_in own ≡ opened p until copies.items (node_in p mote)) }
         ensures course { let p = tree_of program.now in IsSomeAnd result.own (λ own. course_in own ≡ course_of p until copies.items (node_in p mote)) }
     {
-        let own = OwnWindow::new(alloc, mote, program, copies, until);
+        let room = WindowRoom::new(alloc);
+        let own = OwnWindow::new(alloc, mote, program, copies, until, room);
+        MoteWindow::over(own, worker, gate)
+    }
+
+    /// The window of a mote, as it stands.
+    pub(crate) fn over(own: OwnWindow<'a>, worker: u16, gate: &'a G) -> MoteWindow<'a, G>
+        ensures worker { result.worker ≡ worker }
+        ensures own { result.own ≡ Some own.entry }
+    {
         MoteWindow {
             own: Some(own),
             worker,

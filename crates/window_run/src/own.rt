@@ -10,7 +10,7 @@ ghost use Rattle.window_run.specs.Window.{Window, HasTurn, IsOver, IsNextOf, is_
 
 use crate::gate::Gate;
 use crate::out::WindowOut;
-use crate::room::{TurnRoom, room_in};
+use crate::room::{TurnRoom, WindowRoom, room_in};
 use mote_node::{Mote, MoteError};
 use process_kernel::Line;
 use program_tree::Program;
@@ -55,7 +55,8 @@ impl<'a> OwnWindow<'a> {
     ghost use Rattle.window_run.specs.Turns.{TurnsTo, IsErrorAt, IsRefusal};
 
     /// The mote, with this program, before its first turn in the window. The copies are the mote's, each below `until`, in the
-    /// order of moment, sender and number. `until` is at most 2^40. This takes no memory.
+    /// order of moment, sender and number. `until` is at most 2^40. Lines and packets are written into this room. This takes no
+    /// memory.
     #[tactic(auto, unfolding(crate::specs::Own::window_in, crate::specs::Own::course_in))]
     pub fn new(
         alloc: Global,
@@ -63,6 +64,7 @@ impl<'a> OwnWindow<'a> {
         program: &'a Program,
         copies: Vec<RadioCopy>,
         until: u64,
+        room: WindowRoom,
     ) -> OwnWindow<'a>
         requires until { until ≤ 2 ^ 40 }
         requires rising { is_rising copies.items ≡ true }
@@ -70,6 +72,12 @@ impl<'a> OwnWindow<'a> {
         ensures course { let p = tree_of program.now in course_in result ≡ course_of p until copies.items (node_in p mote) }
     {
         let wake = mote.wake();
+        let WindowRoom {
+            mut lines,
+            mut sends,
+        } = room;
+        lines.clear();
+        sends.clear();
         OwnWindow {
             alloc,
             program,
@@ -78,8 +86,8 @@ impl<'a> OwnWindow<'a> {
             wake,
             copies,
             next: 0,
-            lines: Vec::new(alloc),
-            sends: Vec::new(alloc),
+            lines,
+            sends,
         }
     }
 
@@ -141,7 +149,7 @@ impl<'a> OwnWindow<'a> {
             until: _,
             mote,
             wake,
-            copies: _,
+            copies,
             next: _,
             lines,
             sends,
@@ -151,6 +159,7 @@ impl<'a> OwnWindow<'a> {
             lines,
             sends,
             wake,
+            copies,
         }
     }
 }

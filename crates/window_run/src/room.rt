@@ -1,7 +1,8 @@
-//! The room that a worker's turns write into.
+//! The room that a worker's turns and windows write into.
 
 use mote_node::TurnOut;
-use radio_packet::Arrival;
+use process_kernel::Line;
+use radio_packet::{Arrival, Sent};
 use std::alloc::{AllocError, Global};
 
 /// What comes to a mote in a turn, and what the turn tells. Each turn begins with both anew, so the room goes from turn to turn, and
@@ -27,5 +28,22 @@ pub(crate) fn room_in(
     match room {
         Some(room) => Ok(&mut **room),
         None => Err(AllocError),
+    }
+}
+
+/// The room for what a mote writes and sends in a window. The window begins with both lists empty, whatever they had.
+#[derive(Drop)]
+pub struct WindowRoom {
+    pub lines: Vec<Line>,
+    pub sends: Vec<Sent>,
+}
+
+impl WindowRoom {
+    /// No room yet. This takes no memory.
+    pub fn new(alloc: Global) -> WindowRoom {
+        WindowRoom {
+            lines: Vec::new(alloc),
+            sends: Vec::new(alloc),
+        }
     }
 }

@@ -3,18 +3,21 @@
 ghost use Rattle.std.specs.Prelude.{◌≡◌, true, Some};
 ghost use Rattle.window_run.specs.Window.{is_rising};
 
+use crate::room::WindowRoom;
 use mote_node::Mote;
 use radio_packet::RadioCopy;
 use std::alloc::AllocError;
 use std::error::Error;
 use std::fmt;
 
-/// A mote with its number in the net, and the copies that come to it in the window, in the order of moment, sender and number.
+/// A mote with its number in the net, the copies that come to it in the window, in the order of moment, sender and number, and the
+/// room for what it writes and sends there.
 #[derive(Drop)]
 pub struct Resident {
     pub number: u16,
     pub mote: Mote,
     pub copies: Vec<RadioCopy>,
+    pub room: WindowRoom,
     ghost rising: { is_rising copies.items ≡ true },
 }
 

@@ -13,6 +13,7 @@ ghost use Rattle.window_run.specs.Turns.{MayGive, HasTurns};
 use crate::gate::Gate;
 use crate::mote_window::MoteWindow;
 use crate::out::WindowOut;
+use crate::own::OwnWindow;
 use crate::room::TurnRoom;
 use crate::share::{Resident, Residents, ShareError};
 use crate::slot::Slot;
@@ -63,9 +64,10 @@ fn open<'a, G: Gate>(
         number,
         mote,
         copies,
+        room,
     } = resident;
-    let program = net.program(number);
-    MoteWindow::new(alloc, mote, program, copies, until, worker, gate)
+    let own = OwnWindow::new(alloc, mote, net.program(number), copies, until, room);
+    MoteWindow::over(own, worker, gate)
 }
 
 impl<'a, G: Gate> ShareWindow<'a, G> {

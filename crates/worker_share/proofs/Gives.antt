@@ -20,7 +20,7 @@ use Rattle.window_law.specs.Windows.{LoneMote, WakesFrom, own_turn, IsQuiet, Alo
 use Rattle.window_law.proofs.Lists.{every_append, every_weaker, every_flat_map}
 use Rattle.window_run.specs.declared.out.WindowOut.{WindowOut}
 use Rattle.window_run.specs.declared.share.Resident.{Resident}
-use Rattle.window_run.specs.Window.{Window, lone_node, number_of}
+use Rattle.window_run.specs.Window.{lone_node, number_of}
 use Rattle.window_run.specs.Out.{Gives}
 use Rattle.window_run.specs.Laws.{IsAhead}
 use Rattle.window_run.specs.Shares.{ResidentGives, ResidentGoesOn}

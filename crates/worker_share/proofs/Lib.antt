@@ -11,5 +11,6 @@ pub mod Left
 pub mod Lone
 pub mod Parts
 pub mod Rises
+pub mod Sends
 pub mod Starts
 pub mod TakesIn

@@ -1,5 +1,5 @@
 -- Between two windows a share takes in copies that arrived.
-use Rattle.std.proofs.Common.{◌≡◌, ℕ, ◌++◌, List, map, arith}
+use Rattle.std.proofs.Common.{ℕ, ◌++◌, List, map, arith}
 use Rattle.std.specs.List.{AllByRecursion}
 use Rattle.radio_packet.specs.declared.copy.RadioCopy.{RadioCopy}
 use Rattle.mote_net.specs.Net.{NetTold}

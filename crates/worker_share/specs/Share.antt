@@ -1,5 +1,5 @@
 -- What one worker of a net has: its motes, their traces and packets so far, and what is to come to them.
-use Rattle.std.specs.Prelude.{ℕ, ◌≡◌, Bool, true, not, ◌&&◌, ◌==◌, nat_lt, if◌then◌else◌, false, List, [], length, Option, Some, None, slice_get, slice_index_or, Vec}
+use Rattle.std.specs.Prelude.{ℕ, ◌≡◌, Bool, true, not, ◌&&◌, nat_lt, if◌then◌else◌, false, List, [], length, Option, Some, None, slice_index_or, Vec}
 use Rattle.std.specs.List.{filter}
 use Rattle.std.specs.declared.alloc.Global.{Global}
 use Rattle.program_tree.specs.Code.{Tree}
@@ -11,7 +11,7 @@ use Rattle.mote_node.specs.Wake.{wake_of}
 use Rattle.radio_packet.specs.declared.copy.RadioCopy.{RadioCopy}
 use Rattle.mote_net.specs.Net.{NetTold}
 use Rattle.window_law.specs.Agenda.{Item, is_wake_of, packets, wake_items}
-use Rattle.window_law.specs.Windows.{LoneMote, WakesFrom, copies_by, is_from_sender, is_sent_by}
+use Rattle.window_law.specs.Windows.{LoneMote, WakesFrom, is_from_sender, is_sent_by}
 use Rattle.net_agenda.specs.Buckets.{Buckets, Holds}
 use Rattle.net_agenda.specs.NetSystem.{tree_at, system_of}
 use Rattle.worker_cut.specs.Crossed.{is_own, copies_known}

@@ -7,6 +7,7 @@ ghost use Rattle.window_law.specs.Agenda.{Item};
 ghost use Rattle.net_agenda.specs.Items.{copy_at};
 ghost use Rattle.worker_share.specs.Calls.{copies_for, is_not_before, Gathers, HasItems};
 
+use crate::rooms::Rooms;
 use net_agenda::Agenda;
 use radio_packet::{Arrival, RadioCopy};
 use std::alloc::{AllocError, Global};
@@ -31,11 +32,16 @@ impl CalledMotes {
     }
 
     /// A mote is called at a moment, with the copies that arrive.
-    fn add(&mut self, moment: u64, mote: u16, arrivals: &[Arrival]) -> Result<(), AllocError>
+    fn add(
+        &mut self,
+        moment: u64,
+        mote: u16,
+        arrivals: &[Arrival],
+        rooms: &mut Rooms,
+    ) -> Result<(), AllocError>
         ensures { OnOk result ((k : ℕ) → copies_for self.new.copies k ≡ (if mote == k then Some (unwrap_or (copies_for self.old.copies mote) [] ++ map (copy_at moment mote) arrivals.now) else copies_for self.old.copies k)) }
     {
-        let none = Vec::new(self.alloc);
-        let copies = self.copies.entry(mote)?.or_insert(none);
+        let copies = self.copies.entry(mote)?.or_insert_with(|| rooms.list());
         add_copies(copies, moment, mote, arrivals)?;
         Ok(())
     }
@@ -70,7 +76,12 @@ fn add_copies(
 }
 
 /// Takes all that is to come before a moment out of the agenda, mote by mote.
-pub fn gather(alloc: Global, agenda: &mut Agenda, until: u64) -> Result<CalledMotes, AllocError>
+pub fn gather(
+    alloc: Global,
+    agenda: &mut Agenda,
+    until: u64,
+    rooms: &mut Rooms,
+) -> Result<CalledMotes, AllocError>
     requires { HasItems agenda.old.buckets }
     ensures gathered { IfOk result (λ calls. (items : List Item) → Holds agenda.old.buckets items → Gathers until items calls.copies) }
     ensures rest { OnOk result ((items : List Item) → Holds agenda.old.buckets items → Holds agenda.new.buckets (filter (is_not_before until) items)) }
@@ -81,7 +92,7 @@ pub fn gather(alloc: Global, agenda: &mut Agenda, until: u64) -> Result<CalledMo
             break;
         }
         let arrivals = agenda.take_due(moment, mote)?;
-        calls.add(moment, mote, &arrivals)?;
+        calls.add(moment, mote, &arrivals, rooms)?;
     }
     Ok(calls)
 }

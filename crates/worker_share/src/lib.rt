@@ -2,6 +2,7 @@
 #![tactic(auto)]
 
 mod calls;
+mod rooms;
 mod share;
 mod window;
 

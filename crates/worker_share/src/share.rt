@@ -12,6 +12,7 @@ ghost use Rattle.worker_cut.specs.Crossed.{is_own, copies_known};
 ghost use Rattle.worker_share.specs.Share.{Motes, Keeps, node_at, is_to_come};
 ghost use Rattle.worker_share.specs.Ended.{TellsAtEnd};
 
+use crate::rooms::Rooms;
 use mote_net::Net;
 use mote_node::Mote;
 use net_agenda::{Agenda, new_mote};
@@ -20,7 +21,8 @@ use radio_packet::Sent;
 use std::alloc::{AllocError, Global};
 
 /// What one worker of a net has. Motes and traces stand by the number of the mote, with none and an empty one for the motes of
-/// other workers; the packets of the worker's motes, each mote's in order; and what is to come to its motes.
+/// other workers; the packets of the worker's motes, each mote's in order; what is to come to its motes; and the rooms that earlier
+/// windows left.
 pub struct Share {
     pub(crate) alloc: Global,
     pub(crate) worker: u16,
@@ -28,6 +30,7 @@ pub struct Share {
     pub(crate) traces: Vec<Vec<Line>>,
     pub(crate) log: Vec<Sent>,
     pub(crate) agenda: Agenda,
+    pub(crate) rooms: Rooms,
 }
 
 /// By hand, so that a share is dropped by one call: the check of a function that owns one sees no more of it.
@@ -40,6 +43,7 @@ impl Drop for Share {
             traces: _,
             log: _,
             agenda: _,
+            rooms: _,
         } = self;
     }
 }
@@ -95,6 +99,7 @@ impl Share {
             traces: Vec::new(alloc),
             log: Vec::new(alloc),
             agenda: Agenda::new(alloc),
+            rooms: Rooms::new(alloc),
         };
         for number in 0..net.motes() {
             let own = is_own(of, worker, number);
@@ -133,6 +138,7 @@ impl Share {
             traces,
             log,
             agenda,
+            rooms: _,
         } = self;
         let left = agenda.left()?;
         Ok(Ended { traces, log, left })

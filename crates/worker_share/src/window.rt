@@ -1,6 +1,6 @@
 //! A worker's motes in a window: those that have a turn leave the share, run, and come back.
 
-ghost use Rattle.std.specs.Prelude.{◌≡◌, ◌+◌, ◌<◌, ◌≤◌, ◌^◌, ◌++◌, ◌==◌, ℕ, true, [], length, map, List, Some, None, IfOk, OnOk, IsSome, slice_index_or, slice_set, if◌then◌else◌, Vec as VecOfCode};
+ghost use Rattle.std.specs.Prelude.{◌≡◌, ◌+◌, ◌<◌, ◌≤◌, ◌^◌, ◌++◌, ◌∷◌, ◌==◌, ℕ, true, [], length, map, List, Some, None, IfOk, OnOk, IsSome, slice_index_or, slice_set, if◌then◌else◌, Vec as VecOfCode};
 ghost use Rattle.std.specs.declared.alloc.Global.{Global as GlobalOfCode};
 ghost use Rattle.process_kernel.specs.declared.line.Line.{Line as LineOfCode};
 ghost use Rattle.std.specs.List.{filter, flat_map, AllByRecursion};
@@ -18,6 +18,7 @@ ghost use Rattle.worker_share.specs.Window.{CanRun, ComesIn, GoesOut, RunsWindow
 ghost use Rattle.worker_share.specs.Leaving.{wake_from, MotesLeave, HasNumber, IsOutOfNet, MoteReturns};
 
 use crate::calls::{CalledMotes, gather};
+use crate::rooms::Rooms;
 use crate::share::{Share, is_own};
 use mote_net::Net;
 use mote_node::Mote;
@@ -27,8 +28,9 @@ use radio_medium::Medium;
 use radio_packet::{RadioCopy, Sent};
 use std::alloc::{AllocError, AllocGlobal, Global};
 use std::random::RandomSource;
+use std::slice::from_ref;
 use std::sync::Wait;
-use window_run::{Gate, Resident, ShareError, WindowOut, run_share};
+use window_run::{Gate, Resident, ShareError, WindowOut, WindowRoom, run_share};
 
 /// A wake that isn't before a moment.
 fn wake_from(until: u64, wake: Option<u64>) -> Option<u64>
@@ -60,6 +62,7 @@ pub(crate) fn leave(
     agenda: &mut Agenda,
     until: u64,
     calls: CalledMotes,
+    rooms: &mut Rooms,
 ) -> Result<Vec<Resident>, AllocError>
     requires here { (k : ℕ) → IsSome (copies_for calls.copies k) → IsSome (mote_here motes.old.items k) }
     requires rising { (k : ℕ) (copies : List RadioCopy) → copies_for calls.copies k ≡ Some copies → is_rising copies ≡ true }
@@ -74,35 +77,49 @@ pub(crate) fn leave(
             number,
             mote,
             copies,
+            room: rooms.window(),
         })?;
     }
     Ok(residents)
 }
 
-/// Deals copies out: those for the worker's own motes, and those for others.
-fn deal(
+/// A copy goes on its way: one for a mote of the worker is to come, another goes away.
+fn send_copy(
+    of: &[u16],
+    worker: u16,
+    copy: &RadioCopy,
+    agenda: &mut Agenda,
+    away: &mut Vec<RadioCopy>,
+) -> Result<(), AllocError>
+    ensures own { OnOk result ((items : List Item) → Holds agenda.old.buckets items → Holds agenda.new.buckets (items ++ map Packet (filter (λ copy. is_own of.now worker copy.to) (copy.now ∷ [])))) }
+    ensures away { OnOk result (away.new.items ≡ away.old.items ++ filter (leaves (is_own of.now worker)) (copy.now ∷ [])) }
+{
+    if is_own(of, worker, copy.to) {
+        return agenda.put_copies(from_ref(copy));
+    }
+    away.push(*copy)?;
+    Ok(())
+}
+
+/// Copies go on their way, one after another.
+fn send_copies(
     of: &[u16],
     worker: u16,
     copies: &[RadioCopy],
-    own: &mut Vec<RadioCopy>,
+    agenda: &mut Agenda,
     away: &mut Vec<RadioCopy>,
 ) -> Result<(), AllocError>
-    ensures own { OnOk result (own.new.items ≡ own.old.items ++ filter (λ copy. is_own of.now worker copy.to) copies.now) }
+    ensures own { OnOk result ((items : List Item) → Holds agenda.old.buckets items → Holds agenda.new.buckets (items ++ map Packet (filter (λ copy. is_own of.now worker copy.to) copies.now))) }
     ensures away { OnOk result (away.new.items ≡ away.old.items ++ filter (leaves (is_own of.now worker)) copies.now) }
 {
     for copy in copies {
-        if is_own(of, worker, copy.to) {
-            own.push(*copy)?;
-        } else {
-            away.push(*copy)?;
-        }
+        send_copy(of, worker, copy, agenda, away)?;
     }
     Ok(())
 }
 
 /// The packets of a mote go out: the copies for the worker's own motes are to come, the others go away.
 pub(crate) fn send_all(
-    alloc: Global,
     medium: &Medium,
     of: &[u16],
     worker: u16,
@@ -114,23 +131,24 @@ pub(crate) fn send_all(
     ensures own { OnOk result ((items : List Item) → Holds agenda.old.buckets items → Holds agenda.new.buckets (items ++ map Packet (filter (λ copy. is_own of.now worker copy.to) (flat_map (copies medium.now) sends.now)))) }
     ensures away { OnOk result (away.new.items ≡ away.old.items ++ filter (leaves (is_own of.now worker)) (flat_map (copies medium.now) sends.now)) }
 {
-    let mut own = Vec::new(alloc);
     for sent in sends {
         let copies = medium.copies(sent)?;
-        deal(of, worker, &copies, &mut own, away)?;
+        send_copies(of, worker, &copies, agenda, away)?;
     }
-    agenda.put_copies(&own)?;
     Ok(())
 }
 
-/// Lines more at the end of a mote's trace.
-fn add_lines(traces: &mut Vec<Vec<Line>>, number: u16, lines: Vec<Line>) -> Result<(), AllocError>
+/// Moves lines to the end of a mote's trace.
+fn add_lines(
+    traces: &mut Vec<Vec<Line>>,
+    number: u16,
+    lines: &mut Vec<Line>,
+) -> Result<(), AllocError>
     requires { number < length traces.old.items }
     ensures length { OnOk result (length traces.new.items ≡ length traces.old.items) }
-    ensures lines { OnOk result ((k : ℕ) (d : VecOfCode LineOfCode GlobalOfCode) → (slice_index_or traces.new.items k d).items ≡ (slice_index_or traces.old.items k d).items ++ (if k == number then lines.items else [])) }
+    ensures lines { OnOk result ((k : ℕ) (d : VecOfCode LineOfCode GlobalOfCode) → (slice_index_or traces.new.items k d).items ≡ (slice_index_or traces.old.items k d).items ++ (if k == number then lines.old.items else [])) }
 {
-    let mut lines = lines;
-    traces[usize::from(number)].append(&mut lines)?;
+    traces[usize::from(number)].append(lines)?;
     Ok(())
 }
 
@@ -155,20 +173,14 @@ impl Share {
             lines,
             sends,
             wake,
+            copies,
         } = out;
-        let mut sends = sends;
+        let mut room = WindowRoom { lines, sends };
         self.agenda.put_next_wake(wake, number)?;
-        send_all(
-            self.alloc,
-            medium,
-            of,
-            self.worker,
-            &sends,
-            &mut self.agenda,
-            away,
-        )?;
-        add_lines(&mut self.traces, number, lines)?;
-        self.log.append(&mut sends)?;
+        send_all(medium, of, self.worker, &room.sends, &mut self.agenda, away)?;
+        add_lines(&mut self.traces, number, &mut room.lines)?;
+        self.log.append(&mut room.sends)?;
+        self.rooms.keep(copies, room)?;
         self.motes[usize::from(number)] = Some(mote);
         Ok(())
     }
@@ -214,8 +226,14 @@ impl Share {
         ensures out { let n = net_of net.now in IfOk result (λ sent. AllByRecursion (GoesOut n of.now self.old.worker) sent.items) }
     {
         self.agenda.put_copies(&arrived)?;
-        let calls = gather(self.alloc, &mut self.agenda, until)?;
-        let residents = leave(&mut self.motes, &mut self.agenda, until, calls)?;
+        let calls = gather(self.alloc, &mut self.agenda, until, &mut self.rooms)?;
+        let residents = leave(
+            &mut self.motes,
+            &mut self.agenda,
+            until,
+            calls,
+            &mut self.rooms,
+        )?;
         let called = window_run::Residents {
             worker: self.worker,
             residents,

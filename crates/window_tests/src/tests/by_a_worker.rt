@@ -15,7 +15,7 @@ use std::sync::Wait;
 use std::sync::atomic::AtomicU64;
 use std::sync::atomic::Ordering::SeqCst;
 use std::test::Fail;
-use window_run::{Gate, NoGate, Resident, Residents, ShareError, WindowOut, run_share};
+use window_run::{Gate, NoGate, Resident, Residents, ShareError, WindowOut, WindowRoom, run_share};
 
 /// A mote that sends one packet, and one that hears it 2 moments later.
 const SENDER_AND_RECEIVER: &str =
@@ -44,6 +44,7 @@ fn resident(
         number,
         mote,
         copies,
+        room: WindowRoom::new(alloc),
     })
 }
 

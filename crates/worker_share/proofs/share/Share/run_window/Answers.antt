@@ -48,7 +48,7 @@ run_share-requires-clause-go_on g c =
     let n = net_of c.args.net.now in
     let r = c.requires.ready in
     let at = subst (λ l. Holds c.put_copies.new.self.buckets (r.keeps.agenda.items ++ map Packet l)) c.deref.ensures.value (c.in_ok-put_copies.ensures r.keeps.agenda.items r.keeps.agenda.holds) in
-    let share : Share = record c.args.self.now { motes = c.leave.new.motes; agenda = c.leave.new.agenda } in
+    let share : Share = record c.args.self.now { motes = c.leave.new.motes; agenda = c.leave.new.agenda; rooms = c.leave.new.rooms } in
     go_on n c.args.of.now r.worker r.from c.args.until r.motes r.taken c.args.arrived.items c.args.self.now share r.keeps r.order r.come c.requires.of c.in_ok-calls.calls.copies c.gather.new.agenda.buckets
     c.in_ok-residents.residents.items (c.in_ok-calls.ensures.gathered _ at) (c.in_ok-calls.ensures.rest _ at) c.in_ok-residents.ensures
 
@@ -58,7 +58,7 @@ loop-out-init g c =
     let kept = c.requires.ready.keeps in
     let base = subst (λ l. Holds c.put_copies.new.self.buckets (kept.agenda.items ++ map Packet l)) c.deref.ensures.value (c.in_ok-put_copies.ensures kept.agenda.items kept.agenda.holds) in
     let left = c.in_ok-residents.ensures in
-    let share : Share = record c.args.self.now { motes = c.leave.new.motes; agenda = c.leave.new.agenda } in
+    let share : Share = record c.args.self.now { motes = c.leave.new.motes; agenda = c.leave.new.agenda; rooms = c.leave.new.rooms } in
     record {
       motes = left.places ∙ kept.places;
       traces = kept.traces_kept;
