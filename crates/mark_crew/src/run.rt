@@ -152,13 +152,13 @@ where
     })
 }
 
-/// Runs the crew to the end of the net, each worker in one thread for the whole run. All windows but the last are of one
-/// length: the lookahead, or `longest`, where that is above 0 and less. `of` tells the worker of each mote. The inboxes
-/// have marks, and nothing is left in them.
+/// Runs the crew to the end of the net, each worker in one thread for the whole run. All windows but the last are of
+/// one length: the lookahead, or `longest`, where that is above 0 and less. `of` tells the worker of each mote. The
+/// inboxes have marks, and nothing is left in them.
 ///
 /// # Errors
-/// `Memory`, or `Thread` where a thread couldn't be started, the gate refused a start, or the executor answered an error:
-/// that of the lowest worker that has one; else `Stopped`, where a worker stopped for another.
+/// `Memory`, or `Thread` where a thread couldn't be started, the gate refused a start, or the executor answered an
+/// error: that of the lowest worker that has one; else `Stopped`, where a worker stopped for another.
 pub fn run_marked<R, G>(
     rt: &R,
     alloc: Global,
