@@ -34,6 +34,7 @@ RULES: dict[str, str] = {
     'medium fault 4': 'A loss is between two different motes that are there, has an `every` from 1 on, and there is '
                       'at most one for two motes in one direction.',
     'run fault 5': 'The thread of a worker could not be started or run. The scenario may be in order.',
+    'run fault 6': 'A worker stopped for another, which told no fault. The scenario may be in order.',
     'write fault': 'The report could not be written. The scenario may be in order.',
     'out of memory': 'There was not enough memory. The scenario may be in order.',
 }

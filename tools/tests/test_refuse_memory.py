@@ -27,6 +27,7 @@ refuse = load('refuse_memory')
 WHOLE = refuse.Answer(0, b'mote 0 p\nleft 0\n', b'')
 NO_MEMORY = b'motesim: out of memory\n'
 NO_THREAD = b'motesim: run fault 5\n'
+STOPPED = b'motesim: run fault 6\n'
 
 # A program that asks for memory three times; it says so where one is refused, but for the one in CALM.
 PROGRAM = r"""
@@ -63,7 +64,9 @@ class Kinds(unittest.TestCase):
             (1, b'left 0\n', NO_MEMORY, False),
             (1, b'', NO_THREAD, False),
             (1, b'mote 0 p\n', NO_THREAD, True),
+            (1, b'', STOPPED, True),
             (-11, b'', b'', True),
+            (None, b'', b'no answer in 60 seconds', True),
         ]:
             self.assertIsNone(refuse.kind_of(refuse.Answer(status, report, fault), WHOLE, by_workers))
 
@@ -101,6 +104,27 @@ class Runs(unittest.TestCase):
                 self.assertEqual(first, '%s: 3 requests, each refused in turn: %s' % (scenario, shown))
                 self.assertEqual(last, '1 passed, 0 failed')
                 self.assertEqual(code, 0)
+
+    @unittest.skipUnless(shutil.which('cc'), 'there is no C compiler cc here')
+    def test_a_run_that_does_not_end(self):
+        with tempfile.TemporaryDirectory() as room, mock.patch.object(refuse, 'SECONDS', 1):
+            scenario, source, program = (Path(room) / name for name in ('s.toml', 'p.c', 'p'))
+            scenario.write_text('')
+            source.write_text(PROGRAM.replace('if (!part && n != CALM)', 'while (!part && n == CALM) pause(); if (!part)'))
+            subprocess.run(['cc', '-O0', '-DCALM=2', '-o', str(program), str(source)], check=True)
+            said, code = self.run_with('--program', str(program), str(scenario))
+        self.assertIn('request 2 refused: status None, no answer in 1 seconds', said)
+        self.assertEqual(said.splitlines()[-1], '0 passed, 1 failed')
+        self.assertEqual(code, 1)
+
+
+class Small(unittest.TestCase):
+    def test_scenarios_without_a_name(self):
+        words = [' '.join(words) for _, words in refuse.SMALL]
+        for wanted, number in ('', 3), ('--workers 2', 3), ('--workers 2 --sync marks', 2), ('--workers 3 --sync marks', 2):
+            self.assertEqual(words.count(wanted), number)
+        self.assertEqual(len(words), 10)
+        self.assertTrue(all(path.is_file() for path, _ in refuse.SMALL))
 
 
 if __name__ == '__main__':

@@ -1,5 +1,5 @@
 -- Cuts in blocks and in turn fit, whatever the number of motes.
-use Rattle.std.proofs.Common.{◌≡◌, ℕ, zero, suc, ◌*◌, ◌/◌, ◌%◌, ◌<◌, true, List, [], ◌∷◌, length, None, Some, refl, ◌∙◌, arith}
+use Rattle.std.proofs.Common.{◌≡◌, ℕ, zero, suc, ◌*◌, ◌/◌, ◌%◌, ◌<◌, true, List, [], ◌∷◌, length, None, refl, ◌∙◌, arith}
 use Rattle.std.specs.Prelude.{nat_lt}
 use Rattle.std.specs.List.{list_all, AllByRecursion}
 use Rattle.std.proofs.Math.Nat.{div-lt_iff_lt-mul, mul-lt-mul_of_pos_right, mul_comm}
@@ -11,7 +11,7 @@ use Rattle.window_law.proofs.Agenda.{below_all}
 use Rattle.window_law.proofs.Lists.{every_map, every_weaker}
 use Rattle.worker_cut.specs.Cut.{block_cut, stripe_cut}
 use Rattle.window_workers.specs.Fits.{cut_fault}
-use Rattle.simulation.specs.Simulation.{MayRun}
+use Rattle.simulation.specs.Simulation.{MayWork}
 
 as_many : (n : ℕ) → length (up_to n) ≡ n
 as_many zero = refl
@@ -22,19 +22,19 @@ all_there workers [] h = refl
 all_there workers (w ∷ of) h = rw (lt-ltb w workers h.0, all_there workers of h.1) refl
 
 -- a cut as long as the list of motes, whose workers are all there, fits
-fits : (motes workers : ℕ) (of : List ℕ) → MayRun (Some workers) → length of ≡ motes → AllByRecursion (λ worker. worker < workers) of → cut_fault motes workers of ≡ None
+fits : (motes workers : ℕ) (of : List ℕ) → MayWork workers → length of ≡ motes → AllByRecursion (λ worker. worker < workers) of → cut_fault motes workers of ≡ None
 fits motes workers of may long there = rw (ne_eqb workers 0 (λ e. absurd (let h = may.0 in omega arith)), le-ltb 16 workers may.1, long, eq-eqb motes motes refl, all_there workers of there) refl
 
 in_block : (motes workers mote : ℕ) → 0 < workers → mote < motes → (mote * workers) / motes < workers
 in_block motes workers mote some less = (div-lt_iff_lt-mul (let h : 0 < motes = omega arith in h)).1 (let h : mote * workers < motes * workers = mul-lt-mul_of_pos_right less some in rw (mul_comm workers motes) h)
 
-pub block_fits : (motes workers : ℕ) → 0 < motes → MayRun (Some workers) → cut_fault motes workers (block_cut motes workers) ≡ None
+pub block_fits : (motes workers : ℕ) → 0 < motes → MayWork workers → cut_fault motes workers (block_cut motes workers) ≡ None
 block_fits motes workers some may =
     fits motes workers (block_cut motes workers) may (length-map (up_to motes) (λ mote. (mote * workers) / motes) ∙ as_many motes)
     (every_map (λ worker. worker < workers) (λ mote. (mote * workers) / motes) (up_to motes)
     (every_weaker (λ mote. mote < motes) (λ mote. (mote * workers) / motes < workers) (λ mote less. in_block motes workers mote (let h = may.0 in omega arith) less) (up_to motes) (below_all motes)))
 
-pub stripe_fits : (motes workers : ℕ) → 0 < motes → MayRun (Some workers) → cut_fault motes workers (stripe_cut motes workers) ≡ None
+pub stripe_fits : (motes workers : ℕ) → 0 < motes → MayWork workers → cut_fault motes workers (stripe_cut motes workers) ≡ None
 stripe_fits motes workers some may =
     fits motes workers (stripe_cut motes workers) may (length-map (up_to motes) (λ mote. mote % workers) ∙ as_many motes)
     (every_map (λ worker. worker < workers) (λ mote. mote % workers) (up_to motes)

@@ -13,7 +13,7 @@ use Rattle.simulation.specs.Input.{IsText}
 use Rattle.simulation.specs.Laws.{OneReport}
 use Rattle.simulation.specs.declared.simulate.SimError.{SimError}
 use Rattle.simulation.specs.declared.simulate.SimError.TheVariants as fault
-use Rattle.simulation.specs.Simulation.{IsScenario, Reported, RefusesText, SimulatedWith, SimulatedSome}
+use Rattle.simulation.specs.Simulation.{IsScenario, Reported, RefusesText, Way, SimulatedWith, SimulatedSome}
 
 -- the text tells this net
 abbrev pub scenario_of : (bytes : List ℕ) (n : NetTold) → IsText bytes → TellsNet bytes n → IsScenario bytes
@@ -36,12 +36,12 @@ refused bytes (scenario.Program name e) h = h
 refused bytes (scenario.Medium e) h = h
 
 -- an answer to a text is one to some bytes
-pub some_bytes : (workers : Option ℕ) (bytes : List ℕ) (old new : Option (List ℕ)) (r : Result (Unit {0}) SimError) → SimulatedWith workers bytes old new r → SimulatedSome workers old new r
-some_bytes workers bytes old new (Ok u) h = (bytes, h)
-some_bytes workers bytes old new (Err (fault.Scenario e)) h = (bytes, h)
-some_bytes workers bytes old new (Err (fault.Run e)) h = (bytes, h)
-some_bytes workers bytes old new (Err (fault.Print e)) h = (bytes, h)
-some_bytes workers bytes old new (Err e) h = tt
+pub some_bytes : (way : Way) (bytes : List ℕ) (old new : Option (List ℕ)) (r : Result (Unit {0}) SimError) → SimulatedWith way bytes old new r → SimulatedSome way old new r
+some_bytes way bytes old new (Ok u) h = (bytes, h)
+some_bytes way bytes old new (Err (fault.Scenario e)) h = (bytes, h)
+some_bytes way bytes old new (Err (fault.Run e)) h = (bytes, h)
+some_bytes way bytes old new (Err (fault.Print e)) h = (bytes, h)
+some_bytes way bytes old new (Err e) h = tt
 
 -- of one net two reports have one text
 same_text : ReportIsOne → (m n : NetTold) (r s : ReportTold) → m ≡ n → IsReportOf m r → IsReportOf n s → report_text m r ≡ report_text n s

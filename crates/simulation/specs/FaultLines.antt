@@ -29,6 +29,7 @@ run_fault_number run.CutLength = 2
 run_fault_number run.CutWorker = 3
 run_fault_number run.Memory = 4
 run_fault_number run.Thread = 5
+run_fault_number run.Stopped = 6
 
 abbrev pub run_line : RunError → List ℕ
 run_line run.Memory = memory_line

@@ -1,5 +1,5 @@
 -- What a simulation of some bytes answers.
-use Rattle.std.specs.Prelude.{◌<◌, ◌≤◌, ℕ, List, length, Option, Some, None, IsSome, Result, Ok, Err}
+use Rattle.std.specs.Prelude.{◌≡◌, ◌<◌, ◌≤◌, ℕ, List, length, Option, Some, None, IsSome, Result, Ok, Err}
 use Rattle.std.specs.Str.{IsUtf8}
 use Rattle.std.specs.Io.KnownBytes.{Keeps, Appends}
 use Rattle.net_scenario.specs.Limits.{longest_text}
@@ -14,9 +14,12 @@ use Rattle.trace_printer.specs.ReportText.{report_text}
 use Rattle.window_workers.specs.NetRun.{IsReportOf}
 use Rattle.window_workers.specs.declared.error.RunError.{RunError}
 use Rattle.window_workers.specs.declared.error.RunError.TheVariants as run
+use Rattle.window_workers.specs.declared.sync.SyncKind.{SyncKind}
+use Rattle.window_workers.specs.declared.sync.SyncKind.TheVariants.{Marks}
 use Rattle.simulation.specs.Input.{IsText}
 use Rattle.simulation.specs.declared.input.InputError.{InputError}
 use Rattle.simulation.specs.declared.input.InputError.TheVariants as input
+use Rattle.simulation.specs.declared.options.Options.{Options}
 use Rattle.simulation.specs.declared.simulate.SimError.{SimError}
 use Rattle.simulation.specs.declared.simulate.SimError.TheVariants as fault
 
@@ -44,43 +47,66 @@ abbrev pub RefusesText : List ℕ → ScenarioError → Type 0
 RefusesText bytes scenario.Memory = Unit {0}
 RefusesText bytes e = TellsFault bytes e
 
+-- how a net is run: on one thread, or by so many workers that wait for one another in this way
+abbrev pub Way : Type 0
+Way = Option (ℕ × SyncKind)
+
+abbrev pub way_by : (workers : Option ℕ) → SyncKind → Way
+way_by None sync = None
+way_by (Some n) sync = Some (n, sync)
+
+-- the way that the options name
+abbrev pub way_of : Options → Way
+way_of options = way_by options.workers options.sync
+
+-- as many workers as there may be
+abbrev pub MayWork : ℕ → Type 0
+MayWork n = (1 ≤ n) × (n ≤ 16)
+
 -- a run on one thread, or by 1 to 16 workers
-abbrev pub MayRun : (workers : Option ℕ) → Type 0
+abbrev pub MayRun : Way → Type 0
 MayRun None = Unit {0}
-MayRun (Some n) = (1 ≤ n) × (n ≤ 16)
+MayRun (Some way) = MayWork way.0
 
--- the cause of a run's fault: another number of workers; else want of memory or, with workers, of a thread
-abbrev pub RefusesRun : (workers : Option ℕ) → RunError → Type 0
-RefusesRun workers run.Workers = ¬ MayRun workers
-RefusesRun workers run.CutLength = ⊥
-RefusesRun workers run.CutWorker = ⊥
-RefusesRun workers run.Memory = MayRun workers
-RefusesRun workers run.Thread = IsSome workers × MayRun workers
+-- a run by workers that wait for one another's marks
+abbrev pub HasMarks : Way → Type 0
+HasMarks None = ⊥
+HasMarks (Some way) = way.1 ≡ Marks
 
--- the answer to running a net, on one thread or by so many workers: the report is that of the net's run, which knows of no worker
-abbrev pub RunsWith : (workers : Option ℕ) → NetTold → Result Report RunError → Type 0
-RunsWith workers net (Ok report) = MayRun workers × IsReportOf net (report_of report)
-RunsWith workers net (Err e) = RefusesRun workers e
+-- the cause of a run's fault: another number of workers; else want of memory or, with workers, of a thread; with marks also
+-- that a worker stopped for another
+abbrev pub RefusesRun : Way → RunError → Type 0
+RefusesRun way run.Workers = ¬ MayRun way
+RefusesRun way run.CutLength = ⊥
+RefusesRun way run.CutWorker = ⊥
+RefusesRun way run.Memory = MayRun way
+RefusesRun way run.Thread = IsSome way × MayRun way
+RefusesRun way run.Stopped = HasMarks way × MayRun way
 
--- Each answer where its cause is, on one thread or by so many workers. A failing reader and want of memory may come at any bytes,
--- and a run's want of memory or of a thread at any scenario.
-abbrev pub SimulatedWith : (workers : Option ℕ) → List ℕ → (old new : Option (List ℕ)) → Result (Unit {0}) SimError → Type 0
-SimulatedWith workers bytes old new (Ok u) = MayRun workers × Reported bytes (Appends old new)
-SimulatedWith workers bytes old new (Err fault.Read) = Unit {0}
-SimulatedWith workers bytes old new (Err fault.TooLong) = longest_text < length bytes
-SimulatedWith workers bytes old new (Err fault.NotText) = (length bytes ≤ longest_text) × (¬ IsUtf8 bytes)
-SimulatedWith workers bytes old new (Err (fault.Scenario e)) = IsText bytes × RefusesText bytes e
-SimulatedWith workers bytes old new (Err (fault.Run e)) = IsScenario bytes × RefusesRun workers e
-SimulatedWith workers bytes old new (Err (fault.Print e)) = MayRun workers × Reported bytes (AppendsFront old new)
-SimulatedWith workers bytes old new (Err fault.Memory) = Unit {0}
+-- the answer to running a net in this way: the report is that of the net's run, which knows of no worker
+abbrev pub RunsWith : Way → NetTold → Result Report RunError → Type 0
+RunsWith way net (Ok report) = MayRun way × IsReportOf net (report_of report)
+RunsWith way net (Err e) = RefusesRun way e
+
+-- Each answer where its cause is, on one thread or by workers of either kind. A failing reader and want of memory may come at any
+-- bytes, and a run's want of memory or of a thread at any scenario.
+abbrev pub SimulatedWith : Way → List ℕ → (old new : Option (List ℕ)) → Result (Unit {0}) SimError → Type 0
+SimulatedWith way bytes old new (Ok u) = MayRun way × Reported bytes (Appends old new)
+SimulatedWith way bytes old new (Err fault.Read) = Unit {0}
+SimulatedWith way bytes old new (Err fault.TooLong) = longest_text < length bytes
+SimulatedWith way bytes old new (Err fault.NotText) = (length bytes ≤ longest_text) × (¬ IsUtf8 bytes)
+SimulatedWith way bytes old new (Err (fault.Scenario e)) = IsText bytes × RefusesText bytes e
+SimulatedWith way bytes old new (Err (fault.Run e)) = IsScenario bytes × RefusesRun way e
+SimulatedWith way bytes old new (Err (fault.Print e)) = MayRun way × Reported bytes (AppendsFront old new)
+SimulatedWith way bytes old new (Err fault.Memory) = Unit {0}
 
 -- what an answer that doesn't stand for the reader says of some bytes, whichever the reader gave
-abbrev pub SimulatedSome : (workers : Option ℕ) → (old new : Option (List ℕ)) → Result (Unit {0}) SimError → Type 0
-SimulatedSome workers old new (Ok u) = (bytes : List ℕ) × SimulatedWith workers bytes old new (Ok u)
-SimulatedSome workers old new (Err (fault.Scenario e)) = (bytes : List ℕ) × SimulatedWith workers bytes old new (Err (fault.Scenario e))
-SimulatedSome workers old new (Err (fault.Run e)) = (bytes : List ℕ) × SimulatedWith workers bytes old new (Err (fault.Run e))
-SimulatedSome workers old new (Err (fault.Print e)) = (bytes : List ℕ) × SimulatedWith workers bytes old new (Err (fault.Print e))
-SimulatedSome workers old new (Err e) = Unit {0}
+abbrev pub SimulatedSome : Way → (old new : Option (List ℕ)) → Result (Unit {0}) SimError → Type 0
+SimulatedSome way old new (Ok u) = (bytes : List ℕ) × SimulatedWith way bytes old new (Ok u)
+SimulatedSome way old new (Err (fault.Scenario e)) = (bytes : List ℕ) × SimulatedWith way bytes old new (Err (fault.Scenario e))
+SimulatedSome way old new (Err (fault.Run e)) = (bytes : List ℕ) × SimulatedWith way bytes old new (Err (fault.Run e))
+SimulatedSome way old new (Err (fault.Print e)) = (bytes : List ℕ) × SimulatedWith way bytes old new (Err (fault.Print e))
+SimulatedSome way old new (Err e) = Unit {0}
 
 -- a fault that has written nothing, unless it came in printing
 abbrev pub Unwritten : (old new : Option (List ℕ)) → SimError → Type 0

@@ -3,7 +3,7 @@ ghost use Rattle.std.specs.Prelude.{◌≡◌, ◌<◌, length, vec_len, IfOk, S
 ghost use Rattle.mote_net.specs.Net.{net_of};
 ghost use Rattle.window_workers.specs.Fits.{cut_fault};
 ghost use Rattle.simulation.specs.Cuts.{of_kind};
-ghost use Rattle.simulation.specs.Simulation.{MayRun, RunsWith};
+ghost use Rattle.simulation.specs.Simulation.{MayWork, RunsWith};
 
 use crate::options::CutKind;
 use mote_net::Net;
@@ -13,13 +13,13 @@ use std::random::RandomSource;
 use std::sync::Wait;
 use std::thread::Threads;
 use window_run::Gate;
-use window_workers::{MOST_WORKERS, RunError, run_workers};
+use window_workers::{MOST_WORKERS, RunError, SyncKind, run_workers};
 use worker_cut::Cut;
 
 /// The cut of this kind, which fits.
 fn cut_of(alloc: Global, kind: CutKind, motes: u16, workers: u16) -> Result<Cut, AllocError>
     requires motes { 0 < motes }
-    requires workers { MayRun (Some workers) }
+    requires workers { MayWork workers }
     ensures of { IfOk result (λ cut. cut.of.items ≡ of_kind kind motes workers) }
     ensures fits { IfOk result (λ cut. cut_fault motes workers cut.of.items ≡ None) }
 {
@@ -29,27 +29,34 @@ fn cut_of(alloc: Global, kind: CutKind, motes: u16, workers: u16) -> Result<Cut,
     }
 }
 
-/// The report of a net, by so many workers with a cut of this kind. Their number is looked at before the cut is made.
+/// So many workers, among whom the motes are cut in this way, and who wait for one another in this way.
+#[derive(Clone, Copy)]
+pub struct Team {
+    pub workers: u16,
+    pub cut: CutKind,
+    pub sync: SyncKind,
+}
+
+/// The report of a net, by these workers. Their number is looked at before the cut is made.
 ///
 /// # Errors
-/// `Workers` where they aren't 1 to 16, else `Memory` or `Thread`.
+/// `Workers` where they aren't 1 to 16, else `Memory` or `Thread`, with marks also `Stopped`.
 pub fn run_by<T, G>(
     rt: &T,
     alloc: Global,
     net: &Net,
-    workers: u16,
-    kind: CutKind,
+    team: Team,
     gate: &G,
 ) -> Result<Report, RunError>
 where
     T: Threads + Wait + RandomSource + AllocGlobal + Sync,
     G: Gate + Sync,
-    ensures ran { RunsWith (Some workers) (net_of net.now) result }
+    ensures ran { RunsWith (Some (team.workers, team.sync)) (net_of net.now) result }
     ensures traces { IfOk result (λ r. vec_len r.traces ≡ length (net_of net.now).motes) }
 {
-    if workers == 0 || workers > MOST_WORKERS {
+    if team.workers == 0 || team.workers > MOST_WORKERS {
         return Err(RunError::Workers);
     }
-    let cut = cut_of(alloc, kind, net.motes(), workers)?;
-    run_workers(rt, alloc, net, workers, &cut, gate)
+    let cut = cut_of(alloc, team.cut, net.motes(), team.workers)?;
+    run_workers(rt, alloc, net, team.workers, &cut, team.sync, gate)
 }

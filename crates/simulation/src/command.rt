@@ -2,7 +2,7 @@
 
 ghost use Rattle.std.specs.Prelude.{◌≡◌, Some, None, IfErr, IfSome};
 ghost use Rattle.simulation.specs.FaultLines.{fault_line, run_fault_number};
-ghost use Rattle.simulation.specs.Simulation.{SimulatedWith, SimulatedSome, Unwritten};
+ghost use Rattle.simulation.specs.Simulation.{SimulatedWith, SimulatedSome, Unwritten, way_of};
 
 use crate::command_line::{Asked, asked_by};
 use crate::options::Options;
@@ -107,7 +107,7 @@ where
     T: AllocGlobal + Files + Threads + Wait + RandomSource + Sync,
     W: Write,
     G: Gate + Sync,
-    ensures some { SimulatedSome options.now.workers (W.contents output.old) (W.contents output.new) result }
+    ensures some { SimulatedSome (way_of options.now) (W.contents output.old) (W.contents output.new) result }
     ensures unwritten { IfErr result (Unwritten (W.contents output.old) (W.contents output.new)) }
 {
     match fs::open(rt, file) {
@@ -133,9 +133,9 @@ where
     W: Write,
     G: Gate + Sync,
     // Without a file it is the simulation of what `input` gives.
-    ensures answer { asked.now.file ≡ None → IfSome (R.remaining input.old) (λ bytes. SimulatedWith asked.now.options.workers bytes (W.contents output.old) (W.contents output.new) result) }
-    // A report is that of some bytes, by so many workers as are asked for.
-    ensures some { SimulatedSome asked.now.options.workers (W.contents output.old) (W.contents output.new) result }
+    ensures answer { asked.now.file ≡ None → IfSome (R.remaining input.old) (λ bytes. SimulatedWith (way_of asked.now.options) bytes (W.contents output.old) (W.contents output.new) result) }
+    // A report is that of some bytes, by so many workers of the kind that is asked for.
+    ensures some { SimulatedSome (way_of asked.now.options) (W.contents output.old) (W.contents output.new) result }
     ensures unwritten { IfErr result (Unwritten (W.contents output.old) (W.contents output.new)) }
 {
     match asked.file {

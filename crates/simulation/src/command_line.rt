@@ -1,11 +1,12 @@
 //! The words of the command line, as `clap` reads them.
 ghost use Rattle.std.specs.Prelude.{◌≡◌, codes, None, IfSome};
 ghost use Rattle.simulation.specs.declared.options.CutKind.TheVariants as kind;
+ghost use Rattle.window_workers.specs.declared.sync.SyncKind.TheVariants as wait;
 
 use crate::options::{CutKind, Options};
 use clap::{Arg, Command, Error};
 use std::alloc::{AllocError, Global};
-use window_workers::MOST_WORKERS;
+use window_workers::{MOST_WORKERS, SyncKind};
 
 /// What the words ask for.
 #[derive(Clone, Copy, Debug, PartialEq, Eq)]
@@ -29,18 +30,40 @@ fn cut_named(name: &str) -> CutKind
     }
 }
 
-/// The options for so many workers and the cut of this name. Without a name it is the cut in blocks.
-fn options_for(workers: Option<u16>, cut: Option<&str>) -> Options
+/// The names of the ways in which workers wait for one another.
+static SYNCS: [&str; 2] = ["joins", "marks"];
+
+/// The way of this name in which workers wait for one another.
+fn sync_named(name: &str) -> SyncKind
+    ensures joins { name.now ≡ codes "joins" → result ≡ wait.Joins }
+    ensures marks { name.now ≡ codes "marks" → result ≡ wait.Marks }
+{
+    match name {
+        "marks" => SyncKind::Marks,
+        _ => SyncKind::Joins,
+    }
+}
+
+/// The options for so many workers, the cut of this name, and the way of this name in which they wait for one another. Without a
+/// name it is the cut in blocks, and they are joined.
+fn options_for(workers: Option<u16>, cut: Option<&str>, sync: Option<&str>) -> Options
     ensures workers { result.workers ≡ workers }
     ensures unnamed { cut.entry ≡ None → result.cut ≡ kind.Block }
     ensures block { IfSome cut.entry (λ name. name.now ≡ codes "block" → result.cut ≡ kind.Block) }
     ensures stripe { IfSome cut.entry (λ name. name.now ≡ codes "stripe" → result.cut ≡ kind.Stripe) }
+    ensures unasked { sync.entry ≡ None → result.sync ≡ wait.Joins }
+    ensures joins { IfSome sync.entry (λ name. name.now ≡ codes "joins" → result.sync ≡ wait.Joins) }
+    ensures marks { IfSome sync.entry (λ name. name.now ≡ codes "marks" → result.sync ≡ wait.Marks) }
 {
     let cut = match cut {
         Some(name) => cut_named(name),
         None => CutKind::Block,
     };
-    Options { workers, cut }
+    let sync = match sync {
+        Some(name) => sync_named(name),
+        None => SyncKind::Joins,
+    };
+    Options { workers, cut, sync }
 }
 
 /// The program's one command.
@@ -60,6 +83,14 @@ fn command<'a>(alloc: Global) -> Result<Command<'a>, AllocError> {
         .help(
             "How the motes are cut among the workers: in blocks of motes that follow one another, or dealt in turn",
         );
+    let sync = Arg::new(alloc, "sync")
+        .long("sync")
+        .value_name("SYNC")
+        .value_parser(SYNCS.as_slice())
+        .default_value("joins")
+        .help(
+            "How workers wait for one another: their threads are joined after each window, or each has one thread for the whole run and waits for marks of the others",
+        );
     let file = Arg::new(alloc, "FILE").help("The scenario; without it, standard input is read");
     Command::new(alloc, "motesim")
         .about(
@@ -67,17 +98,20 @@ fn command<'a>(alloc: Global) -> Result<Command<'a>, AllocError> {
         )
         .arg(workers)?
         .arg(cut)?
+        .arg(sync)?
         .arg(file)
 }
 
-/// What the words of the command line ask for, of which the first is the program's name. Without workers, the cut has no effect.
+/// What the words of the command line ask for, of which the first is the program's name. Without workers, neither
+/// the cut nor the way in which they wait has an effect.
 ///
 /// # Errors
 /// Of the kind `DisplayHelp` where help is asked for, `OutOfMemory` where a growth was refused, and else of the fault of the
 /// words.
 pub fn asked_by<'a>(alloc: Global, words: &'a [&'a str]) -> Result<Asked<'a>, Error> {
     let matches = command(alloc)?.try_get_matches_from(words)?;
-    let options = options_for(matches.get_one::<u16>("workers"), matches.get_str("cut"));
+    let workers = matches.get_one::<u16>("workers");
+    let options = options_for(workers, matches.get_str("cut"), matches.get_str("sync"));
     let file = matches.get_str("FILE");
     Ok(Asked { file, options })
 }

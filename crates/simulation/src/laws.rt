@@ -4,7 +4,7 @@ ghost use Rattle.simulation.specs.Laws.{OneReport, ScenarioHasReport};
 use net_scenario::laws::at_most_one_net;
 use window_workers::laws::{report_is_one, report_is_there};
 
-/// The same scenario, the same bytes, on one thread or by any number of workers: a text has at most one report.
+/// The same scenario, the same bytes, on one thread or by any number of workers of either kind: a text has at most one report.
 pub fn at_most_one_report()
     ensures { OneReport }
 {

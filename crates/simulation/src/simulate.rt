@@ -1,12 +1,12 @@
 //! A simulation, from the bytes of a scenario to the bytes of its report.
 ghost use Rattle.std.specs.Prelude.{◌≡◌, Some, None, IfErr, IfSome};
-ghost use Rattle.simulation.specs.Simulation.{SimulatedWith, SimulatedSome, Unwritten, sim_fault};
+ghost use Rattle.simulation.specs.Simulation.{SimulatedWith, SimulatedSome, Unwritten, sim_fault, way_of};
 ghost use Rattle.simulation.specs.Input.{IsText};
 ghost use Rattle.simulation.specs.declared.simulate.SimError.TheVariants as fault;
 
-use crate::by_workers::run_by;
+use crate::by_workers::{Team, run_by};
 use crate::input::{InputError, read_text};
-use crate::options::{CutKind, Options};
+use crate::options::Options;
 use net_scenario::{ScenarioError, read_scenario};
 use std::alloc::Global;
 use std::io::{Read, Write};
@@ -85,14 +85,13 @@ fn simulate_text<W: Write>(alloc: Global, text: &str, writer: &mut W) -> Result<
     Ok(())
 }
 
-/// Simulates the scenario that the text tells by so many workers, and writes the report.
+/// Simulates the scenario that the text tells by these workers, and writes the report.
 fn simulate_text_by<T, W, G>(
     rt: &T,
     alloc: Global,
     text: &str,
     writer: &mut W,
-    workers: u16,
-    kind: CutKind,
+    team: Team,
     gate: &G,
 ) -> Result<(), SimError>
 where
@@ -100,11 +99,11 @@ where
     W: Write,
     G: Gate + Sync,
     requires { IsText text.now }
-    ensures answer { SimulatedWith (Some workers) text.now (W.contents writer.old) (W.contents writer.new) result }
+    ensures answer { SimulatedWith (Some (team.workers, team.sync)) text.now (W.contents writer.old) (W.contents writer.new) result }
     ensures unwritten { IfErr result (Unwritten (W.contents writer.old) (W.contents writer.new)) }
 {
     let net = read_scenario(alloc, text)?;
-    let report = run_by(rt, alloc, &net, workers, kind, gate)?;
+    let report = run_by(rt, alloc, &net, team, gate)?;
     write_report(alloc, &net, &report, writer)?;
     Ok(())
 }
@@ -136,12 +135,13 @@ pub fn simulate_serial<R: Read, W: Write>(
 }
 
 /// Reads a scenario to its end, simulates it as the options say, and writes its report: on one thread where they name no workers,
-/// else by so many workers, window by window, each with a thread of its own. The bytes of the report are the same. Workers wait for
-/// one another, so the promise holds if the run returns.
+/// else by so many workers, window by window, each in a thread of its own for each window, or with marks in one for the whole run.
+/// The bytes of the report are the same. Workers wait for one another, so the promise holds if the run returns.
 ///
 /// # Errors
 /// As `simulate_serial`; `Run` with `Workers` where there aren't 1 to 16 of them, which is looked at once the scenario is read, and
-/// with `Memory` or `Thread` where a worker met want of memory, or its thread couldn't be started or run.
+/// with `Memory` or `Thread` where a worker met want of memory, or its thread couldn't be started or run; with marks also with
+/// `Stopped`, where a worker stopped for another and none told why.
 #[tactic(auto, using(crate::proofs::Printed::some_bytes))]
 pub fn simulate<T, R, W, G>(
     rt: &T,
@@ -156,15 +156,20 @@ where
     R: Read,
     W: Write,
     G: Gate + Sync,
-    // As those of `simulate_serial`, for any number of workers and any cut.
-    ensures answer { IfSome (R.remaining reader.old) (λ input. SimulatedWith options.now.workers input (W.contents writer.old) (W.contents writer.new) result) }
-    ensures some { SimulatedSome options.now.workers (W.contents writer.old) (W.contents writer.new) result }
+    // As those of `simulate_serial`, for any number of workers of either kind and any cut.
+    ensures answer { IfSome (R.remaining reader.old) (λ input. SimulatedWith (way_of options.now) input (W.contents writer.old) (W.contents writer.new) result) }
+    ensures some { SimulatedSome (way_of options.now) (W.contents writer.old) (W.contents writer.new) result }
     ensures unwritten { IfErr result (Unwritten (W.contents writer.old) (W.contents writer.new)) }
 {
     let Some(workers) = options.workers else {
         return simulate_serial(alloc, reader, writer);
     };
+    let team = Team {
+        workers,
+        cut: options.cut,
+        sync: options.sync,
+    };
     let scenario = read_text(alloc, reader)?;
     let text = scenario.as_str();
-    simulate_text_by(rt, alloc, text, writer, workers, options.cut, gate)
+    simulate_text_by(rt, alloc, text, writer, team, gate)
 }

@@ -1,17 +1,256 @@
 //! What no scenario and no command line shows: streams that fail, gates, and calls with options that the words can't ask for.
+//! Most tests have a text written of what came of some runs, and compare it in a function that they share. All have one reader,
+//! one writer and one gate, so that what they call is compiled for these alone.
 
-mod cuts;
-mod failing_streams;
 mod fault_lines;
 mod input;
-mod refused_start;
-mod with_workers;
+mod streams;
+mod words;
 mod workers;
 
-/// A scenario whose process prints, and yields for ever.
-pub(crate) const PRINT_THEN_YIELD: &str =
-    "version = 1\nend = 5\n[medium]\nrange = 10\nbase = 1\nper = 100\n[programs]\np = \"process a; autostart a; code a { body { print 1; yield; print 2; } }\"\n[[mote]]\nx = 0\ny = 0\nprogram = \"p\"\n";
+use simulation::options::Options;
+use simulation::simulate::{SimError, simulate};
+use std::alloc::{AllocError, Global};
+use std::io;
+use std::io::{Read, Write};
+use std::random::RandomSource;
+use std::sync::Wait;
+use std::sync::atomic::AtomicU64;
+use std::sync::atomic::Ordering::SeqCst;
+use std::test::Fail;
+use std::thread::Threads;
+use window_run::Gate;
 
-/// What it writes.
-pub(crate) const PRINT_THEN_YIELD_REPORT: &str =
-    "mote 0 p\n0 start etimer\n0 start ctimer\n0 start radio\n0 start a\n0 print a 1\nmedium\nleft 0\n";
+/// A scenario and its report.
+#[derive(Clone, Copy)]
+struct Told<'a> {
+    scenario: &'a [u8],
+    report: &'a [u8],
+}
+
+/// A process prints, and yields for ever.
+const PRINT_THEN_YIELD: Told = Told {
+    scenario: b"version = 1\nend = 5\n[medium]\nrange = 10\nbase = 1\nper = 100\n[programs]\np = \"process a; autostart a; code a { body { print 1; yield; print 2; } }\"\n[[mote]]\nx = 0\ny = 0\nprogram = \"p\"\n",
+    report: b"mote 0 p\n0 start etimer\n0 start ctimer\n0 start radio\n0 start a\n0 print a 1\nmedium\nleft 0\n",
+};
+
+/// A receiver between two senders. There are two windows: the packets are sent at 0, and come at 2.
+const TWO_SENDERS: Told = Told {
+    scenario: b"version = 1\nend = 9\n[medium]\nrange = 5\nbase = 2\nper = 100\n[programs]\ns = \"process a; autostart a; code a { body { send (self + 5); } }\"\nr = \"process r; autostart r; receiver r; code r { body { while 1 { yield; if is(packet) { print from; print data; } } } }\"\n[[mote]]\nx = 0\ny = 0\nprogram = \"s\"\n[[mote]]\nx = 5\ny = 0\nprogram = \"r\"\n[[mote]]\nx = 10\ny = 0\nprogram = \"s\"\n",
+    report: b"mote 0 s\n0 start etimer\n0 start ctimer\n0 start radio\n0 start a\n0 send 0 5\n0 leave a\nmote 1 r\n0 start etimer\n0 start ctimer\n0 start radio\n0 start r\n2 recv 0 0 5\n2 recv 2 0 7\n2 post 0 r packet 5\n2 post 1 r packet 7\n2 take 0 r\n2 print r 0\n2 print r 5\n2 take 1 r\n2 print r 2\n2 print r 7\nmote 2 s\n0 start etimer\n0 start ctimer\n0 start radio\n0 start a\n0 send 0 7\n0 leave a\nmedium\n0 0 0 5 1@2\n0 2 0 7 1@2\nleft 0\n",
+};
+
+/// A reader that gives at most so many bytes a call, and fails after so many calls.
+#[derive(Drop)]
+struct Source<'a> {
+    rest: &'a [u8],
+    most: usize,
+    calls: usize,
+}
+
+impl Read for Source<'_> {
+    fn read(&mut self, buf: &mut [u8]) -> io::Result<usize> {
+        if self.calls == 0 {
+            return Err(io::Error::from(io::ErrorKind::Interrupted));
+        }
+        self.calls -= 1;
+        let n = buf.len().min(self.most).min(self.rest.len());
+        buf[..n].copy_from_slice(&self.rest[..n]);
+        self.rest = &self.rest[n..];
+        Ok(n)
+    }
+}
+
+/// A writer that takes at most so many bytes a call; after so many calls it fails, or takes nothing.
+#[derive(Drop)]
+struct Sink {
+    bytes: Vec<u8>,
+    most: usize,
+    calls: usize,
+    fails: bool,
+}
+
+impl Sink {
+    /// A writer that takes all bytes.
+    fn new(alloc: Global) -> Sink {
+        Sink {
+            bytes: Vec::new(alloc),
+            most: usize::MAX,
+            calls: usize::MAX,
+            fails: true,
+        }
+    }
+
+    /// A writer that takes a byte a call.
+    fn narrow(alloc: Global, calls: usize, fails: bool) -> Sink {
+        Sink {
+            bytes: Vec::new(alloc),
+            most: 1,
+            calls,
+            fails,
+        }
+    }
+}
+
+impl Write for Sink {
+    fn write(&mut self, buf: &[u8]) -> io::Result<usize> {
+        if self.calls == 0 {
+            return if self.fails {
+                Err(io::Error::from(io::ErrorKind::Interrupted))
+            } else {
+                Ok(0)
+            };
+        }
+        self.calls -= 1;
+        let n = buf.len().min(self.most);
+        self.bytes.extend_from_slice(&buf[..n])?;
+        Ok(n)
+    }
+
+    fn flush(&mut self) -> io::Result<()> {
+        Ok(())
+    }
+}
+
+/// A gate that lets no thread of one worker start. It counts the starts that it is asked for, the turns that a mote's own worker
+/// takes, and those that another one takes.
+#[derive(Drop)]
+struct Watch<'a> {
+    /// The worker of each mote.
+    of: &'a [u16],
+    shut: Option<u16>,
+    starts: AtomicU64,
+    own: AtomicU64,
+    others: AtomicU64,
+}
+
+impl Watch<'_> {
+    fn new(of: &[u16], shut: Option<u16>) -> Watch<'_> {
+        Watch {
+            of,
+            shut,
+            starts: AtomicU64::new(0),
+            own: AtomicU64::new(0),
+            others: AtomicU64::new(0),
+        }
+    }
+}
+
+impl Gate for Watch<'_> {
+    fn inside(&self, worker: u16, _moment: u64, mote: u16) {
+        if self.of.get(usize::from(mote)) == Some(&worker) {
+            self.own.fetch_add(1, SeqCst);
+        } else {
+            self.others.fetch_add(1, SeqCst);
+        }
+    }
+
+    fn start(&self, worker: u16) -> bool {
+        self.starts.fetch_add(1, SeqCst);
+        self.shut != Some(worker)
+    }
+}
+
+/// A simulation to be tried.
+#[derive(Clone, Copy)]
+struct Trial<'a> {
+    told: Told<'a>,
+    options: Options,
+    /// The worker of each mote.
+    of: &'a [u16],
+    /// The worker that gets no thread.
+    shut: Option<u16>,
+    /// After how many calls the reader fails, which gives 16 bytes a call.
+    reads: usize,
+    /// After how many calls the writer fails, which takes a byte a call.
+    writes: usize,
+}
+
+impl Trial<'_> {
+    /// One in which nothing fails.
+    fn new<'a>(told: Told<'a>, options: Options, of: &'a [u16]) -> Trial<'a> {
+        Trial {
+            told,
+            options,
+            of,
+            shut: None,
+            reads: usize::MAX,
+            writes: usize::MAX,
+        }
+    }
+}
+
+/// How many bytes of a report are there, or None where the bytes are others.
+fn front_of(report: &[u8], bytes: &[u8]) -> Option<usize> {
+    if report.starts_with(bytes) {
+        Some(bytes.len())
+    } else {
+        None
+    }
+}
+
+/// Writes down what a simulation answered, how many bytes of the report are out, and how many starts were asked for. Where it was
+/// done, the turns by each mote's own worker and those by others come behind that.
+fn write_answer(
+    text: &mut String,
+    answer: &Result<(), SimError>,
+    front: Option<usize>,
+    gate: &Watch,
+) -> Result<(), AllocError> {
+    let starts = gate.starts.load(SeqCst);
+    write!(text, "{answer:?} {front:?} {starts}")?;
+    if answer.is_ok() {
+        let own = gate.own.load(SeqCst);
+        let others = gate.others.load(SeqCst);
+        write!(text, " {own} {others}")?;
+    }
+    text.push('|')
+}
+
+fn write_trial<T>(rt: &T, text: &mut String, trial: Trial) -> Result<(), AllocError>
+where
+    T: AllocGlobal + Threads + Wait + RandomSource + Sync,
+{
+    let mut reader = Source {
+        rest: trial.told.scenario,
+        most: 16,
+        calls: trial.reads,
+    };
+    let mut writer = Sink::narrow(rt.alloc(), trial.writes, true);
+    let gate = Watch::new(trial.of, trial.shut);
+    let options = trial.options;
+    let answer = simulate(rt, rt.alloc(), &mut reader, &mut writer, &options, &gate);
+    let front = front_of(trial.told.report, &writer.bytes);
+    write_answer(text, &answer, front, &gate)
+}
+
+/// What is written down of that.
+fn told_of<T>(rt: &T, trial: Trial) -> Result<String, AllocError>
+where
+    T: AllocGlobal + Threads + Wait + RandomSource + Sync,
+{
+    let mut text = String::new(rt.alloc());
+    write_trial(rt, &mut text, trial)?;
+    Ok(text)
+}
+
+/// Fails where something else is written down of that.
+fn tells<T>(rt: &T, trial: Trial, want: &str) -> Result<(), Fail>
+where
+    T: AllocGlobal + Threads + Wait + RandomSource + Sync,
+{
+    let told = told_of(rt, trial)?;
+    let options = trial.options;
+    if told.as_str() == want {
+        return Ok(());
+    }
+    Err(Fail::new(format_args!("{told} in place of {want}, by {options:?}")))
+}
+
+/// Fails where two texts differ, and shows both.
+fn same_text(told: &str, want: &str) -> Result<(), Fail> {
+    if told == want {
+        return Ok(());
+    }
+    Err(Fail::new(format_args!("{told} in place of {want}")))
+}

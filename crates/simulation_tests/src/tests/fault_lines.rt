@@ -1,98 +1,133 @@
 //! What the program writes and answers where a stream fails, and for the faults of a run.
 
-use crate::tests::PRINT_THEN_YIELD;
-use crate::tests::failing_streams::{Failing, Narrow, is_front};
+use super::{PRINT_THEN_YIELD, Sink, Source, front_of, same_text};
 use simulation::command::{run_command, status_of};
 use simulation::simulate::SimError;
-use std::alloc::Global;
+use std::alloc::{AllocError, Global};
 use std::random::RandomSource;
 use std::rt::Files;
 use std::sync::Wait;
+use std::test::Fail;
 use std::thread::Threads;
 use window_workers::RunError;
 
-/// Whether the program, whose input fails, ends with status 1 and the line of that fault, and writes no report.
-fn is_read_fault<T>(rt: &T) -> bool
-where
-    T: AllocGlobal + Files + Threads + Wait + RandomSource + Sync,
-{
-    let mut input = Failing {
-        rest: PRINT_THEN_YIELD.as_bytes(),
-        calls: 3,
-    };
-    let mut output = Vec::new(rt.alloc());
-    let mut errors = Vec::new(rt.alloc());
-    let status = run_command(rt, &["motesim"], &mut input, &mut output, &mut errors);
-    status == 1 && output.is_empty() && errors.as_slice() == b"motesim: read fault\n".as_slice()
-}
-
-#[test]
-fn faults_of_the_input(rt: HostRuntime) {
-    assert!(rt; is_read_fault(&rt));
-}
-
-/// Whether a fault of a run has this line and status 1.
-fn has_line(alloc: Global, fault: RunError, line: &str) -> bool {
-    let mut errors = Vec::new(alloc);
-    let status = status_of(Err(SimError::Run(fault)), &mut errors);
-    status == 1 && errors.as_slice() == line.as_bytes()
-}
-
-#[test]
-fn faults_of_the_run(rt: HostRuntime) {
-    let cases = [
-        (RunError::Workers, "motesim: run fault 1\n"),
-        (RunError::CutLength, "motesim: run fault 2\n"),
-        (RunError::CutWorker, "motesim: run fault 3\n"),
-        (RunError::Memory, "motesim: out of memory\n"),
-        (RunError::Thread, "motesim: run fault 5\n"),
-    ];
-    for (fault, line) in cases {
-        assert!(rt; has_line(rt.alloc(), fault, line), "{line}");
+/// Writes down ASCII bytes.
+fn write_bytes(text: &mut String, bytes: &[u8]) -> Result<(), AllocError> {
+    for byte in bytes {
+        text.push(char::from(*byte))?;
     }
+    Ok(())
 }
 
-/// Whether the program, whose output fails or takes nothing after seven calls, ends with status 1 and the line of that fault.
-fn is_write_fault<T>(rt: &T, fails: bool) -> bool
-where
-    T: AllocGlobal + Files + Threads + Wait + RandomSource + Sync,
-{
-    let mut output = Narrow {
-        bytes: Vec::new(rt.alloc()),
-        calls: 7,
-        fails,
-    };
-    let mut errors = Vec::new(rt.alloc());
-    let mut input = PRINT_THEN_YIELD.as_bytes();
-    let status = run_command(rt, &["motesim"], &mut input, &mut output, &mut errors);
-    status == 1
-        && is_front(&output.bytes, 7)
-        && errors.as_slice() == b"motesim: write fault\n".as_slice()
+/// Writes down the status and the line of a fault of a run.
+fn write_fault(alloc: Global, text: &mut String, fault: RunError) -> Result<(), AllocError> {
+    let mut errors = Sink::new(alloc);
+    let status = status_of(Err(SimError::Run(fault)), &mut errors);
+    write!(text, "{status} ")?;
+    write_bytes(text, &errors.bytes)
+}
+
+/// What is written down of all faults of a run.
+fn faults_told(alloc: Global) -> Result<String, AllocError> {
+    let mut text = String::new(alloc);
+    for fault in [
+        RunError::Workers,
+        RunError::CutLength,
+        RunError::CutWorker,
+        RunError::Memory,
+        RunError::Thread,
+        RunError::Stopped,
+    ] {
+        write_fault(alloc, &mut text, fault)?;
+    }
+    Ok(text)
 }
 
 #[test]
-fn faults_of_the_output(rt: HostRuntime) {
-    assert!(rt; is_write_fault(&rt, true));
-    assert!(rt; is_write_fault(&rt, false));
+fn faults_of_the_run(rt: HostRuntime) -> Result<(), Fail> {
+    let told = faults_told(rt.alloc())?;
+    same_text(
+        told.as_str(),
+        "1 motesim: run fault 1\n1 motesim: run fault 2\n1 motesim: run fault 3\n1 motesim: out of memory\n1 motesim: run fault 5\n1 motesim: run fault 6\n",
+    )
 }
 
-/// Whether the program ends with status 1 where its fault's line can't be written.
-fn is_told_by_the_status<T>(rt: &T) -> bool
+/// The scenario, after how many calls the reader, the writer of the report and that of the faults fail, and whether these two fail
+/// or take nothing then.
+#[derive(Clone, Copy)]
+struct Streams<'a> {
+    scenario: &'a [u8],
+    reads: usize,
+    writes: usize,
+    lines: usize,
+    fails: bool,
+}
+
+/// Writes down the status of the program, how many bytes of the report are out, and what stands on standard error.
+fn write_command<T>(rt: &T, text: &mut String, streams: Streams) -> Result<(), AllocError>
 where
     T: AllocGlobal + Files + Threads + Wait + RandomSource + Sync,
 {
-    let mut output = Vec::new(rt.alloc());
-    let mut errors = Narrow {
-        bytes: Vec::new(rt.alloc()),
-        calls: 0,
+    let mut input = Source {
+        rest: streams.scenario,
+        most: 16,
+        calls: streams.reads,
+    };
+    let mut output = Sink::narrow(rt.alloc(), streams.writes, streams.fails);
+    let mut errors = Sink::narrow(rt.alloc(), streams.lines, streams.fails);
+    let status = run_command(rt, &["motesim"], &mut input, &mut output, &mut errors);
+    let front = front_of(PRINT_THEN_YIELD.report, &output.bytes);
+    write!(text, "{status} {front:?} ")?;
+    write_bytes(text, &errors.bytes)?;
+    text.push('|')
+}
+
+/// What is written down of some runs of the program.
+fn commands_told<T>(rt: &T, runs: &[Streams]) -> Result<String, AllocError>
+where
+    T: AllocGlobal + Files + Threads + Wait + RandomSource + Sync,
+{
+    let mut text = String::new(rt.alloc());
+    for streams in runs {
+        write_command(rt, &mut text, *streams)?;
+    }
+    Ok(text)
+}
+
+/// The input fails; the output fails, or takes nothing; a fault's line can't be written, as a whole or from some place on.
+#[test]
+fn failing_streams(rt: HostRuntime) -> Result<(), Fail> {
+    let whole = Streams {
+        scenario: PRINT_THEN_YIELD.scenario,
+        reads: usize::MAX,
+        writes: usize::MAX,
+        lines: usize::MAX,
+        fails: true,
+    };
+    let takes_none = Streams {
         fails: false,
+        ..whole
     };
-    let mut input = "".as_bytes();
-    let status = run_command(rt, &["motesim"], &mut input, &mut output, &mut errors);
-    status == 1 && output.is_empty()
-}
-
-#[test]
-fn a_line_that_cannot_be_written(rt: HostRuntime) {
-    assert!(rt; is_told_by_the_status(&rt));
+    let empty = Streams {
+        scenario: b"",
+        ..takes_none
+    };
+    let told = commands_told(
+        &rt,
+        &[
+            whole,
+            Streams { reads: 3, ..whole },
+            Streams { writes: 7, ..whole },
+            Streams {
+                writes: 7,
+                ..takes_none
+            },
+            Streams { lines: 0, ..empty },
+            Streams { lines: 7, ..empty },
+        ],
+    )?;
+    same_text(
+        told.as_str(),
+        "0 Some(89) |1 Some(0) motesim: read fault\n|1 Some(7) motesim: write fault\n|1 Some(7) motesim: write fault\n|1 Some(0) |1 Some(0) motesim|",
+    )
 }

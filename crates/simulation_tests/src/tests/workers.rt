@@ -1,86 +1,171 @@
-//! How many workers there are, by the options and by the words of the command line.
+//! Simulations by workers: who takes which turn, how many threads there are, and what comes where there are none.
 
-use crate::tests::{PRINT_THEN_YIELD, PRINT_THEN_YIELD_REPORT};
-use simulation::command::simulate_asked;
-use simulation::command_line::{Asked, asked_by};
+use super::{PRINT_THEN_YIELD, TWO_SENDERS, Told, Trial, tells};
 use simulation::options::{CutKind, Options};
 use std::random::RandomSource;
-use std::rt::Files;
 use std::sync::Wait;
-use std::sync::atomic::AtomicU64;
-use std::sync::atomic::Ordering::SeqCst;
+use std::test::Fail;
 use std::thread::Threads;
-use window_run::Gate;
+use window_workers::SyncKind;
 
-/// Counts the starts of threads that it is asked for.
-#[derive(Drop)]
-struct Starts {
-    asked: AtomicU64,
-}
+const CUTS: [CutKind; 2] = [CutKind::Block, CutKind::Stripe];
 
-impl Gate for Starts {
-    fn inside(&self, _worker: u16, _moment: u64, _mote: u16) {}
+const SYNCS: [SyncKind; 2] = [SyncKind::Joins, SyncKind::Marks];
 
-    fn start(&self, _worker: u16) -> bool {
-        self.asked.fetch_add(1, SeqCst);
-        true
-    }
-}
-
-/// How many starts are asked for where the report is due and comes. It is one mote with one turn, so one window, in which
-/// each worker that there is gets a thread.
-fn starts_for<T>(rt: &T, asked: &Asked<'_>) -> Option<u64>
-where
-    T: AllocGlobal + Files + Threads + Wait + RandomSource + Sync,
-{
-    let gate = Starts {
-        asked: AtomicU64::new(0),
-    };
-    let mut input = PRINT_THEN_YIELD.as_bytes();
-    let mut output = Vec::new(rt.alloc());
-    let answer = simulate_asked(rt, asked, &mut input, &mut output, &gate);
-    if answer.is_ok() && output.as_slice() == PRINT_THEN_YIELD_REPORT.as_bytes() {
-        Some(gate.asked.load(SeqCst))
-    } else {
-        None
+fn by(workers: u16, cut: CutKind, sync: SyncKind) -> Options {
+    Options {
+        workers: Some(workers),
+        cut,
+        sync,
     }
 }
 
 #[test]
-fn workers_of_the_options(rt: HostRuntime) {
-    for (workers, wanted) in [(None, 0), (Some(1), 1), (Some(3), 3), (Some(16), 16)] {
-        for cut in [CutKind::Block, CutKind::Stripe] {
-            let options = Options { workers, cut };
-            let asked = Asked {
-                file: None,
-                options,
-            };
-            assert_eq!(rt; starts_for(&rt, &asked), Some(wanted), "{asked:?}");
+fn default_options(rt: HostRuntime) {
+    let options = Options {
+        workers: None,
+        cut: CutKind::Block,
+        sync: SyncKind::Joins,
+    };
+    assert_eq!(rt; Options::default(), options);
+}
+
+/// Four motes that hear no other, with one turn each.
+const FOUR_MOTES: Told = Told {
+    scenario: b"version = 1\nend = 5\n[medium]\nrange = 10\nbase = 1\nper = 100\n[programs]\np = \"process a; autostart a; code a { body { print 1; yield; print 2; } }\"\n[[mote]]\nx = 0\ny = 0\nprogram = \"p\"\n[[mote]]\nx = 20\ny = 0\nprogram = \"p\"\n[[mote]]\nx = 40\ny = 0\nprogram = \"p\"\n[[mote]]\nx = 60\ny = 0\nprogram = \"p\"\n",
+    report: b"mote 0 p\n0 start etimer\n0 start ctimer\n0 start radio\n0 start a\n0 print a 1\nmote 1 p\n0 start etimer\n0 start ctimer\n0 start radio\n0 start a\n0 print a 1\nmote 2 p\n0 start etimer\n0 start ctimer\n0 start radio\n0 start a\n0 print a 1\nmote 3 p\n0 start etimer\n0 start ctimer\n0 start radio\n0 start a\n0 print a 1\nmedium\nleft 0\n",
+};
+
+/// Each turn is taken by the worker of its mote, in one window with a start for each of two workers.
+#[test]
+fn turns_by_the_cuts(rt: HostRuntime) -> Result<(), Fail> {
+    let want = "Ok(()) Some(314) 2 4 0|";
+    for sync in SYNCS {
+        let block = by(2, CutKind::Block, sync);
+        let stripe = by(2, CutKind::Stripe, sync);
+        tells(&rt, Trial::new(FOUR_MOTES, block, &[0, 0, 1, 1]), want)?;
+        tells(&rt, Trial::new(FOUR_MOTES, stripe, &[0, 1, 0, 1]), want)?;
+    }
+    Ok(())
+}
+
+/// Without workers no start is asked for, and the gate sees no turn.
+#[test]
+fn no_workers(rt: HostRuntime) -> Result<(), Fail> {
+    let options = Options {
+        workers: None,
+        cut: CutKind::Stripe,
+        sync: SyncKind::Marks,
+    };
+    let none = Options::default();
+    tells(
+        &rt,
+        Trial::new(TWO_SENDERS, options, &[0, 0, 0]),
+        "Ok(()) Some(405) 0 0 0|",
+    )?;
+    tells(
+        &rt,
+        Trial::new(PRINT_THEN_YIELD, none, &[0]),
+        "Ok(()) Some(89) 0 0 0|",
+    )
+}
+
+/// Fails where a run of one mote with one turn, so of one window, asks for other starts than these.
+fn tells_starts<T>(rt: &T, workers: u16, want: &str) -> Result<(), Fail>
+where
+    T: AllocGlobal + Threads + Wait + RandomSource + Sync,
+{
+    for cut in CUTS {
+        for sync in SYNCS {
+            let options = by(workers, cut, sync);
+            tells(rt, Trial::new(PRINT_THEN_YIELD, options, &[0]), want)?;
         }
     }
-}
-
-/// The number of workers that these words ask for, and how many starts.
-fn starts_by<T>(rt: &T, words: &[&str]) -> Option<(Option<u16>, u64)>
-where
-    T: AllocGlobal + Files + Threads + Wait + RandomSource + Sync,
-{
-    let asked = asked_by(rt.alloc(), words).ok()?;
-    let starts = starts_for(rt, &asked)?;
-    Some((asked.options.workers, starts))
+    Ok(())
 }
 
 #[test]
-fn workers_of_the_words(rt: HostRuntime) {
-    let cases: [(&[&str], Option<u16>, u64); 6] = [
-        (&["motesim"], None, 0),
-        (&["motesim", "--cut", "stripe"], None, 0),
-        (&["motesim", "--workers", "1"], Some(1), 1),
-        (&["motesim", "--workers=3", "--cut", "stripe"], Some(3), 3),
-        (&["motesim", "--cut=block", "--workers", "16"], Some(16), 16),
-        (&["motesim", "--workers", "04"], Some(4), 4),
-    ];
-    for (words, workers, starts) in cases {
-        assert_eq!(rt; starts_by(&rt, words), Some((workers, starts)), "{words:?}");
+fn starts_in_one_window(rt: HostRuntime) -> Result<(), Fail> {
+    tells_starts(&rt, 1, "Ok(()) Some(89) 1 1 0|")?;
+    tells_starts(&rt, 3, "Ok(()) Some(89) 3 1 0|")?;
+    tells_starts(&rt, 16, "Ok(()) Some(89) 16 1 0|")
+}
+
+/// With joins each worker is started in each of two windows, with marks once.
+#[test]
+fn starts_in_two_windows(rt: HostRuntime) -> Result<(), Fail> {
+    for (sync, two, three) in [
+        (
+            SyncKind::Joins,
+            "Ok(()) Some(405) 4 4 0|",
+            "Ok(()) Some(405) 6 4 0|",
+        ),
+        (
+            SyncKind::Marks,
+            "Ok(()) Some(405) 2 4 0|",
+            "Ok(()) Some(405) 3 4 0|",
+        ),
+    ] {
+        let block = by(2, CutKind::Block, sync);
+        let stripe = by(2, CutKind::Stripe, sync);
+        let each = by(3, CutKind::Stripe, sync);
+        tells(&rt, Trial::new(TWO_SENDERS, block, &[0, 0, 1]), two)?;
+        tells(&rt, Trial::new(TWO_SENDERS, stripe, &[0, 1, 0]), two)?;
+        tells(&rt, Trial::new(TWO_SENDERS, each, &[0, 1, 2]), three)?;
     }
+    Ok(())
+}
+
+/// Fails where so many workers, of which one isn't let start, answer something else. None behind it is asked for.
+fn tells_shut<T>(rt: &T, workers: u16, shut: u16, want: &str) -> Result<(), Fail>
+where
+    T: AllocGlobal + Threads + Wait + RandomSource + Sync,
+{
+    for cut in CUTS {
+        for sync in SYNCS {
+            let trial = Trial::new(TWO_SENDERS, by(workers, cut, sync), &[0, 0, 0]);
+            let shut = Some(shut);
+            tells(rt, Trial { shut, ..trial }, want)?;
+        }
+    }
+    Ok(())
+}
+
+/// With marks those that were started before wait for one that isn't there, and end all the same.
+#[test]
+fn refused_starts(rt: HostRuntime) -> Result<(), Fail> {
+    tells_shut(&rt, 2, 0, "Err(Run(Thread)) Some(0) 1|")?;
+    tells_shut(&rt, 2, 1, "Err(Run(Thread)) Some(0) 2|")?;
+    tells_shut(&rt, 3, 1, "Err(Run(Thread)) Some(0) 2|")?;
+    tells_shut(&rt, 3, 2, "Err(Run(Thread)) Some(0) 3|")
+}
+
+/// Fails where so many workers are answered something else, or not once the scenario is read.
+fn tells_number<T>(rt: &T, options: Options) -> Result<(), Fail>
+where
+    T: AllocGlobal + Threads + Wait + RandomSource + Sync,
+{
+    let trial = Trial::new(PRINT_THEN_YIELD, options, &[0]);
+    tells(rt, trial, "Err(Run(Workers)) Some(0) 0|")?;
+    for (scenario, want) in [
+        (b"end = \xff".as_slice(), "Err(NotText) Some(0) 0|"),
+        (b"end =".as_slice(), "Err(Scenario(Toml)) Some(0) 0|"),
+    ] {
+        let told = Told {
+            scenario,
+            ..PRINT_THEN_YIELD
+        };
+        tells(rt, Trial { told, ..trial }, want)?;
+    }
+    Ok(())
+}
+
+#[test]
+fn wrong_numbers_of_workers(rt: HostRuntime) -> Result<(), Fail> {
+    for workers in [0, 17, 65535u16] {
+        for sync in SYNCS {
+            tells_number(&rt, by(workers, CutKind::Stripe, sync))?;
+        }
+    }
+    Ok(())
 }

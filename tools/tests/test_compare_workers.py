@@ -1,0 +1,69 @@
+"""Which runs of a scenario are compared, and that one that differs is told."""
+import contextlib
+import importlib.machinery
+import importlib.util
+import io
+import sys
+import tempfile
+import unittest
+from pathlib import Path
+from unittest import mock
+
+sys.dont_write_bytecode = True
+TOOLS = Path(__file__).resolve().parent.parent
+
+
+def load(name):
+    loader = importlib.machinery.SourceFileLoader(name, str(TOOLS / name))
+    made = importlib.util.module_from_spec(importlib.util.spec_from_loader(name, loader))
+    loader.exec_module(made)
+    return made
+
+
+compare = load('compare_workers')
+
+# A program that writes its words beside it, and the scenario, or something else where one of its words is ODD.
+PROGRAM = """#!/bin/sh
+echo "$*" >>"$0.words"
+case " $* " in *" ODD "*) echo another ;; *) cat ;; esac
+"""
+
+
+class Runs(unittest.TestCase):
+    def compared(self, odd, *files):
+        """The words of each run, what is printed, and the status, of a program that answers a word in another way."""
+        with tempfile.TemporaryDirectory() as room:
+            program, said = Path(room) / 'program', io.StringIO()
+            program.write_text(PROGRAM.replace('ODD', odd))
+            program.chmod(0o755)
+            for name, text in files:
+                (Path(room) / name).write_text(text)
+            words = ['compare_workers', '--program', str(program), room]
+            with mock.patch.object(sys, 'argv', words), contextlib.redirect_stdout(said), self.assertRaises(SystemExit) as end:
+                compare.main()
+            return Path(str(program) + '.words').read_text().splitlines(), said.getvalue(), end.exception.code
+
+    def test_each_way_once(self):
+        words, said, code = self.compared('none', ('a.toml', 'end = 5\n'), ('a.expect.toml', ''))
+        self.assertEqual(words[0], '')
+        self.assertEqual(len(words), 21)
+        for workers in 1, 2, 3, 7, 16:
+            for cut in 'block', 'stripe':
+                for sync in 'joins', 'marks':
+                    self.assertEqual(words.count('--workers %d --cut %s --sync %s' % (workers, cut, sync)), 1)
+        self.assertEqual(said, '1 scenarios, each on one thread and in 20 runs by workers: 0 differ\n')
+        self.assertEqual(code, 0)
+
+    def test_a_kind_that_differs(self):
+        _, said, code = self.compared('marks', ('a.toml', 'end = 5\n'))
+        self.assertIn('10 of its runs differ; --workers 1 --cut block --sync marks: another report from line 1 on', said)
+        self.assertEqual(code, 1)
+
+    def test_a_report_that_is_written_down(self):
+        _, said, code = self.compared('none', ('a.toml', 'end = 5\n'), ('a.expected', 'end = 6\n'))
+        self.assertIn('1 of its runs differ; on one thread: another report from line 1 on', said)
+        self.assertEqual(code, 1)
+
+
+if __name__ == '__main__':
+    unittest.main()
