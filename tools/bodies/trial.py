@@ -18,8 +18,9 @@ def verdicts(bodies, group):
     refused = refused_together(bodies, group) if group[0].functions else {}
     left = [edit.file for edit in group if edit.file not in refused]
     found = {file: Verdict(True, 'refused: %s' % why) for file, why in refused.items()}
-    for file, (is_refused, said) in zip(left, rt.must_fail_all(bodies.crate, left, ONE_JOB)):
-        found[file] = Verdict(is_refused, said.partition('.edit: ')[2])
+    for file in left:
+        kind, said = rt.must_fail(bodies.crate, file, ONE_JOB)
+        found[file] = Verdict(kind in (rt.REFUSED, rt.AT_LIMIT), said.partition('.edit: ')[2])
     return found
 
 
