@@ -71,7 +71,7 @@ fn cut_of(alloc: Global, run: &Run<'_>) -> Result<Cut, AllocError> {
 
 /// What comes of a run.
 #[derive(Clone, Copy, Debug)]
-enum Told {
+enum Outcome {
     /// The report of one thread, in which so many copies are left.
     Same(u64),
     /// Another report.
@@ -96,11 +96,11 @@ fn is_of_one_thread(alloc: Global, net: &Net, report: &Report) -> bool {
 }
 
 /// What a report is beside that of one thread.
-fn told(alloc: Global, net: &Net, report: &Report) -> Told {
+fn told(alloc: Global, net: &Net, report: &Report) -> Outcome {
     if is_of_one_thread(alloc, net, report) {
-        Told::Same(report.left)
+        Outcome::Same(report.left)
     } else {
-        Told::Other
+        Outcome::Other
     }
 }
 
@@ -111,7 +111,7 @@ fn told_by_workers<R, G>(
     sync: SyncKind,
     run: &Run<'_>,
     gate: &G,
-) -> Result<Told, AllocError>
+) -> Result<Outcome, AllocError>
 where
     R: Threads + Wait + Sync + RandomSource + AllocGlobal,
     G: Gate + Sync,
@@ -119,7 +119,7 @@ where
     let cut = cut_of(rt.alloc(), run)?;
     match run_workers(rt, rt.alloc(), net, run.workers, &cut, sync, gate) {
         Ok(report) => Ok(told(rt.alloc(), net, &report)),
-        Err(error) => Ok(Told::Fault(error)),
+        Err(error) => Ok(Outcome::Fault(error)),
     }
 }
 

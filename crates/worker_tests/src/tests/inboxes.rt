@@ -3,7 +3,7 @@ ghost use Rattle.std.specs.Prelude.{IfOk};
 ghost use Rattle.std.specs.List.{AllByRecursion as Each};
 ghost use Rattle.copy_exchange.specs.Inboxes.{IsSettled};
 
-use super::{COPY_PAST_THE_END, Run, THREE_APART, Told, by, cut_of, same_text, told};
+use super::{COPY_PAST_THE_END, Outcome, Run, THREE_APART, by, cut_of, same_text, told};
 use copy_exchange::make_inboxes;
 use copy_inbox::{Inbox, Taker};
 use net_scenario::{Net, read_scenario};
@@ -22,7 +22,7 @@ fn over_inboxes<R, G>(
     sync: SyncKind,
     run: &Run<'_>,
     gate: &G,
-) -> Result<(Told, Vec<(Inbox, Taker)>), Fail>
+) -> Result<(Outcome, Vec<(Inbox, Taker)>), Fail>
 where
     R: Threads + Wait + Sync + RandomSource + AllocGlobal,
     G: Gate + Sync,
@@ -32,7 +32,7 @@ where
     let pairs = make_inboxes(rt.alloc(), usize::from(run.workers), sync.has_marks())?;
     match run_inboxes(rt, rt.alloc(), net, &cut, sync, gate, pairs) {
         Ok((report, pairs)) => Ok((told(rt.alloc(), net, &report), pairs)),
-        Err(error) => Ok((Told::Fault(error), Vec::new(rt.alloc()))),
+        Err(error) => Ok((Outcome::Fault(error), Vec::new(rt.alloc()))),
     }
 }
 
