@@ -3,6 +3,7 @@ from typing import NamedTuple
 
 from bodies.faults import UNEXPLAINED, is_of, own_faults
 from bodies.kit import rt, rtlib
+from bodies.stated import stated
 
 ONE_JOB = ['--jobs', '1']
 
@@ -38,12 +39,22 @@ def refused_together(bodies, group):
 
 
 def told_of(bodies, group):
+    """What is said against each edit of a group: by a check that takes what their functions call by its contract, and where that leaves
+    one open by a check that proves it too."""
+    told = told_by(check_alone, bodies, group)
+    if len(told) < len(group):
+        told.update(told_by(check_with_calls, bodies, group))
+    return told
+
+
+def told_by(check, bodies, group):
     """What one check of all these edits says against each, or nothing where it says nothing of the proofs, or refuses a function that no
     edit stands in for more than what that calls."""
-    lines = lines_of(bodies, group)
+    texts = bodies.with_all(group)
+    functions = [function for edit in group for function in edit.functions]
+    lines = lines_said(check(bodies, texts, functions), texts)
     if not lines:
         return {}
-    functions = [function for edit in group for function in edit.functions]
     faults = own_faults(lines, {it.path: it.cycle for it in functions if it.cycle})
     told = {}
     for edit in group:
@@ -57,10 +68,8 @@ def told_of(bodies, group):
     return {} if others and all(edit.is_inside for edit in group) else told
 
 
-def lines_of(bodies, group):
-    """What a check of a copy of the crate with all these edits says of their functions, or nothing where it doesn't get as far as the proofs."""
-    texts = bodies.with_all(group)
-    ran = check_functions(bodies.crate, texts, [function for edit in group for function in edit.functions])
+def lines_said(ran, texts):
+    """The lines of a check, or none where it doesn't get as far as the proofs."""
     lines = ran.stdout.rstrip('\n').split('\n')
     reached = ran.returncode == 1 and lines[-1].startswith(('only=', 'logic=not-proved'))
     if not reached or rtlib.STALE.search(ran.stdout) or any(rt.unread(line, texts) for line in lines):
@@ -68,10 +77,19 @@ def lines_of(bodies, group):
     return lines
 
 
-def check_functions(crate, texts, functions):
+def only(functions):
+    return [word for function in functions for word in ('--only', function.path)]
+
+
+def check_alone(bodies, texts, functions):
+    """Checks these functions, given the contracts of what they call."""
+    with stated(bodies, functions) as crate:
+        return rt.checked(crate, texts, [*ONE_JOB, '--allow-holes', *only(functions)], None)
+
+
+def check_with_calls(bodies, texts, functions):
     """Checks these functions and what they call; or all of the crate, where a path that was guessed names none."""
-    only = [word for function in functions for word in ('--only', function.path)]
-    ran = rt.checked(crate, texts, ONE_JOB + only, None)
+    ran = rt.checked(bodies.crate, texts, ONE_JOB + only(functions), None)
     if ran.returncode == 2 and any(function.is_guess for function in functions):
-        return rt.checked(crate, texts, ONE_JOB, None)
+        return rt.checked(bodies.crate, texts, ONE_JOB, None)
     return ran

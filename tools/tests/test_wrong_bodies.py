@@ -8,6 +8,7 @@ sys.path.insert(0, str(Path(__file__).resolve().parent.parent))
 
 from bodies.faults import is_of, own_faults
 from bodies.functions import Function, functions_in, names_in, owner_of
+from bodies.stated import cited_in, proof_of, types_in
 
 
 def rows(text):
@@ -74,6 +75,34 @@ class FunctionsOfAFile(unittest.TestCase):
 
 def rows_words(text):
     return [word for _, word in rows(text)]
+
+
+class WhereAProofStands(unittest.TestCase):
+    TYPES = {'Queue': ['queue'], 'Fault': []}
+
+    def names(self, path, **more):
+        return proof_of(Function(1, 1, path, **more), self.TYPES)
+
+    def test_types_of_a_file(self):
+        text = 'pub struct Queue<T> {\n}\nenum Fault {\nFull,\n}'
+        self.assertEqual(types_in('src/a/queue.rt', rows(text)), {'Queue': ['a', 'queue'], 'Fault': ['a', 'queue']})
+
+    def test_function_of_a_module(self):
+        self.assertEqual(self.names('queue::inner::post'), ['queue', 'inner', 'post'])
+
+    def test_method_stands_under_the_module_of_its_type(self):
+        self.assertEqual(self.names('Queue::post'), ['queue', 'Queue', 'post'])
+        self.assertEqual(self.names('Fault::number'), ['Fault', 'number'])
+
+    def test_cited_answers(self):
+        lines = ['use Rattle.c.proofs.a.f.Answers.{lemma}', 'use Rattle.c.proofs.a.g.Goals as goal', 'use Rattle.c.proofs.A.h.Invariants']
+        self.assertEqual(cited_in(lines), {'a.f', 'A.h'})
+
+    def test_what_cannot_be_told(self):
+        self.assertIsNone(self.names('QueueDisplay::fmt'))
+        self.assertIsNone(self.names('queue::Gate::start'))
+        self.assertIsNone(self.names('queue::post', cycle='turns'))
+        self.assertIsNone(self.names('Queue::post', is_guess=True))
 
 
 class WhatACheckSays(unittest.TestCase):
