@@ -13,7 +13,7 @@ use program_tree::token::Token;
 use std::marker::Model;
 
 /// A sign that must stand at its place.
-#[derive(Clone, Copy, Debug, PartialEq, Eq)]
+#[derive(Clone, Copy)]
 pub(crate) enum Sign {
     Semicolon,
     Equals,

@@ -17,7 +17,7 @@ use program_tree::token::Token;
 use std::alloc::{AllocError, Global};
 
 /// What a declaration makes.
-#[derive(Clone, Copy, Debug, PartialEq, Eq)]
+#[derive(Clone, Copy)]
 pub(crate) enum Kind {
     Event,
     Semaphore,

@@ -6,14 +6,14 @@ use program_tree::error::ReadErrorKind;
 use std::alloc::{AllocError, AllocFailed};
 
 /// A fault, and how many tokens are left from its token on.
-#[derive(Clone, Copy, Debug)]
+#[derive(Clone, Copy)]
 pub(crate) struct Fault {
     pub kind: ReadErrorKind,
     pub left: usize,
 }
 
 /// Want of memory, or the first fault.
-#[derive(Clone, Copy, Debug)]
+#[derive(Clone, Copy)]
 pub(crate) enum Refusal {
     Memory,
     Fault(Fault),

@@ -12,7 +12,7 @@ use program_tree::tree::Operator;
 use std::alloc::{AllocError, Global};
 
 /// The tokens of a text but for its end, with their lines from 1 on; the last line is that of the end.
-#[derive(Debug, Drop)]
+#[derive(Drop)]
 pub(crate) struct Lexed<'a> {
     pub(crate) tokens: Vec<Token<'a>>,
     pub(crate) lines: Vec<usize>,

@@ -9,7 +9,7 @@ use std::alloc::Global;
 pub(crate) const LEVELS: usize = 32;
 
 /// What a name stands for, where one of a class is asked for: nothing, something of the class, by its number, or something else.
-#[derive(Clone, Copy, Debug)]
+#[derive(Clone, Copy)]
 pub(crate) enum Found {
     Unknown,
     Other,
@@ -17,7 +17,7 @@ pub(crate) enum Found {
 }
 
 /// Where a block or an expression stands: below so many levels, in a simple block or not, and in the block of which thread.
-#[derive(Clone, Copy, Debug)]
+#[derive(Clone, Copy)]
 pub(crate) struct Context<'a> {
     pub level: usize,
     pub simple: bool,
