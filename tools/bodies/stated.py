@@ -34,6 +34,11 @@ def proof_of(function, types):
     return parts if all(part[:1].islower() for part in parts) else None
 
 
+def is_one_of(function, judged):
+    """Whether a function is one of the judged, whose paths may begin with modules that its own leaves out."""
+    return any(('::' + it.path).endswith('::' + function.path) for it in judged)
+
+
 def proofs_of_others(bodies, judged):
     """The names that lead to the proof of each function of a crate that isn't judged, where they can be told."""
     files = [os.path.relpath(file, bodies.crate.folder) for file in rtlib.files_of(bodies.crate.folder)]
@@ -41,8 +46,7 @@ def proofs_of_others(bodies, judged):
     types = {}
     for file in sources:
         types.update(types_in(file, tokens('%s/%s' % (bodies.crate.folder, file))))
-    judged = {it.path for it in judged}
-    others = [it for file in sources for it in bodies.functions(file) if it.path not in judged]
+    others = [it for file in sources for it in bodies.functions(file) if not is_one_of(it, judged)]
     cited = cited_in(rtlib.text_of('%s/%s' % (bodies.crate.folder, file)) for file in files if file.endswith('.antt'))
     found = [names for names in (proof_of(it, types) for it in others) if names]
     return [names for names in found if '.'.join(names) not in cited]

@@ -8,7 +8,7 @@ sys.path.insert(0, str(Path(__file__).resolve().parent.parent))
 
 from bodies.faults import is_of, own_faults
 from bodies.functions import Function, functions_in, names_in, owner_of
-from bodies.stated import cited_in, proof_of, types_in
+from bodies.stated import cited_in, is_one_of, proof_of, types_in
 
 
 def rows(text):
@@ -93,6 +93,11 @@ class WhereAProofStands(unittest.TestCase):
     def test_method_stands_under_the_module_of_its_type(self):
         self.assertEqual(self.names('Queue::post'), ['queue', 'Queue', 'post'])
         self.assertEqual(self.names('Fault::number'), ['Fault', 'number'])
+
+    def test_path_with_the_module_of_its_type(self):
+        push = Function(1, 1, 'Inbox::push')
+        self.assertTrue(is_one_of(push, [Function(0, 0, 'inbox::Inbox::push')]) and is_one_of(push, [push]))
+        self.assertFalse(is_one_of(push, [Function(0, 0, 'inbox::Outbox::push'), Function(0, 0, 'Inbox::push_copy')]))
 
     def test_cited_answers(self):
         lines = ['use Rattle.c.proofs.a.f.Answers.{lemma}', 'use Rattle.c.proofs.a.g.Goals as goal', 'use Rattle.c.proofs.A.h.Invariants']
