@@ -26,7 +26,7 @@ struct Front<'a> {
 }
 
 /// The signs, the longer first.
-const SIGNS: [Entry<'static>; 21] = [
+static SIGNS: [Entry<'static>; 21] = [
     (b"==", Token::Op(Operator::Equal)),
     (b"!=", Token::Op(Operator::Unequal)),
     (b"<=", Token::Op(Operator::AtMost)),
@@ -76,7 +76,7 @@ fn line_len(rest: &[u8]) -> usize
 }
 
 /// The first of the signs that a text begins with.
-fn first_sign<'a>(signs: &[Entry<'a>], rest: &[u8]) -> Option<Entry<'a>>
+fn first_sign(signs: &'static [Entry<'static>], rest: &[u8]) -> Option<Entry<'static>>
     ensures { option_map entry_of result ≡ find (λ s. starts_with nat_eq rest.now s.0) (map entry_of signs.now) }
 {
     signs.iter().find(|sign| rest.starts_with(sign.0)).copied()

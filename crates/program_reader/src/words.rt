@@ -20,7 +20,7 @@ const TOO_LARGE: u32 = 65_536;
 const LONGEST_NAME: usize = 16;
 
 /// The words that no program can have as names.
-const KEYWORDS: [Entry<'static>; 58] = [
+static KEYWORDS: [Entry<'static>; 58] = [
     (b"event", Token::Keyword(Keyword::Event)),
     (b"semaphore", Token::Keyword(Keyword::Semaphore)),
     (b"process", Token::Keyword(Keyword::Process)),
@@ -124,7 +124,7 @@ fn begins_lowercase(word: &[u8]) -> bool
 }
 
 /// The token beside a text in a table.
-fn lookup<'a>(table: &[Entry<'a>], word: &[u8]) -> Option<Token<'a>>
+fn lookup(table: &'static [Entry<'static>], word: &[u8]) -> Option<Token<'static>>
     ensures { option_map token_of result ≡ spec.lookup (map entry_of table.now) word.now }
 {
     table
@@ -148,7 +148,7 @@ fn name<'a>(word: &'a [u8]) -> Token<'a>
 }
 
 /// The token of a keyword.
-fn keyword<'a>(word: &[u8]) -> Option<Token<'a>>
+fn keyword(word: &[u8]) -> Option<Token<'static>>
     ensures { option_map token_of result ≡ spec.lookup spec.keywords word.now }
 {
     lookup(&KEYWORDS, word)
