@@ -1,8 +1,9 @@
 -- How the reading goes on at a declaration.
-use Rattle.std.proofs.Common.{◌≡◌, ◌<◌, ◌≤◌, nat_lt, arith, ℕ, suc, List, [], ◌∷◌, ◌++◌, length, drop, Bool, true, false, Option, Some, None, is_some, option_map, ◌+◌, refl, ap, sym, ◌∙◌, ◌||◌}
+use Rattle.std.proofs.Common.{◌≡◌, ◌<◌, ◌≤◌, nat_lt, arith, ℕ, suc, List, [], ◌∷◌, ◌++◌, length, drop, Bool, true, false, Option, Some, None, is_some, option_map, ◌+◌, refl, ap, sym, ◌∙◌, ◌||◌, append_assoc}
 use Rattle.std.proofs.lemmas.Bool.Decides.{nat_tests}
+use Rattle.std.proofs.lemmas.List.{append-nil}
 use Rattle.program_tree.specs.Faults.{Scope, is_full}
-use Rattle.program_reader.specs.Head.{with_names, IsNew, IsListed, IsValued}
+use Rattle.program_reader.specs.Head.{class_of_kind, with_names, IsNew, IsListed, IsValued}
 use Rattle.program_tree.specs.InScope.{Names, with_new, is_in_scope, is_a}
 use Rattle.text_laws.specs.Machine as machine
 use Rattle.text_laws.specs.Machine.{Pending, tell, fault, fault_or, first, first_broken, new_name}
@@ -13,6 +14,8 @@ use Rattle.program_tree.specs.Tokens as token
 use Rattle.program_tree.specs.Tokens.{Token}
 use Rattle.program_tree.specs.Tree.{Class, an_event, a_semaphore, a_process, a_variable, a_timer, a_thread}
 use Rattle.program_tree.specs.declared.error.ReadErrorKind.TheVariants.{NameTwice, NumberTooLarge, TooMany}
+use Rattle.program_reader.specs.declared.declarations.Kind.{Kind}
+use Rattle.program_reader.specs.declared.declarations.Kind.TheVariants as kind
 use Rattle.program_reader.proofs.NameSteps.{front_of}
 use Rattle.program_reader.proofs.PlaceLaws.{place_left, place_right}
 
@@ -111,3 +114,31 @@ not_in_second xs ys x h = go (place_of xs x) refl
     go : (o : Option ℕ) → place_of xs x ≡ o → place_of ys x ≡ None
     go None e = mapped_none (length xs) (place_of ys x) (ap is_some (sym (place_right xs ys x e)) ∙ h)
     go (Some i) e = let k : is_some (place_of (xs ++ ys) x) ≡ true = ap is_some (place_left xs ys x i e) in absurd (cc (k, h))
+
+-- what a declaration adds
+
+pub event_added : (s : Scope) (k : Kind) (x : Name) (xs : List Name) → k ≡ kind.Event → xs ≡ s.names.events ++ x ∷ [] → record s { names = record s.names { events = xs } } ≡ with_names s (with_new s.names (class_of_kind k) x)
+event_added s k x xs is e = rw (is, e) refl
+
+pub semaphore_added : (s : Scope) (k : Kind) (x : Name) (xs : List Name) → k ≡ kind.Semaphore → xs ≡ s.names.semaphores ++ x ∷ [] → record s { names = record s.names { semaphores = xs } } ≡ with_names s (with_new s.names (class_of_kind k) x)
+semaphore_added s k x xs is e = rw (is, e) refl
+
+pub process_added : (s : Scope) (k : Kind) (x : Name) (xs : List Name) → k ≡ kind.Process → xs ≡ s.names.processes ++ x ∷ [] → record s { names = record s.names { processes = xs } } ≡ with_names s (with_new s.names (class_of_kind k) x)
+process_added s k x xs is e = rw (is, e) refl
+
+pub variable_added : (s : Scope) (k : Kind) (x : Name) (xs : List Name) → k ≡ kind.Variable → xs ≡ s.names.variables ++ x ∷ [] → record s { names = record s.names { variables = xs } } ≡ with_names s (with_new s.names (class_of_kind k) x)
+variable_added s k x xs is e = rw (is, e) refl
+
+pub thread_added : (s : Scope) (k : Kind) (x : Name) (xs : List Name) → k ≡ kind.Thread → xs ≡ s.names.threads ++ x ∷ [] → record s { names = record s.names { threads = xs } } ≡ with_names s (with_new s.names (class_of_kind k) x)
+thread_added s k x xs is e = rw (is, e) refl
+
+timer_added : (s : Scope) (k : Kind) (x : Name) (ts : List Name) → class_of_kind k ≡ a_timer → ts ≡ s.names.timers ++ x ∷ [] → record s { names = record s.names { timers = ts } } ≡ with_names s (with_new s.names (class_of_kind k) x)
+timer_added s k x ts is e = rw (is, e) refl
+
+pub etimer_added : (s : Scope) (k : Kind) (x : Name) (es cs xs : List Name) → k ≡ kind.Etimer → s.names.timers ≡ es ++ cs → cs ≡ [] → xs ≡ es ++ x ∷ [] → record s { names = record s.names { timers = xs ++ cs } } ≡ with_names s (with_new s.names (class_of_kind k) x)
+etimer_added s k x es cs xs is all none e =
+    timer_added s k x (xs ++ cs) (ap class_of_kind is) (ap (λ z. xs ++ z) none ∙ append-nil xs ∙ e ∙ ap (λ z. z ++ x ∷ []) (sym (append-nil es) ∙ ap (λ z. es ++ z) (sym none) ∙ sym all))
+
+pub ctimer_added : (s : Scope) (k : Kind) (x : Name) (es cs xs : List Name) → k ≡ kind.Ctimer → s.names.timers ≡ es ++ cs → xs ≡ cs ++ x ∷ [] → record s { names = record s.names { timers = es ++ xs } } ≡ with_names s (with_new s.names (class_of_kind k) x)
+ctimer_added s k x es cs xs is all e =
+    timer_added s k x (es ++ xs) (ap class_of_kind is) (ap (λ z. es ++ z) e ∙ sym (append_assoc es cs (x ∷ [])) ∙ ap (λ z. z ++ x ∷ []) (sym all))

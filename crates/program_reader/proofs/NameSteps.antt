@@ -6,7 +6,7 @@ use Rattle.program_tree.specs.Grammar.{Context, Mark, named, uses, spawns, used,
 use Rattle.program_tree.specs.InScope.{Names, is_a, is_in_scope, number_in, name_in}
 use Rattle.text_laws.specs.Machine.{Symbol, Pending, step, take, unfit, tell, fault, end_kind, first, first_broken, unfit_at, operand}
 use Rattle.program_tree.specs.Shapes.{Name}
-use Rattle.program_reader.specs.Steps.{look, Finds, IsFound, Numbered, Fits, Reads}
+use Rattle.program_reader.specs.Steps.{look, Finds, IsNamed, IsFound, Numbered, Fits, Reads}
 use Rattle.program_tree.specs.Tokens as token
 use Rattle.program_tree.specs.Tokens.{Token}
 use Rattle.program_tree.specs.Tree.{Class, an_event, a_semaphore, a_process, a_variable, a_timer, a_thread}
@@ -90,7 +90,7 @@ used_after s c k x = refl
 
 -- Reading a name of a class.
 
-pub name_reads : (s : Scope) (c : Context) (k : Class) (x : Name) (i : ℕ) (old new : List Token) → first old ≡ Some (token.Name x) → Finds s.names c.thread k x i → new ≡ drop 1 old →
+name_reads : (s : Scope) (c : Context) (k : Class) (x : Name) (i : ℕ) (old new : List Token) → first old ≡ Some (token.Name x) → Finds s.names c.thread k x i → new ≡ drop 1 old →
     Reads s s (operand c (form.name k)) (λ n ms. operand_mark c (form.name k) (name_in n k i) ∷ ms) old new
 name_reads s c k x i old new is f from = record {
   spelled = λ n h ms e. front_of old (token.Name x) is ∙ ap (λ y. token.Name y ∷ drop 1 old) (sym (name_again s.names n c.thread k x i f h)) ∙ ap (λ ts. token.Name (name_in n k i) ∷ ts) (sym from ∙ sym e);
@@ -99,11 +99,19 @@ name_reads s c k x i old new is f from = record {
       ∙ ap (λ z. tell z more (drop 1 old)) (used_after s c k x) ∙ ap (λ ts. tell s more ts) (sym from);
 }
 
-pub name_numbered : (n : Names) (own : Option Name) (k : Class) (x : Name) (i : ℕ) → Finds n own k x i → Numbered n (λ n'. number_in n' k (name_in n' k i)) i
-name_numbered n own k x i f = λ n' h. number_again n n' own k x i f h
+pub is_named : (n : Names) (own : Option Name) (k : Class) (x : Name) (i : ℕ) (old : List Token) → first old ≡ Some (token.Name x) → Finds n own k x i → IsNamed n own k i old
+is_named n own k x i old is f = record { name = x; here = is; finds = f }
 
-pub name_fits : (n : Names) (own : Option Name) (k : Class) (x : Name) (i : ℕ) → Finds n own k x i → Fits n own (λ w. w k i)
-name_fits n own k x i f = λ w h. h k x i f
+pub named_reads : (s : Scope) (c : Context) (k : Class) (i : ℕ) (old new : List Token) → IsNamed s.names c.thread k i old → new ≡ drop 1 old → Reads s s (operand c (form.name k)) (λ n ms. operand_mark c (form.name k) (name_in n k i) ∷ ms) old new
+named_reads s c k i old new h from = name_reads s c k h.name i old new h.here h.finds from
+
+pub named_numbered : (n : Names) (own : Option Name) (k : Class) (i : ℕ) (old : List Token) → IsNamed n own k i old → Numbered n (λ n'. number_in n' k (name_in n' k i)) i
+named_numbered n own k i old f = λ n' h. number_again n n' own k f.name i f.finds h
+
+pub named_fits : (n : Names) (own : Option Name) (k : Class) (i : ℕ) (old : List Token) → IsNamed n own k i old → Fits n own (λ w. w k i)
+named_fits n own k i old f = λ w h. h k f.name i f.finds
+
+pub ruleset name_steps = (named_reads, named_numbered, named_fits)
 
 pub name_unknown : (s : Scope) (c : Context) (k : Class) (x : Name) (old : List Token) (more : Pending) → first old ≡ Some (token.Name x) → is_in_scope s.names x ≡ false → tell s (operand c (form.name k) ∷ more) old ≡ fault UnknownName (length old)
 name_unknown s c k x old more is f = broken s (operand c (form.name k) ∷ more) more old (token.Name x) (named x (used c k x)) UnknownName is refl (used_unknown s c k x f)
@@ -111,4 +119,4 @@ name_unknown s c k x old more is f = broken s (operand c (form.name k) ∷ more)
 pub name_other : (s : Scope) (c : Context) (k : Class) (x : Name) (old : List Token) (more : Pending) → first old ≡ Some (token.Name x) → IsFound s.names c.thread k x found.Other → tell s (operand c (form.name k) ∷ more) old ≡ fault BadTarget (length old)
 name_other s c k x old more is f = broken s (operand c (form.name k) ∷ more) more old (token.Name x) (named x (used c k x)) BadTarget is refl (used_other s c k x f)
 
-pub ruleset name_steps = (name_reads, name_numbered, name_fits, name_unknown, name_other)
+pub ruleset number_steps = (is_named, name_unknown, name_other)

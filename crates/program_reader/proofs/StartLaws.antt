@@ -7,9 +7,9 @@ use Rattle.std.proofs.lemmas.List.Elements.{All-nil, All-cons, All-append}
 use Rattle.program_tree.specs.Faults.{Scope}
 use Rattle.program_tree.specs.Forms as form
 use Rattle.program_tree.specs.Grammar.{tokens, sign, named, starts, at_body, operand_mark, starting_marks}
-use Rattle.program_reader.specs.Head.{with_starting, IsStarting, HasStarting, ReadsAutostart, ReadsReceiver}
+use Rattle.program_reader.specs.Head.{with_starting, CanStart, IsStarting, HasStarting, ReadsAutostart, ReadsReceiver}
 use Rattle.program_tree.specs.InScope.{Names, names_of, is_in_scope, or_zero, number_in, name_in}
-use Rattle.text_laws.specs.Machine.{Pending, Verdict, tell, fault, first, starting, more_starting, from_autostart, from_receiver, codes, semicolon, operand}
+use Rattle.text_laws.specs.Machine.{Pending, Verdict, tell, fault, first, first_broken, starting, more_starting, from_autostart, from_receiver, codes, semicolon, operand}
 use Rattle.program_tree.specs.Names.{place_of}
 use Rattle.program_tree.specs.Scope.{Within}
 use Rattle.program_tree.specs.Shapes.{Name}
@@ -17,6 +17,7 @@ use Rattle.program_reader.specs.Steps.{ReadsSign, Reads, Numbered, Fits, Finds, 
 use Rattle.program_tree.specs.Tokens as token
 use Rattle.program_tree.specs.Tokens.{Token}
 use Rattle.program_tree.specs.Tree.{Class, a_process}
+use Rattle.program_tree.specs.declared.error.ReadErrorKind.{ReadErrorKind}
 use Rattle.program_tree.specs.declared.error.ReadErrorKind.TheVariants.{UnknownName, NameTwice, BadTarget}
 use Rattle.program_tree.specs.declared.keyword.Keyword.TheVariants as word
 use Rattle.program_reader.proofs.ListLaws.{keyword_then}
@@ -26,30 +27,38 @@ use Rattle.program_reader.proofs.Stages.{no_autostart, no_receiver}
 
 -- one name
 
-pub start_unknown : (s : Scope) (x : Name) (old : List Token) (more : Pending) → first old ≡ Some (token.Name x) → is_in_scope s.names x ≡ false → tell s (starting ∷ more) old ≡ fault UnknownName (length old)
-start_unknown s x old more is h = broken s (starting ∷ more) more old (token.Name x) (named x (starts x)) UnknownName is refl (rw h refl)
+pub start_unknown : (s : Scope) (x : Name) → is_in_scope s.names x ≡ false → first_broken s (named x (starts x)) ≡ Some UnknownName
+start_unknown s x h = rw h refl
 
-pub start_twice : (s : Scope) (x : Name) (i : ℕ) (old : List Token) (more : Pending) → first old ≡ Some (token.Name x) → is_in_scope s.names x ≡ true → place_of s.starting x ≡ Some i → tell s (starting ∷ more) old ≡ fault NameTwice (length old)
-start_twice s x i old more is h k = broken s (starting ∷ more) more old (token.Name x) (named x (starts x)) NameTwice is refl (rw (h, k) refl)
+pub start_twice : (s : Scope) (x : Name) (i : ℕ) → is_in_scope s.names x ≡ true → place_of s.starting x ≡ Some i → first_broken s (named x (starts x)) ≡ Some NameTwice
+start_twice s x i h k = rw (h, k) refl
 
-pub start_other : (s : Scope) (x : Name) (old : List Token) (more : Pending) → first old ≡ Some (token.Name x) → is_in_scope s.names x ≡ true → place_of s.starting x ≡ None → place_of s.names.processes x ≡ None → tell s (starting ∷ more) old ≡ fault BadTarget (length old)
-start_other s x old more is h k l = broken s (starting ∷ more) more old (token.Name x) (named x (starts x)) BadTarget is refl (rw (h, k, l) refl)
+pub start_other : (s : Scope) (x : Name) → is_in_scope s.names x ≡ true → place_of s.starting x ≡ None → place_of s.names.processes x ≡ None → first_broken s (named x (starts x)) ≡ Some BadTarget
+start_other s x h k l = rw (h, k, l) refl
 
-pub is_starting : (s s' : Scope) (numbers numbers' : List ℕ) (x : Name) (i : ℕ) (old new : List Token) → first old ≡ Some (token.Name x) → new ≡ drop 1 old → is_in_scope s.names x ≡ true → place_of s.starting x ≡ None → place_of s.names.processes x ≡ Some i
+pub can_start : (s : Scope) (x : Name) (i : ℕ) → is_in_scope s.names x ≡ true → place_of s.starting x ≡ None → place_of s.names.processes x ≡ Some i → CanStart s x i
+can_start s x i h k l = record { declared = h; fresh = k; known = l }
+
+pub ruleset startable_steps = (start_unknown, start_twice, start_other, can_start)
+
+pub start_fails : (s : Scope) (x : Name) (k : ReadErrorKind) (old : List Token) (more : Pending) → first old ≡ Some (token.Name x) → first_broken s (named x (starts x)) ≡ Some k → tell s (starting ∷ more) old ≡ fault k (length old)
+start_fails s x k old more is h = broken s (starting ∷ more) more old (token.Name x) (named x (starts x)) k is refl h
+
+pub is_starting : (s s' : Scope) (numbers numbers' : List ℕ) (x : Name) (i : ℕ) (old new : List Token) → first old ≡ Some (token.Name x) → new ≡ drop 1 old → CanStart s x i
     → s' ≡ with_starting s (s.starting ++ x ∷ []) → numbers' ≡ numbers ++ i ∷ [] → IsStarting s s' numbers numbers' old new
-is_starting s s' numbers numbers' x i old new is from h k l added pushed = record {
+is_starting s s' numbers numbers' x i old new is from can added pushed = record {
   name = x;
   number = i;
-  known = l;
+  known = can.known;
   added = added;
   pushed = pushed;
   spelled = front_of old (token.Name x) is ∙ ap (λ ts. token.Name x ∷ ts) (sym from);
   goes_on = λ f.
-      taken s (starting ∷ f) f old (token.Name x) (named x (starts x)) is refl (rw (h, k, l) refl)
+      taken s (starting ∷ f) f old (token.Name x) (named x (starts x)) is refl (rw (can.declared, can.fresh, can.known) refl)
       ∙ ap (λ ts. tell (with_starting s (s.starting ++ x ∷ [])) f ts) (sym from) ∙ ap (λ z. tell z f new) (sym added);
 }
 
-pub ruleset starting_steps = (start_unknown, start_twice, start_other, is_starting)
+pub ruleset starting_steps = (start_fails, is_starting)
 
 -- all names
 

@@ -67,7 +67,7 @@ begin_wait s c k f old is h e = broken s (items c ∷ f) (pending_of c (beginnin
 pub begin_many : (s : Scope) (c : Context) (k : Keyword) (f : Pending) (old : List Token) → first old ≡ Some (token.Keyword k) → IsStatement (beginning k) → (c.simple && waits k) ≡ false → 4096 ≤ s.statements → tell s (items c ∷ f) old ≡ fault TooMany (length old)
 begin_many s c k f old is h e full = broken s (items c ∷ f) (pending_of c (beginning k) f) old (token.Keyword k) (begins_with c k) TooMany is (items_at c k f h) (begins_many s c k e full)
 
-pub ruleset begin_steps = (begin_ok, begin_wait, begin_many)
+pub ruleset may_begin_steps = (begin_wait, begin_many)
 
 -- Assignments.
 
@@ -127,7 +127,9 @@ target_numbered n own x i f = λ n' h. number_again n n' own a_variable x i f h
 pub target_fits : (n : Names) (own : Option Name) (x : Name) (i : ℕ) → Finds n own a_variable x i → Fits n own (λ w. w a_variable i)
 target_fits n own x i f = λ w h. h a_variable x i f
 
-pub ruleset target_steps = (target_ok, target_unknown, target_full_other, target_full, target_other, target_numbered, target_fits)
+pub ruleset may_assign_steps = (target_unknown, target_full_other, target_full, target_other)
+
+pub ruleset target_steps = (target_ok, target_numbered, target_fits)
 
 -- `into`
 

@@ -1,10 +1,10 @@
 -- What reading a part of the head of a program gives.
-use Rattle.std.specs.Prelude.{◌≡◌, ℕ, List, [], ◌∷◌, ◌++◌, length, map, ◌<◌, Option, Some, None, IfSome, option_map, Result, Err}
+use Rattle.std.specs.Prelude.{◌≡◌, ℕ, true, List, [], ◌∷◌, ◌++◌, length, map, ◌<◌, Option, Some, None, IfSome, option_map, Result, Err}
 use Rattle.std.specs.List.{All}
 use Rattle.program_tree.specs.Faults.{Scope}
 use Rattle.program_tree.specs.Grammar as role
 use Rattle.program_tree.specs.Grammar.{Mark, tokens, sign, named, starting_marks, autostart_marks, receiver_marks}
-use Rattle.program_tree.specs.InScope.{Names, with_new, number_in, name_in}
+use Rattle.program_tree.specs.InScope.{Names, with_new, is_in_scope, number_in, name_in}
 use Rattle.text_laws.specs.Machine as machine
 use Rattle.text_laws.specs.Machine.{Symbol, Pending, tell, fault, first_broken, new_name}
 use Rattle.program_tree.specs.Names.{place_of}
@@ -128,6 +128,12 @@ pub record ReadsProcesses (s s' : Scope) (old new : List Token) : Type 0 where
   pub goes_on : (f : Pending) → tell s (machine.from_semaphores ∷ f) old ≡ tell s' (machine.from_autostart first others ∷ f) new
 
 -- What starts at boot.
+
+-- a name that may be listed in `autostart`: that of the process with this number
+pub record CanStart (s : Scope) (x : Name) (number : ℕ) : Type 0 where
+  pub declared : is_in_scope s.names x ≡ true
+  pub fresh : place_of s.starting x ≡ None
+  pub known : place_of s.names.processes x ≡ Some number
 
 -- a process is listed
 pub record IsStarting (s s' : Scope) (numbers numbers' : List ℕ) (old new : List Token) : Type 0 where

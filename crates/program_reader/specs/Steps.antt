@@ -6,7 +6,7 @@ use Rattle.program_tree.specs.Faults.{Scope, is_other, is_own}
 use Rattle.program_tree.specs.Forms.{Beginning, no_statement, action, branches, loops, goes_on, beginning}
 use Rattle.program_tree.specs.Grammar.{Context, Mark, tokens}
 use Rattle.program_tree.specs.InScope.{Names, names_of, name_in, is_in_scope}
-use Rattle.text_laws.specs.Machine.{Symbol, Pending, fault, tell, semicolon, equals, open_sign, close, open_brace, expression, block, items, items_else, symbols_of}
+use Rattle.text_laws.specs.Machine.{Symbol, Pending, fault, tell, first, semicolon, equals, open_sign, close, open_brace, expression, block, items, items_else, symbols_of}
 use Rattle.program_tree.specs.Names.{place_of}
 use Rattle.program_tree.specs.Scope.{Within}
 use Rattle.program_tree.specs.Shapes.{Name}
@@ -78,6 +78,12 @@ is_own_thread own c x = false
 pub record Finds (n : Names) (own : Option Name) (c : Class) (x : Name) (i : ℕ) : Type 0 where
   pub found : look n c x ≡ Some i
   pub other : is_own_thread own c x ≡ false
+
+-- a name stands first that stands for this one
+pub record IsNamed (n : Names) (own : Option Name) (c : Class) (i : ℕ) (old : List Token) : Type 0 where
+  pub name : Name
+  pub here : first old ≡ Some (token.Name name)
+  pub finds : Finds n own c name i
 
 -- what a name stands for, where one of this class is asked for
 abbrev pub IsFound : Names → Option Name → Class → Name → Found → Type 0

@@ -43,8 +43,7 @@ impl Cursor<'_> {
             Some(Token::Name(found)) if found == name => self.advance(),
             _ => return Err(self.unfit()),
         }
-        self.sign(Sign::OpenBrace)?;
-        Ok(())
+        self.sign(Sign::OpenBrace)
     }
 
     /// The same of a process, by its number.
@@ -54,8 +53,7 @@ impl Cursor<'_> {
         ensures err { (f : Fault) → result ≡ Err (Refusal.Fault f) → (s : faults.Scope) (xs : List Name) (more : machine.Pending) →
             tell s (machine.codes (slice_index_or scope.now.processes process []) xs ∷ more) self.old ≡ fault f.kind f.left }
     {
-        self.opening(scope.processes.get(process))?;
-        Ok(())
+        self.opening(scope.processes.get(process))
     }
 
     /// The last brace of a code.

@@ -26,20 +26,35 @@ use std::alloc::{AllocError, Global};
 const LARGEST: u32 = 65_535;
 
 /// The two sides of an operator.
-#[derive(Drop)]
 struct Sides {
     left: Expr,
     operator: Operator,
     right: Expr,
 }
 
+/// By hand, so that two sides are dropped by one call.
+impl Drop for Sides {
+    fn drop(self) {
+        let Sides {
+            left: _,
+            operator: _,
+            right: _,
+        } = self;
+    }
+}
+
 impl Sides {
     fn joined(self, alloc: Global) -> Result<Expr, AllocError>
         ensures { IfOk result (λ e. expression_of e ≡ binary self.operator (expression_of self.left) (expression_of self.right)) }
     {
-        let left = Box::new(alloc, self.left)?;
-        let right = Box::new(alloc, self.right)?;
-        Ok(Expr::Binary(self.operator, left, right))
+        let Sides {
+            left,
+            operator,
+            right,
+        } = self;
+        let left = Box::new(alloc, left)?;
+        let right = Box::new(alloc, right)?;
+        Ok(Expr::Binary(operator, left, right))
     }
 }
 

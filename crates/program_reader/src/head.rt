@@ -1,8 +1,10 @@
 //! What stands before the codes of a program, behind its events and semaphores.
-ghost use Rattle.std.specs.Prelude.{List, ◌≡◌, ◌≤◌, Some, ◌∷◌, [], length, IfOk, OnOk};
-ghost use Rattle.program_reader.specs.Head.{FailsIn, ReadsProcesses, IsStarting, ReadsAutostart, ReadsReceiver};
+ghost use Rattle.std.specs.Prelude.{List, ◌≡◌, ◌≤◌, Some, None, ◌∷◌, ◌++◌, [], length, IfOk, OnOk, IfErr};
+ghost use Rattle.program_tree.specs.Grammar.{named, starts};
+ghost use Rattle.program_reader.specs.Head.{FailsIn, ReadsProcesses, CanStart, IsStarting, ReadsAutostart, ReadsReceiver, with_starting};
 ghost use Rattle.text_laws.specs.Machine as machine;
-ghost use Rattle.text_laws.specs.Machine.{first};
+ghost use Rattle.text_laws.specs.Machine.{first, first_broken};
+ghost use Rattle.program_tree.specs.Names.{place_of};
 ghost use Rattle.program_tree.specs.Shapes.{Name};
 ghost use Rattle.program_reader.specs.Steps.{scope_of};
 ghost use Rattle.program_tree.specs.Tokens as token;
@@ -20,6 +22,44 @@ use program_tree::keyword::Keyword;
 use program_tree::token::Token;
 use std::alloc::Global;
 
+impl Scope {
+    /// The number of a process that may be listed in `autostart`, by its name.
+    #[tactic(auto, using(crate::proofs::StartLaws::startable_steps))]
+    fn startable(&self, name: &str) -> Result<u8, ReadErrorKind>
+        ensures ok { IfOk result (λ i. CanStart (scope_of self.now) name.now i) }
+        ensures err { IfErr result (λ k. first_broken (scope_of self.now) (named name.now (starts name.now)) ≡ Some k) }
+    {
+        if !self.contains(name) {
+            return Err(ReadErrorKind::UnknownName);
+        }
+        if self.starting.place_of(name).is_some() {
+            return Err(ReadErrorKind::NameTwice);
+        }
+        match self.processes.place_of(name) {
+            Some(place) => Ok(place as u8),
+            None => Err(ReadErrorKind::BadTarget),
+        }
+    }
+
+    /// Lists a process in `autostart`.
+    fn start(
+        &mut self,
+        alloc: Global,
+        name: &str,
+        number: u8,
+        numbers: &mut Vec<u8>,
+    ) -> Result<(), Refusal>
+        requires { place_of self.old.starting name.now ≡ None }
+        ensures scope { OnOk result (scope_of self.new ≡ with_starting (scope_of self.old) (self.old.starting ++ name.now ∷ [])) }
+        ensures numbers { OnOk result (numbers.new.items ≡ numbers.old.items ++ number ∷ []) }
+        ensures memory { IfErr result (λ e. e ≡ Refusal.Memory) }
+    {
+        self.starting.add(alloc, name)?;
+        numbers.push(number)?;
+        Ok(())
+    }
+}
+
 impl Cursor<'_> {
     /// A process that starts at boot.
     #[tactic(auto, using(crate::proofs::StartLaws::starting_steps))]
@@ -34,22 +74,13 @@ impl Cursor<'_> {
         ensures err { FailsIn (scope_of scope.old) (machine.starting ∷ []) self.old result }
     {
         match self.peek() {
-            Some(Token::Name(name)) => {
-                if !scope.contains(name) {
-                    return Err(self.fault(ReadErrorKind::UnknownName));
+            Some(Token::Name(name)) => match scope.startable(name) {
+                Ok(number) => {
+                    self.advance();
+                    scope.start(alloc, name, number, numbers)
                 }
-                if scope.starting.place_of(name).is_some() {
-                    return Err(self.fault(ReadErrorKind::NameTwice));
-                }
-                let place = match scope.processes.place_of(name) {
-                    Some(place) => place,
-                    None => return Err(self.fault(ReadErrorKind::BadTarget)),
-                };
-                self.advance();
-                scope.starting.add(alloc, name)?;
-                numbers.push(place as u8)?;
-                Ok(())
-            }
+                Err(kind) => Err(self.fault(kind)),
+            },
             _ => Err(self.unfit()),
         }
     }
@@ -75,29 +106,36 @@ impl Reader<'_> {
             self.cursor
                 .new_name(self.alloc, &mut self.scope, Kind::Process)?;
         }
-        self.cursor.sign(Sign::Semicolon)?;
-        Ok(())
+        self.cursor.sign(Sign::Semicolon)
     }
 
     /// The processes that start at boot, by their numbers.
-    #[tactic(auto, using(crate::proofs::StartLaws::autostart_steps))]
     pub(crate) fn autostart(&mut self) -> Result<Vec<u8>, Refusal>
         ensures ok { IfOk result (λ numbers. ReadsAutostart (scope_of self.old.scope) (scope_of self.new.scope) numbers.items self.old.cursor self.new.cursor) }
         ensures err { (f : Fault) → result ≡ Err (Refusal.Fault f) → (x : Name) (xs : List Name) (more : machine.Pending) →
             machine.tell (scope_of self.old.scope) (machine.from_autostart x xs ∷ more) self.old.cursor ≡ machine.fault f.kind f.left }
     {
         let mut numbers = Vec::new(self.alloc);
-        if !self.cursor.accept(Keyword::Autostart) {
-            return Ok(numbers);
-        }
-        self.cursor
-            .starting(self.alloc, &mut self.scope, &mut numbers)?;
-        'names: while self.cursor.comma() {
-            self.cursor
-                .starting(self.alloc, &mut self.scope, &mut numbers)?;
-        }
-        self.cursor.sign(Sign::Semicolon)?;
+        self.starting_names(&mut numbers)?;
         Ok(numbers)
+    }
+
+    /// Their names, where `autostart` is there.
+    #[tactic(auto, using(crate::proofs::StartLaws::autostart_steps))]
+    fn starting_names(&mut self, numbers: &mut Vec<u8>) -> Result<(), Refusal>
+        requires { numbers.old.items ≡ [] }
+        ensures ok { OnOk result (ReadsAutostart (scope_of self.old.scope) (scope_of self.new.scope) numbers.new.items self.old.cursor self.new.cursor) }
+        ensures err { (f : Fault) → result ≡ Err (Refusal.Fault f) → (x : Name) (xs : List Name) (more : machine.Pending) →
+            machine.tell (scope_of self.old.scope) (machine.from_autostart x xs ∷ more) self.old.cursor ≡ machine.fault f.kind f.left }
+    {
+        if !self.cursor.accept(Keyword::Autostart) {
+            return Ok(());
+        }
+        self.cursor.starting(self.alloc, &mut self.scope, numbers)?;
+        'names: while self.cursor.comma() {
+            self.cursor.starting(self.alloc, &mut self.scope, numbers)?;
+        }
+        self.cursor.sign(Sign::Semicolon)
     }
 
     /// The process that packets go to, by its number.

@@ -6,7 +6,7 @@ ghost use Rattle.program_tree.specs.Grammar.{operand_mark};
 ghost use Rattle.program_tree.specs.InScope.{name_in, number_in};
 ghost use Rattle.text_laws.specs.Machine.{operand};
 ghost use Rattle.program_tree.specs.Scope.{cast_fits, sent_fits, any_fits};
-ghost use Rattle.program_reader.specs.Steps.{scope_of, context_of, class_of, most_of, Reads, Fails, Numbered, Fits};
+ghost use Rattle.program_reader.specs.Steps.{scope_of, context_of, class_of, most_of, IsNamed, Reads, Fails, Numbered, Fits};
 ghost use Rattle.program_tree.specs.Tree.{an_event};
 
 use crate::cursor::Cursor;
@@ -28,6 +28,23 @@ pub(crate) struct Reader<'a> {
 }
 
 impl Reader<'_> {
+    /// The number of the name that stands here, where it stands for something of this class.
+    #[tactic(auto, using(crate::proofs::NameSteps::number_steps))]
+    fn number(&self, place: &Context, class: Class) -> Result<u8, Refusal>
+        ensures ok { IfOk result (λ i. IsNamed (scope_of self.now.scope).names (context_of place.now).thread (class_of class) i self.now.cursor) }
+        ensures few { IfOk result (λ i. i < most_of (class_of class)) }
+        ensures err { Fails (scope_of self.now.scope) (operand (context_of place.now) (name (class_of class))) self.now.cursor result }
+    {
+        match self.cursor.peek() {
+            Some(Token::Name(name)) => match self.scope.find(place, class, name) {
+                Found::Here(number) => Ok(number),
+                Found::Other => Err(self.cursor.fault(ReadErrorKind::BadTarget)),
+                Found::Unknown => Err(self.cursor.fault(ReadErrorKind::UnknownName)),
+            },
+            _ => Err(self.cursor.unfit()),
+        }
+    }
+
     /// A name that stands for something of this class, by its number.
     #[tactic(auto, using(crate::proofs::NameSteps::name_steps))]
     pub(crate) fn name(&mut self, place: &Context, class: Class) -> Result<u8, Refusal>
@@ -40,17 +57,9 @@ impl Reader<'_> {
         ensures fits { IfOk result (λ i. Fits (scope_of self.old.scope).names (context_of place.now).thread (λ w. w (class_of class) i)) }
         ensures err { Fails (scope_of self.old.scope) (operand (context_of place.now) (name (class_of class))) self.old.cursor result }
     {
-        match self.cursor.peek() {
-            Some(Token::Name(name)) => match self.scope.find(place, class, name) {
-                Found::Here(number) => {
-                    self.cursor.advance();
-                    Ok(number)
-                }
-                Found::Other => Err(self.cursor.fault(ReadErrorKind::BadTarget)),
-                Found::Unknown => Err(self.cursor.fault(ReadErrorKind::UnknownName)),
-            },
-            _ => Err(self.cursor.unfit()),
-        }
+        let number = self.number(place, class)?;
+        self.cursor.advance();
+        Ok(number)
     }
 
     /// An event that may be broadcast.

@@ -79,6 +79,7 @@ impl Scope {
     ghost use Rattle.program_tree.specs.Faults.{nothing_yet};
     ghost use Rattle.program_tree.specs.InScope.{is_in_scope};
     ghost use Rattle.program_tree.specs.Names.{place_of};
+    ghost use Rattle.program_tree.specs.Tree.{a_timer};
     ghost use Rattle.program_reader.specs.Steps.{scope_of, context_of, class_of, look, most_of, IsFound};
 
     pub(crate) fn new(alloc: Global) -> Scope
@@ -124,19 +125,36 @@ impl Scope {
         }
     }
 
+    /// The number of a timer of the code.
+    fn timer_number(&self, name: &str) -> Option<usize>
+        ensures few { IfSome result (λ i. i < 64) }
+        ensures value { result ≡ look (scope_of self.now).names a_timer name.now }
+    {
+        let place = self.timer(name)?;
+        Some(self.first_timer + place)
+    }
+
+    /// The place of a name among all that its number counts.
+    fn place_of(&self, class: Class, name: &str) -> Option<usize>
+        ensures few { IfSome result (λ i. i < most_of (class_of class)) }
+        ensures value { result ≡ look (scope_of self.now).names (class_of class) name.now }
+    {
+        match class {
+            Class::Event => self.events.place_of(name),
+            Class::Semaphore => self.semaphores.place_of(name),
+            Class::Process => self.processes.place_of(name),
+            Class::Variable => self.variables.place_of(name),
+            Class::Timer => self.timer_number(name),
+            Class::Thread => self.threads.place_of(name),
+        }
+    }
+
     /// The number of a name of a class.
     fn number_of(&self, class: Class, name: &str) -> Option<u8>
         ensures few { IfSome result (λ i. i < most_of (class_of class)) }
         ensures value { result ≡ look (scope_of self.now).names (class_of class) name.now }
     {
-        let place = match class {
-            Class::Event => self.events.place_of(name)?,
-            Class::Semaphore => self.semaphores.place_of(name)?,
-            Class::Process => self.processes.place_of(name)?,
-            Class::Variable => self.variables.place_of(name)?,
-            Class::Timer => self.first_timer + self.timer(name)?,
-            Class::Thread => self.threads.place_of(name)?,
-        };
+        let place = self.place_of(class, name)?;
         Some(place as u8)
     }
 

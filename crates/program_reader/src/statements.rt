@@ -1,5 +1,5 @@
 //! Statements and blocks as they are read.
-ghost use Rattle.std.specs.Prelude.{◌≡◌, ◌+◌, ◌≤◌, ◌<◌, length, IfOk, OnOk, Some};
+ghost use Rattle.std.specs.Prelude.{◌≡◌, ◌+◌, ◌≤◌, ◌<◌, false, ◌&&◌, length, IfOk, OnOk, Some};
 ghost use Rattle.std.proofs.Common.{option_map};
 ghost use Rattle.program_tree.specs.Forms.{beginning, waits};
 ghost use Rattle.program_tree.specs.Grammar.{into_marks, action_marks, statement_marks, else_marks, block_marks};
@@ -7,7 +7,7 @@ ghost use Rattle.program_tree.specs.InScope.{name_in, number_in};
 ghost use Rattle.text_laws.specs.Machine.{first, into_end, items, items_else, block};
 ghost use Rattle.program_reader.specs.Plain.{BeginsPlain, bare_keyword, valued_keyword, about_keyword};
 ghost use Rattle.program_tree.specs.Scope.{into_fits, action_fits, statement_fits, other_fits, block_fits};
-ghost use Rattle.program_reader.specs.Steps.{scope_of, context_of, fixed, IsStatement, IsPlain, IsInside, Begins, IsTarget, Reads, ReadsStatement, ReadsElse, Fails, Numbered, Fits};
+ghost use Rattle.program_reader.specs.Steps.{scope_of, context_of, fixed, IsStatement, IsPlain, IsInside, Begins, Finds, IsTarget, Reads, ReadsStatement, ReadsElse, Fails, Numbered, Fits};
 ghost use Rattle.program_tree.specs.Tokens as token;
 ghost use Rattle.program_tree.specs.Tree.{a_variable, action_of, action_map, statement_of, statement_map, block_of, body_map, otherwise_of, otherwise_map, height, inner_height, other_height, size, inner_size, other_size};
 
@@ -44,8 +44,26 @@ fn is_wait(keyword: Keyword) -> bool
 }
 
 impl Reader<'_> {
+    /// Whether a statement may begin with this keyword here.
+    #[tactic(auto, using(crate::proofs::StatementSteps::may_begin_steps))]
+    fn may_begin(&self, place: &Context, keyword: Keyword) -> Result<(), Refusal>
+        requires here { first self.now.cursor ≡ Some (token.Keyword keyword) }
+        requires statement { IsStatement (beginning keyword) }
+        ensures no_wait { OnOk result ((place.now.simple && waits keyword) ≡ false) }
+        ensures room { OnOk result (self.now.scope.statements < STATEMENTS) }
+        ensures err { Fails (scope_of self.now.scope) (items (context_of place.now)) self.now.cursor result }
+    {
+        if place.simple && is_wait(keyword) {
+            return Err(self.cursor.fault(ReadErrorKind::WaitInSimpleBlock));
+        }
+        if self.scope.statements >= STATEMENTS {
+            return Err(self.cursor.fault(ReadErrorKind::TooMany));
+        }
+        Ok(())
+    }
+
     /// Reads the keyword that a statement begins with. The statement counts.
-    #[tactic(auto, using(crate::proofs::StatementSteps::begin_steps))]
+    #[tactic(auto, using(crate::proofs::StatementSteps::begin_ok))]
     fn begin(&mut self, place: &Context, keyword: Keyword) -> Result<(), Refusal>
         requires here { first self.old.cursor ≡ Some (token.Keyword keyword) }
         requires statement { IsStatement (beginning keyword) }
@@ -55,15 +73,28 @@ impl Reader<'_> {
         ensures ok { OnOk result (Begins (scope_of self.old.scope) (scope_of self.new.scope) (context_of place.now) keyword self.old.cursor self.new.cursor) }
         ensures err { Fails (scope_of self.old.scope) (items (context_of place.now)) self.old.cursor result }
     {
-        if place.simple && is_wait(keyword) {
-            return Err(self.cursor.fault(ReadErrorKind::WaitInSimpleBlock));
-        }
-        if self.scope.statements >= STATEMENTS {
-            return Err(self.cursor.fault(ReadErrorKind::TooMany));
-        }
+        self.may_begin(place, keyword)?;
         self.scope.statements += 1;
         self.cursor.advance();
         Ok(())
+    }
+
+    /// The number of the variable that an assignment begins with.
+    #[tactic(auto, using(crate::proofs::StatementSteps::may_assign_steps))]
+    fn may_assign(&self, place: &Context, name: &str) -> Result<u8, Refusal>
+        requires here { first self.now.cursor ≡ Some (token.Name name.now) }
+        ensures finds { IfOk result (λ i. Finds (scope_of self.now.scope).names (context_of place.now).thread a_variable name.now i) }
+        ensures room { OnOk result (self.now.scope.statements < STATEMENTS) }
+        ensures err { Fails (scope_of self.now.scope) (items (context_of place.now)) self.now.cursor result }
+    {
+        match self.scope.find(place, Class::Variable, name) {
+            Found::Unknown => Err(self.cursor.fault(ReadErrorKind::UnknownName)),
+            _ if self.scope.statements >= STATEMENTS => {
+                Err(self.cursor.fault(ReadErrorKind::TooMany))
+            }
+            Found::Other => Err(self.cursor.fault(ReadErrorKind::BadTarget)),
+            Found::Here(number) => Ok(number),
+        }
     }
 
     /// Reads the variable that an assignment begins with. The statement counts.
@@ -78,18 +109,10 @@ impl Reader<'_> {
         ensures fits { IfOk result (λ i. Fits (scope_of self.old.scope).names (context_of place.now).thread (λ w. w a_variable i)) }
         ensures err { Fails (scope_of self.old.scope) (items (context_of place.now)) self.old.cursor result }
     {
-        match self.scope.find(place, Class::Variable, name) {
-            Found::Unknown => Err(self.cursor.fault(ReadErrorKind::UnknownName)),
-            _ if self.scope.statements >= STATEMENTS => {
-                Err(self.cursor.fault(ReadErrorKind::TooMany))
-            }
-            Found::Other => Err(self.cursor.fault(ReadErrorKind::BadTarget)),
-            Found::Here(number) => {
-                self.scope.statements += 1;
-                self.cursor.advance();
-                Ok(number)
-            }
-        }
+        let variable = self.may_assign(place, name)?;
+        self.scope.statements += 1;
+        self.cursor.advance();
+        Ok(variable)
     }
 
     /// `;`, or `into`, a variable that is told the answer and `;`.

@@ -1,11 +1,5 @@
-use Rattle.std.proofs.Common.{◌≡◌, ◌∙◌, ap, sym, Some, option_map}
-use Rattle.text_laws.specs.Machine.{first}
-use Rattle.program_tree.specs.Tokens as token
-use Rattle.program_tree.specs.Tokens.{token_of}
-use Rattle.program_reader.proofs.NameSteps.{name_reads}
+use Rattle.program_reader.proofs.NameSteps.{named_reads}
 use Rattle.program_reader.proofs.reader.Reader.name.Goals as goal
 
-pub returns-in-Here-clause-ok : goal.returns-in-Here-clause-ok
-returns-in-Here-clause-ok c =
-    let is : first c.args.self.now.cursor ≡ Some (token.Name c.in-Some-Name.name.now) = sym c.peek.ensures ∙ ap (option_map token_of) (c.in-Some-Name.is ∙ ap Some c.in-Some-Name.field-0-is) in
-    name_reads _ _ _ c.in-Some-Name.name.now _ _ _ is c.in-Here.ensures.value c.advance.ensures
+pub returns-clause-ok : goal.returns-clause-ok
+returns-clause-ok c = named_reads _ _ _ _ _ _ c.in_ok-number.ensures.ok c.advance.ensures

@@ -1,6 +1,6 @@
 use Rattle.std.proofs.Common.{◌≡◌, ◌∙◌, refl, Result, Err, sym, ap}
 use Rattle.std.specs.Borrow.{Bor}
-use Rattle.std.proofs.lemmas.Result.{err_from_is_err_and}
+use Rattle.std.proofs.lemmas.Result.{err_from_is_err_and, on_ok_weaker}
 use Rattle.program_reader.specs.declared.fault.Refusal.{Refusal}
 use Rattle.program_reader.specs.declared.fault.Refusal.TheVariants as refusal
 use Rattle.program_tree.specs.Shapes.{Name}
@@ -28,11 +28,7 @@ returns-in_err-new_name-2-clause-err c = λ f e more.
     more_process_fails _ _ _ _ _ _ more c.processes.invariant c.processes-test.ensures.there c.processes-test.ensures.read (c.in_err-new_name-2.ensures.err f q)
 
 pub returns-clause-ok : goal.returns-clause-ok
-returns-clause-ok c = has_all _ _ _ _ _ _ c.processes.invariant (c.processes-test.ensures.other refl) (c.processes-test.ensures.same refl) c.in_ok-sign.ensures.ok
+returns-clause-ok c = on_ok_weaker c.sign.result (λ k. has_all _ _ _ _ _ _ c.processes.invariant (c.processes-test.ensures.other refl) (c.processes-test.ensures.same refl) k) c.sign.ensures.ok
 
-pub returns-in_err-sign-clause-err : goal.returns-in_err-sign-clause-err
-returns-in_err-sign-clause-err c = λ f e more.
-    let p = err_from_is_err_and c.from_residual-in_err-sign.result c.from_residual-in_err-sign.ensures.1 in
-    let r : p.0 ≡ refusal.Fault f = cc (p.1, e) in
-    let q : ◌≡◌ {A = Result (Unit {0}) Refusal} (Err c.in_err-sign.field-0.0) (Err (refusal.Fault f)) = ap Err (sym p.2 ∙ r) in
-    end_fails _ _ _ _ _ _ more c.processes.invariant (c.processes-test.ensures.other refl) (c.processes-test.ensures.same refl) (c.in_err-sign.ensures.err f q)
+pub returns-clause-err : goal.returns-clause-err
+returns-clause-err c = λ f e more. end_fails _ _ _ _ _ _ more c.processes.invariant (c.processes-test.ensures.other refl) (c.processes-test.ensures.same refl) (c.sign.ensures.err f e)
