@@ -1,5 +1,5 @@
 //! Statements and blocks as they are read.
-ghost use Rattle.std.specs.Prelude.{◌≡◌, ◌+◌, ◌≤◌, ◌<◌, false, ◌&&◌, length, IfOk, OnOk, Some};
+ghost use Rattle.std.specs.Prelude.{◌≡◌, ◌+◌, ◌≤◌, ◌<◌, false, ◌&&◌, drop, length, IfOk, OnOk, Some};
 ghost use Rattle.std.proofs.Common.{option_map};
 ghost use Rattle.program_tree.specs.Forms.{beginning, waits};
 ghost use Rattle.program_tree.specs.Grammar.{into_marks, action_marks, statement_marks, else_marks, block_marks};
@@ -427,6 +427,28 @@ impl Reader<'_> {
         }
     }
 
+    /// Reads the opening brace of a block.
+    #[tactic(auto, using(crate::proofs::Blocks::brace_deep))]
+    fn opening_brace(&mut self, place: &Context) -> Result<(), Refusal>
+        requires low { place.now.level ≤ LEVELS }
+        ensures same { self.new.scope ≡ self.old.scope }
+        ensures no_longer { length self.new.cursor ≤ length self.old.cursor }
+        ensures here { OnOk result (first self.old.cursor ≡ Some token.OpenBrace) }
+        ensures room { OnOk result (place.now.level < LEVELS) }
+        ensures read { OnOk result (self.new.cursor ≡ drop 1 self.old.cursor) }
+        ensures err { Fails (scope_of self.old.scope) (block (context_of place.now)) self.old.cursor result }
+    {
+        match self.cursor.peek() {
+            Some(Token::OpenBrace) => {}
+            _ => return Err(self.cursor.unfit()),
+        }
+        if place.level == LEVELS {
+            return Err(self.cursor.fault(ReadErrorKind::TooDeep));
+        }
+        self.cursor.advance();
+        Ok(())
+    }
+
     /// A block that stands there.
     #[cycle(statement)]
     pub(crate) fn block(&mut self, place: &Context) -> Result<Block, Refusal>
@@ -441,14 +463,7 @@ impl Reader<'_> {
         ensures counts { IfOk result (λ b. size (block_of b) + self.old.scope.statements ≤ self.new.scope.statements) }
         ensures err { Fails (scope_of self.old.scope) (block (context_of place.now)) self.old.cursor result }
     {
-        match self.cursor.peek() {
-            Some(Token::OpenBrace) => {}
-            _ => return Err(self.cursor.unfit()),
-        }
-        if place.level == LEVELS {
-            return Err(self.cursor.fault(ReadErrorKind::TooDeep));
-        }
-        self.cursor.advance();
+        self.opening_brace(place)?;
         let within = place.inner();
         let mut statements = Vec::new(self.alloc);
         'statements: loop {

@@ -14,37 +14,37 @@ use Rattle.program_reader.proofs.reader.Reader.+statement.Goals as goal
 
 pub block-returns-in-Some-CloseBrace-clause-ok : goal.block-returns-in-Some-CloseBrace-clause-ok
 block-returns-in-Some-CloseBrace-clause-ok t c =
-    let is : first c.statements.self.cursor ≡ Some token.CloseBrace = sym c.peek-in-statements.ensures ∙ ap (option_map token_of) (c.in-Some-CloseBrace.is ∙ ap Some c.in-Some-CloseBrace.field-0-is) in
-    (all_read _ _ _ (context_of c.args.place.now) _ _ _ _ _ c.statements.invariant.front is c.advance-in-Some-CloseBrace.ensures c.new.ensures).ok
+    let is : first c.statements.self.cursor ≡ Some token.CloseBrace = sym c.peek.ensures ∙ ap (option_map token_of) (c.in-Some-CloseBrace.is ∙ ap Some c.in-Some-CloseBrace.field-0-is) in
+    (all_read _ _ _ (context_of c.args.place.now) _ _ _ _ _ c.statements.invariant.front is c.advance.ensures c.new.ensures).ok
 
 pub block-returns-in-Some-CloseBrace-clause-numbered : goal.block-returns-in-Some-CloseBrace-clause-numbered
 block-returns-in-Some-CloseBrace-clause-numbered t c =
-    let is : first c.statements.self.cursor ≡ Some token.CloseBrace = sym c.peek-in-statements.ensures ∙ ap (option_map token_of) (c.in-Some-CloseBrace.is ∙ ap Some c.in-Some-CloseBrace.field-0-is) in
-    (all_read _ _ _ (context_of c.args.place.now) _ _ _ _ _ c.statements.invariant.front is c.advance-in-Some-CloseBrace.ensures c.new.ensures).numbered
+    let is : first c.statements.self.cursor ≡ Some token.CloseBrace = sym c.peek.ensures ∙ ap (option_map token_of) (c.in-Some-CloseBrace.is ∙ ap Some c.in-Some-CloseBrace.field-0-is) in
+    (all_read _ _ _ (context_of c.args.place.now) _ _ _ _ _ c.statements.invariant.front is c.advance.ensures c.new.ensures).numbered
 
 pub block-returns-in-Some-CloseBrace-clause-fits : goal.block-returns-in-Some-CloseBrace-clause-fits
 block-returns-in-Some-CloseBrace-clause-fits t c =
-    let is : first c.statements.self.cursor ≡ Some token.CloseBrace = sym c.peek-in-statements.ensures ∙ ap (option_map token_of) (c.in-Some-CloseBrace.is ∙ ap Some c.in-Some-CloseBrace.field-0-is) in
-    (all_read _ _ _ (context_of c.args.place.now) _ _ _ _ _ c.statements.invariant.front is c.advance-in-Some-CloseBrace.ensures c.new.ensures).fits
+    let is : first c.statements.self.cursor ≡ Some token.CloseBrace = sym c.peek.ensures ∙ ap (option_map token_of) (c.in-Some-CloseBrace.is ∙ ap Some c.in-Some-CloseBrace.field-0-is) in
+    (all_read _ _ _ (context_of c.args.place.now) _ _ _ _ _ c.statements.invariant.front is c.advance.ensures c.new.ensures).fits
 
 pub block-returns-in-Some-CloseBrace-clause-shallow : goal.block-returns-in-Some-CloseBrace-clause-shallow
 block-returns-in-Some-CloseBrace-clause-shallow t c =
-    let is : first c.statements.self.cursor ≡ Some token.CloseBrace = sym c.peek-in-statements.ensures ∙ ap (option_map token_of) (c.in-Some-CloseBrace.is ∙ ap Some c.in-Some-CloseBrace.field-0-is) in
-    (all_read _ _ _ (context_of c.args.place.now) _ _ _ _ _ c.statements.invariant.front is c.advance-in-Some-CloseBrace.ensures c.new.ensures).shallow
+    let is : first c.statements.self.cursor ≡ Some token.CloseBrace = sym c.peek.ensures ∙ ap (option_map token_of) (c.in-Some-CloseBrace.is ∙ ap Some c.in-Some-CloseBrace.field-0-is) in
+    (all_read _ _ _ (context_of c.args.place.now) _ _ _ _ _ c.statements.invariant.front is c.advance.ensures c.new.ensures).shallow
 
 pub block-returns-in-Some-CloseBrace-clause-counts : goal.block-returns-in-Some-CloseBrace-clause-counts
 block-returns-in-Some-CloseBrace-clause-counts t c =
-    let is : first c.statements.self.cursor ≡ Some token.CloseBrace = sym c.peek-in-statements.ensures ∙ ap (option_map token_of) (c.in-Some-CloseBrace.is ∙ ap Some c.in-Some-CloseBrace.field-0-is) in
-    (all_read _ _ _ (context_of c.args.place.now) _ _ _ _ _ c.statements.invariant.front is c.advance-in-Some-CloseBrace.ensures c.new.ensures).counts
+    let is : first c.statements.self.cursor ≡ Some token.CloseBrace = sym c.peek.ensures ∙ ap (option_map token_of) (c.in-Some-CloseBrace.is ∙ ap Some c.in-Some-CloseBrace.field-0-is) in
+    (all_read _ _ _ (context_of c.args.place.now) _ _ _ _ _ c.statements.invariant.front is c.advance.ensures c.new.ensures).counts
 
 pub block-statements-preserved : goal.block-statements-preserved
 block-statements-preserved t c =
     let i = c.statements.invariant in
-    let k = c.in_ok-statement-in_default-peek.ensures in
+    let k = c.in_ok-statement-in_default.ensures in
     record {
       no_longer = omega arith;
       names = k.names ∙ i.names;
-      front = one_read _ _ _ (context_of c.args.place.now) _ _ _ c.in_ok-statement-in_default-peek.statement _ _ _ c.inner-within.ensures.context c.in_ok-push-in_default-peek.ensures.items i.front
+      front = one_read _ _ _ (context_of c.args.place.now) _ _ _ c.in_ok-statement-in_default.statement _ _ _ c.inner-within.ensures.context c.in_ok-push-in_default.ensures.items i.front
           (kept c.statements.self.scope c.args.self.now.scope i.names) k.ok k.numbered k.fits k.shallow k.counts;
     }
 
