@@ -1,10 +1,12 @@
 //! What no scenario and no command line shows: streams that fail, gates, and calls with options that the words can't ask for.
-//! Most tests have a text written of what came of some runs, and compare it in a function that they share. All have one reader,
+//! Most tests have a text written of what came of some runs, and compare it in a function that they share. Those of `simulate` have one reader,
 //! one writer and one gate, so that what they call is compiled for these alone.
 
 mod fault_lines;
 mod input;
+mod runs;
 mod streams;
+mod windows;
 mod words;
 mod workers;
 

@@ -3,7 +3,8 @@
 ghost use Rattle.std.specs.Prelude.{◌≡◌, length};
 ghost use Rattle.mote_net.specs.Net.{net_of};
 
-use super::{COPY_PAST_THE_END, same_text};
+use super::COPY_PAST_THE_END;
+use crate::tests::same_text;
 use net_scenario::{Net, read_scenario};
 use radio_packet::RadioCopy;
 use std::alloc::{AllocError, Global};

@@ -1,53 +1,20 @@
 //! How often threads are started, a start that is refused, and which error of several is told.
 
-use super::{
-    BUSY_PAIR, BUSY_TRIO, PACKET_AFTER_TIMER, Run, TWO_SENDERS, by, same_text, told_by_workers,
-};
+use super::{BUSY_PAIR, BUSY_TRIO, PACKET_AFTER_TIMER, Run, TWO_SENDERS, by, told_by_workers};
+use crate::tests::{Watch, same_text};
 use net_scenario::{Net, read_scenario};
 use std::alloc::{AllocError, AllocGlobal};
 use std::random::RandomSource;
 use std::sync::Wait;
-use std::sync::atomic::AtomicU64;
 use std::sync::atomic::Ordering::SeqCst;
 use std::test::Fail;
 use std::thread::Threads;
-use window_run::Gate;
 use window_workers::SyncKind;
 
-/// Counts the starts that it is asked for, and refuses those of one worker. It counts the turns too.
-#[derive(Drop)]
-struct Doorkeeper {
-    asked: AtomicU64,
-    turns: AtomicU64,
-    refuses: u16,
-}
-
-fn make_doorkeeper(refuses: u16) -> Doorkeeper {
-    Doorkeeper {
-        asked: AtomicU64::new(0),
-        turns: AtomicU64::new(0),
-        refuses,
-    }
-}
-
-impl Gate for Doorkeeper {
-    fn inside(&self, _worker: u16, _moment: u64, _mote: u16) {
-        self.turns.fetch_add(1, SeqCst);
-    }
-
-    fn start(&self, worker: u16) -> bool {
-        self.asked.fetch_add(1, SeqCst);
-        worker != self.refuses
-    }
-}
-
 /// A run, and the worker that isn't let start.
-type Row<'a> = (Run<'a>, u16);
+type Row<'a> = (Run<'a>, Option<u16>);
 
-/// Lets every worker start.
-const NONE: u16 = 16;
-
-/// Writes down what comes of each of these runs, how many starts were asked for, and how many turns were taken.
+/// Writes down what comes of each of these runs, how many starts were asked for, and how many turns the motes' own workers took.
 fn write_starts<R>(
     rt: &R,
     net: &Net,
@@ -58,11 +25,11 @@ fn write_starts<R>(
 where
     R: Threads + Wait + Sync + RandomSource + AllocGlobal,
 {
-    for (run, refuses) in rows {
-        let gate = make_doorkeeper(*refuses);
+    for (run, shut) in rows {
+        let gate = Watch::new(run.of, *shut);
         let told = told_by_workers(rt, net, sync, run, &gate)?;
-        let asked = gate.asked.load(SeqCst);
-        let turns = gate.turns.load(SeqCst);
+        let asked = gate.starts.load(SeqCst);
+        let turns = gate.own.load(SeqCst);
         write!(text, "{told:?} {asked} {turns}|")?;
     }
     Ok(())
@@ -96,11 +63,11 @@ where
 #[test]
 fn a_start_that_is_refused(rt: HostRuntime) -> Result<(), Fail> {
     let rows = [
-        (by(1, &[0, 0, 0], 0), 0),
-        (by(2, &[0, 0, 1], 0), 0),
-        (by(2, &[0, 0, 1], 0), 1),
-        (by(3, &[0, 1, 2], 0), 1),
-        (by(3, &[0, 1, 2], 0), 2),
+        (by(1, &[0, 0, 0], 0), Some(0)),
+        (by(2, &[0, 0, 1], 0), Some(0)),
+        (by(2, &[0, 0, 1], 0), Some(1)),
+        (by(3, &[0, 1, 2], 0), Some(1)),
+        (by(3, &[0, 1, 2], 0), Some(2)),
     ];
     let want =
         "Fault(Thread) 1 0|Fault(Thread) 1 0|Fault(Thread) 2 2|Fault(Thread) 2 1|Fault(Thread) 3 2|";
@@ -112,7 +79,7 @@ fn lowest_error<R>(rt: &R, net: &Net, sync: SyncKind) -> Result<(), Fail>
 where
     R: Threads + Wait + Sync + RandomSource + AllocGlobal,
 {
-    let told = starts_told(rt, net, sync, &[(by(2, &[0, 1], 0), 1)])?;
+    let told = starts_told(rt, net, sync, &[(by(2, &[0, 1], 0), Some(1))])?;
     if told.as_str().starts_with("Fault(Memory)") {
         return Ok(());
     }
@@ -133,10 +100,10 @@ fn the_lowest_workers_error(rt: HostRuntime) -> Result<(), Fail> {
 #[test]
 fn starts_are_counted(rt: HostRuntime) -> Result<(), Fail> {
     let rows = [
-        (by(2, &[0, 1], 0), NONE),
-        (by(2, &[0, 1], 1), NONE),
-        (by(2, &[0, 1], 2), NONE),
-        (by(2, &[0, 1], 3), NONE),
+        (by(2, &[0, 1], 0), None),
+        (by(2, &[0, 1], 1), None),
+        (by(2, &[0, 1], 2), None),
+        (by(2, &[0, 1], 3), None),
     ];
     let joins = "Same(0) 4 4|Same(0) 6 4|Same(0) 6 4|Same(0) 4 4|";
     let marks = "Same(0) 2 4|Same(0) 2 4|Same(0) 2 4|Same(0) 2 4|";
@@ -148,8 +115,8 @@ fn starts_are_counted(rt: HostRuntime) -> Result<(), Fail> {
 #[test]
 fn workers_without_motes_are_started(rt: HostRuntime) -> Result<(), Fail> {
     let rows = [
-        (by(16, &[0, 5, 10], 1), NONE),
-        (by(16, &[0, 5, 10], 0), NONE),
+        (by(16, &[0, 5, 10], 1), None),
+        (by(16, &[0, 5, 10], 0), None),
     ];
     tells(
         &rt,

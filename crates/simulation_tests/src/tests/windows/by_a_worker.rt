@@ -5,7 +5,8 @@ ghost use Rattle.mote_net.specs.Net.{net_of};
 ghost use Rattle.window_run.specs.Shares.{AreGoingOn, AreInNet, ResidentGoesOn};
 ghost use Rattle.window_run.specs.Window.{is_rising};
 
-use super::{same_text, write_lines, write_sends};
+use super::{write_lines, write_sends};
+use crate::tests::same_text;
 use mote_node::Mote;
 use net_scenario::{Net, read_scenario};
 use radio_packet::RadioCopy;

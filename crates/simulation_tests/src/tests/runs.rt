@@ -14,7 +14,6 @@ use net_scenario::Net;
 use std::alloc::{AllocError, AllocGlobal, Global};
 use std::random::RandomSource;
 use std::sync::Wait;
-use std::test::Fail;
 use std::thread::Threads;
 use window_run::Gate;
 use window_workers::{RunError, SyncKind, run_serial, run_workers};
@@ -121,12 +120,4 @@ where
         Ok(report) => Ok(told(rt.alloc(), net, &report)),
         Err(error) => Ok(Outcome::Fault(error)),
     }
-}
-
-/// Fails where two texts differ, and shows both.
-fn same_text(told: &str, want: &str) -> Result<(), Fail> {
-    if told == want {
-        return Ok(());
-    }
-    Err(Fail::new(format_args!("{told} in place of {want}")))
 }

@@ -3,7 +3,7 @@
 ghost use Rattle.std.specs.Prelude.{◌<◌, length};
 ghost use Rattle.mote_net.specs.Net.{net_of};
 
-use super::same_text;
+use crate::tests::same_text;
 use net_scenario::{Net, read_scenario};
 use std::alloc::{AllocError, Global};
 use std::test::Fail;

@@ -3,7 +3,8 @@
 ghost use Rattle.std.specs.Prelude.{◌≡◌, ◌≤◌, ◌^◌, true, IfOk};
 ghost use Rattle.window_run.specs.Window.{is_rising};
 
-use super::{same_text, write_lines};
+use super::write_lines;
+use crate::tests::same_text;
 use futures::Future;
 use futures::task::Poll;
 use futures::test::MockTask;

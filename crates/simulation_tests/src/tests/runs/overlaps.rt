@@ -2,7 +2,8 @@
 //! a lock that is held round each turn lets none of them meet.
 
 use super::inboxes::write_inboxes;
-use super::{BUSY_PAIR, BUSY_TRIO, Run, by, same_text, told_by_workers};
+use super::{BUSY_PAIR, BUSY_TRIO, Run, by, told_by_workers};
+use crate::tests::same_text;
 use net_scenario::{Net, read_scenario};
 use std::alloc::{AllocError, AllocGlobal};
 use std::random::RandomSource;
