@@ -1,8 +1,10 @@
 //! The values of expressions.
-ghost use Rattle.std.specs.Prelude.{◌≡◌, ◌==◌};
+ghost use Rattle.std.specs.Prelude.{◌≡◌, ◌==◌, IfSome};
 ghost use Rattle.std.specs.List.{list_any};
 ghost use Rattle.program_tree.specs.Events.{system_number};
 ghost use Rattle.program_tree.specs.Tree.{expression_of};
+ghost use Rattle.program_tree.specs.declared.event.Event.{Event};
+ghost use Rattle.protothread.specs.Looks.{Looks};
 ghost use Rattle.protothread.specs.Value.{applied, is_event as has_number_and_word, value};
 
 use crate::look::Look;
@@ -51,6 +53,17 @@ fn is_running<L: Look>(look: &L, process: u8) -> bool
     look.running(process)
 }
 
+/// The value of a number or a variable, which most operands are: they take no call of their own.
+fn plain_value(operand: &Expr, vars: &Vars) -> Option<u16>
+    ensures { (event : Event) (looks : Looks) → IfSome result (λ found. found ≡ value vars.now event looks (expression_of operand.now)) }
+{
+    match operand {
+        Expr::Number(number) => Some(*number),
+        Expr::Variable(variable) => Some(vars.value(*variable)),
+        _ => None,
+    }
+}
+
 /// The value of an expression.
 pub(crate) fn evaluate<L: Look>(expression: &Expr, vars: &Vars, event: &Event, look: &L) -> u16
     ensures { result ≡ value vars.now event.now (L.looks look.now) (expression_of expression.now) }
@@ -70,8 +83,14 @@ pub(crate) fn evaluate<L: Look>(expression: &Expr, vars: &Vars, event: &Event, l
         Expr::Count(semaphore) => look.count(*semaphore),
         Expr::Not(inner) => u16::from(evaluate(inner, vars, event, look) == 0),
         Expr::Binary(operator, left, right) => {
-            let left = evaluate(left, vars, event, look);
-            let right = evaluate(right, vars, event, look);
+            let left = match plain_value(left, vars) {
+                Some(left) => left,
+                None => evaluate(left, vars, event, look),
+            };
+            let right = match plain_value(right, vars) {
+                Some(right) => right,
+                None => evaluate(right, vars, event, look),
+            };
             apply(*operator, left, right)
         }
     }
