@@ -24,6 +24,16 @@ def types_in(path, rows):
     return {name: module_of(path) for word, name in zip(words, words[1:]) if word in ('struct', 'enum')}
 
 
+def calls_itself(function, rows):
+    """Whether a function calls itself: its proof is made for it then, and no file stands for that."""
+    *_, owner, name = ['', *function.path.split('::')]
+    words = [word for line, word in rows if function.first <= line <= function.last]
+    before = [''.join(words[max(0, at - 2):at]) for at, word in enumerate(words) if [word, *words[at + 1:at + 2]] == [name, '(']]
+    if owner[:1].isupper():
+        return any(word in ('self.', 'Self::', owner + '::') for word in before)
+    return any(not word.endswith(('.', ':')) for word in before)
+
+
 def proof_of(function, types):
     """The names that lead to a function's proof; none of a method of a trait, nor of a function in a cycle of calls."""
     parts = function.path.split('::')
@@ -43,10 +53,9 @@ def proofs_of_others(bodies, judged):
     """The names that lead to the proof of each function of a crate that isn't judged, where they can be told."""
     files = [os.path.relpath(file, bodies.crate.folder) for file in rtlib.files_of(bodies.crate.folder)]
     sources = [file for file in files if file.startswith('src/') and file.endswith('.rt')]
-    types = {}
-    for file in sources:
-        types.update(types_in(file, tokens('%s/%s' % (bodies.crate.folder, file))))
-    others = [it for file in sources for it in bodies.functions(file) if not is_one_of(it, judged)]
+    rows = {file: tokens('%s/%s' % (bodies.crate.folder, file)) for file in sources}
+    types = {name: module for file in sources for name, module in types_in(file, rows[file]).items()}
+    others = [it for file in sources for it in bodies.functions(file) if not is_one_of(it, judged) and not calls_itself(it, rows[file])]
     cited = cited_in(rtlib.text_of('%s/%s' % (bodies.crate.folder, file)) for file in files if file.endswith('.antt'))
     found = [names for names in (proof_of(it, types) for it in others) if names]
     return [names for names in found if '.'.join(names) not in cited]
