@@ -17,7 +17,7 @@ use std::alloc::{AllocError, AllocFailed, Global};
 pub const MOST_PROCESSES: usize = 67;
 
 /// Why a run goes no further.
-#[derive(Clone, Copy, Debug, PartialEq, Eq)]
+#[derive(Clone, Copy)]
 pub enum Stop {
     /// The mote has halted.
     Halted,

@@ -3,7 +3,7 @@
 use program_tree::Proc;
 
 /// The state of a process (`PROCESS_STATE_NONE` and its kin of `process.c`).
-#[derive(Clone, Copy, Debug, PartialEq, Eq)]
+#[derive(Clone, Copy)]
 pub enum ProcessState {
     /// It isn't running.
     Off,
@@ -14,7 +14,7 @@ pub enum ProcessState {
 }
 
 /// A process on the process list. A process that left and was started again has a new incarnation.
-#[derive(Clone, Copy, Debug, PartialEq, Eq)]
+#[derive(Clone, Copy)]
 pub struct Member {
     pub process: Proc,
     pub incarnation: u32,
