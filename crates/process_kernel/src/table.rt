@@ -100,8 +100,8 @@ impl Machine {
     pub fn is_on_list(&self, member: Member) -> bool
         ensures { result ≡ holds_member self.now.members.items member }
     {
-        self.members.iter().any(|x| place_of(member.process) == place_of(x.process)
-            && member.incarnation == x.incarnation)
+        self.members.iter().any(|x| member.incarnation == x.incarnation
+            && place_of(member.process) == place_of(x.process))
     }
 
     /// Whether some incarnation of the process is on the process list.
