@@ -2,13 +2,12 @@
 //! share: so a test owns nothing where it can end early, which is what its proof costs most.
 
 mod exchange;
-mod failing_writers;
 mod inbox;
-mod many_lines;
 mod marks;
 mod medium;
 mod reports;
 mod workers;
+mod writers;
 
 ghost use Rattle.std.specs.Prelude.{◌≡◌};
 ghost use Rattle.copy_inbox.specs.Handles.{AllGathered, NoMarkLeft};

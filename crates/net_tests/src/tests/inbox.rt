@@ -167,50 +167,6 @@ fn write_of_two<R: Wait>(
     write_rest(rt, text, inbox, taker)
 }
 
-// Fails where something else is written of that.
-fn gives<R: Wait>(
-    rt: &R,
-    alloc: Global,
-    copies: &[RadioCopy],
-    most: (u64, u64),
-    want: &str,
-) -> Result<(), Fail> {
-    let mut text = String::new(alloc);
-    write_of_two(rt, alloc, &mut text, copies, most)?;
-    same_text(text.as_str(), want)
-}
-
-#[test]
-fn two_senders(rt: HostRuntime) -> Result<(), Fail> {
-    let alloc = rt.alloc();
-    // Two copies of each, taken by three and by the closing.
-    let four = [copy(0, 0), copy(1, 0), copy(1, 1), copy(0, 1)];
-    gives(
-        &rt,
-        alloc,
-        &four,
-        (0, 3),
-        "known 0|known 2|known 2|known 4|5 1 0 0 9|5 1 1 0 9|5 1 1 1 9|known 1|5 1 0 1 9|",
-    )?;
-    // What a sender pushed is in the inbox before the sender is gathered: the taker takes it, though it knows only of the
-    // other's.
-    gives(
-        &rt,
-        alloc,
-        &[copy(1, 8), copy(0, 7)],
-        (1, 0),
-        "known 0|known 1|5 1 1 8 9|known 1|known 1|known 1|5 1 0 7 9|",
-    )?;
-    // Nobody pushes.
-    gives(
-        &rt,
-        alloc,
-        &[],
-        (0, 0),
-        "known 0|known 0|known 0|known 0|known 0|",
-    )
-}
-
 // A sender pushes and is gathered, and then another one. Writes down what is known and taken.
 fn write_one_behind_the_other<R: Wait>(
     rt: &R,
@@ -233,20 +189,39 @@ fn write_one_behind_the_other<R: Wait>(
     Ok(())
 }
 
+// A sender that is made after another was gathered pushes behind it.
 fn write_late_sender<R: Wait>(rt: &R, alloc: Global, text: &mut String) -> Result<(), InboxError> {
     let (inbox, mut taker) = Inbox::make(alloc)?;
     write_one_behind_the_other(rt, text, &inbox, &mut taker)?;
     write_rest(rt, text, inbox, taker)
 }
 
-/// A sender that is made after another was gathered pushes behind it.
+fn write_in_one_thread<R: Wait>(
+    rt: &R,
+    alloc: Global,
+    text: &mut String,
+) -> Result<(), InboxError> {
+    // Two copies of each, taken by three and by the closing.
+    let four = [copy(0, 0), copy(1, 0), copy(1, 1), copy(0, 1)];
+    write_of_two(rt, alloc, text, &four, (0, 3))?;
+    // What a sender pushed is in the inbox before the sender is gathered: the taker takes it, though it knows only of the
+    // other's.
+    text.push_str("of both|")?;
+    write_of_two(rt, alloc, text, &[copy(1, 8), copy(0, 7)], (1, 0))?;
+    text.push_str("of nobody|")?;
+    write_of_two(rt, alloc, text, &[], (0, 0))?;
+    text.push_str("one behind the other|")?;
+    write_late_sender(rt, alloc, text)
+}
+
+/// What is known and taken when senders push, are gathered and are made, all in one thread.
 #[test]
-fn sender_made_after_a_gather(rt: HostRuntime) -> Result<(), Fail> {
+fn in_one_thread(rt: HostRuntime) -> Result<(), Fail> {
     let mut text = String::new(rt.alloc());
-    write_late_sender(&rt, rt.alloc(), &mut text)?;
+    write_in_one_thread(&rt, rt.alloc(), &mut text)?;
     same_text(
         text.as_str(),
-        "known 1|5 1 0 7 9|known 0|known 1|5 1 1 8 9|",
+        "known 0|known 2|known 2|known 4|5 1 0 0 9|5 1 1 0 9|5 1 1 1 9|known 1|5 1 0 1 9|of both|known 0|known 1|5 1 1 8 9|known 1|known 1|known 1|5 1 0 7 9|of nobody|known 0|known 0|known 0|known 0|known 0|one behind the other|known 1|5 1 0 7 9|known 0|known 1|5 1 1 8 9|",
     )
 }
 
@@ -387,31 +362,46 @@ fn push_both<R: Threads + Wait + Sync>(
     )
 }
 
-// Three threads push copies. Tells whether all come out when the inbox is closed, those of each in its order.
+// Three threads push copies.
+fn push_all_three<R: Threads + Wait + Sync>(
+    rt: &R,
+    inbox: &Inbox,
+    first: Sender,
+    second: Sender,
+    third: Sender,
+    count: u64,
+) -> ((Sender, Sender), Sender)
+    requires { (first.inbox ≡ inbox.now) × (second.inbox ≡ inbox.now) × (third.inbox ≡ inbox.now) }
+    ensures first { (result.0.0.inbox ≡ inbox.now) × (result.0.0.post.number ≡ first.post.number) }
+    ensures second { (result.0.1.inbox ≡ inbox.now) × (result.0.1.post.number ≡ second.post.number) }
+    ensures third { (result.1.inbox ≡ inbox.now) × (result.1.post.number ≡ third.post.number) }
+{
+    thread::join(
+        rt,
+        move ||
+            requires { (first.inbox ≡ inbox.now) × (second.inbox ≡ inbox.now) }
+            ensures { (result.0.inbox ≡ inbox.entry.now) × (result.0.post.number ≡ first.post.number) × (result.1.inbox ≡ inbox.entry.now) × (result.1.post.number ≡ second.post.number) }
+        { push_both(rt, inbox, first, second, count) },
+        move ||
+            requires { third.inbox ≡ inbox.now }
+            ensures { (result.inbox ≡ inbox.entry.now) × (result.post.number ≡ third.post.number) }
+        { push_all(rt, inbox, third, 2, count) },
+    )
+}
+
+// What the inbox gives when it is closed, once three threads have pushed copies.
 fn from_three<R: Threads + Wait + Sync>(
     rt: &R,
     alloc: Global,
     count: u64,
-) -> Result<bool, InboxError> {
+) -> Result<Vec<RadioCopy>, InboxError> {
     let (inbox, mut taker, first, second) = with_two(alloc, false)?;
-    let shared = &inbox;
-    let third = shared.sender(&mut taker)?;
-    let ((first, second), third) = thread::join(
-        rt,
-        move ||
-            requires { (first.inbox ≡ shared.now) × (second.inbox ≡ shared.now) }
-            ensures { (result.0.inbox ≡ shared.entry.now) × (result.0.post.number ≡ first.post.number) × (result.1.inbox ≡ shared.entry.now) × (result.1.post.number ≡ second.post.number) }
-        { push_both(rt, shared, first, second, count) },
-        move ||
-            requires { third.inbox ≡ shared.now }
-            ensures { (result.inbox ≡ shared.entry.now) × (result.post.number ≡ third.post.number) }
-        { push_all(rt, shared, third, 2, count) },
-    );
-    shared.gather(rt, &mut taker, third);
-    shared.gather(rt, &mut taker, first);
-    shared.gather(rt, &mut taker, second);
-    let copies = inbox.close(rt, taker)?;
-    Ok(are_in_order(copies.as_slice(), count))
+    let third = inbox.sender(&mut taker)?;
+    let ((first, second), third) = push_all_three(rt, &inbox, first, second, third, count);
+    inbox.gather(rt, &mut taker, third);
+    inbox.gather(rt, &mut taker, first);
+    inbox.gather(rt, &mut taker, second);
+    inbox.close(rt, taker)
 }
 
 // Whether these are so many copies of each of three senders, those of each in its order.
@@ -427,13 +417,6 @@ fn are_in_order(copies: &[RadioCopy], count: u64) -> bool {
     next == [count; 3]
 }
 
-/// Three threads push 1,000 copies each: all come out, those of each sender in its order.
-#[test]
-fn three_threads(rt: HostRuntime) -> Result<(), Fail> {
-    assert!(rt; from_three(&rt, rt.alloc(), 1000)?);
-    Ok(())
-}
-
 // Takes all that is known, and tells whether that is so many copies of sender 0, in order.
 fn takes_known<R: Wait>(rt: &R, inbox: &Inbox, mut taker: Taker, count: u64) -> (Taker, bool)
     requires { (taker.inbox ≡ inbox.now) × (taker.desk.marked ≡ false) }
@@ -447,31 +430,43 @@ fn takes_known<R: Wait>(rt: &R, inbox: &Inbox, mut taker: Taker, count: u64) -> 
     (taker, taken)
 }
 
-// One sender's copies are taken while another pushes. Tells whether those are all of that one, and all of the other are
-// left.
+// Takes all that is known while another thread pushes.
+fn take_beside<R: Threads + Wait + Sync>(
+    rt: &R,
+    inbox: &Inbox,
+    taker: Taker,
+    second: Sender,
+    count: u64,
+) -> ((Taker, bool), Sender)
+    requires { (taker.inbox ≡ inbox.now) × (taker.desk.marked ≡ false) × (second.inbox ≡ inbox.now) }
+    ensures taker { (result.0.0.desk.marked ≡ false) × (result.0.0.inbox ≡ inbox.now) × (result.0.0.desk.made ≡ taker.desk.made) × (result.0.0.desk.gathered ≡ taker.desk.gathered) }
+    ensures second { (result.1.inbox ≡ inbox.now) × (result.1.post.number ≡ second.post.number) }
+{
+    thread::join(
+        rt,
+        move ||
+            requires { (taker.inbox ≡ inbox.now) × (taker.desk.marked ≡ false) }
+            ensures { (result.0.desk.marked ≡ false) × (result.0.inbox ≡ inbox.entry.now) × (result.0.desk.made ≡ taker.desk.made) × (result.0.desk.gathered ≡ taker.desk.gathered) }
+        { takes_known(rt, inbox, taker, count) },
+        move ||
+            requires { second.inbox ≡ inbox.now }
+            ensures { (result.inbox ≡ inbox.entry.now) × (result.post.number ≡ second.post.number) }
+        { push_all(rt, inbox, second, 1, count) },
+    )
+}
+
+// One sender's copies are taken while another pushes behind that. Whether those are all of that one, and what is left.
 fn while_another_pushes<R: Threads + Wait + Sync>(
     rt: &R,
     alloc: Global,
     count: u64,
-) -> Result<bool, InboxError> {
+) -> Result<(bool, Vec<RadioCopy>), InboxError> {
     let (inbox, mut taker, first, second) = with_two(alloc, false)?;
-    let shared = &inbox;
-    let first = push_all(rt, shared, first, 0, count);
-    shared.gather(rt, &mut taker, first);
-    let ((mut taker, taken), second) = thread::join(
-        rt,
-        move ||
-            requires { (taker.inbox ≡ shared.now) × (taker.desk.marked ≡ false) }
-            ensures { (result.0.desk.marked ≡ false) × (result.0.inbox ≡ shared.entry.now) × (result.0.desk.made ≡ taker.desk.made) × (result.0.desk.gathered ≡ taker.desk.gathered) }
-        { takes_known(rt, shared, taker, count) },
-        move ||
-            requires { second.inbox ≡ shared.now }
-            ensures { (result.inbox ≡ shared.entry.now) × (result.post.number ≡ second.post.number) }
-        { push_all(rt, shared, second, 1, count) },
-    );
-    shared.gather(rt, &mut taker, second);
-    let rest = inbox.close(rt, taker)?;
-    Ok(taken && are_of(rest.as_slice(), 1, count))
+    let first = push_all(rt, &inbox, first, 0, count);
+    inbox.gather(rt, &mut taker, first);
+    let ((mut taker, taken), second) = take_beside(rt, &inbox, taker, second, count);
+    inbox.gather(rt, &mut taker, second);
+    Ok((taken, inbox.close(rt, taker)?))
 }
 
 // Whether these are so many copies of one sender, in order.
@@ -486,9 +481,30 @@ fn are_of(copies: &[RadioCopy], mote: u16, count: u64) -> bool {
     number == count
 }
 
-/// The taker takes what it knows of one sender while another pushes behind that.
+// Three threads push so many copies each: all come out, those of each sender in its order.
+fn three_come_out<R: Threads + Wait + Sync>(
+    rt: &R,
+    alloc: Global,
+    count: u64,
+) -> Result<bool, InboxError> {
+    let copies = from_three(rt, alloc, count)?;
+    Ok(are_in_order(copies.as_slice(), count))
+}
+
+// The taker takes what it knows of one sender while another pushes behind that.
+fn both_come_out<R: Threads + Wait + Sync>(
+    rt: &R,
+    alloc: Global,
+    count: u64,
+) -> Result<bool, InboxError> {
+    let (taken, rest) = while_another_pushes(rt, alloc, count)?;
+    Ok(taken && are_of(rest.as_slice(), 1, count))
+}
+
+/// Each thread pushes 1,000 copies.
 #[test]
-fn taken_while_another_pushes(rt: HostRuntime) -> Result<(), Fail> {
-    assert!(rt; while_another_pushes(&rt, rt.alloc(), 1000)?);
+fn between_threads(rt: HostRuntime) -> Result<(), Fail> {
+    assert!(rt; three_come_out(&rt, rt.alloc(), 1000)?);
+    assert!(rt; both_come_out(&rt, rt.alloc(), 1000)?);
     Ok(())
 }

@@ -6,7 +6,7 @@ ghost use Rattle.copy_inbox.specs.Views.{make_desk};
 use super::inbox::{
     copy, make_again, push, push_again, sender_again, with_one, with_two, write_known,
 };
-use super::{same_text, write_copy};
+use super::{same_text, write_copy, write_rest};
 use copy_inbox::{Carried, Inbox, InboxError, Item, Sender, Taker};
 use std::alloc::{AllocError, Global};
 use std::sync::Wait;
@@ -52,15 +52,16 @@ fn write_nexts<R: Wait>(
     Ok(())
 }
 
-// Gathers both senders, and closes the inbox where nothing is known. Tells how many copies that gives.
+// Gathers both senders, and writes down what the inbox gives when it ends.
 #[tactic(auto, using(copy_inbox::proofs::Counts::none_left))]
-fn end<R: Wait>(
+fn write_end<R: Wait>(
     rt: &R,
+    text: &mut String,
     inbox: Inbox,
     mut taker: Taker,
     first: Sender,
     second: Sender,
-) -> Result<Option<usize>, InboxError>
+) -> Result<(), InboxError>
     requires inbox { (taker.inbox ≡ inbox) × (first.inbox ≡ inbox) × (second.inbox ≡ inbox) }
     requires taker { (taker.desk.made ≡ 2) × (taker.desk.gathered ≡ []) }
     requires numbers { (first.post.number ≡ 0) × (second.post.number ≡ 1) }
@@ -68,34 +69,38 @@ fn end<R: Wait>(
     inbox.gather(rt, &mut taker, first);
     inbox.gather(rt, &mut taker, second);
     if inbox.known(&taker) != 0 {
-        return Ok(None);
+        return Ok(text.push_str("some are known|")?);
     }
-    let rest = inbox.close(rt, taker)?;
-    Ok(Some(rest.len()))
+    write_rest(rt, text, inbox, taker)
 }
 
-// Writes down what is taken where two senders pushed marks, and that nothing is left at the end.
+// Two senders push marks, the first one behind a copy. Writes down what is taken.
+fn write_pushed_marks<R: Wait>(
+    rt: &R,
+    text: &mut String,
+    inbox: &Inbox,
+    taker: &mut Taker,
+    first: &mut Sender,
+    second: &mut Sender,
+) -> Result<(), AllocError>
+    requires inbox { (taker.old.inbox ≡ inbox.now) × (first.old.inbox ≡ inbox.now) × (second.old.inbox ≡ inbox.now) }
+    requires marked { (first.old.post.marked ≡ true) × (second.old.post.marked ≡ true) }
+    ensures taker { (taker.new.inbox ≡ inbox.now) × (taker.new.desk.made ≡ taker.old.desk.made) × (taker.new.desk.gathered ≡ taker.old.desk.gathered) }
+    ensures first { (first.new.inbox ≡ inbox.now) × (first.new.post.number ≡ first.old.post.number) }
+    ensures second { (second.new.inbox ≡ inbox.now) × (second.new.post.number ≡ second.old.post.number) }
+{
+    push(rt, inbox, first, copy(0, 7));
+    push_mark(rt, inbox, first, 0);
+    push_mark(rt, inbox, second, 0);
+    write_nexts(rt, text, inbox, taker, 4)
+}
+
+// What two senders pushed is taken in order, each with its sender's number, though nothing is known of them; then
+// nothing is there, and nothing is left at the end.
 fn write_marked<R: Wait>(rt: &R, alloc: Global, text: &mut String) -> Result<(), InboxError> {
     let (inbox, mut taker, mut first, mut second) = with_two(alloc, true)?;
-    push(rt, &inbox, &mut first, copy(0, 7));
-    push_mark(rt, &inbox, &mut first, 0);
-    push_mark(rt, &inbox, &mut second, 0);
-    write_nexts(rt, text, &inbox, &mut taker, 4)?;
-    let left = end(rt, inbox, taker, first, second)?;
-    write!(text, "{left:?}")?;
-    Ok(())
-}
-
-/// What two senders pushed is taken in order, each with its sender's number, though nothing is known of them; then
-/// nothing is there.
-#[test]
-fn marked_inbox(rt: HostRuntime) -> Result<(), Fail> {
-    let mut text = String::new(rt.alloc());
-    write_marked(&rt, rt.alloc(), &mut text)?;
-    same_text(
-        text.as_str(),
-        "of 0 5 1 0 7 9|of 0 mark 0|of 1 mark 0|none|Some(0)",
-    )
+    write_pushed_marks(rt, text, &inbox, &mut taker, &mut first, &mut second)?;
+    write_end(rt, text, inbox, taker, first, second)
 }
 
 // Gathers a sender, and takes what it pushed. Writes down what is known time after time.
@@ -108,33 +113,23 @@ fn write_gathered<R: Wait>(
 ) -> Result<(), AllocError>
     requires { (taker.old.inbox ≡ inbox.now) × (only.inbox ≡ inbox.now) }
 {
+    let known = inbox.known(taker);
     inbox.gather(rt, taker, only);
-    write_known(text, inbox, taker)?;
-    write_nexts(rt, text, inbox, taker, 1)?;
-    write_known(text, inbox, taker)?;
-    write_nexts(rt, text, inbox, taker, 3)?;
-    write_known(text, inbox, taker)
+    write!(text, "known {known}|")?;
+    for count in [0, 1, 3] {
+        write_nexts(rt, text, inbox, taker, count)?;
+        write_known(text, inbox, taker)?;
+    }
+    Ok(())
 }
 
+// Marks and copies that weren't taken are known once their sender is gathered, and are taken then.
 fn write_known_marks<R: Wait>(rt: &R, alloc: Global, text: &mut String) -> Result<(), InboxError> {
     let (inbox, mut taker, mut only) = with_one(alloc, true)?;
     push_mark(rt, &inbox, &mut only, 0);
     push(rt, &inbox, &mut only, copy(0, 0));
     push_mark(rt, &inbox, &mut only, 1);
-    write_known(text, &inbox, &taker)?;
-    write_gathered(rt, text, &inbox, &mut taker, only)?;
-    Ok(())
-}
-
-/// Marks and copies that weren't taken are known once their sender is gathered, and are taken then.
-#[test]
-fn marks_are_known(rt: HostRuntime) -> Result<(), Fail> {
-    let mut text = String::new(rt.alloc());
-    write_known_marks(&rt, rt.alloc(), &mut text)?;
-    same_text(
-        text.as_str(),
-        "known 0|known 3|of 0 mark 0|known 2|of 0 5 1 0 0 9|of 0 mark 1|none|known 0|",
-    )
+    Ok(write_gathered(rt, text, &inbox, &mut taker, only)?)
 }
 
 // Two senders push a copy each. Writes down what is taken before and behind.
@@ -154,18 +149,29 @@ fn write_pushed<R: Wait>(
     write_nexts(rt, text, inbox, taker, 3)
 }
 
+// An inbox without marks gives its copies one by one too.
 fn write_one_by_one<R: Wait>(rt: &R, alloc: Global, text: &mut String) -> Result<(), InboxError> {
     let (inbox, mut taker, mut first, mut second) = with_two(alloc, false)?;
-    write_pushed(rt, text, &inbox, &mut taker, &mut first, &mut second)?;
-    Ok(())
+    Ok(write_pushed(rt, text, &inbox, &mut taker, &mut first, &mut second)?)
 }
 
-/// An inbox without marks gives its copies one by one too.
+fn write_items<R: Wait>(rt: &R, alloc: Global, text: &mut String) -> Result<(), InboxError> {
+    write_marked(rt, alloc, text)?;
+    text.push_str("known marks|")?;
+    write_known_marks(rt, alloc, text)?;
+    text.push_str("no marks|")?;
+    write_one_by_one(rt, alloc, text)
+}
+
+/// What is taken of inboxes with marks and without, and what is known of it.
 #[test]
-fn copies_one_by_one(rt: HostRuntime) -> Result<(), Fail> {
+fn items_one_by_one(rt: HostRuntime) -> Result<(), Fail> {
     let mut text = String::new(rt.alloc());
-    write_one_by_one(&rt, rt.alloc(), &mut text)?;
-    same_text(text.as_str(), "none|of 1 5 1 1 0 9|of 0 5 1 0 0 9|none|")
+    write_items(&rt, rt.alloc(), &mut text)?;
+    same_text(
+        text.as_str(),
+        "of 0 5 1 0 7 9|of 0 mark 0|of 1 mark 0|none|known marks|known 0|known 3|of 0 mark 0|known 2|of 0 5 1 0 0 9|of 0 mark 1|none|known 0|no marks|none|of 1 5 1 1 0 9|of 0 5 1 0 0 9|none|",
+    )
 }
 
 // Pushes a mark. Where memory is refused, what comes back is pushed.

@@ -1,54 +1,40 @@
 //! Media of a few motes.
 
-ghost use Rattle.std.specs.Prelude.{◌≡◌, ◌≤◌, ◌<◌, ◌^◌, length, IfOk};
+ghost use Rattle.std.specs.Prelude.{◌≡◌, ◌≤◌, ◌<◌, length, IfOk};
 
+use super::{same_text, write_copies};
 use radio_medium::{Loss, Medium, MediumError, Place};
-use radio_packet::{Fate, RadioCopy, Sent};
+use radio_packet::Sent;
 use std::alloc::{AllocError, Global};
 use std::test::Fail;
 
-/// A packet that was sent at 1 with value 7.
-fn sent(sender: u16, number: u64) -> Sent
-    ensures { result ≡ record { at = 1; sender = sender; number = number; value = 7 } }
+/// Writes down what becomes of the copies of a packet.
+fn write_fates(text: &mut String, medium: &Medium, sent: &Sent) -> Result<(), AllocError>
+    requires sender { sent.now.sender < length medium.now.places }
+    requires moment { sent.now.at ≡ 1 }
 {
-    Sent {
+    let fates = medium.fates(sent)?;
+    write!(text, "{fates:?}|")
+}
+
+/// Writes down what becomes of a packet that was sent at 1 with value 7, and its copies.
+fn write_packet(
+    text: &mut String,
+    medium: &Medium,
+    sender: u16,
+    number: u64,
+) -> Result<(), AllocError>
+    requires { sender < length medium.now.places }
+{
+    let sent = Sent {
         at: 1,
         sender,
         number,
         value: 7,
-    }
-}
-
-/// The copy of such a packet.
-fn copy(at: u64, to: u16, sender: u16, number: u64) -> RadioCopy {
-    RadioCopy {
-        at,
-        to,
-        sender,
-        number,
-        value: 7,
-    }
-}
-
-/// Whether such a packet has these copies.
-fn has_copies(
-    medium: &Medium,
-    sender: u16,
-    number: u64,
-    copies: &[RadioCopy],
-) -> Result<bool, AllocError>
-    requires { sender < length medium.now.places }
-{
-    let found = medium.copies(&sent(sender, number))?;
-    Ok(found.as_slice() == copies)
-}
-
-/// Whether this becomes of the copies of such a packet.
-fn has_fates(medium: &Medium, sender: u16, number: u64, fates: &[Fate]) -> Result<bool, AllocError>
-    requires { sender < length medium.now.places }
-{
-    let found = medium.fates(&sent(sender, number))?;
-    Ok(found.as_slice() == fates)
+    };
+    write_fates(text, medium, &sent)?;
+    let copies = medium.copies(&sent)?;
+    write_copies(text, copies.as_slice())
 }
 
 /// Two motes at a distance of 5. A packet takes 2 moments and one more for each 10 of the square of the distance.
@@ -60,8 +46,35 @@ fn two_motes(alloc: Global, range: u32, losses: &[Loss]) -> Result<Medium, Mediu
     Medium::new(alloc, &places, range, 2, 10, losses)
 }
 
+/// Writes down whether each of two motes hears the other, and one itself, how long a packet takes and at least takes,
+/// and what becomes of some packets.
+fn write_hearing(text: &mut String, medium: &Medium) -> Result<(), AllocError>
+    requires { length medium.now.places ≡ 2 }
+{
+    let heard = [medium.hears(0, 1), medium.hears(1, 0), medium.hears(0, 0)];
+    let delay = medium.delay(0, 1);
+    let lookahead = medium.lookahead(9);
+    write!(text, "{heard:?} {delay} {lookahead}|")?;
+    write_packet(text, medium, 0, 0)?;
+    write_packet(text, medium, 0, 1)?;
+    write_packet(text, medium, 1, 1)
+}
+
+fn write_two_motes(
+    alloc: Global,
+    text: &mut String,
+    range: u32,
+    losses: &[Loss],
+) -> Result<(), MediumError>
+    requires { range ≤ 100000 }
+{
+    let medium = two_motes(alloc, range, losses)?;
+    Ok(write_hearing(text, &medium)?)
+}
+
 /// Four motes, of which mote 1 hears and is heard by all others, the nearest being mote 2 and the farthest mote 3.
-fn four_motes(alloc: Global, losses: &[Loss]) -> Result<Medium, MediumError>
+/// Mote 2 loses each third packet of mote 1.
+fn four_motes(alloc: Global) -> Result<Medium, MediumError>
     ensures { IfOk result (λ medium. length medium.places ≡ 4) }
 {
     let places = [
@@ -70,124 +83,81 @@ fn four_motes(alloc: Global, losses: &[Loss]) -> Result<Medium, MediumError>
         Place { x: -1, y: 0 },
         Place { x: 0, y: 3 },
     ];
-    Medium::new(alloc, &places, 3, 2, 1, losses)
-}
-
-/// Whether each hears the other, 4 moments after a packet is sent.
-fn hear_each_other(medium: &Medium) -> Result<bool, AllocError>
-    requires { length medium.now.places ≡ 2 }
-{
-    let heard = [medium.hears(0, 1), medium.hears(1, 0), medium.hears(0, 0)];
-    let timed = medium.delay(0, 1) == 4 && medium.lookahead(9) == 4;
-    let copied = has_copies(medium, 0, 0, &[copy(5, 1, 0, 0)])?;
-    Ok(heard == [true, true, false] && timed && copied)
-}
-
-#[test]
-fn within_the_range(rt: HostRuntime) -> Result<(), Fail> {
-    let medium = two_motes(rt.alloc(), 5, &[])?;
-    assert!(rt; hear_each_other(&medium)?);
-    Ok(())
-}
-
-/// Whether neither hears the other.
-fn hear_nothing(medium: &Medium) -> Result<bool, AllocError>
-    requires { length medium.now.places ≡ 2 }
-{
-    let heard = medium.hears(0, 1) || medium.hears(1, 0);
-    let told = has_fates(medium, 0, 0, &[])?;
-    Ok(!heard && told && medium.lookahead(9) == 10)
-}
-
-#[test]
-fn beyond_the_range(rt: HostRuntime) -> Result<(), Fail> {
-    let medium = two_motes(rt.alloc(), 4, &[])?;
-    assert!(rt; hear_nothing(&medium)?);
-    Ok(())
-}
-
-/// Whether each second packet of mote 0 is lost, and none of mote 1.
-fn loses_each_second(medium: &Medium) -> Result<bool, AllocError>
-    requires { length medium.now.places ≡ 2 }
-{
-    let came = [Fate { to: 1, at: Some(5) }];
-    let lost = [Fate { to: 1, at: None }];
-    let fates = [
-        has_fates(medium, 0, 0, &came)?,
-        has_fates(medium, 0, 1, &lost)?,
-    ];
-    let copies = [
-        has_copies(medium, 0, 1, &[])?,
-        has_copies(medium, 1, 1, &[copy(5, 0, 1, 1)])?,
-    ];
-    Ok(fates == [true; 2] && copies == [true; 2])
-}
-
-#[test]
-fn every_second_is_lost(rt: HostRuntime) -> Result<(), Fail> {
-    let loss = Loss {
-        sender: 0,
-        to: 1,
-        every: 2,
-    };
-    let medium = two_motes(rt.alloc(), 5, &[loss])?;
-    assert!(rt; loses_each_second(&medium)?);
-    Ok(())
-}
-
-/// Whether copies of mote 1 rise by receiver, where mote 2 loses each third.
-fn rise(medium: &Medium) -> Result<bool, AllocError>
-    requires { length medium.now.places ≡ 4 }
-{
-    let all = [copy(7, 0, 1, 3), copy(4, 2, 1, 3), copy(12, 3, 1, 3)];
-    let some = [copy(7, 0, 1, 2), copy(12, 3, 1, 2)];
-    let are_all = has_copies(medium, 1, 3, &all)?;
-    let are_some = has_copies(medium, 1, 2, &some)?;
-    Ok(are_all && are_some && medium.lookahead(9) == 3)
-}
-
-/// Copies rise by receiver, not by arrival.
-#[test]
-fn rising_receivers(rt: HostRuntime) -> Result<(), Fail> {
     let loss = Loss {
         sender: 1,
         to: 2,
         every: 3,
     };
-    let medium = four_motes(rt.alloc(), &[loss])?;
-    assert!(rt; rise(&medium)?);
-    Ok(())
+    Medium::new(alloc, &places, 3, 2, 1, &[loss])
+}
+
+/// Copies rise by receiver, not by arrival.
+fn write_rising(text: &mut String, medium: &Medium) -> Result<(), AllocError>
+    requires { length medium.now.places ≡ 4 }
+{
+    write_packet(text, medium, 1, 3)?;
+    write_packet(text, medium, 1, 2)?;
+    let lookahead = medium.lookahead(9);
+    write!(text, "{lookahead}|")
+}
+
+fn write_four_motes(alloc: Global, text: &mut String) -> Result<(), MediumError> {
+    let medium = four_motes(alloc)?;
+    Ok(write_rising(text, &medium)?)
+}
+
+/// What is lost of mote 0's packets.
+const EACH_SECOND: Loss = Loss {
+    sender: 0,
+    to: 1,
+    every: 2,
+};
+
+/// Writes down why a medium was refused, and the number of that.
+fn write_fault(text: &mut String, fault: Option<MediumError>) -> Result<(), AllocError> {
+    match fault {
+        Some(error) => write!(text, "{error:?} {}|", error.number()),
+        None => text.push_str("none|"),
+    }
 }
 
 /// Each loss that is refused, beside one that isn't.
-#[test]
-fn bad_losses(rt: HostRuntime) {
-    let good = Loss {
-        sender: 0,
-        to: 1,
-        every: 2,
-    };
+fn write_bad_losses(alloc: Global, text: &mut String) -> Result<(), AllocError> {
     for (sender, to, every) in [(2, 1, 1), (0, 2, 1), (1, 1, 1), (1, 0, 0), (0, 1, 3)] {
-        let losses = [good, Loss { sender, to, every }];
-        let error = two_motes(rt.alloc(), 5, &losses).err();
-        assert!(rt; error == Some(MediumError::BadLoss));
+        let losses = [EACH_SECOND, Loss { sender, to, every }];
+        write_fault(text, two_motes(alloc, 5, &losses).err())?;
     }
+    Ok(())
 }
 
-/// What is refused of several faults, and its number.
-#[test]
-fn first_fault(rt: HostRuntime) {
-    let loss = Loss {
-        sender: 0,
-        to: 0,
-        every: 1,
-    };
-    for (base, per, error, number) in [
-        (0, 0, MediumError::ZeroBase, 2),
-        (1, 0, MediumError::ZeroPer, 3),
-        (1, 1, MediumError::BadLoss, 4),
-    ] {
-        let found = Medium::new(rt.alloc(), &[], 0, base, per, &[loss]).err();
-        assert!(rt; found == Some(error) && error.number() == number);
+/// What is refused of several faults.
+fn write_first_faults(alloc: Global, text: &mut String) -> Result<(), AllocError> {
+    for (base, per) in [(0, 0), (1, 0), (1, 1)] {
+        write_fault(
+            text,
+            Medium::new(alloc, &[], 0, base, per, &[EACH_SECOND]).err(),
+        )?;
     }
+    Ok(())
+}
+
+fn write_media(alloc: Global, text: &mut String) -> Result<(), MediumError> {
+    write_two_motes(alloc, text, 5, &[])?;
+    // Beyond the range nobody hears the other.
+    write_two_motes(alloc, text, 4, &[])?;
+    // Each second packet of mote 0 is lost, and none of mote 1.
+    write_two_motes(alloc, text, 5, &[EACH_SECOND])?;
+    write_four_motes(alloc, text)?;
+    write_bad_losses(alloc, text)?;
+    Ok(write_first_faults(alloc, text)?)
+}
+
+#[test]
+fn media_by_hand(rt: HostRuntime) -> Result<(), Fail> {
+    let mut text = String::new(rt.alloc());
+    write_media(rt.alloc(), &mut text)?;
+    same_text(
+        text.as_str(),
+        "[true, true, false] 4 4|[Fate { to: 1, at: Some(5) }]|5 1 0 0 7|[Fate { to: 1, at: Some(5) }]|5 1 0 1 7|[Fate { to: 0, at: Some(5) }]|5 0 1 1 7|[false, false, false] 4 10|[]|[]|[]|[true, true, false] 4 4|[Fate { to: 1, at: Some(5) }]|5 1 0 0 7|[Fate { to: 1, at: None }]|[Fate { to: 0, at: Some(5) }]|5 0 1 1 7|[Fate { to: 0, at: Some(7) }, Fate { to: 2, at: Some(4) }, Fate { to: 3, at: Some(12) }]|7 0 1 3 7|4 2 1 3 7|12 3 1 3 7|[Fate { to: 0, at: Some(7) }, Fate { to: 2, at: None }, Fate { to: 3, at: Some(12) }]|7 0 1 2 7|12 3 1 2 7|3|BadLoss 4|BadLoss 4|BadLoss 4|BadLoss 4|BadLoss 4|ZeroBase 2|ZeroPer 3|BadLoss 4|",
+    )
 }

@@ -1,7 +1,6 @@
 //! Reports with their texts, worked by hand.
 
-ghost use Rattle.std.specs.Prelude.{◌≡◌, length, IfOk, vec_len};
-ghost use Rattle.mote_net.specs.Net.{net_of};
+ghost use Rattle.std.specs.Prelude.{◌≡◌, IfOk, vec_len};
 
 use super::same_text;
 use net_report::{LogLine, Report};
@@ -12,7 +11,7 @@ use radio_packet::{Fate, Sent};
 use std::alloc::{AllocError, Global};
 use std::str;
 use std::test::Fail;
-use trace_printer::{PrintError, write_report};
+use trace_printer::write_report;
 
 /// One mote, whose program has two events and two processes.
 const TWO_PROCESSES: &str =
@@ -44,85 +43,68 @@ pub(crate) fn report_of_one(alloc: Global, trace: &[Line]) -> Result<Report, All
     })
 }
 
-/// Fails where a report isn't written as this text.
-fn is_written(alloc: Global, net: &Net, report: &Report, text: &str) -> Result<(), Fail>
-    requires { vec_len report.now.traces ≡ length (net_of net.now).motes }
-{
-    let mut output = Vec::new(alloc);
-    write_report(alloc, net, report, &mut output)?;
-    match str::from_utf8(output.as_slice()) {
-        Ok(told) => same_text(told, text),
+/// Fails where these aren't the bytes of this text.
+fn same_bytes(told: &[u8], want: &str) -> Result<(), Fail> {
+    match str::from_utf8(told) {
+        Ok(told) => same_text(told, want),
         Err(_) => Err(Fail::new(format_args!("no text"))),
     }
 }
 
-/// Fails where the trace of the only mote of a net isn't written as this text.
-fn is_trace(alloc: Global, net: &Net, trace: &[Line], text: &str) -> Result<(), Fail> {
+/// Writes the report of one mote with this trace, behind what is written.
+fn write_trace(alloc: Global, net: &Net, trace: &[Line], output: &mut Vec<u8>) -> Result<(), Fail> {
     if net.motes() != 1 {
         return Err(Fail::new(format_args!("not one mote")));
     }
     let report = report_of_one(alloc, trace)?;
-    is_written(alloc, net, &report, text)
+    Ok(write_report(alloc, net, &report, output)?)
 }
 
-#[test]
-fn lines_of_traces(rt: HostRuntime) -> Result<(), Fail> {
-    let net = read_scenario(rt.alloc(), TWO_PROCESSES)?;
+/// Writes a report for each kind of lines, of a net of one mote.
+fn write_kinds(alloc: Global, net: &Net, output: &mut Vec<u8>) -> Result<(), Fail> {
     let to_a = Target::One(A);
-    let cases: [(&[Line], &str); 4] = [
+    let kinds: [&[Line]; 4] = [
         // Lines of processes.
-        (
-            &[
-                line(0, What::Start(A)),
-                line(0, What::Start(Proc::Etimer)),
-                line(0, What::Start(Proc::Ctimer)),
-                line(0, What::Start(Proc::Radio)),
-                line(5, What::Leave(A)),
-                line(2, What::Print(A, 192)),
-                line(0, What::Busy(Proc::Own(1))),
-                line(0, What::Halt),
-            ],
-            "mote 0 p\n0 start a\n0 start etimer\n0 start ctimer\n0 start radio\n5 leave a\n2 print a 192\n0 busy b\n0 halt\nmedium\nleft 0\n",
-        ),
+        &[
+            line(0, What::Start(A)),
+            line(0, What::Start(Proc::Etimer)),
+            line(0, What::Start(Proc::Ctimer)),
+            line(0, What::Start(Proc::Radio)),
+            line(5, What::Leave(A)),
+            line(2, What::Print(A, 192)),
+            line(0, What::Busy(Proc::Own(1))),
+            line(0, What::Halt),
+        ],
         // Lines of events.
-        (
-            &[
-                line(0, What::Post(0, to_a, 0x86, 7)),
-                line(0, What::Post(3, ALL, 0x89, 7)),
-                line(2, What::Post(1, Target::One(Proc::Ctimer), 0x88, 1)),
-                line(0, What::Full(to_a, 0x86, 32)),
-                line(0, What::Take(32, A)),
-                line(0, What::Drop(0, Proc::Radio)),
-            ],
-            "mote 0 p\n0 post 0 a msg 7\n0 post 3 all com 7\n2 post 1 ctimer timer 1\n0 full a msg 32\n0 take 32 a\n0 drop 0 radio\nmedium\nleft 0\n",
-        ),
+        &[
+            line(0, What::Post(0, to_a, 0x86, 7)),
+            line(0, What::Post(3, ALL, 0x89, 7)),
+            line(2, What::Post(1, Target::One(Proc::Ctimer), 0x88, 1)),
+            line(0, What::Full(to_a, 0x86, 32)),
+            line(0, What::Take(32, A)),
+            line(0, What::Drop(0, Proc::Radio)),
+        ],
         // Words of events.
-        (
-            &[
-                line(0, What::Full(ALL, 0x81, 0)),
-                line(0, What::Full(ALL, 0x82, 0)),
-                line(0, What::Full(ALL, 0x83, 0)),
-                line(0, What::Full(ALL, 0x85, 0)),
-                line(0, What::Full(ALL, 0x87, 1)),
-                line(0, What::Full(ALL, 0x8a, 5)),
-                line(0, What::Full(ALL, 0x8c, 9)),
-            ],
-            "mote 0 p\n0 full all init 0\n0 full all poll 0\n0 full all exit 0\n0 full all continue 0\n0 full all exited 1\n0 full all packet 5\n0 full all f 9\nmedium\nleft 0\n",
-        ),
+        &[
+            line(0, What::Full(ALL, 0x81, 0)),
+            line(0, What::Full(ALL, 0x82, 0)),
+            line(0, What::Full(ALL, 0x83, 0)),
+            line(0, What::Full(ALL, 0x85, 0)),
+            line(0, What::Full(ALL, 0x87, 1)),
+            line(0, What::Full(ALL, 0x8a, 5)),
+            line(0, What::Full(ALL, 0x8c, 9)),
+        ],
         // Lines of packets.
-        (
-            &[
-                line(0, What::Send(0, 5)),
-                line(2, What::Recv(2, 0, 7)),
-                line(3, What::Lost(0, 8)),
-                line(2, What::Deaf(4, 0)),
-                line(2, What::Collide(2, 0)),
-            ],
-            "mote 0 p\n0 send 0 5\n2 recv 2 0 7\n3 lost 0 8\n2 deaf 4 0\n2 collide 2 0\nmedium\nleft 0\n",
-        ),
+        &[
+            line(0, What::Send(0, 5)),
+            line(2, What::Recv(2, 0, 7)),
+            line(3, What::Lost(0, 8)),
+            line(2, What::Deaf(4, 0)),
+            line(2, What::Collide(2, 0)),
+        ],
     ];
-    for (trace, text) in cases {
-        is_trace(rt.alloc(), &net, trace, text)?;
+    for trace in kinds {
+        write_trace(alloc, net, trace, output)?;
     }
     Ok(())
 }
@@ -180,26 +162,36 @@ fn report_of_two(alloc: Global) -> Result<Report, AllocError>
     })
 }
 
-/// Fails where that report isn't written as this text of a net of two motes.
-fn is_written_of_two(alloc: Global, net: &Net, text: &str) -> Result<(), Fail> {
+/// Writes that report, of a net of two motes.
+fn write_two(alloc: Global, net: &Net, output: &mut Vec<u8>) -> Result<(), Fail> {
     if net.motes() != 2 {
         return Err(Fail::new(format_args!("not two motes")));
     }
     let report = report_of_two(alloc)?;
-    is_written(alloc, net, &report, text)
+    Ok(write_report(alloc, net, &report, output)?)
+}
+
+fn write_of_one_mote(alloc: Global, output: &mut Vec<u8>) -> Result<(), Fail> {
+    let net = read_scenario(alloc, TWO_PROCESSES)?;
+    write_kinds(alloc, &net, output)
+}
+
+fn write_of_two_motes(alloc: Global, output: &mut Vec<u8>) -> Result<(), Fail> {
+    let net = read_scenario(alloc, TWO_MOTES)?;
+    write_two(alloc, &net, output)
+}
+
+fn write_reports(alloc: Global, output: &mut Vec<u8>) -> Result<(), Fail> {
+    write_of_one_mote(alloc, output)?;
+    write_of_two_motes(alloc, output)
 }
 
 #[test]
-fn numbers_its_motes(rt: HostRuntime) -> Result<(), Fail> {
-    let net = read_scenario(rt.alloc(), TWO_MOTES)?;
-    is_written_of_two(
-        rt.alloc(),
-        &net,
-        "mote 0 p\n0 start a\n0 halt\nmote 1 q_2\n0 print c 65535\n1000000 leave c\n1000000 leave radio\nmedium\n2 1 0 9 0@5 3@lost\n7 0 40 65535\nleft 12\n",
+fn reports_by_hand(rt: HostRuntime) -> Result<(), Fail> {
+    let mut output = Vec::new(rt.alloc());
+    write_reports(rt.alloc(), &mut output)?;
+    same_bytes(
+        output.as_slice(),
+        "mote 0 p\n0 start a\n0 start etimer\n0 start ctimer\n0 start radio\n5 leave a\n2 print a 192\n0 busy b\n0 halt\nmedium\nleft 0\nmote 0 p\n0 post 0 a msg 7\n0 post 3 all com 7\n2 post 1 ctimer timer 1\n0 full a msg 32\n0 take 32 a\n0 drop 0 radio\nmedium\nleft 0\nmote 0 p\n0 full all init 0\n0 full all poll 0\n0 full all exit 0\n0 full all continue 0\n0 full all exited 1\n0 full all packet 5\n0 full all f 9\nmedium\nleft 0\nmote 0 p\n0 send 0 5\n2 recv 2 0 7\n3 lost 0 8\n2 deaf 4 0\n2 collide 2 0\nmedium\nleft 0\nmote 0 p\n0 start a\n0 halt\nmote 1 q_2\n0 print c 65535\n1000000 leave c\n1000000 leave radio\nmedium\n2 1 0 9 0@5 3@lost\n7 0 40 65535\nleft 12\n",
     )
-}
-
-#[test]
-fn faults_have_their_numbers(rt: HostRuntime) {
-    assert!(rt; PrintError::Write.number() == 1 && PrintError::Memory.number() == 2);
 }

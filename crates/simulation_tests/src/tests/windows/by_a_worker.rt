@@ -157,18 +157,17 @@ fn order_of_turns<R: Wait + RandomSource + AllocGlobal>(
     Ok((diary.motes.load(SeqCst), outs.len()))
 }
 
-/// Whether the two motes of a net take their turns alternately, and both give something.
-fn alternate<R: Wait + RandomSource + AllocGlobal>(rt: &R, net: &Net) -> Result<bool, ShareError> {
-    if net.motes() != 2 {
-        return Ok(false);
+/// Fails where the two motes of a net don't take their turns alternately, or one gives nothing.
+fn alternate<R: Wait + RandomSource + AllocGlobal>(rt: &R, net: &Net) -> Result<(), Fail> {
+    if net.motes() == 2 && order_of_turns(rt, net)? == (121212, 2) {
+        return Ok(());
     }
-    Ok(order_of_turns(rt, net)? == (121212, 2))
+    Err(Fail::new(format_args!("otherwise")))
 }
 
 /// The motes of one worker take their turns alternately.
 #[test]
 fn motes_alternate(rt: HostRuntime) -> Result<(), Fail> {
     let net = read_scenario(rt.alloc(), BUSY_PAIR)?;
-    assert!(rt; alternate(&rt, &net)?);
-    Ok(())
+    alternate(&rt, &net)
 }
