@@ -8,7 +8,7 @@ sys.path.insert(0, str(Path(__file__).resolve().parent.parent))
 
 from bodies.faults import is_of, own_faults
 from bodies.functions import Function, functions_in, names_in, owner_of
-from bodies.stated import cited_in, is_one_of, proof_of, types_in
+from bodies.stated import calls_itself, cited_in, is_one_of, proof_of, types_in
 
 
 def rows(text):
@@ -98,6 +98,17 @@ class WhereAProofStands(unittest.TestCase):
         push = Function(1, 1, 'Inbox::push')
         self.assertTrue(is_one_of(push, [Function(0, 0, 'inbox::Inbox::push')]) and is_one_of(push, [push]))
         self.assertFalse(is_one_of(push, [Function(0, 0, 'inbox::Outbox::push'), Function(0, 0, 'Inbox::push_copy')]))
+
+    def calls_itself(self, text):
+        return [calls_itself(it, rows(text)) for it in functions(text)]
+
+    def test_function_that_calls_itself(self):
+        text = 'fn depth(n: u8) -> u8 {\n  depth(n - 1)\n}\nfn push(&mut self) {\n  self.items.push(1);\n  other::push(2)\n}'
+        self.assertEqual(self.calls_itself(text), [True, False])
+
+    def test_method_that_calls_itself(self):
+        text = 'impl Queue {\nfn len(&self) {\n  self.len()\n}\nfn take(&self) {\n  Queue::take(self)\n}\nfn pop(&self) {\n  self.items.pop()\n}\n}'
+        self.assertEqual(self.calls_itself(text), [True, True, False])
 
     def test_cited_answers(self):
         lines = ['use Rattle.c.proofs.a.f.Answers.{lemma}', 'use Rattle.c.proofs.a.g.Goals as goal', 'use Rattle.c.proofs.A.h.Invariants']
