@@ -5,6 +5,7 @@ import sys
 import tempfile
 import types
 import unittest
+import unittest.mock
 from pathlib import Path
 
 sys.dont_write_bytecode = True
@@ -44,6 +45,14 @@ class Foretold(unittest.TestCase):
         progress = build.Progress(CRATES, SECONDS, 4)
         progress.done.append('low')
         self.assertEqual(progress.left_by_shares(), 80)
+
+
+class Commands(unittest.TestCase):
+    def test_a_crate_that_gives_way_is_called_nicely(self):
+        with unittest.mock.patch.object(build, 'guarded', lambda: ['guard']):
+            for gives_way, words in [(False, ['guard']), (True, ['guard', 'nice'])]:
+                build.here.gives_way = gives_way
+                self.assertEqual(build.rt.rtlib.guarded(), words)
 
 
 class Logs(unittest.TestCase):
