@@ -25,3 +25,8 @@ def tokens(file):
     listed = subprocess.run([rtlib.RATTLE, 'fmt', '--tokens', file], capture_output=True, encoding='utf-8')
     rows = [row.split(' ', 4) for row in listed.stdout.split('\n')[1:] if row]
     return [(int(line) - 1, json.loads(text)) for line, _, _, kind, text in rows if kind == 'Code']
+
+
+def is_refusal(answer):
+    """Whether rt's must_fail answers that the prover refuses an edit: some kits say so by a truth value, others by one of two names."""
+    return answer in (getattr(rt, 'REFUSED', True), getattr(rt, 'AT_LIMIT', True))

@@ -2,7 +2,7 @@
 from typing import NamedTuple
 
 from bodies.faults import UNEXPLAINED, is_of, own_faults
-from bodies.kit import rt, rtlib
+from bodies.kit import is_refusal, rt, rtlib
 from bodies.stated import stated
 
 ONE_JOB = ['--jobs', '1']
@@ -20,8 +20,8 @@ def verdicts(bodies, group):
     left = [edit.file for edit in group if edit.file not in refused]
     found = {file: Verdict(True, 'refused: %s' % why) for file, why in refused.items()}
     for file in left:
-        kind, said = rt.must_fail(bodies.crate, file, ONE_JOB)
-        found[file] = Verdict(kind in (rt.REFUSED, rt.AT_LIMIT), said.partition('.edit: ')[2])
+        answer, said = rt.must_fail(bodies.crate, file, ONE_JOB)
+        found[file] = Verdict(is_refusal(answer), said.partition('.edit: ')[2])
     return found
 
 

@@ -1,13 +1,16 @@
 """Tests of how tools/wrong_bodies reads source files and what a check says: python3 -B -m unittest discover tools/tests"""
 import re
 import sys
+import types
 import unittest
+import unittest.mock
 from pathlib import Path
 
 sys.path.insert(0, str(Path(__file__).resolve().parent.parent))
 
 from bodies.faults import is_of, own_faults
 from bodies.functions import Function, functions_in, names_in, owner_of
+from bodies.kit import is_refusal
 from bodies.stated import calls_itself, cited_in, is_one_of, proof_of, types_in
 
 
@@ -155,6 +158,19 @@ class WhatACheckSays(unittest.TestCase):
     def test_proof_that_names_what_is_gone(self):
         lines = ['proofs/queue/post/Answers.antt:4:2: error: it has no field `take`', 'fn c::queue::post: not proved']
         self.assertIn('only because a proof file names', own_faults(lines, {})['c::queue::post'])
+
+
+class AnswersOfTheKit(unittest.TestCase):
+    def told(self, answers, **names):
+        with unittest.mock.patch('bodies.kit.rt', types.SimpleNamespace(**names)):
+            return list(map(is_refusal, answers))
+
+    def test_truth_values(self):
+        self.assertEqual(self.told([True, False]), [True, False])
+
+    def test_names(self):
+        answers = ['refused', 'at a limit', 'proved']
+        self.assertEqual(self.told(answers, REFUSED='refused', AT_LIMIT='at a limit'), [True, True, False])
 
 
 if __name__ == '__main__':
