@@ -17,8 +17,8 @@ use Rattle.copy_exchange.specs.Inboxes.{IsSettled}
 use Rattle.copy_exchange.proofs.Gathers.{OneOf, with_joined}
 use Rattle.copy_exchange.proofs.Homes.{zip_each}
 use Rattle.copy_exchange.proofs.Parts.{from}
-use Rattle.mark_law.specs.Marks.{packets_in}
-use Rattle.mark_law.proofs.Early.{packets_pushes}
+use Rattle.mark_exchange.specs.Pushes.{packets_in}
+use Rattle.mark_exchange.proofs.Early.{packets_pushes}
 use Rattle.worker_share.specs.declared.share.Share.{Share}
 use Rattle.worker_share.specs.Share.{Motes, Keeps}
 use Rattle.worker_crew.specs.declared.crew.Crew.{Crew}

@@ -12,8 +12,8 @@ use Rattle.worker_cut.specs.Crossed.{is_own, is_to}
 use Rattle.copy_inbox.specs.Items.{copies_of, part, BeginsWith}
 use Rattle.copy_inbox.specs.Handles.{SenderView}
 use Rattle.copy_exchange.proofs.Parts.{from, from-append, of_one_sender}
-use Rattle.mark_law.specs.Marks.{packets_in, pushes}
-use Rattle.mark_law.proofs.Early.{packets_append, packets_pushes}
+use Rattle.mark_exchange.specs.Pushes.{packets_in, pushes}
+use Rattle.mark_exchange.proofs.Early.{packets_append, packets_pushes}
 use Rattle.worker_share.specs.Window.{GoesOut}
 use Rattle.worker_crew.proofs.Lookups.{there, inside, read, mapped, same_found, each_at}
 use Rattle.copy_exchange.specs.Couriers.{pushed_list}

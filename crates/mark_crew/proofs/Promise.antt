@@ -13,7 +13,7 @@ use Rattle.copy_inbox.specs.declared.rule.Desk.{Desk}
 use Rattle.copy_inbox.specs.Items.{copies_of, part, OfMade}
 use Rattle.copy_inbox.specs.Views.{make_desk}
 use Rattle.copy_exchange.proofs.Parts.{copies-append}
-use Rattle.mark_law.specs.Marks.{marks_in}
+use Rattle.mark_exchange.specs.Pushes.{marks_in}
 use Rattle.worker_share.specs.declared.share.Share.{Share}
 use Rattle.worker_share.specs.Share.{Keeps}
 use Rattle.worker_share.specs.Window.{RunsWindow, GoesOut}

@@ -10,8 +10,8 @@ use Rattle.window_law.proofs.Lists.{filter_filter, every_filter}
 use Rattle.worker_cut.specs.Crossed.{is_own, is_to}
 use Rattle.copy_inbox.specs.Items.{copies_of, part}
 use Rattle.copy_exchange.proofs.Parts.{from}
-use Rattle.mark_law.specs.Marks.{packets_in, sent_before}
-use Rattle.mark_law.proofs.Early.{early_is_unseen}
+use Rattle.mark_exchange.specs.Pushes.{packets_in, sent_before}
+use Rattle.mark_exchange.proofs.Early.{early_is_unseen}
 use Rattle.worker_crew.specs.Worker.{IsCut}
 use Rattle.worker_crew.proofs.Lookups.{each_at}
 use Rattle.worker_crew.proofs.Step.{own_by}

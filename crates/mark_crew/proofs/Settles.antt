@@ -17,9 +17,9 @@ use Rattle.copy_exchange.specs.Couriers.{AreOpen, pushed_list}
 use Rattle.copy_exchange.specs.Desks.{copies_in, IsOrderly}
 use Rattle.copy_exchange.proofs.Gathers.{OneOf, copies_by, as_gathered, joined, with_joined, all_gathered, stands_then}
 use Rattle.copy_exchange.proofs.Parts.{from}
-use Rattle.mark_law.specs.Marks.{packets_in, pushes, marks_in}
-use Rattle.mark_law.proofs.Early.{packets_pushes}
-use Rattle.mark_law.proofs.Whole.{all_is_taken}
+use Rattle.mark_exchange.specs.Pushes.{packets_in, pushes, marks_in}
+use Rattle.mark_exchange.proofs.Early.{packets_pushes}
+use Rattle.mark_exchange.proofs.Whole.{all_is_taken}
 use Rattle.worker_crew.specs.Worker.{IsCut}
 use Rattle.worker_crew.proofs.Lookups.{each_at, each_from}
 use Rattle.mark_crew.specs.Senders.{AreSenders, after_all}

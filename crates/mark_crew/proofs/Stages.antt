@@ -12,7 +12,7 @@ use Rattle.worker_cut.specs.Crossed.{is_own, is_to, copies_known, leaves}
 use Rattle.worker_cut.specs.Laws.{HasGathered}
 use Rattle.copy_inbox.specs.Items.{copies_of}
 use Rattle.copy_exchange.proofs.Parts.{from, from-append}
-use Rattle.mark_law.specs.Marks.{sent_before}
+use Rattle.mark_exchange.specs.Pushes.{sent_before}
 use Rattle.worker_share.specs.Share.{Motes}
 use Rattle.worker_share.specs.Window.{RunsOwn, copies_out}
 use Rattle.worker_crew.specs.Worker.{IsCut}

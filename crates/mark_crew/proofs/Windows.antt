@@ -17,7 +17,7 @@ use Rattle.copy_inbox.proofs.Parts.{part-append, part-else}
 use Rattle.copy_exchange.specs.Couriers.{IsSeated, Reaches, Stays, pushed_list, pushed_to}
 use Rattle.copy_exchange.proofs.Delivered.{stays_on}
 use Rattle.copy_exchange.proofs.Marked.{marks_stay, stays_same}
-use Rattle.mark_law.specs.Marks.{marks_in}
+use Rattle.mark_exchange.specs.Pushes.{marks_in}
 use Rattle.mark_exchange.specs.Due.{IsDue}
 use Rattle.mark_exchange.proofs.Delivered.{takes_stays, takes_seated}
 use Rattle.worker_share.specs.Share.{Keeps}

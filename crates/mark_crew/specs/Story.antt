@@ -10,7 +10,7 @@ use Rattle.copy_inbox.specs.declared.items.Carried.{Carried}
 use Rattle.copy_inbox.specs.declared.items.Item.{Item}
 use Rattle.copy_inbox.specs.declared.rule.Desk.{Desk}
 use Rattle.copy_inbox.specs.Items.{copies_of, part, OfMade}
-use Rattle.mark_law.specs.Marks.{marks_in, pushes}
+use Rattle.mark_exchange.specs.Pushes.{marks_in, pushes}
 use Rattle.worker_share.specs.declared.share.Share.{Share}
 use Rattle.worker_share.specs.Share.{Motes, Keeps}
 use Rattle.worker_share.specs.Window.{RunsOwn, GoesOut, copies_out}

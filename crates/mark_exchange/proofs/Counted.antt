@@ -15,8 +15,8 @@ use Rattle.copy_exchange.proofs.Lists.{each_join}
 use Rattle.copy_exchange.proofs.Parts.{copies-append}
 use Rattle.mark_exchange.specs.Due.{IsDue, AddsCopy, TakesDue}
 use Rattle.mark_exchange.specs.Marks.{marks_of, Counts, AreNone}
-use Rattle.mark_law.specs.Marks.{marks_in}
-use Rattle.mark_law.proofs.Whole.{marks_append}
+use Rattle.mark_exchange.specs.Pushes.{marks_in}
+use Rattle.mark_exchange.proofs.Whole.{marks_append}
 
 -- ---- marks of what was taken, with one item more
 pub same_read : (xs : List ℕ) (i d e : ℕ) → i < length xs → get_or xs i d ≡ get_or xs i e

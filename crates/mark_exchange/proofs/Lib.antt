@@ -1,2 +1,4 @@
 pub mod Counted
 pub mod Delivered
+pub mod Early
+pub mod Whole

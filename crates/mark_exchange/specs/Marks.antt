@@ -3,7 +3,7 @@ use Rattle.std.specs.Prelude.{◌≡◌, ℕ, ◌<◌, List, length, slice_index
 use Rattle.copy_inbox.specs.declared.items.Item.{Item}
 use Rattle.copy_inbox.specs.declared.rule.Desk.{Desk}
 use Rattle.copy_inbox.specs.Items.{part}
-use Rattle.mark_law.specs.Marks.{marks_in}
+use Rattle.mark_exchange.specs.Pushes.{marks_in}
 
 -- how many marks were taken of the sender numbered s
 abbrev pub marks_of : ℕ → List Item → ℕ

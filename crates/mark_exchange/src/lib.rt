@@ -4,6 +4,7 @@
 
 mod courier;
 mod heard;
+pub mod laws;
 mod take;
 
 pub use courier::MarkCourier;

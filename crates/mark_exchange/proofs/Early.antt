@@ -1,0 +1,97 @@
+-- What came early can't be seen.
+use Rattle.std.proofs.Common.{◌≡◌, ℕ, zero, suc, ◌+◌, ◌-◌, ◌<◌, ◌≤◌, Bool, true, false, List, [], ◌∷◌, ◌++◌, map, filter, refl, sym, ap, ◌∙◌, arith, subst, append_assoc, append-nil}
+use Rattle.std.specs.List.{AllByRecursion as Each}
+use Rattle.std.proofs.lemmas.List.Elements.{filter-append, filter_map-append}
+use Rattle.radio_packet.specs.declared.copy.RadioCopy.{RadioCopy}
+use Rattle.copy_inbox.specs.declared.items.Carried.{Carried}
+use Rattle.copy_inbox.specs.declared.items.Carried.TheVariants.{Packet, Mark}
+use Rattle.copy_inbox.specs.Items.{carried_copy}
+use Rattle.mark_exchange.specs.Pushes.{marks_in, packets_in, pushes, sent_before}
+use Rattle.mark_exchange.specs.Laws.{EarlyIsUnseen}
+use Rattle.mark_exchange.proofs.Whole.{closed, closed_pushes, closed_after, none_closed, marks_pushes}
+
+pub packets_append : (xs ys : List Carried) → packets_in (xs ++ ys) ≡ packets_in xs ++ packets_in ys
+packets_append xs ys = filter_map-append carried_copy xs ys
+
+packets_window : (cs : List RadioCopy) (n : ℕ) → packets_in (map Packet cs ++ Mark n ∷ []) ≡ cs
+packets_window [] n = refl
+packets_window (c ∷ cs) n = ap (λ l. c ∷ l) (packets_window cs n)
+
+pub packets_pushes : (k : ℕ) (sent : ℕ → List RadioCopy) → packets_in (pushes k sent) ≡ sent_before k sent
+packets_pushes zero sent = refl
+packets_pushes (suc k) sent =
+    packets_append (pushes k sent) (map Packet (sent k) ++ Mark k ∷ [])
+    ∙ (ap (λ l. l ++ packets_in (map Packet (sent k) ++ Mark k ∷ [])) (packets_pushes k sent) ∙ ap (λ l. sent_before k sent ++ l) (packets_window (sent k) k))
+
+-- what is pushed from window k on
+abbrev from_window : (k more : ℕ) → (ℕ → List RadioCopy) → List Carried
+from_window k zero sent = []
+from_window k (suc m) sent = from_window k m sent ++ (map Packet (sent (k + m)) ++ Mark (k + m) ∷ [])
+
+pushes_both : (k m : ℕ) (sent : ℕ → List RadioCopy) → pushes (k + m) sent ≡ pushes k sent ++ from_window k m sent
+pushes_both k zero sent = let e : k + zero ≡ k = omega arith in ap (λ n. pushes n sent) e ∙ sym (append-nil (pushes k sent))
+pushes_both k (suc m) sent =
+    let e : k + suc m ≡ suc (k + m) = omega arith in
+    ap (λ n. pushes n sent) e
+    ∙ (ap (λ l. l ++ (map Packet (sent (k + m)) ++ Mark (k + m) ∷ [])) (pushes_both k m sent) ∙ append_assoc (pushes k sent) (from_window k m sent) (map Packet (sent (k + m)) ++ Mark (k + m) ∷ []))
+
+abbrev head_or : Carried → List Carried → Carried
+head_or x [] = x
+head_or x (y ∷ ys) = y
+
+abbrev rest_of : List Carried → List Carried
+rest_of [] = []
+rest_of (y ∷ ys) = ys
+
+-- of two beginnings of one list, that with as many marks goes on where the other ends in a mark
+goes_on : (xs ys taken rest : List Carried) → xs ++ ys ≡ taken ++ rest → closed xs ≡ true → marks_in xs ≤ marks_in taken → (more : List Carried) × (taken ≡ xs ++ more) × (ys ≡ more ++ rest)
+goes_on [] ys taken rest e h m = (taken, refl, e)
+goes_on (x ∷ xs) ys [] rest e h m = absurd (let n = none_closed (x ∷ xs) (omega arith) h in cc)
+goes_on (Packet c ∷ xs) ys (y ∷ taken) rest e h m =
+    let first : Packet c ≡ y = ap (head_or y) e in
+    let same : marks_in (y ∷ taken) ≡ marks_in taken = ap (λ z. marks_in (z ∷ taken)) (sym first) in
+    let r = goes_on xs ys taken rest (ap rest_of e) (closed_after c xs h) (omega arith) in
+    (r.0, ap (λ z. z ∷ taken) (sym first) ∙ ap (λ l. Packet c ∷ l) r.1, r.2)
+goes_on (Mark n ∷ xs) ys (y ∷ taken) rest e h m =
+    let first : Mark n ≡ y = ap (head_or y) e in
+    let same : marks_in (y ∷ taken) ≡ suc (marks_in taken) = ap (λ z. marks_in (z ∷ taken)) (sym first) in
+    let r = goes_on xs ys taken rest (ap rest_of e) h (omega arith) in
+    (r.0, ap (λ z. z ∷ taken) (sym first) ∙ ap (λ l. Mark n ∷ l) r.1, r.2)
+
+module _ (p : RadioCopy → Bool) where
+  abbrev NonePasses : List RadioCopy → Type 0
+  NonePasses xs = Each (λ c. p c ≡ false) xs
+
+  none_passes : (xs ys : List RadioCopy) → NonePasses xs → NonePasses ys → NonePasses (xs ++ ys)
+  none_passes [] ys h k = k
+  none_passes (x ∷ xs) ys h k = (h.0, none_passes xs ys h.1 k)
+
+  front_none : (xs ys : List RadioCopy) → NonePasses (xs ++ ys) → NonePasses xs
+  front_none [] ys h = tt
+  front_none (x ∷ xs) ys h = (h.0, front_none xs ys h.1)
+
+  filter_none : (xs : List RadioCopy) → NonePasses xs → filter p xs ≡ []
+  filter_none [] h = refl
+  filter_none (x ∷ xs) h = rw h.0 (filter_none xs h.1)
+
+  later_none : (k m : ℕ) (sent : ℕ → List RadioCopy) → ((j : ℕ) → k ≤ j → j < k + m → NonePasses (sent j)) → NonePasses (packets_in (from_window k m sent))
+  later_none k zero sent h = tt
+  later_none k (suc m) sent h =
+      let one : NonePasses (packets_in (map Packet (sent (k + m)) ++ Mark (k + m) ∷ [])) = subst NonePasses (sym (packets_window (sent (k + m)) (k + m))) (h (k + m) (omega arith) (omega arith)) in
+      subst NonePasses (sym (packets_append (from_window k m sent) (map Packet (sent (k + m)) ++ Mark (k + m) ∷ [])))
+      (none_passes (packets_in (from_window k m sent)) (packets_in (map Packet (sent (k + m)) ++ Mark (k + m) ∷ [])) (later_none k m sent (λ j le lt. h j le (omega arith))) one)
+
+  unseen : (windows k m : ℕ) (sent : ℕ → List RadioCopy) (taken rest : List Carried) → windows ≡ k + m → pushes windows sent ≡ taken ++ rest → k ≤ marks_in taken
+      → ((j : ℕ) → k ≤ j → j < k + m → NonePasses (sent j)) → filter p (packets_in taken) ≡ filter p (sent_before k sent)
+  unseen windows k m sent taken rest is e low h =
+      let f = sym (pushes_both k m sent) ∙ (ap (λ i. pushes i sent) (sym is) ∙ e) in
+      let g = goes_on (pushes k sent) (from_window k m sent) taken rest f (closed_pushes k sent) (let c = marks_pushes k sent in omega arith) in
+      let none = front_none (packets_in g.0) (packets_in rest) (subst NonePasses (ap packets_in g.2 ∙ packets_append g.0 rest) (later_none k m sent h)) in
+      ap (λ l. filter p (packets_in l)) g.1
+      ∙ (ap (filter p) (packets_append (pushes k sent) g.0 ∙ ap (λ l. l ++ packets_in g.0) (packets_pushes k sent))
+      ∙ (filter-append p (sent_before k sent) (packets_in g.0)
+      ∙ (ap (λ l. filter p (sent_before k sent) ++ l) (filter_none (packets_in g.0) none) ∙ append-nil (filter p (sent_before k sent)))))
+
+pub early_is_unseen : EarlyIsUnseen
+early_is_unseen sees windows window sent taken within begins lead none =
+    unseen sees windows window (windows - window) sent taken begins.0 (omega arith) begins.1 lead (λ j le lt. none j le (omega arith))

@@ -1,0 +1,14 @@
+//! Laws of marks. Each is the contract of a function that does nothing.
+
+ghost use Rattle.mark_exchange.specs.Laws.{AllIsTaken, EarlyIsUnseen};
+
+/// Once every mark of a sender has come, all that the sender pushed was taken.
+pub fn all_is_taken()
+    ensures { AllIsTaken }
+{}
+
+/// Copies that are taken early do no harm where a window can't see them. What was taken of a sender, as long as it
+/// has the mark of each window before this one, shows the window the copies that were sent before it, and no others.
+pub fn early_is_unseen()
+    ensures { EarlyIsUnseen }
+{}
