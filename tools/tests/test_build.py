@@ -55,6 +55,20 @@ class Commands(unittest.TestCase):
                 self.assertEqual(build.rt.rtlib.guarded(), words)
 
 
+class Libraries(unittest.TestCase):
+    def test_a_library_that_is_proved_is_the_kits_own_until_a_source_changes(self):
+        with tempfile.TemporaryDirectory() as room:
+            crate = build.Crate.__new__(build.Crate)
+            crate.rlib = room + '/out/rlib/low.rlib'
+            crate.stamp, crate.words = lambda: 'sum', lambda flags, keeps: ['words', *flags]
+            for status, is_stamped in [(1, False), (0, True), (1, False)]:
+                crate.call = lambda *words, status=status: self.called.append(words[1:]) or status
+                self.called = []
+                self.assertEqual(crate.write_rlib(['--jobs', '2']), status)
+                self.assertEqual(self.called, [('build', 'words', '--jobs', '2', '--statements', '-o', crate.rlib)])
+                self.assertEqual(Path(crate.rlib).with_name('stamp').is_file(), is_stamped)
+
+
 class Logs(unittest.TestCase):
     def test_a_log_tells_how_much_is_checked(self):
         with tempfile.TemporaryDirectory() as room:
