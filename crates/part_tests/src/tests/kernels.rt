@@ -162,47 +162,49 @@ fn tells(alloc: Global, program: &str, acts: &[Act], want: &str) -> Result<(), F
     same_text(told.as_str(), want)
 }
 
+/// Programs, what is done to their kernels, and what is written of that.
+const CASES: [(&str, &[Act], &str); 4] = [
+    (
+        SENDER,
+        &[Act::Look, Act::Boot, Act::Look],
+        "7 false false false None|Left(0)|0 Start(Etimer)|0 Start(Ctimer)|0 Start(Radio)|0 Start(Own(0))|0 Send(0, 12)|sent 0 7 0 12|7 true false false None|",
+    ),
+    // A mote that has halted stays so, and writes nothing more.
+    (
+        RUNAWAY,
+        &[Act::Boot, Act::Look, Act::RunOut(1)],
+        "Halted|0 Start(Etimer)|0 Start(Ctimer)|0 Start(Radio)|0 Start(Own(0))|0 Halt|7 true true false None|Halted|",
+    ),
+    // The ring holds eight packets, and the ninth and tenth are refused.
+    (
+        RECEIVER,
+        &[
+            Act::Boot,
+            Act::Packets(10),
+            Act::Look,
+            Act::Poll(Proc::Radio),
+            Act::Look,
+            Act::RunOut(2),
+        ],
+        "Left(0)|0 Start(Etimer)|0 Start(Ctimer)|0 Start(Radio)|0 Start(Own(0))|8 taken|7 true false false None|7 true false true None|Left(0)|2 Post(0, One(Own(0)), 138, 0)|2 Post(1, One(Own(0)), 138, 1)|2 Post(2, One(Own(0)), 138, 2)|2 Post(3, One(Own(0)), 138, 3)|2 Post(4, One(Own(0)), 138, 4)|2 Post(5, One(Own(0)), 138, 5)|2 Post(6, One(Own(0)), 138, 6)|2 Post(7, One(Own(0)), 138, 7)|2 Take(0, Own(0))|2 Print(Own(0), 3)|2 Print(Own(0), 0)|2 Take(1, Own(0))|2 Print(Own(0), 3)|2 Print(Own(0), 1)|2 Take(2, Own(0))|2 Print(Own(0), 3)|2 Print(Own(0), 2)|2 Take(3, Own(0))|2 Print(Own(0), 3)|2 Print(Own(0), 3)|2 Take(4, Own(0))|2 Print(Own(0), 3)|2 Print(Own(0), 4)|2 Take(5, Own(0))|2 Print(Own(0), 3)|2 Print(Own(0), 5)|2 Take(6, Own(0))|2 Print(Own(0), 3)|2 Print(Own(0), 6)|2 Take(7, Own(0))|2 Print(Own(0), 3)|2 Print(Own(0), 7)|",
+    ),
+    // Nobody receives the packets of a program that has no receiver.
+    (
+        SENDER,
+        &[
+            Act::Boot,
+            Act::Packets(1),
+            Act::Poll(Proc::Radio),
+            Act::RunOut(2),
+        ],
+        "Left(0)|0 Start(Etimer)|0 Start(Ctimer)|0 Start(Radio)|0 Start(Own(0))|0 Send(0, 12)|sent 0 7 0 12|1 taken|Left(0)|2 Deaf(3, 0)|",
+    ),
+];
+
 /// What kernels answer and write.
 #[test]
 fn kernels_by_hand(rt: HostRuntime) -> Result<(), Fail> {
-    let cases: [(&str, &[Act], &str); 4] = [
-        (
-            SENDER,
-            &[Act::Look, Act::Boot, Act::Look],
-            "7 false false false None|Left(0)|0 Start(Etimer)|0 Start(Ctimer)|0 Start(Radio)|0 Start(Own(0))|0 Send(0, 12)|sent 0 7 0 12|7 true false false None|",
-        ),
-        // A mote that has halted stays so, and writes nothing more.
-        (
-            RUNAWAY,
-            &[Act::Boot, Act::Look, Act::RunOut(1)],
-            "Halted|0 Start(Etimer)|0 Start(Ctimer)|0 Start(Radio)|0 Start(Own(0))|0 Halt|7 true true false None|Halted|",
-        ),
-        // The ring holds eight packets, and the ninth and tenth are refused.
-        (
-            RECEIVER,
-            &[
-                Act::Boot,
-                Act::Packets(10),
-                Act::Look,
-                Act::Poll(Proc::Radio),
-                Act::Look,
-                Act::RunOut(2),
-            ],
-            "Left(0)|0 Start(Etimer)|0 Start(Ctimer)|0 Start(Radio)|0 Start(Own(0))|8 taken|7 true false false None|7 true false true None|Left(0)|2 Post(0, One(Own(0)), 138, 0)|2 Post(1, One(Own(0)), 138, 1)|2 Post(2, One(Own(0)), 138, 2)|2 Post(3, One(Own(0)), 138, 3)|2 Post(4, One(Own(0)), 138, 4)|2 Post(5, One(Own(0)), 138, 5)|2 Post(6, One(Own(0)), 138, 6)|2 Post(7, One(Own(0)), 138, 7)|2 Take(0, Own(0))|2 Print(Own(0), 3)|2 Print(Own(0), 0)|2 Take(1, Own(0))|2 Print(Own(0), 3)|2 Print(Own(0), 1)|2 Take(2, Own(0))|2 Print(Own(0), 3)|2 Print(Own(0), 2)|2 Take(3, Own(0))|2 Print(Own(0), 3)|2 Print(Own(0), 3)|2 Take(4, Own(0))|2 Print(Own(0), 3)|2 Print(Own(0), 4)|2 Take(5, Own(0))|2 Print(Own(0), 3)|2 Print(Own(0), 5)|2 Take(6, Own(0))|2 Print(Own(0), 3)|2 Print(Own(0), 6)|2 Take(7, Own(0))|2 Print(Own(0), 3)|2 Print(Own(0), 7)|",
-        ),
-        // Nobody receives the packets of a program that has no receiver.
-        (
-            SENDER,
-            &[
-                Act::Boot,
-                Act::Packets(1),
-                Act::Poll(Proc::Radio),
-                Act::RunOut(2),
-            ],
-            "Left(0)|0 Start(Etimer)|0 Start(Ctimer)|0 Start(Radio)|0 Start(Own(0))|0 Send(0, 12)|sent 0 7 0 12|1 taken|Left(0)|2 Deaf(3, 0)|",
-        ),
-    ];
-    for (program, acts, want) in cases {
+    for (program, acts, want) in CASES {
         tells(rt.alloc(), program, acts, want)?;
     }
     Ok(())

@@ -67,10 +67,11 @@ enum Act {
 /// INIT of `process.h`.
 const INIT: Act = Act::Event(0x81, 0);
 
-/// MSG of `process.h`, with a word.
-const fn message(word: u16) -> Act {
-    Act::Event(0x86, word)
-}
+/// MSG of `process.h`, with the word 0.
+const MSG_0: Act = Act::Event(0x86, 0);
+
+/// And with the word 1.
+const MSG_1: Act = Act::Event(0x86, 1);
 
 /// A thread with its variables and units.
 #[derive(Drop)]
@@ -146,125 +147,120 @@ fn tells(alloc: Global, program: &str, units: u32, acts: &[Act], want: &str) -> 
     same_text(told.as_str(), want)
 }
 
+/// CONTINUE of `process.h`, with a word.
+const GO_ON: Act = Act::Event(0x85, 3);
+
+/// Programs with their units, what is done with them, and what is written of that.
+const CASES: [(&str, u32, &[Act], &str); 13] = [
+    // From wait to wait.
+    (
+        "process a; code a { body { print 1; yield; print 2; } }",
+        100,
+        &[INIT; 5],
+        "Op(Print(1)) 99|Done(Yielded) 98|Op(Print(2)) 96|Done(Ended) 96|Op(Print(1)) 95|",
+    ),
+    // The first event has the word 0 already, and the thread yields nevertheless.
+    (
+        "process a; code a { body { yield_until (data == 0); print 1; } }",
+        100,
+        &[MSG_0, MSG_1, MSG_0, MSG_0],
+        "Done(Yielded) 99|Done(Yielded) 98|Op(Print(1)) 96|Done(Ended) 96|",
+    ),
+    // An endless loop runs away, and no later with more units. What its variable has, `onexit` prints.
+    (
+        "process a; code a { var x = 0; onexit { print x; } body { while 1 { x = (x + 1); } } }",
+        9_996,
+        &[INIT, Act::Units(100), INIT, Act::Begin(Part::OnExit), INIT],
+        "Runaway 0|Runaway 100|Op(Print(4998)) 99|",
+    ),
+    // A loop ends within its units. Of 10,000 units the first call at boot has 9,996: the three system
+    // processes and the process itself were called.
+    (
+        "process a; code a { var i = 0; body { while (i < 4996) { i = (i + 1); } print i; yield; } }",
+        9_996,
+        &[INIT; 2],
+        "Op(Print(4996)) 2|Done(Yielded) 1|",
+    ),
+    // With one pass more there are no units left to yield.
+    (
+        "process a; code a { var i = 0; body { while (i < 4997) { i = (i + 1); } print i; yield; } }",
+        9_996,
+        &[INIT; 2],
+        "Op(Print(4997)) 0|Runaway 0|",
+    ),
+    // Both ways of an `if`.
+    (
+        "process a; code a { body { if 0 { print 1; } else { print 2; } if 7 { print 3; } else { print 4; } if 0 { print 5; } print 6; } }",
+        10,
+        &[INIT; 4],
+        "Op(Print(2)) 8|Op(Print(3)) 6|Op(Print(6)) 4|Done(Ended) 4|",
+    ),
+    // A variable has its first value, and outlives the body.
+    (
+        "process a; code a { var n = 5; body { n = (n + 1); yield; print n; } }",
+        10,
+        &[INIT; 5],
+        "Done(Yielded) 8|Op(Print(6)) 6|Done(Ended) 6|Done(Yielded) 4|Op(Print(7)) 2|",
+    ),
+    // It goes on where it stood, in a loop of a loop that waits inside an `if`, three levels deep.
+    (
+        "process a; code a { var i = 0; body { while (i < 2) { i = (i + 1); if (i == 2) { print 8; } else { while data { yield; print i; } } print 9; } } }",
+        100,
+        &[MSG_1, MSG_1, MSG_1, MSG_0, MSG_0, MSG_0, MSG_0, MSG_0],
+        "Done(Yielded) 95|Op(Print(1)) 93|Done(Yielded) 91|Op(Print(1)) 89|Op(Print(9)) 87|Op(Print(8)) 83|Op(Print(9)) 82|Done(Ended) 81|",
+    ),
+    // The three calls of the body answer 0, 0 and 3. Each later call pays for the two spawns that it passes.
+    (
+        "process a; autostart a; code a { var n = 0; thread c { n = (n + 1); if (n == 1) { poll a; yield; poll a; restart; } print n; exit; print 8; } thread d { spawn c; print 7; } body { spawn d; print 6; } }",
+        100,
+        &[INIT; 8],
+        "Op(Poll(Own(0))) 95|Done(Waiting) 94|Op(Poll(Own(0))) 90|Done(Waiting) 89|Op(Print(2)) 84|Op(Print(7)) 82|Op(Print(6)) 81|Done(Ended) 81|",
+    ),
+    // The answer of a pause's post isn't asked for, and any CONTINUE ends the wait.
+    (
+        "process a; code a { var v = 7; body { pause; print v; exit; print 9; } }",
+        10,
+        &[INIT, Act::Answer(1), INIT, INIT, GO_ON, GO_ON],
+        "Op(Post(One(Own(0)), 133, 0)) 9|Done(Yielded) 9|Done(Yielded) 8|Op(Print(7)) 6|Done(Exited) 5|",
+    ),
+    // Only the variable behind `into` is told the answer.
+    (
+        "event e; process a, b; code a { var v = 7; body { post b e 5 into v; print v; broadcast msg 6; print v; synch b exit 2; } } code b { body { } }",
+        10,
+        &[INIT, Act::Answer(1), INIT, INIT, Act::Answer(0), INIT, INIT],
+        "Op(Post(One(Own(1)), 139, 5)) 9|Op(Print(1)) 8|Op(Post(All, 134, 6)) 7|Op(Print(1)) 6|Op(Synch(Own(1), 131, 2)) 5|",
+    ),
+    // The look has a count of 4 for semaphore 0, and of 0 for any other.
+    (
+        "semaphore s = 4; semaphore t = 0; process a; code a { body { acquire s; signal t; acquire t; } }",
+        10,
+        &[INIT; 4],
+        "Op(Take(0)) 9|Op(Signal(1)) 8|Done(Waiting) 7|Done(Waiting) 6|",
+    ),
+    // A part that the text lacks is an empty block.
+    (
+        "process a; code a { ctimer c { print 5; } onexit { print 6; } body { print 7; } }",
+        10,
+        &[
+            Act::Begin(Part::OnPoll),
+            INIT,
+            Act::Begin(Part::Callback(1)),
+            INIT,
+            Act::Begin(Part::Callback(0)),
+            INIT,
+            Act::Begin(Part::OnExit),
+            INIT,
+            Act::Begin(Part::Body),
+            INIT,
+        ],
+        "Done(Ended) 10|Done(Ended) 10|Op(Print(5)) 9|Op(Print(6)) 8|Op(Print(7)) 7|",
+    ),
+];
+
 /// What threads do, call by call.
 #[test]
 fn steps_of_threads(rt: HostRuntime) -> Result<(), Fail> {
-    let go_on = Act::Event(0x85, 3);
-    let cases: [(&str, u32, &[Act], &str); 13] = [
-        // From wait to wait.
-        (
-            "process a; code a { body { print 1; yield; print 2; } }",
-            100,
-            &[INIT; 5],
-            "Op(Print(1)) 99|Done(Yielded) 98|Op(Print(2)) 96|Done(Ended) 96|Op(Print(1)) 95|",
-        ),
-        // The first event has the word 0 already, and the thread yields nevertheless.
-        (
-            "process a; code a { body { yield_until (data == 0); print 1; } }",
-            100,
-            &[message(0), message(1), message(0), message(0)],
-            "Done(Yielded) 99|Done(Yielded) 98|Op(Print(1)) 96|Done(Ended) 96|",
-        ),
-        // An endless loop runs away, and no later with more units. What its variable has, `onexit` prints.
-        (
-            "process a; code a { var x = 0; onexit { print x; } body { while 1 { x = (x + 1); } } }",
-            9_996,
-            &[INIT, Act::Units(100), INIT, Act::Begin(Part::OnExit), INIT],
-            "Runaway 0|Runaway 100|Op(Print(4998)) 99|",
-        ),
-        // A loop ends within its units. Of 10,000 units the first call at boot has 9,996: the three system
-        // processes and the process itself were called.
-        (
-            "process a; code a { var i = 0; body { while (i < 4996) { i = (i + 1); } print i; yield; } }",
-            9_996,
-            &[INIT; 2],
-            "Op(Print(4996)) 2|Done(Yielded) 1|",
-        ),
-        // With one pass more there are no units left to yield.
-        (
-            "process a; code a { var i = 0; body { while (i < 4997) { i = (i + 1); } print i; yield; } }",
-            9_996,
-            &[INIT; 2],
-            "Op(Print(4997)) 0|Runaway 0|",
-        ),
-        // Both ways of an `if`.
-        (
-            "process a; code a { body { if 0 { print 1; } else { print 2; } if 7 { print 3; } else { print 4; } if 0 { print 5; } print 6; } }",
-            10,
-            &[INIT; 4],
-            "Op(Print(2)) 8|Op(Print(3)) 6|Op(Print(6)) 4|Done(Ended) 4|",
-        ),
-        // A variable has its first value, and outlives the body.
-        (
-            "process a; code a { var n = 5; body { n = (n + 1); yield; print n; } }",
-            10,
-            &[INIT; 5],
-            "Done(Yielded) 8|Op(Print(6)) 6|Done(Ended) 6|Done(Yielded) 4|Op(Print(7)) 2|",
-        ),
-        // It goes on where it stood, in a loop of a loop that waits inside an `if`, three levels deep.
-        (
-            "process a; code a { var i = 0; body { while (i < 2) { i = (i + 1); if (i == 2) { print 8; } else { while data { yield; print i; } } print 9; } } }",
-            100,
-            &[
-                message(1),
-                message(1),
-                message(1),
-                message(0),
-                message(0),
-                message(0),
-                message(0),
-                message(0),
-            ],
-            "Done(Yielded) 95|Op(Print(1)) 93|Done(Yielded) 91|Op(Print(1)) 89|Op(Print(9)) 87|Op(Print(8)) 83|Op(Print(9)) 82|Done(Ended) 81|",
-        ),
-        // The three calls of the body answer 0, 0 and 3. Each later call pays for the two spawns that it passes.
-        (
-            "process a; autostart a; code a { var n = 0; thread c { n = (n + 1); if (n == 1) { poll a; yield; poll a; restart; } print n; exit; print 8; } thread d { spawn c; print 7; } body { spawn d; print 6; } }",
-            100,
-            &[INIT; 8],
-            "Op(Poll(Own(0))) 95|Done(Waiting) 94|Op(Poll(Own(0))) 90|Done(Waiting) 89|Op(Print(2)) 84|Op(Print(7)) 82|Op(Print(6)) 81|Done(Ended) 81|",
-        ),
-        // The answer of a pause's post isn't asked for, and any CONTINUE ends the wait.
-        (
-            "process a; code a { var v = 7; body { pause; print v; exit; print 9; } }",
-            10,
-            &[INIT, Act::Answer(1), INIT, INIT, go_on, go_on],
-            "Op(Post(One(Own(0)), 133, 0)) 9|Done(Yielded) 9|Done(Yielded) 8|Op(Print(7)) 6|Done(Exited) 5|",
-        ),
-        // Only the variable behind `into` is told the answer.
-        (
-            "event e; process a, b; code a { var v = 7; body { post b e 5 into v; print v; broadcast msg 6; print v; synch b exit 2; } } code b { body { } }",
-            10,
-            &[INIT, Act::Answer(1), INIT, INIT, Act::Answer(0), INIT, INIT],
-            "Op(Post(One(Own(1)), 139, 5)) 9|Op(Print(1)) 8|Op(Post(All, 134, 6)) 7|Op(Print(1)) 6|Op(Synch(Own(1), 131, 2)) 5|",
-        ),
-        // The look has a count of 4 for semaphore 0, and of 0 for any other.
-        (
-            "semaphore s = 4; semaphore t = 0; process a; code a { body { acquire s; signal t; acquire t; } }",
-            10,
-            &[INIT; 4],
-            "Op(Take(0)) 9|Op(Signal(1)) 8|Done(Waiting) 7|Done(Waiting) 6|",
-        ),
-        // A part that the text lacks is an empty block.
-        (
-            "process a; code a { ctimer c { print 5; } onexit { print 6; } body { print 7; } }",
-            10,
-            &[
-                Act::Begin(Part::OnPoll),
-                INIT,
-                Act::Begin(Part::Callback(1)),
-                INIT,
-                Act::Begin(Part::Callback(0)),
-                INIT,
-                Act::Begin(Part::OnExit),
-                INIT,
-                Act::Begin(Part::Body),
-                INIT,
-            ],
-            "Done(Ended) 10|Done(Ended) 10|Op(Print(5)) 9|Op(Print(6)) 8|Op(Print(7)) 7|",
-        ),
-    ];
-    for (program, units, acts, want) in cases {
+    for (program, units, acts, want) in CASES {
         tells(rt.alloc(), program, units, acts, want)?;
     }
     Ok(())
@@ -305,33 +301,36 @@ fn value_of(alloc: Global, expression: &str) -> Result<Option<u16>, Fail> {
     Ok(printed(program.process(0)))
 }
 
+/// Expressions with their values.
+const VALUES: [(&str, u16); 23] = [
+    ("(65535 + 2)", 1),
+    ("(1 - 2)", 65_535),
+    ("(257 * 256)", 256),
+    ("(7 / 2)", 3),
+    ("(7 / 0)", 0),
+    ("(7 % 4)", 3),
+    ("(7 % 0)", 0),
+    ("(2 == 2)", 1),
+    ("(2 != 2)", 0),
+    ("(2 < 3)", 1),
+    ("(3 <= 2)", 0),
+    ("(3 > 3)", 0),
+    ("(3 >= 3)", 1),
+    ("(2 && 4)", 1),
+    ("(2 && 0)", 0),
+    ("(0 || 4)", 1),
+    ("(0 || 0)", 0),
+    ("!0", 1),
+    ("!5", 0),
+    ("data", 258),
+    ("from", 3),
+    ("now", 5),
+    ("self", 9),
+];
+
 #[test]
 fn values_are_of_16_bits(rt: HostRuntime) -> Result<(), Fail> {
-    for (expression, value) in [
-        ("(65535 + 2)", 1),
-        ("(1 - 2)", 65_535),
-        ("(257 * 256)", 256),
-        ("(7 / 2)", 3),
-        ("(7 / 0)", 0),
-        ("(7 % 4)", 3),
-        ("(7 % 0)", 0),
-        ("(2 == 2)", 1),
-        ("(2 != 2)", 0),
-        ("(2 < 3)", 1),
-        ("(3 <= 2)", 0),
-        ("(3 > 3)", 0),
-        ("(3 >= 3)", 1),
-        ("(2 && 4)", 1),
-        ("(2 && 0)", 0),
-        ("(0 || 4)", 1),
-        ("(0 || 0)", 0),
-        ("!0", 1),
-        ("!5", 0),
-        ("data", 258),
-        ("from", 3),
-        ("now", 5),
-        ("self", 9),
-    ] {
+    for (expression, value) in VALUES {
         assert!(rt;
             value_of(rt.alloc(), expression)? == Some(value),
             "{expression}"

@@ -25,6 +25,8 @@ const A: Proc = Proc::Own(0);
 
 const ALL: Target = Target::All;
 
+const TO_A: Target = Target::One(A);
+
 fn line(at: u64, what: What) -> Line {
     Line { at, what }
 }
@@ -51,60 +53,83 @@ fn same_bytes(told: &[u8], want: &str) -> Result<(), Fail> {
     }
 }
 
-/// Writes the report of one mote with this trace, behind what is written.
-fn write_trace(alloc: Global, net: &Net, trace: &[Line], output: &mut Vec<u8>) -> Result<(), Fail> {
+/// The lines of what happens at which moment.
+fn lines_of(alloc: Global, happens: &[(u64, What)]) -> Result<Vec<Line>, AllocError> {
+    let mut lines = Vec::new(alloc);
+    for (at, what) in happens {
+        lines.push(line(*at, *what))?;
+    }
+    Ok(lines)
+}
+
+/// The report of one mote in which this happens.
+fn report_of(alloc: Global, happens: &[(u64, What)]) -> Result<Report, AllocError>
+    ensures { IfOk result (λ r. vec_len r.traces ≡ 1) }
+{
+    let lines = lines_of(alloc, happens)?;
+    report_of_one(alloc, lines.as_slice())
+}
+
+/// Writes the report of one mote in which this happens, behind what is written.
+fn write_trace(
+    alloc: Global,
+    net: &Net,
+    happens: &[(u64, What)],
+    output: &mut Vec<u8>,
+) -> Result<(), Fail> {
     if net.motes() != 1 {
         return Err(Fail::new(format_args!("not one mote")));
     }
-    let report = report_of_one(alloc, trace)?;
+    let report = report_of(alloc, happens)?;
     Ok(write_report(alloc, net, &report, output)?)
 }
 
+/// What happens at which moment, by its kind.
+const KINDS: [&[(u64, What)]; 4] = [
+    // Lines of processes.
+    &[
+        (0, What::Start(A)),
+        (0, What::Start(Proc::Etimer)),
+        (0, What::Start(Proc::Ctimer)),
+        (0, What::Start(Proc::Radio)),
+        (5, What::Leave(A)),
+        (2, What::Print(A, 192)),
+        (0, What::Busy(Proc::Own(1))),
+        (0, What::Halt),
+    ],
+    // Lines of events.
+    &[
+        (0, What::Post(0, TO_A, 0x86, 7)),
+        (0, What::Post(3, ALL, 0x89, 7)),
+        (2, What::Post(1, Target::One(Proc::Ctimer), 0x88, 1)),
+        (0, What::Full(TO_A, 0x86, 32)),
+        (0, What::Take(32, A)),
+        (0, What::Drop(0, Proc::Radio)),
+    ],
+    // Words of events.
+    &[
+        (0, What::Full(ALL, 0x81, 0)),
+        (0, What::Full(ALL, 0x82, 0)),
+        (0, What::Full(ALL, 0x83, 0)),
+        (0, What::Full(ALL, 0x85, 0)),
+        (0, What::Full(ALL, 0x87, 1)),
+        (0, What::Full(ALL, 0x8a, 5)),
+        (0, What::Full(ALL, 0x8c, 9)),
+    ],
+    // Lines of packets.
+    &[
+        (0, What::Send(0, 5)),
+        (2, What::Recv(2, 0, 7)),
+        (3, What::Lost(0, 8)),
+        (2, What::Deaf(4, 0)),
+        (2, What::Collide(2, 0)),
+    ],
+];
+
 /// Writes a report for each kind of lines, of a net of one mote.
 fn write_kinds(alloc: Global, net: &Net, output: &mut Vec<u8>) -> Result<(), Fail> {
-    let to_a = Target::One(A);
-    let kinds: [&[Line]; 4] = [
-        // Lines of processes.
-        &[
-            line(0, What::Start(A)),
-            line(0, What::Start(Proc::Etimer)),
-            line(0, What::Start(Proc::Ctimer)),
-            line(0, What::Start(Proc::Radio)),
-            line(5, What::Leave(A)),
-            line(2, What::Print(A, 192)),
-            line(0, What::Busy(Proc::Own(1))),
-            line(0, What::Halt),
-        ],
-        // Lines of events.
-        &[
-            line(0, What::Post(0, to_a, 0x86, 7)),
-            line(0, What::Post(3, ALL, 0x89, 7)),
-            line(2, What::Post(1, Target::One(Proc::Ctimer), 0x88, 1)),
-            line(0, What::Full(to_a, 0x86, 32)),
-            line(0, What::Take(32, A)),
-            line(0, What::Drop(0, Proc::Radio)),
-        ],
-        // Words of events.
-        &[
-            line(0, What::Full(ALL, 0x81, 0)),
-            line(0, What::Full(ALL, 0x82, 0)),
-            line(0, What::Full(ALL, 0x83, 0)),
-            line(0, What::Full(ALL, 0x85, 0)),
-            line(0, What::Full(ALL, 0x87, 1)),
-            line(0, What::Full(ALL, 0x8a, 5)),
-            line(0, What::Full(ALL, 0x8c, 9)),
-        ],
-        // Lines of packets.
-        &[
-            line(0, What::Send(0, 5)),
-            line(2, What::Recv(2, 0, 7)),
-            line(3, What::Lost(0, 8)),
-            line(2, What::Deaf(4, 0)),
-            line(2, What::Collide(2, 0)),
-        ],
-    ];
-    for trace in kinds {
-        write_trace(alloc, net, trace, output)?;
+    for happens in KINDS {
+        write_trace(alloc, net, happens, output)?;
     }
     Ok(())
 }
