@@ -47,6 +47,27 @@ class Foretold(unittest.TestCase):
         self.assertEqual(progress.left_by_shares(), 80)
 
 
+class Jobs(unittest.TestCase):
+    def asked(self, crate, ready, running, done=()):
+        progress = build.Progress(CRATES, SECONDS, 4)
+        progress.done.extend(done)
+        return build.jobs_of(crate, ready, running, build.chains(CRATES, SECONDS), progress)
+
+    def test_the_crate_that_all_wait_for_has_all_processors(self):
+        self.assertEqual(self.asked(LOW, [LOW, SIDE], []), (4, False))
+        self.assertEqual(self.asked(MIDDLE, [MIDDLE], [SIDE], ['low']), (4, False))
+
+    def test_another_one_has_a_part_of_the_idle_ones_and_gives_way(self):
+        self.assertEqual(self.asked(SIDE, [SIDE], [LOW]), (3, True))
+        self.assertEqual(self.asked(SIDE, [SIDE, MIDDLE], [LOW]), (1, True))
+
+    def test_a_crate_that_is_nearly_proved_holds_up_no_longer_than_that(self):
+        progress = build.Progress(CRATES, SECONDS, 4)
+        with unittest.mock.patch.object(progress, 'left_of', lambda it: 0 if it is LOW else SECONDS[it.name]):
+            behind = {**build.chains(CRATES, SECONDS), 'side': 90}
+            self.assertEqual(build.jobs_of(SIDE, [SIDE], [LOW], behind, progress), (4, False))
+
+
 class Commands(unittest.TestCase):
     def test_a_crate_that_gives_way_is_called_nicely(self):
         with unittest.mock.patch.object(build, 'guarded', lambda: ['guard']):
