@@ -146,19 +146,35 @@ impl Agenda {
         Ok(())
     }
 
+    /// Takes out all that is to come to a mote at a moment. Its packets take the place of what the list has, in order.
+    pub fn take_due_into(
+        &mut self,
+        moment: u64,
+        mote: u16,
+        arrivals: &mut Vec<Arrival>,
+    ) -> Result<(), AllocError>
+        ensures copies { OnOk result ((items : List Item) → Holds self.old.buckets items → arrivals.new.items ≡ arrivals_at moment mote items) }
+        ensures rest { (items : List Item) → Holds self.old.buckets items → Holds self.new.buckets (filter (λ item. not (comes_at moment mote item)) items) }
+    {
+        let Some(bucket) = self.buckets.get_mut(&moment) else {
+            arrivals.clear();
+            return Ok(());
+        };
+        let taken = bucket.take(mote, arrivals);
+        if bucket.is_empty() {
+            let _bucket = self.buckets.remove(&moment);
+        }
+        taken
+    }
+
     /// Takes out all that is to come to a mote at a moment: its packets, in order.
     pub fn take_due(&mut self, moment: u64, mote: u16) -> Result<Vec<Arrival>, AllocError>
         ensures copies { IfOk result (λ arrivals. (items : List Item) → Holds self.old.buckets items → arrivals.items ≡ arrivals_at moment mote items) }
         ensures rest { (items : List Item) → Holds self.old.buckets items → Holds self.new.buckets (filter (λ item. not (comes_at moment mote item)) items) }
     {
-        let Some(bucket) = self.buckets.get_mut(&moment) else {
-            return Ok(Vec::new(self.alloc));
-        };
-        let arrivals = bucket.take(self.alloc, mote);
-        if bucket.is_empty() {
-            let _bucket = self.buckets.remove(&moment);
-        }
-        arrivals
+        let mut arrivals = Vec::new(self.alloc);
+        self.take_due_into(moment, mote, &mut arrivals)?;
+        Ok(arrivals)
     }
 
     /// The moment and the mote of what is to come first.

@@ -34,6 +34,8 @@ pub struct Engine {
     pub traces: Vec<Vec<Line>>,
     pub log: Vec<LogLine>,
     pub agenda: Agenda,
+    /// The packets of the last turn; the next turn's take their room.
+    pub arrivals: Vec<Arrival>,
     /// What the last turn told; the next turn writes into its room.
     pub out: TurnOut,
 }
@@ -120,6 +122,7 @@ impl Engine {
             traces: Vec::new(alloc),
             log: Vec::new(alloc),
             agenda: Agenda::new(alloc),
+            arrivals: Vec::new(alloc),
             out: TurnOut::new(alloc),
         };
         for number in 0..net.motes() {
@@ -140,14 +143,15 @@ impl Engine {
         ensures stands { let n = net_of net.now in OnOk result ((state : NetState Node Line) → StandsAt n self.old state → KeepsWakes n state → StandsAt n self.new (turn_at (system_of n) moment number state)) }
         ensures whole { OnOk result (IsWhole (net_of net.now) self.new) }
     {
-        let packets = self.agenda.take_due(moment, number)?;
+        self.agenda
+            .take_due_into(moment, number, &mut self.arrivals)?;
         let wake = wake_but_at(moment, wake_at(&self.motes, number));
         turn_mote(
             &mut self.motes,
             net.program(number),
             number,
             moment,
-            &packets,
+            &self.arrivals,
             &mut self.out,
         )?;
         self.agenda.move_wake(wake, self.out.wake, number)?;

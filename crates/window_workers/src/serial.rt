@@ -56,6 +56,7 @@ pub fn run_serial(alloc: Global, net: &Net) -> Result<Report, RunError>
         traces,
         log,
         agenda,
+        arrivals: _,
         out: _,
     } = engine;
     let left = agenda.left()?;
