@@ -53,7 +53,8 @@ fn is_running<L: Look>(look: &L, process: u8) -> bool
     look.running(process)
 }
 
-/// The value of a number or a variable, which most operands are: they take no call of their own.
+/// The value of a number or a variable, which most operands are.
+#[inline(always)]
 fn plain_value(operand: &Expr, vars: &Vars) -> Option<u16>
     ensures { (event : Event) (looks : Looks) → IfSome result (λ found. found ≡ value vars.now event looks (expression_of operand.now)) }
 {
@@ -64,8 +65,28 @@ fn plain_value(operand: &Expr, vars: &Vars) -> Option<u16>
     }
 }
 
-/// The value of an expression.
-pub(crate) fn evaluate<L: Look>(expression: &Expr, vars: &Vars, event: &Event, look: &L) -> u16
+/// The value of an expression of no more than one operator, by the variables and the event alone. It takes no call, so that
+/// what most statements evaluate costs little.
+fn short_value(expression: &Expr, vars: &Vars, event: &Event) -> Option<u16>
+    ensures { (looks : Looks) → IfSome result (λ found. found ≡ value vars.now event.now looks (expression_of expression.now)) }
+{
+    match expression {
+        Expr::Number(number) => Some(*number),
+        Expr::Variable(variable) => Some(vars.value(*variable)),
+        Expr::Word => Some(event.word),
+        Expr::Is(named) => Some(u16::from(event.number == named.number())),
+        Expr::Fired(timer) => Some(u16::from(is_event(event, SystemEvent::Timer, *timer))),
+        Expr::Binary(operator, left, right) => {
+            let left = plain_value(left, vars)?;
+            let right = plain_value(right, vars)?;
+            Some(apply(*operator, left, right))
+        }
+        _ => None,
+    }
+}
+
+/// The value of an expression of any form.
+fn evaluate_tree<L: Look>(expression: &Expr, vars: &Vars, event: &Event, look: &L) -> u16
     ensures { result ≡ value vars.now event.now (L.looks look.now) (expression_of expression.now) }
 {
     match expression {
@@ -81,17 +102,28 @@ pub(crate) fn evaluate<L: Look>(expression: &Expr, vars: &Vars, event: &Event, l
         Expr::Expired(timer) => u16::from(has_expired(look, *timer)),
         Expr::Running(process) => u16::from(is_running(look, *process)),
         Expr::Count(semaphore) => look.count(*semaphore),
-        Expr::Not(inner) => u16::from(evaluate(inner, vars, event, look) == 0),
+        Expr::Not(inner) => u16::from(evaluate_tree(inner, vars, event, look) == 0),
         Expr::Binary(operator, left, right) => {
-            let left = match plain_value(left, vars) {
+            let left = match short_value(left, vars, event) {
                 Some(left) => left,
-                None => evaluate(left, vars, event, look),
+                None => evaluate_tree(left, vars, event, look),
             };
-            let right = match plain_value(right, vars) {
+            let right = match short_value(right, vars, event) {
                 Some(right) => right,
-                None => evaluate(right, vars, event, look),
+                None => evaluate_tree(right, vars, event, look),
             };
             apply(*operator, left, right)
         }
+    }
+}
+
+/// The value of an expression.
+#[inline(always)]
+pub(crate) fn evaluate<L: Look>(expression: &Expr, vars: &Vars, event: &Event, look: &L) -> u16
+    ensures { result ≡ value vars.now event.now (L.looks look.now) (expression_of expression.now) }
+{
+    match short_value(expression, vars, event) {
+        Some(value) => value,
+        None => evaluate_tree(expression, vars, event, look),
     }
 }
