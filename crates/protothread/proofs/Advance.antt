@@ -17,7 +17,8 @@ use Rattle.protothread.specs.declared.state.PtState.TheVariants.{Ended}
 use Rattle.protothread.specs.Looks.{Looks}
 use Rattle.protothread.specs.Remainder.{Place, ended, at, before, settled, fresh_of, whole_of}
 use Rattle.protothread.specs.Step.{Advanced, Reached, goes_on, operates, answers, reached, continued, advanced_of, passed, yield_answer}
-use Rattle.protothread.specs.Frames.{block_at, is_thread, spawns, yielding, rest_of, Caller, callers_in, callers_of, nested, thread_place, remainder_of}
+use Rattle.protothread.specs.Frames.{block_at, yielding, rest_of, Caller, callers_in, callers_of, nested, thread_place, remainder_of}
+use Rattle.protothread.specs.Spawns.{is_thread, spawns}
 use Rattle.protothread.specs.Reach.{behind_of, reached_at, GoesOnAt, OperatesSo, AnswersSo}
 use Rattle.protothread.proofs.FrameLaws.{rest_of-push, callers_in-block, callers_in-thread, caller_at, length-callers_in, thread_place-at, settled-at, settled-end}
 
@@ -38,33 +39,33 @@ yield_answer-nested : (cs : List Caller) (y : Bool) (ss : List (Statement ℕ)) 
 yield_answer-nested [] y ss = yield_answer-before y ss
 yield_answer-nested (c ∷ cs) y ss = refl
 
-pub passed-thread_place : (code : Code) (whole : List (Statement ℕ)) (t : Thread) → passed (thread_place code whole t) ≡ spawns t.frames.items
-passed-thread_place code whole t = passed-nested (callers_of code whole t) t.is_yielded _ ∙ length-callers_in code whole t.frames.items []
+pub passed-thread_place : (code : Code) (whole : List (Statement ℕ)) (t : Thread) → passed (thread_place code whole t) ≡ spawns t.frames
+passed-thread_place code whole t = passed-nested (callers_of code whole t) t.is_yielded _ ∙ length-callers_in code whole t.frames []
 
-pub yield_answer-thread_place : (code : Code) (whole : List (Statement ℕ)) (t : Thread) → yield_answer (thread_place code whole t) ≡ yielding (spawns t.frames.items)
-yield_answer-thread_place code whole t = yield_answer-nested (callers_of code whole t) t.is_yielded _ ∙ ap yielding (length-callers_in code whole t.frames.items [])
+pub yield_answer-thread_place : (code : Code) (whole : List (Statement ℕ)) (t : Thread) → yield_answer (thread_place code whole t) ≡ yielding (spawns t.frames)
+yield_answer-thread_place code whole t = yield_answer-nested (callers_of code whole t) t.is_yielded _ ∙ ap yielding (length-callers_in code whole t.frames [])
 
 module _ (code : Code) (event : Event) (looks : Looks) (t : Thread) (vars : List ℕ) (units : ℕ) where
-  pub resumes_at_rest : t.mark ≡ AtRest → spawns t.frames.items ≤ units
-      → advanced_of code event looks (remainder_of code t) vars units ≡ continued code t.part event looks (thread_place code (whole_of code t.part) t) vars (units - spawns t.frames.items)
+  pub resumes_at_rest : t.mark ≡ AtRest → spawns t.frames ≤ units
+      → advanced_of code event looks (remainder_of code t) vars units ≡ continued code t.part event looks (thread_place code (whole_of code t.part) t) vars (units - spawns t.frames)
   unfolding advanced_of
   resumes_at_rest rests enough =
       let place : Place = thread_place code (whole_of code t.part) t in
       ap (λ m. advanced_of code event looks (record { part = t.part; mark = m; place = place }) vars units) rests
       ∙ ap (λ n. if nat_lt units n then record { step = step.Runaway; remainder = record { part = t.part; mark = RunAway; place = place }; variables = vars; units = 0 } else continued code t.part event looks place vars (units - n)) (passed-thread_place code (whole_of code t.part) t)
-      ∙ ap (λ b. if b then record { step = step.Runaway; remainder = record { part = t.part; mark = RunAway; place = place }; variables = vars; units = 0 } else continued code t.part event looks place vars (units - spawns t.frames.items)) (not_less units (spawns t.frames.items) enough)
+      ∙ ap (λ b. if b then record { step = step.Runaway; remainder = record { part = t.part; mark = RunAway; place = place }; variables = vars; units = 0 } else continued code t.part event looks place vars (units - spawns t.frames)) (not_less units (spawns t.frames) enough)
     where
       not_less : (a b : ℕ) → b ≤ a → nat_lt a b ≡ false
       not_less a b h = grind (arith, nat_tests)
 
-  pub cannot_resume : t.mark ≡ AtRest → units < spawns t.frames.items
+  pub cannot_resume : t.mark ≡ AtRest → units < spawns t.frames
       → advanced_of code event looks (remainder_of code t) vars units ≡ record { step = step.Runaway; remainder = remainder_of code (record t { mark = RunAway }); variables = vars; units = 0 }
   unfolding advanced_of
   cannot_resume rests short =
       let place : Place = thread_place code (whole_of code t.part) t in
       ap (λ m. advanced_of code event looks (record { part = t.part; mark = m; place = place }) vars units) rests
       ∙ ap (λ n. if nat_lt units n then record { step = step.Runaway; remainder = record { part = t.part; mark = RunAway; place = place }; variables = vars; units = 0 } else continued code t.part event looks place vars (units - n)) (passed-thread_place code (whole_of code t.part) t)
-      ∙ ap (λ b. if b then record { step = step.Runaway; remainder = record { part = t.part; mark = RunAway; place = place }; variables = vars; units = 0 } else continued code t.part event looks place vars (units - spawns t.frames.items)) (less units (spawns t.frames.items) short)
+      ∙ ap (λ b. if b then record { step = step.Runaway; remainder = record { part = t.part; mark = RunAway; place = place }; variables = vars; units = 0 } else continued code t.part event looks place vars (units - spawns t.frames)) (less units (spawns t.frames) short)
     where
       less : (a b : ℕ) → a < b → nat_lt a b ≡ true
       less a b h = grind (arith, nat_tests)
@@ -76,7 +77,7 @@ module _ (code : Code) (event : Event) (looks : Looks) (t : Thread) (vars : List
       ap (λ m. advanced_of code event looks (record { part = t.part; mark = m; place = thread_place code (whole_of code t.part) t }) vars units) under
 
   pub gives_up_now : t.mark ≡ Pausing
-      → advanced_of code event looks (remainder_of code t) vars units ≡ record { step = step.Done (yielding (spawns t.frames.items)); remainder = remainder_of code (record t { mark = AtRest }); variables = vars; units = units }
+      → advanced_of code event looks (remainder_of code t) vars units ≡ record { step = step.Done (yielding (spawns t.frames)); remainder = remainder_of code (record t { mark = AtRest }); variables = vars; units = units }
   unfolding advanced_of
   gives_up_now pausing =
       ap (λ m. advanced_of code event looks (record { part = t.part; mark = m; place = thread_place code (whole_of code t.part) t }) vars units) pausing
@@ -142,7 +143,7 @@ module _ (code : Code) (part : Part) (event : Event) (looks : Looks) where
   -- a statement without a unit
   pub runs_away : (whole : List (Statement ℕ)) (t : Thread) (s : Statement ℕ) (vars : List ℕ) (units : ℕ)
       → whole ≡ whole_of code part → t.part ≡ part
-      → slice_get (block_at code whole t.frames.items) t.position ≡ Some s → units ≡ 0
+      → slice_get (block_at code whole t.frames) t.position ≡ Some s → units ≡ 0
       → continued code part event looks (thread_place code whole t) vars units
       ≡ record { step = step.Runaway; remainder = remainder_of code (record t { mark = RunAway }); variables = vars; units = units }
   runs_away whole t s vars units is_whole same here none =
@@ -158,7 +159,7 @@ module _ (code : Code) (part : Part) (event : Event) (looks : Looks) where
 
   -- one that is paid for
   paid : (whole : List (Statement ℕ)) (t : Thread) (s : Statement ℕ) (vars : List ℕ) (units left : ℕ) (r : Reached)
-      → whole ≡ whole_of code part → slice_get (block_at code whole t.frames.items) t.position ≡ Some s → units ≡ suc left
+      → whole ≡ whole_of code part → slice_get (block_at code whole t.frames) t.position ≡ Some s → units ≡ suc left
       → reached_at code whole t vars event looks s ≡ r
       → continued code part event looks (thread_place code whole t) vars units ≡ follows vars left r
   paid whole t s vars units left r is_whole here spent made =
@@ -170,13 +171,13 @@ module _ (code : Code) (part : Part) (event : Event) (looks : Looks) where
       ∙ ap (λ q. follows vars left q) made
 
   pub goes_on_from : (whole : List (Statement ℕ)) (old : Thread) (s : Statement ℕ) (block : List (Statement ℕ)) (new : Thread) (vars changed : List ℕ) (units left : ℕ)
-      → whole ≡ whole_of code part → slice_get (block_at code whole old.frames.items) old.position ≡ Some s → units ≡ suc left
+      → whole ≡ whole_of code part → slice_get (block_at code whole old.frames) old.position ≡ Some s → units ≡ suc left
       → GoesOnAt code whole block (reached_at code whole old vars event looks s) old new changed
       → continued code part event looks (thread_place code whole old) vars units ≡ continued code part event looks (thread_place code whole new) changed left
   goes_on_from whole old s block new vars changed units left is_whole here spent does = paid whole old s vars units left _ is_whole here spent does.made_so
 
   pub operates_at : (whole : List (Statement ℕ)) (old : Thread) (s : Statement ℕ) (o : Op) (new : Thread) (vars changed : List ℕ) (units left : ℕ)
-      → whole ≡ whole_of code part → old.part ≡ part → slice_get (block_at code whole old.frames.items) old.position ≡ Some s → units ≡ suc left
+      → whole ≡ whole_of code part → old.part ≡ part → slice_get (block_at code whole old.frames) old.position ≡ Some s → units ≡ suc left
       → OperatesSo code whole (reached_at code whole old vars event looks s) o old new vars changed
       → continued code part event looks (thread_place code whole old) vars units ≡ record { step = step.Op o; remainder = remainder_of code new; variables = changed; units = left }
   operates_at whole old s o new vars changed units left is_whole same here spent does =
@@ -185,7 +186,7 @@ module _ (code : Code) (part : Part) (event : Event) (looks : Looks) where
       ∙ ap (λ r. record { step = step.Op o; remainder = r; variables = changed; units = left }) (meant whole new is_whole (does.part ∙ same))
 
   pub answers_at : (whole : List (Statement ℕ)) (old : Thread) (s : Statement ℕ) (a : PtState) (new : Thread) (vars changed : List ℕ) (units left : ℕ)
-      → whole ≡ whole_of code part → old.part ≡ part → slice_get (block_at code whole old.frames.items) old.position ≡ Some s → units ≡ suc left
+      → whole ≡ whole_of code part → old.part ≡ part → slice_get (block_at code whole old.frames) old.position ≡ Some s → units ≡ suc left
       → AnswersSo code whole (reached_at code whole old vars event looks s) a old new vars changed
       → continued code part event looks (thread_place code whole old) vars units ≡ record { step = step.Done a; remainder = remainder_of code new; variables = changed; units = left }
   answers_at whole old s a new vars changed units left is_whole same here spent does =
@@ -200,24 +201,24 @@ module _ (code : Code) (part : Part) (event : Event) (looks : Looks) where
 
   -- the end of the outermost block
   pub ends : (whole : List (Statement ℕ)) (t : Thread) (vars : List ℕ) (units : ℕ)
-      → length (block_at code whole t.frames.items) ≤ t.position → t.frames.items ≡ []
+      → length (block_at code whole t.frames) ≤ t.position → t.frames ≡ []
       → continued code part event looks (thread_place code whole t) vars units ≡ record { step = step.Done Ended; remainder = fresh_of code part; variables = vars; units = units }
   ends whole t vars units past none =
-      ap (λ d. continued code part event looks (nested (callers_of code whole t) (before t.is_yielded (d ++ rest_of code whole t.frames.items []))) vars units) (drop_all t.position (block_at code whole t.frames.items) past)
+      ap (λ d. continued code part event looks (nested (callers_of code whole t) (before t.is_yielded (d ++ rest_of code whole t.frames []))) vars units) (drop_all t.position (block_at code whole t.frames) past)
       ∙ ap (λ fs. continued code part event looks (nested (callers_in code whole fs []) (before t.is_yielded (rest_of code whole fs []))) vars units) none
       ∙ ends_at vars units
 
   -- the end of an inner one
   pub leaves : (whole : List (Statement ℕ)) (t : Thread) (rest : List Frame) (f : Frame) (new : Thread) (vars : List ℕ) (units : ℕ)
-      → length (block_at code whole t.frames.items) ≤ t.position → t.frames.items ≡ rest ++ f ∷ []
-      → new ≡ record t { is_yielded = (if is_thread f.branch then false else t.is_yielded); position = f.position; frames = record { items = rest } }
+      → length (block_at code whole t.frames) ≤ t.position → t.frames ≡ rest ++ f ∷ []
+      → new ≡ record t { is_yielded = (if is_thread f.branch then false else t.is_yielded); position = f.position; frames = rest }
       → continued code part event looks (thread_place code whole t) vars units ≡ continued code part event looks (thread_place code whole new) vars units
   leaves whole t rest f new vars units past last moved =
       let cs : List Caller = callers_in code whole rest [] in
       let c : Caller = caller_at code whole rest f [] in
       let first : continued code part event looks (thread_place code whole t) vars units
       ≡ continued code part event looks (nested (callers_in code whole (rest ++ f ∷ []) []) (before t.is_yielded (rest_of code whole (rest ++ f ∷ []) []))) vars units =
-      ap (λ d. continued code part event looks (nested (callers_of code whole t) (before t.is_yielded (d ++ rest_of code whole t.frames.items []))) vars units) (drop_all t.position (block_at code whole t.frames.items) past)
+      ap (λ d. continued code part event looks (nested (callers_of code whole t) (before t.is_yielded (d ++ rest_of code whole t.frames []))) vars units) (drop_all t.position (block_at code whole t.frames) past)
       ∙ ap (λ fs. continued code part event looks (nested (callers_in code whole fs []) (before t.is_yielded (rest_of code whole fs []))) vars units) last in
       first
       ∙ ap (λ r. continued code part event looks (nested (callers_in code whole (rest ++ f ∷ []) []) (before t.is_yielded r)) vars units) (rest_of-push code whole rest f [])

@@ -12,7 +12,8 @@ use Rattle.protothread.specs.declared.frame.Branch.{Branch}
 use Rattle.protothread.specs.declared.frame.Branch.TheVariants.{Then, Else, Loop, Spawned}
 use Rattle.protothread.specs.declared.frame.Frame.{Frame}
 use Rattle.protothread.specs.Remainder.{statements_of, thread_block}
-use Rattle.protothread.specs.Frames.{thread_of, is_thread, branch_block, statement_at, inner_block, block_at}
+use Rattle.protothread.specs.Frames.{thread_of, branch_block, statement_at, inner_block, block_at}
+use Rattle.protothread.specs.Spawns.{is_thread}
 use Rattle.protothread.proofs.FrameLaws.{thread_inner}
 
 -- what is known of the threads of a text

@@ -10,7 +10,8 @@ use Rattle.protothread.specs.declared.frame.Branch.TheVariants.{Then, Else, Loop
 use Rattle.protothread.specs.declared.frame.Frame.{Frame}
 use Rattle.protothread.specs.declared.thread.Thread.{Thread}
 use Rattle.protothread.specs.Remainder.{Place, ended, at, within, before, spawner_place, settled, thread_block}
-use Rattle.protothread.specs.Frames.{branch_block, statement_at, inner_block, block_at, is_thread, spawns, rest_of, Caller, thread_of, callers_in, callers_of, nested, thread_place}
+use Rattle.protothread.specs.Frames.{branch_block, statement_at, inner_block, block_at, rest_of, Caller, thread_of, callers_in, callers_of, nested, thread_place}
+use Rattle.protothread.specs.Spawns.{is_thread, spawns}
 use Rattle.protothread.specs.Reach.{home_of, behind_of, IsAtHome, in_the_part, in_a_thread}
 
 -- one more frame, at the innermost end
@@ -126,10 +127,10 @@ pub drop_at : (block : List (Statement ℕ)) (p : ℕ) (s : Statement ℕ) → s
 drop_at block p s h = drop_more block p s (slice_get_within block p s h) ∙ ap (λ x. x ∷ drop (p + 1) block) (get_or_from_slice_get block p s s h)
 
 -- where a thread stands at a statement
-pub thread_place-at : (code : Code) (whole : List (Statement ℕ)) (t : Thread) (s : Statement ℕ) → slice_get (block_at code whole t.frames.items) t.position ≡ Some s
+pub thread_place-at : (code : Code) (whole : List (Statement ℕ)) (t : Thread) (s : Statement ℕ) → slice_get (block_at code whole t.frames) t.position ≡ Some s
     → thread_place code whole t ≡ nested (callers_of code whole t) (at t.is_yielded s (behind_of code whole t))
 thread_place-at code whole t s h =
-    ap (λ d. nested (callers_of code whole t) (before t.is_yielded (d ++ rest_of code whole t.frames.items []))) (drop_at (block_at code whole t.frames.items) t.position s h)
+    ap (λ d. nested (callers_of code whole t) (before t.is_yielded (d ++ rest_of code whole t.frames []))) (drop_at (block_at code whole t.frames) t.position s h)
 
 -- what stands at a statement is settled
 pub settled-at : (cs : List Caller) (y : Bool) (s : Statement ℕ) (rest : List (Statement ℕ)) → settled (nested cs (at y s rest)) ≡ nested cs (at y s rest)

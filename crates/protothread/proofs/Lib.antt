@@ -1,4 +1,5 @@
 pub mod Advance
+pub mod Counts
 pub mod Deeds
 pub mod Depth
 pub mod Follows

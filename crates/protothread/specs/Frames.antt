@@ -1,5 +1,5 @@
 -- What the frames of a thread mean.
-use Rattle.std.specs.Prelude.{ℕ, zero, suc, ◌+◌, ◌-◌, Bool, true, false, if◌then◌else◌, List, [], ◌∷◌, ◌++◌, drop, Option, Some, slice_get}
+use Rattle.std.specs.Prelude.{ℕ, zero, suc, ◌-◌, if◌then◌else◌, List, [], ◌∷◌, ◌++◌, drop, Option, Some, slice_get}
 use Rattle.program_tree.specs.Tree.{Statement, spawn, does, branch, while, listed}
 use Rattle.program_tree.specs.Code.{Code}
 use Rattle.protothread.specs.declared.frame.Branch.{Branch}
@@ -10,6 +10,7 @@ use Rattle.protothread.specs.declared.state.PtState.TheVariants.{Waiting, Yielde
 use Rattle.protothread.specs.declared.thread.Thread.{Thread}
 use Rattle.protothread.specs.Remainder.{Place, within, before, Remainder, thread_block, whole_of}
 use Rattle.protothread.specs.Step.{other_block}
+use Rattle.protothread.specs.Spawns.{is_thread}
 
 -- the thread that a statement spawns, and one that no code has where it spawns none
 abbrev pub thread_of : Option (Statement ℕ) → ℕ
@@ -40,15 +41,6 @@ abbrev pub block_at : Code → (whole : List (Statement ℕ)) → List Frame →
 block_at code whole [] = whole
 block_at code whole (f ∷ fs) = block_at code (inner_block code whole f) fs
 
-abbrev pub is_thread : Branch → Bool
-is_thread Spawned = true
-is_thread b = false
-
--- how many of the blocks are those of spawned threads
-abbrev pub spawns : List Frame → ℕ
-spawns [] = 0
-spawns (f ∷ fs) = (if is_thread f.branch then 1 else 0) + spawns fs
-
 -- what a thread answers that yields, where so many threads are spawned in one another
 abbrev pub yielding : (spawns : ℕ) → PtState
 yielding zero = Yielded
@@ -78,12 +70,12 @@ nested [] p = p
 nested (c ∷ cs) p = within c.thread (nested cs p) c.rest
 
 abbrev pub callers_of : Code → (whole : List (Statement ℕ)) → Thread → List Caller
-callers_of code whole t = callers_in code whole t.frames.items []
+callers_of code whole t = callers_in code whole t.frames []
 
 -- where a thread stands, by its frames and its position in the innermost block
 abbrev pub thread_place : Code → (whole : List (Statement ℕ)) → Thread → Place
 thread_place code whole t =
-    nested (callers_of code whole t) (before t.is_yielded (drop t.position (block_at code whole t.frames.items) ++ rest_of code whole t.frames.items []))
+    nested (callers_of code whole t) (before t.is_yielded (drop t.position (block_at code whole t.frames) ++ rest_of code whole t.frames []))
 
 -- the remainder of a thread over a code
 abbrev pub remainder_of : Code → Thread → Remainder

@@ -6,6 +6,7 @@ pub mod Reading
 pub mod Remainder
 pub mod Runs
 pub mod Semaphores
+pub mod Spawns
 pub mod State
 pub mod Step
 pub mod Value

@@ -16,7 +16,8 @@ use Rattle.protothread.specs.declared.frame.Frame.{Frame}
 use Rattle.protothread.specs.Looks.{Looks}
 use Rattle.protothread.specs.Remainder.{at, thread_block, whole_of}
 use Rattle.protothread.specs.Step.{Reached, goes_on, operates, answers, spawner_reached, performed, reached, advanced_of, continued, PaysFor}
-use Rattle.protothread.specs.Frames.{Caller, block_at, rest_of, is_thread, spawns, nested, callers_of, thread_place, remainder_of}
+use Rattle.protothread.specs.Frames.{Caller, block_at, rest_of, nested, callers_of, thread_place, remainder_of}
+use Rattle.protothread.specs.Spawns.{is_thread, spawns}
 
 -- the block of the innermost of the threads
 abbrev pub home_of : Code → (whole : List (Statement ℕ)) → List Caller → List (Statement ℕ)
@@ -30,7 +31,7 @@ made_of (c ∷ cs) vars r = spawner_reached c.thread c.rest vars (made_of cs var
 
 -- what is left behind the statement where a thread stands, in its innermost thread
 abbrev pub behind_of : Code → (whole : List (Statement ℕ)) → Thread → List (Statement ℕ)
-behind_of code whole t = drop (t.position + 1) (block_at code whole t.frames.items) ++ rest_of code whole t.frames.items []
+behind_of code whole t = drop (t.position + 1) (block_at code whole t.frames) ++ rest_of code whole t.frames []
 
 -- what a deed at the statement `s`, where a thread stands, makes of the thread
 abbrev pub performed_at : Code → (whole : List (Statement ℕ)) → Thread → (variables : List ℕ) → (s : Statement ℕ) → Deed → Reached
@@ -59,14 +60,14 @@ pub record LeavesBlocks (old new : Thread) : Type 0 where
   pub unyielded : new.is_yielded ≡ false
   pub start : new.position ≡ 0
   pub left : List Frame
-  pub frames : old.frames.items ≡ new.frames.items ++ left
+  pub frames : old.frames ≡ new.frames ++ left
   pub no_threads : spawns left ≡ 0
-  pub home : IsAtHome new.frames.items
+  pub home : IsAtHome new.frames
 
 -- a thread that did a statement stands in this block, and goes on where it now stands
 pub record GoesOnAt (code : Code) (whole block : List (Statement ℕ)) (made : Reached) (old new : Thread) (after : List ℕ) : Type 0 where
   pub part : new.part ≡ old.part
-  pub innermost : block_at code whole new.frames.items ≡ block
+  pub innermost : block_at code whole new.frames ≡ block
   pub made_so : made ≡ goes_on after (thread_place code whole new)
 
 -- it stops with an operation

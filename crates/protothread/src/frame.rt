@@ -1,8 +1,9 @@
 //! The blocks that a thread stands in.
-ghost use Rattle.std.specs.Prelude.{◌≡◌, count_by, map, option_map};
+ghost use Rattle.std.specs.Prelude.{◌≡◌, map, option_map};
 ghost use Rattle.program_tree.specs.Tree.{statement_of};
 ghost use Rattle.program_tree.specs.Program.{code_of};
-ghost use Rattle.protothread.specs.Frames.{branch_block, inner_block, block_at, is_thread, thread_of};
+ghost use Rattle.protothread.specs.Frames.{branch_block, inner_block, block_at, thread_of};
+ghost use Rattle.protothread.specs.Spawns.{is_thread};
 ghost use Rattle.protothread.specs.Remainder.{thread_block};
 
 use program_tree::{Action, ProcessText, Stmt};
@@ -96,11 +97,4 @@ pub(crate) fn innermost<'a>(
         block = frame.inner(text, block);
     }
     block
-}
-
-/// How many of the blocks are those of spawned threads.
-pub(crate) fn count_spawns(frames: &[Frame]) -> usize
-    ensures { result ≡ count_by (λ f. is_thread f.branch) frames.now }
-{
-    frames.iter().filter(|frame| frame.is_of_a_thread()).count()
 }

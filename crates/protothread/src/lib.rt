@@ -3,6 +3,7 @@
 
 mod deed;
 mod frame;
+mod frames;
 mod fuel;
 mod laws;
 mod look;

@@ -5,11 +5,13 @@ ghost use Rattle.program_tree.specs.Code.{Code};
 ghost use Rattle.program_tree.specs.Program.{code_of};
 ghost use Rattle.protothread.specs.Remainder.{fresh_of};
 ghost use Rattle.protothread.specs.Step.{advanced_of, answered_of, PaysFor};
-ghost use Rattle.protothread.specs.Frames.{block_at, is_thread, spawns, yielding, remainder_of};
+ghost use Rattle.protothread.specs.Frames.{block_at, yielding, remainder_of};
+ghost use Rattle.protothread.specs.Spawns.{is_thread, spawns};
 ghost use Rattle.protothread.specs.Reach.{IsDoneBy, Reaches, LeavesBlocks, Resumes, performed_at, reached_at};
 
 use crate::deed::{Deed, done_by};
-use crate::frame::{Branch, Frame, count_spawns, innermost, thread_statements};
+use crate::frame::{Branch, Frame, innermost, thread_statements};
+use crate::frames::Frames;
 use crate::fuel::Fuel;
 use crate::look::Look;
 use crate::part::Part;
@@ -17,14 +19,10 @@ use crate::state::PtState;
 use crate::step::{Op, Step};
 use crate::value::evaluate;
 use crate::vars::Vars;
-use arrayvec::ArrayVec;
 use program_tree::{Event, ProcessText, Stmt};
 
 /// How many blocks can be run in one another by spawns: a part, and at most 7 threads, each spawned by a later one.
 const STACKS: u8 = 8;
-
-/// How many blocks stand in one another at most: 32 in each of those.
-const DEPTH: usize = 256;
 
 /// What a thread did last.
 #[derive(Clone, Copy)]
@@ -46,7 +44,7 @@ pub struct Thread {
     mark: Mark,
     is_yielded: bool,
     position: u16,
-    frames: ArrayVec<Frame, DEPTH>,
+    frames: Frames,
 }
 
 /// What became of a statement: the thread goes on in a block, or stops.
@@ -67,22 +65,15 @@ impl Thread {
             mark: Mark::AtRest,
             is_yielded: false,
             position: 0,
-            frames: ArrayVec::new(),
+            frames: Frames::new(),
         }
-    }
-
-    /// How many spawns a call passes on its way to where the thread stands.
-    fn spawns(&self) -> usize
-        ensures { result ≡ spawns self.now.frames.items }
-    {
-        count_spawns(&self.frames)
     }
 
     /// What the thread answers that yields here: a spawner waits for the thread that it spawned.
     fn yield_answer(&self) -> PtState
-        ensures { result ≡ yielding (spawns self.now.frames.items) }
+        ensures { result ≡ yielding (spawns self.now.frames) }
     {
-        match self.spawns() {
+        match self.frames.spawns() {
             0 => PtState::Yielded,
             _ => PtState::Waiting,
         }
@@ -99,8 +90,8 @@ impl Thread {
 
     /// Goes on at the beginning of a block of the statement, and behind it at that position.
     fn enter(&mut self, branch: Branch, position: u16)
-        requires { length self.old.frames.items < 256 }
-        ensures { self.new ≡ record self.old { is_yielded = false; position = 0; frames = record { items = self.old.frames.items ++ record { branch = branch; position = position } ∷ [] } } }
+        requires { length self.old.frames < 256 }
+        ensures { self.new ≡ record self.old { is_yielded = false; position = 0; frames = self.old.frames ++ record { branch = branch; position = position } ∷ [] } }
     {
         self.frames.push(Frame { branch, position });
         self.is_yielded = false;
@@ -113,7 +104,7 @@ impl Thread {
     {
         self.is_yielded = false;
         self.position = 0;
-        while let Some(frame) = self.frames.last() {
+        while let Some(frame) = self.frames.as_slice().last() {
             if frame.is_of_a_thread() {
                 return;
             }
@@ -133,7 +124,7 @@ impl Thread {
 
     /// Is fresh again, where the thread stands in its part's own block.
     fn begin_again(&mut self)
-        requires { self.old.frames.items ≡ [] }
+        requires { self.old.frames ≡ [] }
         ensures { (code : Code) → remainder_of code self.new ≡ fresh_of code self.old.part }
     {
         self.mark = Mark::AtRest;
@@ -158,11 +149,11 @@ impl Thread {
         deed: Deed,
         vars: &mut Vars,
     ) -> Reach<'a>
-        requires room { length self.old.frames.items < 256 }
+        requires room { length self.old.frames < 256 }
         requires fits { self.old.position + 1 < 2 ^ 16 }
-        requires inside { block_at (code_of text.now) (map statement_of whole.now) self.old.frames.items ≡ map statement_of block.now }
+        requires inside { block_at (code_of text.now) (map statement_of whole.now) self.old.frames ≡ map statement_of block.now }
         ensures kept { length vars.new ≡ length vars.old }
-        ensures frames { length self.new.frames.items ≤ length self.old.frames.items + 1 }
+        ensures frames { length self.new.frames ≤ length self.old.frames + 1 }
         ensures reaches { (s : Statement ℕ) → slice_get (map statement_of block.now) self.old.position ≡ Some s → IsDoneBy s deed → Reaches (code_of text.now) (map statement_of whole.now) (performed_at (code_of text.now) (map statement_of whole.now) self.old vars.old s deed) result self.old self.new vars.old vars.new }
     {
         match deed {
@@ -207,7 +198,7 @@ impl Thread {
                 match self.frames.pop() {
                     Some(frame) => {
                         self.position = frame.position;
-                        Reach::GoesOn(innermost(text, whole, &self.frames))
+                        Reach::GoesOn(innermost(text, whole, self.frames.as_slice()))
                     }
                     None => {
                         self.mark = Mark::AtRest;
@@ -229,12 +220,12 @@ impl Thread {
         vars: &mut Vars,
         look: &L,
     ) -> Reach<'a>
-        requires room { length self.old.frames.items < 256 }
+        requires room { length self.old.frames < 256 }
         requires fits { self.old.position + 1 < 2 ^ 16 }
-        requires inside { block_at (code_of text.now) (map statement_of whole.now) self.old.frames.items ≡ map statement_of block.now }
+        requires inside { block_at (code_of text.now) (map statement_of whole.now) self.old.frames ≡ map statement_of block.now }
         requires here { slice_get (map statement_of block.now) self.old.position ≡ Some (statement_of statement.now) }
         ensures kept { length vars.new ≡ length vars.old }
-        ensures frames { length self.new.frames.items ≤ length self.old.frames.items + 1 }
+        ensures frames { length self.new.frames ≤ length self.old.frames + 1 }
         ensures reaches { Reaches (code_of text.now) (map statement_of whole.now) (reached_at (code_of text.now) (map statement_of whole.now) self.old vars.old event.now (L.looks look.now) (statement_of statement.now)) result self.old self.new vars.old vars.new }
     {
         let position = self.position;
@@ -275,7 +266,7 @@ impl Thread {
     {
         match self.mark {
             Mark::AtRest => {
-                if fuel.pay(self.spawns()) {
+                if fuel.pay(self.frames.spawns()) {
                     return None;
                 }
                 self.mark = Mark::RunAway;
@@ -316,7 +307,7 @@ impl Thread {
         let threads = text.threads();
         prove!(threads < STACKS);
         let whole = self.part.statements(text);
-        let mut block = innermost(text, whole, &self.frames);
+        let mut block = innermost(text, whole, self.frames.as_slice());
         loop {
             match block.get(usize::from(self.position)) {
                 None => match self.frames.pop() {
@@ -326,7 +317,7 @@ impl Thread {
                     }
                     Some(frame) => {
                         self.go_on_behind(frame);
-                        block = innermost(text, whole, &self.frames);
+                        block = innermost(text, whole, self.frames.as_slice());
                     }
                 },
                 Some(statement) => {

@@ -28,8 +28,8 @@ returns-in-None-pop-clause-exact g c =
     let code = code_of c.args.text.now in
     let whole = map statement_of c.statements-whole.result.now in
     let t = c.loop-self.self in
-    let past : length (block_at code whole t.frames.items) ≤ t.position = past_end _ c.loop-self.block.now _ _ c.loop-self.invariant.innermost c.from.ensures c.in-None.ensures.lookup.3 in
-    let none : t.frames.items ≡ [] = grind (arith, common_steps) in
+    let past : length (block_at code whole t.frames) ≤ t.position = past_end _ c.loop-self.block.now _ _ c.loop-self.invariant.innermost c.from.ensures c.in-None.ensures.lookup.3 in
+    let none : t.frames ≡ [] = grind (arith, common_steps) in
     c.loop-self.invariant.goes_on
     ∙ ends code c.args.self.now.part c.args.event.now (g.L.Look.looks c.args.look.now) whole t c.loop-self.vars c.loop-self.fuel past none
     ∙ ap (λ r. record { step = step.Done Ended; remainder = r; variables = c.loop-self.vars; units = c.loop-self.fuel })
@@ -40,15 +40,15 @@ loop-self-preserved-in-Some-pop g c =
     let code = code_of c.args.text.now in
     let whole = map statement_of c.statements-whole.result.now in
     let t = c.loop-self.self in
-    let past : length (block_at code whole t.frames.items) ≤ t.position = past_end _ c.loop-self.block.now _ _ c.loop-self.invariant.innermost c.from.ensures c.in-None.ensures.lookup.3 in
+    let past : length (block_at code whole t.frames) ≤ t.position = past_end _ c.loop-self.block.now _ _ c.loop-self.invariant.innermost c.from.ensures c.in-None.ensures.lookup.3 in
     record {
-      innermost = ap (λ (fs : List Frame). block_at code whole fs) (sym c.deref-in-Some-pop.ensures.0) ∙ sym c.innermost-block-in-Some-pop.ensures;
+      innermost = ap (λ (fs : List Frame). block_at code whole fs) (sym c.as_slice-in-Some-pop.ensures) ∙ sym c.innermost-block-in-Some-pop.ensures;
       part = ap (λ (n : Thread). n.part) c.go_on_behind.ensures ∙ c.loop-self.invariant.part;
       units = c.loop-self.invariant.units;
       kept = c.loop-self.invariant.kept;
       goes_on =
           c.loop-self.invariant.goes_on
-          ∙ leaves code c.args.self.now.part c.args.event.now (g.L.Look.looks c.args.look.now) whole t c.pop.new.self.items c.in-Some-pop.frame c.go_on_behind.new.self c.loop-self.vars c.loop-self.fuel past c.in-Some-pop.ensures.items c.go_on_behind.ensures;
+          ∙ leaves code c.args.self.now.part c.args.event.now (g.L.Look.looks c.args.look.now) whole t c.pop.new.self c.in-Some-pop.frame c.go_on_behind.new.self c.loop-self.vars c.loop-self.fuel past c.in-Some-pop.ensures.items c.go_on_behind.ensures;
     }
 
 pub returns-then-not-spend-clause-exact : goal.returns-then-not-spend-clause-exact
@@ -58,7 +58,7 @@ returns-then-not-spend-clause-exact g c =
     let t = c.loop-self.self in
     let s = statement_of c.in-Some-get.statement.now in
     let here : slice_get (map statement_of c.loop-self.block.now) t.position ≡ Some s = found c.loop-self.block.now _ _ c.in-Some-get.statement.now c.from.ensures c.in-Some-get.ensures.lookup.3.0 c.in-Some-get.ensures.lookup.1 in
-    let at : slice_get (block_at code whole t.frames.items) t.position ≡ Some s = ap (λ b. slice_get b t.position) c.loop-self.invariant.innermost ∙ here in
+    let at : slice_get (block_at code whole t.frames) t.position ≡ Some s = ap (λ b. slice_get b t.position) c.loop-self.invariant.innermost ∙ here in
     let is_whole : whole ≡ whole_of code c.args.self.now.part = c.statements-whole.ensures.value ∙ ap (λ (n : Thread). whole_of code n.part) c.in_default.ensures.same in
     let none : c.loop-self.fuel ≡ 0 = grind (arith, common_steps) in
     let left : c.spend.new.self ≡ c.loop-self.fuel = omega (arith, none, c.if-not-spend.ensures.units) in
@@ -78,7 +78,7 @@ reach-requires-clause-room g c =
     let s = statement_of c.in-Some-get.statement.now in
     let here : slice_get (map statement_of c.loop-self.block.now) t.position ≡ Some s = found c.loop-self.block.now _ _ c.in-Some-get.statement.now c.from.ensures c.in-Some-get.ensures.lookup.3.0 c.in-Some-get.ensures.lookup.1 in
     let few : length code.thread_bodies ≤ 7 = omega (arith, c.threads-threads.ensures.value, c.threads-threads.ensures.few) in
-    room code (known_threads code few c.threads-threads.ensures.within c.threads-threads.ensures.earlier) whole c.statements-whole.ensures.within t.frames.items t.position s
+    room code (known_threads code few c.threads-threads.ensures.within c.threads-threads.ensures.earlier) whole c.statements-whole.ensures.within t.frames t.position s
     (ap (λ b. slice_get b t.position) c.loop-self.invariant.innermost ∙ here)
 
 pub reach-requires-clause-fits : goal.reach-requires-clause-fits
@@ -87,9 +87,9 @@ reach-requires-clause-fits g c =
     let whole = map statement_of c.statements-whole.result.now in
     let t = c.loop-self.self in
     let few : length code.thread_bodies ≤ 7 = omega (arith, c.threads-threads.ensures.value, c.threads-threads.ensures.few) in
-    let little : length (block_at code whole t.frames.items) ≤ 4096 =
-    short code (known_threads code few c.threads-threads.ensures.within c.threads-threads.ensures.earlier) whole c.statements-whole.ensures.within.small t.frames.items in
-    let same : length (block_at code whole t.frames.items) ≡ length c.loop-self.block.now = ap length c.loop-self.invariant.innermost ∙ length-map c.loop-self.block.now statement_of in
+    let little : length (block_at code whole t.frames) ≤ 4096 =
+    short code (known_threads code few c.threads-threads.ensures.within c.threads-threads.ensures.earlier) whole c.statements-whole.ensures.within.small t.frames in
+    let same : length (block_at code whole t.frames) ≡ length c.loop-self.block.now = ap length c.loop-self.invariant.innermost ∙ length-map c.loop-self.block.now statement_of in
     omega (arith, little, same, c.in-Some-get.ensures.lookup.3.0, c.from.ensures)
 
 pub loop-self-preserved : goal.loop-self-preserved
@@ -99,7 +99,7 @@ loop-self-preserved g c =
     let t = c.loop-self.self in
     let s = statement_of c.in-Some-get.statement.now in
     let here : slice_get (map statement_of c.loop-self.block.now) t.position ≡ Some s = found c.loop-self.block.now _ _ c.in-Some-get.statement.now c.from.ensures c.in-Some-get.ensures.lookup.3.0 c.in-Some-get.ensures.lookup.1 in
-    let at : slice_get (block_at code whole t.frames.items) t.position ≡ Some s = ap (λ b. slice_get b t.position) c.loop-self.invariant.innermost ∙ here in
+    let at : slice_get (block_at code whole t.frames) t.position ≡ Some s = ap (λ b. slice_get b t.position) c.loop-self.invariant.innermost ∙ here in
     let is_whole : whole ≡ whole_of code c.args.self.now.part = c.statements-whole.ensures.value ∙ ap (λ (n : Thread). whole_of code n.part) c.in_default.ensures.same in
     let spent : c.loop-self.fuel ≡ suc c.spend.new.self = grind (arith, common_steps) in
     let does = c.in-GoesOn.ensures.reaches in
@@ -120,7 +120,7 @@ returns-in-Operates-clause-exact g c =
     let t = c.loop-self.self in
     let s = statement_of c.in-Some-get.statement.now in
     let here : slice_get (map statement_of c.loop-self.block.now) t.position ≡ Some s = found c.loop-self.block.now _ _ c.in-Some-get.statement.now c.from.ensures c.in-Some-get.ensures.lookup.3.0 c.in-Some-get.ensures.lookup.1 in
-    let at : slice_get (block_at code whole t.frames.items) t.position ≡ Some s = ap (λ b. slice_get b t.position) c.loop-self.invariant.innermost ∙ here in
+    let at : slice_get (block_at code whole t.frames) t.position ≡ Some s = ap (λ b. slice_get b t.position) c.loop-self.invariant.innermost ∙ here in
     let is_whole : whole ≡ whole_of code c.args.self.now.part = c.statements-whole.ensures.value ∙ ap (λ (n : Thread). whole_of code n.part) c.in_default.ensures.same in
     let spent : c.loop-self.fuel ≡ suc c.spend.new.self = grind (arith, common_steps) in
     c.loop-self.invariant.goes_on
@@ -133,7 +133,7 @@ returns-in-Answers-clause-exact g c =
     let t = c.loop-self.self in
     let s = statement_of c.in-Some-get.statement.now in
     let here : slice_get (map statement_of c.loop-self.block.now) t.position ≡ Some s = found c.loop-self.block.now _ _ c.in-Some-get.statement.now c.from.ensures c.in-Some-get.ensures.lookup.3.0 c.in-Some-get.ensures.lookup.1 in
-    let at : slice_get (block_at code whole t.frames.items) t.position ≡ Some s = ap (λ b. slice_get b t.position) c.loop-self.invariant.innermost ∙ here in
+    let at : slice_get (block_at code whole t.frames) t.position ≡ Some s = ap (λ b. slice_get b t.position) c.loop-self.invariant.innermost ∙ here in
     let is_whole : whole ≡ whole_of code c.args.self.now.part = c.statements-whole.ensures.value ∙ ap (λ (n : Thread). whole_of code n.part) c.in_default.ensures.same in
     let spent : c.loop-self.fuel ≡ suc c.spend.new.self = grind (arith, common_steps) in
     c.loop-self.invariant.goes_on

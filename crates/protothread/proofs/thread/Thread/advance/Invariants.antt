@@ -8,7 +8,7 @@ use Rattle.protothread.proofs.thread.Thread.advance.Given as goal
 abbrev pub invariant-loop-self : goal.invariant-loop-self
 invariant-loop-self g l =
     record {
-      innermost : block_at (code_of l.fn.text) (map statement_of l.whole) l.self.frames.items ≡ map statement_of l.block;
+      innermost : block_at (code_of l.fn.text) (map statement_of l.whole) l.self.frames ≡ map statement_of l.block;
       part : l.self.part ≡ l.fn.self.part;
       units : l.fuel ≤ l.fn.fuel;
       kept : length l.vars ≡ length l.fn.vars;
@@ -18,4 +18,4 @@ invariant-loop-self g l =
     }
 
 abbrev pub decreases-loop-self : goal.decreases-loop-self
-decreases-loop-self g l = 2 * l.fuel + length l.self.frames.items
+decreases-loop-self g l = 2 * l.fuel + length l.self.frames

@@ -20,7 +20,7 @@ returns-then-is_of_a_thread c =
       frames = i.frames;
       no_threads = i.no_threads;
       home =
-          in_a_thread (take (length c.deref.result.now - 1) c.deref.result.now) c.in-Some.frame.now
-          (sym c.deref.ensures.0 ∙ last_apart c.deref.result.now c.in-Some.frame.now c.in-Some.ensures.item.3.0 c.in-Some.ensures.item.1)
+          in_a_thread (take (length c.as_slice.result.now - 1) c.as_slice.result.now) c.in-Some.frame.now
+          (sym c.as_slice.ensures ∙ last_apart c.as_slice.result.now c.in-Some.frame.now c.in-Some.ensures.item.3.0 c.in-Some.ensures.item.1)
           (sym c.is_of_a_thread.ensures ∙ c.if-is_of_a_thread.true);
     }

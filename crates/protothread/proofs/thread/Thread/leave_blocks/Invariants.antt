@@ -1,6 +1,6 @@
 use Rattle.std.proofs.Common.{◌≡◌, ◌++◌, false, length, List}
 use Rattle.protothread.specs.declared.frame.Frame.{Frame}
-use Rattle.protothread.specs.Frames.{spawns}
+use Rattle.protothread.specs.Spawns.{spawns}
 use Rattle.protothread.proofs.thread.Thread.leave_blocks.Given as goal
 
 abbrev pub invariant-loop-frame : goal.invariant-loop-frame
@@ -11,9 +11,9 @@ invariant-loop-frame l =
       unyielded : l.self.is_yielded ≡ false;
       start : l.self.position ≡ 0;
       left : List Frame;
-      frames : l.fn.self.frames.items ≡ l.self.frames.items ++ left;
+      frames : l.fn.self.frames ≡ l.self.frames ++ left;
       no_threads : spawns left ≡ 0;
     }
 
 abbrev pub decreases-loop-frame : goal.decreases-loop-frame
-decreases-loop-frame l = length l.self.frames.items
+decreases-loop-frame l = length l.self.frames

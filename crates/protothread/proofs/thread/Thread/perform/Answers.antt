@@ -7,7 +7,8 @@ use Rattle.protothread.specs.declared.deed.Deed.{Deed}
 use Rattle.protothread.specs.declared.state.PtState.TheVariants.{Waiting}
 use Rattle.protothread.specs.Remainder.{at, before}
 use Rattle.protothread.specs.Step.{goes_on, operates, answers}
-use Rattle.protothread.specs.Frames.{block_at, nested, callers_of, yielding, spawns}
+use Rattle.protothread.specs.Frames.{block_at, nested, callers_of, yielding}
+use Rattle.protothread.specs.Spawns.{spawns}
 use Rattle.protothread.specs.Reach.{IsDoneBy, home_of, behind_of, performed_at}
 use Rattle.protothread.proofs.Reaching.{made_of-goes_on, made_of-operates, made_of-waits, made_of-yields, restarts_so, exits_so, exits_last, enters_thread, stays_so, passes_so, yields_by, spawned_block}
 use Rattle.protothread.proofs.thread.Thread.perform.Goals as goal
@@ -21,7 +22,7 @@ returns-in-Passes-clause-reaches c =
     λ s here by.
     record {
       part = ap (λ t. t.part) c.pass.ensures;
-      innermost = ap (λ t. block_at code whole t.frames.items) c.pass.ensures ∙ c.requires.inside;
+      innermost = ap (λ t. block_at code whole t.frames) c.pass.ensures ∙ c.requires.inside;
       made_so =
           ap (λ d. performed_at code whole old vars s d) c.in-Passes.is
           ∙ made_of-goes_on (callers_of code whole old) vars vars (before false (behind_of code whole old))
@@ -38,7 +39,7 @@ returns-in-Assigns-clause-reaches c =
     λ s here by.
     record {
       part = ap (λ t. t.part) c.pass-in-Assigns.ensures;
-      innermost = ap (λ t. block_at code whole t.frames.items) c.pass-in-Assigns.ensures ∙ c.requires.inside;
+      innermost = ap (λ t. block_at code whole t.frames) c.pass-in-Assigns.ensures ∙ c.requires.inside;
       made_so =
           ap (λ d. performed_at code whole old vars s d) c.in-Assigns.is
           ∙ made_of-goes_on (callers_of code whole old) vars _ (before false (behind_of code whole old))
@@ -112,7 +113,7 @@ returns-in-Yields-clause-reaches c =
       made_so =
           ap (λ d. performed_at code whole old vars s d) c.in-Yields.is
           ∙ made_of-yields (callers_of code whole old) vars (at true s (behind_of code whole old))
-          ∙ ap (λ a. answers a (nested (callers_of code whole old) (at true s (behind_of code whole old)))) (yields_by code whole old ∙ sym (c.yield_answer.ensures ∙ ap (λ t. yielding (spawns t.frames.items)) c.give_up-in-Yields.ensures))
+          ∙ ap (λ a. answers a (nested (callers_of code whole old) (at true s (behind_of code whole old)))) (yields_by code whole old ∙ sym (c.yield_answer.ensures ∙ ap (λ t. yielding (spawns t.frames)) c.give_up-in-Yields.ensures))
           ∙ ap (λ p. answers c.yield_answer.result p) (sym (stays_so code whole _ old s c.requires.inside here AtRest true new c.give_up-in-Yields.ensures));
     }
 
@@ -162,10 +163,10 @@ returns-in-Some-clause-reaches c =
     λ s here by.
     record {
       part = c.leave_blocks-in-Exits.ensures.part;
-      innermost = ap (λ fs. block_at code whole fs) (sym c.deref.ensures.0) ∙ sym c.innermost.ensures;
+      innermost = ap (λ fs. block_at code whole fs) (sym c.as_slice.ensures) ∙ sym c.innermost.ensures;
       made_so =
           ap (λ d. performed_at code whole old vars s d) c.in-Exits.is
-          ∙ exits_so code whole old mid c.leave_blocks-in-Exits.ensures c.pop.new.self.items c.in-Some.frame _ vars c.in-Some.ensures.items refl;
+          ∙ exits_so code whole old mid c.leave_blocks-in-Exits.ensures c.pop.new.self c.in-Some.frame _ vars c.in-Some.ensures.items refl;
     }
 
 pub returns-in-None-clause-reaches : goal.returns-in-None-clause-reaches
@@ -175,7 +176,7 @@ returns-in-None-clause-reaches c =
     let old = c.args.self.now in
     let vars = c.args.vars.now in
     let mid = c.leave_blocks-in-Exits.new.self in
-    let none : mid.frames.items ≡ [] = grind (arith, common_steps) in
+    let none : mid.frames ≡ [] = grind (arith, common_steps) in
     λ s here by.
     record {
       part = c.leave_blocks-in-Exits.ensures.part;
