@@ -7,6 +7,7 @@ mod names;
 mod output;
 mod page;
 mod report;
+mod short;
 mod words;
 
 pub use error::PrintError;
