@@ -1,4 +1,5 @@
 pub mod Digits
 pub mod Pieces
+pub mod Puts
 pub mod ShortNumbers
 pub mod Written

@@ -1,10 +1,10 @@
 -- The table of the numbers below a thousand.
-use Rattle.std.proofs.Common.{◌≡◌, ℕ, zero, suc, ◌+◌, ◌*◌, ◌/◌, ◌%◌, ◌<◌, ◌≤◌, List, [], ◌∷◌, ◌++◌, length, get_or, take, drop, refl, sym, ◌∙◌, inl, inr, arith, decimal, if◌then◌else◌, nat_lt}
+use Rattle.std.proofs.Common.{◌≡◌, ℕ, zero, suc, ◌+◌, ◌*◌, ◌/◌, ◌%◌, ◌<◌, ◌≤◌, List, [], ◌∷◌, ◌++◌, length, get_or, take, drop, refl, ◌∙◌, inl, inr, arith, decimal, if◌then◌else◌, nat_lt, set, length-set, append_assoc}
 use Rattle.std.proofs.lemmas.Bool.{cases_lt, lt-ltb, le-ltb}
 use Rattle.std.proofs.lemmas.Fmt.{decimal_digit}
-use Rattle.std.proofs.lemmas.List.{get_or-take, get_or-drop, take-append-le, length-take-le}
+use Rattle.std.proofs.lemmas.Grind.{take-set_at}
+use Rattle.std.proofs.lemmas.List.{get_or-take, get_or-drop, take-take, length-take-le}
 use Rattle.std.proofs.Math.Seq.{take-append_seam, take-append-add, drop-append-add}
-use borrow.Rule.Slice.PartMut.{put_mid, post_of}
 use Rattle.itoa.proofs.Decimal.{decimal_two, decimal_pair, pair}
 use Rattle.trace_printer.specs.declared.short.TheConstants.{SHORT}
 
@@ -20,6 +20,22 @@ pub record IsRow (digits row : List ℕ) : Type 0 where
   pub front : take (length digits) row ≡ digits
   pub count : get_or row 3 0 ≡ 48 + length digits
   pub few : length digits ≤ 3
+
+-- four bytes were put
+four_set : (at : ℕ) (room : List ℕ) (a b c d : ℕ) → at + 4 ≤ length room → take (at + 4) (set (set (set (set room at a) (at + 1) b) (at + 2) c) (at + 3) d) ≡ take at room ++ (a ∷ b ∷ c ∷ d ∷ [])
+four_set at room a b c d within =
+    let one = set room at a in
+    let two = set one (at + 1) b in
+    let three = set two (at + 2) c in
+    rw (take-set_at three (at + 3) (at + 4) d (omega arith) (omega (arith, length-set two (at + 2) c, length-set one (at + 1) b, length-set room at a)), take-set_at two (at + 2) (at + 3) c (omega arith) (omega (arith, length-set one (at + 1) b, length-set room at a)), take-set_at one (at + 1) (at + 2) b (omega arith) (omega (arith, length-set room at a)), take-set_at room at (at + 1) a (omega arith) (omega arith), append_assoc, append_assoc, append_assoc) refl
+
+-- the digits of a row that was put
+front_of_row : (at end : ℕ) (before room row digits : List ℕ) → IsRow digits row → take (at + 4) room ≡ take at before ++ row → at ≤ length before → end ≡ at + length digits → take end room ≡ take at before ++ digits
+front_of_row at end before room row digits right put within is =
+    let there : length (take at before) ≡ at = length-take-le at before within in
+    let part : end ≤ at + 4 = omega (arith, right.few) in
+    let from : end ≡ length (take at before) + length digits = omega arith in
+    rw (← take-take end (at + 4) room part, put, from, take-append-add (take at before) row (length digits), right.front) refl
 
 row_is : (n : ℕ) → n < 1000 → IsRow (decimal n) (row n)
 unfolding row
@@ -61,12 +77,35 @@ short_row n small =
     let same : 0 + n ≡ n = omega arith in
     rw (table, row_at n 1000 0 small (omega arith), same) (row_is n small)
 
-pub short_count : (n : ℕ) → n < 1000 → get_or SHORT (n * 4 + 3) 0 ≡ 48 + length (decimal n)
-short_count n small = sym (get_or-take 4 (drop (n * 4) SHORT) 3 0 (omega arith) ∙ get_or-drop (n * 4) SHORT 3 0) ∙ (short_row n small).count
+-- the bytes of that row
+pub short_bytes : ℕ → List ℕ
+short_bytes n = get_or SHORT (n * 4) 0 ∷ get_or SHORT (n * 4 + 1) 0 ∷ get_or SHORT (n * 4 + 2) 0 ∷ get_or SHORT (n * 4 + 3) 0 ∷ []
 
--- the front of what was put
-pub put_front : (at k n : ℕ) (room row digits : List ℕ) → at ≤ length room → n ≡ at + length digits → take (length digits) row ≡ digits → length digits ≤ length row → take n (put_mid at k room row) ≡ take at room ++ digits
-put_front at k n room row digits within is front few =
-    let there : length (take at room) ≡ at = length-take-le at room within in
-    let end : n ≡ length (take at room) + length digits = omega arith in
-    rw (end, take-append-add (take at room) (row ++ post_of at k room) (length digits), take-append-le (length digits) row (post_of at k room) few, front) refl
+four_bytes : (xs : List ℕ) → length xs ≡ 4 → xs ≡ get_or xs 0 0 ∷ get_or xs 1 0 ∷ get_or xs 2 0 ∷ get_or xs 3 0 ∷ []
+four_bytes [] h = absurd (omega arith)
+four_bytes (a ∷ []) h = absurd (omega arith)
+four_bytes (a ∷ b ∷ []) h = absurd (omega arith)
+four_bytes (a ∷ b ∷ c ∷ []) h = absurd (omega arith)
+four_bytes (a ∷ b ∷ c ∷ d ∷ []) h = refl
+four_bytes (a ∷ b ∷ c ∷ d ∷ e ∷ xs) h = absurd (omega arith)
+
+byte_at : (n i : ℕ) → i < 4 → get_or (take 4 (drop (n * 4) SHORT)) i 0 ≡ get_or SHORT (n * 4 + i) 0
+byte_at n i h = get_or-take 4 (drop (n * 4) SHORT) i 0 h ∙ get_or-drop (n * 4) SHORT i 0
+
+pub short_is : (n : ℕ) → n < 1000 → IsRow (decimal n) (short_bytes n)
+unfolding short_bytes
+short_is n small =
+    let right = short_row n small in
+    let first : n * 4 + 0 ≡ n * 4 = omega arith in
+    rw (four_bytes (take 4 (drop (n * 4) SHORT)) right.four, byte_at n 0 (omega arith), first, byte_at n 1 (omega arith), byte_at n 2 (omega arith), byte_at n 3 (omega arith)) at right
+
+pub short_count : (n : ℕ) → n < 1000 → get_or SHORT (n * 4 + 3) 0 ≡ 48 + length (decimal n)
+unfolding short_bytes
+short_count n small = (short_is n small).count
+
+-- the bytes of the row were put
+pub put_row : (n at end : ℕ) (room : List ℕ) → n < 1000 → at + 4 ≤ length room → end ≡ at + length (decimal n)
+    → take end (set (set (set (set room at (get_or SHORT (n * 4) 0)) (at + 1) (get_or SHORT (n * 4 + 1) 0)) (at + 2) (get_or SHORT (n * 4 + 2) 0)) (at + 3) (get_or SHORT (n * 4 + 3) 0))
+    ≡ take at room ++ decimal n
+unfolding short_bytes
+put_row n at end room small within is = front_of_row at end room _ (short_bytes n) (decimal n) (short_is n small) (four_set at room _ _ _ _ within) (omega arith) is

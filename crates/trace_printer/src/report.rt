@@ -51,7 +51,7 @@ fn print_lines<W: Write>(
     ensures { Prints (W.contents writer.old) (W.contents writer.new) page.old page.new result (flat_map (line_text (tree_of program.now)) trace.now) }
 {
     for line in trace {
-        put_trace_line(page, program, *line)?;
+        put_trace_line(page, program, line)?;
         write_if_full(writer, page)?;
     }
     Ok(())

@@ -15,39 +15,39 @@ pub fn put_byte(room: &mut [u8], at: usize, byte: u8) -> usize
     at + 1
 }
 
-/// Puts the first `N` bytes of a text that has so many, and gives the place behind them and the bytes that are left.
+/// Puts a text of `N` to twice `N` bytes: its first `N` and its last `N`, some of which may be the same.
 #[inline(always)]
-fn put_part<'a, const N: usize>(room: &mut [u8], at: usize, text: &'a [u8]) -> (usize, &'a [u8])
-    requires { at + length text.now ≤ length room.old }
-    ensures put { take result.0 room.new ++ result.1.now ≡ take at room.old ++ text.now }
-    ensures end { result.0 + length result.1.now ≡ at + length text.now }
-    ensures few { length text.now < N + N → length result.1.now < N }
+fn put_ends<const N: usize>(room: &mut [u8], at: usize, text: &[u8]) -> usize
+    requires size { (N ≤ length text.now) × (length text.now ≤ N + N) }
+    requires room { at + length text.now ≤ length room.old }
+    ensures put { take result room.new ≡ take at room.old ++ text.now }
+    ensures end { result ≡ at + length text.now }
 {
-    if text.len() < N {
-        return (at, text);
-    }
+    let end = at + text.len();
     room[at..at + N].copy_from_slice(&text[..N]);
-    (at + N, &text[N..])
+    room[end - N..end].copy_from_slice(&text[text.len() - N..]);
+    end
 }
 
-/// Puts a text. A short one is put in parts of fixed lengths, since to call a function for it takes longer.
+/// Puts a text. A short one is copied without a call, which would take longer than the copy.
 #[inline(always)]
 pub fn put_text(room: &mut [u8], at: usize, text: &str) -> usize
     requires { at + length text.now ≤ length room.old }
     ensures put { take result room.new ≡ take at room.old ++ text.now }
     ensures end { result ≡ at + length text.now }
 {
-    let end = at + text.len();
     let text = text.as_bytes();
-    if text.len() < 16 {
-        let (at, text) = put_part::<8>(room, at, text);
-        let (at, text) = put_part::<4>(room, at, text);
-        let (at, text) = put_part::<2>(room, at, text);
-        put_part::<1>(room, at, text);
-    } else {
-        room[at..end].copy_from_slice(text);
+    match text.len() {
+        0 => at,
+        1 => put_ends::<1>(room, at, text),
+        2..=3 => put_ends::<2>(room, at, text),
+        4..=7 => put_ends::<4>(room, at, text),
+        8..=16 => put_ends::<8>(room, at, text),
+        len => {
+            room[at..at + len].copy_from_slice(text);
+            at + len
+        }
     }
-    end
 }
 
 /// How many digits a number has.
@@ -77,16 +77,21 @@ fn put_digits(room: &mut [u8], at: usize, number: u64, count: usize) -> usize
     end
 }
 
-/// Puts a number below a thousand, with one copy of its place in the table: what is behind its digits is not of the word.
+/// Puts a number below a thousand: its four bytes of the table at once, of which those behind its digits don't count.
 #[inline(always)]
 fn put_short_number(room: &mut [u8], at: usize, number: u64) -> usize
     requires { (number < 1000) × (at + 4 ≤ length room.old) }
     ensures put { take result room.new ≡ take at room.old ++ decimal number }
     ensures end { result ≤ at + 3 }
 {
-    let from = number as usize * 4;
-    room[at..at + 4].copy_from_slice(&SHORT[from..from + 4]);
-    at + usize::from(SHORT[from + 3] - b'0')
+    let row = number as usize * 4;
+    let (first, second, third) = (SHORT[row], SHORT[row + 1], SHORT[row + 2]);
+    let count = SHORT[row + 3];
+    room[at] = first;
+    room[at + 1] = second;
+    room[at + 2] = third;
+    room[at + 3] = count;
+    at + (usize::from(count) - usize::from(b'0'))
 }
 
 /// Puts a number from a thousand on.
