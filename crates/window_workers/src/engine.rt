@@ -24,8 +24,12 @@ use program_tree::Program;
 use radio_packet::Arrival;
 use std::alloc::{AllocError, Global};
 
-/// How many lines a long trace has.
-const LONG: usize = 16_384;
+/// How many lines a short trace has at most.
+const SHORT: usize = 64;
+
+/// How many lines a long trace has room for. So much memory (128 KiB) comes from the system as whole pages: those that no line is
+/// written to cost nothing, and a trace that grows keeps its pages, so that its lines aren't copied.
+const LONG: usize = 4_096;
 
 /// The motes, each with its trace; the packets that were sent; and what is to come.
 #[derive(Drop)]
@@ -85,13 +89,14 @@ fn wake_at(motes: &[Mote], number: u16) -> Option<u64>
 }
 
 /// Makes room for lines more, where there is none. A short trace gets room for four times its lines, since they are copied then;
-/// a long one grows as a list does.
+/// one that isn't short gets all the room of a long one at once, and a long one grows as a list does.
 fn make_room(trace: &mut Vec<Line>, more: usize) -> Result<(), AllocError>
     ensures { trace.new.items ≡ trace.old.items }
 {
     let len = trace.len();
     if trace.capacity() - len < more && len < LONG {
-        trace.reserve(more.max(len * 3))?;
+        let room = if len < SHORT { len * 4 } else { LONG };
+        trace.reserve(more.max(room - len))?;
     }
     Ok(())
 }
