@@ -93,6 +93,7 @@ impl Machine {
     }
 
     /// The polls, where the flag is set (`do_poll` of `process.c`).
+    #[inline(always)]
     #[tactic(auto, unfolding(crate::specs::Polls::polls_of, crate::specs::Polls::polls_due_of))]
     fn poll_due(&mut self, program: &Program) -> Result<(), Stop>
         requires { HasRoom 0 self.old }
@@ -140,7 +141,9 @@ impl Machine {
         self.walk_polls(program, members.as_slice())
     }
 
-    /// The polls: each member of the process list as it stands now has its turn.
+    /// The polls: each member of the process list as it stands now has its turn. It makes room for a copy of the list, so it stands
+    /// apart.
+    #[inline(never)]
     fn poll_all(&mut self, program: &Program) -> Result<(), Stop>
         requires { HasRoom 0 self.old }
         ensures exact { (k : ℕ) → self.old.fuel < k → Tells result (state_of (tree_of program.now) self.new) (walk_polls (calls_of k) self.old.members.items (state_of (tree_of program.now) self.old)) }
