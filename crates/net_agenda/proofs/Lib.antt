@@ -1,4 +1,5 @@
 pub mod Boots
+pub mod ByMote
 pub mod Falls
 pub mod Gathered
 pub mod Items
@@ -8,5 +9,6 @@ pub mod Moments
 pub mod NewWakes
 pub mod Orders
 pub mod Ranks
+pub mod Runs
 pub mod Systems
 pub mod Woken

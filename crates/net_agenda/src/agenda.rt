@@ -1,12 +1,13 @@
 //! What is to come in a net, in a bucket for each moment.
 
-ghost use Rattle.std.specs.Prelude.{◌≡◌, ℕ, length, not, List, [], ◌∷◌, ◌++◌, map, OnOk, IfOk, MatchOption};
+ghost use Rattle.std.specs.Prelude.{◌≡◌, ℕ, ◌≤◌, length, take, not, List, [], ◌∷◌, ◌++◌, map, OnOk, IfOk, MatchOption};
 ghost use Rattle.std.specs.List.{filter, filter_map};
 ghost use Rattle.radio_medium.specs.Medium.{copy_of};
 ghost use Rattle.window_law.specs.Agenda.{Item, Wake, Packet, IsLeast, comes_at, is_wake_of, packets, wake_items};
 ghost use Rattle.net_agenda.specs.Buckets.{Holds, arrivals_at, first_key, item_at};
 
 use crate::bucket::{Bucket, Coming};
+use crate::spread::Lists;
 use radio_packet::{Arrival, Fate, RadioCopy, Sent};
 use std::alloc::{AllocError, Global};
 use std::collections::BTreeMap;
@@ -16,6 +17,7 @@ use std::collections::BTreeMap;
 pub struct Agenda {
     alloc: Global,
     pub buckets: BTreeMap<u64, Bucket>,
+    lists: Lists,
 }
 
 impl Agenda {
@@ -26,6 +28,7 @@ impl Agenda {
         Agenda {
             alloc,
             buckets: BTreeMap::new(alloc),
+            lists: Lists::new(alloc),
         }
     }
 
@@ -59,56 +62,66 @@ impl Agenda {
         Ok(())
     }
 
-    /// Adds a packet on its way.
-    fn put_copy(&mut self, copy: &RadioCopy) -> Result<(), AllocError>
-        ensures { OnOk result ((items : List Item) → Holds self.old.buckets items → Holds self.new.buckets (items ++ Packet copy.now ∷ [])) }
+    /// Adds a packet on its way, and those after it that come at the same moment, up to the first one that doesn't. Says how many of
+    /// these there were.
+    fn put_same_copies(
+        &mut self,
+        copy: &RadioCopy,
+        later: &[RadioCopy],
+    ) -> Result<usize, AllocError>
+        ensures held { IfOk result (λ count. (items : List Item) → Holds self.old.buckets items → Holds self.new.buckets (items ++ map Packet (copy.now ∷ take count later.now))) }
+        ensures inside { IfOk result (λ count. count ≤ length later.now) }
     {
-        let packet = Arrival {
-            sender: copy.sender,
-            number: copy.number,
-            value: copy.value,
-        };
-        self.put(
-            copy.at,
-            Coming {
-                mote: copy.to,
-                packet: Some(packet),
-            },
-        )
+        if let Some(bucket) = self.buckets.get_mut(&copy.at) {
+            return bucket.put_copies(copy, later);
+        }
+        let mut bucket = Bucket::new(self.alloc);
+        let count = bucket.put_copies(copy, later)?;
+        self.buckets.insert(copy.at, bucket)?;
+        Ok(count)
     }
 
     /// Adds packets on their way.
     pub fn put_copies(&mut self, copies: &[RadioCopy]) -> Result<(), AllocError>
         ensures { OnOk result ((items : List Item) → Holds self.old.buckets items → Holds self.new.buckets (items ++ map Packet copies.now)) }
     {
-        for copy in copies {
-            self.put_copy(copy)?;
+        let mut next = 0;
+        while next < copies.len() {
+            next += 1 + self.put_same_copies(&copies[next], &copies[next + 1..])?;
         }
         Ok(())
     }
 
-    /// Adds the copy of a packet that has this fate, where it isn't lost.
-    fn put_fate(&mut self, sent: &Sent, fate: &Fate) -> Result<(), AllocError>
-        ensures { OnOk result ((items : List Item) → Holds self.old.buckets items → Holds self.new.buckets (items ++ map Packet (filter_map (copy_of sent.now) (fate.now ∷ [])))) }
+    /// Adds the copy of a packet that has this fate, where it isn't lost, and then those with the fates after it, up to the first one
+    /// that comes at another moment. Says how many fates after it it went through.
+    fn put_same_fates(
+        &mut self,
+        sent: &Sent,
+        fate: &Fate,
+        later: &[Fate],
+    ) -> Result<usize, AllocError>
+        ensures held { IfOk result (λ count. (items : List Item) → Holds self.old.buckets items → Holds self.new.buckets (items ++ map Packet (filter_map (copy_of sent.now) (fate.now ∷ take count later.now)))) }
+        ensures inside { IfOk result (λ count. count ≤ length later.now) }
     {
-        if let Some(at) = fate.at {
-            self.put_copy(&RadioCopy {
-                at,
-                to: fate.to,
-                sender: sent.sender,
-                number: sent.number,
-                value: sent.value,
-            })?;
+        let Some(moment) = fate.at else {
+            return Ok(0);
+        };
+        if let Some(bucket) = self.buckets.get_mut(&moment) {
+            return bucket.put_fates(moment, sent, fate.to, later);
         }
-        Ok(())
+        let mut bucket = Bucket::new(self.alloc);
+        let count = bucket.put_fates(moment, sent, fate.to, later)?;
+        self.buckets.insert(moment, bucket)?;
+        Ok(count)
     }
 
     /// Adds the copies of a packet whose fates these are: those that aren't lost.
     pub fn put_fates(&mut self, sent: &Sent, fates: &[Fate]) -> Result<(), AllocError>
         ensures { OnOk result ((items : List Item) → Holds self.old.buckets items → Holds self.new.buckets (items ++ map Packet (filter_map (copy_of sent.now) fates.now))) }
     {
-        for fate in fates {
-            self.put_fate(sent, fate)?;
+        let mut next = 0;
+        while next < fates.len() {
+            next += 1 + self.put_same_fates(sent, &fates[next], &fates[next + 1..])?;
         }
         Ok(())
     }
@@ -160,7 +173,7 @@ impl Agenda {
             arrivals.clear();
             return Ok(());
         };
-        let taken = bucket.take(mote, arrivals);
+        let taken = bucket.take(mote, &mut self.lists, arrivals);
         if bucket.is_empty() {
             let _bucket = self.buckets.remove(&moment);
         }

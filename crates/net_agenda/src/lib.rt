@@ -4,7 +4,9 @@
 mod agenda;
 mod bucket;
 mod mote;
+mod spread;
 
 pub use agenda::Agenda;
 pub use bucket::{Bucket, Coming};
 pub use mote::new_mote;
+pub use spread::Lists;

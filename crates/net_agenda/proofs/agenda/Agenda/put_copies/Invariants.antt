@@ -1,7 +1,13 @@
-use Rattle.std.proofs.Common.{◌++◌, List, map, take}
+use Rattle.std.proofs.Common.{◌++◌, ◌-◌, ◌≤◌, List, length, map, take}
 use Rattle.window_law.specs.Agenda.{Item, Packet}
 use Rattle.net_agenda.specs.Buckets.{Holds}
 use Rattle.net_agenda.proofs.agenda.Agenda.put_copies.Given as goal
 
-abbrev pub invariant-loop-copy : goal.invariant-loop-copy
-invariant-loop-copy l = (items : List Item) → Holds l.fn.self.buckets items → Holds l.self.buckets (items ++ map Packet (take l.copy-index l.copies))
+abbrev pub invariant-loop-next : goal.invariant-loop-next
+invariant-loop-next l = record {
+  inside : l.next ≤ length l.copies;
+  held : (items : List Item) → Holds l.fn.self.buckets items → Holds l.self.buckets (items ++ map Packet (take l.next l.copies));
+}
+
+abbrev pub decreases-loop-next : goal.decreases-loop-next
+decreases-loop-next l = length l.copies - l.next
