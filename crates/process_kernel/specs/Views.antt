@@ -42,8 +42,8 @@ remainders_of (c ∷ cs) (t ∷ ts) = body_of c t ∷ remainders_of cs ts
 abbrev pub state_of : Tree → Machine → State
 state_of program m = record {
   program = program;
-  mote = m.mote;
-  states = m.states.items;
+  mote = m.shown.mote;
+  states = m.shown.states.items;
   exiting = m.exiting.items;
   marks = m.marks.items;
   remainders = remainders_of program.codes m.threads.items;
@@ -52,19 +52,19 @@ state_of program m = record {
   started = m.started;
   flag = m.flag;
   queue = m.queue;
-  semaphores = m.semaphores.items;
-  timers = m.timers;
+  semaphores = m.shown.semaphores.items;
+  timers = m.shown.timers;
   callbacks = m.callbacks.members;
   ring = m.ring.items;
   sent = m.sent;
-  moment = m.moment;
+  moment = m.shown.moment;
   units = m.fuel;
   lines = m.out.lines.items;
   sends = m.out.sends.items;
 }
 
 abbrev pub looks_of_shown : Shown → Looks
-looks_of_shown x = looks_at x.moment x.mote x.timers.now.timers x.states.now x.semaphores.now
+looks_of_shown x = looks_at x.moment x.mote x.timers.timers x.states.items x.semaphores.items
 
 -- what a step told, and the state that it left, are this outcome, want of memory aside
 abbrev pub Tells : {A : Type 0} → Result A Stop → State → Outcome A → Type 0
@@ -96,7 +96,7 @@ Spends n old new = (new.fuel ≤ old.fuel) × (new.started + new.fuel ≤ old.st
 
 -- the call of a running process costs a unit of work
 abbrev pub Pays : Proc → Machine → Machine → Type 0
-Pays p old new = IsTrue (is_running_state (state_at old.states.items p)) → new.started + new.fuel + 1 ≤ old.started + old.fuel
+Pays p old new = IsTrue (is_running_state (state_at old.shown.states.items p)) → new.started + new.fuel + 1 ≤ old.started + old.fuel
 
 -- there is a number for each process that can still be started, and for so many more
 abbrev pub HasRoom : ℕ → Machine → Type 0
@@ -108,7 +108,7 @@ KeepsCounts old new = (new.fuel ≡ old.fuel) × (new.started ≡ old.started)
 
 -- neither the ring nor the timers change
 abbrev pub KeepsLists : Machine → Machine → Type 0
-KeepsLists old new = (new.ring ≡ old.ring) × (new.timers ≡ old.timers)
+KeepsLists old new = (new.ring ≡ old.ring) × (new.shown.timers ≡ old.shown.timers)
 
 abbrev pub mote_of : Tree → Machine → (booted halted : Bool) → Mote
 mote_of program m booted halted = record { state = at_rest (state_of program m); booted = booted; halted = halted }

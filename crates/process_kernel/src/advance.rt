@@ -10,7 +10,6 @@ ghost use Rattle.process_kernel.specs.Operation.{answer_of};
 ghost use Rattle.process_kernel.specs.State.{Goes};
 ghost use Rattle.process_kernel.specs.Views.{state_of, Grows, KeepsCounts};
 
-use crate::look::Shown;
 use crate::machine::Machine;
 use program_tree::{Event, ProcessText};
 use protothread::{PtState, Step, Thread};
@@ -34,19 +33,11 @@ impl Machine {
         if place >= self.variables.len() {
             return Step::Done(PtState::Ended);
         }
-        let look = Shown {
-            moment: self.moment,
-            mote: self.mote,
-            timer_count: self.timer_count,
-            timers: &self.timers,
-            states: self.states.as_slice(),
-            semaphores: self.semaphores.as_slice(),
-        };
         thread.advance(
             text,
             event,
             &mut self.variables[place],
-            &look,
+            &self.shown,
             &mut self.fuel,
         )
     }

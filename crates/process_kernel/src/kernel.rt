@@ -157,7 +157,7 @@ impl Kernel {
         ensures mote { (t : Tree) → IfSome (mote_in t self.now) (λ m. result ≡ next_expiration_of m.state.timers) }
         ensures held { (t : Tree) → result ≡ next_expiration_of (held_in t self.now).state.timers }
     {
-        self.machine.timers.next_expiration()
+        self.machine.shown.timers.next_expiration()
     }
 
     /// Puts a packet into the receive ring, where it has room; a full ring stays as it was.
@@ -177,7 +177,7 @@ impl Kernel {
         ensures mote { (t : Tree) → IfSome (mote_in t self.now) (λ m. result ≡ m.state.mote) }
         ensures held { (t : Tree) → result ≡ (held_in t self.now).state.mote }
     {
-        self.machine.mote
+        self.machine.shown.mote
     }
 
     /// Whether the mote was booted.

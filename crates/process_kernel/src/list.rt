@@ -127,7 +127,7 @@ impl Machine {
 
     /// Puts a new incarnation at the front of the list.
     fn list_first(&mut self, process: Proc)
-        requires there { place_of process < length self.old.states.items }
+        requires there { place_of process < length self.old.shown.states.items }
         requires away { stands_in self.old.members.items process ≡ false }
         requires room { self.old.started + 1 < 2 ^ 32 }
         ensures exact { (t : Tree) → state_of t self.new ≡ record (state_of t self.old) { members = record { process = process; incarnation = self.old.started } ∷ self.old.members.items; started = self.old.started + 1 } }
@@ -148,7 +148,7 @@ impl Machine {
     /// Puts a new incarnation at the front of the list, running and with a fresh body.
     #[tactic(auto, unfolding(crate::specs::ProcessList::enlist_of))]
     pub fn enlist(&mut self, process: Proc) -> Result<(), Stop>
-        requires there { place_of process < length self.old.states.items }
+        requires there { place_of process < length self.old.shown.states.items }
         requires away { stands_in self.old.members.items process ≡ false }
         requires room { self.old.started + 1 < 2 ^ 32 }
         ensures exact { (t : Tree) → Tells result (state_of t self.new) (enlist_of (state_of t self.old) process) }

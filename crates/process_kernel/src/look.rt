@@ -1,6 +1,6 @@
 //! What a protothread is shown of the kernel.
 
-ghost use Rattle.std.specs.Prelude.{◌≡◌, ◌≤◌, ◌↔◌, ◌%◌, ◌^◌, IsTrue, length};
+ghost use Rattle.std.specs.Prelude.{◌≡◌, ◌<◌, ◌≤◌, slice_set, ◌↔◌, ◌%◌, ◌^◌, IsTrue, length};
 
 use crate::process::ProcessState;
 use crate::table::{is_alive, state_at};
@@ -9,17 +9,30 @@ use protothread::{Look, Semaphore};
 
 /// What a protothread is shown: the moment, the mote's number, the timers, the states of the processes and the semaphores.
 #[derive(Drop)]
-pub struct Shown<'a> {
+pub struct Shown {
     pub(crate) moment: u64,
     pub(crate) mote: u16,
     pub(crate) timer_count: u16,
-    pub(crate) timers: &'a Timers,
-    pub(crate) states: &'a [ProcessState],
-    pub(crate) semaphores: &'a [Semaphore],
-    ghost each_timer: { length timers.now.timers ≡ timer_count },
+    pub(crate) timers: Timers,
+    pub(crate) states: Vec<ProcessState>,
+    pub(crate) semaphores: Vec<Semaphore>,
+    ghost each_timer: { length timers.timers ≡ timer_count },
 }
 
-impl Look for Shown<'_> {
+impl Shown {
+    /// Gives the process at a place of the tables a state.
+    pub(crate) fn set_state(&mut self, place: usize, state: ProcessState)
+        requires { place < length self.old.states.items }
+        ensures states { self.new.states.items ≡ slice_set self.old.states.items place state }
+        ensures kernel { (self.new.moment ≡ self.old.moment) × (self.new.mote ≡ self.old.mote) }
+        ensures timers { (self.new.timers ≡ self.old.timers) × (self.new.timer_count ≡ self.old.timer_count) }
+        ensures semaphores { self.new.semaphores ≡ self.old.semaphores }
+    {
+        self.states[place] = state;
+    }
+}
+
+impl Look for Shown {
     ghost use Rattle.process_kernel.specs.Views.{looks_of_shown};
 
     ghost looks = { looks_of_shown };
@@ -41,7 +54,7 @@ impl Look for Shown<'_> {
     }
 
     fn running(&self, process: u8) -> bool {
-        is_alive(state_at(self.states, usize::from(process) + 3))
+        is_alive(state_at(&self.states, usize::from(process) + 3))
     }
 
     fn count(&self, semaphore: u8) -> u16 {

@@ -4,12 +4,13 @@ ghost use Rattle.std.specs.Prelude.{◌≡◌, ◌≤◌, ◌^◌, length};
 ghost use Rattle.process_kernel.specs.Members.{AreMembers};
 
 use crate::line::Out;
-use crate::process::{Member, ProcessState};
+use crate::look::Shown;
+use crate::process::Member;
 use arrayvec::ArrayVec;
 use circular_buffer::HeapCircularBuffer;
 use event_queue::EventQueue;
-use mote_timers::{Callbacks, Timers};
-use protothread::{Fuel, Semaphore, Thread, Vars};
+use mote_timers::Callbacks;
+use protothread::{Fuel, Thread, Vars};
 use radio_packet::Arrival;
 use std::alloc::{AllocError, AllocFailed, Global};
 
@@ -50,8 +51,7 @@ impl<T: Drop> From<AllocFailed<T>> for Stop {
 #[derive(Drop)]
 pub struct Machine {
     pub(crate) alloc: Global,
-    pub(crate) mote: u16,
-    pub(crate) states: Vec<ProcessState>,
+    pub(crate) shown: Shown,
     pub(crate) exiting: Vec<bool>,
     pub(crate) marks: Vec<bool>,
     pub(crate) threads: Vec<Option<Box<Thread>>>,
@@ -61,21 +61,16 @@ pub struct Machine {
     pub(crate) flag: bool,
     pub(crate) queue: EventQueue,
     pub(crate) accepted: u64,
-    pub(crate) semaphores: Vec<Semaphore>,
-    pub(crate) timer_count: u16,
-    pub(crate) timers: Timers,
     pub(crate) callbacks: Callbacks,
     pub(crate) ring: HeapCircularBuffer<Arrival>,
     pub(crate) sent: u64,
-    pub(crate) moment: u64,
     pub(crate) fuel: Fuel,
     pub(crate) out: Out,
-    ghost few_processes: { length states.items ≤ 67 },
-    ghost are_members: { AreMembers members.items (length states.items) },
+    ghost few_processes: { length shown.states.items ≤ 67 },
+    ghost are_members: { AreMembers members.items (length shown.states.items) },
     ghost counted: { accepted ≡ queue.accepted },
     ghost short_queue: { queue.capacity ≤ 128 },
-    ghost each_timer: { length timers.timers ≡ timer_count },
-    ghost room_for_callbacks: { callbacks.limit ≡ timer_count },
+    ghost room_for_callbacks: { callbacks.limit ≡ shown.timer_count },
     ghost ring_room: { ring.capacity ≡ 8 },
-    ghost early: { moment ≤ 2 ^ 40 },
+    ghost early: { shown.moment ≤ 2 ^ 40 },
 }

@@ -25,7 +25,7 @@ impl Machine {
         ensures lists { KeepsLists self.old self.new }
         ensures grows { Grows self.old.out self.new.out }
     {
-        let at = self.moment;
+        let at = self.shown.moment;
         self.out.lines.push(Line { at, what })?;
         Ok(())
     }
@@ -116,8 +116,8 @@ impl Machine {
         }
         let number = self.sent;
         self.put_sent(Sent {
-            at: self.moment,
-            sender: self.mote,
+            at: self.shown.moment,
+            sender: self.shown.mote,
             number,
             value,
         })?;
@@ -133,8 +133,8 @@ impl Machine {
         ensures grows { Grows self.old.out self.new.out }
     {
         let place = usize::from(semaphore);
-        if place < self.semaphores.len() {
-            self.semaphores[place].take();
+        if place < self.shown.semaphores.len() {
+            self.shown.semaphores[place].take();
         }
     }
 
@@ -146,8 +146,8 @@ impl Machine {
         ensures grows { Grows self.old.out self.new.out }
     {
         let place = usize::from(semaphore);
-        if place < self.semaphores.len() {
-            self.semaphores[place].signal();
+        if place < self.shown.semaphores.len() {
+            self.shown.semaphores[place].signal();
         }
     }
 }

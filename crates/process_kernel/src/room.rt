@@ -7,6 +7,7 @@ ghost use Rattle.process_kernel.specs.Mote.{unbooted};
 ghost use Rattle.process_kernel.specs.Views.{state_of, remainders_of};
 
 use crate::line::Out;
+use crate::look::Shown;
 use crate::machine::Machine;
 use crate::process::ProcessState;
 use arrayvec::ArrayVec;
@@ -71,8 +72,14 @@ impl Machine {
         let timers = program.timers();
         Ok(Machine {
             alloc,
-            mote,
-            states: vec![in alloc; ProcessState::Off; places]?,
+            shown: Shown {
+                moment: 0,
+                mote,
+                timer_count: timers,
+                timers: Timers::new(alloc, timers)?,
+                states: vec![in alloc; ProcessState::Off; places]?,
+                semaphores: first_semaphores(alloc, program)?,
+            },
             exiting: vec![in alloc; false; places]?,
             marks: vec![in alloc; false; places]?,
             threads: fresh_bodies(alloc, program)?,
@@ -82,13 +89,9 @@ impl Machine {
             flag: false,
             queue: EventQueue::new(alloc, queue)?,
             accepted: 0,
-            semaphores: first_semaphores(alloc, program)?,
-            timer_count: timers,
-            timers: Timers::new(alloc, timers)?,
             callbacks: Callbacks::new(alloc, timers)?,
             ring: HeapCircularBuffer::with_capacity(alloc, RING)?,
             sent: 0,
-            moment: 0,
             fuel: Fuel::new(0),
             out: Out {
                 lines: Vec::new(alloc),

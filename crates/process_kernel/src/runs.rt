@@ -48,7 +48,7 @@ impl Machine {
         ensures room { HasRoom 1 self.new }
         ensures grows { Grows self.old.out self.new.out }
     {
-        self.moment = moment;
+        self.shown.moment = moment;
         self.fuel = Fuel::new(UNITS);
         self.started = self.members.len() as u32;
         number(self.members.as_mut_slice());

@@ -48,13 +48,13 @@ pub fn is_alive(state: ProcessState) -> bool
 
 impl Machine {
     pub fn process_state(&self, process: Proc) -> ProcessState
-        ensures { result ≡ state_of_process self.now.states.items process }
+        ensures { result ≡ state_of_process self.now.shown.states.items process }
     {
-        state_at(&self.states, place_of(process))
+        state_at(&self.shown.states, place_of(process))
     }
 
     pub fn is_running(&self, process: Proc) -> bool
-        ensures { result ≡ is_running_state (state_of_process self.now.states.items process) }
+        ensures { result ≡ is_running_state (state_of_process self.now.shown.states.items process) }
     {
         match self.process_state(process) {
             ProcessState::Off => false,
@@ -74,7 +74,7 @@ impl Machine {
 
     /// Whether its body or a handler of it is being executed, or it is being exited.
     pub fn is_busy(&self, process: Proc) -> bool
-        ensures { result ≡ (is_called_state (state_of_process self.now.states.items process) || flag_at self.now.exiting.items process) }
+        ensures { result ≡ (is_called_state (state_of_process self.now.shown.states.items process) || flag_at self.now.exiting.items process) }
     {
         match self.process_state(process) {
             ProcessState::Off => self.is_exiting(process),
@@ -91,9 +91,9 @@ impl Machine {
 
     /// Whether the mote has such a process.
     pub fn has_process(&self, process: Proc) -> bool
-        ensures { result ≡ nat_lt (place_of process) (length self.now.states.items) }
+        ensures { result ≡ nat_lt (place_of process) (length self.now.shown.states.items) }
     {
-        place_of(process) < self.states.len()
+        place_of(process) < self.shown.states.len()
     }
 
     /// Whether this incarnation is on the process list.
@@ -120,8 +120,8 @@ impl Machine {
         ensures grows { Grows self.old.out self.new.out }
     {
         let place = place_of(process);
-        if place < self.states.len() {
-            self.states[place] = state;
+        if place < self.shown.states.len() {
+            self.shown.set_state(place, state);
         }
     }
 

@@ -34,7 +34,7 @@ fn owner(program: &Program, timer: u16, current: u8) -> Proc
 impl Machine {
     /// Puts the callback of a timer, if it has one, on the callback list.
     fn put_callback(&mut self, program: &Program, timer: u16)
-        requires { timer < self.old.timer_count }
+        requires { timer < self.old.shown.timer_count }
         ensures exact { state_of (tree_of program.now) self.new ≡ record (state_of (tree_of program.now) self.old) { callbacks = if is_of_callback (tree_of program.now) timer then with_member timer self.old.callbacks.members else self.old.callbacks.members } }
         ensures kept { KeepsCounts self.old self.new }
         ensures grows { Grows self.old.out self.new.out }
@@ -47,7 +47,7 @@ impl Machine {
     /// A timer was set: its callback, if it has one, waits for it, and the etimer process is to be polled.
     #[tactic(auto, unfolding(crate::specs::TimerOperations::timer_is_set))]
     fn timer_is_set(&mut self, program: &Program, timer: u16)
-        requires { timer < self.old.timer_count }
+        requires { timer < self.old.shown.timer_count }
         ensures exact { state_of (tree_of program.now) self.new ≡ timer_is_set (state_of (tree_of program.now) self.old) timer }
         ensures kept { KeepsCounts self.old self.new }
         ensures grows { Grows self.old.out self.new.out }
@@ -62,9 +62,11 @@ impl Machine {
         ensures kept { KeepsCounts self.old self.new }
         ensures grows { Grows self.old.out self.new.out }
     {
-        if timer < self.timer_count {
+        if timer < self.shown.timer_count {
             let owner = owner(program, timer, current);
-            self.timers.set(timer, owner, interval, self.moment);
+            self.shown
+                .timers
+                .set(timer, owner, interval, self.shown.moment);
             self.timer_is_set(program, timer);
         }
     }
@@ -75,8 +77,10 @@ impl Machine {
         ensures kept { KeepsCounts self.old self.new }
         ensures grows { Grows self.old.out self.new.out }
     {
-        if timer < self.timer_count {
-            self.timers.reset(timer, owner(program, timer, current));
+        if timer < self.shown.timer_count {
+            self.shown
+                .timers
+                .reset(timer, owner(program, timer, current));
             self.timer_is_set(program, timer);
         }
     }
@@ -87,9 +91,9 @@ impl Machine {
         ensures kept { KeepsCounts self.old self.new }
         ensures grows { Grows self.old.out self.new.out }
     {
-        if timer < self.timer_count {
+        if timer < self.shown.timer_count {
             let owner = owner(program, timer, current);
-            self.timers.restart(timer, owner, self.moment);
+            self.shown.timers.restart(timer, owner, self.shown.moment);
             self.timer_is_set(program, timer);
         }
     }
@@ -100,8 +104,8 @@ impl Machine {
         ensures kept { KeepsCounts self.old self.new }
         ensures grows { Grows self.old.out self.new.out }
     {
-        if timer < self.timer_count {
-            self.timers.stop(timer);
+        if timer < self.shown.timer_count {
+            self.shown.timers.stop(timer);
             self.callbacks.remove(timer);
         }
     }
@@ -113,7 +117,7 @@ impl Machine {
         ensures kept { KeepsCounts self.old self.new }
         ensures grows { Grows self.old.out self.new.out }
     {
-        if timer < self.timer_count && self.callbacks.holds(timer) {
+        if timer < self.shown.timer_count && self.callbacks.holds(timer) {
             self.callbacks.remove(timer)
         } else {
             false
@@ -128,13 +132,13 @@ impl Machine {
         ensures grows { Grows self.old.out self.new.out }
     {
         let mut after = None;
-        while let Some((timer, owner)) = self.timers.next_due(self.moment, after) {
+        while let Some((timer, owner)) = self.shown.timers.next_due(self.shown.moment, after) {
             let is_full = self.post(Target::One(owner), told(SystemEvent::Timer, timer))?;
             if is_full {
                 self.poll(Proc::Etimer);
                 after = Some(timer);
             } else {
-                self.timers.fire(timer);
+                self.shown.timers.fire(timer);
                 after = None;
             }
         }
@@ -149,7 +153,7 @@ impl Machine {
         ensures grows { Grows self.old.out self.new.out }
     {
         if process < 256 {
-            self.timers.purge(Proc::Own(process as u8));
+            self.shown.timers.purge(Proc::Own(process as u8));
         }
     }
 

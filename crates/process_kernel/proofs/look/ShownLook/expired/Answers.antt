@@ -4,7 +4,7 @@ use Rattle.process_kernel.proofs.look.ShownLook.expired.Goals as goal
 
 pub returns-then-timer-self : goal.returns-then-timer-self
 returns-then-timer-self c =
-    unowned_hold c.args.self.now.timers.now.timers c.args.timer c.expired.result (omega arith) c.expired.ensures
+    unowned_hold c.args.self.now.timers.timers c.args.timer c.expired.result (omega arith) c.expired.ensures
 
 pub returns-else-timer-self : goal.returns-else-timer-self
-returns-else-timer-self c = unowned_past c.args.self.now.timers.now.timers c.args.timer (omega arith)
+returns-else-timer-self c = unowned_past c.args.self.now.timers.timers c.args.timer (omega arith)

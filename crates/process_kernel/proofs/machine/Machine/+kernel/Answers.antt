@@ -169,7 +169,7 @@ start-returns-in_ok-enlist-clause-exact t c = λ k enough. search (rules, c.in_o
 pub start-returns-in_ok-enlist-clause-paid : goal.start-returns-in_ok-enlist-clause-paid
 start-returns-in_ok-enlist-clause-paid t c =
     let T = tree_of c.args.program.now in
-    let within : place_of c.args.process < length c.args.self.now.states.items = search rules in
+    let within : place_of c.args.process < length c.args.self.now.shown.states.items = search rules in
     let runs = enlisted_runs (state_of T c.args.self.now) (state_of T c.enlist.new.self) c.args.process within (c.in_ok-enlist.ensures.exact T) in
     let counts = c.in_ok-enlist.ensures.counts in
     on_ok_both c.call.result _ _ _ c.call.ensures.spends c.call.ensures.pays (λ spends pays. let cost = pays runs in (omega (arith, counts, spends), omega (arith, counts, cost)))

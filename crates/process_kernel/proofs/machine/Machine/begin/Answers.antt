@@ -4,9 +4,9 @@ use Rattle.process_kernel.specs.ProcessList.{numbered_from}
 use Rattle.process_kernel.proofs.Lists.{AreMembers-numbered, length-numbered, refill_same}
 use Rattle.process_kernel.proofs.machine.Machine.begin.Goals as goal
 
-pub invariant_of-self-clause-are_members : goal.invariant_of-self-clause-are_members
-invariant_of-self-clause-are_members c =
+pub invariant_of-self-2-clause-are_members : goal.invariant_of-self-2-clause-are_members
+invariant_of-self-2-clause-are_members c =
     let old = c.args.self.now.members.items in
     let is = c.number.ensures ∙ ap (numbered_from 0) c.as_mut_slice.ensures.value in
-    subst (λ ms. AreMembers ms (length c.args.self.now.states.items)) (sym (refill_same old c.number.new.members (ap length is ∙ length-numbered 0 old) ∙ is))
+    subst (λ ms. AreMembers ms (length c.args.self.now.shown.states.items)) (sym (refill_same old c.number.new.members (ap length is ∙ length-numbered 0 old) ∙ is))
     (AreMembers-numbered 0 _ _ c.args.self.now.are_members)

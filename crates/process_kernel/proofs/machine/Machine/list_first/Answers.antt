@@ -6,5 +6,5 @@ use Rattle.process_kernel.proofs.machine.Machine.list_first.Goals as goal
 pub insert-requires : goal.insert-requires
 insert-requires c =
     let s = c.args.self.now in
-    let room = length-lt (record { process = c.args.process; incarnation = 0 }) s.members.items (length s.states.items) s.are_members c.requires.there c.requires.away in
+    let room = length-lt (record { process = c.args.process; incarnation = 0 }) s.members.items (length s.shown.states.items) s.are_members c.requires.there c.requires.away in
     (omega arith, (omega arith, omega (arith, room, s.few_processes)))

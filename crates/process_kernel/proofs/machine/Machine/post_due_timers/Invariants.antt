@@ -11,10 +11,10 @@ abbrev pub invariant-loop-timer : goal.invariant-loop-timer
 invariant-loop-timer l =
     KeepsCounts l.fn.self l.self
     × Grows l.fn.self.out l.self.out
-    × ForSome l.after (λ id. IsTrue (is_member id l.self.timers.listed))
-    × ((t : Tree) → (left : ℕ) × (length l.self.timers.listed ≤ left + 1)
-    × (pass_of (state_of t l.fn.self) ≡ walk_timers (walks_of left) (behind l.after l.self.timers.listed) (state_of t l.self)))
+    × ForSome l.after (λ id. IsTrue (is_member id l.self.shown.timers.listed))
+    × ((t : Tree) → (left : ℕ) × (length l.self.shown.timers.listed ≤ left + 1)
+    × (pass_of (state_of t l.fn.self) ≡ walk_timers (walks_of left) (behind l.after l.self.shown.timers.listed) (state_of t l.self)))
 
 -- each walk has a timer less on the list, and each step of it comes nearer to the end
 abbrev pub decreases-loop-timer : goal.decreases-loop-timer
-decreases-loop-timer l = length l.self.timers.listed * length l.self.timers.listed + length (behind l.after l.self.timers.listed)
+decreases-loop-timer l = length l.self.shown.timers.listed * length l.self.shown.timers.listed + length (behind l.after l.self.shown.timers.listed)
