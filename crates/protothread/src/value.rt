@@ -12,6 +12,7 @@ use crate::vars::Vars;
 use program_tree::{Event, Expr, Operator, SystemEvent};
 
 /// The value of an operator between two values.
+#[inline(always)]
 fn apply(operator: Operator, left: u16, right: u16) -> u16
     ensures { result ≡ applied operator left right }
 {
