@@ -121,3 +121,8 @@ number_more k (suc p) n (m ∷ ms) d inside is =
 pub length-numbered : (k : ℕ) (ms : List Member) → length (numbered_from k ms) ≡ length ms
 length-numbered k [] = refl
 length-numbered k (m ∷ ms) = ap suc (length-numbered (k + 1) ms)
+
+-- to number a list anew that is numbered changes nothing
+pub numbered_again : (k : ℕ) (ms : List Member) → numbered_from k (numbered_from k ms) ≡ numbered_from k ms
+numbered_again k [] = refl
+numbered_again k (m ∷ ms) = ap (λ xs. record { process = m.process; incarnation = k } ∷ xs) (numbered_again (k + 1) ms)

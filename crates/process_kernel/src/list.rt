@@ -135,6 +135,7 @@ impl Machine {
         ensures grows { Grows self.old.out self.new.out }
     {
         let incarnation = self.started;
+        self.is_numbered = false;
         self.members.insert(
             0,
             Member {
@@ -179,6 +180,7 @@ impl Machine {
         ensures kept { KeepsCounts self.old self.new }
         ensures grows { Grows self.old.out self.new.out }
     {
+        self.is_numbered = false;
         self.members = without(self.members.as_slice(), process);
     }
 

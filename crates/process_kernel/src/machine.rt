@@ -1,7 +1,9 @@
 //! What a mote's kernel keeps, and why a run of it goes no further.
 
-ghost use Rattle.std.specs.Prelude.{◌≡◌, ◌≤◌, ◌^◌, length};
+ghost use Rattle.std.specs.Prelude.{◌≡◌, ◌≤◌, ◌^◌, true, length};
 ghost use Rattle.process_kernel.specs.Members.{AreMembers};
+ghost use Rattle.process_kernel.specs.ProcessList.{numbered_from};
+ghost use Rattle.std.proofs.Props.{props};
 
 use crate::line::Out;
 use crate::look::Shown;
@@ -47,25 +49,28 @@ impl<T: Drop> From<AllocFailed<T>> for Stop {
 }
 
 /// The kernel of a mote. The tables have the system processes first, then those of the program in their order; threads and
-/// variables are those of the program's processes alone. The thread of a body is out of its table while it runs.
+/// variables are those of the program's processes alone. The thread of a body is out of its table while it runs. Whether the
+/// incarnations on the process list are known to have the numbers from 0 on is kept, so that they aren't numbered anew for nothing.
 #[derive(Drop)]
 pub struct Machine {
-    pub(crate) alloc: Global,
     pub(crate) shown: Shown,
     pub(crate) exiting: Vec<bool>,
+    pub(crate) callbacks: Callbacks,
+    pub(crate) members: ArrayVec<Member, MOST_PROCESSES>,
+    pub(crate) started: u32,
+    pub(crate) is_numbered: bool,
+    pub(crate) flag: bool,
+    pub(crate) fuel: Fuel,
     pub(crate) marks: Vec<bool>,
     pub(crate) threads: Vec<Option<Box<Thread>>>,
     pub(crate) variables: Vec<Vars>,
-    pub(crate) members: ArrayVec<Member, MOST_PROCESSES>,
-    pub(crate) started: u32,
-    pub(crate) flag: bool,
     pub(crate) queue: EventQueue,
     pub(crate) accepted: u64,
-    pub(crate) callbacks: Callbacks,
     pub(crate) ring: HeapCircularBuffer<Arrival>,
     pub(crate) sent: u64,
-    pub(crate) fuel: Fuel,
     pub(crate) out: Out,
+    pub(crate) alloc: Global,
+    ghost numbered: { is_numbered ≡ true → members.items ≡ numbered_from 0 members.items } by { Prim.hlevel props },
     ghost few_processes: { length shown.states.items ≤ 67 },
     ghost are_members: { AreMembers members.items (length shown.states.items) },
     ghost counted: { accepted ≡ queue.accepted },

@@ -25,7 +25,7 @@ const RING: usize = 8;
 fn fresh_bodies(alloc: Global, program: &Program) -> Result<Vec<Option<Box<Thread>>>, AllocError>
     ensures { IfOk result (λ threads. remainders_of (tree_of program.now).codes threads.items ≡ map (λ c. fresh_of c Part.Body) (tree_of program.now).codes) }
 {
-    let mut threads = Vec::new(alloc);
+    let mut threads = Vec::with_capacity(alloc, usize::from(program.processes()))?;
     for _process in 0..program.processes() {
         let body = Box::new(alloc, Thread::fresh(Part::Body))?;
         threads.push(Some(body))?;
@@ -37,7 +37,7 @@ fn fresh_bodies(alloc: Global, program: &Program) -> Result<Vec<Option<Box<Threa
 fn first_variables(alloc: Global, program: &Program) -> Result<Vec<Vars>, AllocError>
     ensures { IfOk result (λ variables. variables.items ≡ map (λ c. c.starts) (tree_of program.now).codes) }
 {
-    let mut variables = Vec::new(alloc);
+    let mut variables = Vec::with_capacity(alloc, usize::from(program.processes()))?;
     for process in 0..program.processes() {
         variables.push(Vars::new(program.process(process)))?;
     }
@@ -86,6 +86,7 @@ impl Machine {
             variables: first_variables(alloc, program)?,
             members: ArrayVec::new(),
             started: 0,
+            is_numbered: false,
             flag: false,
             queue: EventQueue::new(alloc, queue)?,
             accepted: 0,

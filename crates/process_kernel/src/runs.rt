@@ -9,7 +9,7 @@ ghost use Rattle.process_kernel.specs.ProcessList.{numbered_from};
 ghost use Rattle.process_kernel.specs.Polls.{poll_turn_of, walk_polls, polls_of, polls_due_of};
 ghost use Rattle.process_kernel.specs.Delivery.{give_of, visit_of, walk_event, deliver_of};
 ghost use Rattle.process_kernel.specs.Run.{begun_of, deliver_front, kernel_of};
-ghost use Rattle.process_kernel.specs.Views.{state_of, Tells, Grows, HasRoom, Spends};
+ghost use Rattle.process_kernel.specs.Views.{state_of, Tells, Grows, HasRoom, KeepsCounts, Spends};
 
 use crate::event::told;
 use crate::line::What;
@@ -40,6 +40,18 @@ fn number(members: &mut [Member])
 }
 
 impl Machine {
+    /// Numbers the incarnations on the process list from 0 on, where they aren't numbered so.
+    fn number_members(&mut self)
+        ensures exact { (t : Tree) → state_of t self.new ≡ record (state_of t self.old) { members = numbered_from 0 self.old.members.items } }
+        ensures kept { KeepsCounts self.old self.new }
+        ensures grows { Grows self.old.out self.new.out }
+    {
+        if !self.is_numbered {
+            number(self.members.as_mut_slice());
+            self.is_numbered = true;
+        }
+    }
+
     /// Begins a boot or a run at this moment.
     #[tactic(auto, unfolding(crate::specs::Run::begun_of))]
     pub fn begin(&mut self, moment: u64)
@@ -51,7 +63,7 @@ impl Machine {
         self.shown.moment = moment;
         self.fuel = Fuel::new(UNITS);
         self.started = self.members.len() as u32;
-        number(self.members.as_mut_slice());
+        self.number_members();
     }
 
     /// How much is left to do: the queued events, and one more where the poll flag is set.

@@ -3,7 +3,6 @@ ghost use Rattle.std.specs.Prelude.{◌≡◌, ◌==◌, IfSome};
 ghost use Rattle.std.specs.List.{list_any};
 ghost use Rattle.program_tree.specs.Events.{system_number};
 ghost use Rattle.program_tree.specs.Tree.{expression_of};
-ghost use Rattle.program_tree.specs.declared.event.Event.{Event};
 ghost use Rattle.protothread.specs.Looks.{Looks};
 ghost use Rattle.protothread.specs.Value.{applied, is_event as has_number_and_word, value};
 
@@ -54,14 +53,15 @@ fn is_running<L: Look>(look: &L, process: u8) -> bool
     look.running(process)
 }
 
-/// The value of a number or a variable, which most operands are.
+/// The value of a number, a variable or the event's word, which most operands are.
 #[inline(always)]
-fn plain_value(operand: &Expr, vars: &Vars) -> Option<u16>
-    ensures { (event : Event) (looks : Looks) → IfSome result (λ found. found ≡ value vars.now event looks (expression_of operand.now)) }
+fn plain_value(operand: &Expr, vars: &Vars, event: &Event) -> Option<u16>
+    ensures { (looks : Looks) → IfSome result (λ found. found ≡ value vars.now event.now looks (expression_of operand.now)) }
 {
     match operand {
         Expr::Number(number) => Some(*number),
         Expr::Variable(variable) => Some(vars.value(*variable)),
+        Expr::Word => Some(event.word),
         _ => None,
     }
 }
@@ -78,8 +78,8 @@ fn short_value(expression: &Expr, vars: &Vars, event: &Event) -> Option<u16>
         Expr::Is(named) => Some(u16::from(event.number == named.number())),
         Expr::Fired(timer) => Some(u16::from(is_event(event, SystemEvent::Timer, *timer))),
         Expr::Binary(operator, left, right) => {
-            let left = plain_value(left, vars)?;
-            let right = plain_value(right, vars)?;
+            let left = plain_value(left, vars, event)?;
+            let right = plain_value(right, vars, event)?;
             Some(apply(*operator, left, right))
         }
         _ => None,
