@@ -1,5 +1,4 @@
 pub mod HearLemmas
-pub mod RunLemmas
 pub mod StepLemmas
 pub mod TurnLaws
 pub mod TurnLemmas

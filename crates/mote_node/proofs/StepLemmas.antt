@@ -1,43 +1,10 @@
 -- Steps of a turn that go on by their definitions.
-use Rattle.std.proofs.Common.{◌≡◌, Bool, true, false, List, option_map, Option, Some, None, Ok, refl, subst, if◌then◌else◌}
-use Rattle.process_kernel.specs.declared.kernel.Ran.{Ran}
-use Rattle.process_kernel.specs.declared.line.Line.{Line}
+use Rattle.std.proofs.Common.{◌≡◌, Bool, true, false, option_map, Option, Some, None, refl, if◌then◌else◌}
 use Rattle.process_kernel.specs.declared.line.Out.{Out}
-use Rattle.radio_packet.specs.declared.sent.Sent.{Sent}
 use Rattle.process_kernel.specs.Mote.{Mote}
-use Rattle.process_kernel.specs.Public.{Given, Tells}
-use Rattle.mote_node.specs.Underway.{Underway, after, with_mote}
-use Rattle.mote_node.specs.Steps.{underway_in, GoesOn}
-
-abbrev pub underway : Mote → Out → Underway
-underway m out = record { mote = m; lines = out.lines.items; sends = out.sends.items }
-
--- a failed mote goes on anyhow
-pub from_none : (step : Underway → Underway) (out : Out) (new : Option Mote) (out' : Out) → GoesOn step None out new out'
-from_none step out new out' = record { leads = λ u is. cc }
-
-pub from_some : (step : Underway → Underway) (m : Mote) (out : Out) (new : Option Mote) (out' : Out)
-    → underway_in new out' ≡ Some (step (underway m out)) → GoesOn step (Some m) out new out'
-from_some step m out new out' h = record {
-  leads = λ u is.
-      let same : underway m out ≡ u = cc in
-      let P : Underway → Type 0 = λ v. underway_in new out' ≡ Some (step v) in subst P same h;
-}
-
--- a boot or a run of the kernel is a step
-pub kernel_step : (gives : Mote → List Line → List Sent → Given) (old new : Option Mote) (out out' : Out) (r : Ran)
-    → Tells gives old out (Ok r) new out' → GoesOn (λ u. after (gives u.mote u.lines u.sends)) old out new out'
-kernel_step gives None new out out' r h = from_none _ out new out'
-kernel_step gives (Some m) new out out' r (m', is, given) =
-    from_some (λ u. after (gives u.mote u.lines u.sends)) m out new out' (rw (is, given) refl)
-
--- what the kernel answered
-pub kernel_ran : (gives : Mote → List Line → List Sent → Given) (old new : Option Mote) (out out' : Out) (r : Ran) (u : Underway)
-    → Tells gives old out (Ok r) new out' → underway_in old out ≡ Some u → (gives u.mote u.lines u.sends).ran ≡ r
-kernel_ran gives None new out out' r u h is = cc
-kernel_ran gives (Some m) new out out' r u (m', same, given) is =
-    let eq : underway m out ≡ u = cc in
-    let P : Underway → Type 0 = λ v. (gives v.mote v.lines v.sends).ran ≡ r in subst P eq (rw given refl)
+use Rattle.mote_node.specs.Underway.{with_mote}
+use Rattle.mote_node.specs.Steps.{GoesOn}
+pub use Rattle.process_kernel.proofs.Steps.{underway, from_none, from_some, kernel_step}
 
 -- a choice that is made
 pub if_true : {A : Type 0} (b : Bool) (x y : A) → true ≡ b → (if b then x else y) ≡ x

@@ -1,13 +1,2 @@
 -- What the steps of a turn tell, over a kernel and what it writes.
-use Rattle.std.specs.Prelude.{◌≡◌, Option, Some, option_map}
-use Rattle.process_kernel.specs.declared.line.Out.{Out}
-use Rattle.process_kernel.specs.Mote.{Mote}
-use Rattle.mote_node.specs.Underway.{Underway}
-
--- the turn under way of a mote, unless that has failed
-abbrev pub underway_in : Option Mote → Out → Option Underway
-underway_in m out = option_map (λ x. record { mote = x; lines = out.lines.items; sends = out.sends.items }) m
-
--- a mote that has not failed goes on by this step
-pub record GoesOn (step : Underway → Underway) (old : Option Mote) (out : Out) (new : Option Mote) (out' : Out) : Type 0 where
-  pub leads : (u : Underway) → underway_in old out ≡ Some u → underway_in new out' ≡ Some (step u)
+pub use Rattle.process_kernel.specs.Underway.{underway_in, GoesOn}

@@ -1,14 +1,13 @@
 -- A turn of a node.
-use Rattle.std.specs.Prelude.{ℕ, zero, suc, nat_le, Bool, false, ◌&&◌, List, [], Option, Some, None, if◌then◌else◌}
+use Rattle.std.specs.Prelude.{ℕ, nat_le, Bool, false, ◌&&◌, List, [], Option, Some, None, if◌then◌else◌}
 use Rattle.program_tree.specs.declared.event.Proc.TheVariants.{Etimer}
 use Rattle.mote_timers.specs.TimerLists.{next_expiration_of}
-use Rattle.process_kernel.specs.declared.kernel.Ran.{Ran}
-use Rattle.process_kernel.specs.declared.kernel.Ran.TheVariants as ran
 use Rattle.radio_packet.specs.declared.arrival.Arrival.{Arrival}
 use Rattle.process_kernel.specs.declared.line.Line.{Line}
 use Rattle.radio_packet.specs.declared.sent.Sent.{Sent}
 use Rattle.process_kernel.specs.Mote.{Mote, with_poll}
-use Rattle.process_kernel.specs.Public.{boot_given, run_given}
+use Rattle.process_kernel.specs.Public.{boot_given}
+pub use Rattle.process_kernel.specs.Runs.{follow, runs_of}
 use Rattle.mote_node.specs.Node.{Node}
 use Rattle.mote_node.specs.Wake.{wake_of}
 use Rattle.mote_node.specs.Underway.{Underway, turn_goes_on, with_mote, after}
@@ -25,18 +24,6 @@ is_some_due moment (Some expiration) = nat_le expiration moment
 -- the etimer process is polled where a timer is due by now
 unfoldable pub poll_due : (moment : ℕ) → Mote → Mote
 poll_due moment m = if is_some_due moment (next_expiration_of m.state.timers) then with_poll m Etimer else m
-
--- a run that left something to do is followed by the others
-abbrev pub follow : Ran → (others : Underway → Underway) → Underway → Underway
-follow ran.Halted others u = u
-follow (ran.Left zero) others u = u
-follow (ran.Left (suc n)) others u = others u
-
--- kernel runs, at most so many, until one leaves nothing to do or the mote halts
-unfoldable pub runs_of : (most : ℕ) → (moment : ℕ) → Underway → Underway
-runs_of zero moment u = u
-runs_of (suc most) moment u =
-    let given = run_given moment u.mote u.lines u.sends in follow given.ran (runs_of most moment) (after given)
 
 -- the most kernel runs of a turn; the boot is none of them
 abbrev pub most_runs : ℕ

@@ -99,20 +99,10 @@ fn run_all(
     requires { moment ≤ 2 ^ 40 }
     ensures { let t = tree_of program.now in OnOk result (GoesOn (runs_of most_runs moment) (mote_in t kernel.old) out.old (mote_in t kernel.new) out.new) }
 {
-    'runs: for _run in 0..RUNS {
-        let Ok(ran) = kernel.run(program, moment, out) else {
-            return Err(AllocError);
-        };
-        match ran {
-            Ran::Halted => return Ok(()),
-            Ran::Left(left) => {
-                if left == 0 {
-                    return Ok(());
-                }
-            }
-        }
+    match kernel.run_all(program, moment, RUNS, out) {
+        Ok(()) => Ok(()),
+        Err(_) => Err(AllocError),
     }
-    Ok(())
 }
 
 /// The turn of the mote with these packets.

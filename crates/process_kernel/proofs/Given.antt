@@ -50,6 +50,12 @@ finished t gives k k1 k2 out out' s1 o (Err Halted) result going going1 running 
 finished t gives k k1 k2 out out' s1 o (Err Memory) result going going1 running gives_it told rest ls ss begins closes =
     rw (going, closes.0, closes.1) (refl, refl, begins)
 
+-- a run that ends leaves its machine as it is
+pub machine_kept : (k1 k2 : Kernel) (r : Result ℕ Stop) (result : Result Ran KernelError) → Closes k1 r result k2 → k2.machine ≡ k1.machine
+machine_kept k1 k2 (Ok left) result closes = ap (λ (k : Kernel). k.machine) closes.1
+machine_kept k1 k2 (Err Halted) result closes = ap (λ (k : Kernel). k.machine) closes.1
+machine_kept k1 k2 (Err Memory) result closes = ap (λ (k : Kernel). k.machine) closes.1
+
 -- what grew from what was written begins with it
 pub begins_with : (old new : Out) → ((lines : List Line) (sends : List Sent) → Begins lines sends old → Begins lines sends new) → BeginsWith old new
 unfolding Begins

@@ -7,5 +7,7 @@ pub mod Lists
 pub mod Marks
 pub mod Places
 pub mod Remainders
+pub mod Repeated
 pub mod Starts
+pub mod Steps
 pub mod Walks

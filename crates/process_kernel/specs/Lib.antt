@@ -20,10 +20,12 @@ pub mod Public
 pub mod Radio
 pub mod Reaction
 pub mod Run
+pub mod Runs
 pub mod Semaphores
 pub mod Start
 pub mod State
 pub mod Thread
 pub mod TimerOperations
+pub mod Underway
 pub mod Views
 pub mod Writes

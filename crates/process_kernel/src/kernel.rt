@@ -1,6 +1,6 @@
 //! The kernel of a mote.
 
-ghost use Rattle.std.specs.Prelude.{◌≡◌, ◌≤◌, ◌^◌, IfOk, IfErr, IfSome, Some, if◌then◌else◌, option_map};
+ghost use Rattle.std.specs.Prelude.{◌≡◌, ◌≤◌, ◌^◌, OnOk, IfOk, IfErr, IfSome, Some, if◌then◌else◌, option_map};
 ghost use Rattle.program_tree.specs.Code.{Tree};
 ghost use Rattle.program_tree.specs.Program.{tree_of};
 ghost use Rattle.mote_timers.specs.TimerLists.{next_expiration_of};
@@ -70,6 +70,8 @@ impl Drop for Kernel {
 
 impl Kernel {
     ghost use Rattle.process_kernel.specs.Public.{mote_in, held_in, boot_given, run_given, Tells, Closes};
+    ghost use Rattle.process_kernel.specs.Underway.{GoesOn};
+    ghost use Rattle.process_kernel.specs.Runs.{runs_of};
 
     /// The kernel of the mote with this number, not booted yet, with room for this many events in its queue, 1 to 128.
     #[tactic(auto, unfolding(crate::specs::Public::mote_in, crate::specs::Mote::unbooted))]
@@ -114,11 +116,10 @@ impl Kernel {
         self.close(ran)
     }
 
-    /// One kernel run at this moment: the polls, where they are due, and the event at the front of the queue. Lines and
-    /// packets are added to `out`. A kernel that found no memory fails from then on.
-    pub fn run(&mut self, program: &Program, now: u64, out: &mut Out) -> Result<Ran, KernelError>
+    /// One kernel run at this moment, whose lines and packets are added to what the machine has.
+    fn run_on(&mut self, program: &Program, now: u64) -> Result<Ran, KernelError>
         requires { now ≤ 2 ^ 40 }
-        ensures { Tells (run_given now) (mote_in (tree_of program.now) self.old) out.old result (mote_in (tree_of program.now) self.new) out.new }
+        ensures { Tells (run_given now) (mote_in (tree_of program.now) self.old) self.old.machine.out result (mote_in (tree_of program.now) self.new) self.new.machine.out }
     {
         if self.failed {
             return Err(KernelError::Failed);
@@ -126,11 +127,57 @@ impl Kernel {
         if self.halted {
             return Ok(Ran::Halted);
         }
-        mem::swap(&mut self.machine.out, out);
         self.machine.begin(now);
         let ran = self.machine.run_kernel(program);
-        mem::swap(&mut self.machine.out, out);
         self.close(ran)
+    }
+
+    /// One kernel run at this moment: the polls, where they are due, and the event at the front of the queue. Lines and
+    /// packets are added to `out`. A kernel that found no memory fails from then on.
+    pub fn run(&mut self, program: &Program, now: u64, out: &mut Out) -> Result<Ran, KernelError>
+        requires { now ≤ 2 ^ 40 }
+        ensures { Tells (run_given now) (mote_in (tree_of program.now) self.old) out.old result (mote_in (tree_of program.now) self.new) out.new }
+    {
+        mem::swap(&mut self.machine.out, out);
+        let ran = self.run_on(program, now);
+        mem::swap(&mut self.machine.out, out);
+        ran
+    }
+
+    /// Kernel runs at this moment, at most so many, until one leaves nothing to do or the mote halts, on what the machine has.
+    fn run_all_on(&mut self, program: &Program, now: u64, most: u8) -> Result<(), KernelError>
+        requires { now ≤ 2 ^ 40 }
+        ensures { let t = tree_of program.now in OnOk result (GoesOn (runs_of most now) (mote_in t self.old) self.old.machine.out (mote_in t self.new) self.new.machine.out) }
+    {
+        'runs: for _run in 0..most {
+            match self.run_on(program, now)? {
+                Ran::Halted => return Ok(()),
+                Ran::Left(left) => {
+                    if left == 0 {
+                        return Ok(());
+                    }
+                }
+            }
+        }
+        Ok(())
+    }
+
+    /// Kernel runs at this moment, at most so many, until one leaves nothing to do or the mote halts: as so many calls of `run`.
+    /// Lines and packets are added to `out`. A kernel that found no memory fails from then on.
+    pub fn run_all(
+        &mut self,
+        program: &Program,
+        now: u64,
+        most: u8,
+        out: &mut Out,
+    ) -> Result<(), KernelError>
+        requires { now ≤ 2 ^ 40 }
+        ensures { let t = tree_of program.now in OnOk result (GoesOn (runs_of most now) (mote_in t self.old) out.old (mote_in t self.new) out.new) }
+    {
+        mem::swap(&mut self.machine.out, out);
+        let ran = self.run_all_on(program, now, most);
+        mem::swap(&mut self.machine.out, out);
+        ran
     }
 
     /// Asks for a poll of a process, where it is running or called.

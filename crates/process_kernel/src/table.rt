@@ -15,7 +15,8 @@ use program_tree::Proc;
 pub fn place_of(process: Proc) -> usize
     ensures { result ≡ place_of process }
 {
-    let system = usize::from(matches!(process, Proc::Ctimer)) + 2 * usize::from(matches!(process, Proc::Radio));
+    let system = usize::from(matches!(process, Proc::Ctimer))
+        + 2 * usize::from(matches!(process, Proc::Radio));
     if let Proc::Own(number) = process {
         usize::from(number) + 3
     } else {

@@ -1,34 +1,7 @@
-use Rattle.std.proofs.Common.{arith, ◌≡◌, ◌+◌, refl, ap, sym}
-use Rattle.program_tree.specs.Program.{tree_of}
-use Rattle.process_kernel.specs.declared.line.Out.{Out}
-use Rattle.process_kernel.specs.State.{State}
-use Rattle.process_kernel.specs.Run.{begun_of}
-use Rattle.process_kernel.specs.Run.{kernel_of, most_units}
-use Rattle.process_kernel.specs.Call.{calls_of}
-use Rattle.process_kernel.specs.Views.{state_of, mote_of}
-use Rattle.process_kernel.specs.Public.{run_given, given, begun}
-use Rattle.process_kernel.proofs.Given.{failed, halted, finished, begins_with}
+use Rattle.process_kernel.specs.Public.{mote_in}
 use Rattle.process_kernel.proofs.kernel.Kernel.run.Goals as goal
 
-pub returns-then-self : goal.returns-then-self
-returns-then-self c = failed _ _ _ _ c.if-self.true
-
-pub returns-then-self-2 : goal.returns-then-self-2
-unfolding run_given
-returns-then-self-2 c =
-    halted (tree_of c.args.program.now) (run_given c.args.now) c.args.self.now c.args.out.now c.if-self.false (rw c.if-self-2.true refl)
-
+-- what a kernel has written is no part of its mote
 pub returns : goal.returns
-unfolding run_given begun_of
-returns c =
-    let t = tree_of c.args.program.now in
-    let k = c.args.self.now in
-    let out = c.args.out.now in
-    let o = kernel_of (calls_of (most_units + 1)) (state_of t c.begin.new.self) in
-    let begins : begun (mote_of t k.machine k.booted k.halted) c.args.now out.lines.items out.sends.items ≡ state_of t c.begin.new.self = rw c.swap.ensures.x_after at (sym (c.begin.ensures.exact t)) in
-    let work : c.begin.new.self.fuel ≡ most_units = ap (λ (s : State). s.units) (c.begin.ensures.exact t) in
-    let gives : run_given c.args.now (mote_of t k.machine k.booted k.halted) out.lines.items out.sends.items ≡ given o = rw c.if-self-2.false (ap (λ (s : State). given (kernel_of (calls_of (most_units + 1)) s)) begins) in
-    finished t (run_given c.args.now) k (record k { machine = _ }) c.close.new.self out c.swap-2.new.y (state_of t c.run_kernel-ran.new.self) o c.run_kernel-ran.result c.close.result
-    c.if-self.false c.if-self.false c.if-self-2.false gives (c.run_kernel-ran.ensures.exact (most_units + 1) (omega (arith, work))) refl
-    (ap (λ (x : Out). x.lines.items) c.swap-2.ensures.y_after) (ap (λ (x : Out). x.sends.items) c.swap-2.ensures.y_after)
-    (begins_with out c.swap-2.new.y (λ ls ss h. rw c.swap-2.ensures.y_after (c.run_kernel-ran.ensures.grows ls ss (c.begin.ensures.grows ls ss (rw c.swap.ensures.x_after h))))) c.close.ensures
+unfolding mote_in
+returns c = rw c.swap-2.ensures.y_after (rw c.swap.ensures.x_after at c.run_on-ran.ensures)

@@ -1,6 +1,4 @@
-use Rattle.std.proofs.Common.{◌≡◌, ◌∙◌, ap, sym, subst, length}
-use Rattle.std.specs.List.{refill}
-use Rattle.process_kernel.specs.declared.process.Member.{Member}
+use Rattle.std.proofs.Common.{◌∙◌, ap, sym, subst, length}
 use Rattle.process_kernel.specs.Members.{AreMembers}
 use Rattle.process_kernel.specs.ProcessList.{numbered_from}
 use Rattle.process_kernel.proofs.Lists.{AreMembers-numbered, length-numbered, numbered_again, refill_same}

@@ -5,10 +5,9 @@ use Rattle.process_kernel.specs.declared.kernel.Ran.TheVariants as ran
 use Rattle.process_kernel.specs.declared.line.Out.{Out}
 use Rattle.process_kernel.specs.Mote.{Mote}
 use Rattle.process_kernel.specs.Public.{Given, Tells, run_given}
-use Rattle.mote_node.specs.Underway.{Underway, after}
-use Rattle.mote_node.specs.Steps.{underway_in}
-use Rattle.mote_node.specs.Turn.{follow, runs_of}
-use Rattle.mote_node.proofs.StepLemmas.{kernel_step, kernel_ran}
+use Rattle.process_kernel.specs.Underway.{Underway, after, underway_in}
+use Rattle.process_kernel.specs.Runs.{follow, runs_of}
+use Rattle.process_kernel.proofs.Steps.{kernel_step, kernel_ran}
 
 -- a run of the kernel that is to be followed by as many as are left
 pub record RunSoFar (most left moment : ℕ) (first : Underway) (by_now : Option Underway) : Type 0 where

@@ -1,0 +1,25 @@
+-- A turn under way: a mote, with what it has told so far.
+use Rattle.std.specs.Prelude.{◌≡◌, List, Option, Some, option_map}
+use Rattle.process_kernel.specs.declared.line.Line.{Line}
+use Rattle.process_kernel.specs.declared.line.Out.{Out}
+use Rattle.radio_packet.specs.declared.sent.Sent.{Sent}
+use Rattle.process_kernel.specs.Mote.{Mote}
+use Rattle.process_kernel.specs.Public.{Given}
+
+-- the mote, and the lines and packets of the turn so far
+pub record Underway : Type 0 where
+  pub mote : Mote
+  pub lines : List Line
+  pub sends : List Sent
+
+-- what a boot or a kernel run leaves
+abbrev pub after : Given → Underway
+after g = record { mote = g.mote; lines = g.lines; sends = g.sends }
+
+-- the turn under way of a mote, unless that has failed
+abbrev pub underway_in : Option Mote → Out → Option Underway
+underway_in m out = option_map (λ x. record { mote = x; lines = out.lines.items; sends = out.sends.items }) m
+
+-- a mote that has not failed goes on by this step
+pub record GoesOn (step : Underway → Underway) (old : Option Mote) (out : Out) (new : Option Mote) (out' : Out) : Type 0 where
+  pub leads : (u : Underway) → underway_in old out ≡ Some u → underway_in new out' ≡ Some (step u)
