@@ -1,8 +1,8 @@
 -- Bytes put into room that is there.
-use Rattle.std.proofs.Common.{◌≡◌, ℕ, ◌+◌, ◌≤◌, List, ◌++◌, length, take, drop, refl, arith, append_assoc, take-append-drop}
+use Rattle.std.proofs.Common.{◌≡◌, ℕ, ◌+◌, ◌≤◌, List, ◌++◌, length, take, drop, set, refl, ap, subst, ◌∙◌, ◌<◌, ◌∷◌, arith, append_assoc, take-append-drop}
 use Rattle.std.proofs.lemmas.List.{take-append-le, length-take-le, length-drop, length-append}
 use Rattle.std.proofs.lemmas.Slice.{take-put_mid}
-use Rattle.std.proofs.Math.Seq.{take-append-add}
+use Rattle.std.proofs.Math.Seq.{take-append-add, take-set-lt, set-append_seam}
 use borrow.Rule.Slice.PartMut.{put_mid, post_of}
 
 -- the front of what was put
@@ -21,3 +21,10 @@ put_both at k l m from n room first text within part starts ends begins long =
     let count : length (take m text) ≡ m = length-take-le m text part in
     let front : take (length (take m text)) first ≡ take m text = rw count begins in
     rw (take-put_mid from l (put_mid at k room first) (drop m text) n (omega (arith, length-drop m text)) (omega arith), put_front at k from room first (take m text) (omega arith) (omega arith) front (omega arith), append_assoc, take-append-drop) refl
+
+-- the first byte that was put is put anew
+pub put_anew : (at end : ℕ) (before room : List ℕ) (old new : ℕ) (rest : List ℕ) → at ≤ length before → at < end → take end room ≡ take at before ++ old ∷ rest → take end (set room at new) ≡ take at before ++ new ∷ rest
+put_anew at end before room old new rest within more is =
+    let there : length (take at before) ≡ at = length-take-le at before within in
+    take-set-lt end room at new more ∙ ap (λ l. set l at new) is
+    ∙ subst (λ k. set (take at before ++ old ∷ rest) k new ≡ take at before ++ new ∷ rest) there (set-append_seam (take at before) old rest new)

@@ -1,5 +1,5 @@
 //! Words put into room that is there, from a place on. Each call gives the place behind its word.
-ghost use Rattle.std.specs.Prelude.{◌≡◌, ◌<◌, ◌≤◌, ◌+◌, [], ◌∷◌, ◌++◌, length, take, decimal};
+ghost use Rattle.std.specs.Prelude.{◌≡◌, ◌<◌, ◌≤◌, ◌+◌, ◌/◌, ◌%◌, [], ◌∷◌, ◌++◌, length, take, decimal};
 ghost use Rattle.trace_printer.specs.Words.{arrival_word};
 
 use crate::short::SHORT;
@@ -82,7 +82,8 @@ fn put_digits(room: &mut [u8], at: usize, number: u64, count: usize) -> usize
 fn put_short_number(room: &mut [u8], at: usize, number: u64) -> usize
     requires { (number < 1000) × (at + 4 ≤ length room.old) }
     ensures put { take result room.new ≡ take at room.old ++ decimal number }
-    ensures end { result ≤ at + 3 }
+    ensures end { result ≡ at + length (decimal number) }
+    ensures few { result ≤ at + 3 }
 {
     let row = number as usize * 4;
     let (first, second, third) = (SHORT[row], SHORT[row + 1], SHORT[row + 2]);
@@ -94,6 +95,52 @@ fn put_short_number(room: &mut [u8], at: usize, number: u64) -> usize
     at + (usize::from(count) - usize::from(b'0'))
 }
 
+/// The last digit of a number as a byte of text.
+#[inline(always)]
+fn last_digit(number: u64) -> u8
+    ensures { result ≡ 48 + number % 10 }
+{
+    b'0' + (number % 10) as u8
+}
+
+/// Puts a number of four digits: the first three by the table, and the last behind them. As there are always three, it
+/// needn't wait for the table to say how many.
+#[inline(always)]
+fn put_four_digits(room: &mut [u8], at: usize, number: u64) -> usize
+    requires size { (1000 ≤ number) × (number < 10000) }
+    requires room { at + 4 ≤ length room.old }
+    ensures put { take result room.new ≡ take at room.old ++ decimal number }
+    ensures end { result ≡ at + 4 }
+{
+    let _ = put_short_number(room, at, number / 10);
+    put_byte(room, at + 3, last_digit(number))
+}
+
+/// Puts the last three digits of a number, zeros in front too. The table has no zeros in front, so it gives the last two
+/// digits behind a 1, as those of a hundred more; the first of the three is then put in place of the 1.
+#[inline(always)]
+fn put_last_three(room: &mut [u8], at: usize, number: u64) -> usize
+    requires { at + 4 ≤ length room.old }
+    ensures put { take result room.new ≡ take at room.old ++ (48 + number / 100 % 10) ∷ (48 + number / 10 % 10) ∷ (48 + number % 10) ∷ [] }
+    ensures end { result ≡ at + 3 }
+{
+    let _ = put_short_number(room, at, 100 + number % 100);
+    room[at] = last_digit(number / 100);
+    at + 3
+}
+
+/// Puts a number of four to six digits: its thousands by the table, and the last three digits behind them.
+#[inline(always)]
+fn put_thousands(room: &mut [u8], at: usize, number: u64) -> usize
+    requires size { (1000 ≤ number) × (number < 1000000) }
+    requires room { at + 7 ≤ length room.old }
+    ensures put { take result room.new ≡ take at room.old ++ decimal number }
+    ensures end { result ≤ at + 6 }
+{
+    let end = put_short_number(room, at, number / 1_000);
+    put_last_three(room, end, number)
+}
+
 /// Puts a number from a thousand on.
 #[inline(never)]
 fn put_long_number(room: &mut [u8], at: usize, number: u64) -> usize
@@ -101,14 +148,14 @@ fn put_long_number(room: &mut [u8], at: usize, number: u64) -> usize
     ensures put { take result room.new ≡ take at room.old ++ decimal number }
     ensures end { result ≤ at + 20 }
 {
-    if number < 10_000 {
-        put_digits(room, at, number, 4)
+    if number < 1_000_000 {
+        put_thousands(room, at, number)
     } else {
         put_digits(room, at, number, digits(number))
     }
 }
 
-/// Puts a number. Most are small.
+/// Puts a number. Most have four digits or fewer, and take no call.
 #[inline(always)]
 pub fn put_number(room: &mut [u8], at: usize, number: u64) -> usize
     requires { at + 20 ≤ length room.old }
@@ -117,6 +164,8 @@ pub fn put_number(room: &mut [u8], at: usize, number: u64) -> usize
 {
     if number < 1_000 {
         put_short_number(room, at, number)
+    } else if number < 10_000 {
+        put_four_digits(room, at, number)
     } else {
         put_long_number(room, at, number)
     }

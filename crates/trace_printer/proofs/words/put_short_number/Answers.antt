@@ -9,4 +9,7 @@ pub returns-clause-put : goal.returns-clause-put
 returns-clause-put c = put_row c.args.number c.args.at _ c.args.room.now c.requires.0 c.requires.1 (omega (arith, short_count c.args.number c.requires.0, c.from.ensures))
 
 pub returns-clause-end : goal.returns-clause-end
-returns-clause-end c = omega (arith, short_count c.args.number c.requires.0, (short_is c.args.number c.requires.0).few, c.from.ensures)
+returns-clause-end c = omega (arith, short_count c.args.number c.requires.0, c.from.ensures)
+
+pub returns-clause-few : goal.returns-clause-few
+returns-clause-few c = omega (arith, short_count c.args.number c.requires.0, (short_is c.args.number c.requires.0).few, c.from.ensures)
