@@ -1,6 +1,7 @@
 -- What the calls of a `Mote` tell.
 use Rattle.std.specs.Prelude.{ℕ, Bool, false, if◌then◌else◌, Option, Some, None, option_map}
 use Rattle.program_tree.specs.Code.{Tree}
+use Rattle.process_kernel.specs.declared.line.Out.{Out}
 use Rattle.process_kernel.specs.Mote.{Mote}
 use Rattle.process_kernel.specs.Public.{mote_in, held_in}
 use Rattle.mote_node.specs.declared.mote.Mote.{Mote as MoteOfCode}
@@ -32,6 +33,10 @@ is_past_in moment (Some n) = is_past moment n.last
 
 abbrev pub with_collide : Bool → Node → Node
 with_collide collides n = record n { collides = collides }
+
+-- what a turn told, with the next wake
+abbrev pub told_with : Out → (wake : Option ℕ) → TurnOut
+told_with out wake = record { lines = out.lines; sends = out.sends; wake = wake }
 
 -- what a turn told, and the node that it left
 abbrev pub turn_told : TurnOut → Node → TurnGiven

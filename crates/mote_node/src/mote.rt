@@ -61,35 +61,6 @@ pub struct TurnOut {
     pub wake: Option<u64>,
 }
 
-impl TurnOut {
-    /// No lines, no packets and no wake.
-    pub fn new(alloc: Global) -> TurnOut
-        ensures lines { result.lines.items ≡ [] }
-        ensures sends { result.sends.items ≡ [] }
-        ensures wake { result.wake ≡ None }
-    {
-        TurnOut {
-            lines: Vec::new(alloc),
-            sends: Vec::new(alloc),
-            wake: None,
-        }
-    }
-
-    /// Takes the room of the lines and packets out, empty.
-    fn take_room(&mut self, alloc: Global) -> Out
-        ensures lines { result.lines.items ≡ [] }
-        ensures sends { result.sends.items ≡ [] }
-    {
-        let mut out = Out {
-            lines: mem::replace(&mut self.lines, Vec::new(alloc)),
-            sends: mem::replace(&mut self.sends, Vec::new(alloc)),
-        };
-        out.lines.clear();
-        out.sends.clear();
-        out
-    }
-}
-
 /// A mote of a net. Its turns come at rising moments, always with the same program. The kernel stands behind a pointer, so a mote
 /// is moved at little cost.
 pub struct Mote {
@@ -143,7 +114,7 @@ fn is_past(moment: u64, last: Option<u64>) -> bool
 impl Mote {
     ghost use Rattle.mote_node.specs.Node.{new_node};
     ghost use Rattle.mote_node.specs.Turn.{turn_of};
-    ghost use Rattle.mote_node.specs.Public.{node_in, node_held, wake_in, is_past_in, with_collide, turn_told};
+    ghost use Rattle.mote_node.specs.Public.{node_in, node_held, wake_in, is_past_in, with_collide, turn_told, told_with};
 
     /// The mote with this number and program, before its first turn. Its event queue has room for this many events, 1 to 128.
     ///
@@ -226,13 +197,14 @@ impl Mote {
         ensures fails { (t : Tree) → result ≡ Err MoteError.Memory → node_in t self.new ≡ None }
         ensures stays_failed { result ≡ Err MoteError.Failed → self.new ≡ self.old }
     {
-        let mut out = TurnOut::new(self.alloc);
-        self.turn_into(program, moment, arrivals, &mut out)?;
-        Ok(out)
+        let mut out = Out::new(self.alloc);
+        let wake = self.turn_into(program, moment, arrivals, &mut out)?;
+        let Out { lines, sends } = out;
+        Ok(TurnOut { lines, sends, wake })
     }
 
-    /// The turn that `turn` answers, which takes the place of what `out` had, in the room that this has. After an error `out`
-    /// may have anything.
+    /// The turn that `turn` answers: its lines and packets take the place of what `out` had, in the room that this has, and the
+    /// answer is when the mote wakes next. After an error `out` may have anything.
     ///
     /// # Errors
     /// Those of `turn`.
@@ -242,10 +214,10 @@ impl Mote {
         program: &Program,
         moment: u64,
         arrivals: &[Arrival],
-        out: &mut TurnOut,
-    ) -> Result<(), MoteError>
+        out: &mut Out,
+    ) -> Result<Option<u64>, MoteError>
         requires { moment ≤ 2 ^ 40 }
-        ensures ok { let t = tree_of program.now in OnOk result (option_map (turn_told out.new) (node_in t self.new) ≡ option_map (turn_of moment arrivals.now) (node_in t self.old)) }
+        ensures ok { let t = tree_of program.now in IfOk result (λ wake. option_map (turn_told (told_with out.new wake)) (node_in t self.new) ≡ option_map (turn_of moment arrivals.now) (node_in t self.old)) }
 
         ensures failed { let t = tree_of program.now in (result ≡ Err MoteError.Failed) ↔ (node_in t self.old ≡ None) }
         ensures past { let t = tree_of program.now in (result ≡ Err MoteError.Past) ↔ IsTrue (is_past_in moment (node_in t self.old)) }
@@ -261,22 +233,20 @@ impl Mote {
         if is_past(moment, self.last) {
             return Err(MoteError::Past);
         }
-        let mut written = out.take_room(self.alloc);
+        out.lines.clear();
+        out.sends.clear();
         let turned = turn_in_net(
             &mut *self.kernel,
             program,
             self.collide,
             moment,
             arrivals,
-            &mut written,
+            out,
         );
         match turned {
             Ok(()) => {
                 self.last = Some(moment);
-                let wake = self.wake();
-                let Out { lines, sends } = written;
-                *out = TurnOut { lines, sends, wake };
-                Ok(())
+                Ok(self.wake())
             }
             Err(_) => {
                 self.failed = true;

@@ -1,7 +1,10 @@
 //! What the runs of a kernel give: the lines of its trace, and packets that are sent.
 
+ghost use Rattle.std.specs.Prelude.{◌≡◌, []};
+
 use program_tree::{Proc, Target};
 use radio_packet::Sent;
+use std::alloc::Global;
 
 /// What a line of a trace tells.
 #[derive(Clone, Copy, Debug, PartialEq, Eq)]
@@ -48,4 +51,17 @@ pub struct Line {
 pub struct Out {
     pub lines: Vec<Line>,
     pub sends: Vec<Sent>,
+}
+
+impl Out {
+    /// No lines and no packets.
+    pub fn new(alloc: Global) -> Out
+        ensures lines { result.lines.items ≡ [] }
+        ensures sends { result.sends.items ≡ [] }
+    {
+        Out {
+            lines: Vec::new(alloc),
+            sends: Vec::new(alloc),
+        }
+    }
 }

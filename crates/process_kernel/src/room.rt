@@ -94,10 +94,7 @@ impl Machine {
             ring: HeapCircularBuffer::with_capacity(alloc, RING)?,
             sent: 0,
             fuel: Fuel::new(0),
-            out: Out {
-                lines: Vec::new(alloc),
-                sends: Vec::new(alloc),
-            },
+            out: Out::new(alloc),
         })
     }
 }

@@ -129,9 +129,9 @@ impl<'a> OwnWindow<'a> {
         take_arrivals(&self.copies[self.next..], moment, &mut room.arrivals)?;
         self.next += room.arrivals.len();
         gate.inside(worker, moment, self.mote.number());
-        self.mote
+        self.wake = self
+            .mote
             .turn_into(self.program, moment, &room.arrivals, &mut room.out)?;
-        self.wake = room.out.wake;
         self.lines.append(&mut room.out.lines)?;
         self.sends.append(&mut room.out.sends)?;
         Ok(())

@@ -1,7 +1,6 @@
 //! The room that a worker's turns and windows write into.
 
-use mote_node::TurnOut;
-use process_kernel::Line;
+use process_kernel::{Line, Out};
 use radio_packet::{Arrival, Sent};
 use std::alloc::{AllocError, Global};
 
@@ -10,7 +9,7 @@ use std::alloc::{AllocError, Global};
 #[derive(Drop)]
 pub struct TurnRoom {
     pub(crate) arrivals: Vec<Arrival>,
-    pub(crate) out: TurnOut,
+    pub(crate) out: Out,
 }
 
 /// The room that is there, or else one that is made.
@@ -21,7 +20,7 @@ pub(crate) fn room_in(
     if room.is_none() {
         let made = TurnRoom {
             arrivals: Vec::new(alloc),
-            out: TurnOut::new(alloc),
+            out: Out::new(alloc),
         };
         *room = Some(Box::new(alloc, made)?);
     }

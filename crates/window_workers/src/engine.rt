@@ -3,7 +3,7 @@
 ghost use Rattle.std.specs.Prelude.{◌≡◌, ◌<◌, ◌≤◌, ◌^◌, length, slice_index_or, Some, OnOk, IfOk};
 ghost use Rattle.program_tree.specs.Program.{tree_of};
 ghost use Rattle.mote_node.specs.Node.{Node};
-ghost use Rattle.mote_node.specs.Public.{node_in, wake_in};
+ghost use Rattle.mote_node.specs.Public.{node_in, told_with, wake_in};
 ghost use Rattle.mote_node.specs.declared.mote.Mote.{Mote as MoteOfCode};
 ghost use Rattle.program_tree.specs.Code.{Tree};
 ghost use Rattle.process_kernel.specs.declared.line.Line.{Line};
@@ -16,10 +16,10 @@ ghost use Rattle.window_workers.specs.Stands.{StandsAt, IsWhole, KeepsWakes, One
 
 use crate::sends::send_all;
 use mote_net::Net;
-use mote_node::{Mote, MoteError, TurnOut};
+use mote_node::{Mote, MoteError};
 use net_agenda::{Agenda, new_mote};
 use net_report::LogLine;
-use process_kernel::Line;
+use process_kernel::{Line, Out};
 use program_tree::Program;
 use radio_packet::Arrival;
 use std::alloc::{AllocError, Global};
@@ -41,7 +41,7 @@ pub struct Engine {
     /// The packets of the last turn; the next turn's take their room.
     pub arrivals: Vec<Arrival>,
     /// What the last turn told; the next turn writes into its room.
-    pub out: TurnOut,
+    pub out: Out,
 }
 
 /// A wake at another moment than this.
@@ -59,22 +59,22 @@ fn wake_but_at(moment: u64, wake: Option<u64>) -> Option<u64>
     }
 }
 
-/// The turn of one of the motes, which has not failed, and whose last turn was before this moment.
+/// The turn of one of the motes, which has not failed, and whose last turn was before this moment. Says when it wakes next.
 fn turn_mote(
     motes: &mut Vec<Mote>,
     program: &Program,
     number: u16,
     moment: u64,
     packets: &[Arrival],
-    out: &mut TurnOut,
-) -> Result<(), AllocError>
+    out: &mut Out,
+) -> Result<Option<u64>, AllocError>
     requires there { number < length motes.old.items }
     requires early { moment ≤ 2 ^ 40 }
     requires ready { (d : MoteOfCode) → CanTurn moment (node_in (tree_of program.now) (slice_index_or motes.old.items number d)) }
-    ensures { OnOk result (OneTakesTurn (tree_of program.now) moment packets.now number motes.old.items motes.new.items out.new) }
+    ensures { IfOk result (λ wake. OneTakesTurn (tree_of program.now) moment packets.now number motes.old.items motes.new.items (told_with out.new wake)) }
 {
     match motes[usize::from(number)].turn_into(program, moment, packets, out) {
-        Ok(()) => Ok(()),
+        Ok(wake) => Ok(wake),
         Err(MoteError::Memory) => Err(AllocError),
         Err(MoteError::Failed | MoteError::Past) => unreachable!(),
     }
@@ -128,7 +128,7 @@ impl Engine {
             log: Vec::new(alloc),
             agenda: Agenda::new(alloc),
             arrivals: Vec::new(alloc),
-            out: TurnOut::new(alloc),
+            out: Out::new(alloc),
         };
         for number in 0..net.motes() {
             let mote = new_mote(alloc, net, number)?;
@@ -151,7 +151,7 @@ impl Engine {
         self.agenda
             .take_due_into(moment, number, &mut self.arrivals)?;
         let wake = wake_but_at(moment, wake_at(&self.motes, number));
-        turn_mote(
+        let next = turn_mote(
             &mut self.motes,
             net.program(number),
             number,
@@ -159,7 +159,7 @@ impl Engine {
             &self.arrivals,
             &mut self.out,
         )?;
-        self.agenda.move_wake(wake, self.out.wake, number)?;
+        self.agenda.move_wake(wake, next, number)?;
         send_all(
             net.medium(),
             moment,

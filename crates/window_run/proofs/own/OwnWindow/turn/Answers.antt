@@ -2,7 +2,7 @@ use Rattle.std.proofs.Common.{rules, ◌≡◌, ◌+◌, drop, length, map, None
 use Rattle.std.specs.List.{take_while}
 use Rattle.std.proofs.lemmas.List.{drop-drop}
 use Rattle.program_tree.specs.Program.{tree_of}
-use Rattle.mote_node.specs.Public.{node_in, turn_told}
+use Rattle.mote_node.specs.Public.{node_in, turn_told, told_with}
 use Rattle.mote_node.specs.Turn.{turn_of}
 use Rattle.window_law.specs.Windows.{is_at}
 use Rattle.net_agenda.specs.Buckets.{arrival_of}
@@ -16,7 +16,7 @@ unfolding window_in
 returns-clause-ok g c =
     let s = c.args.self.now in
     let t = tree_of s.program.now in
-    let out = c.turn_into.new.out in
+    let out = told_with c.turn_into.new.out c.in_ok-turn_into.field-0 in
     let given = c.take_arrivals.new.arrivals.items in
     let front = rest_of s.next c.deref.result.now s.copies.items c.deref.ensures.value in
     let took : given ≡ map arrival_of (take_while (is_at c.args.moment) (drop s.next s.copies.items)) =
