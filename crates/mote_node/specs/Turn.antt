@@ -7,7 +7,8 @@ use Rattle.process_kernel.specs.declared.line.Line.{Line}
 use Rattle.radio_packet.specs.declared.sent.Sent.{Sent}
 use Rattle.process_kernel.specs.Mote.{Mote, with_poll}
 use Rattle.process_kernel.specs.Public.{boot_given}
-pub use Rattle.process_kernel.specs.Runs.{follow, runs_of}
+pub use Rattle.process_kernel.specs.Runs.{follow}
+unfoldable pub use Rattle.process_kernel.specs.Runs.{runs_of}
 use Rattle.mote_node.specs.Node.{Node}
 use Rattle.mote_node.specs.Wake.{wake_of}
 use Rattle.mote_node.specs.Underway.{Underway, turn_goes_on, with_mote, after}
