@@ -129,10 +129,13 @@ fn links_from(
     requires there { sender < length places.now }
     ensures { IfOk result (λ links. links.items ≡ links_of (radio_from places.now reach []) (every_at every.now) sender) }
 {
+    let from = places[usize::from(sender)];
     let mut links = Vec::new(alloc);
     for to in 0..places.len() as u16 {
-        if let Some(link) = link_between(places, reach, every, sender, to) {
-            links.push(link)?;
+        if reach.joins(from, places[usize::from(to)]) {
+            if let Some(link) = link_between(places, reach, every, sender, to) {
+                links.push(link)?;
+            }
         }
     }
     Ok(links)

@@ -1,6 +1,6 @@
 //! Where motes stand, and which copies between two of them are lost.
 
-ghost use Rattle.std.specs.Prelude.{◌≡◌, ◌≤◌, ◌<◌, ◌^◌, unsigned_abs};
+ghost use Rattle.std.specs.Prelude.{◌≡◌, ◌≤◌, ◌<◌, ◌^◌, ◌-ℤ◌, nat_le, unsigned_abs};
 ghost use Rattle.radio_medium.specs.Medium.{square_distance};
 
 /// Where a mote stands. Places, distances and ranges have one unit.
@@ -8,6 +8,14 @@ ghost use Rattle.radio_medium.specs.Medium.{square_distance};
 pub struct Place {
     pub x: i32,
     pub y: i32,
+}
+
+/// How far apart two numbers are. The square of this costs no test of which is less.
+#[inline(always)]
+fn gap(a: i32, b: i32) -> u64
+    ensures { result ≡ unsigned_abs (a -ℤ b) }
+{
+    (i64::from(a) - i64::from(b)).unsigned_abs()
 }
 
 impl Place {
@@ -21,9 +29,26 @@ impl Place {
         ensures value { result ≡ square_distance self other }
         ensures bound { result < 2 ^ 33 }
     {
-        let dx = u64::from(self.x.abs_diff(other.x));
-        let dy = u64::from(self.y.abs_diff(other.y));
+        let dx = gap(self.x, other.x);
+        let dy = gap(self.y, other.y);
         dx * dx + dy * dy
+    }
+
+    /// Whether the square of the distance to another place is at most this. Most places are too far by x alone.
+    #[tactic(auto, unfolding(crate::specs::Medium::square_distance))]
+    #[inline(always)]
+    pub(crate) fn is_within(self, square: u64, other: Place) -> bool
+        requires x { unsigned_abs self.x ≤ 30000 }
+        requires y { unsigned_abs self.y ≤ 30000 }
+        requires other_x { unsigned_abs other.x ≤ 30000 }
+        requires other_y { unsigned_abs other.y ≤ 30000 }
+        ensures { result ≡ nat_le (square_distance self other) square }
+    {
+        let dx = gap(self.x, other.x);
+        if dx * dx > square {
+            return false;
+        }
+        self.square_distance(other) <= square
     }
 }
 

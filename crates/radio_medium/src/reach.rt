@@ -1,7 +1,9 @@
 //! How far a packet is heard, and how long it takes.
 
-ghost use Rattle.std.specs.Prelude.{◌≡◌, ◌+◌, ◌/◌, ◌^◌, ◌<◌, ◌≤◌, nat_le};
-ghost use Rattle.radio_medium.specs.Medium.{square};
+ghost use Rattle.std.specs.Prelude.{◌≡◌, ◌+◌, ◌/◌, ◌^◌, ◌<◌, ◌≤◌, nat_le, unsigned_abs};
+ghost use Rattle.radio_medium.specs.Medium.{square, square_distance};
+
+use crate::place::Place;
 
 /// How far a packet is heard, how long it takes at least, and for how much of the square of the distance it takes one
 /// moment more.
@@ -18,6 +20,18 @@ impl Reach {
         ensures { result ≡ nat_le square_distance (square self.range) }
     {
         square_distance <= u64::from(self.range) * u64::from(self.range)
+    }
+
+    /// Whether a packet is heard between two places.
+    #[inline(always)]
+    pub(crate) fn joins(self, a: Place, b: Place) -> bool
+        requires a_x { unsigned_abs a.x ≤ 30000 }
+        requires a_y { unsigned_abs a.y ≤ 30000 }
+        requires b_x { unsigned_abs b.x ≤ 30000 }
+        requires b_y { unsigned_abs b.y ≤ 30000 }
+        ensures { result ≡ nat_le (square_distance a b) (square self.range) }
+    {
+        a.is_within(u64::from(self.range) * u64::from(self.range), b)
     }
 
     /// How many moments a packet takes at a distance with this square.
