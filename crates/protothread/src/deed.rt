@@ -5,7 +5,7 @@ ghost use Rattle.protothread.specs.Step.{deed_of, passes_where as by_test};
 
 use crate::look::Look;
 use crate::step::Op;
-use crate::value::evaluate;
+use crate::value::{evaluate, evaluate_by_call};
 use crate::vars::Vars;
 use program_tree::{Action, Event, Proc, SystemEvent, Target};
 
@@ -55,20 +55,26 @@ pub(crate) fn done_by<L: Look>(
             Deed::Assigns(*variable, evaluate(value, vars, event, look))
         }
         Action::Print(value) => {
-            Deed::Operates(Op::Print(evaluate(value, vars, event, look)), None)
+            Deed::Operates(Op::Print(evaluate_by_call(value, vars, event, look)), None)
         }
         Action::Send(value) => {
-            Deed::Operates(Op::Send(evaluate(value, vars, event, look)), None)
+            Deed::Operates(Op::Send(evaluate_by_call(value, vars, event, look)), None)
         }
         Action::WaitUntil(condition) => {
-            passes_where(evaluate(condition, vars, event, look) != 0, Deed::Waits)
+            passes_where(
+                evaluate_by_call(condition, vars, event, look) != 0,
+                Deed::Waits,
+            )
         }
         Action::WaitWhile(condition) => {
-            passes_where(evaluate(condition, vars, event, look) == 0, Deed::Waits)
+            passes_where(
+                evaluate_by_call(condition, vars, event, look) == 0,
+                Deed::Waits,
+            )
         }
         Action::Yield => passes_where(is_yielded, Deed::Yields),
         Action::YieldUntil(condition) => {
-            let met = is_yielded && evaluate(condition, vars, event, look) != 0;
+            let met = is_yielded && evaluate_by_call(condition, vars, event, look) != 0;
             passes_where(met, Deed::Yields)
         }
         Action::Spawn(thread) => Deed::Spawns(*thread),
@@ -91,23 +97,23 @@ pub(crate) fn done_by<L: Look>(
         }
         Action::Signal(semaphore) => Deed::Operates(Op::Signal(*semaphore), None),
         Action::Post(process, named, word, into) => {
-            let word = evaluate(word, vars, event, look);
+            let word = evaluate_by_call(word, vars, event, look);
             let target = Target::One(Proc::Own(*process));
             Deed::Operates(Op::Post(target, named.number(), word), *into)
         }
         Action::Broadcast(named, word, into) => {
-            let word = evaluate(word, vars, event, look);
+            let word = evaluate_by_call(word, vars, event, look);
             Deed::Operates(Op::Post(Target::All, named.number(), word), *into)
         }
         Action::Synch(process, named, word) => {
-            let word = evaluate(word, vars, event, look);
+            let word = evaluate_by_call(word, vars, event, look);
             Deed::Operates(Op::Synch(Proc::Own(*process), named.number(), word), None)
         }
         Action::Poll(process) => Deed::Operates(Op::Poll(Proc::Own(*process)), None),
         Action::Start(process) => Deed::Operates(Op::Start(Proc::Own(*process)), None),
         Action::Kill(process) => Deed::Operates(Op::Kill(Proc::Own(*process)), None),
         Action::Set(timer, interval) => {
-            let interval = evaluate(interval, vars, event, look);
+            let interval = evaluate_by_call(interval, vars, event, look);
             Deed::Operates(Op::Set(u16::from(*timer), interval), None)
         }
         Action::Reset(timer) => Deed::Operates(Op::Reset(u16::from(*timer)), None),

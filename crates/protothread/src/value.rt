@@ -3,6 +3,7 @@ ghost use Rattle.std.specs.Prelude.{◌≡◌, ◌==◌, IfSome};
 ghost use Rattle.std.specs.List.{list_any};
 ghost use Rattle.program_tree.specs.Events.{system_number};
 ghost use Rattle.program_tree.specs.Tree.{expression_of};
+ghost use Rattle.program_tree.specs.declared.event.Event.{Event};
 ghost use Rattle.protothread.specs.Looks.{Looks};
 ghost use Rattle.protothread.specs.Value.{applied, is_event as has_number_and_word, value};
 
@@ -53,9 +54,21 @@ fn is_running<L: Look>(look: &L, process: u8) -> bool
     look.running(process)
 }
 
-/// The value of a number, a variable or the event's word, which most operands are.
+/// The value of a number or a variable, which most operands are.
 #[inline(always)]
-fn plain_value(operand: &Expr, vars: &Vars, event: &Event) -> Option<u16>
+fn plain_value(operand: &Expr, vars: &Vars) -> Option<u16>
+    ensures { (event : Event) (looks : Looks) → IfSome result (λ found. found ≡ value vars.now event looks (expression_of operand.now)) }
+{
+    match operand {
+        Expr::Number(number) => Some(*number),
+        Expr::Variable(variable) => Some(vars.value(*variable)),
+        _ => None,
+    }
+}
+
+/// The value of a number, a variable or the event's word.
+#[inline(always)]
+fn plain_or_word(operand: &Expr, vars: &Vars, event: &Event) -> Option<u16>
     ensures { (looks : Looks) → IfSome result (λ found. found ≡ value vars.now event.now looks (expression_of operand.now)) }
 {
     match operand {
@@ -68,6 +81,7 @@ fn plain_value(operand: &Expr, vars: &Vars, event: &Event) -> Option<u16>
 
 /// The value of an expression of no more than one operator, by the variables and the event alone. It takes no call, so that
 /// what most statements evaluate costs little.
+#[inline(always)]
 fn short_value(expression: &Expr, vars: &Vars, event: &Event) -> Option<u16>
     ensures { (looks : Looks) → IfSome result (λ found. found ≡ value vars.now event.now looks (expression_of expression.now)) }
 {
@@ -78,12 +92,20 @@ fn short_value(expression: &Expr, vars: &Vars, event: &Event) -> Option<u16>
         Expr::Is(named) => Some(u16::from(event.number == named.number())),
         Expr::Fired(timer) => Some(u16::from(is_event(event, SystemEvent::Timer, *timer))),
         Expr::Binary(operator, left, right) => {
-            let left = plain_value(left, vars, event)?;
-            let right = plain_value(right, vars, event)?;
+            let left = plain_value(left, vars)?;
+            let right = plain_or_word(right, vars, event)?;
             Some(apply(*operator, left, right))
         }
         _ => None,
     }
+}
+
+/// The same, by a call.
+#[inline(never)]
+fn short_value_by_call(expression: &Expr, vars: &Vars, event: &Event) -> Option<u16>
+    ensures { (looks : Looks) → IfSome result (λ found. found ≡ value vars.now event.now looks (expression_of expression.now)) }
+{
+    short_value(expression, vars, event)
 }
 
 /// The value of an expression of any form.
@@ -118,12 +140,28 @@ fn evaluate_tree<L: Look>(expression: &Expr, vars: &Vars, event: &Event, look: &
     }
 }
 
-/// The value of an expression.
+/// The value of an expression, for a statement that is met often: it takes no call where the expression is short.
 #[inline(always)]
 pub(crate) fn evaluate<L: Look>(expression: &Expr, vars: &Vars, event: &Event, look: &L) -> u16
     ensures { result ≡ value vars.now event.now (L.looks look.now) (expression_of expression.now) }
 {
     match short_value(expression, vars, event) {
+        Some(value) => value,
+        None => evaluate_tree(expression, vars, event, look),
+    }
+}
+
+/// The value of an expression.
+#[inline(always)]
+pub(crate) fn evaluate_by_call<L: Look>(
+    expression: &Expr,
+    vars: &Vars,
+    event: &Event,
+    look: &L,
+) -> u16
+    ensures { result ≡ value vars.now event.now (L.looks look.now) (expression_of expression.now) }
+{
+    match short_value_by_call(expression, vars, event) {
         Some(value) => value,
         None => evaluate_tree(expression, vars, event, look),
     }
