@@ -202,9 +202,7 @@ fn put_recv(page: &mut Page, at: u64, from: u16, number: u64, value: u16) -> Res
     Ok(())
 }
 
-/// Puts a line of the trace of a mote with this program. It stands in the one loop over lines, where a call for each would cost a
-/// quarter as much as the line.
-#[inline(always)]
+/// Puts a line of the trace of a mote with this program.
 pub fn put_trace_line(page: &mut Page, program: &Program, line: &Line) -> Result<(), AllocError>
     ensures { OnOk result (page.new ≡ page.old ++ line_text (tree_of program.now) line.now) }
 {

@@ -148,14 +148,17 @@ fn put_long_number(room: &mut [u8], at: usize, number: u64) -> usize
     ensures put { take result room.new ≡ take at room.old ++ decimal number }
     ensures end { result ≤ at + 20 }
 {
-    if number < 1_000_000 {
+    if number < 10_000 {
+        put_four_digits(room, at, number)
+    } else if number < 1_000_000 {
         put_thousands(room, at, number)
     } else {
         put_digits(room, at, number, digits(number))
     }
 }
 
-/// Puts a number. Most have four digits or fewer, and take no call.
+/// Puts a number. Most are below a thousand, and take no call. (With more than those put in place here, a line of a trace would be
+/// too long to be put without a call itself.)
 #[inline(always)]
 pub fn put_number(room: &mut [u8], at: usize, number: u64) -> usize
     requires { at + 20 ≤ length room.old }
@@ -164,8 +167,6 @@ pub fn put_number(room: &mut [u8], at: usize, number: u64) -> usize
 {
     if number < 1_000 {
         put_short_number(room, at, number)
-    } else if number < 10_000 {
-        put_four_digits(room, at, number)
     } else {
         put_long_number(room, at, number)
     }
