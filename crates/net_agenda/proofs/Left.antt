@@ -9,15 +9,15 @@ use Rattle.window_law.specs.Agenda.{Item, packets}
 use Rattle.window_law.proofs.Agenda.{packets_append}
 use Rattle.net_agenda.specs.declared.bucket.Bucket.{Bucket}
 use Rattle.net_agenda.specs.declared.bucket.Coming.{Coming}
-use Rattle.net_agenda.specs.Buckets.{Buckets, Holds, is_packet, item_at}
+use Rattle.net_agenda.specs.Buckets.{packet_in, Buckets, Holds, is_packet, item_at}
 use Rattle.net_agenda.specs.Items.{bucket_items, items_of}
 use Rattle.net_agenda.proofs.Items.{Entries, items_among, same_due, same_permute}
 
 counted : (t : ℕ) (cs : List Coming) → length (packets (map (item_at t) cs)) ≡ length (filter is_packet cs)
 counted t [] = refl
-counted t (c ∷ cs) = of (counted t cs) c.packet refl
+counted t (c ∷ cs) = of (counted t cs) (packet_in c) refl
   where
-    of : length (packets (map (item_at t) cs)) ≡ length (filter is_packet cs) → (p : Option Arrival) → c.packet ≡ p → length (packets (map (item_at t) (c ∷ cs))) ≡ length (filter is_packet (c ∷ cs))
+    of : length (packets (map (item_at t) cs)) ≡ length (filter is_packet cs) → (p : Option Arrival) → packet_in c ≡ p → length (packets (map (item_at t) (c ∷ cs))) ≡ length (filter is_packet (c ∷ cs))
     of rest None e = rw e rest
     of rest (Some a) e = rw e (ap suc rest)
 

@@ -12,7 +12,7 @@ use Rattle.window_law.specs.Agenda.{Item, Wake, IsLeast, comes_at, is_wake_of, m
 use Rattle.window_law.proofs.Lists.{any_every}
 use Rattle.net_agenda.specs.declared.bucket.Bucket.{Bucket}
 use Rattle.net_agenda.specs.declared.bucket.Coming.{Coming}
-use Rattle.net_agenda.specs.Buckets.{arrival_of, arrivals_in_order, arrivals_at, nothing_due, gathered, due_of, is_here, is_for, of_mote, is_wake_for, packets_of, FallsIfSaid, is_nothing, first_mote, IsTaken, IsReady, Buckets, Holds, item_of, item_at, items_in, items_at, without_wake}
+use Rattle.net_agenda.specs.Buckets.{goes_to, packet_in, arrival_of, arrivals_in_order, arrivals_at, nothing_due, gathered, due_of, is_here, is_for, of_mote, is_wake_for, packets_of, FallsIfSaid, is_nothing, first_mote, IsTaken, IsReady, Buckets, Holds, item_of, item_at, items_in, items_at, without_wake}
 use Rattle.net_agenda.proofs.Falls.{first_low}
 use Rattle.net_agenda.proofs.Gathered.{unwrapped, due_both, due_elsewhere, due_taken, due_unwoken, due_asleep, any_same, from_due, held, then_out}
 use Rattle.net_agenda.proofs.Keys.{not_greater}
@@ -21,21 +21,21 @@ use Rattle.net_agenda.proofs.Orders.{given_in_order, none_in_order}
 -- the items of one bucket
 
 pub moment_at : (t : ℕ) (c : Coming) → moment_of (item_at t c) ≡ t
-moment_at t c = of c.packet
+moment_at t c = of (packet_in c)
   where
-    of : (p : Option Arrival) → moment_of (item_of t c.mote p) ≡ t
+    of : (p : Option Arrival) → moment_of (item_of t (goes_to c) p) ≡ t
     of None = refl
     of (Some a) = refl
 
-mote_at : (t : ℕ) (c : Coming) → mote_of (item_at t c) ≡ c.mote
-mote_at t c = of c.packet
+mote_at : (t : ℕ) (c : Coming) → mote_of (item_at t c) ≡ (goes_to c)
+mote_at t c = of (packet_in c)
   where
-    of : (p : Option Arrival) → mote_of (item_of t c.mote p) ≡ c.mote
+    of : (p : Option Arrival) → mote_of (item_of t (goes_to c) p) ≡ (goes_to c)
     of None = refl
     of (Some a) = refl
 
 comes_here : (t m : ℕ) (c : Coming) → comes_at t m (item_at t c) ≡ is_for m c
-comes_here t m c = ap (λ u. eqb u t && eqb (mote_of (item_at t c)) m) (moment_at t c) ∙ (ap (λ j. eqb t t && eqb j m) (mote_at t c) ∙ ap (λ b. b && eqb c.mote m) (eq-eqb t t refl))
+comes_here t m c = ap (λ u. eqb u t && eqb (mote_of (item_at t c)) m) (moment_at t c) ∙ (ap (λ j. eqb t t && eqb j m) (mote_at t c) ∙ ap (λ b. b && eqb (goes_to c) m) (eq-eqb t t refl))
 
 filter_at : (t m : ℕ) (cs : List Coming) → filter (comes_at t m) (map (item_at t) cs) ≡ map (item_at t) (of_mote m cs)
 filter_at t m [] = refl
@@ -55,22 +55,22 @@ bucket_due t m cs = ap gathered (filter_at t m cs)
 
 given : (t : ℕ) (cs : List Coming) → map arrival_of (packets (map (item_at t) cs)) ≡ packets_of cs
 given t [] = refl
-given t (c ∷ cs) = of (given t cs) c.packet refl
+given t (c ∷ cs) = of (given t cs) (packet_in c) refl
   where
-    of : map arrival_of (packets (map (item_at t) cs)) ≡ packets_of cs → (p : Option Arrival) → c.packet ≡ p → map arrival_of (packets (map (item_at t) (c ∷ cs))) ≡ packets_of (c ∷ cs)
+    of : map arrival_of (packets (map (item_at t) cs)) ≡ packets_of cs → (p : Option Arrival) → packet_in c ≡ p → map arrival_of (packets (map (item_at t) (c ∷ cs))) ≡ packets_of (c ∷ cs)
     of rest None e = rw e rest
     of rest (Some a) e = rw e (ap (λ l. a ∷ l) rest)
 
 is_wake_here : (t k : ℕ) (c : Coming) → is_wake_of k (item_at t c) ≡ is_wake_for k c
-is_wake_here t k c = of c.packet refl
+is_wake_here t k c = of (packet_in c) refl
   where
-    of : (p : Option Arrival) → c.packet ≡ p → is_wake_of k (item_at t c) ≡ is_wake_for k c
-    of None e = rw e (and_true (eqb c.mote k))
+    of : (p : Option Arrival) → packet_in c ≡ p → is_wake_of k (item_at t c) ≡ is_wake_for k c
+    of None e = rw e (and_true (eqb (goes_to c) k))
       where
         and_true : (b : Bool) → b ≡ (b && true)
         and_true true = refl
         and_true false = refl
-    of (Some a) e = rw e (and_false (eqb c.mote k))
+    of (Some a) e = rw e (and_false (eqb (goes_to c) k))
       where
         and_false : (b : Bool) → false ≡ (b && false)
         and_false true = refl
@@ -253,7 +253,7 @@ least_of buckets t m b items holds found first low = record {
         elim (cases_order t u) [
           | inl f ↦ (let g : Some b ≡ Some d = sym found ∙ (ap (get nat_cmp buckets) f ∙ e) in let is : b ≡ d = cc in
               let any : list_any (is_for k) b.coming.items ≡ true = ap (λ x. list_any (is_for k) x.coming.items) is ∙ (sym (any_at u k d.coming.items) ∙ h) in
-              same t u k m f (any_every (m ≤ k) (is_for k) (λ (c : Coming). m ≤ c.mote) (λ c j n. (let q = eqb-true c.mote k j in omega arith)) b.coming.items any (first_low b m (holds.ready t b found) first).low))
+              same t u k m f (any_every (m ≤ k) (is_for k) (λ (c : Coming). m ≤ (goes_to c)) (λ c j n. (let q = eqb-true (goes_to c) k j in omega arith)) b.coming.items any (first_low b m (holds.ready t b found) first).low))
           | inr (inl f) ↦ later t u k m f
           | inr (inr f) ↦ absurd (omega arith)
         ]

@@ -6,6 +6,7 @@ use Rattle.std.specs.BTreeMap.{BTreeMap, get}
 use Rattle.radio_packet.specs.declared.arrival.Arrival.{Arrival}
 use Rattle.net_agenda.specs.declared.bucket.Bucket.{Bucket}
 use Rattle.net_agenda.specs.declared.bucket.Coming.{Coming}
+use Rattle.net_agenda.specs.declared.bucket.Coming.TheVariants as coming
 pub use Rattle.net_agenda.specs.Arrivals.{arrival_of}
 use Rattle.window_law.specs.Order.{sorted_by, in_order}
 use Rattle.window_law.specs.Agenda.{Item, Wake, Packet, comes_at, packets}
@@ -40,25 +41,35 @@ due_of moment mote items = gathered (filter (comes_at moment mote) items)
 
 -- one bucket: what is to come at a moment
 
+-- the mote to which it comes
+abbrev pub goes_to : Coming → ℕ
+goes_to (coming.Wake mote) = mote
+goes_to (coming.Copy to sender value number) = to
+
+-- the packet, as the mote is given it, if it is one
+abbrev pub packet_in : Coming → Option Arrival
+packet_in (coming.Wake mote) = None
+packet_in (coming.Copy to sender value number) = Some (record { sender = sender; number = number; value = value })
+
 abbrev pub is_for : (mote : ℕ) → Coming → Bool
-is_for mote coming = coming.mote == mote
+is_for mote one = goes_to one == mote
 
 abbrev pub of_mote : (mote : ℕ) → List Coming → List Coming
 of_mote mote all = filter (is_for mote) all
 
 abbrev pub is_packet : Coming → Bool
-is_packet coming = is_some coming.packet
+is_packet one = is_some (packet_in one)
 
 abbrev pub is_wake_for : (mote : ℕ) → Coming → Bool
-is_wake_for mote coming = is_for mote coming && not (is_packet coming)
+is_wake_for mote one = is_for mote one && not (is_packet one)
 
 abbrev pub packets_of : List Coming → List Arrival
-packets_of all = filter_map (λ coming. coming.packet) all
+packets_of all = filter_map packet_in all
 
 -- no mote is above one before it
 abbrev pub Falls : List Coming → Type 0
 Falls [] = Unit {0}
-Falls (first ∷ rest) = AllByRecursion (λ coming. coming.mote ≤ first.mote) rest × Falls rest
+Falls (first ∷ rest) = AllByRecursion (λ one. goes_to one ≤ goes_to first) rest × Falls rest
 
 abbrev pub FallsIfSaid : Bucket → Type 0
 FallsIfSaid bucket = bucket.falls ≡ true → Falls bucket.coming.items
@@ -73,14 +84,14 @@ lower_mote (Some other) mote = if nat_lt mote other then Some mote else Some oth
 
 abbrev pub least_from : Option ℕ → List Coming → Option ℕ
 least_from least [] = least
-least_from least (first ∷ rest) = least_from (lower_mote least first.mote) rest
+least_from least (first ∷ rest) = least_from (lower_mote least (goes_to first)) rest
 
 abbrev pub least_mote : List Coming → Option ℕ
 least_mote all = least_from None all
 
 -- the least mote, which is that of the last where the motes fall
 abbrev pub first_mote : Bucket → Option ℕ
-first_mote bucket = if bucket.falls then option_map (λ coming. coming.mote) (slice_get bucket.coming.items (length bucket.coming.items - 1)) else least_mote bucket.coming.items
+first_mote bucket = if bucket.falls then option_map goes_to (slice_get bucket.coming.items (length bucket.coming.items - 1)) else least_mote bucket.coming.items
 
 -- all of this mote was taken out; the others keep theirs
 pub record IsTaken (mote : ℕ) (old new : Bucket) : Type 0 where
@@ -102,7 +113,7 @@ item_of moment mote None = Wake moment mote
 item_of moment mote (Some a) = Packet (record { at = moment; to = mote; sender = a.sender; number = a.number; value = a.value })
 
 abbrev pub item_at : (moment : ℕ) → Coming → Item
-item_at moment coming = item_of moment coming.mote coming.packet
+item_at moment one = item_of moment (goes_to one) (packet_in one)
 
 abbrev pub items_in : (moment : ℕ) → Option Bucket → List Item
 items_in moment None = []

@@ -49,7 +49,7 @@ impl Agenda {
     pub fn put_wake(&mut self, moment: u64, mote: u16) -> Result<(), AllocError>
         ensures { OnOk result ((items : List Item) → Holds self.old.buckets items → Holds self.new.buckets (items ++ Wake moment mote ∷ [])) }
     {
-        self.put(moment, Coming { mote, packet: None })
+        self.put(moment, Coming::Wake(mote))
     }
 
     /// Adds the next wake of a mote, if it has one.

@@ -246,7 +246,7 @@ impl Machine {
     {
         loop {
             match self.advance(text, thread, process, event) {
-                Step::Op(op) => self.perform(program, text, thread, process, op)?,
+                Step::Op(op) => self.perform(program, text, thread, process, &op)?,
                 Step::Done(answer) => return Ok(answer),
                 Step::Runaway => return Err(self.halt()),
             }

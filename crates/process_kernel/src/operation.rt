@@ -52,48 +52,48 @@ impl Machine {
         text: &ProcessText,
         thread: &mut Thread,
         current: u8,
-        op: Op,
+        op: &Op,
     ) -> Result<(), Stop>
         requires { HasRoom 1 self.old }
-        ensures exact { (k : ℕ) → self.old.fuel < k → Tells (told_thread (code_of text.now) thread.new result) (state_of (tree_of program.now) self.new) (perform_of (calls_of k) (state_of (tree_of program.now) self.old) (remainder_of (code_of text.now) thread.old) current op) }
+        ensures exact { (k : ℕ) → self.old.fuel < k → Tells (told_thread (code_of text.now) thread.new result) (state_of (tree_of program.now) self.new) (perform_of (calls_of k) (state_of (tree_of program.now) self.old) (remainder_of (code_of text.now) thread.old) current op.now) }
         ensures spends { OnOk result (Spends 1 self.old self.new) }
         ensures grows { Grows self.old.out self.new.out }
     {
         match op {
             Op::Post(target, number, word) => {
-                let is_full = self.post(target, posted(number, word))?;
+                let is_full = self.post(*target, posted(*number, *word))?;
                 self.answer(thread, current, is_full);
                 Ok(())
             }
-            op => self.act(program, current, op),
+            _ => self.act(program, current, op),
         }
     }
 
     /// Performs an operation that has no answer.
     #[cycle(kernel)]
     #[tactic(auto, unfolding(crate::specs::Operation::act_of))]
-    fn act(&mut self, program: &Program, current: u8, op: Op) -> Result<(), Stop>
+    fn act(&mut self, program: &Program, current: u8, op: &Op) -> Result<(), Stop>
         requires { HasRoom 1 self.old }
-        ensures exact { (k : ℕ) → self.old.fuel < k → Tells result (state_of (tree_of program.now) self.new) (act_of (calls_of k) (state_of (tree_of program.now) self.old) current op) }
+        ensures exact { (k : ℕ) → self.old.fuel < k → Tells result (state_of (tree_of program.now) self.new) (act_of (calls_of k) (state_of (tree_of program.now) self.old) current op.now) }
         ensures spends { OnOk result (Spends 1 self.old self.new) }
         ensures grows { Grows self.old.out self.new.out }
     {
         match op {
             Op::Post(..) => {}
             Op::Synch(process, number, word) => {
-                return self.call(program, process, &posted(number, word));
+                return self.call(program, *process, &posted(*number, *word));
             }
-            Op::Poll(process) => self.poll(process),
-            Op::Start(process) => return self.start(program, process),
-            Op::Kill(process) => return self.kill(program, process, current),
-            Op::Set(timer, interval) => self.set_timer(program, timer, interval, current),
-            Op::Reset(timer) => self.reset_timer(program, timer, current),
-            Op::RestartTimer(timer) => self.restart_timer(program, timer, current),
-            Op::Stop(timer) => self.stop_timer(timer),
-            Op::Send(value) => return self.send(value),
-            Op::Print(value) => return self.write(What::Print(Proc::Own(current), value)),
-            Op::Take(semaphore) => self.take_semaphore(semaphore),
-            Op::Signal(semaphore) => self.signal_semaphore(semaphore),
+            Op::Poll(process) => self.poll(*process),
+            Op::Start(process) => return self.start(program, *process),
+            Op::Kill(process) => return self.kill(program, *process, current),
+            Op::Set(timer, interval) => self.set_timer(program, *timer, *interval, current),
+            Op::Reset(timer) => self.reset_timer(program, *timer, current),
+            Op::RestartTimer(timer) => self.restart_timer(program, *timer, current),
+            Op::Stop(timer) => self.stop_timer(*timer),
+            Op::Send(value) => return self.send(*value),
+            Op::Print(value) => return self.write(What::Print(Proc::Own(current), *value)),
+            Op::Take(semaphore) => self.take_semaphore(*semaphore),
+            Op::Signal(semaphore) => self.signal_semaphore(*semaphore),
         }
         Ok(())
     }

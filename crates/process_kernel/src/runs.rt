@@ -92,6 +92,7 @@ impl Machine {
     }
 
     /// Calls each of these incarnations whose mark is set at its turn.
+    #[inline(always)]
     fn walk_polls(&mut self, program: &Program, members: &[Member]) -> Result<(), Stop>
         requires { HasRoom 0 self.old }
         ensures exact { (k : ℕ) → self.old.fuel < k → Tells result (state_of (tree_of program.now) self.new) (walk_polls (calls_of k) members.now (state_of (tree_of program.now) self.old)) }
