@@ -16,6 +16,7 @@ use protothread::{PtState, Step, Thread};
 
 impl Machine {
     /// Takes a thread of a process to its next operation or to its answer.
+    #[inline(always)]
     #[tactic(auto, unfolding(crate::specs::Thread::stepped_of))]
     pub fn advance(
         &mut self,

@@ -53,6 +53,7 @@ impl Machine {
 
     /// What a process does with an event.
     #[cycle(kernel)]
+    #[inline(always)]
     #[tactic(auto, unfolding(crate::specs::Reaction::react_of))]
     pub fn react(
         &mut self,
@@ -84,6 +85,7 @@ impl Machine {
 
     /// A process of the program: the event's handler first, and then its body.
     #[cycle(kernel)]
+    #[inline(always)]
     #[tactic(auto, unfolding(crate::specs::Reaction::own_of))]
     fn react_as_own(
         &mut self,
@@ -130,6 +132,7 @@ impl Machine {
 
     /// Resumes the body of a process.
     #[cycle(kernel)]
+    #[inline(always)]
     #[tactic(auto, unfolding(crate::specs::Reaction::resume_of))]
     fn resume(
         &mut self,

@@ -15,20 +15,7 @@ use crate::table::is_same;
 use arrayvec::ArrayVec;
 use program_tree::Proc;
 use protothread::{Part, Thread};
-
-/// The members that are not of this process.
-fn without(members: &[Member], process: Proc) -> ArrayVec<Member, MOST_PROCESSES>
-    requires { length members.now ≤ 67 }
-    ensures { result.items ≡ filter (λ m. not (are_same m.process process)) members.now }
-{
-    let mut others = ArrayVec::new();
-    for member in members {
-        if !is_same(member.process, process) {
-            others.push(*member);
-        }
-    }
-    others
-}
+use std::alloc::AllocError;
 
 impl Machine {
     /// The process list as it stands now.
@@ -36,9 +23,7 @@ impl Machine {
         ensures { result.items ≡ self.now.members.items }
     {
         let mut members = ArrayVec::new();
-        members
-            .try_extend_from_slice(self.members.as_slice())
-            .unwrap();
+        members.try_extend_from_slice(&self.members).unwrap();
         members
     }
 
@@ -50,12 +35,13 @@ impl Machine {
     {
         let mut members = ArrayVec::new();
         members
-            .try_extend_from_slice(&self.members.as_slice()[place..])
+            .try_extend_from_slice(&self.members[place..])
             .unwrap();
         members
     }
 
     /// Puts a thread back as the body of a process.
+    #[inline(always)]
     #[tactic(auto, using(crate::proofs::Remainders::remainders_set, crate::proofs::Remainders::remainders_set_past), unfolding(crate::specs::ProcessList::put_remainder))]
     pub fn put_thread(&mut self, process: u8, thread: Box<Thread>)
         ensures exact { (t : Tree) (code : Code) → slice_get t.codes process ≡ Some code → state_of t self.new ≡ put_remainder (state_of t self.old) process (remainder_of code thread.value) }
@@ -85,6 +71,7 @@ impl Machine {
     }
 
     /// Takes the body of a process out of the table; one that isn't there is fresh.
+    #[inline(always)]
     pub fn take_thread(&mut self, process: u8) -> Result<Box<Thread>, Stop>
         ensures exact { (t : Tree) (code : Code) → slice_get t.codes process ≡ Some code → IfOk result (λ thread. remainder_of code thread.value ≡ remainder_at (state_of t self.old) code process) }
         ensures err { IfErr result (λ stop. stop ≡ Stop.Memory) }
@@ -126,12 +113,12 @@ impl Machine {
     }
 
     /// Puts a new incarnation at the front of the list.
-    fn list_first(&mut self, process: Proc)
+    fn list_first(&mut self, process: Proc) -> Result<(), AllocError>
         requires there { place_of process < length self.old.shown.states.items }
         requires away { stands_in self.old.members.items process ≡ false }
         requires room { self.old.started + 1 < 2 ^ 32 }
-        ensures exact { (t : Tree) → state_of t self.new ≡ record (state_of t self.old) { members = record { process = process; incarnation = self.old.started } ∷ self.old.members.items; started = self.old.started + 1 } }
-        ensures counts { (self.new.fuel ≡ self.old.fuel) × (self.new.started ≡ self.old.started + 1) }
+        ensures exact { (t : Tree) → OnOk result (state_of t self.new ≡ record (state_of t self.old) { members = record { process = process; incarnation = self.old.started } ∷ self.old.members.items; started = self.old.started + 1 }) }
+        ensures counts { OnOk result ((self.new.fuel ≡ self.old.fuel) × (self.new.started ≡ self.old.started + 1)) }
         ensures grows { Grows self.old.out self.new.out }
     {
         let incarnation = self.started;
@@ -142,8 +129,9 @@ impl Machine {
                 process,
                 incarnation,
             },
-        );
+        )?;
         self.started = incarnation + 1;
+        Ok(())
     }
 
     /// Puts a new incarnation at the front of the list, running and with a fresh body.
@@ -156,7 +144,7 @@ impl Machine {
         ensures counts { OnOk result ((self.new.fuel ≡ self.old.fuel) × (self.new.started ≡ self.old.started + 1)) }
         ensures grows { Grows self.old.out self.new.out }
     {
-        self.list_first(process);
+        self.list_first(process)?;
         self.set_state(process, ProcessState::Running);
         self.refresh(process);
         self.write(What::Start(process))
@@ -181,7 +169,8 @@ impl Machine {
         ensures grows { Grows self.old.out self.new.out }
     {
         self.is_numbered = false;
-        self.members = without(self.members.as_slice(), process);
+        self.members
+            .retain(|member| !is_same(member.process, process));
     }
 
     /// Ends the exit of a process, which leaves the list.

@@ -8,7 +8,6 @@ ghost use Rattle.std.proofs.Props.{props};
 use crate::line::Out;
 use crate::look::Shown;
 use crate::process::Member;
-use arrayvec::ArrayVec;
 use circular_buffer::HeapCircularBuffer;
 use event_queue::EventQueue;
 use mote_timers::Callbacks;
@@ -51,12 +50,11 @@ impl<T: Drop> From<AllocFailed<T>> for Stop {
 /// The kernel of a mote. The tables have the system processes first, then those of the program in their order; threads and
 /// variables are those of the program's processes alone. The thread of a body is out of its table while it runs. Whether the
 /// incarnations on the process list are known to have the numbers from 0 on is kept, so that they aren't numbered anew for nothing.
+/// What a run touches stands together, so that it takes few cache lines.
 #[derive(Drop)]
 pub struct Machine {
     pub(crate) shown: Shown,
-    pub(crate) exiting: Vec<bool>,
-    pub(crate) callbacks: Callbacks,
-    pub(crate) members: ArrayVec<Member, MOST_PROCESSES>,
+    pub(crate) members: Vec<Member>,
     pub(crate) started: u32,
     pub(crate) is_numbered: bool,
     pub(crate) flag: bool,
@@ -69,9 +67,12 @@ pub struct Machine {
     pub(crate) ring: HeapCircularBuffer<Arrival>,
     pub(crate) sent: u64,
     pub(crate) out: Out,
+    pub(crate) callbacks: Callbacks,
+    pub(crate) exiting: Vec<bool>,
     pub(crate) alloc: Global,
     ghost numbered: { is_numbered ≡ true → members.items ≡ numbered_from 0 members.items } by { Prim.hlevel props },
     ghost few_processes: { length shown.states.items ≤ 67 },
+    ghost few_members: { length members.items ≤ 67 },
     ghost are_members: { AreMembers members.items (length shown.states.items) },
     ghost counted: { accepted ≡ queue.accepted },
     ghost short_queue: { queue.capacity ≤ 128 },

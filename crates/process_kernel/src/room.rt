@@ -1,6 +1,7 @@
 //! All that a kernel needs room for, made at once.
 
-ghost use Rattle.std.specs.Prelude.{◌≡◌, ◌≤◌, IfOk, length, map};
+ghost use Rattle.std.specs.Prelude.{◌≡◌, ◌≤◌, ◌+◌, false, [], IfOk, OnOk, length, map, replicate};
+ghost use Rattle.mote_timers.specs.TimerLists.{new_timers};
 ghost use Rattle.program_tree.specs.Program.{tree_of};
 ghost use Rattle.protothread.specs.Remainder.{fresh_of};
 ghost use Rattle.process_kernel.specs.Mote.{unbooted};
@@ -10,7 +11,6 @@ use crate::line::Out;
 use crate::look::Shown;
 use crate::machine::Machine;
 use crate::process::ProcessState;
-use arrayvec::ArrayVec;
 use circular_buffer::HeapCircularBuffer;
 use event_queue::EventQueue;
 use mote_timers::{Callbacks, Timers};
@@ -55,7 +55,72 @@ fn first_semaphores(alloc: Global, program: &Program) -> Result<Vec<Semaphore>, 
     Ok(semaphores)
 }
 
+/// What a protothread of a mote with this number would be shown before the boot.
+fn first_shown(alloc: Global, program: &Program, mote: u16) -> Result<Shown, AllocError>
+    ensures mote { IfOk result (λ shown. (shown.mote ≡ mote) × (shown.moment ≡ 0)) }
+    ensures timers { let n = length (tree_of program.now).timers in IfOk result (λ shown. (shown.timer_count ≡ n) × (shown.timers ≡ new_timers n)) }
+    ensures states { IfOk result (λ shown. shown.states.items ≡ replicate (length (tree_of program.now).processes + 3) ProcessState.Off) }
+    ensures semaphores { IfOk result (λ shown. shown.semaphores.items ≡ (tree_of program.now).counts) }
+{
+    let timers = program.timers();
+    let places = usize::from(program.processes()) + 3;
+    Ok(Shown {
+        moment: 0,
+        mote,
+        timer_count: timers,
+        states: vec![in alloc; ProcessState::Off; places]?,
+        semaphores: first_semaphores(alloc, program)?,
+        timers: Timers::new(alloc, timers)?,
+    })
+}
+
 impl Machine {
+    /// A kernel whose tables have no process yet.
+    #[tactic(auto, unfolding(crate::specs::Mote::unbooted))]
+    fn without_tables(
+        alloc: Global,
+        program: &Program,
+        mote: u16,
+        queue: u16,
+    ) -> Result<Machine, AllocError>
+        requires some_room { 1 ≤ queue }
+        requires limit { queue ≤ 128 }
+        ensures { let t = tree_of program.now in IfOk result (λ m. state_of t m ≡ record (unbooted t mote queue).state { exiting = []; marks = []; remainders = remainders_of t.codes []; variables = [] }) }
+    {
+        Ok(Machine {
+            alloc,
+            queue: EventQueue::new(alloc, queue)?,
+            ring: HeapCircularBuffer::with_capacity(alloc, RING)?,
+            callbacks: Callbacks::new(alloc, program.timers())?,
+            shown: first_shown(alloc, program, mote)?,
+            exiting: Vec::new(alloc),
+            marks: Vec::new(alloc),
+            members: Vec::new(alloc),
+            variables: Vec::new(alloc),
+            threads: Vec::new(alloc),
+            started: 0,
+            is_numbered: false,
+            flag: false,
+            accepted: 0,
+            sent: 0,
+            fuel: Fuel::new(0),
+            out: Out::new(alloc),
+        })
+    }
+
+    /// Makes the tables of the processes, none of which is listed, and room for a list of all of them.
+    fn make_tables(&mut self, program: &Program) -> Result<(), AllocError>
+        ensures { let t = tree_of program.now in let n = length t.processes + 3 in OnOk result (state_of t self.new ≡ record (state_of t self.old) { exiting = replicate n false; marks = replicate n false; remainders = map (λ c. fresh_of c Part.Body) t.codes; variables = map (λ c. c.starts) t.codes; members = [] }) }
+    {
+        let places = usize::from(program.processes()) + 3;
+        self.exiting = vec![in self.alloc; false; places]?;
+        self.marks = vec![in self.alloc; false; places]?;
+        self.members = Vec::with_capacity(self.alloc, places)?;
+        self.variables = first_variables(self.alloc, program)?;
+        self.threads = fresh_bodies(self.alloc, program)?;
+        Ok(())
+    }
+
     /// The kernel of a mote that was never booted.
     #[tactic(auto, unfolding(crate::specs::Mote::unbooted))]
     pub fn new(
@@ -68,33 +133,8 @@ impl Machine {
         requires limit { queue ≤ 128 }
         ensures { IfOk result (λ m. state_of (tree_of program.now) m ≡ (unbooted (tree_of program.now) mote queue).state) }
     {
-        let places = usize::from(program.processes()) + 3;
-        let timers = program.timers();
-        Ok(Machine {
-            alloc,
-            shown: Shown {
-                moment: 0,
-                mote,
-                timer_count: timers,
-                timers: Timers::new(alloc, timers)?,
-                states: vec![in alloc; ProcessState::Off; places]?,
-                semaphores: first_semaphores(alloc, program)?,
-            },
-            exiting: vec![in alloc; false; places]?,
-            marks: vec![in alloc; false; places]?,
-            threads: fresh_bodies(alloc, program)?,
-            variables: first_variables(alloc, program)?,
-            members: ArrayVec::new(),
-            started: 0,
-            is_numbered: false,
-            flag: false,
-            queue: EventQueue::new(alloc, queue)?,
-            accepted: 0,
-            callbacks: Callbacks::new(alloc, timers)?,
-            ring: HeapCircularBuffer::with_capacity(alloc, RING)?,
-            sent: 0,
-            fuel: Fuel::new(0),
-            out: Out::new(alloc),
-        })
+        let mut machine = Machine::without_tables(alloc, program, mote, queue)?;
+        machine.make_tables(program)?;
+        Ok(machine)
     }
 }

@@ -47,7 +47,7 @@ impl Machine {
         ensures grows { Grows self.old.out self.new.out }
     {
         if !self.is_numbered {
-            number(self.members.as_mut_slice());
+            number(&mut self.members);
             self.is_numbered = true;
         }
     }

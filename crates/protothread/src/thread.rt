@@ -287,6 +287,7 @@ impl Thread {
     /// once it has run away, it answers `Runaway` for good.
     ///
     /// The text is the same at each call, and the variables are made from it.
+    #[inline(always)]
     #[tactic(auto, unfolding(crate::specs::Step::advanced_of))]
     pub fn advance<L: Look>(
         &mut self,

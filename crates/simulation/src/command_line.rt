@@ -66,40 +66,52 @@ fn options_for(workers: Option<u16>, cut: Option<&str>, sync: Option<&str>) -> O
     Options { workers, cut, sync }
 }
 
-/// The program's one command.
-fn command<'a>(alloc: Global) -> Result<Command<'a>, AllocError> {
-    let workers = Arg::new(alloc, "workers")
+fn workers_arg<'a>(alloc: Global) -> Arg<'a> {
+    Arg::new(alloc, "workers")
         .long("workers")
         .value_name("N")
         .value_parser(clap::value_parser!(u16).range(1..=i64::from(MOST_WORKERS)))
         .help(
             "Has 1 to 16 workers run the motes, each in a thread of its own; without it, one thread runs them all",
-        );
-    let cut = Arg::new(alloc, "cut")
+        )
+}
+
+fn cut_arg<'a>(alloc: Global) -> Arg<'a> {
+    Arg::new(alloc, "cut")
         .long("cut")
         .value_name("CUT")
         .value_parser(CUTS.as_slice())
         .default_value("block")
         .help(
             "How the motes are cut among the workers: in blocks of motes that follow one another, or dealt in turn",
-        );
-    let sync = Arg::new(alloc, "sync")
+        )
+}
+
+fn sync_arg<'a>(alloc: Global) -> Arg<'a> {
+    Arg::new(alloc, "sync")
         .long("sync")
         .value_name("SYNC")
         .value_parser(SYNCS.as_slice())
         .default_value("joins")
         .help(
             "How workers wait for one another: their threads are joined after each window, or each has one thread for the whole run and waits for marks of the others",
-        );
-    let file = Arg::new(alloc, "FILE").help("The scenario; without it, standard input is read");
+        )
+}
+
+fn file_arg<'a>(alloc: Global) -> Arg<'a> {
+    Arg::new(alloc, "FILE").help("The scenario; without it, standard input is read")
+}
+
+/// The program's one command. No argument is made before those before it have gone into it, so none is owned where that can fail.
+fn command<'a>(alloc: Global) -> Result<Command<'a>, AllocError> {
     Command::new(alloc, "motesim")
         .about(
             "Simulates a network of Contiki motes, and writes the traces of the motes and the log of the radio medium",
         )
-        .arg(workers)?
-        .arg(cut)?
-        .arg(sync)?
-        .arg(file)
+        .arg(workers_arg(alloc))?
+        .arg(cut_arg(alloc))?
+        .arg(sync_arg(alloc))?
+        .arg(file_arg(alloc))
 }
 
 /// What the words of the command line ask for, of which the first is the program's name. Without workers, neither

@@ -1,0 +1,26 @@
+use Rattle.std.proofs.Common.{refl}
+use Rattle.process_kernel.specs.Mote.{unbooted}
+use Rattle.process_kernel.proofs.machine.Machine.without_tables.Goals as goal
+
+pub returns : goal.returns
+unfolding unbooted
+returns c =
+    let shown = c.in_ok-first_shown.ensures in
+    rw (
+      shown.mote.0,
+      shown.mote.1,
+      shown.timers.1,
+      shown.states,
+      shown.semaphores,
+      c.in_ok-new.ensures,
+      c.in_ok-with_capacity.ensures,
+      c.in_ok-new-2.ensures,
+      c.new-3.ensures.items,
+      c.new-4.ensures.items,
+      c.new-5.ensures.items,
+      c.new-6.ensures.items,
+      c.new-7.ensures.items,
+      c.new-8.ensures,
+      c.new-9.ensures.lines,
+      c.new-9.ensures.sends,
+    ) refl
