@@ -9,12 +9,12 @@ import tempfile
 from bodies.functions import module_of
 from bodies.kit import rtlib, tokens
 
-# A proof that is left open: antt takes it by its statement, so those who call the function are proved from its contract.
-HOLE = '''use Rattle.%s.proofs.%s.Statement.{statement}
-
-pub %s_spec : {M : Type 1} → statement M
+# Proofs that are left open: antt takes them by their statements, so those who call the functions are proved from their contracts.
+USE = 'use Rattle.%s.proofs.%s.Statement as the_%s\n'
+HOLE = """
+pub %s_spec : {M : Type 1} → the_%s.statement M
 %s_spec = ?
-'''
+"""
 OF_ITSELF = ('Invariants.antt', 'Answers.antt', 'Proof.antt')
 
 
@@ -35,13 +35,18 @@ def calls_itself(function, rows):
 
 
 def proof_of(function, types):
-    """The names that lead to a function's proof; none of a method of a trait, nor of a function in a cycle of calls."""
+    """The names that lead to a function's proof; none of a method of a trait."""
     parts = function.path.split('::')
-    if function.cycle or function.is_guess:
+    if function.is_guess:
         return None
     if parts[0] in types:
         return types[parts[0]] + parts
     return parts if all(part[:1].islower() for part in parts) else None
+
+
+def folder_of(names, cycle):
+    """The names that lead to the folder of a proof, which is one for all functions of a cycle of calls."""
+    return [*names[:-1], '+' + cycle] if cycle else names
 
 
 def is_one_of(function, judged):
@@ -49,16 +54,36 @@ def is_one_of(function, judged):
     return any(('::' + it.path).endswith('::' + function.path) for it in judged)
 
 
+def left_open(functions, types, judged, rows):
+    """The names that lead to the proof of each function of a file that isn't judged, nor in a cycle of calls with one that is, by the
+    folders of the proofs, where these can be told."""
+    cycles = {it.cycle for it in judged if it.cycle}
+    found = {}
+    for it in functions:
+        names = None if is_one_of(it, judged) or it.cycle in cycles else proof_of(it, types)
+        if names and (it.cycle or not calls_itself(it, rows)):
+            found.setdefault('.'.join(folder_of(names, it.cycle)), []).append(names)
+    return found
+
+
 def proofs_of_others(bodies, judged):
-    """The names that lead to the proof of each function of a crate that isn't judged, where they can be told."""
+    """The names that lead to the proof of each function of a crate that isn't judged, by their folders, where they can be told."""
     files = [os.path.relpath(file, bodies.crate.folder) for file in rtlib.files_of(bodies.crate.folder)]
     sources = [file for file in files if file.startswith('src/') and file.endswith('.rt')]
     rows = {file: tokens('%s/%s' % (bodies.crate.folder, file)) for file in sources}
     types = {name: module for file in sources for name, module in types_in(file, rows[file]).items()}
-    others = [it for file in sources for it in bodies.functions(file) if not is_one_of(it, judged) and not calls_itself(it, rows[file])]
     cited = cited_in(rtlib.text_of('%s/%s' % (bodies.crate.folder, file)) for file in files if file.endswith('.antt'))
-    found = [names for names in (proof_of(it, types) for it in others) if names]
-    return [names for names in found if '.'.join(names) not in cited]
+    found = {}
+    for file in sources:
+        for folder, names in left_open(bodies.functions(file), types, judged, rows[file]).items():
+            found.setdefault(folder, []).extend(names)
+    return {folder: names for folder, names in found.items() if folder not in cited}
+
+
+def holes_for(crate, functions):
+    """A file of proofs that are left open, of functions by the names that lead there."""
+    uses = [USE % (crate, '.'.join(names), names[-1]) for names in functions]
+    return ''.join([*uses, *[HOLE % ((names[-1],) * 3) for names in functions]])
 
 
 def cited_in(texts):
@@ -73,14 +98,14 @@ def stated(bodies, judged):
         for part in rtlib.PARTS:
             if os.path.isdir('%s/%s' % (bodies.crate.folder, part)):
                 shutil.copytree('%s/%s' % (bodies.crate.folder, part), '%s/%s' % (room, part))
-        for names in proofs_of_others(bodies, judged):
-            folder = '%s/proofs/%s' % (room, '/'.join(names))
+        for proof, functions in proofs_of_others(bodies, judged).items():
+            folder = '%s/proofs/%s' % (room, proof.replace('.', '/'))
             os.makedirs(folder, exist_ok=True)
             for name in OF_ITSELF:
                 with contextlib.suppress(FileNotFoundError):
                     os.remove('%s/%s' % (folder, name))
             with open('%s/Proof.antt' % folder, 'w', encoding='utf-8') as it:
-                it.write(HOLE % (bodies.crate.name, '.'.join(names), names[-1], names[-1]))
+                it.write(holes_for(bodies.crate.name, functions))
         crate = copy.copy(bodies.crate)
         crate.folder = room
         yield crate

@@ -11,7 +11,7 @@ sys.path.insert(0, str(Path(__file__).resolve().parent.parent))
 from bodies.faults import is_of, own_faults
 from bodies.functions import Function, functions_in, names_in, owner_of
 from bodies.kit import is_refusal
-from bodies.stated import calls_itself, cited_in, is_one_of, proof_of, types_in
+from bodies.stated import calls_itself, cited_in, holes_for, is_one_of, left_open, proof_of, types_in
 
 
 def rows(text):
@@ -120,8 +120,29 @@ class WhereAProofStands(unittest.TestCase):
     def test_what_cannot_be_told(self):
         self.assertIsNone(self.names('QueueDisplay::fmt'))
         self.assertIsNone(self.names('queue::Gate::start'))
-        self.assertIsNone(self.names('queue::post', cycle='turns'))
         self.assertIsNone(self.names('Queue::post', is_guess=True))
+
+    TURNS = 'impl Queue {\n#[cycle(turns)]\nfn post(&self) {\n  self.take()\n}\n#[cycle(turns)]\nfn take(&self) {\n  self.post()\n}\nfn len(&self) {\n  1\n}\n}'
+
+    def left_open(self, *judged):
+        return left_open(functions(self.TURNS), self.TYPES, judged, rows(self.TURNS))
+
+    def test_functions_of_a_cycle_have_one_folder(self):
+        post, take, length = functions(self.TURNS)
+        both = {'queue.Queue.+turns': [['queue', 'Queue', 'post'], ['queue', 'Queue', 'take']]}
+        self.assertEqual(self.left_open(length), both)
+        self.assertEqual(self.left_open(), {**both, 'queue.Queue.len': [['queue', 'Queue', 'len']]})
+
+    def test_a_cycle_with_a_judged_function_keeps_its_proof(self):
+        post, take, length = functions(self.TURNS)
+        self.assertEqual(self.left_open(post), {'queue.Queue.len': [['queue', 'Queue', 'len']]})
+        self.assertEqual(self.left_open(Function(1, 1, 'Other::start', cycle='turns')), {'queue.Queue.len': [['queue', 'Queue', 'len']]})
+
+    def test_file_of_open_proofs(self):
+        text = holes_for('c', [['a', 'one'], ['a', 'two']])
+        self.assertEqual(text.count('.Statement as the_'), 2)
+        self.assertIn('use Rattle.c.proofs.a.two.Statement as the_two\n', text)
+        self.assertIn('pub one_spec : {M : Type 1} → the_one.statement M\none_spec = ?\n', text)
 
 
 class WhatACheckSays(unittest.TestCase):

@@ -50,10 +50,10 @@ impl Error for KernelError {}
 /// the same program. All its memory is taken by `new`, but for the lines and packets of its runs, and for the thread of a body that
 /// begins anew while it runs. Where that is refused, what `out` had stays, perhaps with more behind it, and the kernel fails from then on.
 pub struct Kernel {
-    machine: Machine,
     booted: bool,
     halted: bool,
     failed: bool,
+    machine: Machine,
 }
 
 /// By hand, so that a kernel is dropped by one call: the check of a function that owns one sees no more of it.

@@ -68,9 +68,9 @@ fn first_shown(alloc: Global, program: &Program, mote: u16) -> Result<Shown, All
         moment: 0,
         mote,
         timer_count: timers,
-        states: vec![in alloc; ProcessState::Off; places]?,
         semaphores: first_semaphores(alloc, program)?,
         timers: Timers::new(alloc, timers)?,
+        states: vec![in alloc; ProcessState::Off; places]?,
     })
 }
 
@@ -108,16 +108,17 @@ impl Machine {
         })
     }
 
-    /// Makes the tables of the processes, none of which is listed, and room for a list of all of them.
+    /// Makes the tables of the processes, none of which is listed, and room for a list of all of them. What a run touches is made one
+    /// after another, right behind the timers and the states, so that it lies close together.
     fn make_tables(&mut self, program: &Program) -> Result<(), AllocError>
         ensures { let t = tree_of program.now in let n = length t.processes + 3 in OnOk result (state_of t self.new ≡ record (state_of t self.old) { exiting = replicate n false; marks = replicate n false; remainders = map (λ c. fresh_of c Part.Body) t.codes; variables = map (λ c. c.starts) t.codes; members = [] }) }
     {
         let places = usize::from(program.processes()) + 3;
-        self.exiting = vec![in self.alloc; false; places]?;
         self.marks = vec![in self.alloc; false; places]?;
         self.members = Vec::with_capacity(self.alloc, places)?;
-        self.variables = first_variables(self.alloc, program)?;
         self.threads = fresh_bodies(self.alloc, program)?;
+        self.variables = first_variables(self.alloc, program)?;
+        self.exiting = vec![in self.alloc; false; places]?;
         Ok(())
     }
 
