@@ -208,6 +208,7 @@ impl Mote {
     ///
     /// # Errors
     /// Those of `turn`.
+    #[inline(always)]
     #[tactic(auto, unfolding(crate::specs::Public::node_in, crate::specs::Turn::turn_of))]
     pub fn turn_into(
         &mut self,

@@ -56,6 +56,7 @@ impl Machine {
     }
 
     /// Posts an event; the answer is whether the queue was full.
+    #[inline(always)]
     #[tactic(auto, unfolding(crate::specs::Posts::post_of))]
     pub fn post(&mut self, target: Target, event: Event) -> Result<bool, Stop>
         ensures exact { (t : Tree) → Tells result (state_of t self.new) (post_of (state_of t self.old) target event) }

@@ -175,6 +175,7 @@ impl Machine {
     }
 
     /// Gives an event to a process, or drops it where the process isn't there.
+    #[inline(always)]
     #[tactic(auto, unfolding(crate::specs::Delivery::give_of))]
     fn give(
         &mut self,
