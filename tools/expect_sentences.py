@@ -1,4 +1,4 @@
-"""Sentences on what a report shows, and how they are read: docs/EXPECTATIONS.md has their forms.
+"""Sentences on what a report shows, and how they are read: docs/use/EXPECTATIONS.md has their forms.
 
 `read_sentence('mote 6 prints flood 1 by 60', names)` gives what the sentence says, in the classes below. A sentence
 that can't be read is a `SentenceFault`, which says where it goes wrong and what may stand there.

@@ -1,6 +1,6 @@
 """Reads reports and scenarios of motesim, for the tools here and for scripts of your own.
 
-docs/REPORT.md says what a report is, docs/SCENARIO.md what a scenario is. A script in tools/ begins so:
+docs/use/REPORT.md says what a report is, docs/use/SCENARIO.md what a scenario is. A script in tools/ begins so:
 
     from motesim_report import Fault, read_run
 
@@ -21,7 +21,7 @@ What can go wrong is a `Fault`, whose text can be shown as it is:
     ProgramFault   the program is not built, or refuses a scenario
     Fault          a file can't be read
 
-A report is read strictly: each line has to be one of docs/REPORT.md, with names and numbers that it can have. Moments
+A report is read strictly: each line has to be one of docs/use/REPORT.md, with names and numbers that it can have. Moments
 don't fall in a trace, packets and their receivers stand in their order, and there is nothing behind `left K`. Whether
 the traces and the log of the medium tell the same story isn't looked at. `Report.text()` gives the text back, byte for
 byte.

@@ -6,7 +6,7 @@
     write_page('flooding.html', 'Flooding', [read_run('examples/flooding.toml')])
     write_page('both.html', 'With slots and without', [read_run(one), read_run(other)], start=17, mote=4)
 
-docs/TIMELINE.md says what one sees. The page stands by itself. In it a run is columns of numbers, compressed by zlib
+docs/use/TIMELINE.md says what one sees. The page stands by itself. In it a run is columns of numbers, compressed by zlib
 and written in base64: `data_of` makes them, `timeline_page/data.js` reads them. What follows from a run's lines the
 page finds out itself.
 """

@@ -1,6 +1,6 @@
 """Faults of program texts: where the fault is, the rule in plain words, and what may stand there.
 
-`find_fault(text)` reads a program text by the grammar of docs/NOTATION.md and gives its first `ProgramFault`, or None;
+`find_fault(text)` reads a program text by the grammar of docs/use/NOTATION.md and gives its first `ProgramFault`, or None;
 motesim tells the same kind and line.
 """
 from __future__ import annotations
@@ -33,7 +33,7 @@ COUNTED = {
     'variable': 'variables of a process',
 }
 
-# Of each kind its name in docs/NOTATION.md and its rule.
+# Of each kind its name in docs/use/NOTATION.md and its rule.
 RULES: dict[int, tuple[str, str]] = {
     1: ('BadToken', 'A program is made of names, numbers, keywords and signs. A name begins with a letter, has small '
         'letters, digits and `_`, and at most 16 of them; a number has no needless 0 in front.'),

@@ -1,6 +1,6 @@
 """Faults of scenarios: where the fault is, the rule in plain words, and what may stand there.
 
-`find_fault(bytes)` looks through a scenario by the rules of docs/SCENARIO.md, in their order, and gives the first
+`find_fault(bytes)` looks through a scenario by the rules of docs/use/SCENARIO.md, in their order, and gives the first
 `ScenarioFault`, or None; motesim tells the same line. `place_of(text, path)` finds a table or a key in the text.
 """
 from __future__ import annotations
@@ -28,7 +28,7 @@ RULES: dict[str, str] = {
     'scenario fault 4': 'A key holds a value of another kind than it takes.',
     'scenario fault 5': 'A number, or the count of motes, programs or losses, is out of range.',
     'scenario fault 6': 'A mote, or a key of `queue`, names a program that the scenario does not have.',
-    'program': 'The text of this program is none. docs/NOTATION.md has the notation.',
+    'program': 'The text of this program is none. docs/use/NOTATION.md has the notation.',
     'medium fault 2': 'The least delay, `base`, is at least 1: nothing is heard at the moment at which it is sent.',
     'medium fault 3': '`per` is at least 1, as the squared distance is divided by it.',
     'medium fault 4': 'A loss is between two different motes that are there, has an `every` from 1 on, and there is '

@@ -1,9 +1,9 @@
-"""The table of docs/GATE.md that says what each crate costs, in processor seconds: build and gate_times read and write it."""
+"""The table of docs/dev/GATE.md that says what each crate costs, in processor seconds: build and gate_times read and write it."""
 import re
 from pathlib import Path
 
 TOP = Path(__file__).resolve().parent.parent
-PAGE = TOP / 'docs/GATE.md'
+PAGE = TOP / 'docs/dev/GATE.md'
 BEGIN, END = '<!-- by crate: written by tools/gate_times -->', '<!-- end -->'
 HEAD = '| Crate | Proof | Tests | Wrong bodies |\n|---|---|---|---|\n'
 

@@ -306,7 +306,7 @@ class Files(unittest.TestCase):
 
 class Page(unittest.TestCase):
     def setUp(self):
-        self.page = (TOOLS.parent / 'docs/EXPECTATIONS.md').read_text('utf-8')
+        self.page = (TOOLS.parent / 'docs/use/EXPECTATIONS.md').read_text('utf-8')
 
     def forms(self, title):
         """What stands as code in the first column of a table, by a part of its page and the title of that column."""

@@ -44,20 +44,20 @@ use Rattle.low.specs.declared.place.TheConstants.{MOST}
 ''',
     'crates/low/specs/Near.antt': '-- What is near.\nuse lib.ListN.{get}\n',
     'crates/low/src/place.rt': '',
-    'docs/HEADLINE.md': 'before\n%s\n%s\nbehind\n' % (headline.BEGIN, headline.END),
+    'docs/proof/HEADLINE.md': 'before\n%s\n%s\nbehind\n' % (headline.BEGIN, headline.END),
 }
 
 LIST = '''
 In all 5 files with 14 lines, in 2 crates.
 All `specs/` together have 6 files.
 
-**[crates/simulation/specs](../crates/simulation/specs)**: 3 files, 9 lines
+**[crates/simulation/specs](../../crates/simulation/specs)**: 3 files, 9 lines
 
 - `Simulation.antt` (4): What a simulation answers.
 - `Input.antt` (4): What is read, over two lines.
 - `Ends.antt` (1): The ends.
 
-**[crates/low/specs](../crates/low/specs)**: 2 files, 5 lines
+**[crates/low/specs](../../crates/low/specs)**: 2 files, 5 lines
 
 - `Ways/Far.antt` (3): How far it is.
 - `Near.antt` (2): What is near.
@@ -102,7 +102,7 @@ class Lists(unittest.TestCase):
     def test_the_page_is_written_between_its_marks(self):
         self.assertIn('another list', self.run_with('--check')[1])
         self.assertEqual(self.run_with('--write'), ('', None))
-        page = (self.top / 'docs/HEADLINE.md').read_text('utf-8')
+        page = (self.top / 'docs/proof/HEADLINE.md').read_text('utf-8')
         marked = headline.BEGIN + '\n' + headline.listed(self.top) + headline.END
         self.assertEqual(page, 'before\n' + marked + '\nbehind\n')
         self.assertEqual(self.run_with('--check')[1], None)
@@ -129,7 +129,7 @@ class Lists(unittest.TestCase):
         self.assertIn('import each other', self.run_with('--check')[1])
 
     def test_a_page_without_marks_is_told(self):
-        self.put('docs/HEADLINE.md', 'a page\n')
+        self.put('docs/proof/HEADLINE.md', 'a page\n')
         self.assertIn('lacks the marks', self.run_with('--write')[1])
 
 

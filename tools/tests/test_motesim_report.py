@@ -43,9 +43,9 @@ def report_in(page):
     return page[begin:page.index('```', begin)]
 
 
-SCENARIO_PAGE = (TOP / 'docs/SCENARIO.md').read_text(encoding='utf-8')
+SCENARIO_PAGE = (TOP / 'docs/use/SCENARIO.md').read_text(encoding='utf-8')
 EXAMPLE = SCENARIO_PAGE[SCENARIO_PAGE.index('version = 2'):SCENARIO_PAGE.index('```\n\nProgram texts')]
-EXAMPLE_REPORT = report_in((TOP / 'docs/REPORT.md').read_text(encoding='utf-8'))
+EXAMPLE_REPORT = report_in((TOP / 'docs/use/REPORT.md').read_text(encoding='utf-8'))
 
 
 class Reports(unittest.TestCase):

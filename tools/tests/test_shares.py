@@ -1,4 +1,4 @@
-"""What shares reads in docs/GATE.md."""
+"""What shares reads in docs/dev/GATE.md."""
 import sys
 import unittest
 from pathlib import Path

@@ -43,8 +43,8 @@ left 0
 
 
 def small_network():
-    """The run of examples/small_network.toml, whose report stands in docs/REPORT.md."""
-    text = (TOP / 'docs/REPORT.md').read_text().split('```\n')[1]
+    """The run of examples/small_network.toml, whose report stands in docs/use/REPORT.md."""
+    text = (TOP / 'docs/use/REPORT.md').read_text().split('```\n')[1]
     return Run('small', Report.parse(text), Scenario.parse((TOP / 'examples/small_network.toml').read_bytes()))
 
 

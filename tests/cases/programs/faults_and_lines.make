@@ -1,4 +1,4 @@
-"""Program texts, each with the number of its fault and its line, or with None where it has none: see docs/NOTATION.md."""
+"""Program texts, each with the number of its fault and its line, or with None where it has none: see docs/use/NOTATION.md."""
 import json
 
 FAULTS = [
