@@ -1,25 +1,12 @@
 """What build foretells, and what it reads of a check."""
-import importlib.machinery
-import importlib.util
-import sys
 import tempfile
 import types
 import unittest
 import unittest.mock
 from pathlib import Path
 
-sys.dont_write_bytecode = True
-TOOLS = Path(__file__).resolve().parent.parent
-
-
-def load(name):
-    loader = importlib.machinery.SourceFileLoader(name, str(TOOLS / name))
-    made = importlib.util.module_from_spec(importlib.util.spec_from_loader(name, loader))
-    loader.exec_module(made)
-    return made
-
-
-build = load('build')
+import here  # (it puts tools/ on the path)
+from project import build
 
 
 def crate(name, *below):

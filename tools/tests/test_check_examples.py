@@ -1,26 +1,14 @@
 """What the pages quote of an example, and what is checked beside the sentences."""
-import importlib.machinery
-import importlib.util
-import sys
 import tempfile
 import unittest
 from pathlib import Path
 from unittest import mock
 
-sys.dont_write_bytecode = True
-TOOLS = Path(__file__).resolve().parent.parent
-sys.path.insert(0, str(TOOLS))
-from motesim_report import Report, Run, Scenario
-
-
-def load(name):
-    loader = importlib.machinery.SourceFileLoader(name, str(TOOLS / name))
-    made = importlib.util.module_from_spec(importlib.util.spec_from_loader(name, loader))
-    loader.exec_module(made)
-    return made
-
-
-check_examples = load('check_examples')
+import here  # (it puts tools/ on the path)
+from motesim.report import Report
+from motesim.run import Run
+from motesim.scenario import Scenario
+from project import examples as check_examples
 
 PAGE = """# `one.toml`
 

@@ -1,27 +1,13 @@
 """How check_tutorial reads a page, runs its commands, and writes what they print."""
-import importlib.machinery
-import importlib.util
 import subprocess
 import sys
 import tempfile
 import unittest
 from pathlib import Path
 
-sys.dont_write_bytecode = True
-TOOLS = Path(__file__).resolve().parent.parent
-sys.path.insert(0, str(TOOLS))
-from motesim_report import Fault
-
-
-def load(name):
-    loader = importlib.machinery.SourceFileLoader(name, str(TOOLS / name))
-    made = importlib.util.module_from_spec(importlib.util.spec_from_loader(name, loader))
-    sys.modules[name] = made
-    loader.exec_module(made)
-    return made
-
-
-tutorial = load('check_tutorial')
+from here import TOOLS
+from motesim.faults import Fault
+from project import pages as tutorial
 
 PAGE = '''# A page
 

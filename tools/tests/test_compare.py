@@ -1,27 +1,14 @@
 """How compare finds where two reports part. The reports are worked out by hand."""
-import importlib.machinery
-import importlib.util
 import subprocess
 import sys
 import tempfile
 import unittest
 from pathlib import Path
 
-sys.dont_write_bytecode = True
-TOOLS = Path(__file__).resolve().parent.parent
-sys.path.insert(0, str(TOOLS))
-from motesim_report import Report, Run
-
-
-def load(name):
-    loader = importlib.machinery.SourceFileLoader(name, str(TOOLS / name))
-    made = importlib.util.module_from_spec(importlib.util.spec_from_loader(name, loader))
-    sys.modules[name] = made
-    loader.exec_module(made)
-    return made
-
-
-compare = load('compare')
+from here import TOOLS
+from motesim import compare
+from motesim.report import Report
+from motesim.run import Run
 
 # Motes 0 and 2 send to mote 1 in turn. The event of the second timer of mote 2 is posted at 6.
 A = '''mote 0 talker
@@ -183,7 +170,6 @@ class Command(unittest.TestCase):
                 self.assertEqual(done.stderr.count('\n'), int(status == 2))
                 self.assertEqual(bool(done.stdout), status != 2)
 
-    @unittest.skipUnless((TOOLS / 'motesim_timeline.py').is_file(), 'tools/motesim_timeline.py is not here')
     def test_a_page_shows_both(self):
         with tempfile.TemporaryDirectory() as folder:
             paths = [Path(folder) / name for name in ('a', 'b', 'page.html')]

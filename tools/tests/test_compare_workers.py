@@ -1,7 +1,5 @@
 """Which runs of a scenario are compared, and that one that differs is told."""
 import contextlib
-import importlib.machinery
-import importlib.util
 import io
 import sys
 import tempfile
@@ -9,18 +7,8 @@ import unittest
 from pathlib import Path
 from unittest import mock
 
-sys.dont_write_bytecode = True
-TOOLS = Path(__file__).resolve().parent.parent
-
-
-def load(name):
-    loader = importlib.machinery.SourceFileLoader(name, str(TOOLS / name))
-    made = importlib.util.module_from_spec(importlib.util.spec_from_loader(name, loader))
-    loader.exec_module(made)
-    return made
-
-
-compare = load('compare_workers')
+import here  # (it puts tools/ on the path)
+from project import workers as compare
 
 # A program that writes its words beside it, and the scenario, or something else where one of its words is ODD.
 PROGRAM = """#!/bin/sh

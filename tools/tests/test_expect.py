@@ -1,7 +1,5 @@
 """Which sentences are read, what holds of a report, and what is told of a file of expectations."""
 import contextlib
-import importlib.machinery
-import importlib.util
 import io
 import os
 import re
@@ -11,23 +9,13 @@ import unittest
 from pathlib import Path
 from unittest import mock
 
-sys.dont_write_bytecode = True
-TOOLS = Path(__file__).resolve().parent.parent
-sys.path.insert(0, str(TOOLS))
-from expect_judge import Judge
-from expect_sentences import Count, Names, Refused, SentenceFault, names_of, read_sentence
-from expectations import expect, parts_of
-from motesim_report import Report, Scenario, finish
-
-
-def load(name):
-    loader = importlib.machinery.SourceFileLoader(name, str(TOOLS / name))
-    made = importlib.util.module_from_spec(importlib.util.spec_from_loader(name, loader))
-    loader.exec_module(made)
-    return made
-
-
-command = load('expect')
+from here import TOOLS
+from motesim import expect as command
+from motesim.expectations import expect, parts_of
+from motesim.judge import Judge
+from motesim.report import Report
+from motesim.scenario import Scenario
+from motesim.sentences import Count, Names, Refused, SentenceFault, names_of, read_sentence
 
 # Four motes in a row, each in range of those beside it; mote 2 loses all that mote 3 sends.
 SCENARIO = """
@@ -240,7 +228,7 @@ class Files(unittest.TestCase):
         with mock.patch.object(sys, 'argv', ['expect', str(self.scenario), *words]):
             with contextlib.redirect_stdout(out), contextlib.redirect_stderr(err):
                 with self.assertRaises(SystemExit) as end:
-                    finish('expect', command.main)
+                    command.main()
         return out.getvalue(), err.getvalue(), end.exception.code
 
     def test_what_holds_and_what_does_not(self):

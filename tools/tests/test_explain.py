@@ -1,7 +1,5 @@
 """Where faults are found, and that each kind of fault of the pages has its words."""
 import contextlib
-import importlib.machinery
-import importlib.util
 import io
 import os
 import re
@@ -11,22 +9,8 @@ import unittest
 from pathlib import Path
 from unittest import mock
 
-sys.dont_write_bytecode = True
-TOOLS = Path(__file__).resolve().parent.parent
-TOP = TOOLS.parent
-sys.path.insert(0, str(TOOLS))
-import program_faults
-import scenario_faults
-
-
-def load(name):
-    loader = importlib.machinery.SourceFileLoader(name, str(TOOLS / name))
-    made = importlib.util.module_from_spec(importlib.util.spec_from_loader(name, loader))
-    loader.exec_module(made)
-    return made
-
-
-explain = load('explain')
+from here import TOP
+from motesim import explain, program_faults, scenario_faults
 
 SCENARIO = """version = 1
 end = 5
@@ -244,7 +228,9 @@ class Command(unittest.TestCase):
                 said = io.StringIO()
                 with mock.patch.dict(os.environ, MOTESIM=str(program)), contextlib.redirect_stdout(said):
                     with mock.patch.object(sys, 'argv', ['explain', str(scenario)]):
-                        self.assertEqual(explain.main(), status)
+                        with self.assertRaises(SystemExit) as end:
+                            explain.main()
+                self.assertEqual(end.exception.code, status)
                 self.assertTrue(said.getvalue().startswith(begin), said.getvalue())
 
 

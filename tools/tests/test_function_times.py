@@ -1,20 +1,8 @@
 """Tests of how tools/function_times reads a check's modules: python3 -B -m unittest discover tools/tests"""
-import importlib.machinery
-import importlib.util
 import unittest
-from pathlib import Path
 
-TOOL = str(Path(__file__).resolve().parent.parent / 'function_times')
-
-
-def loaded():
-    loader = importlib.machinery.SourceFileLoader('function_times', TOOL)
-    made = importlib.util.module_from_spec(importlib.util.spec_from_loader('function_times', loader))
-    loader.exec_module(made)
-    return made
-
-
-times = loaded()
+import here  # (it puts tools/ on the path)
+from project import function_times as times
 
 
 class WhatAModuleIsAbout(unittest.TestCase):

@@ -1,26 +1,13 @@
 """What gate_times tells of processes and of a run."""
-import importlib.machinery
-import importlib.util
 import os
 import subprocess
-import sys
 import tempfile
 import unittest
 from pathlib import Path
 
-sys.dont_write_bytecode = True
-TOOLS = Path(__file__).resolve().parent.parent
-sys.path.insert(0, str(TOOLS))
+import here  # (it puts tools/ on the path)
+from project import gate_times
 
-
-def load(name):
-    loader = importlib.machinery.SourceFileLoader(name, str(TOOLS / name))
-    made = importlib.util.module_from_spec(importlib.util.spec_from_loader(name, loader))
-    loader.exec_module(made)
-    return made
-
-
-gate_times = load('gate_times')
 RUN = {
     'date': '2026-01-02', 'cores': 4, 'seconds': 600, 'processor seconds': 1800, 'unit': 12, 'lines': [1000, 20, 3],
     'crates': {'low': {'proof': 10.4, 'tests': 0, 'wrong bodies': 30}, 'high': {'proof': 20, 'tests': 5, 'wrong bodies': 0}},

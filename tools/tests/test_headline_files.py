@@ -1,7 +1,5 @@
 """Which files the headline rests on, and in which order they are listed."""
 import contextlib
-import importlib.machinery
-import importlib.util
 import io
 import sys
 import tempfile
@@ -9,19 +7,8 @@ import unittest
 from pathlib import Path
 from unittest import mock
 
-sys.dont_write_bytecode = True
-TOOLS = Path(__file__).resolve().parent.parent
-
-
-def load(name):
-    loader = importlib.machinery.SourceFileLoader(name, str(TOOLS / name))
-    made = importlib.util.module_from_spec(importlib.util.spec_from_loader(name, loader))
-    sys.modules[name] = made
-    loader.exec_module(made)
-    return made
-
-
-headline = load('headline_files')
+import here  # (it puts tools/ on the path)
+from project import headline
 
 FILES = {
     'crates.txt': '# Each crate.\nlow: std\nother:\nsimulation may_wait=1: low\n',

@@ -1,7 +1,5 @@
 """Which answers of a refused run are as they should be, and how many requests of a small program are refused."""
 import contextlib
-import importlib.machinery
-import importlib.util
 import io
 import shutil
 import subprocess
@@ -11,19 +9,9 @@ import unittest
 from pathlib import Path
 from unittest import mock
 
-sys.dont_write_bytecode = True
-TOOLS = Path(__file__).resolve().parent.parent
+import here  # (it puts tools/ on the path)
+from project import memory as refuse
 
-
-def load(name):
-    loader = importlib.machinery.SourceFileLoader(name, str(TOOLS / name))
-    made = importlib.util.module_from_spec(importlib.util.spec_from_loader(name, loader))
-    sys.modules[name] = made
-    loader.exec_module(made)
-    return made
-
-
-refuse = load('refuse_memory')
 WHOLE = refuse.Answer(0, b'mote 0 p\nleft 0\n', b'')
 NO_MEMORY = b'motesim: out of memory\n'
 NO_THREAD = b'motesim: run fault 5\n'

@@ -1,11 +1,8 @@
 """What shares reads in docs/dev/GATE.md."""
-import sys
 import unittest
-from pathlib import Path
 
-sys.dont_write_bytecode = True
-sys.path.insert(0, str(Path(__file__).resolve().parent.parent))
-import shares
+import here  # (it puts tools/ on the path)
+from project import shares
 
 ROWS = '| `low` | 10 | 7 | 5 (1) |\n| `high` | 20 |  |  |\n| `none` |  |  |  |\n| all | 30 | 7 | 5 (1) |\n'
 PAGE = '# Gate\n\n| `other` | 3 |\n' + shares.BEGIN + '\n' + shares.HEAD + ROWS + shares.END + '\nAfter.\n'

@@ -1,7 +1,5 @@
 """What summary counts. The values are worked out by hand from the reports."""
 import csv
-import importlib.machinery
-import importlib.util
 import io
 import json
 import subprocess
@@ -10,21 +8,11 @@ import tempfile
 import unittest
 from pathlib import Path
 
-sys.dont_write_bytecode = True
-TOOLS = Path(__file__).resolve().parent.parent
-sys.path.insert(0, str(TOOLS))
-from motesim_report import Report, Run, Scenario
-
-
-def load(name):
-    loader = importlib.machinery.SourceFileLoader(name, str(TOOLS / name))
-    made = importlib.util.module_from_spec(importlib.util.spec_from_loader(name, loader))
-    sys.modules[name] = made
-    loader.exec_module(made)
-    return made
-
-
-summary = load('summary')
+from here import TOOLS
+from motesim import summary
+from motesim.report import Report
+from motesim.run import Run
+from motesim.scenario import Scenario
 
 # What becomes of the six packets of mote 0 at mote 1: received, lost by the medium, collided with one of mote 2, found
 # the ring full, came when the mote had halted, and comes after the end.

@@ -1,17 +1,14 @@
 """Tests of how tools/wrong_bodies reads source files and what a check says: python3 -B -m unittest discover tools/tests"""
 import re
-import sys
 import types
 import unittest
 import unittest.mock
-from pathlib import Path
 
-sys.path.insert(0, str(Path(__file__).resolve().parent.parent))
-
-from bodies.faults import is_of, own_faults
-from bodies.functions import Function, functions_in, names_in, owner_of
-from bodies.kit import is_refusal
-from bodies.stated import calls_itself, cited_in, holes_for, is_one_of, left_open, proof_of, types_in
+import here  # (it puts tools/ on the path)
+from project.bodies.faults import is_of, own_faults
+from project.bodies.functions import Function, functions_in, names_in, owner_of
+from project.bodies.stated import calls_itself, cited_in, holes_for, is_one_of, left_open, proof_of, types_in
+from project.kit import is_refusal
 
 
 def rows(text):
@@ -183,7 +180,7 @@ class WhatACheckSays(unittest.TestCase):
 
 class AnswersOfTheKit(unittest.TestCase):
     def told(self, answers, **names):
-        with unittest.mock.patch('bodies.kit.rt', types.SimpleNamespace(**names)):
+        with unittest.mock.patch('project.kit.rt', types.SimpleNamespace(**names)):
             return list(map(is_refusal, answers))
 
     def test_truth_values(self):

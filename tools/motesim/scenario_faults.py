@@ -10,8 +10,8 @@ import tomllib
 from collections.abc import Iterator
 from dataclasses import dataclass
 
-from program_faults import ProgramFault
-from program_faults import find_fault as find_program_fault
+from motesim.program_faults import ProgramFault
+from motesim.program_faults import find_fault as find_program_fault
 
 LONGEST_TEXT = 1_048_576
 # A table or a key: the names and the numbers that lead to it.

@@ -1,62 +1,26 @@
-"""Reads reports and scenarios of motesim, for the tools here and for scripts of your own.
-
-docs/use/REPORT.md says what a report is, docs/use/SCENARIO.md what a scenario is. A script in tools/ begins so:
-
-    from motesim_report import Fault, read_run
-
-    run = read_run('examples/flooding.toml')       # runs the scenario; a file with a report is read as it is
-    for mote in run.report.motes:
-        sent = [line for line in mote.lines if line.kind == 'send']
-        print('mote', mote.number, 'runs', mote.program, 'and sends', len(sent), 'packets')
-    for packet in run.report.medium:
-        print(packet.sender, 'sent', packet.value, 'to', [copy.to for copy in packet.copies], 'at', packet.at)
-    print(run.scenario.hearers(0), 'hear mote 0')
-
-A script elsewhere needs the path of tools/ in PYTHONPATH.
-
-What can go wrong is a `Fault`, whose text can be shown as it is:
-
-    ReportFault    a text is no report; its line is in it
-    ScenarioFault  a text is no scenario, or not that of the report
-    ProgramFault   the program is not built, or refuses a scenario
-    Fault          a file can't be read
+"""Reads reports: docs/use/REPORT.md says what a report is.
 
 A report is read strictly: each line has to be one of docs/use/REPORT.md, with names and numbers that it can have. Moments
-don't fall in a trace, packets and their receivers stand in their order, and there is nothing behind `left K`. Whether
+don't fall in a trace, packets and their receivers stand in their order, and there is nothing after `left K`. Whether
 the traces and the log of the medium tell the same story isn't looked at. `Report.text()` gives the text back, byte for
-byte.
+byte. A text that is no report is a `ReportFault`, which has its line.
 """
 from __future__ import annotations
 
 import gc
-import os
 import re
-import subprocess
 import sys
-import tomllib
 from collections import namedtuple
 from functools import cached_property
 from operator import getitem
-from pathlib import Path
-from typing import Callable, Iterator, NamedTuple, NoReturn
+from typing import Iterator, NamedTuple, NoReturn
 
-TOP = Path(__file__).resolve().parent.parent
+from motesim.faults import Fault
+from motesim.notation import EVENTS, RESERVED, SYSTEM
+
 MOST_MOMENT = 1_000_000
 MOST_WORD = 65_535
 MOST_NUMBER = 2 ** 62 - 1
-SYSTEM = ('etimer', 'ctimer', 'radio')
-EVENTS = ('continue', 'msg', 'com', 'packet', 'exit', 'timer')
-RESERVED = frozenset(
-    'event semaphore process autostart receiver code var etimer ctimer thread onpoll onexit body print send if else '
-    'while wait_until wait_while yield yield_until spawn restart exit pause acquire signal post broadcast synch poll '
-    'start kill set reset restart_timer stop into continue msg com packet init exited timer data from now self is '
-    'fired expired gone running count radio all'.split())
-
-
-class Fault(Exception):
-    """Something that the user is told in one line."""
-
-
 class ReportFault(Fault):
     """A text that is no report: its first line that can't stand, and what was expected there."""
 
@@ -66,14 +30,6 @@ class ReportFault(Fault):
         if found is not None:
             shown = 'there is %r' % (found if len(found) <= 80 else found[:80] + '..')
         super().__init__('line %d: expected %s, but %s' % (row, expected, shown))
-
-
-class ScenarioFault(Fault):
-    """A text that is no scenario."""
-
-
-class ProgramFault(Fault):
-    """motesim can't be run, or refuses the scenario."""
 
 
 class Line:
@@ -462,214 +418,3 @@ class _Reader:
         if self.at != len(self.rows) - 1 or self.rows[-1]:
             self.fault('nothing more')
         return left
-
-
-class Place(NamedTuple):
-    """Where a mote stands, and what it runs."""
-    x: int
-    y: int
-    program: str
-
-
-# The kinds of what stands in a scenario: of `bool`, which is a whole number to Python, only itself counts.
-_KINDS = {int: 'a whole number', str: 'a text', dict: 'a table', list: 'an array of tables', bool: 'true or false'}
-
-
-def _get(table: dict, key: str, kind: type, where: str) -> object:
-    """What a table holds under a key that it needs."""
-    if key not in table:
-        raise ScenarioFault('%s has no key %s' % (where, key))
-    if type(table[key]) is not kind:
-        raise ScenarioFault('%s of %s is not %s' % (key, where, _KINDS[kind]))
-    return table[key]
-
-
-class Scenario:
-    """A scenario: `version`, `end`, `range`, `base`, `per`, `collide`, and
-
-    programs  the texts of the programs, by name
-    queue     the lengths of event queues that differ from 32, by program
-    places    a `Place` for each mote, by its number
-    losses    of each pair (sender, receiver) with a loss, its `every`
-
-    It is read for the tools' needs: what motesim refuses has no sense here, and isn't all looked for.
-    """
-
-    def __init__(self, tables: dict):
-        medium = _get(tables, 'medium', dict, 'the scenario')
-        self.version: int = _get(tables, 'version', int, 'the scenario')
-        self.end: int = _get(tables, 'end', int, 'the scenario')
-        self.range: int = _get(medium, 'range', int, 'medium')
-        self.base: int = _get(medium, 'base', int, 'medium')
-        self.per: int = _get(medium, 'per', int, 'medium')
-        self.collide: bool = self.version > 1 and _get(medium, 'collide', bool, 'medium')
-        self.programs: dict[str, str] = _get(tables, 'programs', dict, 'the scenario')
-        self.queue: dict[str, int] = _get(tables, 'queue', dict, 'the scenario') if 'queue' in tables else {}
-        motes = _get(tables, 'mote', list, 'the scenario')
-        losses = _get(tables, 'loss', list, 'the scenario') if 'loss' in tables else []
-        if not all(type(it) is dict for it in motes + losses):
-            raise ScenarioFault('a mote or a loss is not a table')
-        if self.per < 1 or self.base < 1:
-            raise ScenarioFault('base and per are at least 1')
-        self.places = [Place(_get(it, 'x', int, 'mote %d' % number), _get(it, 'y', int, 'mote %d' % number),
-                             _get(it, 'program', str, 'mote %d' % number)) for number, it in enumerate(motes)]
-        self.losses: dict[tuple[int, int], int] = {
-            (_get(it, 'from', int, 'a loss'), _get(it, 'to', int, 'a loss')): _get(it, 'every', int, 'a loss')
-            for it in losses}
-
-    @classmethod
-    def parse(cls, text: str | bytes) -> Scenario:
-        """Reads a scenario, which may begin with a byte order mark; a text that is none has a `ScenarioFault`."""
-        try:
-            if isinstance(text, bytes):
-                text = text.decode('utf-8')
-            return cls(tomllib.loads(text.removeprefix('\ufeff')))
-        except UnicodeDecodeError:
-            raise ScenarioFault('the scenario is not UTF-8') from None
-        except tomllib.TOMLDecodeError as fault:
-            raise ScenarioFault('the scenario is no TOML: %s' % fault) from None
-
-    @property
-    def motes(self) -> int:
-        """How many motes there are."""
-        return len(self.places)
-
-    def squared(self, s: int, r: int) -> int:
-        """The square of the distance between two motes."""
-        one, other = self.places[s], self.places[r]
-        return (one.x - other.x) ** 2 + (one.y - other.y) ** 2
-
-    def hears(self, r: int, s: int) -> bool:
-        """Whether mote r hears mote s. Hearing is mutual."""
-        return r != s and self.squared(s, r) <= self.range ** 2
-
-    @cached_property
-    def _neighbours(self) -> list[list[int]]:
-        """Of each mote those that it hears. They stand in the squares around it, whose sides are the range."""
-        side = max(1, self.range)
-        squares: dict[tuple[int, int], list[int]] = {}
-        for number, place in enumerate(self.places):
-            squares.setdefault((place.x // side, place.y // side), []).append(number)
-        found = []
-        for number, place in enumerate(self.places):
-            x, y = place.x // side, place.y // side
-            near = [it for dx in (-1, 0, 1) for dy in (-1, 0, 1) for it in squares.get((x + dx, y + dy), [])]
-            found.append(sorted(it for it in near if self.hears(it, number)))
-        return found
-
-    def hearers(self, s: int) -> list[int]:
-        """Who hears mote s, by rising number, whatever losses there are."""
-        return self._neighbours[s]
-
-    def links(self) -> Iterator[tuple[int, int]]:
-        """Each pair of motes that hear each other, the lesser number first."""
-        for s in range(self.motes):
-            for r in self._neighbours[s]:
-                if s < r:
-                    yield s, r
-
-    def delay(self, s: int, r: int) -> int:
-        """After how many moments a packet of s reaches r, which hears it."""
-        return self.base + self.squared(s, r) // self.per
-
-    @cached_property
-    def lookahead(self) -> int:
-        """The least delay between two motes that hear each other; `end + 1` where no two do."""
-        return min((self.delay(s, r) for s, r in self.links()), default=self.end + 1)
-
-    def loses(self, s: int, r: int, number: int) -> bool:
-        """Whether the medium loses the packet of that number on its way from s to r."""
-        every = self.losses.get((s, r), 0)
-        return every > 0 and (number + 1) % every == 0
-
-
-class Run(NamedTuple):
-    """What a tool was given: a report, the scenario where it is known, and a name to show."""
-    name: str
-    report: Report
-    scenario: Scenario | None
-
-
-def program_path() -> Path:
-    """The built motesim: the one that the environment variable MOTESIM names, or this tree's."""
-    named = os.environ.get('MOTESIM')
-    path = Path(named) if named else TOP / 'crates/motesim/out/motesim'
-    if not (path.is_file() and os.access(path, os.X_OK)):
-        raise ProgramFault('there is no program %s (the environment variable MOTESIM names it)' % path if named else
-                           'the program is not built: ./run FILE.toml builds it, or MOTESIM names a built one')
-    return path
-
-
-def run_program(scenario: bytes, *words: str) -> bytes:
-    """The report of a scenario by the built program, with these words on its command line."""
-    path = program_path()
-    try:
-        done = subprocess.run(['motesim', *words], executable=str(path.resolve()), input=scenario, capture_output=True)
-    except OSError as fault:
-        raise ProgramFault('%s can\'t be run: %s' % (path, fault.strerror)) from None
-    if done.returncode:
-        told = done.stderr.decode('utf-8', 'backslashreplace').strip() or 'status %d' % done.returncode
-        raise ProgramFault('the scenario has no report: %s' % told)
-    return done.stdout
-
-
-def read_file(path: str | Path) -> bytes:
-    """The bytes of a file, or of standard input for the name `-`."""
-    try:
-        return sys.stdin.buffer.read() if str(path) == '-' else Path(path).read_bytes()
-    except OSError as fault:
-        raise Fault('%s: %s' % (path, fault.strerror)) from None
-
-
-def read_run(path: str | Path, scenario: str | Path | None = None) -> Run:
-    """A report from a file, with the scenario from another where it is named.
-
-    A file NAME.toml is a scenario, and is run. The name `-` is a report on standard input.
-    """
-    if str(path).endswith('.toml') and scenario is not None:
-        raise Fault('%s is a scenario itself, and takes no other' % path)
-    data = read_file(path)
-    at = path
-    try:
-        if str(path).endswith('.toml'):
-            found = Scenario.parse(data)
-            return Run(str(path), Report.parse(run_program(data)), found)
-        report, found = Report.parse(data), None
-        if scenario is not None:
-            at = scenario
-            found = Scenario.parse(read_file(scenario))
-            check_scenario(report, found)
-    except (ReportFault, ScenarioFault, ProgramFault) as fault:
-        fault.args = ('%s: %s' % (at, fault),)
-        raise
-    return Run(str(path), report, found)
-
-
-def check_scenario(report: Report, scenario: Scenario) -> None:
-    """Whether a report can be of that scenario: the same motes, which run the same programs."""
-    if len(report.motes) != scenario.motes:
-        raise ScenarioFault('the scenario has %d motes, the report %d' % (scenario.motes, len(report.motes)))
-    for mote, place in zip(report.motes, scenario.places):
-        if mote.program != place.program:
-            raise ScenarioFault('mote %d runs %s in the scenario, %s in the report' % (
-                mote.number, place.program, mote.program))
-
-
-def finish(tool: str, work: Callable[[], int]) -> NoReturn:
-    """Ends a tool with the status that `work` gives, or with 2 and one line on standard error where it has a fault."""
-    # (looking for cycles among millions of lines would take longer than the work)
-    gc.disable()
-    try:
-        status = work()
-        sys.stdout.flush()
-    except Fault as fault:
-        print('%s: %s' % (tool, fault), file=sys.stderr)
-        status = 2
-    except MemoryError:
-        print('%s: out of memory' % tool, file=sys.stderr)
-        status = 2
-    except BrokenPipeError:
-        # (nobody reads on, as behind `| head`: Python shall not complain of it at its end)
-        os.dup2(os.open(os.devnull, os.O_WRONLY), sys.stdout.fileno())
-        status = 2
-    sys.exit(status)

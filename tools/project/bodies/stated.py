@@ -6,8 +6,8 @@ import re
 import shutil
 import tempfile
 
-from bodies.functions import module_of
-from bodies.kit import rtlib, tokens
+from project.bodies.functions import module_of
+from project.kit import rtlib, tokens
 
 # Proofs that are left open: antt takes them by their statements, so those who call the functions are proved from their contracts.
 USE = 'use Rattle.%s.proofs.%s.Statement as the_%s\n'

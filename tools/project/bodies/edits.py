@@ -4,8 +4,8 @@ import os
 import re
 from typing import NamedTuple, Optional
 
-from bodies.functions import Function, functions_in
-from bodies.kit import rt, rtlib, tokens
+from project.bodies.functions import Function, functions_in
+from project.kit import rt, rtlib, tokens
 
 FOLDERS = ('must-fail', 'gate-bodies', 'wrong-bodies')
 

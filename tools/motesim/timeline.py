@@ -1,7 +1,7 @@
 """Makes an HTML page of one run, or of two above one another: a map of the motes, and a lane for each over time.
 
-    from motesim_report import read_run
-    from motesim_timeline import write_page
+    from motesim.run import read_run
+    from motesim.timeline import write_page
 
     write_page('flooding.html', 'Flooding', [read_run('examples/flooding.toml')])
     write_page('both.html', 'With slots and without', [read_run(one), read_run(other)], start=17, mote=4)
@@ -12,6 +12,7 @@ page finds out itself.
 """
 from __future__ import annotations
 
+import argparse
 import base64
 import json
 import sys
@@ -20,7 +21,10 @@ from array import array
 from pathlib import Path
 from typing import Iterable, Sequence
 
-from motesim_report import FIELDS, Fault, Mote, Report, Run, Scenario
+from motesim.faults import Fault, command
+from motesim.report import FIELDS, Mote, Report
+from motesim.run import Run, read_run
+from motesim.scenario import Scenario
 
 PAGE = Path(__file__).resolve().parent / 'timeline_page'
 # The page's scripts, in the order in which they are put together.
@@ -203,3 +207,20 @@ def write_page(path: str | Path, title: str, runs: Sequence[Run], start: int | N
             page.writelines(parts)
     except OSError as fault:
         raise Fault('%s: %s' % (path, fault.strerror)) from None
+
+
+@command('timeline')
+def main() -> int:
+    words = argparse.ArgumentParser(
+        prog='timeline', description='Makes an HTML page of a run: a map of the motes, and a lane for each over time. '
+        'FILE.toml is a scenario, which is run; any other FILE is a report.')
+    words.add_argument('file', metavar='FILE', help='a scenario (NAME.toml) or a report; - is a report on standard input')
+    words.add_argument('--scenario', metavar='FILE', help='the scenario of a report: it has the places of the motes')
+    words.add_argument('-o', dest='page', metavar='PAGE', help='the page to write; else NAME.html in the current folder')
+    words.add_argument('--title', help='the title of the page; else the name of the file')
+    asked = words.parse_args()
+    name = 'run' if asked.file == '-' else Path(asked.file).stem
+    page = asked.page or name + '.html'
+    write_page(page, asked.title or name, [read_run(asked.file, asked.scenario)])
+    print(page)
+    return 0

@@ -1,17 +1,16 @@
 """What the reader makes of reports and scenarios, and what it says of texts that are none."""
 import os
 import stat
-import sys
 import tempfile
 import unittest
 from pathlib import Path
 from unittest import mock
 
-sys.dont_write_bytecode = True
-TOP = Path(__file__).resolve().parent.parent.parent
-sys.path.insert(0, str(TOP / 'tools'))
-import motesim_report
-from motesim_report import Copy, Fault, Packet, ProgramFault, Report, ReportFault, Scenario, ScenarioFault
+from here import TOP
+from motesim.faults import Fault
+from motesim.report import Copy, Packet, Report, ReportFault
+from motesim.run import ProgramFault, check_scenario, read_run
+from motesim.scenario import Scenario, ScenarioFault
 
 # Two motes: the second one halts at 9, when its neighbour's last packet but one is on its way.
 SMALL = '''mote 0 talker
@@ -185,7 +184,7 @@ class Scenarios(unittest.TestCase):
             if not (noted.is_file() and noted.read_bytes().startswith(b'mote ')):
                 continue
             scenario, report = Scenario.parse(path.read_bytes()), Report.parse(noted.read_bytes())
-            motesim_report.check_scenario(report, scenario)
+            check_scenario(report, scenario)
             for packet in report.medium:
                 self.assertEqual([it.to for it in packet.copies], scenario.hearers(packet.sender))
                 for copy in packet.copies:
@@ -204,7 +203,7 @@ class Scenarios(unittest.TestCase):
 
     def test_a_report_of_other_motes_has_a_fault(self):
         with self.assertRaisesRegex(ScenarioFault, 'the scenario has 3 motes, the report 2'):
-            motesim_report.check_scenario(Report.parse(SMALL), Scenario.parse(EXAMPLE))
+            check_scenario(Report.parse(SMALL), Scenario.parse(EXAMPLE))
 
 
 class Runs(unittest.TestCase):
@@ -226,28 +225,28 @@ class Runs(unittest.TestCase):
     def test_a_report_is_read_and_a_scenario_is_run(self):
         report = self.write('a.report', EXAMPLE_REPORT)
         scenario = self.write('a.toml', EXAMPLE)
-        found = motesim_report.read_run(report)
+        found = read_run(report)
         self.assertEqual((found.report.text(), found.scenario), (EXAMPLE_REPORT, None))
-        found = motesim_report.read_run(report, scenario)
+        found = read_run(report, scenario)
         self.assertEqual(found.scenario.end, 20)
         with self.as_program('#!/bin/sh\ncat >/dev/null\ncat %s\n' % report):
-            found = motesim_report.read_run(scenario)
+            found = read_run(scenario)
         self.assertEqual((found.report.text(), found.scenario.end), (EXAMPLE_REPORT, 20))
 
     def test_what_can_not_be_run_or_read_has_a_fault(self):
         scenario = self.write('a.toml', EXAMPLE)
         with self.as_program('#!/bin/sh\necho motesim: medium fault 2 >&2\nexit 1\n'):
             with self.assertRaisesRegex(ProgramFault, 'a.toml: the scenario has no report: motesim: medium fault 2'):
-                motesim_report.read_run(scenario)
+                read_run(scenario)
         with mock.patch.dict(os.environ, {'MOTESIM': '/nowhere/motesim'}):
             with self.assertRaisesRegex(ProgramFault, 'there is no program /nowhere/motesim'):
-                motesim_report.read_run(scenario)
+                read_run(scenario)
         with self.assertRaisesRegex(Fault, 'no.report: No such file'):
-            motesim_report.read_run('no.report')
+            read_run('no.report')
         with self.assertRaisesRegex(Fault, 'a.toml is a scenario itself'):
-            motesim_report.read_run(scenario, scenario)
+            read_run(scenario, scenario)
         with self.assertRaisesRegex(ReportFault, 'b.report: line 1: expected'):
-            motesim_report.read_run(self.write('b.report', 'x\n'))
+            read_run(self.write('b.report', 'x\n'))
 
 
 if __name__ == '__main__':

@@ -1,4 +1,4 @@
-// The columns of a run, as tools/motesim_timeline.py wrote them, and the lines of the report made of them again.
+// The columns of a run, as motesim.timeline wrote them, and the lines of the report made of them again.
 const KINDS = ['start', 'leave', 'post', 'full', 'take', 'drop', 'print', 'busy', 'send', 'recv', 'lost', 'collide',
   'deaf',
   'halt'];

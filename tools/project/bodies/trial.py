@@ -1,9 +1,9 @@
 """Tries wrong bodies of one crate: many in one check, and what that leaves open each by itself."""
 from typing import NamedTuple
 
-from bodies.faults import UNEXPLAINED, is_of, own_faults
-from bodies.kit import is_refusal, rt, rtlib
-from bodies.stated import stated
+from project.bodies.faults import UNEXPLAINED, is_of, own_faults
+from project.kit import is_refusal, rt, rtlib
+from project.bodies.stated import stated
 
 ONE_JOB = ['--jobs', '1']
 

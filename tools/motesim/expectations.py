@@ -5,17 +5,18 @@
 from __future__ import annotations
 
 import itertools
-import subprocess
 import tomllib
 from dataclasses import dataclass
 from pathlib import Path
 from typing import NamedTuple
 
-from expect_judge import Broken, Judge
-from expect_sentences import Names, Refused, Sentence, SentenceFault, names_of, read_sentence
-from motesim_report import Fault, Report, Scenario, ScenarioFault, program_path, read_file
+from motesim.faults import Fault
+from motesim.judge import Broken, Judge
+from motesim.report import Report
+from motesim.run import Answer, answer, read_file
+from motesim.scenario import Scenario, ScenarioFault
+from motesim.sentences import Names, Refused, Sentence, SentenceFault, names_of, read_sentence
 
-SECONDS = 600
 LONGEST_SHOWN = 150
 WHOLE = 'the report is as it is written down'
 KINDS = {list: 'an array', str: 'a text', dict: 'a table'}
@@ -33,12 +34,6 @@ def text_of(path: Path) -> str:
         return read_file(path).decode('utf-8')
     except UnicodeDecodeError:
         raise Fault('%s is not UTF-8' % path) from None
-
-
-class Answer(NamedTuple):
-    status: int
-    report: bytes
-    fault: bytes
 
 
 @dataclass(frozen=True)
@@ -92,18 +87,6 @@ def changed(scenario: str, replace: dict[str, str]) -> str:
             raise Fault('the scenario has no text %r to replace' % old)
         scenario = scenario.replace(old, new)
     return scenario
-
-
-def answer(scenario: bytes) -> Answer:
-    """What the program answers."""
-    path = program_path()
-    try:
-        done = subprocess.run([str(path.resolve())], input=scenario, capture_output=True, timeout=SECONDS)
-    except subprocess.TimeoutExpired:
-        raise Fault('no answer in %d seconds' % SECONDS) from None
-    except OSError as fault:
-        raise Fault('%s can\'t be run: %s' % (path, fault.strerror)) from None
-    return Answer(done.returncode, done.stdout, done.stderr)
 
 
 def read_all(sentences: list[str], names: Names) -> list[Sentence]:

@@ -1,8 +1,8 @@
 """The table of docs/dev/GATE.md that says what each crate costs, in processor seconds: build and gate_times read and write it."""
 import re
-from pathlib import Path
 
-TOP = Path(__file__).resolve().parent.parent
+from project.tree import TOP
+
 PAGE = TOP / 'docs/dev/GATE.md'
 BEGIN, END = '<!-- by crate: written by tools/gate_times -->', '<!-- end -->'
 HEAD = '| Crate | Proof | Tests | Wrong bodies |\n|---|---|---|---|\n'

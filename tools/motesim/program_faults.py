@@ -8,7 +8,7 @@ from __future__ import annotations
 import re
 from dataclasses import dataclass, field
 
-from motesim_report import RESERVED as KEYWORDS
+from motesim.notation import RESERVED as KEYWORDS
 
 TOKEN = re.compile(r'[a-z0-9_]+|==|!=|<=|>=|&&|\|\||[{}();,=!+\-*/%<>]|.', re.S)
 BLANK = re.compile(r'(?:[ \t\r\n]|//[^\n]*)*')

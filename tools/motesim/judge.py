@@ -7,10 +7,11 @@ from __future__ import annotations
 from functools import cached_property
 from typing import Iterator, NamedTuple
 
-from expect_sentences import (
+from motesim.sentences import (
     Copies, Count, Deed, Does, Hears, Lines, MediumLine, Motes, Packets, Pattern, Refused, Sentence, Value, Window,
 )
-from motesim_report import FIELDS, Line, Report, Scenario
+from motesim.report import FIELDS, Line, Report
+from motesim.scenario import Scenario
 
 BECAME = {'collided': 'collide', 'received': 'recv', 'full': 'lost'}
 

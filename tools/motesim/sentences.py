@@ -11,7 +11,10 @@ import textwrap
 from collections.abc import Callable
 from dataclasses import dataclass
 
-from motesim_report import FIELDS, MOST_MOMENT, MOST_WORD, SYSTEM, Fault, Scenario
+from motesim.faults import Fault
+from motesim.notation import SYSTEM
+from motesim.report import FIELDS, MOST_MOMENT, MOST_WORD
+from motesim.scenario import Scenario
 
 WIDTH = 110
 LONGEST_NUMBER, MOST, MOST_MOTES = 9, 999_999_999, 1_000
@@ -139,7 +142,7 @@ class Does:
 
 @dataclass(frozen=True)
 class Copies:
-    """So many copies of packets have this outcome, as motesim_report calls it."""
+    """So many copies of packets have this outcome, as motesim.report calls it."""
     count: Count
     outcome: str
     motes: frozenset[int] | None

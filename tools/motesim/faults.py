@@ -1,0 +1,68 @@
+"""What the user is told in one line, and how each command ends.
+
+A command's module has `@command('compare')` above its `main`, which returns the status. Whatever goes wrong with what
+the user gave, with files or with memory is one line on standard error and status 2.
+"""
+from __future__ import annotations
+
+import functools
+import gc
+import os
+import sys
+from collections.abc import Callable
+from typing import NoReturn
+
+FAILED, INTERRUPTED = 2, 130
+
+
+class Fault(Exception):
+    """Something that the user is told in one line."""
+
+
+def in_words(fault: OSError) -> str:
+    """What the system says of a file, or of standard output where it names none."""
+    where = 'standard output' if fault.filename is None else os.fsdecode(fault.filename)
+    return '%s: %s' % (where, fault.strerror or fault)
+
+
+def drop_output() -> None:
+    """Lets what is left of standard output go: Python would complain of it at its end."""
+    with open(os.devnull, 'wb') as nothing:
+        os.dup2(nothing.fileno(), 1)
+
+
+def status_of(tool: str, work: Callable[[], int]) -> int:
+    """The status that `work` gives, or the one of what went wrong, which is told."""
+    try:
+        status = work()
+        sys.stdout.flush()
+        return status
+    except Fault as fault:
+        told = str(fault)
+    except MemoryError:
+        told = 'out of memory'
+    except BrokenPipeError:
+        told = 'standard output was closed before all of it was written'
+        drop_output()
+    except OSError as fault:
+        told = in_words(fault)
+        if fault.filename is None:
+            drop_output()
+    except KeyboardInterrupt:
+        return INTERRUPTED
+    print('%s: %s' % (tool, told), file=sys.stderr)
+    return FAILED
+
+
+def finish(tool: str, work: Callable[[], int]) -> NoReturn:
+    """Ends a command with the status that `work` gives, or with 2 and one line on standard error."""
+    # (looking for cycles among millions of lines would take longer than the work)
+    gc.disable()
+    sys.exit(status_of(tool, work))
+
+
+def command(tool: str) -> Callable[[Callable[[], int]], Callable[[], NoReturn]]:
+    """Makes a command of a function that returns its status."""
+    def made(work: Callable[[], int]) -> Callable[[], NoReturn]:
+        return functools.wraps(work)(lambda: finish(tool, work))
+    return made

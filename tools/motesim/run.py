@@ -1,0 +1,125 @@
+"""Runs the program, and reads what it answers.
+
+    from motesim.run import read_run
+
+    run = read_run('examples/flooding.toml')       # runs the scenario; a file with a report is read as it is
+    for mote in run.report.motes:
+        sent = [line for line in mote.lines if line.kind == 'send']
+        print('mote', mote.number, 'runs', mote.program, 'and sends', len(sent), 'packets')
+    for packet in run.report.medium:
+        print(packet.sender, 'sent', packet.value, 'to', [copy.to for copy in packet.copies], 'at', packet.at)
+    print(run.scenario.hearers(0), 'hear mote 0')
+
+What can go wrong is a `motesim.faults.Fault`, whose text can be shown as it is:
+
+    ReportFault    a text is no report; its line is in it
+    ScenarioFault  a text is no scenario, or not that of the report
+    ProgramFault   the program is not built, or refuses a scenario
+    Fault          a file can't be read
+"""
+from __future__ import annotations
+
+import os
+import subprocess
+import sys
+from pathlib import Path
+from typing import NamedTuple
+
+from motesim.faults import Fault
+from motesim.report import Report, ReportFault
+from motesim.scenario import Scenario, ScenarioFault
+
+TOP = Path(__file__).resolve().parent.parent.parent
+SECONDS = 600
+
+
+class ProgramFault(Fault):
+    """motesim can't be run, or refuses the scenario."""
+
+
+class Answer(NamedTuple):
+    """What the program answers: its status, and what it writes to standard output and to standard error."""
+    status: int
+    report: bytes
+    fault: bytes
+
+
+class Run(NamedTuple):
+    """What a tool was given: a report, the scenario where it is known, and a name to show."""
+    name: str
+    report: Report
+    scenario: Scenario | None
+
+
+def program_path() -> Path:
+    """The built motesim: the one that the environment variable MOTESIM names, or this tree's."""
+    named = os.environ.get('MOTESIM')
+    path = Path(named) if named else TOP / 'crates/motesim/out/motesim'
+    if not (path.is_file() and os.access(path, os.X_OK)):
+        raise ProgramFault('there is no program %s (the environment variable MOTESIM names it)' % path if named else
+                           'the program is not built: ./run FILE.toml builds it, or MOTESIM names a built one')
+    return path
+
+
+def answer(scenario: bytes, *words: str) -> Answer:
+    """What the program answers to a scenario on standard input, with these words on its command line."""
+    path = program_path()
+    try:
+        done = subprocess.run(['motesim', *words], executable=str(path.resolve()), input=scenario,
+                              capture_output=True, timeout=SECONDS)
+    except subprocess.TimeoutExpired:
+        raise ProgramFault('no answer in %d seconds' % SECONDS) from None
+    except OSError as fault:
+        raise ProgramFault('%s can\'t be run: %s' % (path, fault.strerror)) from None
+    return Answer(done.returncode, done.stdout, done.stderr)
+
+
+def run_program(scenario: bytes, *words: str) -> bytes:
+    """The report of a scenario; one that the program refuses has a `ProgramFault`."""
+    got = answer(scenario, *words)
+    if got.status:
+        told = got.fault.decode('utf-8', 'backslashreplace').strip() or 'status %d' % got.status
+        raise ProgramFault('the scenario has no report: %s' % told)
+    return got.report
+
+
+def read_file(path: str | Path) -> bytes:
+    """The bytes of a file, or of standard input for the name `-`."""
+    try:
+        return sys.stdin.buffer.read() if str(path) == '-' else Path(path).read_bytes()
+    except OSError as fault:
+        raise Fault('%s: %s' % (path, fault.strerror)) from None
+
+
+def read_run(path: str | Path, scenario: str | Path | None = None) -> Run:
+    """A report from a file, with the scenario from another where it is named.
+
+    A file NAME.toml is a scenario, and is run. The name `-` is a report on standard input.
+    """
+    if str(path).endswith('.toml') and scenario is not None:
+        raise Fault('%s is a scenario itself, and takes no other' % path)
+    data = read_file(path)
+    at = path
+    try:
+        if str(path).endswith('.toml'):
+            found = Scenario.parse(data)
+            return Run(str(path), Report.parse(run_program(data)), found)
+        report, found = Report.parse(data), None
+        if scenario is not None:
+            at = scenario
+            found = Scenario.parse(read_file(scenario))
+            check_scenario(report, found)
+    except (ReportFault, ScenarioFault, ProgramFault) as fault:
+        fault.args = ('%s: %s' % (at, fault),)
+        raise
+    return Run(str(path), report, found)
+
+
+def check_scenario(report: Report, scenario: Scenario) -> None:
+    """Whether a report can be of that scenario: the same motes, which run the same programs."""
+    if len(report.motes) != scenario.motes:
+        raise ScenarioFault('the scenario has %d motes, the report %d' % (scenario.motes, len(report.motes)))
+    for mote, place in zip(report.motes, scenario.places):
+        if mote.program != place.program:
+            raise ScenarioFault('mote %d runs %s in the scenario, %s in the report' % (
+                mote.number, place.program, mote.program))

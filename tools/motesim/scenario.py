@@ -1,0 +1,131 @@
+"""Reads scenarios: docs/use/SCENARIO.md says what a scenario is. A text that is none is a `ScenarioFault`."""
+from __future__ import annotations
+
+import tomllib
+from functools import cached_property
+from typing import Iterator, NamedTuple
+
+from motesim.faults import Fault
+
+
+class ScenarioFault(Fault):
+    """A text that is no scenario."""
+
+
+class Place(NamedTuple):
+    """Where a mote stands, and what it runs."""
+    x: int
+    y: int
+    program: str
+
+
+# The kinds of what stands in a scenario: of `bool`, which is a whole number to Python, only itself counts.
+_KINDS = {int: 'a whole number', str: 'a text', dict: 'a table', list: 'an array of tables', bool: 'true or false'}
+
+
+def _get(table: dict, key: str, kind: type, where: str) -> object:
+    """What a table holds under a key that it needs."""
+    if key not in table:
+        raise ScenarioFault('%s has no key %s' % (where, key))
+    if type(table[key]) is not kind:
+        raise ScenarioFault('%s of %s is not %s' % (key, where, _KINDS[kind]))
+    return table[key]
+
+
+class Scenario:
+    """A scenario: `version`, `end`, `range`, `base`, `per`, `collide`, and
+
+    programs  the texts of the programs, by name
+    queue     the lengths of event queues that differ from 32, by program
+    places    a `Place` for each mote, by its number
+    losses    of each pair (sender, receiver) with a loss, its `every`
+
+    It is read for the tools' needs: what motesim refuses has no sense here, and isn't all looked for.
+    """
+
+    def __init__(self, tables: dict):
+        medium = _get(tables, 'medium', dict, 'the scenario')
+        self.version: int = _get(tables, 'version', int, 'the scenario')
+        self.end: int = _get(tables, 'end', int, 'the scenario')
+        self.range: int = _get(medium, 'range', int, 'medium')
+        self.base: int = _get(medium, 'base', int, 'medium')
+        self.per: int = _get(medium, 'per', int, 'medium')
+        self.collide: bool = self.version > 1 and _get(medium, 'collide', bool, 'medium')
+        self.programs: dict[str, str] = _get(tables, 'programs', dict, 'the scenario')
+        self.queue: dict[str, int] = _get(tables, 'queue', dict, 'the scenario') if 'queue' in tables else {}
+        motes = _get(tables, 'mote', list, 'the scenario')
+        losses = _get(tables, 'loss', list, 'the scenario') if 'loss' in tables else []
+        if not all(type(it) is dict for it in motes + losses):
+            raise ScenarioFault('a mote or a loss is not a table')
+        if self.per < 1 or self.base < 1:
+            raise ScenarioFault('base and per are at least 1')
+        self.places = [Place(_get(it, 'x', int, 'mote %d' % number), _get(it, 'y', int, 'mote %d' % number),
+                             _get(it, 'program', str, 'mote %d' % number)) for number, it in enumerate(motes)]
+        self.losses: dict[tuple[int, int], int] = {
+            (_get(it, 'from', int, 'a loss'), _get(it, 'to', int, 'a loss')): _get(it, 'every', int, 'a loss')
+            for it in losses}
+
+    @classmethod
+    def parse(cls, text: str | bytes) -> Scenario:
+        """Reads a scenario, which may begin with a byte order mark; a text that is none has a `ScenarioFault`."""
+        try:
+            if isinstance(text, bytes):
+                text = text.decode('utf-8')
+            return cls(tomllib.loads(text.removeprefix('\ufeff')))
+        except UnicodeDecodeError:
+            raise ScenarioFault('the scenario is not UTF-8') from None
+        except tomllib.TOMLDecodeError as fault:
+            raise ScenarioFault('the scenario is no TOML: %s' % fault) from None
+
+    @property
+    def motes(self) -> int:
+        """How many motes there are."""
+        return len(self.places)
+
+    def squared(self, s: int, r: int) -> int:
+        """The square of the distance between two motes."""
+        one, other = self.places[s], self.places[r]
+        return (one.x - other.x) ** 2 + (one.y - other.y) ** 2
+
+    def hears(self, r: int, s: int) -> bool:
+        """Whether mote r hears mote s. Hearing is mutual."""
+        return r != s and self.squared(s, r) <= self.range ** 2
+
+    @cached_property
+    def _neighbours(self) -> list[list[int]]:
+        """Of each mote those that it hears. They stand in the squares around it, whose sides are the range."""
+        side = max(1, self.range)
+        squares: dict[tuple[int, int], list[int]] = {}
+        for number, place in enumerate(self.places):
+            squares.setdefault((place.x // side, place.y // side), []).append(number)
+        found = []
+        for number, place in enumerate(self.places):
+            x, y = place.x // side, place.y // side
+            near = [it for dx in (-1, 0, 1) for dy in (-1, 0, 1) for it in squares.get((x + dx, y + dy), [])]
+            found.append(sorted(it for it in near if self.hears(it, number)))
+        return found
+
+    def hearers(self, s: int) -> list[int]:
+        """Who hears mote s, by rising number, whatever losses there are."""
+        return self._neighbours[s]
+
+    def links(self) -> Iterator[tuple[int, int]]:
+        """Each pair of motes that hear each other, the lesser number first."""
+        for s in range(self.motes):
+            for r in self._neighbours[s]:
+                if s < r:
+                    yield s, r
+
+    def delay(self, s: int, r: int) -> int:
+        """After how many moments a packet of s reaches r, which hears it."""
+        return self.base + self.squared(s, r) // self.per
+
+    @cached_property
+    def lookahead(self) -> int:
+        """The least delay between two motes that hear each other; `end + 1` where no two do."""
+        return min((self.delay(s, r) for s, r in self.links()), default=self.end + 1)
+
+    def loses(self, s: int, r: int, number: int) -> bool:
+        """Whether the medium loses the packet of that number on its way from s to r."""
+        every = self.losses.get((s, r), 0)
+        return every > 0 and (number + 1) % every == 0

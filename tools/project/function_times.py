@@ -1,0 +1,65 @@
+"""Prints what the functions of a crate take of its check, dearest first: tools/function_times CRATE [HOW MANY]
+
+A check writes each module that it has checked into the crate's out/incremental, and the times of these files tell how
+long each took. So the crate is checked from nothing first, with one job and nothing beside it:
+
+    cd crates/CRATE && rm -rf out/incremental && rt check --jobs 1
+
+With --test the tests are checked too. Seconds are those of the clock. A function counts with its closures, its proof
+and its contract; lemmas count by their file, and what is derived by its type. A large crate is checked in batches,
+and what a batch loads counts to the function that it begins with.
+"""
+import re
+import sys
+from collections import Counter
+
+from project.tree import TOP
+
+
+def is_function(part):
+    return part[0] in '+_' or part[0].islower()
+
+
+def function_of(module, crate):
+    """What a module of a check is about: a.b.S.f of Rattle-c-proofs.a.b.S.f.Lts; a.f of its closure's a.fn.f.map.Lts;
+    what is derived, as a.SDebug of a.SDebug.TheImpl; and None of a module that isn't the crate's."""
+    named = re.match(r'Rattle-%s[-.](?:proofs|specs)\.(?:contracts\.|declared\.)?(.+)' % re.escape(crate), module)
+    if not named:
+        return None
+    parts = named[1].split('.')
+    if 'fn' in parts:
+        cut = parts.index('fn')
+        behind = parts[cut + 1:]
+        end = next((at for at, part in enumerate(behind) if is_function(part)), len(behind))
+        return '.'.join(parts[:cut] + behind[:end + 1])
+    last = max((at for at, part in enumerate(parts) if is_function(part)), default=0)
+    return '.'.join(parts[:(last or min(1, len(parts) - 1)) + 1])
+
+
+def seconds_of(files, crate):
+    """The seconds of each function, given the time at which each module was written."""
+    taken, before = Counter(), None
+    for time, module in sorted(files):
+        if before is not None:
+            taken[function_of(module, crate) or 'the rest'] += time - before
+        before = time
+    return taken
+
+
+def written(crate):
+    kept = (TOP / 'crates' / crate / 'out/incremental').rglob('*.oantt')
+    return [(it.stat().st_mtime, it.name.removesuffix('.oantt').removesuffix('.decls')) for it in kept]
+
+
+def main():
+    if not 2 <= len(sys.argv) <= 3 or sys.argv[1].startswith('-'):
+        sys.exit(__doc__)
+    crate, number = sys.argv[1], int(sys.argv[2]) if len(sys.argv) == 3 else 20
+    files = written(crate)
+    if not files:
+        sys.exit('function_times: %s keeps no check' % crate)
+    taken = seconds_of(files, crate)
+    print('%6.1f  in all' % sum(taken.values()))
+    for function, seconds in taken.most_common(number):
+        print('%6.1f  %s' % (seconds, function))
+

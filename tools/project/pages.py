@@ -1,0 +1,152 @@
+"""Checks that the commands of the tutorial give what the page shows: tools/check_tutorial [--write] [PROGRAM]
+
+The pages are TUTORIAL.md, TOOLS.md, EXPECTATIONS.md and EXPLAIN.md of docs/. Their blocks of commands begin with
+```sh, and what these print stands in the block behind, which begins with ```. Where no block is right behind, they
+print nothing. A block that begins with ```toml NAME is a file that the reader saves under that name. The commands
+of a page are run in a folder of their own, in which ./run, tools/ and examples/ are found. PROGRAM is the motesim
+that they run, else the built one.
+
+Shows for each block that fails what differs. Ends with a line `N passed, M failed`, and with status 1 where one
+failed. With `--write` it puts what the commands print into the pages, to be read before it is kept.
+"""
+from __future__ import annotations
+
+import argparse
+import difflib
+import os
+import re
+import subprocess
+import sys
+import tempfile
+from dataclasses import dataclass
+from pathlib import Path
+
+from motesim.faults import Fault, command
+from motesim.run import program_path
+from project.tree import TOP
+
+PAGES = ['docs/use/TUTORIAL.md', 'docs/use/TOOLS.md', 'docs/use/EXPECTATIONS.md', 'docs/use/EXPLAIN.md']
+FENCE = '```'
+SECONDS = 60
+
+
+@dataclass
+class Block:
+    """A block of a page: what stands behind its first fence, and the lines between `first` and `last`, its fences."""
+    info: list[str]
+    first: int
+    last: int
+
+
+def blocks_of(lines: list[str]) -> list[Block]:
+    """The blocks of a page."""
+    found, first = [], None
+    for at, line in enumerate(lines):
+        if not line.startswith(FENCE):
+            continue
+        if first is None:
+            first = at
+        elif line == FENCE:
+            found.append(Block(lines[first][len(FENCE):].split(), first, at))
+            first = None
+        else:
+            raise Fault('line %d: a block begins within another' % (at + 1))
+    if first is not None:
+        raise Fault('line %d: the block has no end' % (first + 1))
+    return found
+
+
+def text_of(lines: list[str], block: Block) -> str:
+    return ''.join(line + '\n' for line in lines[block.first + 1:block.last])
+
+
+def shown_of(lines: list[str], blocks: list[Block], place: int) -> Block | None:
+    """The block with what the commands of another print: the one right behind, with at most empty lines between."""
+    if place + 1 == len(blocks) or blocks[place + 1].info:
+        return None
+    between = lines[blocks[place].last + 1:blocks[place + 1].first]
+    return None if any(between) else blocks[place + 1]
+
+
+def prepare(folder: Path) -> None:
+    """Puts into a folder what the commands need."""
+    for name in 'tools', 'examples':
+        (folder / name).symlink_to(TOP / name)
+    run = folder / 'run'
+    run.write_text('#!/bin/sh\nexec "$MOTESIM" "$@"\n', encoding='ascii')
+    run.chmod(0o755)
+
+
+def printed(folder: Path, program: Path, commands: str) -> str:
+    """What commands print, on both their outputs."""
+    here = {**os.environ, 'MOTESIM': str(program), 'LC_ALL': 'C.UTF-8', 'PYTHONDONTWRITEBYTECODE': '1'}
+    try:
+        done = subprocess.run(['bash', '-c', commands], cwd=folder, env=here, timeout=SECONDS,
+                              stdin=subprocess.DEVNULL, stdout=subprocess.PIPE, stderr=subprocess.STDOUT)
+    except subprocess.TimeoutExpired:
+        return 'no end in %d seconds\n' % SECONDS
+    text = done.stdout.decode('utf-8', 'backslashreplace')
+    return text if text.endswith('\n') or not text else text + '\n'
+
+
+@dataclass
+class Checked:
+    """A page with what its commands print, how many blocks passed, and what differs in the others."""
+    text: str
+    passed: int
+    faults: list[str]
+
+
+def check(name: str, text: str, program: Path) -> Checked:
+    """Runs the commands of a page."""
+    lines = text.split('\n')
+    blocks = blocks_of(lines)
+    checked, made, kept = Checked('', 0, []), [], 0
+    with tempfile.TemporaryDirectory() as scratch:
+        folder = Path(scratch)
+        prepare(folder)
+        for place, block in enumerate(blocks):
+            if re.fullmatch('toml [a-z_.]+[.]toml', ' '.join(block.info)):
+                (folder / block.info[1]).write_text(text_of(lines, block), encoding='utf-8')
+            if block.info[:1] != ['sh']:
+                continue
+            shown = shown_of(lines, blocks, place)
+            wanted = text_of(lines, shown) if shown else ''
+            found = printed(folder, program, text_of(lines, block))
+            if found == wanted:
+                checked.passed += 1
+            else:
+                checked.faults += ['%s: the commands on line %d print something else' % (name, block.first + 2)]
+                checked.faults += ['  ' + it for it in difflib.unified_diff(
+                    wanted.splitlines(), found.splitlines(), 'shown', 'printed', lineterm='')]
+            made += lines[kept:block.last + 1]
+            if found:
+                made += ['', FENCE, *found.split('\n')[:-1], FENCE]
+            kept = (shown or block).last + 1
+    checked.text = '\n'.join(made + lines[kept:])
+    return checked
+
+
+@command('check_tutorial')
+def main() -> int:
+    words = argparse.ArgumentParser(description=__doc__, formatter_class=argparse.RawDescriptionHelpFormatter)
+    words.add_argument('--write', action='store_true', help='put what the commands print into the pages')
+    words.add_argument('--page', action='append', metavar='FILE', help='this page, and no other')
+    words.add_argument('program', nargs='?', metavar='PROGRAM', help='the motesim to run')
+    words = words.parse_args()
+    program = Path(words.program).resolve() if words.program else program_path().resolve()
+    if not program.is_file():
+        raise Fault('there is no program %s' % program)
+    passed = failed = 0
+    for page in map(Path, words.page or [TOP / it for it in PAGES]):
+        text = page.read_text(encoding='utf-8')
+        checked = check(page.name, text, program)
+        passed += checked.passed
+        failed += sum(not it.startswith('  ') for it in checked.faults)
+        print(''.join(it + '\n' for it in checked.faults), end='')
+        if words.write and checked.text != text:
+            page.write_text(checked.text, encoding='utf-8')
+            print('%s is written anew' % page.name)
+    print('%d passed, %d failed' % (passed, failed))
+    return 1 if failed and not words.write else 0
+

@@ -1,0 +1,105 @@
+"""Compares runs by workers with the run on one thread: tools/compare_workers [--program PROGRAM] [FILE or FOLDER ..]
+
+Each scenario is run on one thread, and then by 1, 2, 3, 7 and 16 workers with both cuts, joined after each window and
+with marks; status, report and fault line have to be the same. Of a folder all files NAME.toml are taken, those of its
+folders too, but for the files NAME.expect.toml of tools/expect; without a name, the examples. Where a file
+NAME.expected stands beside NAME.toml, the run on one thread has to answer what stands in it: a report, or the one line
+of a fault. Prints a line for each file that differs and a count at the end, and ends with status 1 where one does.
+"""
+import argparse
+import itertools
+import subprocess
+import sys
+from pathlib import Path
+
+from project.tree import PROGRAM, TOP
+
+WORKERS = ['1', '2', '3', '7', '16']
+CUTS = ['block', 'stripe']
+SYNCS = ['joins', 'marks']
+SECONDS = 300
+
+
+def answer(program, words, path):
+    """The status, the report and the fault line, or None where there is no answer in time."""
+    try:
+        with open(path, 'rb') as text:
+            done = subprocess.run([program] + words, stdin=text, stdout=subprocess.PIPE, stderr=subprocess.PIPE, timeout=SECONDS)
+    except subprocess.TimeoutExpired:
+        return None
+    return done.returncode, done.stdout, done.stderr
+
+
+def expected(path):
+    """What is written down as the answer, if it is."""
+    noted = path.with_suffix('.expected')
+    if not noted.is_file():
+        return None
+    text = noted.read_bytes()
+    return (1, b'', text) if text.startswith(b'motesim:') else (0, text, b'')
+
+
+def first_line(got, wanted):
+    """The first line at which two texts differ, counted from 1."""
+    pairs = itertools.zip_longest(got.split(b'\n'), wanted.split(b'\n'))
+    return next(number for number, (a, b) in enumerate(pairs, 1) if a != b)
+
+
+def difference(got, wanted):
+    """In what two answers differ, or None."""
+    if got == wanted:
+        return None
+    if got is None or wanted is None:
+        return 'no answer in %d seconds%s' % (SECONDS, '' if got is None else ' on one thread')
+    if got[0] != wanted[0]:
+        return 'status %d, not %d; %s' % (got[0], wanted[0], got[2].decode('utf-8', 'replace').strip() or 'no fault line')
+    if got[1] != wanted[1]:
+        return 'another report from line %d on' % first_line(got[1], wanted[1])
+    return 'another fault line: %s' % got[2].decode('utf-8', 'replace').strip()
+
+
+def ways():
+    """The words of each way to run a scenario by workers."""
+    for sync, workers, cut in itertools.product(SYNCS, WORKERS, CUTS):
+        yield ['--workers', workers, '--cut', cut, '--sync', sync]
+
+
+def differences(program, path):
+    """Each way to run the scenario that answers something else."""
+    serial = answer(program, [], path)
+    noted = expected(path)
+    if noted is not None:
+        yield 'on one thread', difference(serial, noted)
+    for words in ways():
+        yield ' '.join(words), difference(answer(program, words, path), serial)
+
+
+def scenarios(names):
+    for name in names:
+        path = Path(name)
+        if path.is_dir():
+            yield from sorted(it for it in path.rglob('*.toml') if not it.name.endswith('.expect.toml'))
+        else:
+            yield path
+
+
+def main():
+    words = argparse.ArgumentParser(description='Compares runs by workers with the run on one thread.')
+    words.add_argument('--program', default=str(PROGRAM), help='the built motesim')
+    words.add_argument('names', nargs='*', metavar='FILE or FOLDER', help='scenarios; without them, the examples')
+    words = words.parse_args()
+    paths = list(scenarios(words.names or [TOP / 'examples']))
+    for path in [Path(words.program)] + paths:
+        if not path.is_file():
+            sys.exit('compare_workers: there is no file %s' % path)
+    if not paths:
+        sys.exit('compare_workers: there is no scenario')
+    differ = 0
+    for path in paths:
+        found = [(how, what) for how, what in differences(words.program, path) if what]
+        if found:
+            differ += 1
+            print('%s: %d of its runs differ; %s: %s' % ((path, len(found)) + found[0]), flush=True)
+    print('%d scenarios, each on one thread and in %d runs by workers: %d differ' % (len(paths), len(list(ways())), differ))
+    sys.exit(1 if differ else 0)
+

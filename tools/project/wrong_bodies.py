@@ -1,0 +1,144 @@
+"""Tries wrong bodies of the crates' functions, many in one check: the prover must refuse each.
+
+A wrong body is a file NAME.edit of crates/CRATE/must-fail, which rt ci tries too, of crates/CRATE/gate-bodies, which the gate has this
+tool try, or of crates/CRATE/wrong-bodies, which the gate leaves out; all have the form of rt's must-fail edits. A function is proved
+from its own body and from the contracts of what it calls. So the wrong bodies of several functions are written into one copy of the crate, no two into one function or one cycle of
+functions, and one check from nothing judges them all. The copy has none of the proofs of what they call, where these can be told
+(bodies/stated.py). A wrong body passes where the check refuses the function that it stands in, and not just for what that calls; and
+no other function may be refused for anything but what it calls.
+
+One that the check leaves open is tried over the proofs of what it calls, and then as `rt must-fail` tries it, over the whole crate.
+So is at once one that changes more than bodies of functions, unless it has a line `refused: FUNCTION`, which names the function to
+look at.
+
+The libraries below are those that lie in crates/*/out; what is missing or older than its sources is built first. With --built they
+are taken as they lie there: rt ci has just built them, or taken them from what it keeps on this machine, whose files are older than
+a fresh clone's sources. As many checks run side by side as there are processors and memory, or as RT_JOBS says. The last line is
+`N passed, M failed`, and the status 1 where one failed.
+"""
+import argparse
+import os
+import resource
+import sys
+import time
+from pathlib import Path
+
+from project.bodies.edits import FOLDERS, Bodies
+from project.bodies.trial import ONE_JOB, verdicts
+from project.kit import rt, rtlib
+from project.tree import TOP
+
+
+def words():
+    about, _, details = __doc__.partition('\n\n')
+    form = argparse.RawDescriptionHelpFormatter
+    asked = argparse.ArgumentParser(description=about, epilog=details, formatter_class=form)
+    asked.add_argument('--list', action='store_true', help='print each wrong body with its group and its functions, and try none')
+    asked.add_argument('--folder', choices=FOLDERS, help='those of this folder alone; without it, of all three')
+    asked.add_argument('--built', action='store_true', help='take the libraries as rt ci has left them, and build none')
+    asked.add_argument('names', nargs='*', metavar='CRATE or CRATE/NAME', help='crates, or single wrong bodies; without them, all')
+    return asked.parse_args()
+
+
+def bodies_asked_for(names, folders):
+    """The wrong bodies of each crate that has some, lowest first."""
+    wanted = {}
+    for crate, _, name in (word.partition('/') for word in names):
+        wanted.setdefault(crate, []).append(name)
+    crates = {crate.name: crate for crate in rtlib.crates_below(os.getcwd())}
+    for crate in wanted:
+        if crate not in crates:
+            sys.exit('wrong_bodies: there is no crate %s' % crate)
+    found = [bodies_of(crate, folders, wanted.get(name, [''])) for name, crate in crates.items() if not wanted or name in wanted]
+    return [bodies for bodies in found if bodies.edits]
+
+
+def bodies_of(crate, folders, names):
+    """The wrong bodies of a crate that have these names; all, where one of these is empty."""
+    bodies = Bodies(crate, folders, () if '' in names else names)
+    missing = {*names} - {edit.name for edit in bodies.edits} - {''}
+    if missing:
+        sys.exit('wrong_bodies: %s has no wrong body %s' % (crate.name, ', '.join(sorted(missing))))
+    return bodies
+
+
+def label(bodies, edit):
+    return '%s/%s' % (bodies.crate.name, edit.name)
+
+
+def list_groups(of_crates):
+    for bodies in of_crates:
+        for edit in bodies.edits:
+            if edit.trouble:
+                print("%s: it can't be applied: %s" % (label(bodies, edit), edit.trouble))
+        for number, group in enumerate(bodies.groups(), 1):
+            for edit in group:
+                functions = ' '.join(function.path for function in edit.functions)
+                print('%s: group %d, %s' % (label(bodies, edit), number, functions or 'the whole crate'))
+
+
+def has_new_library(crate):
+    """Whether a crate's library is there, and no file of the crate or below it is newer."""
+    made = '%s/format' % crate.rlib
+    files = [file for part in [crate, *crate.below()] for file in rtlib.files_of(part.folder)]
+    return os.path.isfile(made) and all(os.path.getmtime(file) < os.path.getmtime(made) for file in files)
+
+
+def build_libraries(of_crates, as_they_lie):
+    """Builds what is missing of the libraries below these crates, and returns whether all are there. (rt notes what a library was built
+    from, but not where it's the gate's own.)"""
+    below = list(dict.fromkeys(library for bodies in of_crates for library in bodies.crate.below()))
+    if as_they_lie:
+        return all(os.path.isfile('%s/format' % library.rlib) for library in below)
+    if all(library.is_built() for library in below):
+        return True
+    if not any(library.is_built() for library in below) and all(map(has_new_library, below)):
+        return True
+    return not any(library.build_rlib(ONE_JOB, anew=False) for library in below)
+
+
+def judge(bodies, group):
+    """Tries a group, says what came out, and returns how many were refused and which not."""
+    found = verdicts(bodies, group)
+    for edit in group:
+        print('%s: %s' % (label(bodies, edit), found[edit.file].said[:300]), flush=True)
+    failed = [label(bodies, edit) for edit in group if not found[edit.file].is_refused]
+    return len(group) - len(failed), failed
+
+
+def judge_all(of_crates):
+    """Tries all wrong bodies, and returns how many were refused and which not."""
+    tasks, failed = {}, []
+    for bodies in of_crates:
+        for edit in bodies.edits:
+            if edit.trouble:
+                print("%s: NOT TRIED: it can't be applied: %s" % (label(bodies, edit), edit.trouble), flush=True)
+                failed.append(label(bodies, edit))
+        for number, group in enumerate(bodies.groups(), 1):
+            task = lambda given, jobs, bodies=bodies, group=group: judge(bodies, group)
+            lines = bodies.crate.count(rb'\n')
+            tasks['%s %d' % (bodies.crate.name, number), 'edits'] = ([], lines, rt.need(bodies.crate), task)
+    judged = rt.in_lanes(tasks).values()
+    return sum(passed for passed, _ in judged), failed + [name for _, names in judged for name in names]
+
+
+def main():
+    asked = words()
+    os.chdir(TOP)
+    os.environ.pop(rtlib.ALLOW_C, None)
+    rtlib.guarded()
+    of_crates = bodies_asked_for(asked.names, [asked.folder] if asked.folder else FOLDERS)
+    if asked.list:
+        list_groups(of_crates)
+        return
+    if not build_libraries(of_crates, asked.built):
+        sys.exit("wrong_bodies: a library below isn't proved")
+    began = time.time()
+    passed, failed = judge_all(of_crates)
+    if failed:
+        print('not refused: %s' % ' '.join(failed))
+    used = resource.getrusage(resource.RUSAGE_CHILDREN)
+    print('%.0f seconds, of the processors %.0f' % (time.time() - began, used.ru_utime + used.ru_stime))
+    print('%d passed, %d failed' % (passed, len(failed)))
+    sys.exit(1 if failed else 0)
+
