@@ -1,9 +1,10 @@
 """Explains why a scenario has no report: tools/explain FILE
 
-Runs the program on the scenario. Where it tells a fault, this shows that line, the line of the scenario or of the
-program's text with a mark under the word, the rule in plain words, and what may stand there. Ends with status 0 where
-the scenario has a report, 1 where a fault is explained, and 2 where the file can't be read or the program isn't built
-(the environment variable MOTESIM names another one).
+Runs the program on the scenario. Where it reports a fault, this shows that line, the line of the scenario or of the
+program's text with a mark under the word, the rule in plain words, what may stand there, and, where it is known, a hint
+on what was meant. Where the scenario has a report, this warns of what is legal and surely not meant. Ends with status 0
+where the scenario has a report, 1 where a fault is explained, and 2 where the file can't be read or the program isn't
+built (the environment variable MOTESIM names another one).
 """
 from __future__ import annotations
 
@@ -11,19 +12,22 @@ import argparse
 import re
 import textwrap
 import tomllib
+from typing import Any
 
-from motesim import program_faults, scenario_faults
+from motesim import hints, program_faults, scenario_faults
 from motesim.faults import command
-from motesim.run import answer, read_file
+from motesim.lint import Warned, warnings
+from motesim.report import Report
+from motesim.run import Answer, answer, read_file
+from motesim.scenario import Scenario
 from motesim.scenario_faults import Place, ScenarioFault
 
 WIDTH = 112
 PROGRAM = re.compile(r'program (\S+) fault (\d+) line (\d+)')
 
 
-def told(scenario: bytes) -> str | None:
-    """The fault line that the program answers, or None where it answers a report."""
-    got = answer(scenario)
+def told(got: Answer) -> str | None:
+    """The fault line of an answer, or None where it is a report."""
     if got.status == 0:
         return None
     return got.fault.decode('utf-8', 'backslashreplace').rstrip('\n') or 'motesim: status %d' % got.status
@@ -46,7 +50,7 @@ def shown_place(name: str, text: str, place: Place) -> list[str]:
 
 def shown_program(name: str, text: str, program: str, token: program_faults.Token) -> list[str]:
     """The place of a fault in a program's text, with its line in the scenario where that is found."""
-    source, rows = tomllib.loads(text.removeprefix('\ufeff'))['programs'][program], text.split('\n')
+    source, rows = tables_of(text)['programs'][program], text.split('\n')
     line, where = source.split('\n')[token.line - 1].rstrip('\r'), '%s, ' % name
     begin = scenario_faults.place_of(text, ('programs', program)).line + token.line - 1
     # (a text of several lines begins on the line of its quotes, or on the one below)
@@ -60,13 +64,29 @@ def wrapped(text: str) -> list[str]:
     return textwrap.wrap(text, WIDTH, subsequent_indent='  ', break_long_words=False, break_on_hyphens=False)
 
 
-def of_program(name: str, text: str, fault: ScenarioFault) -> list[str]:
+def of_program(name: str, text: str, program: str, its: program_faults.ProgramFault) -> list[str]:
     """The words on a fault in a program's text."""
-    its = fault.program
     title, rule = program_faults.RULES[its.kind]
     end = 'The text ends here. ' if its.token.kind == 'end' else ''
-    lines = shown_program(name, text, str(fault.path[1]), its.token)
-    return lines + wrapped('%s: %s%s' % (title, end, rule)) + wrapped('Here may stand: %s' % ', '.join(its.may))
+    lines = shown_program(name, text, program, its.token)
+    lines += wrapped('%s: %s%s' % (title, end, rule)) + wrapped('Here may stand: %s' % ', '.join(its.may))
+    return lines + hinted(hints.of_program(tables_of(text)['programs'][program], its))
+
+
+def hinted(hint: str | None) -> list[str]:
+    return wrapped('Hint: %s' % hint) if hint else []
+
+
+def tables_of(text: str) -> dict[str, Any]:
+    return tomllib.loads(text.removeprefix('\ufeff'))
+
+
+def tables_or_none(text: str) -> dict[str, Any] | None:
+    """The tables of a text that may be no TOML."""
+    try:
+        return tables_of(text)
+    except (tomllib.TOMLDecodeError, RecursionError):
+        return None
 
 
 def rule_of(line: str) -> str:
@@ -85,9 +105,29 @@ def explanation(name: str, data: bytes, line: str) -> list[str]:
         return wrapped(rule_of(what)) + ['Where it is, this tool does not know.']
     text = data.decode('utf-8', 'replace')
     if fault.program:
-        return of_program(name, text, fault)
+        return of_program(name, text, str(fault.path[1]), fault.program)
     place = shown_place(name, text, fault.place(text))
-    return place + wrapped(rule_of(what)) + wrapped('Here may stand: %s' % fault.may)
+    lines = place + wrapped(rule_of(what)) + wrapped('Here may stand: %s' % fault.may)
+    return lines + hinted(hints.of_scenario(tables_or_none(text), fault))
+
+
+def warned(name: str, text: str, warning: Warned) -> list[str]:
+    """A warning, with its place."""
+    lines = wrapped('Warning: %s.' % warning.text)
+    if warning.program is not None and warning.token is not None:
+        return lines + shown_program(name, text, warning.program, warning.token)
+    if warning.mote is not None:
+        return lines + shown_place(name, text, scenario_faults.place_of(text, ('mote', warning.mote)))
+    return lines
+
+
+def all_warnings(name: str, data: bytes, report: bytes) -> list[str]:
+    """What is surely not meant in a scenario that has a report."""
+    text = data.decode('utf-8')
+    lines = []
+    for warning in warnings(Scenario.parse(data), Report.parse(report)):
+        lines += ['', *warned(name, text, warning)]
+    return lines
 
 
 @command('explain')
@@ -96,9 +136,10 @@ def main() -> int:
     words.add_argument('file', metavar='FILE', help='a scenario; - is standard input')
     name = words.parse_args().file
     data = read_file(name)
-    line = told(data)
+    got = answer(data)
+    line = told(got)
     if line is None:
-        print('%s has a report, and no fault' % name)
+        print('\n'.join(['%s has a report, and no fault' % name, *all_warnings(name, data, got.report)]))
         return 0
     print('\n'.join([line, *explanation(name, data, line)]))
     return 1

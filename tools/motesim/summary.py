@@ -22,6 +22,16 @@ Of a mote and of the net
 Of a link
   delay     after how many moments a packet arrives
 
+`--flow "print sink"` shows flows from end to end in place of these: each line `print sink V` is a delivery of the message
+V, which began with the first packet of that value, at the mote that sent it. `--flow "print source -> print sink"` has
+messages begin with a print. Of an origin, and of the net
+  sent      messages that began there
+  delivered those that came to another mote at least once, and ratio, their part
+  reached   to how many motes a message came, on average
+  copies    deliveries in all; duplicates are those to a mote that had the message already
+  hops      least hops to the motes reached, on average, where the scenario is known
+  least, middle, most   moments from a message's beginning to its first delivery at a mote
+
 `--motes` and `--links` show one of the tables alone. `--csv` is for a spreadsheet: the table of motes with the net, or
 with `--links` that of links. `--json` has all of it, for programs.
 
@@ -37,6 +47,8 @@ from collections import Counter
 from typing import Iterator, Union
 
 from motesim.faults import command
+from motesim.flows import NAMES as FLOW_NAMES
+from motesim.flows import flow_rows
 from motesim.report import Report
 from motesim.run import Run, read_run
 from motesim.scenario import Scenario
@@ -134,6 +146,17 @@ def write_csv(rows: list[Row], names: list[str]) -> None:
     writer.writerows(rows)
 
 
+def show_flow(rows: list[Row], words: argparse.Namespace) -> int:
+    """Shows the rows of a flow, in the form that is asked for."""
+    if words.json:
+        print(json.dumps({'flow': words.flow, 'origins': rows[:-1], 'net': rows[-1]}, indent=1))
+    elif words.csv:
+        write_csv(rows, FLOW_NAMES)
+    else:
+        print('\n'.join(table(rows, FLOW_NAMES)))
+    return 0
+
+
 @command('summary')
 def main() -> int:
     words = argparse.ArgumentParser(description=__doc__, formatter_class=argparse.RawDescriptionHelpFormatter)
@@ -145,8 +168,12 @@ def main() -> int:
     part = words.add_mutually_exclusive_group()
     part.add_argument('--motes', action='store_true', help='the motes and the net alone')
     part.add_argument('--links', action='store_true', help='the links alone')
+    part.add_argument('--flow', metavar='WORDS', help='flows from end to end, as "print sink"')
     words = words.parse_args()
-    motes, net, links = summary(read_run(words.report, words.scenario))
+    run = read_run(words.report, words.scenario)
+    if words.flow is not None:
+        return show_flow(flow_rows(run.report, run.scenario, words.flow), words)
+    motes, net, links = summary(run)
     names, of_links = list(net), LINK_NAMES
     if words.json:
         parts = {'motes': motes, 'net': {name: net[name] for name in names[2:]}, 'links': links}

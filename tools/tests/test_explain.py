@@ -204,6 +204,7 @@ class Cases(unittest.TestCase):
 
 PROGRAM = """#!/bin/sh
 if grep -q 'end = 6'; then echo 'motesim: program p fault 3 line 2' >&2; exit 1; fi
+printf 'mote 0 p\\nmote 1 p\\nmedium\\nleft 0\\n'
 """
 
 

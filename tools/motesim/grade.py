@@ -1,0 +1,112 @@
+"""Makes a table of students' scenarios: tools/grade FOLDER EXPECTATIONS
+
+Runs each scenario NAME.toml of FOLDER, and in the folders in it, on the sentences of EXPECTATIONS, as tools/expect does
+for one, and shows a row for each: how many sentences hold, and which are broken, by their numbers. A scenario that the
+program refuses has its fault in the row. Below the table stand the sentences with how many scenarios keep each.
+
+`--csv` is for a spreadsheet: a column for each sentence, 1 where it holds and 0 where not. `--why NAME` shows for one
+scenario the first line of the report that breaks each broken sentence.
+
+Ends with status 0, or with 2 where a file can't be read or a sentence isn't known.
+"""
+from __future__ import annotations
+
+import argparse
+import csv
+import sys
+from pathlib import Path
+from typing import NamedTuple
+
+from motesim.expectations import Told, judged, parts_of, text_of
+from motesim.faults import Fault, command
+
+
+class Graded(NamedTuple):
+    """A scenario: its name, what is told of each sentence, and, where nothing can be said, why."""
+    name: str
+    told: list[Told]
+    why: str = ''
+
+
+def scenarios(folder: Path) -> list[Path]:
+    """The scenarios of a folder, by name."""
+    found = sorted(it for it in folder.rglob('*.toml') if not it.name.endswith('.expect.toml'))
+    if not found:
+        raise Fault('%s has no scenario NAME.toml' % folder)
+    return found
+
+
+def grade(folder: Path, expectations: Path) -> list[Graded]:
+    """What holds of each scenario of a folder."""
+    parts = parts_of(text_of(expectations), expectations.name)
+    graded = []
+    for path in scenarios(folder):
+        told: list[Told] = []
+        name, why = str(path.relative_to(folder)), ''
+        try:
+            for part in parts:
+                told += judged(text_of(path), part)
+        except Fault as fault:
+            # (what a student's scenario lacks is the student's; a sentence that no scenario knows is the teacher's)
+            why = str(fault).split('\n')[0]
+        refused = next((it.more[0] for it in told if it.more and it.more[0].startswith('the scenario is refused')), '')
+        graded.append(Graded(name, told, why or refused))
+    if all(it.why and not it.told for it in graded):
+        raise Fault(graded[0].why)
+    return graded
+
+
+def sentences(graded: list[Graded]) -> list[str]:
+    """The sentences, in their order."""
+    return max(([it.sentence for it in one.told] for one in graded), key=len, default=[])
+
+
+def table(graded: list[Graded]) -> list[str]:
+    """A row for each scenario."""
+    width = max(len(it.name) for it in graded)
+    rows = []
+    for it in graded:
+        broken = ', '.join(str(number) for number, one in enumerate(it.told, 1) if not one.holds)
+        count = '%d of %d' % (sum(one.holds for one in it.told), len(sentences(graded)))
+        rows.append(('%s  %s  %s' % (it.name.ljust(width), count, it.why or broken and 'broken: %s' % broken)).rstrip())
+    return rows
+
+
+def below(graded: list[Graded]) -> list[str]:
+    """The sentences, each with how many scenarios keep it."""
+    return ['%3d  %d of %d  %s' % (number, sum(len(it.told) >= number and it.told[number - 1].holds for it in graded),
+                                   len(graded), sentence) for number, sentence in enumerate(sentences(graded), 1)]
+
+
+def write_csv(graded: list[Graded]) -> None:
+    wanted = sentences(graded)
+    rows = csv.writer(sys.stdout, lineterminator='\n')
+    rows.writerow(['scenario', 'holds', 'of', 'fault', *wanted])
+    for it in graded:
+        holds = [int(one.holds) for one in it.told]
+        rows.writerow([it.name, sum(holds), len(wanted), it.why, *(holds or [0] * len(wanted))])
+
+
+@command('grade')
+def main() -> int:
+    words = argparse.ArgumentParser(description=__doc__, formatter_class=argparse.RawDescriptionHelpFormatter)
+    words.add_argument('folder', metavar='FOLDER', type=Path, help='a folder with scenarios')
+    words.add_argument('expectations', metavar='EXPECTATIONS', type=Path, help='a file of sentences, NAME.expect.toml')
+    words.add_argument('--csv', action='store_true', help='for a spreadsheet')
+    words.add_argument('--why', metavar='NAME', help='what breaks the sentences in one scenario')
+    asked = words.parse_args()
+    if not asked.folder.is_dir():
+        raise Fault('%s is no folder' % asked.folder)
+    graded = grade(asked.folder, asked.expectations)
+    if asked.why is not None:
+        its = next((it for it in graded if it.name in (asked.why, asked.why + '.toml')), None)
+        if its is None:
+            raise Fault('%s has no scenario %s' % (asked.folder, asked.why))
+        print('\n'.join([its.why] if its.why else []
+                        + ['\n          '.join([('holds   ' if one.holds else 'broken  ') + one.sentence, *one.more])
+                           for one in its.told]))
+    elif asked.csv:
+        write_csv(graded)
+    else:
+        print('\n'.join([*table(graded), '', *below(graded)]))
+    return 0

@@ -1,0 +1,218 @@
+"""Hints on faults: what the writer most likely meant, and how it is written here.
+
+`of_program(text, fault)` and `of_scenario(tables, fault)` give one sentence, or None where nothing better is known than
+the rule. They go by the word that can't stand and the words before it; whether a hint is right, the next run shows.
+"""
+from __future__ import annotations
+
+import difflib
+from collections.abc import Iterable
+
+from motesim.notation import RESERVED
+from motesim.program_faults import OPERATORS, STATEMENTS, ProgramFault, Token, tokens_of
+from motesim.scenario_faults import LOSS, MEDIUM, MOTE, TOP, ScenarioFault
+
+# What people write who know other languages, and what stands for it here.
+WISHES = {
+    'for': 'There is no `for`: write `i = 0; while (i < n) { .. i = (i + 1); }`.',
+    'do': 'There is no `do`: a `while` tests before each turn.',
+    'switch': 'There is no `switch`: write an `if` in the `else` block of another.',
+    'elif': 'There is no `elif`: put the next `if` into the `else` block, `else { if .. { .. } }`.',
+    'elseif': 'There is no `elseif`: put the next `if` into the `else` block, `else { if .. { .. } }`.',
+    'then': 'There is no `then`: the block stands right after the test, `if (x == 1) { .. }`.',
+    'return': 'There is no `return`: `exit;` ends the process or the thread.',
+    'break': 'There is no `break`: let the test of the `while` become false.',
+    'int': 'A variable has 16 bits and no type: `var x = 0;`, at the head of its `code`.',
+    'let': 'A variable is declared at the head of its `code`: `var x = 0;`.',
+    'const': 'There are no constants: a variable that nothing assigns serves, `var period = 40;`.',
+    'function': 'There are no functions: a `thread` is run by `spawn`, and shares the variables of its process.',
+    'fn': 'There are no functions: a `thread` is run by `spawn`, and shares the variables of its process.',
+    'def': 'There are no functions: a `thread` is run by `spawn`, and shares the variables of its process.',
+    'true': 'There are no truth values: `1` is true, and `0` is false.',
+    'false': 'There are no truth values: `1` is true, and `0` is false.',
+    'and': 'Write `&&`, in parentheses: `((a == 1) && (b == 2))`.',
+    'or': 'Write `||`, in parentheses: `((a == 1) || (b == 2))`.',
+    'not': 'Write `!`: `!fired(t)`.',
+    'sleep': 'A process waits by an event timer: `set t 40; yield_until fired(t);`.',
+    'delay': 'A process waits by an event timer: `set t 40; yield_until fired(t);`.',
+    'wait': 'Write `wait_until` or `yield_until` and a test, `pause`, or `acquire` and a semaphore.',
+    'printf': 'A program prints numbers: `print x;`.',
+    'println': 'A program prints numbers: `print x;`.',
+    'random': 'There is no chance in a mote: each run is the same. A seed of its own serves, as '
+              '`seed = ((seed * 25173) + 13849); send (seed % 100);`, begun with `self` so that motes differ.',
+    'id': 'A mote\'s number is `self`.',
+    'time': 'The current moment is `now` (its low 16 bits).',
+    'clock': 'The current moment is `now` (its low 16 bits).',
+    'receive': 'A packet is an event: name the process by `receiver P;`, and wait by `yield_until is(packet);`.',
+    'recv': 'A packet is an event: name the process by `receiver P;`, and wait by `yield_until is(packet);`.',
+    'sender': 'The sender of a packet is `from`.',
+    'value': 'The value of a packet or an event is `data`.',
+}
+WISHES.update({word: WISHES['random'] for word in ('rand', 'rnd')})
+# Keys that stand for a wish that the medium can't meet.
+CHANCE = ('probability', 'prob', 'p', 'rate', 'loss_rate', 'random', 'seed', 'noise', 'per_link', 'chance')
+
+
+def nearest(word: str, known: Iterable[str]) -> str | None:
+    """The known word that this one is most like, where one is near."""
+    found = difflib.get_close_matches(word.lower(), list(known), 1, 0.6)
+    return found[0] if found and found[0] != word else None
+
+
+def of_program(text: str, fault: ProgramFault) -> str | None:
+    """A hint on a fault of a program's text."""
+    tokens = tokens_of(text)
+    at = next((index for index, it in enumerate(tokens) if it == fault.token), len(tokens) - 1)
+    before, here = tokens[:at], fault.token
+    behind = tokens[at + 1] if at + 1 < len(tokens) else here
+    if fault.kind == 1:
+        return _of_sign(here, behind)
+    if fault.kind == 2:
+        return _of_unexpected(before, here, behind, fault.may)
+    if fault.kind == 3:
+        return _of_unknown(before, here, fault.may)
+    if fault.kind == 6:
+        return 'A callback can\'t wait, but may wake a process that does: `poll P;` or `post P msg 0;`.'
+    return None
+
+
+def _of_sign(here: Token, behind: Token) -> str | None:
+    word = here.text
+    if word in ('"', "'"):
+        return 'There are no texts: a program prints numbers, `print 1;`. Who prints is in the line anyway.'
+    if word == '#':
+        return 'A comment begins with `//`.'
+    if word == '&' or word == '|':
+        return 'There are no operators on bits: `&&` and `||` are "and" and "or", `/` and `%` by powers of 2 take parts.'
+    if word == '.':
+        return 'Numbers are whole, 0 to 65,535; there are no fields.'
+    if word in '[]':
+        return 'There are no arrays: a variable holds one number of 16 bits.'
+    if word.isupper():
+        return 'Names have small letters: `%s`.' % word.lower()
+    if word[:1].isdigit() and word.isdigit():
+        return 'Without the zeros in front: `%s`.' % (word.lstrip('0') or '0')
+    return None
+
+
+def _of_unexpected(before: list[Token], here: Token, behind: Token, may: list[str]) -> str | None:
+    last = before[-1] if before else None
+    word = here.text
+    if last and last.text == 'else' and word == 'if':
+        return 'A block stands after `else`: put the `if` into it, `else { if .. { .. } }`.'
+    if word in ('+', '-') and behind.text == word or last and last.text == word and word in ('+', '-'):
+        return 'There is no `%s%s`: write `x = (x %s 1);`.' % (word, word, word)
+    if word in OPERATORS and behind.text == '=' and '`=`' in may:
+        return 'There is no `%s=`: write `x = (x %s 1);`.' % (word, word)
+    if word == '-' and '`(`' in may:
+        return 'There are no numbers below 0: values have 16 bits, and `(0 - 1)` is 65535.'
+    if word == '/' and behind.text in ('*', '/') or word == '*' and last and last.text == '/':
+        return 'A comment begins with `//`, and ends with the line.'
+    if word == '=' and '`==`' in may:
+        return '`=` assigns; `==` compares.'
+    if word in OPERATORS and ('`;`' in may or '`{`' in may or '`into`' in may):
+        one, other = last.text if last else 'a', behind.text if behind.kind in ('name', 'number', 'keyword') else 'b'
+        return 'Two values with `%s` between them stand in parentheses: `(%s %s %s)`.' % (word, one, word, other)
+    if word == ',' and '`;`' in may:
+        return 'A packet, an event and a print have one number. Two small ones make one: `((a * 256) + b)`.'
+    if 'a new name' in may and here.kind == 'keyword':
+        return '`%s` is a word of the notation; another name, such as `my_%s`, may stand here.' % (word, word)
+    if word == ';' and may == ['`=`']:
+        return 'A variable begins with a number: `var x = 0;`.'
+    if word == 'var':
+        return 'Variables are declared at the head of `code`, before its timers, threads and handlers.'
+    if word == 'thread' or word in ('etimer', 'ctimer'):
+        return 'In a `code` stand variables, then `etimer`s, `ctimer`s, threads, `onpoll`, `onexit`, and the body.'
+    if '`;`' in may and last and here.line > last.line:
+        return 'A statement ends with `;`: one is missing after `%s` on line %d.' % (last.text, last.line)
+    if word in WISHES:
+        return WISHES[word]
+    if here.kind == 'name':
+        words = [it.strip('`') for it in may if it.startswith('`')]
+        like = nearest(word, words)
+        return 'Did you mean `%s`?' % like if like else None
+    if here.kind == 'end':
+        return 'A `}` may be missing: each block that was opened is closed.'
+    return None
+
+
+def _of_unknown(before: list[Token], here: Token, may: list[str]) -> str | None:
+    """A name that stands for nothing: one that was misspelt, or a wish."""
+    begins = not before or before[-1].text in ('{', '}', ';')
+    if here.text in WISHES:
+        return WISHES[here.text]
+    declared = {one.text for one in before if one.kind == 'name'}
+    # (may lists the names of the kind that is wanted, in brackets after it)
+    wanted = {name for it in may if '(' in it for name in it[it.index('(') + 1:].rstrip(')').split(', ')}
+    known = (wanted | set(STATEMENTS) if begins else wanted | {'data', 'from', 'now', 'self'}) - {'none is declared here'}
+    like = nearest(here.text, known) or nearest(here.text, declared & known)
+    if like:
+        return 'Did you mean `%s`?' % like
+    if begins and here.text not in RESERVED:
+        return 'Variables are declared at the head of `code`: `var %s = 0;`.' % here.text
+    return None
+
+
+def of_scenario(tables: dict[str, object] | None, fault: ScenarioFault) -> str | None:
+    """A hint on a fault of a scenario. Its tables are None where the text is no TOML."""
+    line, name = fault.told, str(fault.path[-1]) if fault.path else ''
+    if line == 'scenario fault 1' and fault.line:
+        return 'Texts stand in quotes, programs of several lines in three: p = """ .. """.'
+    if line == 'scenario fault 2' and tables is not None:
+        return _of_missing(tables, fault)
+    if line == 'scenario fault 3':
+        return _of_key(fault.path, name, tables)
+    if line == 'scenario fault 4' and name in ('x', 'y', 'range', 'base', 'per', 'end'):
+        return 'Places, times and distances are whole numbers, without a point and without quotes.'
+    if line == 'scenario fault 5' and name == 'version':
+        return 'There are the versions 1 and 2; 2 has `collide` and the lengths of queues.'
+    if line == 'scenario fault 6' and tables is not None:
+        programs, named = tables.get('programs'), _at(tables, fault.path)
+        like = nearest(named if isinstance(named, str) else name, programs if isinstance(programs, dict) else ())
+        return 'Did you mean `%s`?' % like if like else None
+    return None
+
+
+def _at(tables: object, path: tuple[str | int, ...]) -> object:
+    """What a scenario holds at a path, or None."""
+    for name in path:
+        try:
+            tables = tables[name]  # type: ignore[index]
+        except (KeyError, IndexError, TypeError):
+            return None
+    return tables
+
+
+def _of_missing(tables: dict[str, object], fault: ScenarioFault) -> str | None:
+    """A key that is missing, beside one that is like it."""
+    wanted = fault.may.split('`')[1] if '`' in fault.may else ''
+    table = _at(tables, fault.path)
+    if isinstance(table, dict):
+        like = nearest(wanted, [it for it in table if it not in {**TOP, **MEDIUM, **LOSS, **MOTE}])
+        if like:
+            return 'It has `%s`: did you mean `%s`?' % (like, wanted)
+    if wanted == 'collide':
+        return 'Version 2 says whether packets collide: `collide = true` or `collide = false` in `[medium]`.'
+    if wanted == 'mote' and isinstance(tables.get('motes'), list):
+        return 'Each mote is a table `[[mote]]`.'
+    return None
+
+
+def _of_key(path: tuple[str | int, ...], name: str, tables: dict[str, object] | None) -> str | None:
+    """A key that isn't known."""
+    if path[0] == 'programs':
+        return None
+    if name in ('collide', 'queue') and tables is not None and tables.get('version') == 1:
+        return '`%s` belongs to version 2: begin the scenario with `version = 2`.' % name
+    if name in CHANCE:
+        return 'Nothing happens by chance here: a loss `[[loss]]` from one mote to another loses every k-th packet ' \
+               '(`every = k`). tools/scenario makes nets, and losses by rule, from a seed.'
+    tables_of = {'medium': [*MEDIUM, 'collide'], 'loss': [*LOSS], 'mote': [*MOTE]}
+    like = nearest(name, tables_of.get(str(path[0]), [*TOP]) if len(path) > 1 else [*TOP, 'queue'])
+    if like:
+        return 'Did you mean `%s`?' % like
+    if len(path) == 1 and name in MEDIUM:
+        return '`%s` stands in the table `[medium]`.' % name
+    if len(path) > 1 and name in TOP:
+        return '`%s` stands at the top, before the first table.' % name
+    return None

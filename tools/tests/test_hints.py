@@ -1,0 +1,190 @@
+"""Hints on faults, warnings of what is legal and surely not meant, flows from end to end, and tables of grades."""
+import contextlib
+import io
+import sys
+import tempfile
+import unittest
+from pathlib import Path
+from unittest import mock
+
+from here import TOP
+from motesim import expectations, explain, grade, hints, scenario_faults
+from motesim.flows import FlowFault, flow_rows, read_flow
+from motesim.lint import warnings
+from motesim.program_faults import find_fault
+from motesim.report import Report
+from motesim.run import Answer
+from motesim.scenario import Scenario
+
+CODE = 'process a; autostart a; code a { var seq = 0; var seen = 0; etimer t; body { %s } }'
+
+# What is written in the body, and what stands in the hint.
+BODIES = [
+    ('seq = seq + 1;', '(seq + 1)'), ('seq++;', 'no `++`'), ('seq += 1;', 'no `+=`'), ('if seq == 1 { }', '(seq == 1)'),
+    ('if (seq == 1) { } else if (seq == 2) { }', 'into it'), ('send 1, seq;', '256'), ('print "got";', 'numbers'),
+    ('for (seq = 0; seq < 3) { }', 'while'), ('# x', '//'), ('/* x */ print 1;', '//'), ('seq = random(3);', 'seed'),
+    ('pritn 1;', '`print`'), ('print sen;', '`seen`'), ('if (seq = 1) { }', '`==`'), ('seq = -1;', '65535'),
+    ('print 1\n print 2;', 'missing after `1` on line 1'), ('int x;', 'var x = 0;'), ('x = 1;', '`var x = 0;`'),
+    ('while true { }', '`1` is true'), ('print Seq;', 'small letters'), ('sleep 3;', 'yield_until'),
+    ('yield_untl fired(t);', '`yield_until`'), ('var z = 0;', 'head of `code`'), ('set tt 4;', '`t`'),
+    ('seq = [1];', 'arrays'), ('seq = (seq & 1);', 'bits'), ('seq = 1.5;', 'whole'), ('seq = 01;', '`1`'),
+]
+
+SCENARIO = """version = %s
+end = 9
+[medium]
+range = 10
+base = 1
+per = 100
+%s
+[programs]
+source = "%s"
+[[mote]]
+x = 0
+y = 0
+program = "source"
+[[mote]]
+x = %d
+y = 0
+program = "source"
+"""
+
+
+def scenario(version: str = '1', medium: str = '', program: str = CODE % 'set t 1; print 1;', x: int = 5) -> str:
+    return SCENARIO % (version, medium, program, x)
+
+
+def hint_of(text: str) -> str:
+    fault = scenario_faults.find_fault(text.encode())
+    return hints.of_scenario(explain.tables_or_none(text), fault) or ''
+
+
+class Hints(unittest.TestCase):
+    def test_a_program(self) -> None:
+        for body, wanted in BODIES:
+            text = CODE % body
+            with self.subTest(body):
+                self.assertIn(wanted, hints.of_program(text, find_fault(text)) or '')
+
+    def test_a_declaration(self) -> None:
+        for text, wanted in ('process a; code a { var count = 0; body { } }', '`count` is a word'), (
+                'process a; code a { var x; body { } }', '`var x = 0;`'):
+            self.assertIn(wanted, hints.of_program(text, find_fault(text)) or '')
+
+    def test_a_scenario(self) -> None:
+        for text, wanted in [
+            (scenario(medium='colide = true', version='2'), '`collide`'), (scenario(medium='collide = true'), 'version = 2'),
+            (scenario(medium='probability = 3'), 'chance'), (scenario().replace('x = 5', 'x = 5.5'), 'whole numbers'),
+            (scenario().replace('program = "source"', 'program = "sorce"'), '`source`'),
+            (scenario(version='3'), 'versions 1 and 2'), (scenario().replace('end = 9', 'ende = 9'), '`end`'),
+            (scenario().replace('program = "source"', 'program = source'), 'quotes'),
+        ]:
+            with self.subTest(text):
+                self.assertIn(wanted, hint_of(text))
+
+    def test_none_where_nothing_is_known(self) -> None:
+        text = CODE % 'print 1; }'
+        self.assertIsNone(hints.of_program(text, find_fault(text)))
+
+
+class Warnings(unittest.TestCase):
+    def told(self, program: str = CODE % 'set t 1; print 1;', x: int = 5) -> list[str]:
+        return [it.text for it in warnings(Scenario.parse(scenario(program=program, x=x)))]
+
+    def test_none_of_a_program_in_order(self) -> None:
+        self.assertEqual(self.told(), [])
+
+    def test_each(self) -> None:
+        for program, x, wanted in [
+            ('process a; code a { body { print 1; } }', 5, 'no process starts at boot'),
+            ('process a, b; autostart a; code a { body { } } code b { body { } }', 5, '`b` is never started'),
+            (CODE % 'yield_until is(packet); print data;', 5, 'no process is the `receiver`'),
+            (CODE % 'while 1 { seq = (seq + 1); }', 5, 'nothing waits'),
+            (CODE % 'yield_until fired(t);', 5, '`t` is never set'),
+            (CODE % 'send 1;', 50, 'nobody hears it'),
+        ]:
+            with self.subTest(wanted):
+                self.assertTrue(any(wanted in it for it in self.told(program, x)))
+
+    def test_a_loop_that_waits_is_in_order(self) -> None:
+        self.assertEqual(self.told(program=CODE % 'set t 1; while 1 { yield_until fired(t); reset t; }'), [])
+
+    def test_the_examples_have_none(self) -> None:
+        for path in sorted((TOP / 'examples').glob('*.toml')):
+            if path.name.endswith('.expect.toml') or path.name in ('wrong.toml', 'runaway.toml', 'processes.toml'):
+                continue
+            with self.subTest(path.name):
+                self.assertEqual([it.text for it in warnings(Scenario.parse(path.read_bytes()))], [])
+
+    def test_explain_shows_them(self) -> None:
+        text = scenario(program='process a; code a { body { print 1; } }')
+        report = b'mote 0 source\n0 start etimer\nmote 1 source\n0 start etimer\nmedium\nleft 0\n'
+        with tempfile.TemporaryDirectory() as folder, contextlib.redirect_stdout(io.StringIO()) as said, \
+                mock.patch.object(explain, 'answer', lambda data: Answer(0, report, b'')):
+            path = Path(folder) / 'a.toml'
+            path.write_text(text, encoding='utf-8')
+            with mock.patch.object(sys, 'argv', ['explain', str(path)]), self.assertRaises(SystemExit) as ended:
+                explain.main()
+        self.assertEqual(ended.exception.code, 0)
+        self.assertIn('Warning: no process starts at boot', said.getvalue())
+        self.assertIn('line 1 of program source', said.getvalue())
+
+
+# Mote 0 sends 7 at 1 and 8 at 5; mote 1 passes 7 on; mote 2 prints it twice.
+FLOW = """mote 0 p
+1 send 0 7
+5 send 1 8
+mote 1 p
+2 recv 0 0 7
+2 print sink 7
+3 send 0 7
+mote 2 p
+4 print sink 7
+6 print sink 7
+medium
+1 0 0 7 1@2
+3 1 0 7 0@4 2@4
+5 0 1 8 1@lost
+left 0
+"""
+
+
+class Flows(unittest.TestCase):
+    def test_the_rows(self) -> None:
+        row, net = flow_rows(Report.parse(FLOW), None, 'print sink')
+        self.assertEqual(net, {**row, 'origin': 'net'})
+        self.assertEqual(row, {'origin': 0, 'sent': 2, 'delivered': 1, 'ratio': 0.5, 'reached': 1.0, 'copies': 3,
+                               'duplicates': 1, 'hops': None, 'least': 1, 'middle': 2.0, 'most': 3})
+
+    def test_a_print_may_begin_it(self) -> None:
+        row, _ = flow_rows(Report.parse(FLOW), None, 'print sink -> recv')
+        self.assertEqual((row['origin'], row['sent'], row['delivered']), (1, 1, 0))
+
+    def test_words_that_say_no_flow(self) -> None:
+        for words in 'print', 'sink', 'print a -> print b -> print c', '':
+            with self.assertRaises(FlowFault):
+                read_flow(words)
+
+
+class Grades(unittest.TestCase):
+    def test_the_table(self) -> None:
+        answers = {'good': Answer(0, b'mote 0 p\n0 print a 1\nmedium\nleft 0\n', b''),
+                   'poor': Answer(0, b'mote 0 p\nmedium\nleft 0\n', b''),
+                   'ill': Answer(1, b'', b'motesim: program p fault 2 line 1\n')}
+        text = 'version = 1\nend = 5\n[medium]\nrange = 1\nbase = 1\nper = 1\n[programs]\np = "process a; code a { body { } }"\n' \
+               '[[mote]]\nx = 0\ny = 0\nprogram = "p"\n# %s\n'
+        with tempfile.TemporaryDirectory() as folder:
+            for name in answers:
+                (Path(folder) / (name + '.toml')).write_text(text % name, encoding='utf-8')
+            wanted = Path(folder) / 'task.expect.toml'
+            wanted.write_text('expect = ["mote 0 prints a 1", "no mote halts"]\n', encoding='utf-8')
+            with mock.patch.object(expectations, 'answer', lambda data: answers[data.decode().split('# ')[1].strip()]):
+                graded = grade.grade(Path(folder), wanted)
+        self.assertEqual(grade.table(graded), [
+            'good.toml  2 of 2', 'ill.toml   0 of 2  the scenario is refused: motesim: program p fault 2 line 1',
+            'poor.toml  1 of 2  broken: 1'])
+        self.assertEqual(grade.below(graded)[0], '  1  1 of 3  mote 0 prints a 1')
+
+
+if __name__ == '__main__':
+    unittest.main()
