@@ -1,10 +1,10 @@
 """Checks that the commands of the tutorial give what the page shows: tools/check_tutorial [--write] [PROGRAM]
 
-The pages are TUTORIAL.md, TOOLS.md, EXPECTATIONS.md and EXPLAIN.md of docs/. Their blocks of commands begin with
-```sh, and what these print stands in the block behind, which begins with ```. Where no block is right behind, they
-print nothing. A block that begins with ```toml NAME is a file that the reader saves under that name. The commands
-of a page are run in a folder of their own, in which ./run, tools/ and examples/ are found. PROGRAM is the motesim
-that they run, else the built one.
+The pages are TUTORIAL.md, TOOLS.md, EXPECTATIONS.md, EXPLAIN.md and EXPERIMENTS.md of docs/use/. Their blocks of
+commands begin with ```sh, and what these print stands in the block behind, which begins with ```. Where no block is
+right behind, they print nothing. A block that begins with ```toml NAME, ```mote NAME or ```python NAME is a file that
+the reader saves under that name. The commands of a page are run in a folder of their own, in which ./run, tools/ and
+examples/ are found. PROGRAM is the motesim that they run, else the built one.
 
 Shows for each block that fails what differs. Ends with a line `N passed, M failed`, and with status 1 where one
 failed. With `--write` it puts what the commands print into the pages, to be read before it is kept.
@@ -25,7 +25,8 @@ from motesim.faults import Fault, command
 from motesim.run import program_path
 from project.tree import TOP
 
-PAGES = ['docs/use/TUTORIAL.md', 'docs/use/TOOLS.md', 'docs/use/EXPECTATIONS.md', 'docs/use/EXPLAIN.md']
+PAGES = ['docs/use/TUTORIAL.md', 'docs/use/TOOLS.md', 'docs/use/EXPECTATIONS.md', 'docs/use/EXPLAIN.md',
+         'docs/use/EXPERIMENTS.md']
 FENCE = '```'
 SECONDS = 60
 
@@ -106,7 +107,7 @@ def check(name: str, text: str, program: Path) -> Checked:
         folder = Path(scratch)
         prepare(folder)
         for place, block in enumerate(blocks):
-            if re.fullmatch('toml [a-z_.]+[.]toml', ' '.join(block.info)):
+            if re.fullmatch(r'(toml|mote|python) [a-z_.]+[.](toml|mote|py)', ' '.join(block.info)):
                 (folder / block.info[1]).write_text(text_of(lines, block), encoding='utf-8')
             if block.info[:1] != ['sh']:
                 continue

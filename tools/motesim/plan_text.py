@@ -1,0 +1,70 @@
+"""Writes a scenario as docs/use/SCENARIO.md has it."""
+from __future__ import annotations
+
+from collections.abc import Iterator, Mapping, Sequence
+from typing import NamedTuple
+
+ESCAPES = {'\\': '\\\\', '"': '\\"', '\n': '\\n', '\t': '\\t', '\r': '\\r'}
+
+
+class Mote(NamedTuple):
+    x: int
+    y: int
+    program: str
+
+
+class Net(NamedTuple):
+    """What a scenario of version 2 says."""
+    end: int
+    range: int
+    base: int
+    per: int
+    collide: bool
+    programs: Mapping[str, str]
+    queue: Mapping[str, int]
+    motes: Sequence[Mote]
+    losses: Mapping[tuple[int, int], int]
+
+
+def _escaped(text: str) -> str:
+    return ''.join(ESCAPES.get(sign) or ('\\u%04X' % ord(sign) if ord(sign) < 32 or ord(sign) == 127 else sign)
+                   for sign in text)
+
+
+def _program(name: str, text: str) -> str:
+    """A program: as it is between quotes, or with escapes where that can't be."""
+    is_plain = "'''" not in text and all(sign in '\n\t' or ord(sign) >= 32 and ord(sign) != 127 for sign in text)
+    if is_plain and text.endswith('\n'):
+        return "%s = '''\n%s'''" % (name, text)
+    return '%s = "%s"' % (name, _escaped(text))
+
+
+def _lines(net: Net) -> Iterator[str]:
+    yield 'version = 2'
+    yield 'end = %d' % net.end
+    yield '[medium]'
+    yield 'range = %d' % net.range
+    yield 'base = %d' % net.base
+    yield 'per = %d' % net.per
+    yield 'collide = %s' % str(net.collide).lower()
+    yield '[programs]'
+    for name, text in sorted(net.programs.items()):
+        yield _program(name, text)
+    if net.queue:
+        yield '[queue]'
+        for name, length in sorted(net.queue.items()):
+            yield '%s = %d' % (name, length)
+    for mote in net.motes:
+        yield '[[mote]]\nx = %d\ny = %d\nprogram = "%s"' % mote
+    for (sender, to), every in sorted(net.losses.items()):
+        yield '[[loss]]\nfrom = %d\nto = %d\nevery = %d' % (sender, to, every)
+
+
+def comment(line: str) -> str:
+    """A line of comment, in which only signs stand that TOML has there."""
+    return '# ' + ''.join(sign if sign.isprintable() else '?' for sign in line)
+
+
+def scenario_text(head: Sequence[str], net: Net) -> str:
+    """The scenario, with these lines of comment above it."""
+    return ''.join(line + '\n' for line in [*map(comment, head), *_lines(net)])

@@ -1,0 +1,286 @@
+"""Scenarios from plans: the same bytes everywhere, each rule, and each fault with its place."""
+import hashlib
+import re
+import subprocess
+import sys
+import tempfile
+import unittest
+from pathlib import Path
+
+from here import TOOLS, TOP
+from motesim import places, scenario_faults
+from motesim.chance import Chance
+from motesim.faults import Fault
+from motesim.plan import Plan
+from motesim.plan_files import Files
+from motesim.run import program_path, run_program
+from motesim.scenario import Scenario
+
+PLAN = '''end = 160
+[medium]
+range = 10
+base = 2
+per = 100
+[parameters]
+period = 40
+step = 10
+[places]
+rule = "grid"
+columns = 5
+rows = 5
+step = "${step}"
+program = "flood.mote"
+[[loss]]
+rule = "link"
+from = 0
+to = 1
+every = 2
+'''
+MOTE = '''process a;
+autostart a;
+code a { body { print ${period}; } }
+'''
+SINK = 'process b;\ncode b { body { } }\n'
+FILES = {'flood.mote': MOTE, 'sink.mote': SINK, 'Bad Name.mote': SINK,
+         'wrong.mote': 'process a;\ncode a { body { x = 1; } }\n',
+         'places.csv': 'x,y,program\n0,0,flood.mote\n-3, 40 ,sink.mote\n', 'few.csv': 'x,y\n1,2\n3\n',
+         'far.csv': 'y,x\n0,40000\n', 'losses.csv': 'from,to,every\n0,1,3\n1,0,4\n',
+         'self.csv': 'from,to,every\n1,1,3\n'}
+
+# Rules of places, each with the SHA-256 of the scenario that they make: it is the same on any machine.
+RULES = {
+    'rule = "grid"\ncolumns = 3\nrows = 2\nstep = 7\nx = -5\ny = 4': 'a157526d36b3b533',
+    'rule = "line"\ncount = 5\nstep = 9': '7a0b22e847b4909d',
+    'rule = "ring"\ncount = 7\nradius = 100': 'c50cda527b25bca6',
+    'rule = "random"\ncount = 30\nwidth = 50\nheight = 40\nseed = 5\nleast = 3\nconnected = true': 'ee61473e98a220d5',
+    'rule = "clusters"\ncount = 3\nmotes = 4\nspread = 6\nwidth = 90\nheight = 90\nseed = 2': 'a241cd8a46865297',
+    'rule = "list"\nat = [[0, 0], [5, -5]]': '709060ab0cd28a7a',
+}
+
+
+def plan(text: str = PLAN, name: str = 'a.plan.toml') -> Plan:
+    return Plan(name, text, Files(Path('/nowhere'), {key: value.encode() for key, value in FILES.items()}))
+
+
+def with_places(rule: str) -> str:
+    return PLAN.split('[places]')[0] + '[places]\n%s\nprogram = "flood.mote"\n' % rule
+
+
+class ChanceTest(unittest.TestCase):
+    def test_the_numbers_are_those_of_splitmix64(self) -> None:
+        chance = Chance(1234567)
+        self.assertEqual([chance.word() for _ in range(3)],
+                         [6457827717110365317, 3203168211198807973, 9817491932198370423])
+
+    def test_numbers_below_a_count(self) -> None:
+        chance = Chance(1)
+        self.assertEqual({chance.below(3) for _ in range(100)}, {0, 1, 2})
+        self.assertNotEqual(Chance(1, 1).word(), Chance(1).word())
+
+
+class PlacesTest(unittest.TestCase):
+    def test_a_ring_of_four(self) -> None:
+        self.assertEqual(places.ring(4, 30_000), [(30_000, 0), (0, 30_000), (-30_000, 0), (0, -30_000)])
+
+    def test_a_ring_of_twelve_is_symmetric(self) -> None:
+        ring = places.ring(12, 100)
+        self.assertEqual(ring[1], (87, 50))
+        self.assertEqual({(-x, -y) for x, y in ring}, set(ring))
+
+    def test_the_least_distance_is_kept(self) -> None:
+        found = places.scattered(60, 100, 100, 3, 8, None)
+        self.assertEqual(len(set(found)), 60)
+        self.assertGreaterEqual(min(places.squared(a, b) for a in found for b in found if a != b), 64)
+
+    def test_a_connected_net_is_connected(self) -> None:
+        for seed in range(20):
+            found = places.scattered(20, 60, 60, seed, 0, 20)
+            reached, front = {found[0]}, [found[0]]
+            for point in front:
+                near = [it for it in found if it not in reached and places.squared(point, it) <= 400]
+                reached.update(near)
+                front += near
+            self.assertEqual(reached, set(found))
+
+    def test_what_cannot_be_met_is_told(self) -> None:
+        with self.assertRaisesRegex(places.NoPlace, 'no place was found'):
+            places.scattered(100, 10, 10, 1, 9, None)
+        with self.assertRaisesRegex(places.NoPlace, 'connected'):
+            places.scattered(3, 1000, 1000, 1, 0, 1)
+
+
+class PlanTest(unittest.TestCase):
+    def test_the_same_plan_gives_the_same_bytes(self) -> None:
+        for rule, digest in RULES.items():
+            text = plan(with_places(rule)).scenario({})
+            self.assertEqual(hashlib.sha256(text.encode()).hexdigest()[:16], digest, rule)
+            self.assertIsNone(scenario_faults.find_fault(text.encode()), rule)
+
+    def test_the_head_says_from_what(self) -> None:
+        head = plan().scenario({'period': 7}).split('\n')[:4]
+        self.assertEqual(head[:3], [
+            '# Written by tools/scenario from the plan a.plan.toml: change that, and not this file.',
+            '# Parameters: period = 7, step = 10', '# Files beside the plan: flood.mote'])
+        self.assertRegex(head[3], '^# SHA-256 of the plan and these files: [0-9a-f]{64}$')
+
+    def test_parameters_fill_programs_and_numbers(self) -> None:
+        scenario = Scenario.parse(plan().scenario({'period': 7, 'step': 3}))
+        self.assertIn('print 7;', scenario.programs['flood'])
+        self.assertEqual(scenario.places[24][:2], (12, 12))
+        self.assertEqual(scenario.losses, {(0, 1): 2})
+
+    def test_it_is_the_net_of_the_flooding_example(self) -> None:
+        example = Scenario.parse((TOP / 'examples/flooding.toml').read_bytes())
+        made = Scenario.parse(plan().scenario({}))
+        self.assertEqual([it[:2] for it in made.places], [it[:2] for it in example.places])
+        self.assertEqual(made.losses, example.losses)
+
+    def test_groups_stand_in_order_and_others_run_what_they_are_told(self) -> None:
+        text = PLAN.replace('[places]', '[[places]]') + '''[[places]]
+rule = "line"
+count = 2
+step = 1
+program = "sink.mote"
+[[other]]
+motes = "0, 3 to 4"
+program = "sink.mote"
+[queue]
+flood = 5
+'''
+        scenario = Scenario.parse(plan(text).scenario({}))
+        sinks = [number for number, place in enumerate(scenario.places) if place.program == 'sink']
+        self.assertEqual(sinks, [0, 3, 4, 25, 26])
+        self.assertEqual(scenario.queue, {'flood': 5})
+
+    def test_places_and_programs_from_a_table(self) -> None:
+        scenario = Scenario.parse(plan(with_places('rule = "csv"\nfile = "places.csv"')).scenario({}))
+        self.assertEqual([tuple(it) for it in scenario.places], [(0, 0, 'flood'), (-3, 40, 'sink')])
+        self.assertEqual(plan(with_places('rule = "csv"\nfile = "places.csv"')).used_files({}),
+                         ['flood.mote', 'places.csv', 'sink.mote'])
+
+    def test_losses_by_rule(self) -> None:
+        line = with_places('rule = "line"\ncount = 4\nstep = 5')
+
+        def losses(text: str) -> dict[tuple[int, int], int]:
+            return Scenario.parse(plan(line + text).scenario({})).losses
+
+        every = losses('[[loss]]\nrule = "all"\nevery = 7\n')
+        self.assertEqual(len(every), 10)
+        self.assertEqual(set(every.values()), {7})
+        longer = losses('[[loss]]\nrule = "longer"\nthan = 5\nevery = 3\n')
+        self.assertEqual(longer, {(0, 2): 3, (2, 0): 3, (1, 3): 3, (3, 1): 3})
+        self.assertEqual(losses('[[loss]]\nrule = "csv"\nfile = "losses.csv"\n'), {(0, 1): 3, (1, 0): 4})
+        both = losses('[[loss]]\nrule = "all"\nevery = 7\n[[loss]]\nrule = "csv"\nfile = "losses.csv"\n')
+        self.assertEqual((len(both), both[0, 1], both[0, 2]), (10, 3, 7))
+        some = losses('[[loss]]\nrule = "random"\none_in = 3\nseed = 4\nevery = 2\n')
+        self.assertTrue(0 < len(some) < 10, some)
+
+    def test_a_program_of_any_signs_comes_through(self) -> None:
+        odd = SINK.replace('\n', '\r\n') + '// "\\ \x01\n'
+        for source in SINK + "// it's '''quoted'''\n", SINK + '// no end', odd:
+            there = plan(PLAN.replace('flood.mote', 'odd.mote'))
+            there.files.known['odd.mote'] = source.encode()
+            self.assertEqual(Scenario.parse(there.scenario({})).programs['odd'], source)
+
+    def test_the_program_takes_what_is_written(self) -> None:
+        try:
+            program_path()
+        except Fault as fault:
+            self.skipTest(str(fault))
+        for rule in RULES:
+            self.assertIn(b'medium\n', run_program(plan(with_places(rule)).scenario({}).encode()))
+
+
+# Changes to the plan, each with the line that is shown, what is marked there, and words of what is said of it.
+FAULTS = [
+    ('end = 160', 'end = ', 1, '', 'TOML'),
+    ('end = 160\n', '', 1, '[medium]', '`end`: a whole number, 0 to 1,000,000'),
+    ('end = 160', 'end = 1_000_001', 1, '1_000_001', 'out of range'),
+    ('end = 160', 'end = 160\nspeed = 1', 2, 'speed', 'no key of this name'),
+    ('base = 2', 'base = 0', 4, '0', '1 to 1,000,000'),
+    ('range = 10\n', '', 2, '[medium]', 'needs the key `range`'),
+    ('columns = 5', 'colums = 5', 11, 'colums', '`columns`'),
+    ('columns = 5', 'columns = 5.0', 11, '5.0', 'not a whole number'),
+    ('columns = 5', 'columns = 500', 9, '[places]', 'at most 1,000'),
+    ('"grid"', '"square"', 10, '"square"', '`"ring"`'),
+    ('"${step}"', '"${stop}"', 13, '"${stop}"', '`${period}`, `${step}`'),
+    ('"${step}"', '"${step}0"', 13, '"${step}0"', '`${step}0` is 100 here'),
+    ('"${step}"', '20_000', 9, '[places]', 'Mote 2 of this group would stand at (40000, 0)'),
+    ('flood.mote', 'fled.mote', 14, '"fled.mote"', 'No such file'),
+    ('flood.mote', 'Bad Name.mote', 14, '"Bad Name.mote"', 'A-Z a-z 0-9'),
+    ('program = "flood.mote"\n', '', 9, '[places]', 'needs the key `program`'),
+    ('step = 10', 'step = 1.5', 8, '1.5', 'a value of another kind'),
+    ('step = 10', '"a b" = 1', 8, '"a b"', 'another name'),
+    ('to = 1', 'to = 0', 15, '[[loss]]', 'two motes of the plan'),
+    ('to = 1', 'to = 25', 15, '[[loss]]', '0 to 24'),
+    ('every = 2', 'every = 0', 19, '0', '1 to 1,000,000'),
+    ('rule = "link"\n', '', 15, '[[loss]]', 'needs a `rule`'),
+    ('every = 2\n', 'every = 2\n[queue]\nsink = 3\n', 21, 'sink', 'No mote runs'),
+    ('every = 2\n', 'every = 2\n[[other]]\nmotes = "0, 25"\nprogram = "sink.mote"', 21, '"0, 25"', '0 to 24'),
+]
+FAULTS_BESIDE = [
+    ('flood.mote', 'wrong.mote', '''wrong.mote, line 2:
+  code a { body { x = 1; } }
+                  ^
+UnknownName'''),
+    ('period = 40\n', '', '''flood.mote, line 3:
+  code a { body { print ${period}; } }
+                        ^^^^^^^^^
+'''),
+    ('rule = "link"\nfrom = 0\nto = 1\nevery = 2', 'rule = "csv"\nfile = "self.csv"', '''self.csv, line 2:
+  1,1,3
+  ^^^^^
+'''),
+]
+
+
+class FaultsTest(unittest.TestCase):
+    def told(self, text: str) -> str:
+        with self.assertRaises(Fault) as caught:
+            plan(text).scenario({})
+        return str(caught.exception)
+
+    def test_each_fault_has_its_place(self) -> None:
+        for old, new, line, marked, words in FAULTS:
+            told = self.told(PLAN.replace(old, new, 1))
+            where, shown, mark, *rest = told.split('\n')
+            self.assertEqual(where, 'a.plan.toml, line %d:' % line, told)
+            self.assertEqual(shown[mark.find('^'):mark.rfind('^') + 1].strip(), marked, told)
+            self.assertIn(words, ' '.join(it.strip() for it in rest), told)
+
+    def test_faults_of_files_beside(self) -> None:
+        for old, new, begin in FAULTS_BESIDE:
+            told = self.told(PLAN.replace(old, new, 1))
+            self.assertTrue(told.startswith(begin), told)
+        for file, line, words in ('few.csv', 3, 'another number of values'), ('far.csv', 2, '-30,000 to 30,000'):
+            told = self.told(with_places('rule = "csv"\nfile = "%s"' % file))
+            self.assertIn('%s, line %d:' % (file, line), told)
+            self.assertIn(words, told)
+
+    def test_a_parameter_that_there_is_not(self) -> None:
+        with self.assertRaisesRegex(Fault, 'has no parameter speed; it has: period, step'):
+            plan().scenario({'speed': 1})
+
+
+class CommandTest(unittest.TestCase):
+    def run_it(self, *words: str) -> subprocess.CompletedProcess[str]:
+        return subprocess.run([sys.executable, '-B', str(TOOLS / 'scenario'), *words], capture_output=True, text=True)
+
+    def test_the_command(self) -> None:
+        with tempfile.TemporaryDirectory() as name:
+            folder = Path(name)
+            (folder / 'a.plan.toml').write_text(PLAN)
+            (folder / 'flood.mote').write_text(MOTE)
+            done = self.run_it(str(folder / 'a.plan.toml'), '--set', 'period=3')
+            self.assertEqual((done.returncode, done.stderr), (0, ''))
+            self.assertEqual(done.stdout, plan().scenario({'period': 3}))
+            to = self.run_it(str(folder / 'a.plan.toml'), '-o', str(folder / 'made.toml'), '--set', 'period=3')
+            self.assertEqual((to.returncode, (folder / 'made.toml').read_text()), (0, done.stdout))
+            wrong = self.run_it(str(folder / 'a.plan.toml'), '--set', 'step=many')
+            self.assertEqual((wrong.returncode, wrong.stdout), (2, ''))
+            self.assertTrue(re.match('scenario: a.plan.toml, line 13:\n', wrong.stderr), wrong.stderr)
+            self.assertEqual(self.run_it(str(folder / 'no.toml')).returncode, 2)
+
+
+if __name__ == '__main__':
+    unittest.main()
