@@ -1,0 +1,56 @@
+"""Packages beyond Python's standard library: which interpreter has one, and how it is installed.
+
+Debian's packages are for Debian's own interpreter, while `python3` on the path may be another one without them. A tool
+that needs one then goes on by the interpreter that has it, and says so in a line.
+"""
+from __future__ import annotations
+
+import importlib
+import importlib.util
+import os
+import subprocess
+import sys
+from collections.abc import Sequence
+from typing import Any
+
+from motesim.faults import Fault
+
+# The interpreter that Debian's packages are for.
+SYSTEM = '/usr/bin/python3'
+HANDED_ON = 'MOTESIM_TOOLS_HANDED_ON'
+# Of each module the package of Debian that has it.
+DEBIAN = {'matplotlib': 'python3-matplotlib', 'distributed': 'python3-distributed', 'pandas': 'python3-pandas'}
+
+
+def has(module: str, interpreter: str = SYSTEM) -> bool:
+    """Whether an interpreter, which is new enough for the tools, has a module."""
+    asked = 'import sys, importlib.util as u; sys.exit(sys.version_info < (3, 11) or not u.find_spec(%r))' % module
+    try:
+        return subprocess.run([interpreter, '-c', asked], capture_output=True, timeout=60).returncode == 0
+    except (OSError, subprocess.TimeoutExpired):
+        return False
+
+
+def how_to_install(module: str) -> str:
+    """What to say where no interpreter has a module."""
+    return '%s is not installed: on Debian `apt-get install %s` installs it, for %s' % (module, DEBIAN[module], SYSTEM)
+
+
+def is_here(module: str) -> bool:
+    return importlib.util.find_spec(module.split('.')[0]) is not None
+
+
+def load(module: str) -> Any:
+    """The module; where this interpreter doesn't have it, a fault."""
+    if not is_here(module):
+        raise Fault(how_to_install(module))
+    return importlib.import_module(module)
+
+
+def hand_on(tool: str, module: str, words: Sequence[str]) -> None:
+    """Goes on by Debian's interpreter if that one has the module and this one doesn't. Else it comes back."""
+    if is_here(module) or os.environ.get(HANDED_ON) or not has(module):
+        return
+    print('%s: %s has no %s; %s has it, and goes on' % (tool, sys.executable, module, SYSTEM), file=sys.stderr)
+    sys.stdout.flush()
+    os.execve(SYSTEM, [SYSTEM, '-B', *words], {**os.environ, HANDED_ON: '1'})

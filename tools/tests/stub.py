@@ -1,0 +1,39 @@
+"""A program in the place of motesim, for tests of tools that run it: its reports are short and known beforehand.
+
+Mote n prints P at moment P * (n + 1), where P is what the first `print` of its program has. A comment `// wait`,
+`// long` or `// refuse` in the program makes it answer nothing for a minute, a long report, or a fault.
+"""
+import sys
+from pathlib import Path
+
+STUB = '''#!%s
+import re, sys, time, tomllib
+if sys.argv[1:] == ['--version']:
+    print('stub 1.0')
+    sys.exit(0)
+scenario = tomllib.loads(sys.stdin.read())
+out = []
+for number, mote in enumerate(scenario['mote']):
+    text = scenario['programs'][mote['program']]
+    if '// wait' in text:
+        time.sleep(60)
+    if '// long' in text:
+        while True:
+            sys.stdout.write('x' * 1000000)
+    if '// refuse' in text:
+        sys.stderr.write('motesim: out of memory\\n')
+        sys.exit(1)
+    value = int(re.search('print ([0-9]+)', text)[1])
+    out.append('mote %%d %%s' %% (number, mote['program']))
+    out += ['0 start %%s' %% it for it in ('etimer', 'ctimer', 'radio', 'a')]
+    out.append('%%d print a %%d' %% (value * (number + 1), value))
+print('\\n'.join(out + ['medium', 'left 0']))
+'''
+
+
+def write_stub(folder: Path) -> Path:
+    """Writes the program into a folder."""
+    path = folder / 'stub'
+    path.write_text(STUB % sys.executable)
+    path.chmod(0o755)
+    return path

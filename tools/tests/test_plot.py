@@ -1,0 +1,141 @@
+"""Plots: the table, the picture, and what there is without matplotlib."""
+import os
+import subprocess
+import sys
+import tempfile
+import unittest
+from pathlib import Path
+from xml.etree import ElementTree
+
+from here import TOOLS
+from motesim import packages, plot
+from motesim.faults import Fault
+from motesim.results import Row
+from stub import write_stub
+
+HEAD = 'period,density,seed,sent,late,fault,plan,parameters\n'
+
+
+def results() -> str:
+    """Runs whose `sent` is 10 times the period and the seed, with a fault and an empty value."""
+    rows = ['%d,%s,%d,%d,%s,,a.plan.toml,period density seed' % (
+        period, density, seed, 10 * period + seed, '' if seed == 5 else '0.5')
+        for period in (1, 2, 10) for density in ('thin', 'dense') for seed in range(1, 6)]
+    return HEAD + '\n'.join(rows) + '\n3,thin,1,,,no answer in 60 seconds,a.plan.toml,period density seed\n'
+
+
+TABLE = '''sent against period, over seed
+density period runs first quartile median third quartile
+  dense      1    5         12.000 13.000         14.000
+  dense      2    5         22.000 23.000         24.000
+  dense     10    5        102.000 103.000        104.000
+   thin      1    5         12.000 13.000         14.000
+   thin      2    5         22.000 23.000         24.000
+   thin     10    5        102.000 103.000        104.000
+left out: 1 runs with a fault
+'''
+
+
+class PlotTest(unittest.TestCase):
+    def setUp(self) -> None:
+        scratch = tempfile.TemporaryDirectory()
+        self.addCleanup(scratch.cleanup)
+        self.folder = Path(scratch.name)
+        (self.folder / 'net.csv').write_text(results())
+
+    def plot(self, *words: str, **here: str) -> subprocess.CompletedProcess[str]:
+        return subprocess.run([sys.executable, '-B', str(TOOLS / 'plot'), 'net.csv', *words], cwd=self.folder,
+                              env={**os.environ, **here}, capture_output=True, text=True)
+
+    def needs_matplotlib(self) -> None:
+        if not packages.is_here('matplotlib') and not packages.has('matplotlib'):
+            self.skipTest(packages.how_to_install('matplotlib'))
+
+    def test_the_table(self) -> None:
+        done = self.plot('--measure', 'sent', '--against', 'period', '--by', 'density')
+        found = done.returncode, ' '.join(done.stdout.split()), done.stderr
+        self.assertEqual(found, (0, ' '.join(TABLE.split()), ''))
+        one = self.plot('--measure', 'sent', '--against', 'period', '--where', 'density=thin', '--where', 'seed=2')
+        self.assertEqual(one.stdout.split('\n')[0], 'sent against period')
+
+    def test_empty_values_are_left_out(self) -> None:
+        done = self.plot('--measure', 'late', '--against', 'density')
+        self.assertIn('left out: 6 runs without a value of late\n', done.stdout)
+
+    def test_quartiles(self) -> None:
+        self.assertEqual(plot.quartiles([7.0]), (7.0, 7.0, 7.0))
+        self.assertEqual(plot.quartiles([1.0, 2.0]), (1.25, 1.5, 1.75))
+        self.assertEqual(plot.quartiles([5.0, 1.0, 3.0, 2.0, 4.0]), (2.0, 3.0, 4.0))
+
+    def test_a_picture_in_svg(self) -> None:
+        self.needs_matplotlib()
+        words = '--measure', 'sent', '--against', 'period', '--by', 'density', '-o', 'a.svg', '--title', 'How it goes'
+        done = self.plot(*words)
+        self.assertEqual((done.returncode, done.stdout), (0, 'a.svg\n'), done)
+        text = (self.folder / 'a.svg').read_text()
+        shown = [it.text for it in ElementTree.fromstring(text).iter() if it.tag.endswith('}text')]
+        for words_there in ('How it goes', 'density thin', 'density dense', 'period', 'sent'):
+            self.assertIn(words_there, shown)
+        self.assertIn('median, and quartiles over seed (5 runs); left out: 1 runs with a fault', shown)
+        self.plot(*words)
+        self.assertEqual((self.folder / 'a.svg').read_text(), text)
+
+    def test_a_picture_in_png(self) -> None:
+        self.needs_matplotlib()
+        done = self.plot('--measure', 'sent', '--against', 'density', '-o', 'a.png')
+        self.assertEqual(done.returncode, 0, done)
+        self.assertEqual((self.folder / 'a.png').read_bytes()[:8], b'\x89PNG\r\n\x1a\n')
+
+    def test_without_matplotlib(self) -> None:
+        # (an interpreter that finds none, as -I and -S leave the packages out)
+        words = ['--measure', 'sent', '--against', 'period', '--by', 'density', '-o', 'a.svg']
+        source = 'import sys; sys.path.insert(0, %r); sys.argv[1:] = %r; from motesim.plot import main; main()' % (
+            str(TOOLS), ['net.csv', *words])
+        done = subprocess.run([sys.executable, '-B', '-I', '-S', '-c', source], cwd=self.folder, text=True,
+                              env={**os.environ, packages.HANDED_ON: '1'}, capture_output=True)
+        self.assertEqual((done.returncode, ' '.join(done.stdout.split())), (1, ' '.join(TABLE.split())), done)
+        self.assertEqual(done.stderr, 'plot: tables in place of pictures, since matplotlib is not installed: on '
+                         'Debian `apt-get install python3-matplotlib` installs it, for /usr/bin/python3\n')
+        self.assertFalse((self.folder / 'a.svg').exists())
+
+    def test_what_cannot_be_shown_is_told(self) -> None:
+        for words, told in [
+            (('--measure', 'speed', '--against', 'period'), 'there is no measure speed; there are: sent, late'),
+            (('--measure', 'sent', '--against', 'late'), 'there is no parameter late; there are: period, density,'),
+            (('--measure', 'sent'), '--against NAME'),
+            (('--measure', 'sent', '--against', 'period', '-o', 'a.gif'), 'SVG or PNG'),
+            (('--measure', 'sent', '--against', 'period', '--where', 'seed=9'), 'no runs of a sweep with these'),
+            (('--plan', 'no.toml'), 'no.toml: No such file'),
+        ]:
+            done = self.plot(*words)
+            self.assertEqual((done.returncode, done.stdout), (2, ''), words)
+            self.assertIn(told, done.stderr)
+
+    def test_texts_are_no_measure(self) -> None:
+        rows: list[Row] = [{'a': 1, 'said': 'so', 'fault': None, 'parameters': 'a'}]
+        with self.assertRaisesRegex(Fault, 'has texts'):
+            plot.shown_of(rows, plot.Wish('said', 'a'))
+
+    def test_what_a_plan_says_is_drawn(self) -> None:
+        self.needs_matplotlib()
+        stub = write_stub(self.folder)
+        (self.folder / 'a.mote').write_text('process a;\ncode a { body { print ${period}; } }\n')
+        (self.folder / 'a.plan.toml').write_text('''end = 9
+medium = { range = 10, base = 2, per = 100 }
+parameters = { period = 4 }
+places = { rule = "line", count = 2, step = 10, program = "a.mote" }
+sweep = { vary = { period = "1..4" }, measure = ["prints"] }
+[[plot]]
+file = "prints.svg"
+measure = "prints"
+against = "period"
+''')
+        done = subprocess.run([sys.executable, '-B', str(TOOLS / 'sweep'), 'a.plan.toml', '--plot'], cwd=self.folder,
+                              env={**os.environ, 'MOTESIM': str(stub)}, capture_output=True, text=True)
+        told = 'a.csv: 4 runs, 4 of them now, 0 with a fault\nprints.svg\n'
+        self.assertEqual((done.returncode, done.stdout), (0, told), done)
+        self.assertTrue((self.folder / 'prints.svg').exists())
+
+
+if __name__ == '__main__':
+    unittest.main()

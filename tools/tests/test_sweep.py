@@ -1,0 +1,351 @@
+"""Sweeps: what is measured, what the rows say, what is run again, faults, Ctrl-C, and a Dask cluster."""
+import csv
+import os
+import signal
+import sqlite3
+import subprocess
+import sys
+import tempfile
+import time
+import unittest
+from pathlib import Path
+
+from here import TOOLS
+from motesim import packages
+from motesim.faults import Fault
+from motesim.measures import Bench, Cell, MeasureFault, read_measure
+from motesim.report import Report
+from motesim.results import CsvFile, cell, read_results
+from motesim.run import Run
+from motesim.scenario import Scenario
+from motesim.sentences import names_of
+from motesim.sweep import values_of
+from stub import write_stub
+
+PLAN = '''end = 160
+[medium]
+range = 10
+base = 2
+per = 100
+[parameters]
+period = 4
+motes = 3
+name = "a"
+[places]
+rule = "line"
+count = "${motes}"
+step = 10
+program = "${name}.mote"
+'''
+MOTE = 'process a;\nautostart a;\ncode a { body { print ${period}; } }\n'
+
+SCENARIO = '''version = 2
+end = 20
+[medium]
+range = 10
+base = 2
+per = 100
+collide = false
+[programs]
+p = "process a; code a { body { print 1; } }"
+''' + ''.join('[[mote]]\nx = %d\ny = 0\nprogram = "p"\n' % (10 * number) for number in range(3))
+REPORT = '''mote 0 p
+0 start a
+0 send 0 7
+mote 1 p
+0 start a
+3 recv 0 0 7
+3 print a 7
+3 send 0 7
+9 print a 8
+mote 2 p
+0 start a
+6 recv 1 0 7
+6 print a 7
+medium
+0 0 0 7 1@3
+3 1 0 7 0@6 2@6
+left 1
+'''
+# Measures, each with its name and what it gives of the report above.
+MEASURES: list[tuple[str, str, Cell]] = [
+    ('sent', 'sent', 2),
+    ('sent of mote 1', 'sent of mote 1', 1),
+    ('part = ratio', 'part', 1.0),
+    ('late', 'late', 1),
+    ('holds: no mote halts', 'holds: no mote halts', 1),
+    ('holds: mote 0 halts', 'holds: mote 0 halts', 0),
+    ('done = moment: every mote but 0 prints a 7', 'done', 6),
+    ('moment: every mote prints a 7', 'moment: every mote prints a 7', None),
+    ('moment: some mote prints a 7', 'moment: some mote prints a 7', 3),
+    ('moment: mote 1 prints a twice', 'moment: mote 1 prints a twice', 9),
+    ('moment: mote 1 prints a at least 3 times', 'moment: mote 1 prints a at least 3 times', None),
+    ('second = moment: motes 1 to 2 together print a at least 2 times', 'second', 6),
+    ('last: every mote prints a', 'last: every mote prints a', 9),
+    ('count: every mote prints a', 'count: every mote prints a', 3),
+    ('count: every mote prints a after 6', 'count: every mote prints a after 6', 1),
+    ('count: some copy arrives at mote 2', 'count: some copy arrives at mote 2', 1),
+    ('count: some packet is sent', 'count: some packet is sent', 2),
+    ('motes: every mote prints a', 'motes: every mote prints a', 2),
+    ('delay = delay: mote 0 sends 7 -> every mote but 0 prints a 7', 'delay', 6),
+    ('flow most: print a', 'flow most: print a', 6),
+    ('python: mine.py:lines', 'lines', 10),
+    ('python: mine.py:odd', 'odd', 'two words'),
+]
+WRONG = ['speed', 'moment: mote 1 never prints a', 'moment: no mote halts', 'moment: no copy collides',
+         'delay: mote 0 sends', 'moment: mote 0 sends -> mote 1 sends', 'flow fast: print a', 'flow most: halt',
+         'python: mine.py:none', 'python: no.py:x', "holds: the scenario is refused with 'medium fault 2'"]
+MINE = '''def lines(run):
+    return sum(1 for line in run.report.lines())
+
+def odd(run):
+    return 'two\\nwords'
+
+def wrong(run):
+    return 1 / 0
+
+def listed(run):
+    return [1]
+'''
+
+
+def bench() -> Bench:
+    return Bench(Run('a', Report.parse(REPORT), Scenario.parse(SCENARIO)))
+
+
+class MeasuresTest(unittest.TestCase):
+    names = names_of(Scenario.parse(SCENARIO))
+
+    def test_what_is_measured(self) -> None:
+        for words, name, value in MEASURES:
+            measure = read_measure(words, self.names, {'mine.py': MINE})
+            self.assertEqual((measure.name, measure.of(bench())), (name, value), words)
+
+    def test_words_that_are_no_measure(self) -> None:
+        for words in WRONG:
+            with self.assertRaises(Fault, msg=words):
+                read_measure(words, self.names, {'mine.py': MINE})
+
+    def test_a_function_that_fails_is_told_with_its_line(self) -> None:
+        with self.assertRaisesRegex(MeasureFault, 'wrong of mine.py: line 8: ZeroDivisionError: division by zero'):
+            read_measure('python: mine.py:wrong', self.names, {'mine.py': MINE}).of(bench())
+        with self.assertRaisesRegex(MeasureFault, 'gives no number'):
+            read_measure('python: mine.py:listed', self.names, {'mine.py': MINE}).of(bench())
+        with self.assertRaisesRegex(MeasureFault, 'mine.py: line 1: SyntaxError'):
+            read_measure('python: mine.py:x', self.names, {'mine.py': 'def :'})
+
+
+class ValuesTest(unittest.TestCase):
+    def test_values(self) -> None:
+        self.assertEqual(values_of('10,20, 40'), [10, 20, 40])
+        self.assertEqual(values_of('1..3,7'), [1, 2, 3, 7])
+        self.assertEqual(values_of('-10..10..10'), [-10, 0, 10])
+        self.assertEqual(values_of('true,a b,007'), [True, 'a b', '007'])
+        for wrong in '3..1', '1,1', '1,,2', '1..3..0':
+            with self.assertRaises(Fault, msg=wrong):
+                values_of(wrong)
+
+    def test_cells_keep_their_text(self) -> None:
+        for text, value in ('7', 7), ('-7', -7), ('007', '007'), ('0.25', 0.25), ('0.50', '0.50'), ('', None):
+            self.assertEqual(cell(text), value)
+
+
+class Bed(unittest.TestCase):
+    """A folder with a plan and a program that answers short reports."""
+
+    def setUp(self) -> None:
+        scratch = tempfile.TemporaryDirectory()
+        self.addCleanup(scratch.cleanup)
+        self.folder = Path(scratch.name)
+        self.stub = write_stub(self.folder)
+        (self.folder / 'net.plan.toml').write_text(PLAN)
+        (self.folder / 'a.mote').write_text(MOTE)
+        (self.folder / 'mine.py').write_text(MINE)
+
+    def command(self, *words: str, interpreter: str = sys.executable) -> list[str]:
+        return [interpreter, '-B', str(TOOLS / 'sweep'), 'net.plan.toml', *words]
+
+    def here(self) -> dict[str, str]:
+        return {**os.environ, 'MOTESIM': str(self.stub)}
+
+    def sweep(self, *words: str) -> subprocess.CompletedProcess[str]:
+        return subprocess.run(self.command(*words), cwd=self.folder, env=self.here(), capture_output=True, text=True)
+
+    def rows(self, name: str = 'net.csv') -> list[dict[str, str]]:
+        with open(self.folder / name, newline='') as file:
+            return list(csv.DictReader(file))
+
+    words = ('--vary', 'period=1..3', '--vary', 'motes=2,3', '--measure', 'end = last: every mote prints a',
+             '--measure', 'prints')
+
+
+class SweepTest(Bed):
+    def test_a_sweep_and_its_rows(self) -> None:
+        done = self.sweep(*self.words)
+        self.assertEqual((done.returncode, done.stdout), (0, 'net.csv: 6 runs, 6 of them now, 0 with a fault\n'), done)
+        rows = self.rows()
+        found = [(row['period'], row['motes'], row['name'], row['end'], row['prints'], row['fault']) for row in rows]
+        self.assertEqual(found[:3], [('1', '2', 'a', '2', '2', ''), ('1', '3', 'a', '3', '3', ''),
+                                     ('2', '2', 'a', '4', '2', '')])
+        self.assertEqual({(row['plan'], row['program']) for row in rows}, {('net.plan.toml', 'stub 1.0')})
+        self.assertTrue(all(len(row[name]) == 16 for row in rows for name in row if name.endswith('sha256')))
+        self.assertEqual(len({row['scenario_sha256'] for row in rows}), 6)
+
+    def test_only_what_is_missing_is_run(self) -> None:
+        self.sweep(*self.words)
+        before = (self.folder / 'net.csv').read_bytes()
+        again = self.sweep(*self.words)
+        self.assertEqual(again.stdout, 'net.csv: 6 runs, 0 of them now, 0 with a fault\n')
+        self.assertEqual((self.folder / 'net.csv').read_bytes(), before)
+        # (half a row, as of a machine that lost its power)
+        rows = before.split(b'\n')
+        (self.folder / 'net.csv').write_bytes(b'\n'.join(rows[:3]) + b'\n' + rows[3][:9])
+        again = self.sweep(*self.words, '--jobs', '1')
+        self.assertEqual(again.stdout, 'net.csv: 6 runs, 4 of them now, 0 with a fault\n')
+        self.assertEqual((self.folder / 'net.csv').read_bytes(), before)
+        more = self.sweep(*self.words, '--vary', 'period=0..4')
+        self.assertEqual(more.stdout, 'net.csv: 10 runs, 4 of them now, 0 with a fault\n')
+
+    def test_rows_that_others_made_are_in_the_way(self) -> None:
+        self.sweep(*self.words)
+        (self.folder / 'a.mote').write_text(MOTE + '// another\n')
+        again = self.sweep(*self.words)
+        self.assertEqual(again.returncode, 2)
+        self.assertIn('net.csv has 6 rows that another plan, program or measure made', again.stderr)
+        anew = self.sweep(*self.words, '--renew')
+        self.assertEqual(anew.stdout, 'net.csv: 6 runs, 6 of them now, 0 with a fault\n')
+        other = self.sweep(*self.words, '--measure', 'sent')
+        self.assertEqual(other.returncode, 2)
+        self.assertIn('other columns', other.stderr)
+
+    def test_sqlite(self) -> None:
+        done = self.sweep(*self.words, '-o', 'net.sqlite')
+        self.assertEqual((done.returncode, done.stdout), (0, 'net.sqlite: 6 runs, 6 of them now, 0 with a fault\n'))
+        base = sqlite3.connect(self.folder / 'net.sqlite')
+        self.addCleanup(base.close)
+        self.assertEqual(list(base.execute('select sum(end), count(*) from runs where motes = 3')), [(18, 3)])
+        self.assertEqual(self.sweep(*self.words, '-o', 'net.sqlite').stdout,
+                         'net.sqlite: 6 runs, 0 of them now, 0 with a fault\n')
+        columns, rows = read_results(self.folder / 'net.sqlite')
+        self.assertEqual((columns[:4], rows[0]['period']), (['period', 'motes', 'name', 'end'], 1))
+
+    def test_faults_are_rows(self) -> None:
+        for name, line in ('wait', '// wait'), ('long', '// long'), ('refuse', '// refuse'), ('text', 'code a'):
+            (self.folder / (name + '.mote')).write_text(MOTE + line + '\n')
+        done = self.sweep('--vary', 'name=a,wait,refuse,text,no', '--measure', 'prints', '--seconds', '1.5')
+        self.assertEqual(done.returncode, 1, done)
+        faults = {row['name']: row['fault'] for row in self.rows()}
+        self.assertEqual((faults['a'], faults['refuse']), ('', 'motesim: out of memory'))
+        self.assertRegex(faults['wait'], '^no (end|answer) in 1.5 seconds$')
+        self.assertRegex(faults['text'], '^text.mote, with its parameters, line 4: ')
+        self.assertRegex(faults['no'], 'no.mote: No such file')
+        self.assertEqual(self.sweep('--vary', 'name=a,refuse', '--measure', 'prints').stdout.split('\n')[0],
+                         'net.csv: 2 runs, 0 of them now, 1 with a fault')
+        self.assertEqual(self.sweep('--vary', 'name=a,refuse', '--measure', 'prints', '--retry').stdout.split('\n')[0],
+                         'net.csv: 2 runs, 1 of them now, 1 with a fault')
+
+    def test_a_report_without_end_is_stopped(self) -> None:
+        (self.folder / 'long.mote').write_text(MOTE + '// long\n')
+        self.sweep('--vary', 'name=long', '--measure', 'prints', '--bytes', '1000000')
+        self.assertEqual(self.rows()[0]['fault'], 'the report is longer than 1,000,000 bytes')
+
+    def test_a_measure_that_fails_is_a_fault(self) -> None:
+        self.sweep('--vary', 'motes=2', '--measure', 'python: mine.py:wrong')
+        self.assertEqual(self.rows()[0]['fault'], 'wrong of mine.py: line 8: ZeroDivisionError: division by zero')
+
+    def test_what_is_told_before_anything_is_run(self) -> None:
+        for words, told in [
+            (('--measure', 'speed'), "no measure: 'speed'"),
+            ((), 'there is nothing to measure'),
+            (('--measure', 'moment: mote 0 prints b'), 'a process (etimer, ctimer, radio, a)'),
+            (('--measure', 'sent', '--measure', 'sent'), 'two columns would have the name sent'),
+            (('--measure', 'sent', '--vary', 'speed=1'), 'has no parameter speed; it has: period, motes, name'),
+            (('--measure', 'sent', '--vary', 'motes=0'), 'net.plan.toml, line 12:'),
+            (('--measure', 'python: no.py:x'), 'no.py: No such file'),
+        ]:
+            done = self.sweep(*words)
+            self.assertEqual((done.returncode, done.stdout), (2, ''), words)
+            self.assertIn(told, done.stderr)
+            self.assertFalse((self.folder / 'net.csv').exists())
+
+    def test_what_the_plan_says_itself(self) -> None:
+        sweep = '[sweep]\nvary = { period = "1..2", motes = [2, 3] }\nmeasure = ["prints"]\n'
+        (self.folder / 'net.plan.toml').write_text(PLAN + sweep)
+        self.assertEqual(self.sweep().stdout, 'net.csv: 4 runs, 4 of them now, 0 with a fault\n')
+        (self.folder / 'net.plan.toml').write_text(PLAN + sweep.replace('motes =', 'mote ='))
+        self.assertIn('net.plan.toml, line 16:', self.sweep('-o', 'other.csv').stderr)
+
+    def test_ctrl_c_keeps_what_is_finished(self) -> None:
+        (self.folder / 'wait.mote').write_text(MOTE + '// wait\n')
+        words = '--vary', 'name=a,wait', '--vary', 'motes=1..4', '--measure', 'prints', '--jobs', '2', '--seconds', '3'
+        run = subprocess.Popen(self.command(*words), cwd=self.folder, env=self.here(), stdout=subprocess.PIPE,
+                               stderr=subprocess.PIPE, text=True, start_new_session=True)
+        end = time.monotonic() + 30
+        while time.monotonic() < end and (not (self.folder / 'net.csv').exists() or len(self.rows()) < 4):
+            time.sleep(0.05)
+        os.killpg(run.pid, signal.SIGINT)
+        out, told = run.communicate(timeout=60)
+        self.assertEqual((run.returncode, out), (130, ''), told)
+        self.assertRegex(told, r'^sweep: stopped with [1-4] runs missing; the same command goes on\n$')
+        rows = self.rows()
+        self.assertGreaterEqual(len(rows), 4)
+        self.assertEqual(sorted(row['prints'] for row in rows if row['name'] == 'a'), ['1', '2', '3', '4'])
+
+    def test_two_sweeps_do_not_write_one_file(self) -> None:
+        file = CsvFile(self.folder / 'both.csv', ['a'])
+        with self.assertRaisesRegex(Fault, 'another sweep'):
+            CsvFile(self.folder / 'both.csv', ['a'])
+        file.close()
+
+    def test_progress_is_on_standard_error(self) -> None:
+        source = '''import sys, time
+from motesim import sweep
+sweep.SHOWN_EVERY = 0
+progress = sweep.Progress(3)
+progress.begin -= 60
+progress.add(False)
+progress.add(True)
+'''
+        done = subprocess.run([sys.executable, '-B', '-c', source], capture_output=True, text=True,
+                              env={**os.environ, 'PYTHONPATH': str(TOOLS)})
+        self.assertEqual(done.stderr.split('\n'), ['1 of 3 runs, 0 with a fault, 2:00 left',
+                                                   '2 of 3 runs, 1 with a fault, 0:30 left', ''])
+
+
+CLUSTER = '''import sys
+from distributed import LocalCluster
+if __name__ == '__main__':
+    with LocalCluster(n_workers=2, threads_per_worker=1, dashboard_address=None) as cluster:
+        print(cluster.scheduler_address, flush=True)
+        sys.stdin.read()
+'''
+
+
+class DaskTest(Bed):
+    """The same rows by a cluster of two workers."""
+
+    def test_a_cluster_of_two_workers(self) -> None:
+        interpreter = sys.executable if packages.is_here('distributed') else packages.SYSTEM
+        if not packages.has('distributed', interpreter):
+            self.skipTest(packages.how_to_install('distributed'))
+        self.sweep(*self.words)
+        (self.folder / 'cluster.py').write_text(CLUSTER)
+        cluster = subprocess.Popen([interpreter, 'cluster.py'], cwd=self.folder, env=self.here(), text=True,
+                                   stdin=subprocess.PIPE, stdout=subprocess.PIPE, stderr=subprocess.DEVNULL)
+        assert cluster.stdin and cluster.stdout
+        try:
+            address = cluster.stdout.readline().strip()
+            done = self.sweep(*self.words, '-o', 'dask.csv', '--dask', address)
+            self.assertEqual((done.returncode, done.stdout),
+                             (0, 'dask.csv: 6 runs, 6 of them now, 0 with a fault\n'), done)
+            self.assertEqual((self.folder / 'dask.csv').read_bytes(), (self.folder / 'net.csv').read_bytes())
+            if not packages.is_here('distributed'):
+                self.assertIn('%s has it, and goes on' % packages.SYSTEM, done.stderr)
+        finally:
+            cluster.stdin.close()
+            cluster.wait(60)
+            cluster.stdout.close()
+
+
+if __name__ == '__main__':
+    unittest.main()
