@@ -1,0 +1,80 @@
+"""Packets of a run for Wireshark: a capture file (pcapng) with the link type USER0.
+
+Each packet that is sent is a record, and so is the end of each of its copies. A record has a header of 28 bytes, and
+nothing else; numbers are in network order:
+
+    byte 0      1, the version of this header
+    byte 1      what it is: 0 sent, 1 received, 2 lost by the medium, 3 lost as eight packets waited, 4 collided,
+                5 came to a mote that had halted, 6 would have come after the end
+    bytes 2-3   the mote that sends
+    bytes 4-5   the mote that the copy goes to; 65535 of a packet that is sent, which is for all that hear it
+    bytes 6-13  the packet's number at its sender
+    bytes 14-15 its value
+    bytes 16-19 the moment of sending
+    bytes 20-27 the moment of arrival; all bits set where there is none
+
+`motesim.lua` beside this file reads it.
+"""
+from __future__ import annotations
+
+import struct
+from collections.abc import Iterator
+
+from motesim.export.times import copies, sends
+from motesim.report import Report
+
+USER0 = 147
+VERSION = 1
+KINDS = {'sent': 0, 'received': 1, 'lost': 2, 'full': 3, 'collided': 4, 'halted': 5, 'left': 6}
+ALL, NEVER = 0xFFFF, 2 ** 64 - 1
+SECTION, INTERFACE, RECORD = 0x0A0D0D0A, 1, 6
+NANOSECONDS = 9
+INBOUND, OUTBOUND = 1, 2
+
+
+def padded(data: bytes) -> bytes:
+    return data + bytes(-len(data) % 4)
+
+
+def block(kind: int, body: bytes) -> bytes:
+    length = len(body) + 12
+    return struct.pack('<II', kind, length) + body + struct.pack('<I', length)
+
+
+def options(*pairs: tuple[int, bytes]) -> bytes:
+    return b''.join(struct.pack('<HH', code, len(value)) + padded(value) for code, value in pairs) + bytes(4)
+
+
+def section() -> bytes:
+    head = struct.pack('<IHHq', 0x1A2B3C4D, 1, 0, -1)
+    return block(SECTION, head + options((4, b'motesim tools/export')))
+
+
+def interface(name: str, program: str) -> bytes:
+    """A mote is an interface, with the name `mote 3`."""
+    head = struct.pack('<HHI', USER0, 0, 0)
+    return block(INTERFACE, head + options((2, name.encode()), (3, program.encode()), (9, bytes([NANOSECONDS]))))
+
+
+def header(kind: str, sender: int, to: int, number: int, value: int, sent: int, arrival: int | None) -> bytes:
+    return struct.pack('>BBHHQHIQ', VERSION, KINDS[kind], sender, to, number, value, sent,
+                       NEVER if arrival is None else arrival)
+
+
+def record(mote: int, time: int, direction: int, data: bytes) -> bytes:
+    head = struct.pack('<IIIII', mote, time >> 32, time & 0xFFFFFFFF, len(data), len(data))
+    return block(RECORD, head + padded(data) + options((2, struct.pack('<I', direction))))
+
+
+def pcapng(report: Report) -> Iterator[bytes]:
+    """The file, block by block; records stand in the order of their times."""
+    yield section()
+    for mote in report.motes:
+        yield interface('mote %d' % mote.number, mote.program)
+    records = [(it.time, 0, it.sender, OUTBOUND, header('sent', it.sender, ALL, it.number, it.value, it.at, None))
+               for it in sends(report)]
+    for it in copies(report):
+        data = header(it.what, it.sender, it.to, it.number, it.value, it.sent_at, it.arrival)
+        records.append((it.ended, 1, it.to, INBOUND, data))
+    for time, _, here, direction, data in sorted(records):
+        yield record(here, time, direction, data)

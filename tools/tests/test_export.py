@@ -1,0 +1,240 @@
+"""Exports, each read back by the program that it is for, where that is installed."""
+import json
+import os
+import re
+import shutil
+import subprocess
+import sys
+import tempfile
+import unittest
+from collections import Counter
+from pathlib import Path
+
+from here import TOOLS
+from motesim import packages
+from motesim.export import pcapng, perfetto, times, vcd
+from motesim.report import Report
+
+LUA = TOOLS / 'motesim/export/motesim.lua'
+# The report of examples/small_network.toml, with a mote that halts.
+REPORT = '''mote 0 sender
+0 start etimer
+0 start ctimer
+0 start radio
+0 start sender
+0 send 0 10
+4 post 0 sender timer 0
+4 take 0 sender
+4 send 1 20
+8 post 1 sender timer 0
+8 take 1 sender
+8 send 2 30
+8 leave sender
+mote 1 listener
+0 start etimer
+0 start ctimer
+0 start radio
+0 start echo
+0 start listener
+2 collide 0 0
+2 collide 2 0
+10 recv 0 2 30
+10 post 0 listener packet 30
+10 take 0 listener
+10 post 1 echo msg 30
+10 full echo msg 31
+10 print listener 1
+10 take 1 echo
+10 print echo 30
+11 halt
+mote 2 sender
+0 start etimer
+0 start ctimer
+0 start radio
+0 start sender
+0 send 0 12
+9 send 1 70
+19 post 0 sender timer 0
+19 take 0 sender
+19 send 2 40
+19 leave sender
+medium
+0 0 0 10 1@2
+0 2 0 12 1@2
+4 0 1 20 1@lost
+8 0 2 30 1@10
+9 2 1 70 1@12
+19 2 2 40 1@21
+left 1
+'''
+# What tshark shows of it: time, interface, kind, sender, receiver, number, value, moment of sending and of arrival.
+PACKETS = '''0.000004000,mote 0,0,0,,0,10,0,
+0.000004000,mote 2,0,2,,0,12,0,
+0.002000000,mote 1,4,0,1,0,10,0,2
+0.002001000,mote 1,4,2,1,0,12,0,2
+0.004002000,mote 0,0,0,,1,20,4,
+0.004002000,mote 1,2,0,1,1,20,4,
+0.008002000,mote 0,0,0,,2,30,8,
+0.009000000,mote 2,0,2,,1,70,9,
+0.010000000,mote 1,1,0,1,2,30,8,10
+0.012000000,mote 1,5,2,1,1,70,9,12
+0.019002000,mote 2,0,2,,2,40,19,
+0.021000000,mote 1,6,2,1,2,40,19,21
+'''
+FIELDS = ['frame.time_epoch', 'frame.interface_name', 'motesim.kind', 'motesim.sender', 'motesim.receiver',
+          'motesim.number', 'motesim.value', 'motesim.sent', 'motesim.arrival']
+# What a waveform of it shows: the values of signals, each from a time in nanoseconds on.
+WAVES = {
+    ('mote_1', 'queue'): [(0, 0), (10_001_000, 1), (10_002_000, 0), (10_003_000, 1), (10_006_000, 0)],
+    ('mote_1', 'halted'): [(0, 0), (11_000_000, 1)],
+    ('mote_1', 'processes', 'listener', 'printed'): [(0, None), (10_005_000, 1)],
+    ('mote_1', 'processes', 'listener', 'runs'): [(0, 0), (4_000, 1), (5_000, 0), (10_002_000, 1), (10_006_000, 0)],
+    ('mote_0', 'processes', 'sender', 'listed'): [(0, 0), (3_000, 1), (8_003_000, 0)],
+    ('mote_1', 'packets', 'collides'): [(0, 0), (2_000_000, 1), (2_000_500, 0), (2_001_000, 1), (2_001_500, 0)],
+    ('mote_1', 'packets', 'received'): [(0, None), (10_000_000, 30)],
+    ('mote_1', 'packets', 'on_the_way'): [(0, 0), (4_000, 2), (2_000_000, 1), (2_001_000, 0), (8_002_000, 1),
+                                          (9_000_000, 2), (10_000_000, 1), (12_000_000, 0)],
+}
+PANDAS = '''import pandas
+lines, packets, copies = (pandas.read_csv('a.%s.csv' % name) for name in ('lines', 'packets', 'copies'))
+print(len(lines), list(lines.groupby('kind').size().loc[['post', 'send', 'start']]))
+print(int(packets.value.sum()), copies.groupby('outcome').size().to_dict())
+received = lines[lines.kind == 'recv']
+merged = copies.merge(received, left_on=['sender', 'number', 'to'], right_on=['sender', 'number', 'mote'])
+print(merged[['to', 'arrival', 'row']].astype(int).values.tolist())
+'''
+
+
+def read_vcd(text: str) -> dict[tuple[str, ...], list[tuple[int, int | None]]]:
+    """The signals of a dump by their names, each with its values."""
+    scope: list[str] = []
+    names: dict[str, tuple[str, ...]] = {}
+    found: dict[tuple[str, ...], list[tuple[int, int | None]]] = {}
+    now = 0
+    for line in text.split('\n'):
+        words = line.split()
+        if line.startswith('$scope'):
+            scope.append(words[2])
+        elif line.startswith('$upscope'):
+            scope.pop()
+        elif line.startswith('$var'):
+            names[words[3]] = (*scope, words[4])
+        elif line.startswith('#'):
+            now = int(line[1:])
+        elif re.match('b[01x]+ |[01x]', line):
+            value, short = (words[0][1:], words[1]) if line[0] == 'b' else (line[0], line[1:])
+            values = found.setdefault(names[short], [])
+            values.append((now, None if 'x' in value else int(value, 2)))
+    return found
+
+
+class ExportTest(unittest.TestCase):
+    def setUp(self) -> None:
+        scratch = tempfile.TemporaryDirectory()
+        self.addCleanup(scratch.cleanup)
+        self.folder = Path(scratch.name)
+        (self.folder / 'a.report').write_text(REPORT)
+        self.report = Report.parse(REPORT)
+
+    def run_it(self, *words: str) -> subprocess.CompletedProcess[str]:
+        return subprocess.run(words, cwd=self.folder, capture_output=True, text=True, timeout=120,
+                              env={**os.environ, 'LC_ALL': 'C.UTF-8'})
+
+    def export(self, *words: str) -> str:
+        done = self.run_it(sys.executable, '-B', str(TOOLS / 'export'), *words)
+        self.assertEqual((done.returncode, done.stderr), (0, ''))
+        return done.stdout
+
+    def needs(self, program: str, package: str) -> None:
+        if not shutil.which(program):
+            self.skipTest('%s is not installed: on Debian `apt-get install %s`' % (program, package))
+
+    def test_lines_of_a_turn_stand_apart_and_within_their_moment(self) -> None:
+        lines = ''.join('3 print a %d\n' % (number % 7) for number in range(5_000))
+        mote = Report.parse('mote 0 p\n0 start a\n%s4 print a 1\nmedium\nleft 0\n' % lines).motes[0]
+        turns = list(times.turns(mote))
+        self.assertEqual([(it.begin, it.step) for it in turns], [(0, 1_000), (3_000_000, 199), (4_000_000, 1_000)])
+        self.assertLess(turns[1].time(5_000), turns[2].begin)
+
+    def test_a_waveform(self) -> None:
+        self.assertEqual(self.export('a.report', '--to', 'vcd'), 'a.vcd\n')
+        found = read_vcd((self.folder / 'a.vcd').read_text())
+        for name, values in WAVES.items():
+            self.assertEqual(found[name], values, name)
+
+    def test_short_names_differ(self) -> None:
+        names = {vcd.short_name(number) for number in range(20_000)}
+        self.assertEqual((len(names), max(map(len, names))), (20_000, 3))
+
+    def test_gtkwave_reads_the_waveform(self) -> None:
+        self.needs('vcd2fst', 'gtkwave')
+        self.export('a.report', '--to', 'vcd')
+        done = self.run_it('vcd2fst', 'a.vcd', 'a.fst')
+        self.assertEqual(done.returncode, 0, done)
+        back = read_vcd(self.run_it('fst2vcd', 'a.fst').stdout)
+        for name, values in WAVES.items():
+            self.assertEqual(back[name], values, name)
+
+    def test_wireshark_reads_the_packets(self) -> None:
+        self.needs('tshark', 'tshark')
+        self.export('a.report', '--to', 'pcapng', '-o', 'b.pcapng')
+        fields = [word for name in FIELDS for word in ('-e', name)]
+        read = ['tshark', '-X', 'lua_script:%s' % LUA, '-r', 'b.pcapng']
+        done = self.run_it(*read, '-T', 'fields', '-E', 'separator=,', *fields)
+        self.assertEqual((done.returncode, done.stdout), (0, PACKETS), done.stderr)
+        some = self.run_it(*read, '-Y', 'motesim.sender == 2 && motesim.kind == 5')
+        self.assertIn('came to a halted mote: packet 1 of mote 2, value 70', some.stdout)
+        self.assertEqual(len(some.stdout.splitlines()), 1)
+
+    def test_the_header_of_packets(self) -> None:
+        head = pcapng.header('received', 3, 258, 2 ** 40, 65_535, 1_000_000, 2 ** 33)
+        self.assertEqual(head.hex(), '0101' '0003' '0102' '0000010000000000' 'ffff' '000f4240' '0000000200000000')
+
+    def test_a_trace_for_perfetto(self) -> None:
+        self.assertEqual(self.export('a.report', '--to', 'perfetto'), 'a.perfetto.json\n')
+        trace = json.loads((self.folder / 'a.perfetto.json').read_text())
+        events = trace['traceEvents']
+        self.assertEqual(Counter(it['ph'] for it in events)['X'], 6 + 18 + 3)
+        named = {it['tid']: (it['pid'], it['args']['name']) for it in events if it['name'] == 'thread_name'}
+        self.assertEqual(named[205], (2, 'listener'))
+        runs = [it for it in events if it['ph'] == 'X' and named[it['tid']] == (2, 'listener')]
+        self.assertEqual([(it['name'], it['ts'], it['dur']) for it in runs],
+                         [('init', 4.0, 1.0), ('packet 30', 10_002.0, 4.0)])
+
+    def test_arrows_begin_and_end_in_slices(self) -> None:
+        events = [json.loads(line.strip(',')) for line in perfetto.perfetto(self.report) if '"ph"' in line]
+        slices = [it for it in events if it['ph'] == 'X']
+        for it in slices:
+            others = [other for other in slices if other is not it and other['tid'] == it['tid']]
+            self.assertGreater(it['dur'], 0)
+            self.assertFalse([other for other in others if it['ts'] <= other['ts'] < it['ts'] + it['dur']])
+        arrows = [it for it in events if it['ph'] in 'sf']
+        self.assertEqual(Counter(it['id'] for it in arrows), {1: 2, 2: 2, 4: 2})
+        for arrow in arrows:
+            self.assertTrue([it for it in slices if it['tid'] == arrow['tid'] and it['pid'] == arrow['pid']
+                             and it['ts'] == arrow['ts']])
+
+    def test_pandas_reads_the_tables(self) -> None:
+        interpreter = sys.executable if packages.is_here('pandas') else packages.SYSTEM
+        if not packages.has('pandas', interpreter):
+            self.skipTest(packages.how_to_install('pandas'))
+        self.assertEqual(self.export('a.report', '--to', 'csv'), 'a.lines.csv\na.packets.csv\na.copies.csv\n')
+        done = self.run_it(interpreter, '-c', PANDAS)
+        self.assertEqual(done.stdout.split('\n'), [
+            '38 [5, 6, 13]', "182 {'collided': 2, 'halted': 1, 'left': 1, 'lost': 1, 'received': 1}", '[[1, 10, 22]]',
+            ''], done.stderr)
+
+    def test_what_is_wrong_is_told(self) -> None:
+        for words, told in [
+            (('no.report', '--to', 'vcd'), 'no.report: No such file'),
+            (('a.report', '--to', 'vcd', '-o', 'no/a.vcd'), 'no/a.vcd: No such file'),
+            (('a.report', '--to', 'gif'), 'invalid choice'),
+        ]:
+            done = self.run_it(sys.executable, '-B', str(TOOLS / 'export'), *words)
+            self.assertEqual((done.returncode, done.stdout), (2, ''))
+            self.assertIn(told, done.stderr)
+        self.assertEqual(sorted(it.name for it in self.folder.iterdir()), ['a.report'])
+
+
+if __name__ == '__main__':
+    unittest.main()
