@@ -126,6 +126,20 @@ def refused(part: Part, sentences: list[Sentence], got: Answer) -> list[Told]:
     return found if part.report is None else found + [Told(WHOLE, False, more)]
 
 
+def of_report(part: Part, sentences: list[Sentence], judge: Judge) -> list[Told]:
+    """Which sentences of a part hold of a report."""
+    found = []
+    for text, sentence in zip(part.sentences, sentences):
+        broken = judge.broken(sentence)
+        found.append(Told(text, broken is None, more_of(broken, judge.rows) if broken else []))
+    return found + ([same_report(judge.rows, part.report)] if part.report is not None else [])
+
+
+def judged_by(part: Part, report: Report, scenario: Scenario) -> list[Told]:
+    """Which sentences of a part hold of a report that is there already, of the scenario as the part has changed it."""
+    return of_report(part, read_all(part.sentences, names_of(scenario)), Judge(report, scenario))
+
+
 def judged(scenario: str, part: Part) -> list[Told]:
     """Which sentences of a part hold."""
     text = changed(scenario, part.replace)
@@ -138,13 +152,7 @@ def judged(scenario: str, part: Part) -> list[Told]:
     got = answer(text.encode())
     if got.status:
         return refused(part, sentences, got)
-    report = Report.parse(got.report)
-    judge = Judge(report, known or Scenario.parse(text))
-    found = []
-    for sentence, it in zip(part.sentences, sentences):
-        broken = judge.broken(it)
-        found.append(Told(sentence, broken is None, more_of(broken, judge.rows) if broken else []))
-    return found + ([same_report(judge.rows, part.report)] if part.report is not None else [])
+    return of_report(part, sentences, Judge(Report.parse(got.report), known or Scenario.parse(text)))
 
 
 def expect(scenario: Path, expectations: Path, is_quiet: bool = False) -> tuple[int, int]:

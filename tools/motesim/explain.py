@@ -48,16 +48,42 @@ def shown_place(name: str, text: str, place: Place) -> list[str]:
     return ['%s, line %d:' % (name, place.line), *marked(line, place.column, place.length)]
 
 
-def shown_program(name: str, text: str, program: str, token: program_faults.Token) -> list[str]:
-    """The place of a fault in a program's text, with its line in the scenario where that is found."""
-    source, rows = tables_of(text)['programs'][program], text.split('\n')
-    line, where = source.split('\n')[token.line - 1].rstrip('\r'), '%s, ' % name
+def program_line(text: str, program: str, token: program_faults.Token) -> str:
+    """The line of a program's text on which a token stands."""
+    source = tables_of(text)['programs'][program]
+    return source.split('\n')[token.line - 1].rstrip('\r')
+
+
+def place_of_token(text: str, program: str, token: program_faults.Token) -> Place | None:
+    """Where a token of a program's text stands in the scenario, if its line is found there."""
+    line, rows = program_line(text, program, token), text.split('\n')
+    inner = line.strip()
     begin = scenario_faults.place_of(text, ('programs', program)).line + token.line - 1
     # (a text of several lines begins on the line of its quotes, or on the one below)
     for row in begin, begin + 1:
-        if where.endswith(name + ', ') and line.strip() and line.strip() in ''.join(rows[row - 1:row]):
-            where += 'line %d, which is ' % row
-    return ['%sline %d of program %s:' % (where, token.line, program), *marked(line, token.column, len(token.text))]
+        if inner and inner in ''.join(rows[row - 1:row]):
+            before = len(line) - len(line.lstrip())
+            return Place(row, rows[row - 1].index(inner) + token.column - before, len(token.text))
+    return None
+
+
+def place_of_fault(data: bytes, line: str) -> Place | None:
+    """Where in the scenario the fault is that the program tells by a line, or None where that isn't known."""
+    fault, text = scenario_faults.find_fault(data), data.decode('utf-8', 'replace')
+    if fault is None or fault.told != line.removeprefix('motesim: '):
+        return None
+    if not fault.program:
+        return fault.place(text)
+    found = place_of_token(text, str(fault.path[1]), fault.program.token)
+    return found or scenario_faults.place_of(text, fault.path)
+
+
+def shown_program(name: str, text: str, program: str, token: program_faults.Token) -> list[str]:
+    """The place of a fault in a program's text, with its line in the scenario where that is found."""
+    found = place_of_token(text, program, token)
+    row = 'line %d, which is ' % found.line if found else ''
+    where = '%s, %sline %d of program %s:' % (name, row, token.line, program)
+    return [where, *marked(program_line(text, program, token), token.column, len(token.text))]
 
 
 def wrapped(text: str) -> list[str]:

@@ -27,10 +27,11 @@ from motesim.run import Run, read_run
 from motesim.scenario import Scenario
 
 PAGE = Path(__file__).resolve().parent / 'timeline_page'
-# The page's scripts, in the order in which they are put together.
-SCRIPTS = ['data.js', 'index.js', 'view.js', 'forms.js', 'lanes.js', 'arrows.js', 'map.js', 'details.js', 'search.js',
-    'play.js',
-           'main.js']
+# The scripts that show runs, in the order in which they are put together; tools/studio has them too.
+SHARED = ['data.js', 'index.js', 'view.js', 'forms.js', 'lanes.js', 'arrows.js', 'map.js', 'details.js', 'search.js',
+          'play.js', 'main.js']
+# The page's scripts: the last one opens it.
+SCRIPTS = [*SHARED, 'open.js']
 KINDS = list(FIELDS)
 ALL = 0xFFFF
 ARRAYS = {'u8': 'B', 'u16': 'H', 'u32': 'I'}
@@ -117,15 +118,20 @@ class Columns:
             columns['copyTo'].extend([copy.to for copy in packet.copies])
             columns['copyAfter'].extend([0 if copy.at is None else copy.at - packet.at for copy in packet.copies])
 
-    def packed(self) -> bytes:
-        """All columns behind one another, each at a multiple of 4, compressed."""
+    def joined(self) -> bytes:
+        """All columns one after another, each at a multiple of 4."""
         parts = []
         for column in self.columns.values():
             if sys.byteorder == 'big':
+                column = column[:]
                 column.byteswap()
             part = column.tobytes()
             parts.append(part + bytes(-len(part) % 4))
-        return zlib.compress(b''.join(parts), 6)
+        return b''.join(parts)
+
+    def packed(self) -> bytes:
+        """All columns, compressed."""
+        return zlib.compress(self.joined(), 6)
 
     def said(self) -> list[list]:
         """What the page has to know of the columns: name, kind of number, length."""
@@ -149,17 +155,20 @@ def _said_of_scenario(scenario: Scenario | None) -> dict:
     }
 
 
+def said_of(run: Run, columns: Columns) -> dict:
+    """The small table of names and numbers that the page has of a run beside its columns."""
+    end = run.scenario.end if run.scenario else _last_moment(run.report)
+    return {
+        'name': run.name, 'end': max(end, _last_moment(run.report)), 'left': run.report.left,
+        'programs': list(columns.programs), 'processes': list(columns.processes), 'events': list(columns.events),
+        'columns': columns.said(), **_said_of_scenario(run.scenario),
+    }
+
+
 def data_of(run: Run) -> tuple[dict, bytes]:
     """What the page has of a run: a small table of names and numbers, and its packed columns."""
     columns = Columns(run.report)
-    end = run.scenario.end if run.scenario else _last_moment(run.report)
-    said = {
-        'name': run.name, 'end': max(end,
-            _last_moment(run.report)), 'left': run.report.left, 'programs': list(columns.programs),
-        'processes': list(columns.processes), 'events': list(columns.events), 'columns': columns.said(),
-        **_said_of_scenario(run.scenario),
-    }
-    return said, columns.packed()
+    return said_of(run, columns), columns.packed()
 
 
 def _escaped(text: str) -> str:

@@ -183,6 +183,16 @@ class Browser:
         self.call('Page.navigate', url=Path(path).resolve().as_uri() + fragment)
         self.wait('window.motesim && window.motesim.ready')
 
+    def visit(self, address: str, ready: str) -> None:
+        """Opens a page that a server has, and waits until a script in it is true."""
+        self.call('Page.navigate', url='about:blank')
+        self.call('Page.navigate', url=address)
+        self.wait(ready)
+
+    def type(self, text: str) -> None:
+        """Puts text where the caret is, as a keyboard does."""
+        self.call('Input.insertText', text=text)
+
     def wait(self, script: str) -> None:
         until = time.monotonic() + CALL_SECONDS
         while not self.run('Boolean(%s)' % script):

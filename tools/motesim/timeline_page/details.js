@@ -52,6 +52,32 @@ function chooseLine(pane, line, show) {
   tell(pane, show);
 }
 
+/** What is selected, in words that find it in another run. */
+function chosenInWords() {
+  if (!chosen) return null;
+  const {pane: {run}, mote, line, k, copy} = chosen;
+  if (line >= 0) return {mote, at: run.at[line], words: run.words(line)};
+  if (k >= 0) return {mote, sender: run.packetSender[k], number: run.packetNumber[k], to: run.copyTo[copy]};
+  return {mote};
+}
+
+/** Selects the same again after another run has taken the place of a pane's; else the mote, if it is there. */
+function chooseAgain(pane, kept) {
+  const {run} = pane, {mote, at, words, sender, number, to} = kept;
+  chosen = null;
+  if (mote >= run.begins.length) return selectNothing();
+  if (words !== undefined) {
+    const from = lowerBound(run.at, at, run.traceStart[mote], run.traceStart[mote + 1]);
+    for (let i = from; i < run.traceStart[mote + 1] && run.at[i] === at; i++) {
+      if (run.words(i) === words) return chooseLine(pane, i, false);
+    }
+  } else if (sender !== undefined) {
+    const k = run.packetOf(sender, number), copy = k < 0 ? -1 : run.copyFor(k, to);
+    if (copy >= 0) return chooseCopy(pane, k, copy, false);
+  }
+  chooseMote(pane, mote, false);
+}
+
 /** Selects a copy of a packet by its arrow. */
 function chooseCopy(pane, k, copy, show) {
   const {run} = pane;

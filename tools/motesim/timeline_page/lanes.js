@@ -1,6 +1,9 @@
 // The lanes of a pane: axis, heads of groups, marks of lines. What is smaller than a pixel is thinned and counted.
 const sprites = new Map(), MOST_MARKS = 12000, MOST_RINGS = 3000;
 
+/** What another page draws over the lanes of a pane, and over a map: functions of the pane, and of the map. */
+const overlays = [], mapOverlays = [];
+
 /** A form as a small picture, made once for each size. */
 function sprite(form, r, dots) {
   const key = `${form} ${r} ${dots}`;
@@ -461,6 +464,7 @@ function drawPane(pane) {
   else drawLanes(pane, from, to);
   drawChosen(pane);
   drawFound(pane, from, to);
+  for (const draw of overlays) draw(pane);
   c.restore();
   drawNames(pane, from, to);
   drawHeads(pane);

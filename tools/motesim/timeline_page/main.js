@@ -20,16 +20,21 @@ function drawAll() {
   page.draws++;
 }
 
-/** Panes and maps take the room that the window has. */
-function resize() {
+/** How high all panes together may be: by the window, or as another page says. */
+let roomForPanes = () => {
   const isWide = window.innerWidth > 900, above = document.querySelector('header').offsetHeight;
   const isAlone = document.body.classList.contains('only-timeline');
-  const room = isAlone ? window.innerHeight : isWide ? window.innerHeight - above - (panes.length > 1 ? 76 : 54) :
-    window.innerHeight * 0.68;
-  const titles = panes.length > 1 ? panes.length * 28 : 0;
+  return Math.max(380, isAlone ? window.innerHeight :
+    isWide ? window.innerHeight - above - (panes.length > 1 ? 76 : 54) : window.innerHeight * 0.68);
+};
+
+/** Panes and maps take the room that there is. */
+function resize() {
+  if (!panes.length) return;
+  const room = roomForPanes(), titles = panes.length > 1 ? panes.length * 28 : 0;
   for (const pane of panes) {
     const wanted = pane.heads + AXIS + pane.order.length * TALL_LANE;
-    pane.resize(Math.round(Math.max(150, Math.min(wanted, (Math.max(room, 380) - titles) / panes.length))));
+    pane.resize(Math.round(Math.max(150, Math.min(wanted, (room - titles) / panes.length))));
   }
   const width = panes[0].width - panes[0].gutter, shown = time.width / time.scale,
     isWhole = time.scale <= leastScale() * 1.001;
@@ -112,7 +117,7 @@ const KEYS = {
 /** Keys: everywhere but in fields and on buttons, where they mean something else. */
 function onKey(event) {
   if (event.ctrlKey || event.metaKey || event.altKey) return;
-  const there = event.target.closest ? event.target.closest('input, select, button, summary, #details, #matches') :
+  const there = event.target.closest ? event.target.closest('input, textarea, select, button, summary, #details, #matches') :
     null;
   const isTyping = there && !there.matches('button, #details, #matches');
   if (isTyping && event.key !== 'Escape') return;
@@ -239,52 +244,6 @@ function recolour(now) {
   if (now === true) drawAll(); else redraw();
 }
 
-/** The page opens on the whole run, or around the moment that it was made for. */
-function openAt(said) {
-  whole();
-  if (said.start === null) return;
-  showTime(Math.max(0, said.start - 15), Math.min(time.end, said.start + 45));
-  setNow(said.start);
-  if (said.mote !== null) {
-    for (const pane of panes) {
-      if (said.mote >= pane.order.length) continue;
-      if (pane.lane < FULL_LANE) pane.zoomLanes(FULL_LANE * 1.2 / pane.lane);
-      pane.reveal(said.mote);
-    }
-    chooseAt(said);
-  }
-}
-
-/** What the page's address asks for behind #: from, to, lane (a height), mote, line (its number), only=timeline. */
-function openAsAddressed() {
-  const wish = new URLSearchParams(location.hash.slice(1)), number = name => Number(wish.get(name)), pane = panes[0];
-  if (wish.get('only') === 'timeline') {
-    document.body.classList.add('only-timeline');
-    resize();
-    whole();
-  }
-  if (wish.has('from')) showTime(number('from'), wish.has('to') ? number('to') : number('from') + 60);
-  if (wish.has('lane')) pane.zoomLanes(number('lane') / pane.lane, AXIS);
-  if (wish.has('mote') && number('mote') < pane.order.length) pane.reveal(number('mote'));
-  if (wish.has('line')) {
-    const {traceStart} = pane.run, wanted = number('line');
-    let mote = 0;
-    while (mote + 1 < pane.order.length && traceStart[mote + 1] + mote + 2 < wanted) mote++;
-    const line = wanted - mote - 2;
-    if (line >= traceStart[mote] && line < traceStart[mote + 1]) chooseLine(pane, line, !wish.has('from'));
-  }
-}
-
-/** Selects the first line of the mote from the start on, in the first run that has one. */
-function chooseAt({start, mote}) {
-  for (const pane of panes) {
-    const {at, traceStart} = pane.run;
-    if (mote >= pane.order.length) continue;
-    const line = lowerBound(at, start, traceStart[mote], traceStart[mote + 1]);
-    if (line < traceStart[mote + 1] && at[line] === start) return chooseLine(pane, line, false);
-  }
-}
-
 function addPane(run, number, several) {
   const box = element('div');
   box.className = 'pane';
@@ -307,37 +266,43 @@ function addPane(run, number, several) {
   listenTo(pane);
 }
 
-async function open() {
-  const said = JSON.parse(document.getElementById('said').textContent), runs = [], begin = performance.now();
-  readColours();
-  for (const [number, table] of said.runs.entries()) {
-    const run = new Run(table, await unpack(`run${number}`));
-    await breathe();
-    await indexRun(run);
-    runs.push(run);
-  }
+/** Says how much there is to see. */
+function sayAbout() {
+  document.getElementById('about').textContent = panes.map(({run}) => `${run.name}: ` +
+    `${count(run.begins.length, 'mote')}, ${count(run.end + 1, 'moment')}, ${count(run.packets, 'packet')}, ` +
+    count(run.count, 'line')).join('; ');
+  document.getElementById('now').max = time.end;
+}
+
+/** Shows the first runs of a page, one above another. */
+function showRuns(runs) {
   time.end = Math.max(...runs.map(run => run.end));
   runs.forEach((run, number) => addPane(run, number, runs.length > 1));
-  document.getElementById('about').textContent = runs.map(run => `${run.name}: ${count(run.begins.length, 'mote')}, ` +
-    `${count(run.end + 1, 'moment')}, ${count(run.packets, 'packet')}, ${count(run.count, 'line')}`).join('; ');
-  document.getElementById('now').max = time.end;
+  sayAbout();
   fillSpeeds();
   drawLegend();
   resize();
-  openAt(said);
-  openAsAddressed();
-  listen();
-  Object.assign(page, {opened: performance.now() - begin, ready: true});
-  drawAll();
+}
+
+/** Shows another run in the place of a pane's. Zoom, place and selection stay, as far as they can. */
+function showInstead(pane, run) {
+  const isWhole = time.scale <= leastScale() * 1.001, {isFit} = pane, kept = chosenInWords();
+  pane.take(run);
+  maps[pane.number].take(run);
+  time.end = Math.max(...panes.map(one => one.run.end));
+  sayAbout();
+  resize();
+  if (isWhole) time.scale = leastScale();
+  keepTime();
+  if (isFit) pane.fit(); else pane.keep();
+  play.now = Math.min(play.now, time.end);
+  const now = play.now;
+  if (search.total) findAgain();
+  if (kept) chooseAgain(pane, kept);
+  setNow(now);
 }
 
 /** For tests, and for a reader's console. */
 const page = {draws: 0, drawn: 0, ready: false, panes, time, play, search, chosen: () => chosen, redraw, drawAll,
   find, act, setNow, count};
 window.motesim = page;
-open().catch(fault => {
-  const about = document.getElementById('about');
-  about.className = 'fault';
-  about.textContent = `This page can't be shown here: ${fault.message}`;
-  console.error(fault);
-});

@@ -1,7 +1,7 @@
 // The map of a run: motes at their places, who hears whom, what is lost where, and the packets that are on their way.
 const MOST_LINKS = 12000;
 
-/** Places along one axis, in which wide empty stretches are shortened. */
+/** Places along one axis, in which wide empty stretches are shortened; whether any is; and the way back. */
 function shortened(values, most) {
   const sorted = [...new Set(values)].sort((a, b) => a - b), at = new Map();
   let place = 0, isShort = false;
@@ -11,32 +11,45 @@ function shortened(values, most) {
     isShort = isShort || gap > most;
     at.set(value, place);
   });
-  return [values.map(value => at.get(value)), isShort];
+  const shown = sorted.map(value => at.get(value)), last = sorted.length - 1;
+  const back = where => {
+    const i = lowerBound(shown, where);
+    if (i === 0) return sorted[0] + where - shown[0];
+    if (i > last) return sorted[last] + where - shown[last];
+    return sorted[i] - (shown[i] - where) * (sorted[i] - sorted[i - 1]) / (shown[i] - shown[i - 1]);
+  };
+  return [values.map(value => at.get(value)), isShort, back];
 }
 
 class MapView {
   constructor(pane, box, several) {
     this.pane = pane;
-    this.run = pane.run;
+    // What may be done with the motes on the map: hold, drag, drop and click; on a page to look at nothing.
+    this.edits = null;
     box.innerHTML = '<h2></h2><canvas></canvas><p></p>';
-    box.querySelector('h2').textContent = several ? `Map of ${this.run.name}` : 'Map';
+    box.querySelector('h2').textContent = several ? `Map of ${pane.run.name}` : 'Map';
     this.canvas = box.querySelector('canvas');
     this.said = box.querySelector('p');
     this.context = this.canvas.getContext('2d');
     this.zoom = 1;
     this.dx = this.dy = 0;
-    this.layOut();
+    this.take(pane.run);
     this.listen();
+  }
+
+  take(run) {
+    this.run = run;
+    this.still = null;
+    this.layOut();
   }
 
   layOut() {
     const {run} = this, motes = run.begins.length;
     if (run.places) {
       const most = run.range ? run.range * 1.6 : Infinity;
-      const [xs, shortX] = shortened(run.places.map(place => place[0]), most);
-      const [ys, shortY] = shortened(run.places.map(place => place[1]), most);
-      this.xs = xs;
-      this.ys = ys;
+      const [xs, shortX, backX] = shortened(run.places.map(place => place[0]), most);
+      const [ys, shortY, backY] = shortened(run.places.map(place => place[1]), most);
+      Object.assign(this, {xs, ys, backX, backY});
       this.isShort = shortX || shortY;
     } else {
       this.xs = Array.from({length: motes}, (_, m) => Math.sin(m / motes * 2 * Math.PI));
@@ -66,6 +79,18 @@ class MapView {
 
   x(m) { return this.width / 2 + this.dx + (this.xs[m] - this.left - this.spanX / 2) * this.fit * this.zoom; }
   y(m) { return this.height / 2 + this.dy + (this.ys[m] - this.upper - this.spanY / 2) * this.fit * this.zoom; }
+
+  /** Where a point of the map is on the axes as they are shown, and where a mote there would stand. */
+  shownAt(x, y) {
+    const by = this.fit * this.zoom;
+    return [(x - this.width / 2 - this.dx) / by + this.left + this.spanX / 2,
+      (y - this.height / 2 - this.dy) / by + this.upper + this.spanY / 2];
+  }
+
+  placeAt(x, y) {
+    const [shownX, shownY] = this.shownAt(x, y);
+    return [Math.round(this.backX(shownX)), Math.round(this.backY(shownY))];
+  }
 
   /** How large a mote is drawn: by the room that there is for each. */
   get radius() {
@@ -136,6 +161,7 @@ class MapView {
     const flying = this.drawFlying();
     for (let m = 0; m < run.begins.length; m++) this.drawMote(m);
     if (chosen && chosen.pane === this.pane && chosen.k >= 0) this.drawChosenPacket();
+    for (const draw of mapOverlays) draw(this);
     const parts = [`Moment ${Math.floor(play.now)}: ${flying} on the way.`];
     if (this.links > MOST_LINKS) parts.push(`${count(this.links, 'link')} not drawn.`);
     if (this.isShort) parts.push('Wide empty stretches are shortened.');
@@ -245,6 +271,24 @@ class MapView {
     return found;
   }
 
+  /** The two motes of the link that passes near a point, or null. */
+  linkNear(x, y) {
+    let best = 7, found = null;
+    this.run.hearers.forEach((list, s) => {
+      for (const r of list) {
+        if (r < s) continue;
+        const x0 = this.x(s), y0 = this.y(s), dx = this.x(r) - x0, dy = this.y(r) - y0, square = dx * dx + dy * dy || 1;
+        const share = Math.max(0, Math.min(1, ((x - x0) * dx + (y - y0) * dy) / square));
+        const away = Math.hypot(x - x0 - share * dx, y - y0 - share * dy);
+        if (away < best) {
+          best = away;
+          found = [s, r];
+        }
+      }
+    });
+    return found;
+  }
+
   listen() {
     this.canvas.setAttribute('role', 'img');
     this.canvas.setAttribute('aria-label',
@@ -262,7 +306,8 @@ class MapView {
     }, {passive: false});
     let held = null;
     this.canvas.addEventListener('pointerdown', event => {
-      held = {x: event.offsetX, y: event.offsetY, moved: false};
+      held = {x: event.offsetX, y: event.offsetY, moved: false, mote: -1};
+      if (this.edits) held.mote = this.edits.hold(event.offsetX, event.offsetY);
       this.canvas.setPointerCapture(event.pointerId);
     });
     this.canvas.addEventListener('pointermove', event => {
@@ -270,6 +315,7 @@ class MapView {
       const dx = event.offsetX - held.x, dy = event.offsetY - held.y;
       if (!held.moved && Math.hypot(dx, dy) < 4) return;
       Object.assign(held, {x: event.offsetX, y: event.offsetY, moved: true});
+      if (held.mote >= 0) return this.edits.drag(held.mote, event.offsetX, event.offsetY);
       this.dx += dx;
       this.dy += dy;
       this.still = null;
@@ -278,8 +324,9 @@ class MapView {
     this.canvas.addEventListener('pointerup', event => {
       if (held && !held.moved) {
         const mote = this.moteNear(event.offsetX, event.offsetY);
-        if (mote >= 0) chooseMote(this.pane, mote, true);
-      }
+        if (!(this.edits && this.edits.click(event.offsetX, event.offsetY, mote)) && mote >= 0)
+          chooseMote(this.pane, mote, true);
+      } else if (held && held.mote >= 0) this.edits.drop(held.mote, event.offsetX, event.offsetY);
       held = null;
     });
   }

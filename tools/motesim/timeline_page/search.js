@@ -1,5 +1,5 @@
 // The search: words that must all fit one line of a trace.
-const search = {found: [], at: -1, total: 0};
+const search = {found: [], at: -1, total: 0, words: []};
 
 /** What a word asks of a line: a function of the line and its mote, or a text that says why it can't be understood. */
 function asks(run, word, next) {
@@ -54,20 +54,33 @@ function findLines(run, words) {
   return [Uint32Array.from(found), ''];
 }
 
-function find(text) {
-  const words = text.trim().split(/\s+/).filter(Boolean), out = document.getElementById('found');
-  Object.assign(search, {found: [], at: -1, total: 0});
-  if (!words.length) {
-    out.textContent = '';
-    document.getElementById('matches').hidden = true;
-    return redraw();
-  }
+/** Looks for all lines that fit, and tells a word that means nothing here. */
+function collect(words) {
   let unknown = '';
-  for (const pane of panes) {
+  Object.assign(search, {found: [], at: -1, total: 0, words});
+  for (const pane of words.length ? panes : []) {
     const [found, word] = findLines(pane.run, words);
     search.found.push(found || new Uint32Array(0));
     search.total += found ? found.length : 0;
     if (!found) unknown = word;
+  }
+  return unknown;
+}
+
+/** The same search in other runs: nothing new is selected. */
+function findAgain() {
+  collect(search.words);
+  document.getElementById('found').textContent = count(search.total, 'line');
+  document.getElementById('matches').hidden = true;
+}
+
+function find(text) {
+  const words = text.trim().split(/\s+/).filter(Boolean), out = document.getElementById('found');
+  const unknown = collect(words);
+  if (!words.length) {
+    out.textContent = '';
+    document.getElementById('matches').hidden = true;
+    return redraw();
   }
   if (unknown && !search.total) out.textContent = `No kind, process or event is called ${unknown}.`;
   else if (!search.total) out.textContent = 'No line fits.';

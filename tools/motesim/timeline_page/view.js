@@ -28,13 +28,18 @@ function showTime(first, last) {
 
 class Pane {
   constructor(run, number, box) {
-    this.run = run;
     this.number = number;
     this.canvas = box.querySelector('canvas');
     this.context = this.canvas.getContext('2d');
     this.top = 0;
     this.lane = 20;
     this.gutter = 70;
+    this.take(run);
+  }
+
+  /** Lanes for the motes of a run, which stand by islands. */
+  take(run) {
+    this.run = run;
     this.order = [];
     this.place = new Int32Array(run.begins.length);
     this.groupOf = new Int32Array(run.begins.length);
@@ -74,6 +79,8 @@ class Pane {
     const each = (this.height - AXIS - this.heads - 2) / this.order.length;
     return each > 0.1 ? each : SMALL_LANE;
   }
+
+  get isFit() { return Math.abs(this.lane - Math.min(TALL_LANE, this.fitting)) < 0.01; }
 
   get full() { return this.heads + this.order.length * this.lane; }
 

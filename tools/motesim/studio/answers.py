@@ -1,0 +1,149 @@
+"""What the page is told of a run: its columns, its fault, how it differs from another, what is expected, the sums."""
+from __future__ import annotations
+
+import re
+import tomllib
+from typing import NamedTuple
+
+from motesim import expectations
+from motesim.compare import MEDIUM, compared, differences, packet_of
+from motesim.explain import explanation, place_of_fault
+from motesim.faults import Fault
+from motesim.report import Report
+from motesim.run import Run
+from motesim.scenario import Scenario, ScenarioFault
+from motesim.summary import LINK_NAMES, summary
+
+NOTE = re.compile(r'//[^\n]*')
+CODE_OR_PRINT = re.compile(r'\bcode\s+([a-z][a-z0-9_]*)|\bprint\s+([^;{}]+);')
+TIMER = re.compile(r'\bcode\s+([a-z][a-z0-9_]*)|\b([ec]timer)\s+([a-z][a-z0-9_]*)')
+MOST_ROWS, MOST_LINKS, MOST_PARTS = 12, 400, 1_000
+SAID_A, SAID_B = 'the run before', 'this run'
+
+
+class Finished(NamedTuple):
+    """A run that has a report."""
+    number: int
+    text: str
+    data: bytes
+    run: Run
+
+    def named(self, name: str) -> Run:
+        return self.run._replace(name=name)
+
+
+def finished(number: int, text: str, data: bytes, name: str) -> Finished:
+    """A run by its report."""
+    return Finished(number, text, data, Run(name, Report.parse(data), Scenario.parse(text)))
+
+
+def column16(line: str, column: int) -> int:
+    """A column in the units in which a browser counts."""
+    return len(line[:column].encode('utf-16-le')) // 2
+
+
+def place16(text: str, offset: int) -> list[int]:
+    """The line and the column of an offset, from 0, as the page's editor counts them."""
+    begin = text.rfind('\n', 0, offset) + 1
+    return [text.count('\n', 0, begin), column16(text[begin:offset], offset - begin)]
+
+
+def fault_told(text: str, line: str) -> dict:
+    """A fault in the words of tools/explain, with its place in the text where that is known."""
+    data = text.encode('utf-8')
+    lines = explanation('the text', data, line)
+    place = place_of_fault(data, line)
+    told = {'line': line, 'words': lines, 'place': None}
+    if place:
+        row = text.split('\n')[place.line - 1]
+        told['place'] = [place.line - 1, column16(row, place.column), column16(row, place.column + place.length)]
+    return told
+
+
+def names_of_programs(scenario: Scenario) -> dict:
+    """Of each program its timers, in the order of their numbers, and what each process prints, as the text has it."""
+    found = {}
+    for name, source in scenario.programs.items():
+        text, timers, prints, process = NOTE.sub('', source), [], {}, ''
+        for it in TIMER.finditer(text):
+            process = it[1] or process
+            if it[3]:
+                timers.append([process, it[3], it[2]])
+        for it in CODE_OR_PRINT.finditer(text):
+            process = it[1] or process
+            if it[2] and it[2].strip() not in prints.setdefault(process, []):
+                prints[process].append(' '.join(it[2].split()))
+        found[name] = {'timers': timers, 'prints': prints}
+    return found
+
+
+def difference(before: Finished, after: Finished, is_pinned: bool) -> dict:
+    """How a run differs from another, in the words of tools/compare, and where each trace parts."""
+    one = before.named('the pinned run' if is_pinned else SAID_A)
+    lines, first, is_same = compared(one, after.named(SAID_B), MOST_ROWS)
+    reports = before.run.report, after.run.report
+    told = {'same': is_same, 'lines': lines, 'first': None, 'parts': []}
+    if first:
+        mote = first.mote if first.mote != MEDIUM else packet_of(reports, first).sender
+        told['first'] = {'at': first.at, 'mote': mote, 'medium': first.mote == MEDIUM}
+        told['parts'] = [[it.mote, it.at] for it in differences(*reports) if it.mote != MEDIUM][:MOST_PARTS]
+    return told
+
+
+def parts_for(text: str, saved: str, parts: list) -> list:
+    """The parts of a file of expectations that are about this text: of a change, where the text is changed so."""
+    for part in parts[1:]:
+        try:
+            if expectations.changed(saved, part.replace) == text:
+                return [part]
+        except Fault:
+            continue
+    return parts[:1]
+
+
+def checks(done: Finished, saved: str, expected: tuple[str, str] | None) -> dict | None:
+    """Which of the sentences that stand beside the scenario hold, each with the line that breaks it."""
+    if expected is None:
+        return None
+    name, source = expected
+    try:
+        parts = expectations.parts_of(source, name)
+        told = []
+        for part in parts_for(done.text, saved, parts):
+            about = part.name if part.replace else ''
+            for it in expectations.judged_by(part, done.run.report, done.run.scenario):
+                row = next((int(found[1]) for more in it.more if (found := re.match(r'line (\d+):', more))), None)
+                told.append({'sentence': it.sentence, 'holds': it.holds, 'more': it.more, 'row': row, 'about': about})
+        return {'name': name, 'told': told, 'fault': ''}
+    except Fault as fault:
+        return {'name': name, 'told': [], 'fault': str(fault)}
+
+
+def changes_of(expected: tuple[str, str] | None) -> list[dict]:
+    """The changes of a file of expectations, to be made by a button."""
+    if expected is None:
+        return []
+    try:
+        parts = expectations.parts_of(expected[1], expected[0])
+    except Fault:
+        return []
+    return [{'about': part.name if not part.name.startswith('change ') else '', 'replace': part.replace}
+            for part in parts if part.replace]
+
+
+def sums(done: Finished) -> dict:
+    """The tables of tools/summary."""
+    motes, net, links = summary(done.run)
+    return {
+        'motes': [list(net), *(list(row.values()) for row in [*motes, net])],
+        'links': [LINK_NAMES, *(list(row.values()) for row in links[:MOST_LINKS])], 'more': max(0, len(links) - MOST_LINKS),
+    }
+
+
+def is_toml(text: str) -> bool:
+    try:
+        Scenario.parse(text)
+        tomllib.loads(text)
+    except (ScenarioFault, tomllib.TOMLDecodeError, RecursionError):
+        return False
+    return True

@@ -1,0 +1,90 @@
+"""Opens a page in which a protocol is written, run and seen at once: tools/studio [FILE.toml]
+
+The page is served on this machine alone. Without FILE it opens the first of the examples. Ctrl-C ends it.
+docs/use/STUDIO.md says what one can do there.
+"""
+from __future__ import annotations
+
+import argparse
+import contextlib
+import os
+import sys
+import tempfile
+import webbrowser
+from collections.abc import Iterator
+from pathlib import Path
+
+from motesim.faults import Fault, command, in_words
+from motesim.run import program_path
+from motesim.studio.desk import Desk
+from motesim.studio.runs import Limits, Runs
+from motesim.studio.server import Server
+from motesim.studio.session import Session
+
+NO_EDITOR = "The editor isn't installed (Debian's package libjs-codemirror): the page has a plain text area instead."
+
+
+def has_screen() -> bool:
+    """Whether a browser of its own window can be opened; one of the terminal would take it."""
+    return sys.platform in ('darwin', 'win32') or bool(os.environ.get('DISPLAY') or os.environ.get('WAYLAND_DISPLAY'))
+
+
+@contextlib.contextmanager
+def opened(address: str, wanted: bool) -> Iterator[None]:
+    """Opens the page by a file that only this user can read: others see the words with which a browser is started."""
+    if not (wanted and has_screen()):
+        yield
+        return
+    with tempfile.TemporaryDirectory(prefix='motesim-studio-') as room:
+        page = Path(room, 'open.html')
+        page.write_text('<!DOCTYPE html><meta http-equiv="refresh" content="0; url=%s">' % address)
+        with contextlib.suppress(webbrowser.Error):
+            webbrowser.open(page.as_uri())
+        yield
+
+
+def positive(word: str) -> int:
+    number = int(word)
+    if number < 1:
+        raise argparse.ArgumentTypeError('%s is not at least 1' % word)
+    return number
+
+
+def serve(server: Server, is_open: bool) -> None:
+    """Serves until Ctrl-C."""
+    print(server.address, flush=True)
+    if not server.session.has_editor:
+        print('studio: ' + NO_EDITOR, file=sys.stderr, flush=True)
+    with opened(server.address, is_open), contextlib.suppress(KeyboardInterrupt):
+        server.serve_forever(poll_interval=0.2)
+
+
+@command('studio')
+def main() -> int:
+    words = argparse.ArgumentParser(prog='tools/studio', description=__doc__,
+                                    formatter_class=argparse.RawDescriptionHelpFormatter)
+    words.add_argument('file', nargs='?', metavar='FILE.toml', help='a scenario; where it is not there, a new one')
+    words.add_argument('--no-open', action='store_true', help='print the address, and open no browser')
+    usual = Limits()
+    words.add_argument('--seconds', type=positive, default=usual.seconds, metavar='N',
+                       help='how long a run may take (%(default)s)')
+    words.add_argument('--memory', type=positive, default=usual.memory, metavar='N',
+                       help='how many megabytes of memory a run may take (%(default)s)')
+    words.add_argument('--report', type=positive, default=usual.output, metavar='N',
+                       help='how many megabytes of report a run may write (%(default)s)')
+    asked = words.parse_args()
+    program_path()
+    runs = Runs(Limits(asked.seconds, asked.memory, asked.report))
+    session = Session(Desk(asked.file), runs)
+    session.desk.first()
+    try:
+        server = Server(session)
+    except OSError as fault:
+        raise Fault('no page can be served: %s' % in_words(fault)) from None
+    with server:
+        try:
+            serve(server, not asked.no_open)
+        finally:
+            runs.ask()
+    print('studio: ended', file=sys.stderr)
+    return 0

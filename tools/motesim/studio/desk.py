@@ -1,0 +1,216 @@
+"""The files of the studio: what it may read and write, and nothing else.
+
+It reads scenarios in the folder of the file that it was started with, and the examples. It writes the file that it
+was started with, and new ones that are named in the page. A file that changed elsewhere since it was read is
+written only where that was asked for.
+"""
+from __future__ import annotations
+
+import hashlib
+import os
+import re
+from pathlib import Path
+from typing import NamedTuple
+
+from motesim.faults import Fault, in_words
+from motesim.run import TOP
+
+LONGEST = 1_048_576
+NAME = re.compile(r'[A-Za-z0-9_][A-Za-z0-9_. -]{0,80}\.toml')
+MARK = '\ufeff'
+FIRST = '''# A scenario: which motes there are, where they stand, what they run, and how the radio carries their packets.
+version = 1
+end = 60
+[medium]
+range = 10
+base = 2
+per = 100
+[programs]
+hello = \'\'\'
+process hello;
+autostart hello;
+receiver hello;
+code hello {
+  etimer t;
+  body {
+    if (self == 0) {
+      set t 10;
+    }
+    while 1 {
+      yield;
+      if fired(t) {
+        send 1;
+        reset t;
+      }
+      if is(packet) {
+        print data;
+      }
+    }
+  }
+}
+\'\'\'
+[[mote]]
+x = 0
+y = 0
+program = "hello"
+[[mote]]
+x = 8
+y = 0
+program = "hello"
+'''
+
+
+class Changed(Fault):
+    """A file isn't as it was when it was read."""
+
+
+class Document(NamedTuple):
+    """A text with how its file was written: a stamp of its bytes (empty where it isn't there), line ends and mark."""
+    where: str
+    name: str
+    text: str
+    stamp: str
+    returns: bool = False
+    mark: bool = False
+
+
+def stamp_of(data: bytes | None) -> str:
+    return '' if data is None else hashlib.sha256(data).hexdigest()
+
+
+def bytes_of(text: str, returns: bool, mark: bool) -> bytes:
+    """A text as its file has it."""
+    written = text.replace('\n', '\r\n') if returns else text
+    return ((MARK if mark else '') + written).encode('utf-8')
+
+
+def document(where: str, name: str, data: bytes) -> Document:
+    """A file's text with plain line ends, where all of them are CR and LF."""
+    try:
+        text = data.decode('utf-8')
+    except UnicodeDecodeError:
+        raise Fault('%s is not UTF-8' % name) from None
+    mark, text = text.startswith(MARK), text.removeprefix(MARK)
+    returns = '\r\n' in text and text.count('\r\n') == text.count('\n') == text.count('\r')
+    return Document(where, name, text.replace('\r\n', '\n') if returns else text, stamp_of(data), returns, mark)
+
+
+class Desk:
+    """The folder and the file that the studio was started with, and the examples."""
+
+    def __init__(self, named: str | Path | None, examples: Path = TOP / 'examples'):
+        self.examples = examples.resolve()
+        path = Path(named).resolve() if named else None
+        self.folder = path.parent if path else Path.cwd().resolve()
+        self.mine = path.name if path else None
+        self.written = {self.mine} if path else set()
+        if path and path.is_dir():
+            raise Fault('%s is a folder; give the studio a scenario, NAME.toml' % named)
+        if path and not self.folder.is_dir():
+            raise Fault('%s: there is no folder %s' % (named, self.folder))
+        if path and not NAME.fullmatch(path.name):
+            raise Fault('%s: the studio opens scenarios, NAME.toml' % named)
+
+    def folder_of(self, where: str) -> Path:
+        if where not in ('folder', 'example'):
+            raise Fault('there is no place %s' % where)
+        return self.examples if where == 'example' else self.folder
+
+    def names(self, where: str) -> list[str]:
+        """The scenarios of a folder."""
+        try:
+            names = os.listdir(self.folder_of(where))
+        except OSError:
+            return []
+        return sorted(name for name in names if NAME.fullmatch(name) and not name.endswith('.expect.toml'))
+
+    def path(self, where: str, name: str) -> Path:
+        """The path of a file that may be read: it stands in its folder itself, and isn't a link to elsewhere."""
+        folder = self.folder_of(where)
+        path = folder / name
+        if not NAME.fullmatch(name) or path.resolve() != path:
+            raise Fault('%s is no scenario of this folder' % name)
+        return path
+
+    def data(self, path: Path) -> bytes | None:
+        """The bytes of a file, or None where it isn't there."""
+        try:
+            with open(path, 'rb') as file:
+                data = file.read(LONGEST + 1)
+        except FileNotFoundError:
+            return None
+        except OSError as fault:
+            raise Fault(in_words(fault)) from None
+        if len(data) > LONGEST:
+            raise Fault('%s is longer than %d bytes, as a scenario may be' % (path.name, LONGEST))
+        return data
+
+    def read(self, where: str, name: str) -> Document:
+        data = self.data(self.path(where, name))
+        if data is None:
+            if where == 'folder' and name == self.mine:
+                return Document(where, name, FIRST, '')
+            raise Fault('%s is not there' % name)
+        return document(where, name, data)
+
+    def first(self) -> Document:
+        """What the page opens on: the file that was named, or else the first example of docs/use/EXAMPLES.md."""
+        return self.read('folder', self.mine) if self.mine else self.read('example', 'flooding.toml')
+
+    def stamp(self, where: str, name: str) -> str:
+        """The stamp of a file as it is now."""
+        return stamp_of(self.data(self.path(where, name)))
+
+    def expectations(self, where: str, name: str) -> tuple[str, str] | None:
+        """The name and the text of the expectations beside a scenario."""
+        name = name.removesuffix('.toml') + '.expect.toml'
+        data = self.data(self.path(where, name))
+        return None if data is None else (name, document(where, name, data).text)
+
+    def may_save(self, document: dict) -> bool:
+        return document['where'] == 'folder' and document['name'] in self.written
+
+    def save(self, document: dict, over: bool = False) -> str:
+        """Writes a document into its file, and gives the stamp of what is there now."""
+        name = document['name']
+        if not self.may_save(document):
+            raise Fault('the studio writes only the file that it was started with, or a new one that is named')
+        path = self.path('folder', name)
+        if not over and stamp_of(self.data(path)) != document['stamp']:
+            raise Changed('%s was changed elsewhere since it was read here' % name)
+        data = bytes_of(document['text'], document['returns'], document['mark'])
+        self.write(path, data)
+        return stamp_of(data)
+
+    def save_new(self, document: dict, name: str) -> str:
+        """Writes a document into a new file of the folder, from which on it may be saved there."""
+        name = name if name.endswith('.toml') else name + '.toml'
+        path = self.path('folder', name)
+        if name.endswith('.expect.toml'):
+            raise Fault('%s is a name of expectations, and not of a scenario' % name)
+        if path.exists() and name not in self.written:
+            raise Fault('%s is there already; choose another name' % name)
+        self.written.add(name)
+        if path.exists():
+            return self.save({**document, 'where': 'folder', 'name': name})
+        data = bytes_of(document['text'], document['returns'], document['mark'])
+        self.write(path, data)
+        return stamp_of(data)
+
+    def write(self, path: Path, data: bytes) -> None:
+        """Puts a file in its place whole, or not at all."""
+        if len(data) > LONGEST:
+            raise Fault('the text is longer than %d bytes, as a scenario may be' % LONGEST)
+        scratch = path.with_name('.%s.%d.studio' % (path.name, os.getpid()))
+        try:
+            mode = path.stat().st_mode & 0o777 if path.exists() else None
+            with open(scratch, 'wb') as file:
+                file.write(data)
+                file.flush()
+                os.fsync(file.fileno())
+            if mode is not None:
+                scratch.chmod(mode)
+            os.replace(scratch, path)
+        except OSError as fault:
+            scratch.unlink(missing_ok=True)
+            raise Fault('%s was not written: %s' % (path.name, fault.strerror)) from None

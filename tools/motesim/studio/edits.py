@@ -1,0 +1,200 @@
+"""Changes of a scenario's text that the map asks for. All else in the text stays: comments, order and layout.
+
+    changes, said = edit(text, {'what': 'move', 'mote': 3, 'x': 10, 'y': 20})
+    text = applied(text, changes)
+
+The text is read before and after: an edit that would change anything else, or not what was asked for, is refused.
+"""
+from __future__ import annotations
+
+import copy
+import tomllib
+from typing import NamedTuple
+
+from motesim.faults import Fault
+from motesim.scenario_faults import Place, places, value_of
+
+MOST_PLACE, MOST_MOTES, MOST_EVERY = 30_000, 1_000, 1_000_000
+
+
+class Change(NamedTuple):
+    """A stretch of the text, from offset to offset, and what stands there instead."""
+    begin: int
+    end: int
+    text: str
+
+
+def applied(text: str, changes: list[Change]) -> str:
+    """The text with the changes, which don't overlap."""
+    for change in sorted(changes, reverse=True):
+        text = text[:change.begin] + change.text + text[change.end:]
+    return text
+
+
+class Text:
+    """A scenario's text with the places of its tables."""
+
+    def __init__(self, text: str):
+        self.text = text
+        try:
+            self.tables = tomllib.loads(text)
+        except (tomllib.TOMLDecodeError, RecursionError):
+            raise Fault('The text has a fault. Mend it first; then the map can change it.') from None
+        self.rows = text.split('\n')
+        self.places = places(text)
+        self.begins = [0]
+        for row in self.rows:
+            self.begins.append(self.begins[-1] + len(row) + 1)
+        self.headers = sorted({place.line for path, place in self.places.items()
+                               if self.rows[place.line - 1].lstrip().startswith('[')})
+
+    def offset(self, place: Place) -> int:
+        return self.begins[place.line - 1] + place.column
+
+    def members(self, name: str) -> list:
+        members = self.tables.get(name, [])
+        return members if type(members) is list else []
+
+    def lines(self, name: str, index: int) -> tuple[int, int]:
+        """The lines of a table `[[name]]`, from its header to its last key: first, behind the last, from 0."""
+        place = self.places.get((name, index))
+        if place is None or not self.rows[place.line - 1].lstrip().startswith('[['):
+            raise Fault('%s %d does not stand in the text as a table [[%s]] of its own, so the map cannot change it.'
+                        % (name, index, name))
+        behind = next((line - 1 for line in self.headers if line > place.line), len(self.rows))
+        last = max(it.line for path, it in self.places.items() if path[:2] == (name, index) and it.line <= behind)
+        return place.line - 1, last
+
+    def number(self, path: tuple, number: int) -> Change:
+        """Puts a number in the place of the one behind a key."""
+        key = self.places.get(path)
+        value = value_of(self.text, key) if key else None
+        if value is None or value == key:
+            raise Fault('%s of %s %d does not stand in a line of its own, so the map cannot change it.'
+                        % (path[2], path[0], path[1]))
+        return Change(self.offset(value), self.offset(value) + value.length, str(number))
+
+    def without(self, name: str, index: int) -> Change:
+        """Takes a table out, with the blank line that would stand double."""
+        first, behind = self.lines(name, index)
+        if first and behind < len(self.rows) and not self.rows[first - 1].strip() and not self.rows[behind].strip():
+            behind += 1
+        begin, end = self.begins[first], self.begins[behind]
+        if end > len(self.text):
+            return Change(max(begin - 1, 0), len(self.text), '\n' if begin else '')
+        return Change(begin, end, '')
+
+    def behind(self, name: str, table: list[str]) -> Change:
+        """Puts a table behind the last of its name, or at the end of the text."""
+        members = self.members(name)
+        first, behind = self.lines(name, len(members) - 1) if members else (0, len(self.rows))
+        spaced = bool(members) and first > 0 and not self.rows[first - 1].strip()
+        offset = min(self.begins[behind], len(self.text))
+        is_open = offset > 0 and self.text[offset - 1] != '\n'
+        rows = ([''] if spaced else []) + table
+        return Change(offset, offset, ('\n' if is_open else '') + ''.join(row + '\n' for row in rows))
+
+
+def _number(wish: dict, name: str, least: int, most: int) -> int:
+    value = wish.get(name)
+    if type(value) is not int or not least <= value <= most:
+        raise Fault('%s is a whole number, %s to %s' % (name, '{:,}'.format(least), '{:,}'.format(most)))
+    return value
+
+
+def _mote(text: Text, wish: dict, name: str = 'mote') -> int:
+    return _number(wish, name, 0, len(text.members('mote')) - 1)
+
+
+def move(text: Text, wish: dict, wanted: dict) -> tuple[list[Change], str]:
+    """Another place for a mote."""
+    mote = _mote(text, wish)
+    place = {name: _number(wish, name, -MOST_PLACE, MOST_PLACE) for name in ('x', 'y')}
+    wanted['mote'][mote].update(place)
+    changes = [text.number(('mote', mote, name), value) for name, value in place.items()]
+    return changes, 'Mote %d stands at %d, %d.' % (mote, place['x'], place['y'])
+
+
+def add(text: Text, wish: dict, wanted: dict) -> tuple[list[Change], str]:
+    """One mote more, behind the others, so that their numbers stay."""
+    x, y = (_number(wish, name, -MOST_PLACE, MOST_PLACE) for name in ('x', 'y'))
+    program, number = wish.get('program'), len(text.members('mote'))
+    if type(program) is not str or program not in text.tables.get('programs', {}):
+        raise Fault('the scenario has no program %s' % program)
+    if number >= MOST_MOTES:
+        raise Fault('a scenario has at most %s motes' % '{:,}'.format(MOST_MOTES))
+    wanted['mote'].append({'x': x, 'y': y, 'program': program})
+    rows = ['[[mote]]', 'x = %d' % x, 'y = %d' % y, 'program = "%s"' % program]
+    return [text.behind('mote', rows)], 'Mote %d, which runs %s, stands at %d, %d.' % (number, program, x, y)
+
+
+def remove(text: Text, wish: dict, wanted: dict) -> tuple[list[Change], str]:
+    """One mote less. Those behind it get the number before theirs, in the losses too, and its losses go with it."""
+    mote = _mote(text, wish)
+    if len(text.members('mote')) == 1:
+        raise Fault('a scenario has at least one mote')
+    changes, kept, gone = [text.without('mote', mote)], [], 0
+    del wanted['mote'][mote]
+    for index, loss in enumerate(wanted.get('loss', [])):
+        if mote in (loss['from'], loss['to']):
+            changes.append(text.without('loss', index))
+            gone += 1
+            continue
+        for name in ('from', 'to'):
+            if loss[name] > mote:
+                loss[name] -= 1
+                changes.append(text.number(('loss', index, name), loss[name]))
+        kept.append(loss)
+    if 'loss' in wanted:
+        wanted['loss'] = kept
+    said = 'Mote %d is removed' % mote
+    if mote < len(wanted['mote']):
+        said += '; motes behind it are numbered anew'
+    return changes, said + ('; so are its %d losses.' % gone if gone > 1 else '; so is its loss.' if gone else '.')
+
+
+def lose(text: Text, wish: dict, wanted: dict) -> tuple[list[Change], str]:
+    """Which packets are lost on the way from a mote to another: each `every`th, or none for 0."""
+    sender, receiver = _mote(text, wish, 'from'), _mote(text, wish, 'to')
+    every = _number(wish, 'every', 0, MOST_EVERY)
+    if sender == receiver:
+        raise Fault('a loss is between two motes')
+    losses = text.members('loss')
+    found = next((index for index, it in enumerate(losses) if (it['from'], it['to']) == (sender, receiver)), None)
+    way = 'Mote %d to mote %d' % (sender, receiver)
+    if not every:
+        if found is None:
+            return [], way + ' loses nothing.'
+        del wanted['loss'][found]
+        return [text.without('loss', found)], way + ' loses nothing.'
+    said = '%s loses %s.' % (way, 'all packets' if every == 1 else '1 packet in %d' % every)
+    if found is not None:
+        wanted['loss'][found]['every'] = every
+        return [text.number(('loss', found, 'every'), every)], said
+    wanted.setdefault('loss', []).append({'from': sender, 'to': receiver, 'every': every})
+    rows = ['[[loss]]', 'from = %d' % sender, 'to = %d' % receiver, 'every = %d' % every]
+    return [text.behind('loss', rows)], said
+
+
+EDITS = {'move': move, 'add': add, 'remove': remove, 'lose': lose}
+
+
+def edit(source: str, wish: dict) -> tuple[list[Change], str]:
+    """The changes that an edit takes, and what it does in words."""
+    text = Text(source)
+    if wish.get('what') not in EDITS:
+        raise Fault('there is no edit %s' % wish.get('what'))
+    wanted = copy.deepcopy(text.tables)
+    try:
+        changes, said = EDITS[wish['what']](text, wish, wanted)
+    except (KeyError, TypeError, AttributeError, IndexError):
+        raise Fault('The text has a fault. Mend it first; then the map can change it.') from None
+    try:
+        got = tomllib.loads(applied(source, changes))
+    except tomllib.TOMLDecodeError:
+        got = None
+    if not wanted.get('loss', True):
+        del wanted['loss']
+    if got != wanted:
+        raise Fault('The text is written in a way that the map cannot change; change it by hand.')
+    return changes, said

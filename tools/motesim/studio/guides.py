@@ -1,0 +1,94 @@
+"""What to look at in an example and what to try: from the comment above it and from docs/use/EXAMPLES.md."""
+from __future__ import annotations
+
+import re
+from pathlib import Path
+
+from motesim.run import TOP
+
+PAGE = TOP / 'docs/use/EXAMPLES.md'
+LINK = re.compile(r'\[([^]]*)\]\([^)]*\)')
+
+
+def comment_of(text: str) -> list[str]:
+    """The paragraphs of the comment at the head of a scenario."""
+    rows = []
+    for row in text.split('\n'):
+        if not row.startswith('#'):
+            break
+        rows.append(row.lstrip('#').strip())
+    return [it for it in re.split(r'\s*(?=Look at:)|\n\n', ' '.join(rows).strip()) if it]
+
+
+def sections(page: str) -> dict[str, list[str]]:
+    """The lines of each section, by each of the scenarios that its title names."""
+    found: dict[str, list[str]] = {}
+    names: list[str] = []
+    for row in page.split('\n'):
+        if row.startswith('## '):
+            names = re.findall(r'[a-z_]+\.toml', row)
+            found.update({name: [] for name in names})
+        else:
+            for name in names:
+                found[name].append(row)
+    return found
+
+
+def blocks(rows: list[str]) -> list[dict]:
+    """Paragraphs and pieces of code. A paragraph that begins with *Try:* is a task."""
+    found: list[dict] = []
+    open_text: list[str] = []
+    code: list[str] | None = None
+
+    def close() -> None:
+        text = LINK.sub(r'\1', ' '.join(open_text)).strip()
+        open_text.clear()
+        if text:
+            is_task = text.startswith('*Try:*')
+            found.append({'kind': 'task' if is_task else 'text', 'text': text.removeprefix('*Try:*').strip()})
+
+    for row in rows:
+        if row.startswith('```'):
+            close()
+            if code is not None:
+                found.append({'kind': 'code', 'text': '\n'.join(code)})
+            code = [] if code is None else None
+        elif code is not None:
+            code.append(row)
+        elif row.strip():
+            open_text.append(row.strip())
+        else:
+            close()
+    close()
+    return found
+
+
+def shows(page: str, name: str) -> str:
+    """What the table of small examples says of one."""
+    found = re.search(r'^\| `%s` \| (.*?) \|$' % re.escape(name), page, re.M)
+    return found[1] if found else ''
+
+
+def guide(name: str, text: str, page: Path = PAGE) -> list[dict]:
+    """What stands beside an example."""
+    try:
+        source = page.read_text(encoding='utf-8')
+    except OSError:
+        source = ''
+    rows = sections(source).get(name, [])
+    told = [{'kind': 'look' if it.startswith('Look at:') else 'text', 'text': it.removeprefix('Look at:').strip()}
+            for it in comment_of(text)]
+    of_page = blocks(rows)
+    tasks = [it for it in of_page if it['kind'] == 'task']
+    return told + tasks + [it for it in of_page if it['kind'] != 'task']
+
+
+def title(name: str, page: Path = PAGE) -> str:
+    """One line on an example, for the list."""
+    try:
+        source = page.read_text(encoding='utf-8')
+    except OSError:
+        return ''
+    stem = name.removesuffix('.toml')
+    found = re.search(r'^\| \[[^]]*\b%s\b[^]]*\]\([^)]*\) \| [0-9]+ \| (.*?) \|$' % re.escape(stem), source, re.M)
+    return found[1] if found else shows(source, name)

@@ -1,0 +1,135 @@
+// Files: opening, saving, and the page of the run as one file.
+
+const isDirty = () => studio.document && editor.text !== studio.saved;
+
+/** Shows a document that the server has read. */
+function take(opened) {
+  studio.document = opened.document;
+  studio.saved = opened.document.text;
+  studio.maySave = opened.may_save;
+  studio.fresh = true;
+  editor.set(opened.document.text);
+  nameDocument();
+  showGuide(opened);
+  unsay('changed');
+  unsay('refused');
+  unpin();
+  runNow();
+}
+
+function nameDocument() {
+  const {where, name} = studio.document;
+  byId('open').value = `${where} ${name}`;
+  document.title = `${isDirty() ? '• ' : ''}${name} – motesim studio`;
+  byId('save').disabled = !isDirty() && studio.document.stamp !== '';
+}
+
+function fillOpen({examples, files, document: {where, name}}) {
+  const box = byId('open');
+  const group = (label, items) => {
+    const made = element('optgroup', '', items);
+    made.label = label;
+    return made;
+  };
+  const option = (place, file, title) => {
+    const made = element('option', title ? `${file.replace(/\.toml$/, '')} – ${title}` : file);
+    made.value = `${place} ${file}`;
+    return made;
+  };
+  const inFolder = where === 'folder' && !files.includes(name) ? [name, ...files] : files;
+  box.replaceChildren();
+  if (inFolder.length) box.append(group('This folder', inFolder.map(file => option('folder', file))));
+  const orders = ['flooding', 'trickle', 'neighbours', 'collection_tree', 'tdma', 'tdma_without_slots', 'leader_ring', 'small_network'];
+  const rank = it => (orders.indexOf(it.name.replace('.toml', '')) + 100) % 100;
+  const sorted = [...examples].sort((a, b) => rank(a) - rank(b));
+  box.append(group('Examples', sorted.map(it => option('example', it.name, it.title))));
+}
+
+async function openChosen() {
+  const [where, ...rest] = byId('open').value.split(' '), name = rest.join(' ');
+  if (isDirty()) {
+    const [answer] = await question(`What you changed in ${studio.document.name} is not saved.`, ['Open without saving', 'Stay']);
+    if (answer !== 'Open without saving') return nameDocument();
+  }
+  await attempt(async () => take(await ask('open', {where, name})));
+}
+
+/** Does something of which the server may say that it can't be done. */
+async function attempt(work) {
+  try {
+    unsay('refused');
+    return await work();
+  } catch (fault) {
+    if (fault instanceof Refused) say('refused', fault.message); else if (!(fault instanceof Lost)) throw fault;
+    return null;
+  }
+}
+
+async function save(over = false) {
+  if (!studio.maySave) return saveAs();
+  const text = editor.text, said = await attempt(() => ask('save', {...studio.document, text, over}));
+  if (!said) return;
+  if (said.changed) return askOver(said.changed);
+  wrote(said, text);
+}
+
+function wrote({stamp, name, where}, text) {
+  studio.document = {...studio.document, stamp, name, where};
+  studio.saved = text;
+  studio.maySave = true;
+  unsay('changed');
+  if (!byId('open').querySelector(`option[value="${CSS.escape(`folder ${name}`)}"]`)) {
+    const made = element('option', name);
+    made.value = `folder ${name}`;
+    let group = byId('open').querySelector('optgroup[label="This folder"]');
+    if (!group) {
+      group = element('optgroup');
+      group.label = 'This folder';
+      byId('open').prepend(group);
+    }
+    group.append(made);
+  }
+  nameDocument();
+  showState('good', `saved as ${name}`);
+}
+
+async function askOver(words) {
+  const [answer] = await question(`${words}. Which text shall stay?`, ['Write mine over it', 'Read the other', 'Neither']);
+  if (answer === 'Write mine over it') return save(true);
+  const {where, name} = studio.document;
+  if (answer === 'Read the other') await attempt(async () => take(await ask('open', {where, name})));
+}
+
+async function saveAs() {
+  const {name} = studio.document, wish = studio.maySave ? name.replace(/\.toml$/, '_2.toml') : `my_${name}`;
+  const [answer, written] = await question(`A new file, in ${studio.folder}:`, ['Save', 'Leave it'], wish);
+  if (answer !== 'Save' || !written.trim()) return;
+  const text = editor.text, said = await attempt(() => ask('save', {...studio.document, text, new: written.trim()}));
+  if (said && said.changed) return say('refused', said.changed);
+  if (said) wrote(said, text);
+}
+
+/** Hands the reader the page of the run that is shown. */
+async function exportPage() {
+  const {name} = studio.document;
+  const page = await attempt(() => ask('export', {number: studio.number, title: name}));
+  if (!page) return;
+  const link = element('a');
+  link.href = URL.createObjectURL(new Blob([page], {type: 'text/html'}));
+  link.download = name.replace(/\.toml$/, '.html');
+  link.click();
+  setTimeout(() => URL.revokeObjectURL(link.href), 10000);
+}
+
+/** What the beat tells: whether the file was changed elsewhere. */
+function lookedAt({stamp}, asked) {
+  const it = studio.document;
+  if (!it || asked.name !== it.name || asked.where !== it.where) return;
+  if (stamp === null || stamp === it.stamp || studio.knownStamp === stamp) return;
+  studio.knownStamp = stamp;
+  if (stamp === '') return;
+  say('changed', `${it.name} was changed elsewhere.`, [['Read it', () => attempt(async () => {
+    unsay('changed');
+    take(await ask('open', {where: it.where, name: it.name}));
+  })], ['Keep mine', () => unsay('changed')]]);
+}

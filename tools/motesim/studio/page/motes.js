@@ -1,0 +1,155 @@
+// The map as a place to change the scenario: motes are moved, added and removed, and ways lose packets. What is done there
+// changes the text, which stays what counts.
+const ground = {adding: false, way: null, held: null};
+
+/** Asks for a change of the text, and makes it. */
+async function editText(edit) {
+  const text = editor.text;
+  try {
+    const {changes, said} = await ask('edit', {text, edit});
+    if (editor.text !== text) throw new Refused('The text was changed meanwhile; do it once more.');
+    byId('map-said').textContent = said;
+    if (changes.length) {
+      editor.apply(changes);
+      runNow();
+    }
+    return true;
+  } catch (fault) {
+    restoreMotes();
+    if (fault instanceof Refused) say('refused', fault.message); else if (!(fault instanceof Lost)) throw fault;
+    return false;
+  }
+}
+
+/** The motes stand again where the run has them. */
+function restoreMotes() {
+  const map = maps[0];
+  if (!map) return;
+  if (ground.held) map.run.places[ground.held.mote] = ground.held.place;
+  ground.held = null;
+  findHearers(map.run);
+  map.take(map.run);
+  map.resize();
+  redraw();
+}
+
+const groundEdits = {
+  hold(x, y) {
+    const map = maps[0];
+    return ground.adding || !map.run.places ? -1 : map.moteNear(x, y);
+  },
+
+  /** The mote follows the pointer; who hears it is shown anew. */
+  drag(mote, x, y) {
+    const map = maps[0], {run} = map;
+    if (!ground.held) ground.held = {mote, place: run.places[mote]};
+    [map.xs[mote], map.ys[mote]] = map.shownAt(x, y);
+    run.places[mote] = map.placeAt(x, y);
+    if (run.begins.length <= 400) findHearers(run);
+    map.still = null;
+    byId('map-said').textContent = `Mote ${mote} to ${run.places[mote].join(', ')}`;
+    redraw();
+  },
+
+  drop(mote, x, y) {
+    this.drag(mote, x, y);
+    const [toX, toY] = maps[0].run.places[mote];
+    editText({what: 'move', mote, x: toX, y: toY});
+  },
+
+  /** A click: a new mote where one is wanted, else the way between two motes. */
+  click(x, y, mote) {
+    const map = maps[0];
+    if (ground.adding) {
+      setAdding(false);
+      const [toX, toY] = map.placeAt(x, y);
+      editText({what: 'add', x: toX, y: toY, program: programNear(map, x, y)});
+      return true;
+    }
+    if (mote >= 0) return false;
+    showWay(map.linkNear(x, y));
+    return true;
+  },
+};
+
+/** The program of the mote that stands nearest. */
+function programNear(map, x, y) {
+  const {run} = map;
+  let best = Infinity, found = 0;
+  for (let m = 0; m < run.begins.length; m++) {
+    const away = Math.hypot(map.x(m) - x, map.y(m) - y);
+    if (away < best) {
+      best = away;
+      found = m;
+    }
+  }
+  return run.programs[run.begins[found]];
+}
+
+function setAdding(isAdding) {
+  ground.adding = isAdding;
+  byId('add').setAttribute('aria-pressed', String(isAdding));
+  maps[0].canvas.style.cursor = isAdding ? 'crosshair' : '';
+  if (isAdding) byId('map-said').textContent = 'Click on the map where the new mote shall stand.';
+}
+
+/** Delay and losses between two motes, in both directions. */
+function showWay(way) {
+  const box = byId('way'), {run} = maps[0];
+  ground.way = way;
+  box.hidden = !way;
+  redraw();
+  if (!way) return;
+  const [s, r] = way;
+  const close = makeButton('×', () => showWay(null));
+  close.setAttribute('aria-label', 'Close');
+  box.replaceChildren(element('h3', '', [element('span', `Mote ${s} and mote ${r}`), close]), wayOf(run, s, r), wayOf(run, r, s));
+}
+
+function wayOf(run, s, r) {
+  const every = run.lossOf.get(s * 65536 + r), lost = run.troubled.get(s * 65536 + r), box = element('p');
+  const input = Object.assign(element('input'), {type: 'number', min: 0, max: 1000000, value: every || '', placeholder: 'none'});
+  const label = element('label', '', ['loses 1 in ', input]);
+  input.setAttribute('aria-label', `Which packets are lost from mote ${s} to mote ${r}: 1 in so many; empty for none`);
+  input.dataset.way = `${s} ${r}`;
+  input.addEventListener('change', () => editText({what: 'lose', from: s, to: r, every: Math.floor(Number(input.value)) || 0}));
+  box.append(`${s} → ${r}: after ${count(delayOf(run, s, r), 'moment')}, `, label);
+  if (lost) box.append(element('br'), [['lost', 0], ['collided', 1], ['found no room', 2]].filter(([, i]) => lost[i])
+    .map(([name, i]) => `${lost[i]} ${name}`).join(', ') + ' in this run');
+  return box;
+}
+
+/** On the map: the way that is selected. */
+mapOverlays.push(map => {
+  const {way} = ground;
+  if (!way || Math.max(...way) >= map.run.begins.length) return;
+  const [s, r] = way, c = map.context;
+  c.save();
+  c.globalAlpha = 0.55;
+  path(c, [map.x(s), map.y(s), map.x(r), map.y(r)]);
+  stroke(c, colours.mark, 5);
+  c.restore();
+});
+
+/** After a run: the map can be changed, and what is shown of a way is of this run. */
+function beginMotes() {
+  const map = maps[0];
+  map.edits = map.run.places ? groundEdits : null;
+  ground.held = null;
+  const {way} = ground;
+  if (way && document.activeElement && byId('way').contains(document.activeElement)) {
+    const name = document.activeElement.dataset.way;
+    showWay(Math.max(...way) < map.run.begins.length ? way : null);
+    const again = byId('way').querySelector(`[data-way="${name}"]`);
+    if (again) again.focus();
+  } else showWay(way && Math.max(...way) < map.run.begins.length && map.run.hearers[way[0]].includes(way[1]) ? way : null);
+}
+
+/** The button for the mote that is selected. */
+function nameRemove() {
+  const button = byId('remove'), mote = chosen ? chosen.mote : -1;
+  button.disabled = mote < 0 || panes[0].run.begins.length < 2;
+  const name = mote < 0 ? 'Remove the mote' : `Remove mote ${mote}`;
+  if (button.textContent !== name) button.textContent = name;
+}
+overlays.push(nameRemove);

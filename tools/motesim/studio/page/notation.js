@@ -1,0 +1,66 @@
+// The colours of a scenario's text: TOML by the editor's own mode, and within its texts the notation of programs. What a
+// statement does has the colour that it has on the lanes.
+const NOTATION = {
+  send: ['send'], print: ['print'], recv: ['packet', 'receiver', 'from', 'data'],
+  timer: ['etimer', 'ctimer', 'set', 'reset', 'restart_timer', 'stop', 'fired', 'expired', 'timer'],
+  keyword: ['event', 'semaphore', 'process', 'autostart', 'code', 'var', 'thread', 'onpoll', 'onexit', 'body', 'if',
+    'else', 'while', 'wait_until', 'wait_while', 'yield', 'yield_until', 'spawn', 'restart', 'exit', 'pause', 'acquire',
+    'signal', 'post', 'broadcast', 'synch', 'poll', 'start', 'kill', 'into', 'continue', 'msg', 'com', 'init', 'exited',
+    'now', 'self', 'is', 'gone', 'running', 'count'],
+};
+const DECLARES = ['event', 'semaphore', 'process', 'code', 'var', 'etimer', 'ctimer', 'thread'];
+const STYLE_OF = new Map(Object.entries(NOTATION).flatMap(([style, words]) => words.map(word => [word, style])));
+
+/** One word or sign of a program. */
+function notationToken(stream, state) {
+  if (stream.eatSpace()) return null;
+  if (stream.match('//')) {
+    // (a program on one line of TOML ends with its quote)
+    if (state.quote.length > 1) stream.skipToEnd(); else while (!stream.eol() && stream.peek() !== state.quote)
+      stream.next();
+    return 'comment';
+  }
+  const word = stream.match(/^[A-Za-z0-9_]+/);
+  if (word) {
+    const before = state.before;
+    state.before = word[0];
+    if (/^[0-9]/.test(word[0])) return /^(0|[1-9][0-9]*)$/.test(word[0]) ? 'number' : 'error';
+    if (DECLARES.includes(before)) return 'def';
+    return STYLE_OF.get(word[0]) || (/[A-Z]/.test(word[0]) ? 'error' : 'variable');
+  }
+  const sign = stream.next();
+  state.before = sign;
+  if (sign === '{') state.depth++;
+  if (sign === '}') state.depth = Math.max(0, state.depth - 1);
+  return '{}();,=!+-*/%<>&|'.includes(sign) ? 'operator' : 'error';
+}
+
+function defineMode() {
+  CodeMirror.defineMode('motes', config => {
+    const toml = CodeMirror.getMode(config, 'toml');
+    return {
+      startState: () => ({toml: CodeMirror.startState(toml), quote: '', before: '', depth: 0}),
+      copyState: state => ({...state, toml: CodeMirror.copyState(toml, state.toml)}),
+      token(stream, state) {
+        if (state.quote) {
+          if (stream.match(state.quote)) {
+            state.quote = '';
+            return 'string';
+          }
+          return notationToken(stream, state);
+        }
+        const opens = stream.match(/^("""|''')/) || stream.match(/^["'](?=\s*(event|semaphore|process)\b)/);
+        if (opens) {
+          Object.assign(state, {quote: opens[0], before: '', depth: 0});
+          return 'string';
+        }
+        return toml.token(stream, state.toml);
+      },
+      indent(state, after) {
+        if (!state.quote) return 0;
+        return Math.max(0, state.depth - (/^\s*\}/.test(after) ? 1 : 0)) * config.indentUnit;
+      },
+      electricInput: /^\s*\}$/, lineComment: '//',
+    };
+  });
+}

@@ -1,0 +1,201 @@
+"""Serves the studio's page on this machine alone, to those who have its address.
+
+The address has a random token. A request without it, with another `Host`, or from a page of another origin gets the
+status 403 and nothing else.
+"""
+from __future__ import annotations
+
+import contextlib
+import functools
+import hmac
+import json
+import secrets
+import socket
+import sys
+from http.server import BaseHTTPRequestHandler, ThreadingHTTPServer
+from pathlib import Path
+
+from motesim.faults import Fault
+from motesim.studio.session import HTML, JSON, Answered, Session, told
+from motesim.timeline import PAGE as TIMELINE
+from motesim.timeline import SHARED
+
+PAGE = Path(__file__).resolve().parent / 'page'
+CODEMIRROR = Path('/usr/share/javascript/codemirror')
+# The page's own scripts, behind those that it shares with the pages of tools/timeline.
+SCRIPTS = ['link.js', 'notation.js', 'editor.js', 'difference.js', 'checks.js', 'guide.js', 'steps.js', 'motes.js',
+           'files.js', 'studio.js']
+# What is taken of Debian's package libjs-codemirror.
+EDITOR = ['lib/codemirror.js', 'lib/codemirror.css', 'mode/toml/toml.js', 'addon/edit/matchbrackets.js',
+          'addon/edit/closebrackets.js', 'addon/dialog/dialog.js', 'addon/dialog/dialog.css',
+          'addon/search/searchcursor.js', 'addon/search/search.js', 'addon/search/jump-to-line.js',
+          'addon/selection/active-line.js', 'addon/comment/comment.js']
+KINDS = {'.js': 'text/javascript; charset=utf-8', '.css': 'text/css; charset=utf-8'}
+LONGEST_QUESTION = 8 << 20
+HEADERS = {
+    'Cache-Control': 'no-store', 'Referrer-Policy': 'no-referrer', 'X-Content-Type-Options': 'nosniff',
+    'X-Frame-Options': 'DENY', 'Cross-Origin-Resource-Policy': 'same-origin', 'Cross-Origin-Opener-Policy': 'same-origin',
+    'Content-Security-Policy': "default-src 'none'; script-src 'self'; style-src 'self' 'unsafe-inline'; "
+                               "img-src 'self' data: blob:; connect-src 'self'; base-uri 'none'; form-action 'none'; "
+                               "frame-ancestors 'none'",
+}
+
+
+def has_editor(codemirror: Path | None) -> bool:
+    return codemirror is not None and all((codemirror / name).is_file() for name in EDITOR)
+
+
+@functools.cache
+def script() -> bytes:
+    """All scripts of the page as one, in which they share their names."""
+    parts = [(TIMELINE / name).read_text() for name in SHARED] + [(PAGE / name).read_text() for name in SCRIPTS]
+    return ("(() => {\n'use strict';\n%s\n})();\n" % '\n'.join(parts)).encode('utf-8')
+
+
+@functools.cache
+def style() -> bytes:
+    return ((TIMELINE / 'page.css').read_text() + (PAGE / 'studio.css').read_text()).encode('utf-8')
+
+
+class Handler(BaseHTTPRequestHandler):
+    """Answers one request."""
+    protocol_version = 'HTTP/1.1'
+    server_version = 'motesim'
+    sys_version = ''
+    timeout = 600
+    server: Server
+
+    def log_message(self, *_: object) -> None:
+        """Says nothing: the address, with its token, belongs on no terminal a second time."""
+
+    def is_allowed(self) -> bool:
+        """Whether the request has the token, this server's name, and comes from its own page."""
+        served = self.server
+        hosts = {'127.0.0.1:%d' % served.port, 'localhost:%d' % served.port}
+        if self.headers.get('Host') not in hosts or not self.is_tokened():
+            return False
+        origin, mode = self.headers.get('Origin'), self.headers.get('Sec-Fetch-Mode')
+        if origin is not None and origin not in {'http://' + host for host in hosts}:
+            return False
+        site = self.headers.get('Sec-Fetch-Site', 'same-origin')
+        return mode == 'navigate' or site in ('same-origin', 'none')
+
+    def is_tokened(self) -> bool:
+        given = self.path.split('/')[1:2]
+        return bool(given) and hmac.compare_digest(given[0].encode('utf-8', 'replace'), self.server.token.encode())
+
+    def reply(self, status: int, kind: str, data: bytes) -> None:
+        self.send_response(status)
+        self.send_header('Content-Type', kind)
+        self.send_header('Content-Length', str(len(data)))
+        for name, value in HEADERS.items():
+            self.send_header(name, value)
+        self.end_headers()
+        if self.command != 'HEAD':
+            self.wfile.write(data)
+
+    def refuse(self, status: int, why: str) -> None:
+        self.close_connection = True
+        self.reply(status, 'text/plain; charset=utf-8', (why + '\n').encode('utf-8'))
+
+    def do_GET(self) -> None:
+        if not self.is_allowed():
+            return self.refuse(403, 'Not allowed: the address of this page has a token, which tools/studio prints.')
+        found = self.server.file(self.path.split('/', 2)[2] if self.path.count('/') > 1 else None)
+        if found is None:
+            return self.refuse(404, 'There is no such page.')
+        self.reply(200, *found)
+
+    do_HEAD = do_GET
+
+    def do_POST(self) -> None:
+        if not self.is_allowed() or self.headers.get('Content-Type') != JSON:
+            return self.refuse(403, 'Not allowed.')
+        length = self.headers.get('Content-Length', '')
+        if not length.isdecimal() or int(length) > LONGEST_QUESTION:
+            return self.refuse(413, 'The question is too long.')
+        try:
+            asked = json.loads(self.rfile.read(int(length)))
+            if type(asked) is not dict:
+                raise ValueError
+        except (ValueError, RecursionError):
+            return self.refuse(400, 'The question is no JSON.')
+        self.reply_to(self.path.split('/', 2)[-1], asked)
+
+    def reply_to(self, what: str, asked: dict) -> None:
+        try:
+            answered = self.server.session.answer(what, asked)
+        except Fault as fault:
+            answered = told({'refused': str(fault)})
+        except MemoryError:
+            answered = told({'refused': 'the studio is out of memory'})
+        self.reply(200, answered.kind, answered.data)
+
+
+class Server(ThreadingHTTPServer):
+    """The studio's server. Its `address` is to be opened in a browser."""
+    daemon_threads = True
+
+    def __init__(self, session: Session, codemirror: Path | None = CODEMIRROR, port: int = 0, token: str | None = None):
+        self.session = session
+        self.token = token or secrets.token_urlsafe(24)
+        self.codemirror = codemirror if has_editor(codemirror) else None
+        session.has_editor = self.codemirror is not None
+        self.connections: set[socket.socket] = set()
+        super().__init__(('127.0.0.1', port), Handler)
+
+    def process_request(self, request: socket.socket, client_address: object) -> None:
+        self.connections.add(request)
+        super().process_request(request, client_address)
+
+    def shutdown_request(self, request: socket.socket) -> None:
+        self.connections.discard(request)
+        super().shutdown_request(request)
+
+    def server_close(self) -> None:
+        """Ends the connections too, which a browser keeps open."""
+        super().server_close()
+        for connection in list(self.connections):
+            with contextlib.suppress(OSError):
+                connection.shutdown(socket.SHUT_RDWR)
+
+    @property
+    def port(self) -> int:
+        return self.server_address[1]
+
+    @property
+    def address(self) -> str:
+        return 'http://127.0.0.1:%d/%s/' % (self.port, self.token)
+
+    def handle_error(self, request: object, client_address: object) -> None:
+        """A browser that went away is no fault; what else goes wrong is said in one line."""
+        fault = sys.exc_info()[1]
+        if not isinstance(fault, (ConnectionError, TimeoutError)):
+            print('studio: a request failed: %s: %s' % (type(fault).__name__, fault), file=sys.stderr)
+
+    def page(self) -> bytes:
+        """The page, with the editor where it is installed."""
+        text = (PAGE / 'studio.html').read_text()
+        styles = [name for name in EDITOR if name.endswith('.css')] if self.codemirror else []
+        scripts = [name for name in EDITOR if name.endswith('.js')] if self.codemirror else []
+        return text.replace('@STYLES@', '\n'.join('<link rel="stylesheet" href="codemirror/%s">' % it for it in styles)) \
+            .replace('@SCRIPTS@', '\n'.join('<script src="codemirror/%s"></script>' % it for it in scripts)).encode('utf-8')
+
+    def file(self, name: str | None) -> tuple[str, bytes] | None:
+        """A file of the page: its kind and its bytes."""
+        if name is None:
+            return None
+        name = name.partition('?')[0]
+        if name == '':
+            return HTML, self.page()
+        if name == 'studio.js':
+            return KINDS['.js'], script()
+        if name == 'studio.css':
+            return KINDS['.css'], style()
+        inner = name.removeprefix('codemirror/')
+        if self.codemirror and inner != name and inner in EDITOR:
+            return KINDS[Path(inner).suffix], (self.codemirror / inner).read_bytes()
+        return None
+
+
+__all__ = ['Answered', 'Server']

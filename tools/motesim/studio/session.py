@@ -1,0 +1,192 @@
+"""The studio behind its page: what is asked for, by name, and what is answered.
+
+`Session(desk, runs).answer('run', {...})` gives an `Answered`, or raises a `Fault` whose text the page shows.
+"""
+from __future__ import annotations
+
+import json
+import struct
+import threading
+from collections import OrderedDict
+from typing import Callable, NamedTuple
+
+from motesim.faults import Fault
+from motesim.report import ReportFault
+from motesim.scenario import ScenarioFault
+from motesim.studio import answers, guides
+from motesim.studio.desk import Changed, Desk, Document
+from motesim.studio.edits import edit
+from motesim.studio.runs import LimitMet, Runs, Superseded
+from motesim.timeline import Columns, page_of, said_of
+
+MOST_KEPT = 6
+JSON, BYTES, HTML = 'application/json', 'application/octet-stream', 'text/html; charset=utf-8'
+
+
+class Answered(NamedTuple):
+    kind: str
+    data: bytes
+
+
+def told(value: object) -> Answered:
+    return Answered(JSON, json.dumps(value).encode('utf-8'))
+
+
+def framed(said: dict, columns: bytes) -> Answered:
+    """What is said of a run, and behind it its columns, at a multiple of 4."""
+    head = json.dumps(said).encode('utf-8')
+    head += b' ' * (-len(head) % 4)
+    return Answered(BYTES, struct.pack('<I', len(head)) + head + columns)
+
+
+def _text(asked: dict, name: str) -> str:
+    value = asked.get(name)
+    if type(value) is not str:
+        raise Fault('the page asked without a text %s' % name)
+    try:
+        value.encode('utf-8')
+    except UnicodeEncodeError:
+        raise Fault('the text has half a sign, which no file can hold') from None
+    return value
+
+
+class Session:
+    """Runs, files and edits for the page."""
+
+    def __init__(self, desk: Desk, runs: Runs, has_editor: bool = True):
+        self.desk, self.runs, self.has_editor = desk, runs, has_editor
+        self.kept: OrderedDict[int, answers.Finished] = OrderedDict()
+        self.lock = threading.Lock()
+        self.work = threading.Lock()
+        self.does: dict[str, Callable[[dict], Answered]] = {
+            'begin': self.begin, 'open': self.open, 'run': self.run, 'judge': self.judge, 'edit': self.edit,
+            'save': self.save, 'export': self.export, 'alive': self.alive}
+
+    def answer(self, what: str, asked: dict) -> Answered:
+        if what not in self.does:
+            raise Fault('there is nothing called %s' % what)
+        return self.does[what](asked)
+
+    # Files.
+
+    def opened(self, it: Document) -> Answered:
+        """A document for the page, with what stands beside it."""
+        expected = self.desk.expectations(it.where, it.name) if it.stamp else None
+        return told({'document': it._asdict(), 'may_save': self.desk.may_save(it._asdict()),
+                     'guide': guides.guide(it.name, it.text) if it.where == 'example' or self.is_example(it) else [],
+                     'changes': answers.changes_of(expected), 'expects': expected[0] if expected else None})
+
+    def is_example(self, it: Document) -> bool:
+        return self.desk.folder == self.desk.examples and it.name in self.desk.names('example')
+
+    def begin(self, asked: dict) -> Answered:
+        """What the page shows when it opens."""
+        examples = [{'name': name, 'title': guides.title(name)} for name in self.desk.names('example')]
+        files = [] if self.desk.folder == self.desk.examples else self.desk.names('folder')
+        opened = json.loads(self.opened(self.desk.first()).data)
+        return told({**opened, 'examples': examples, 'files': files, 'folder': str(self.desk.folder),
+                     'editor': self.has_editor, 'limits': self.runs.limits._asdict()})
+
+    def open(self, asked: dict) -> Answered:
+        return self.opened(self.desk.read(_text(asked, 'where'), _text(asked, 'name')))
+
+    def alive(self, asked: dict) -> Answered:
+        """That the studio is there, and whether the open file is as it was."""
+        try:
+            stamp = self.desk.stamp(_text(asked, 'where'), _text(asked, 'name'))
+        except Fault:
+            stamp = None
+        return told({'stamp': stamp})
+
+    def document(self, asked: dict) -> dict:
+        it = {name: _text(asked, name) for name in ('where', 'name', 'text', 'stamp')}
+        return {**it, 'returns': asked.get('returns') is True, 'mark': asked.get('mark') is True}
+
+    def save(self, asked: dict) -> Answered:
+        """Writes a document into its own file, or under a new name."""
+        it, new = self.document(asked), asked.get('new')
+        try:
+            if new is not None:
+                name = _text(asked, 'new')
+                stamp = self.desk.save_new(it, name)
+                name = name if name.endswith('.toml') else name + '.toml'
+                return told({'stamp': stamp, 'name': name, 'where': 'folder'})
+            return told({'stamp': self.desk.save(it, asked.get('over') is True), 'name': it['name'], 'where': 'folder'})
+        except Changed as fault:
+            return told({'changed': str(fault)})
+
+    # Runs.
+
+    def run(self, asked: dict) -> Answered:
+        """Runs a text: its columns; or its fault; or that a newer text came, or that a limit was met."""
+        text, ticket = _text(asked, 'text'), self.runs.ask()
+        data = text.encode('utf-8')
+        try:
+            got = self.runs.run(ticket, data)
+            with self.work:
+                self.runs.check(ticket)
+                if got.status:
+                    line = got.fault.decode('utf-8', 'backslashreplace').rstrip('\n')
+                    return framed({'fault': answers.fault_told(text, line)}, b'')
+                done = answers.finished(ticket, text, got.report, _text(asked, 'name'))
+                self.runs.check(ticket)
+                columns = Columns(done.run.report)
+        except Superseded:
+            return framed({'superseded': True}, b'')
+        except LimitMet as fault:
+            return framed({'limit': str(fault)}, b'')
+        except (ReportFault, ScenarioFault) as fault:
+            return framed({'limit': 'This run cannot be shown: %s' % fault}, b'')
+        self.keep(done, asked.get('pinned'))
+        names = answers.names_of_programs(done.run.scenario)
+        return framed({'number': ticket, 'run': said_of(done.run, columns), 'programs': names,
+                       'bytes': len(got.report)}, columns.joined())
+
+    def keep(self, done: answers.Finished, pinned: object) -> None:
+        """Keeps the last runs, and the one that is pinned."""
+        with self.lock:
+            self.kept[done.number] = done
+            for number in list(self.kept):
+                if len(self.kept) <= MOST_KEPT:
+                    break
+                if number not in (pinned, done.number):
+                    del self.kept[number]
+
+    def kept_run(self, number: object) -> answers.Finished | None:
+        with self.lock:
+            return self.kept.get(number) if type(number) is int else None
+
+    def judge(self, asked: dict) -> Answered:
+        """What a run's report adds up to, and how it differs from another."""
+        done, before = self.kept_run(asked.get('number')), self.kept_run(asked.get('against'))
+        if done is None:
+            return told({'gone': True})
+        with self.work:
+            said = {'sums': answers.sums(done)}
+            if before:
+                said['difference'] = answers.difference(before, done, asked.get('is_pinned') is True)
+            expected = self.expectations(asked)
+            said['checks'] = answers.checks(done, _text(asked, 'saved'), expected)
+        return told(said)
+
+    def expectations(self, asked: dict) -> tuple[str, str] | None:
+        try:
+            return self.desk.expectations(_text(asked, 'where'), _text(asked, 'name'))
+        except Fault:
+            return None
+
+    def edit(self, asked: dict) -> Answered:
+        """What an edit on the map changes in the text."""
+        text, wish = _text(asked, 'text'), asked.get('edit')
+        changes, said = edit(text, wish if type(wish) is dict else {})
+        return told({'said': said, 'changes': [
+            {'from': answers.place16(text, it.begin), 'to': answers.place16(text, it.end), 'text': it.text}
+            for it in sorted(changes, reverse=True)]})
+
+    def export(self, asked: dict) -> Answered:
+        """The page of a run as one file, as tools/timeline writes it."""
+        done = self.kept_run(asked.get('number'))
+        if done is None:
+            raise Fault('this run is not kept any more; change the text, and export again')
+        title = _text(asked, 'title').removesuffix('.toml')
+        return Answered(HTML, ''.join(page_of(title, [done.named(title)])).encode('utf-8'))

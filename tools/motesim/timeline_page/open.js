@@ -1,0 +1,71 @@
+// Opens the page of tools/timeline on the runs that it holds.
+
+/** The page opens on the whole run, or around the moment that it was made for. */
+function openAt(said) {
+  whole();
+  if (said.start === null) return;
+  showTime(Math.max(0, said.start - 15), Math.min(time.end, said.start + 45));
+  setNow(said.start);
+  if (said.mote !== null) {
+    for (const pane of panes) {
+      if (said.mote >= pane.order.length) continue;
+      if (pane.lane < FULL_LANE) pane.zoomLanes(FULL_LANE * 1.2 / pane.lane);
+      pane.reveal(said.mote);
+    }
+    chooseAt(said);
+  }
+}
+
+/** What the page's address asks for behind #: from, to, lane (a height), mote, line (its number), only=timeline. */
+function openAsAddressed() {
+  const wish = new URLSearchParams(location.hash.slice(1)), number = name => Number(wish.get(name)), pane = panes[0];
+  if (wish.get('only') === 'timeline') {
+    document.body.classList.add('only-timeline');
+    resize();
+    whole();
+  }
+  if (wish.has('from')) showTime(number('from'), wish.has('to') ? number('to') : number('from') + 60);
+  if (wish.has('lane')) pane.zoomLanes(number('lane') / pane.lane, AXIS);
+  if (wish.has('mote') && number('mote') < pane.order.length) pane.reveal(number('mote'));
+  if (wish.has('line')) {
+    const {traceStart} = pane.run, wanted = number('line');
+    let mote = 0;
+    while (mote + 1 < pane.order.length && traceStart[mote + 1] + mote + 2 < wanted) mote++;
+    const line = wanted - mote - 2;
+    if (line >= traceStart[mote] && line < traceStart[mote + 1]) chooseLine(pane, line, !wish.has('from'));
+  }
+}
+
+/** Selects the first line of the mote from the start on, in the first run that has one. */
+function chooseAt({start, mote}) {
+  for (const pane of panes) {
+    const {at, traceStart} = pane.run;
+    if (mote >= pane.order.length) continue;
+    const line = lowerBound(at, start, traceStart[mote], traceStart[mote + 1]);
+    if (line < traceStart[mote + 1] && at[line] === start) return chooseLine(pane, line, false);
+  }
+}
+
+async function open() {
+  const said = JSON.parse(document.getElementById('said').textContent), runs = [], begin = performance.now();
+  readColours();
+  for (const [number, table] of said.runs.entries()) {
+    const run = new Run(table, await unpack(`run${number}`));
+    await breathe();
+    await indexRun(run);
+    runs.push(run);
+  }
+  showRuns(runs);
+  openAt(said);
+  openAsAddressed();
+  listen();
+  Object.assign(page, {opened: performance.now() - begin, ready: true});
+  drawAll();
+}
+
+open().catch(fault => {
+  const about = document.getElementById('about');
+  about.className = 'fault';
+  about.textContent = `This page can't be shown here: ${fault.message}`;
+  console.error(fault);
+});

@@ -1,0 +1,447 @@
+"""The page of tools/studio in a headless browser, where there is one: what is typed, shown, dragged and clicked."""
+import contextlib
+import json
+import sys
+import tempfile
+import threading
+import unittest
+from pathlib import Path
+
+from here import TOP
+import stand_in
+from browser import Browser
+from motesim.studio.desk import Desk
+from motesim.studio.runs import Limits, Runs
+from motesim.studio.server import CODEMIRROR, Server, has_editor
+from motesim.studio.session import Session
+
+CONTROL = 2
+NET = """# Two motes hear each other, and one stands apart.
+version = 2
+end = 60
+[medium]
+range = 10
+base = 3
+per = 100
+collide = false
+[programs]
+talk = '''
+process talker;
+autostart talker;
+receiver talker;
+code talker {
+  var n = 0;
+  etimer beat;      // a comment
+  body {
+    print 1;
+    send 5;
+    send 6;
+  }
+}
+'''
+[[mote]]
+x = 0               # the first
+y = 0
+program = "talk"
+[[mote]]
+x = 8
+y = 0
+program = "talk"
+
+[[mote]]
+x = 100
+y = 50
+program = "talk"
+"""
+EXPECTED = """expect = ["mote 1 prints talker 1", "mote 1 receives exactly 2", "mote 0 prints talker exactly 1 times"]
+[[change]]
+about = "another value"
+replace = { "print 1" = "print 9" }
+expect = ["mote 1 prints talker 9"]
+"""
+READY = 'window.motesim && motesim.ready && (motesim.studio.judged || document.body.classList.contains("stale"))'
+
+
+class Page(unittest.TestCase):
+    """The page of a small net, run by a program that stands in for the built one."""
+
+    @classmethod
+    def setUpClass(cls):
+        cls.browser, why = Browser.start()
+        if cls.browser is None:
+            said = 'the page of tools/studio is not tried: ' + why
+            with contextlib.suppress(OSError):
+                print(said, file=sys.stderr)
+            raise unittest.SkipTest(said)
+
+    @classmethod
+    def tearDownClass(cls):
+        if cls.browser is not None:
+            cls.browser.close()
+
+    def setUp(self):
+        self.stack = contextlib.ExitStack()
+        self.addCleanup(self.stack.close)
+        self.room = Path(self.stack.enter_context(tempfile.TemporaryDirectory()))
+        self.program = self.stack.enter_context(stand_in.program())
+        self.file = self.room / 'net.toml'
+        self.file.write_text(NET)
+        (self.room / 'net.expect.toml').write_text(EXPECTED)
+        self.server = None
+        self.browser.faults.clear()
+
+    def serve(self, server):
+        self.server = server
+        thread = threading.Thread(target=server.serve_forever, kwargs={'poll_interval': 0.05}, daemon=True)
+        thread.start()
+        return thread
+
+    def stop(self):
+        if self.server:
+            self.server.session.runs.ask()
+            self.server.shutdown()
+            self.server.server_close()
+            self.server = None
+
+    def open(self, limits=Limits(), codemirror=CODEMIRROR, named=None):
+        session = Session(Desk(named or self.file), Runs(limits))
+        self.serve(Server(session, codemirror))
+        self.stack.callback(self.stop)
+        self.browser.size(1400, 900)
+        self.browser.visit(self.server.address, READY)
+        # (a page with a changed text asks before it goes)
+        self.stack.callback(self.browser.run, 'if (window.motesim && motesim.studio) motesim.studio.saved = motesim.editor().text')
+        self.browser.settle()
+
+    def tearDown(self):
+        self.assertEqual(self.browser.faults, [])
+
+    def value(self, script):
+        known = 'const m = motesim, pane = m.panes[0], run = pane && pane.run, text = m.editor().text'
+        return self.browser.run('(() => { %s; return %s; })()' % (known, script))
+
+    def wait(self, script):
+        self.browser.wait('(() => { const m = motesim, pane = m.panes[0], run = pane && pane.run, '
+                          'text = m.editor().text; return %s; })()' % script)
+
+    def type_behind(self, mark, typed):
+        """Puts the caret behind a piece of the text, and types."""
+        self.value('''(() => {
+          const before = text.slice(0, text.indexOf(%s) + %d).split("\\n");
+          m.editor().goTo(before.length - 1, before[before.length - 1].length);
+        })()''' % (json.dumps(mark), len(mark)))
+        self.browser.type(typed)
+
+    def lines(self, mote):
+        return self.value('Array.from({length: run.traceStart[%d] - run.traceStart[%d]}, (_, i) => '
+                          'run.text(run.traceStart[%d] + i))' % (mote + 1, mote, mote))
+
+    def shown(self, name):
+        return self.value('document.getElementById(%s).innerText' % json.dumps(name))
+
+    def on_map(self, mote):
+        return self.value('(() => { const map = m.maps[0], at = map.canvas.getBoundingClientRect(); '
+                          'return [at.x + map.x(%d), at.y + map.y(%d)]; })()' % (mote, mote))
+
+    def is_drawn(self, line):
+        """Whether a line of the report has a mark on the lanes."""
+        return self.value('(() => { for (let i = 2; i < pane.hits.length; i += 3) '
+                          'if (run.text(pane.hits[i]) === %s) return true; return false; })()' % json.dumps(line))
+
+    def test_what_is_typed_is_on_the_lanes(self):
+        self.open()
+        self.assertNotIn('0 print talker 7', self.lines(1))
+        self.type_behind('print 1;', ' print 7;')
+        self.wait('Array.from(run.w).includes(7)')
+        self.assertEqual(self.lines(1)[4:6], ['0 print talker 1', '0 print talker 7'])
+        self.value('pane.zoomLanes(60 / pane.lane)')
+        self.value('document.querySelector("[data-do=zoom-in]").click()')
+        for _ in range(12):
+            self.value('m.act("zoom-in")')
+        self.value('m.act("begin")')
+        self.value('m.drawAll()')
+        self.assertTrue(self.is_drawn('0 print talker 7'))
+
+    def test_zoom_place_and_selection_stay(self):
+        self.open()
+        self.value('m.act("zoom-in")')
+        self.value('m.act("zoom-in")')
+        self.value('pane.zoomLanes(1.5)')
+        self.value('m.find("recv 6")')
+        before = self.value('[m.time.begin, m.time.scale, pane.lane, pane.top, m.play.now]')
+        self.assertEqual(self.value('run.text(m.chosen().line)'), '23 recv 0 1 6')
+        self.type_behind('print 1;', ' print 7;')
+        self.wait('Array.from(run.w).includes(7) && m.studio.judged === m.studio.number')
+        self.assertEqual(self.value('[m.time.begin, m.time.scale, pane.lane, pane.top, m.play.now]'), before)
+        self.assertEqual(self.value('run.text(m.chosen().line)'), '23 recv 0 1 6')
+
+    def test_a_fault_is_shown_at_its_place_and_goes(self):
+        self.open()
+        lines = self.lines(0)
+        self.type_behind('print 1', '; prin 2')
+        self.wait('!document.getElementById("fault").hidden')
+        self.assertTrue(self.value('document.body.classList.contains("stale")'))
+        for words in ('motesim: program talk fault 3', 'line 18, which is line 8 of program talk', 'Here may stand:'):
+            self.assertIn(words, self.shown('fault'))
+        self.assertEqual(self.lines(0), lines)
+        if has_editor(CODEMIRROR):
+            self.assertEqual(self.value('document.querySelector(".fault-line .CodeMirror-linenumber").textContent'), '18')
+            self.assertEqual(self.value('document.querySelector(".fault-mark").textContent.trim()'), 'prin')
+        self.value('m.editor().replace("; prin 2", "")')
+        self.wait('document.getElementById("fault").hidden && !document.body.classList.contains("stale")')
+        self.assertEqual(self.value('document.querySelectorAll(".fault-mark, .fault-line").length'), 0)
+
+    def test_a_fault_of_the_tables_is_shown_too(self):
+        self.open()
+        self.value('m.editor().replace("end = 60", "end = 2_000_000")')
+        self.wait('!document.getElementById("fault").hidden')
+        self.assertIn('scenario fault 5', self.shown('fault'))
+        self.assertIn('line 3', self.shown('state'))
+
+    def test_the_first_difference_is_named_and_marked(self):
+        self.open()
+        self.assertIn('Change anything', self.shown('change'))
+        self.type_behind('send 6;', ' send 8;')
+        self.wait('m.differs.first')
+        self.assertIn('The first difference from the run before is at moment 30, in the trace of mote 0', self.shown('change'))
+        self.assertIn('30 post 2 talker timer 0', self.shown('change'))
+        self.assertEqual(self.value('[m.differs.first.at, m.differs.first.mote]'), [30, 0])
+        self.assertEqual(self.value('Array.from(m.differs.parts)'), [[0, 30], [1, 33]])
+        self.value('document.getElementById("change-show").click()')
+        self.assertEqual(self.value('run.text(m.chosen().line)'), '30 post 2 talker timer 0')
+        self.assertIn('only A', self.value('document.querySelector("#compare pre").textContent'))
+        self.type_behind('# Two', ' ')
+        self.wait('m.studio.judged === m.studio.number && !m.differs.first')
+        self.assertIn('The same report as that of the run before', self.shown('change'))
+
+    def test_a_pinned_run_is_the_one_to_compare_with(self):
+        self.open()
+        self.value('document.getElementById("pin").click()')
+        self.type_behind('send 6;', ' send 8;')
+        self.wait('m.differs.first')
+        self.type_behind('send 8;', ' send 9;')
+        self.wait('m.differs.first && Array.from(run.w).includes(9)')
+        self.assertIn('The first difference from the pinned run is at moment 30', self.shown('change'))
+        self.value('document.getElementById("pin").click()')
+        self.type_behind('send 9;', ' send 3;')
+        self.wait('m.differs.first && Array.from(run.w).includes(3)')
+        self.assertIn('The first difference from the run before is at moment 50', self.shown('change'))
+
+    def test_a_dragged_mote_changes_the_text(self):
+        self.open()
+        x, y = self.on_map(1)
+        to_x, to_y = self.on_map(2)
+        self.browser.drag(x, y, to_x - 20, to_y - 20)
+        self.wait('!text.includes("x = 8\\n") && m.studio.judged === m.studio.number && run.places[1][0] > 50')
+        place = self.value('run.places[1]')
+        text = self.value('text')
+        self.assertEqual(text, NET.replace('x = 8\ny = 0', 'x = %d\ny = %d' % tuple(place)))
+        self.assertIn('Mote 1 stands at', self.shown('map-said'))
+        self.assertEqual(self.value('run.hearers[0].length'), 0)
+
+    def test_motes_are_added_and_removed(self):
+        self.open()
+        self.value('document.getElementById("add").click()')
+        x, y = self.on_map(2)
+        self.browser.click(x - 40, y)
+        self.wait('run.begins.length === 4 && m.studio.judged === m.studio.number')
+        self.assertEqual(self.value('text.match(/\\[\\[mote\\]\\]/g).length'), 4)
+        x, y = self.on_map(1)
+        self.browser.click(x, y)
+        self.assertEqual(self.shown('remove'), 'Remove mote 1')
+        self.value('document.getElementById("remove").click()')
+        self.wait('run.begins.length === 3')
+        self.assertNotIn('x = 8\n', self.value('text'))
+        self.assertIn('# the first', self.value('text'))
+
+    def test_a_way_shows_its_delay_and_can_lose(self):
+        self.open()
+        (x, y), (to_x, to_y) = self.on_map(0), self.on_map(1)
+        self.browser.click((x + to_x) / 2, (y + to_y) / 2)
+        self.assertIn('0 → 1: after 3 moments', self.shown('way'))
+        self.value('''(() => { const it = document.querySelector('[data-way="0 1"]'); it.value = "2";
+          it.dispatchEvent(new Event("change")); })()''')
+        self.wait('run.losses.length === 1')
+        self.assertTrue(self.value('text').endswith('[[loss]]\nfrom = 0\nto = 1\nevery = 2\n'))
+        self.wait('m.studio.judged === m.studio.number')
+        self.assertEqual([line for line in self.lines(1) if ' recv ' in line], ['13 recv 0 0 5'])
+
+    def test_checks_are_green_or_red_and_lead_to_the_line(self):
+        self.open()
+        self.assertEqual(self.value('document.getElementById("tab-checks").textContent'), 'Checks 3/3')
+        self.type_behind('print 1;', ' print 2;')
+        self.wait('document.getElementById("tab-checks").textContent === "Checks 2/3"')
+        self.assertEqual(self.value('document.querySelectorAll("#checks .holds").length'), 2)
+        self.value('document.querySelector("#checks .broken button").click()')
+        self.assertEqual(self.value('run.text(m.chosen().line)'), '0 print talker 2')
+        self.assertEqual(self.value('run.moteOf(m.chosen().line)'), 0)
+
+    def test_a_change_is_made_by_a_button_and_judged_by_its_own_sentences(self):
+        self.open()
+        self.assertIn('Another value', self.shown('guide'))
+        self.value('document.querySelector("#guide .try button").click()')
+        self.wait('document.getElementById("tab-checks").textContent === "Checks 1/1"')
+        self.assertIn('print 9', self.value('text'))
+        self.wait('m.differs.first')
+
+    def test_sums_are_those_of_summary(self):
+        self.open()
+        cells = self.value('Array.from(document.querySelectorAll("#sums table:first-child tr.net td"), it => it.textContent)')
+        self.assertEqual(cells[:5], ['net', '', '2', '2', '2'])
+
+    def test_steps_show_the_state_of_a_mote(self):
+        self.open()
+        self.value('document.getElementById("tab-steps").click()')
+        self.value('m.find("mote 1 recv 5")')
+        self.browser.settle()
+        self.assertIn('Mote 1 at moment 13', self.shown('step-at'))
+        buttons = {name: 'document.querySelector(\'#steps button[aria-label="%s"]\').click()' % name
+                   for name in ('The next line', 'The line before', 'The next moment', 'On to the next stop')}
+        self.value(buttons['The next line'])
+        self.browser.settle()
+        self.assertIn('13 post 0 talker packet 5', self.shown('step-at'))
+        self.assertIn('packet 5 for talker, posted at 13', self.shown('cards'))
+        self.value(buttons['The next line'])
+        self.browser.settle()
+        self.assertIn('talker, called with packet 5', self.shown('cards'))
+        self.assertIn('the queue is empty', self.shown('cards'))
+        self.assertIn('1 = 1 (talker, at 0)', self.shown('cards').replace('\n', ''))
+        self.value(buttons['The next moment'])
+        self.browser.settle()
+        self.assertIn('Mote 0 at moment 20', self.shown('step-at'))
+        self.value('m.setNow(0)')
+        self.value('(() => { m.find(""); m.panes[0].canvas.focus(); })()')
+        self.browser.key('Escape', number=27)
+        self.value('document.getElementById("stop-at").value = "stop where mote 1 receives 6 or a packet collides"')
+        self.value(buttons['On to the next stop'])
+        self.browser.settle()
+        self.assertEqual(self.value('run.text(m.chosen().line)'), '23 recv 0 1 6')
+        self.assertIn('Stop 1 of 1', self.shown('steps'))
+
+    def test_breakpoints_are_searches(self):
+        self.open()
+        for words, found in [('stop where mote 3 prints', [['mote', '3', 'print']]), ('a packet collides', [['collide']]),
+                             ('a packet is lost', [['lost']]), ('a mote halts', [['halt']]),
+                             ('mote 2 takes packet or mote 1 sends 7', [['mote', '2', 'take', 'packet'],
+                                                                        ['mote', '1', 'send', '7']])]:
+            self.assertEqual(self.value('m.searchesOf(%s)' % json.dumps(words)), found, words)
+
+    def test_a_run_past_its_limit_is_stopped(self):
+        self.open(Limits(seconds=1))
+        self.value('m.editor().replace("# Two", "# never_ends Two")')
+        self.wait('!document.getElementById("notice").hidden')
+        self.assertIn('stopped after 1 seconds', self.shown('notice'))
+        self.assertIn('--seconds', self.shown('notice'))
+        self.assertTrue(self.value('document.body.classList.contains("stale")'))
+        self.value('m.editor().replace("never_ends", "ends")')
+        self.wait('document.getElementById("notice").hidden && !document.body.classList.contains("stale")')
+
+    def test_a_newer_text_stops_the_run_before(self):
+        self.open(Limits(seconds=30))
+        self.value('m.editor().replace("# Two", "# never_ends Two")')
+        self.wait('document.getElementById("state").textContent === "running"')
+        self.browser.wait('true')
+        self.value('m.editor().replace("never_ends", "ends")')
+        self.wait('m.studio.judged === m.studio.number && document.getElementById("state").dataset.is === "good"')
+        self.assertIsNone(self.server.session.runs.process)
+
+    def test_a_lost_connection_says_so_and_comes_back(self):
+        self.open()
+        session, port, token = self.server.session, self.server.port, self.server.token
+        self.stop()
+        self.type_behind('print 1;', ' print 7;')
+        self.wait('!document.getElementById("notice").hidden')
+        self.assertIn('The connection to tools/studio is lost', self.shown('notice'))
+        self.serve(Server(session, CODEMIRROR, port, token))
+        self.wait('document.getElementById("notice").hidden && Array.from(run.w).includes(7)')
+
+    def test_a_text_is_saved_into_its_file_and_not_over_another(self):
+        self.open()
+        self.type_behind('print 1;', ' print 7;')
+        self.wait('Array.from(run.w).includes(7)')
+        self.value('document.getElementById("save").click()')
+        self.wait('text === m.studio.saved')
+        self.assertEqual(self.file.read_text(), NET.replace('print 1;', 'print 1; print 7;'))
+        self.file.write_text(NET + '# of another\n')
+        self.type_behind('print 7;', ' print 8;')
+        self.value('document.getElementById("save").click()')
+        self.wait('document.getElementById("question").open')
+        self.assertIn('was changed elsewhere', self.shown('question'))
+        self.value('document.querySelector(\'#question button[value="Read the other"]\').click()')
+        self.wait('text.endsWith("# of another\\n")')
+        self.assertEqual(self.file.read_text(), NET + '# of another\n')
+
+    def test_an_example_is_opened_and_saved_under_a_new_name(self):
+        self.open()
+        self.value('(() => { const box = document.getElementById("open"); box.value = "example flooding.toml"; '
+                   'box.dispatchEvent(new Event("change")); })()')
+        self.wait('m.studio.document.name === "flooding.toml" && m.studio.judged === m.studio.number')
+        self.assertIn('Look at', self.shown('guide'))
+        self.assertIn('broadcast storm', self.shown('guide'))
+        self.value('document.getElementById("save-as").click()')
+        self.wait('document.getElementById("question").open')
+        self.value('(() => { document.querySelector("#question input").value = "mine"; '
+                   'document.querySelector(\'#question button[value="Save"]\').click(); })()')
+        self.wait('m.studio.document.name === "mine.toml"')
+        self.assertEqual((self.room / 'mine.toml').read_bytes(), (TOP / 'examples/flooding.toml').read_bytes())
+
+    def test_the_page_without_its_token_is_refused(self):
+        self.open()
+        self.value('m.studio.saved = text')
+        for address in ('/', '/wrong/', '/wrong/studio.js'):
+            self.browser.visit('http://127.0.0.1:%d%s' % (self.server.port, address), 'document.body')
+            self.browser.wait('document.body.innerText.includes("Not allowed")')
+            self.assertNotIn('motesim studio', self.browser.run('document.documentElement.outerHTML'))
+        self.browser.visit(self.server.address, READY)
+
+    def test_nothing_comes_from_a_network(self):
+        self.open()
+        names = self.value('performance.getEntriesByType("resource").map(it => it.name)')
+        self.assertTrue(names)
+        for name in names:
+            self.assertTrue(name.startswith(self.server.address) or name.startswith('data:'), name)
+
+    def test_it_works_with_a_plain_text_area(self):
+        self.open(codemirror=None)
+        self.assertIn('libjs-codemirror', self.shown('no-editor'))
+        self.type_behind('print 1;', ' print 7;')
+        self.wait('Array.from(run.w).includes(7)')
+        x, y = self.on_map(1)
+        self.browser.drag(x, y, x + 60, y + 40)
+        self.wait('run.places[1][1] > 0')
+        self.assertIn('# the first', self.value('text'))
+
+    def test_a_scenario_that_begins_with_a_fault_is_opened(self):
+        self.file.write_text(NET.replace('base = 3', 'base = 0'))
+        self.open()
+        self.assertIn('medium fault 2', self.shown('fault'))
+        self.value('m.editor().replace("base = 0", "base = 3")')
+        self.wait('m.panes.length === 1 && document.getElementById("fault").hidden')
+
+    def test_the_page_of_the_run_is_handed_out_as_one_file(self):
+        self.open()
+        self.browser.call('Browser.setDownloadBehavior', behavior='allow', downloadPath=str(self.room))
+        self.value('document.getElementById("export").click()')
+        page = self.room / 'net.html'
+        for _ in range(100):
+            if page.exists() and page.stat().st_size:
+                break
+            self.browser.settle()
+        self.value('m.studio.saved = text')
+        self.browser.open(page)
+        self.assertEqual(self.browser.run('motesim.panes[0].run.begins.length'), 3)
+
+    def test_it_fits_narrow_windows_and_all_has_a_name(self):
+        self.open()
+        for width in (1400, 1000, 700, 390):
+            self.browser.size(width, 900)
+            self.browser.settle()
+            self.assertLessEqual(self.value('document.documentElement.scrollWidth'), width)
+        unnamed = self.value('''Array.from(document.querySelectorAll("button, input, select, canvas, textarea")).filter(it =>
+          !(it.textContent.trim() && it.matches("button")) && !it.getAttribute("aria-label") &&
+          !(it.labels && it.labels.length) && !it.closest(".CodeMirror")).map(it => it.outerHTML)''')
+        self.assertEqual(unnamed, [])
+
+
+if __name__ == '__main__':
+    unittest.main()
