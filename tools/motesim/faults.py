@@ -64,5 +64,8 @@ def finish(tool: str, work: Callable[[], int]) -> NoReturn:
 def command(tool: str) -> Callable[[Callable[[], int]], Callable[[], NoReturn]]:
     """Makes a command of a function that returns its status."""
     def made(work: Callable[[], int]) -> Callable[[], NoReturn]:
-        return functools.wraps(work)(lambda: finish(tool, work))
+        @functools.wraps(work)
+        def main() -> NoReturn:
+            finish(tool, work)
+        return main
     return made

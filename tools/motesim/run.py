@@ -19,22 +19,18 @@ What can go wrong is a `motesim.faults.Fault`, whose text can be shown as it is:
 """
 from __future__ import annotations
 
-import os
 import subprocess
 import sys
 from pathlib import Path
 from typing import NamedTuple
 
 from motesim.faults import Fault
+from motesim.programs import ProgramFault as ProgramFault
+from motesim.programs import program_path as program_path
 from motesim.report import Report, ReportFault
 from motesim.scenario import Scenario, ScenarioFault
 
-TOP = Path(__file__).resolve().parent.parent.parent
 SECONDS = 600
-
-
-class ProgramFault(Fault):
-    """motesim can't be run, or refuses the scenario."""
 
 
 class Answer(NamedTuple):
@@ -49,16 +45,6 @@ class Run(NamedTuple):
     name: str
     report: Report
     scenario: Scenario | None
-
-
-def program_path() -> Path:
-    """The built motesim: the one that the environment variable MOTESIM names, or this tree's."""
-    named = os.environ.get('MOTESIM')
-    path = Path(named) if named else TOP / 'crates/motesim/out/motesim'
-    if not (path.is_file() and os.access(path, os.X_OK)):
-        raise ProgramFault('there is no program %s (the environment variable MOTESIM names it)' % path if named else
-                           'the program is not built: ./run FILE.toml builds it, or MOTESIM names a built one')
-    return path
 
 
 def answer(scenario: bytes, *words: str) -> Answer:

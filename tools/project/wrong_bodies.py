@@ -25,7 +25,7 @@ from pathlib import Path
 
 from project.bodies.edits import FOLDERS, Bodies
 from project.bodies.trial import ONE_JOB, verdicts
-from project.kit import rt, rtlib
+from project import kit
 from project.tree import TOP
 
 
@@ -45,7 +45,7 @@ def bodies_asked_for(names, folders):
     wanted = {}
     for crate, _, name in (word.partition('/') for word in names):
         wanted.setdefault(crate, []).append(name)
-    crates = {crate.name: crate for crate in rtlib.crates_below(os.getcwd())}
+    crates = {crate.name: crate for crate in kit.crates_below(os.getcwd())}
     for crate in wanted:
         if crate not in crates:
             sys.exit('wrong_bodies: there is no crate %s' % crate)
@@ -80,7 +80,7 @@ def list_groups(of_crates):
 def has_new_library(crate):
     """Whether a crate's library is there, and no file of the crate or below it is newer."""
     made = '%s/format' % crate.rlib
-    files = [file for part in [crate, *crate.below()] for file in rtlib.files_of(part.folder)]
+    files = [file for part in [crate, *crate.below()] for file in kit.files_of(part.folder)]
     return os.path.isfile(made) and all(os.path.getmtime(file) < os.path.getmtime(made) for file in files)
 
 
@@ -117,16 +117,16 @@ def judge_all(of_crates):
         for number, group in enumerate(bodies.groups(), 1):
             task = lambda given, jobs, bodies=bodies, group=group: judge(bodies, group)
             lines = bodies.crate.count(rb'\n')
-            tasks['%s %d' % (bodies.crate.name, number), 'edits'] = ([], lines, rt.need(bodies.crate), task)
-    judged = rt.in_lanes(tasks).values()
+            tasks['%s %d' % (bodies.crate.name, number), 'edits'] = ([], lines, kit.need(bodies.crate), task)
+    judged = kit.in_lanes(tasks).values()
     return sum(passed for passed, _ in judged), failed + [name for _, names in judged for name in names]
 
 
 def main():
     asked = words()
     os.chdir(TOP)
-    os.environ.pop(rtlib.ALLOW_C, None)
-    rtlib.guarded()
+    kit.without_c()
+    kit.guarded()
     of_crates = bodies_asked_for(asked.names, [asked.folder] if asked.folder else FOLDERS)
     if asked.list:
         list_groups(of_crates)

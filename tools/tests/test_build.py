@@ -1,12 +1,14 @@
 """What build foretells, and what it reads of a check."""
+import io
 import tempfile
 import types
 import unittest
 import unittest.mock
 from pathlib import Path
 
-import here  # (it puts tools/ on the path)
-from project import build
+from here import TOP as TREE
+
+from project import build, estimate, kit, progress, shares
 
 
 def crate(name, *below):
@@ -20,25 +22,62 @@ CRATES = [LOW, SIDE, MIDDLE, TOP]
 SECONDS = {'low': 100, 'side': 20, 'middle': 50, 'top': 30}
 
 
+class Clock:
+    """As if so many seconds had gone by."""
+    def __init__(self):
+        self.now = 1000.0
+
+    def monotonic(self):
+        return self.now
+
+
 class Foretold(unittest.TestCase):
     def test_a_chain_has_all_that_wait_for_a_crate(self):
         self.assertEqual(build.chains(CRATES, SECONDS), {'low': 180, 'side': 50, 'middle': 80, 'top': 30})
 
     def test_what_is_left_is_the_longest_chain_or_the_work(self):
-        self.assertEqual(build.Progress(CRATES, SECONDS, 4).left_by_shares(), 180)
-        self.assertEqual(build.Progress(CRATES, SECONDS, 1).left_by_shares(), 200)
+        self.assertEqual(estimate.Estimate(CRATES, SECONDS, 4).left_by_shares(), 180)
+        self.assertEqual(estimate.Estimate(CRATES, SECONDS, 1).left_by_shares(), 200)
 
     def test_a_crate_that_is_done_leaves_nothing(self):
-        progress = build.Progress(CRATES, SECONDS, 4)
-        progress.done.append('low')
-        self.assertEqual(progress.left_by_shares(), 80)
+        it = estimate.Estimate(CRATES, SECONDS, 4)
+        it.done.append('low')
+        self.assertEqual(it.left_by_shares(), 80)
+
+    def test_a_build_from_nothing_takes_what_the_readme_says(self):
+        measured = shares.minutes_from_nothing(4)
+        seconds = shares.shares([it.name for it in CRATES])
+        pace = build.pace_of(CRATES, 4)
+        self.assertAlmostEqual(estimate.Estimate(CRATES, seconds, 4, pace).left(), measured * 60, 0)
+        self.assertIn('%d minutes on four' % measured, (TREE / 'README.md').read_text('utf-8'))
+
+    def told(self, pace):
+        """What is told each ten seconds of a build that takes so many seconds for each of the shares."""
+        clock, told = Clock(), []
+        with unittest.mock.patch.object(estimate, 'time', clock):
+            it = estimate.Estimate([LOW], {'low': 1000}, 1)
+            it.logs['low'] = types.SimpleNamespace(share=0, began=clock.now)
+            while it.logs['low'].share < 1:
+                told.append(it.left())
+                clock.now += 10
+                it.logs['low'].share = min(1, it.logs['low'].share + 10 / (1000 * pace))
+        return told
+
+    def test_it_follows_what_is_measured_and_never_leaps(self):
+        for pace in 0.5, 1, 2, 3:
+            told = self.told(pace)
+            for before, now in zip(told, told[1:]):
+                self.assertLess(now, before * 1.05)
+            self.assertLess(max(told), 1000 * 1.5 if pace <= 2 else 1000 * 2)
+            middle = len(told) // 2
+            self.assertAlmostEqual(told[middle] / (500 * pace), 1, delta=0.5)
 
 
 class Jobs(unittest.TestCase):
     def asked(self, crate, ready, running, done=()):
-        progress = build.Progress(CRATES, SECONDS, 4)
-        progress.done.extend(done)
-        return build.jobs_of(crate, ready, running, build.chains(CRATES, SECONDS), progress)
+        it = estimate.Estimate(CRATES, SECONDS, 4)
+        it.done.extend(done)
+        return build.jobs_of(crate, ready, running, build.chains(CRATES, SECONDS), it)
 
     def test_the_crate_that_all_wait_for_has_all_processors(self):
         self.assertEqual(self.asked(LOW, [LOW, SIDE], []), (4, False))
@@ -49,44 +88,56 @@ class Jobs(unittest.TestCase):
         self.assertEqual(self.asked(SIDE, [SIDE, MIDDLE], [LOW]), (1, True))
 
     def test_a_crate_that_is_nearly_proved_holds_up_no_longer_than_that(self):
-        progress = build.Progress(CRATES, SECONDS, 4)
-        with unittest.mock.patch.object(progress, 'left_of', lambda it: 0 if it is LOW else SECONDS[it.name]):
-            behind = {**build.chains(CRATES, SECONDS), 'side': 90}
-            self.assertEqual(build.jobs_of(SIDE, [SIDE], [LOW], behind, progress), (4, False))
-
-
-class Commands(unittest.TestCase):
-    def test_a_crate_that_gives_way_is_called_nicely(self):
-        with unittest.mock.patch.object(build, 'guarded', lambda: ['guard']):
-            for gives_way, words in [(False, ['guard']), (True, ['guard', 'nice'])]:
-                build.here.gives_way = gives_way
-                self.assertEqual(build.rt.rtlib.guarded(), words)
+        it = estimate.Estimate(CRATES, SECONDS, 4)
+        with unittest.mock.patch.object(it, 'left_of', lambda it: 0 if it is LOW else SECONDS[it.name]):
+            after = {**build.chains(CRATES, SECONDS), 'side': 90}
+            self.assertEqual(build.jobs_of(SIDE, [SIDE], [LOW], after, it), (4, False))
 
 
 class Libraries(unittest.TestCase):
     def test_a_library_that_is_proved_is_the_kits_own_until_a_source_changes(self):
         with tempfile.TemporaryDirectory() as room:
-            crate = build.Crate.__new__(build.Crate)
-            crate.rlib = room + '/out/rlib/low.rlib'
-            crate.stamp, crate.words = lambda: 'sum', lambda flags, keeps: ['words', *flags]
+            low = types.SimpleNamespace(rlib=room + '/out/rlib/low.rlib', stamp=lambda: 'sum',
+                                        words=lambda flags, keeps: ['words', *flags])
             for status, is_stamped in [(1, False), (0, True), (1, False)]:
-                crate.call = lambda *words, status=status: self.called.append(words[1:]) or status
+                low.call = lambda *words, status=status: self.called.append(words[1:]) or status
                 self.called = []
-                self.assertEqual(crate.write_rlib(['--jobs', '2']), status)
-                self.assertEqual(self.called, [('build', 'words', '--jobs', '2', '--statements', '-o', crate.rlib)])
-                self.assertEqual(Path(crate.rlib).with_name('stamp').is_file(), is_stamped)
+                self.assertEqual(kit.write_rlib(low, ['--jobs', '2']), status)
+                self.assertEqual(self.called, [('build', 'words', '--jobs', '2', '--statements', '-o', low.rlib)])
+                self.assertEqual(Path(low.rlib).with_name('stamp').is_file(), is_stamped)
 
 
 class Logs(unittest.TestCase):
     def test_a_log_tells_how_much_is_checked(self):
         with tempfile.TemporaryDirectory() as room:
-            log = build.Log(types.SimpleNamespace(folder=room))
+            log = estimate.Log(room)
             for line, share in [('anything', 0), ('so far: 1 of 4 functions checked\n', 0.25), ('checked low::f, 3 of 4\n', 0.75),
                                 ('axioms (2 of the 22 declared)\n', 0.75)]:
                 log.write(line)
                 self.assertEqual(log.share, share)
             log.file.close()
             self.assertEqual(log.path.read_text().count('\n'), 3)
+
+
+class Lines(unittest.TestCase):
+    def test_names_are_whole(self):
+        names = ['process_kernel', 'program_reader', 'radio_medium']
+        for width in range(8, 120):
+            line = progress.fitted('3 of 33 proved', names, width)
+            self.assertLessEqual(len(line), width)
+            for name in names:
+                self.assertTrue(name in line or name[:4] not in line or '%s,' % name in line, line)
+        self.assertEqual(progress.fitted('3 of 33 proved', names, 44), '3 of 33 proved (now process_kernel and 2 more)'[:44]
+                         if len('3 of 33 proved (now process_kernel and 2 more)') <= 44 else '3 of 33 proved')
+        self.assertIn('process_kernel, program_reader, radio_medium)', progress.fitted('3 of 33 proved', names, 90))
+
+    def test_a_file_has_no_line_that_is_renewed(self):
+        said = io.StringIO()
+        line = progress.Line(said)
+        line.renew('3 of 33 proved', ['low'])
+        line.say('low is proved')
+        line.end()
+        self.assertEqual(said.getvalue(), 'motesim: low is proved\n')
 
 
 if __name__ == '__main__':

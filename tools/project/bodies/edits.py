@@ -5,7 +5,7 @@ import re
 from typing import NamedTuple, Optional
 
 from project.bodies.functions import Function, functions_in
-from project.kit import rt, rtlib, tokens
+from project.kit import Crate, files_of, read_edit, text_of, tokens
 
 FOLDERS = ('must-fail', 'gate-bodies', 'wrong-bodies')
 
@@ -40,7 +40,7 @@ class Bodies:
         self.edits = [edit for edit in map(self.read, files) if not names or edit.name in names]
 
     def text(self, path):
-        return rtlib.text_of('%s/%s' % (self.crate.folder, path))
+        return text_of('%s/%s' % (self.crate.folder, path))
 
     def functions(self, path):
         """The functions of a file of the crate; none of a file that isn't code."""
@@ -50,12 +50,12 @@ class Bodies:
         return self.of_file[path]
 
     def read(self, file):
-        texts, trouble = rt.read_edit(file, self.crate.folder)
+        texts, trouble = read_edit(file, self.crate.folder)
         hunks = [hunk for path, text in (texts or {}).items() for hunk in hunks_between(path, self.text(path), text)]
         around = [self.function_around(hunk) for hunk in hunks]
         if around and None not in around:
             return Edit(file, hunks, list(dict.fromkeys(around)), True, trouble)
-        named = re.findall(r'(?m)^refused: (\S+)$', rtlib.text_of(file))
+        named = re.findall(r'(?m)^refused: (\S+)$', text_of(file))
         return Edit(file, hunks, [Function(0, 0, path) for path in named], False, trouble)
 
     def function_around(self, hunk):
@@ -65,7 +65,7 @@ class Bodies:
 
     def in_cycles(self, cycles):
         """The functions of these cycles of calls."""
-        files = rtlib.files_of(self.crate.folder) if cycles else []
+        files = files_of(self.crate.folder) if cycles else []
         paths = [os.path.relpath(file, self.crate.folder) for file in files if file.endswith('.rt')]
         return [it for path in paths for it in self.functions(path) if it.cycle in cycles]
 

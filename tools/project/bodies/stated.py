@@ -7,7 +7,7 @@ import shutil
 import tempfile
 
 from project.bodies.functions import module_of
-from project.kit import rtlib, tokens
+from project.kit import Crate, files_of, parts, text_of, tokens
 
 # Proofs that are left open: antt takes them by their statements, so those who call the functions are proved from their contracts.
 USE = 'use Rattle.%s.proofs.%s.Statement as the_%s\n'
@@ -68,11 +68,11 @@ def left_open(functions, types, judged, rows):
 
 def proofs_of_others(bodies, judged):
     """The names that lead to the proof of each function of a crate that isn't judged, by their folders, where they can be told."""
-    files = [os.path.relpath(file, bodies.crate.folder) for file in rtlib.files_of(bodies.crate.folder)]
+    files = [os.path.relpath(file, bodies.crate.folder) for file in files_of(bodies.crate.folder)]
     sources = [file for file in files if file.startswith('src/') and file.endswith('.rt')]
     rows = {file: tokens('%s/%s' % (bodies.crate.folder, file)) for file in sources}
     types = {name: module for file in sources for name, module in types_in(file, rows[file]).items()}
-    cited = cited_in(rtlib.text_of('%s/%s' % (bodies.crate.folder, file)) for file in files if file.endswith('.antt'))
+    cited = cited_in(text_of('%s/%s' % (bodies.crate.folder, file)) for file in files if file.endswith('.antt'))
     found = {}
     for file in sources:
         for folder, names in left_open(bodies.functions(file), types, judged, rows[file]).items():
@@ -95,7 +95,7 @@ def cited_in(texts):
 def stated(bodies, judged):
     """A copy of the crate in which the proofs of all but the judged functions are left open, where these can be told."""
     with tempfile.TemporaryDirectory(prefix='stated-') as room:
-        for part in rtlib.PARTS:
+        for part in parts():
             if os.path.isdir('%s/%s' % (bodies.crate.folder, part)):
                 shutil.copytree('%s/%s' % (bodies.crate.folder, part), '%s/%s' % (room, part))
         for proof, functions in proofs_of_others(bodies, judged).items():

@@ -2,7 +2,7 @@
 from typing import NamedTuple
 
 from project.bodies.faults import UNEXPLAINED, is_of, own_faults
-from project.kit import is_refusal, rt, rtlib
+from project.kit import checked, must_fail, says_nothing
 from project.bodies.stated import stated
 
 ONE_JOB = ['--jobs', '1']
@@ -20,8 +20,8 @@ def verdicts(bodies, group):
     left = [edit.file for edit in group if edit.file not in refused]
     found = {file: Verdict(True, 'refused: %s' % why) for file, why in refused.items()}
     for file in left:
-        answer, said = rt.must_fail(bodies.crate, file, ONE_JOB)
-        found[file] = Verdict(is_refusal(answer), said.partition('.edit: ')[2])
+        is_refused, said = must_fail(bodies.crate, file, ONE_JOB)
+        found[file] = Verdict(is_refused, said.partition('.edit: ')[2])
     return found
 
 
@@ -72,7 +72,7 @@ def lines_said(ran, texts):
     """The lines of a check, or none where it doesn't get as far as the proofs."""
     lines = ran.stdout.rstrip('\n').split('\n')
     reached = ran.returncode == 1 and lines[-1].startswith(('only=', 'logic=not-proved'))
-    if not reached or rtlib.STALE.search(ran.stdout) or any(rt.unread(line, texts) for line in lines):
+    if not reached or says_nothing(ran.stdout, texts):
         return []
     return lines
 
@@ -84,12 +84,12 @@ def only(functions):
 def check_alone(bodies, texts, functions):
     """Checks these functions, given the contracts of what they call."""
     with stated(bodies, functions) as crate:
-        return rt.checked(crate, texts, [*ONE_JOB, '--allow-holes', *only(functions)], None)
+        return checked(crate, texts, [*ONE_JOB, '--allow-holes', *only(functions)])
 
 
 def check_with_calls(bodies, texts, functions):
     """Checks these functions and what they call; or all of the crate, where a path that was guessed names none."""
-    ran = rt.checked(bodies.crate, texts, ONE_JOB + only(functions), None)
+    ran = checked(bodies.crate, texts, ONE_JOB + only(functions))
     if ran.returncode == 2 and any(function.is_guess for function in functions):
-        return rt.checked(bodies.crate, texts, ONE_JOB, None)
+        return checked(bodies.crate, texts, ONE_JOB)
     return ran

@@ -1,0 +1,3 @@
+"""The version of motesim and its tools, and the kit with which it was proved."""
+VERSION = '1.0'
+KIT = 'rattle-kit-13f logic dac8208d650f15bf'

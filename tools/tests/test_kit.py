@@ -1,0 +1,44 @@
+"""That the kit at hand is the one that tools/project/kit.py knows, with all that it takes of it."""
+import shutil
+import types
+import unittest
+from unittest import mock
+
+import here
+from motesim.faults import Fault
+from motesim.version import KIT
+from project import kit
+
+
+@unittest.skipUnless(shutil.which('rt'), 'the command rt of the Rattle kit is not here')
+class AtHand(unittest.TestCase):
+    def test_it_is_the_kit_that_is_named(self):
+        self.assertEqual(kit.version(), KIT)
+
+    def test_it_has_all_that_is_taken(self):
+        self.assertEqual(kit.lacking_in(kit.rt()), [])
+
+    def test_a_crate_that_leaves_the_processors_is_called_nicely(self):
+        kit._building()
+        for does in False, True:
+            kit.gives_way(does)
+            self.assertEqual(kit.guarded()[-1:] == ['nice'], does)
+
+    def test_the_program_stands_on_the_crates_that_the_tools_find(self):
+        from motesim.programs import crates_of_program
+        program = kit.crate_named('motesim', here.TOP)
+        self.assertEqual(sorted(it.name for it in [*program.below(), program]), crates_of_program(here.TOP))
+
+
+class Others(unittest.TestCase):
+    def test_a_kit_that_lacks_a_part_is_told(self):
+        self.assertIn('rtlib.lock', kit.lacking_in(types.SimpleNamespace(rtlib=types.SimpleNamespace(PARTS=()))))
+
+    def test_no_kit_is_told(self):
+        with mock.patch.object(kit.shutil, 'which', lambda name: None):
+            with self.assertRaisesRegex(Fault, 'rt of the Rattle kit is not here'):
+                kit.rt.__wrapped__()
+
+
+if __name__ == '__main__':
+    unittest.main()
