@@ -19,8 +19,8 @@ PROVED = TOP / 'crates/motesim/out/motesim'
 UNPROVED = TOP / 'out/unproved'
 # (of an archive of the tools, which has no crates)
 PACKED = TOP / 'motesim'
-NOTHING_PROVED = ('NOTHING IS PROVED of this run: the program was compiled with checks in place of the proofs '
-                  '(./run FILE.toml proves and builds it)')
+NOTHING_PROVED = ('NOTHING IS PROVED of this run: its program has checks in place of the proofs '
+                  '(./run FILE.toml proves and builds one)')
 
 
 class ProgramFault(Fault):

@@ -60,7 +60,7 @@ class Progress:
 
     def ends(self, crate: kit.Crate, is_proved: bool) -> None:
         if is_proved:
-            self.estimate.done.append(crate.name)
+            self.estimate.ends(crate.name)
             if not self.line.is_terminal:
                 self.line.say('%s is proved: %s' % (crate.name, self.estimate.state()))
             return

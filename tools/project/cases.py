@@ -19,16 +19,20 @@ without a scenario has an empty standard input. Shows for each case that fails t
 line by line; a case with nothing to expect fails too, and so does a file that belongs to no case. Ends with a line
 `N passed, M failed`, and with status 1 where one failed.
 """
+from __future__ import annotations
+
 import argparse
 import difflib
 import os
 import subprocess
-import sys
 import tempfile
+from collections.abc import Iterable, Sequence
 from concurrent.futures import ThreadPoolExecutor
 from pathlib import Path
+from typing import Any, Iterator
 
-from project.tree import PROGRAM, TOP
+from motesim.faults import Fault, command
+from project.tree import TOP, program_of, take_program
 
 CASES = TOP / 'tests' / 'cases'
 KINDS = ['.toml', '.make', '.args', '.runs', '.expected', '.stderr', '.status']
@@ -37,7 +41,11 @@ SECONDS = 60
 MOST_LINES = 20
 
 
-def as_bytes(text):
+# The status, the standard output and the standard error of a run.
+Answer = tuple[int, bytes, bytes]
+
+
+def as_bytes(text: str | bytes) -> bytes:
     return text.encode() if isinstance(text, str) else text
 
 
@@ -48,39 +56,39 @@ class Wrong(Exception):
 class Case:
     """What the files of one name say."""
 
-    def __init__(self, path, kinds):
+    def __init__(self, path: Path, kinds: set[str]):
         self.path = path
         self.kinds = kinds
         self.made = self.make()
 
-    def make(self):
+    def make(self) -> dict[str, Any]:
         """What the Python of NAME.make defines."""
-        names = {}
+        names: dict[str, Any] = {}
         if '.make' in self.kinds:
             source = self.path.with_suffix('.make')
             exec(compile(source.read_text(encoding='utf-8'), str(source), 'exec'), names)
         return names
 
-    def read(self, kind):
+    def read(self, kind: str) -> bytes:
         return self.path.with_suffix(kind).read_bytes() if kind in self.kinds else b''
 
-    def call(self, name):
+    def call(self, name: str) -> bytes:
         return as_bytes(self.made[name]())
 
-    def table(self):
+    def table(self) -> list[tuple[str, bytes, Answer]]:
         """Each scenario with its name, and with the status, the standard output and the standard error."""
         if 'table' in self.made:
             return [(name, as_bytes(text), (status, as_bytes(output), as_bytes(errors)))
                     for name, text, status, output, errors in self.made['table']()]
         return [('', self.call('scenario') if self.made else self.read('.toml'), self.wanted())]
 
-    def runs(self):
+    def runs(self) -> list[list[str]]:
         """The words of each run."""
         if '.runs' in self.kinds:
             return [line.split() for line in self.read('.runs').decode().splitlines()]
         return [self.read('.args').decode().splitlines()]
 
-    def check_files(self):
+    def check_files(self) -> None:
         """Whether there is something to run, and something to expect of it."""
         if not {'.toml', '.make', '.args', '.runs'} & self.kinds:
             raise Wrong('there is nothing to run')
@@ -92,30 +100,30 @@ class Case:
             if {one, other} <= self.kinds:
                 raise Wrong('there are both %s and %s' % (one, other))
 
-    def wanted(self):
+    def wanted(self) -> Answer:
         """The status, the standard output and the standard error."""
         output = self.call('expected') if 'expected' in self.made else self.read('.expected')
         return int(self.read('.status') or 0), output, self.read('.stderr')
 
 
-def difference(got, wanted):
+def difference(got: bytes, wanted: bytes) -> list[str]:
     """Two texts compared line by line, and at most `MOST_LINES` lines of that."""
-    got, wanted = (text.decode('utf-8', 'backslashreplace').split('\n') for text in (got, wanted))
-    lines = list(difflib.unified_diff(wanted, got, 'expected', 'found', lineterm=''))
+    one, other = (text.decode('utf-8', 'backslashreplace').split('\n') for text in (wanted, got))
+    lines = list(difflib.unified_diff(one, other, 'expected', 'found', lineterm=''))
     left = len(lines) - MOST_LINES
     return lines if left <= 0 else lines[:MOST_LINES] + ['.. and %d lines more' % left]
 
 
-def answer(program, words, text):
+def answer(program: str, words: Sequence[str], text: bytes) -> Answer:
     """The status, the standard output and the standard error of a run."""
     try:
-        done = subprocess.run(['motesim'] + words, executable=program, input=text, capture_output=True, timeout=SECONDS)
+        done = subprocess.run(['motesim', *words], executable=program, input=text, capture_output=True, timeout=SECONDS)
     except subprocess.TimeoutExpired:
-        raise Wrong('no answer in %d seconds' % SECONDS)
+        raise Wrong('no answer in %d seconds' % SECONDS) from None
     return done.returncode, done.stdout, done.stderr
 
 
-def run(program, words, scenario):
+def run(program: str, words: Sequence[str], scenario: bytes) -> Answer:
     """A run with these words, where {} stands for the scenario's path."""
     if '{}' not in words:
         return answer(program, words, scenario)
@@ -125,10 +133,10 @@ def run(program, words, scenario):
         return answer(program, [file.name if word == '{}' else word for word in words], NO_SCENARIO)
 
 
-def check_run(program, words, scenario, wanted):
+def check_run(program: str, words: Sequence[str], scenario: bytes, wanted: Answer) -> None:
     found = run(program, words, scenario)
-    faults = []
-    for what, got, want in zip(['standard output', 'standard error'], found[1:], wanted[1:]):
+    faults: list[str] = []
+    for what, got, want in (('standard output', found[1], wanted[1]), ('standard error', found[2], wanted[2])):
         if got != want:
             faults += ['%s differs' % what] + difference(got, want)
     if found[0] != wanted[0]:
@@ -137,9 +145,10 @@ def check_run(program, words, scenario, wanted):
         raise Wrong('\n  '.join(faults))
 
 
-def check_case(program, path, kinds):
+def check_case(program: str, path: Path, kinds: set[str]) -> str | None:
     """What is wrong with a case, or None."""
-    words, name = [], ''
+    words: list[str] = []
+    name = ''
     try:
         case = Case(path, kinds)
         case.check_files()
@@ -152,9 +161,10 @@ def check_case(program, path, kinds):
     return None
 
 
-def cases_below(path):
+def cases_below(path: Path) -> tuple[dict[Path, set[str]], list[Path]]:
     """The cases of a folder, each with the kinds of its files, and the files that belong to none."""
-    cases, strange = {}, []
+    cases: dict[Path, set[str]] = {}
+    strange: list[Path] = []
     for file in sorted(path.rglob('*')):
         if file.suffix in KINDS:
             cases.setdefault(file.with_suffix(''), set()).add(file.suffix)
@@ -163,32 +173,31 @@ def cases_below(path):
     return cases, strange
 
 
-def chosen(cases, names):
+def chosen(cases: Iterable[Path], names: Iterable[str]) -> Iterator[Path]:
     """Those of the cases that have one of these names or stand in a folder of that name."""
     for name in names:
         found = [path for path in cases if CASES / name in [path] + list(path.parents)]
         if not found:
-            sys.exit('run_cases: there is no case %s' % name)
+            raise Fault('there is no case %s' % name)
         yield from found
 
 
-def main():
+@command('run_cases')
+def main() -> int:
     words = argparse.ArgumentParser(description=__doc__, formatter_class=argparse.RawDescriptionHelpFormatter)
-    words.add_argument('--program', default=str(PROGRAM), metavar='FILE', help='the built motesim')
+    take_program(words)
     words.add_argument('names', nargs='*', metavar='NAME', help='cases, or folders of cases')
-    words = words.parse_args()
-    program = str(Path(words.program).resolve())
-    if not Path(program).is_file():
-        sys.exit('run_cases: there is no program %s' % program)
+    asked = words.parse_args()
+    program = program_of(asked.program)
     cases, strange = cases_below(CASES)
-    paths = sorted(set(chosen(cases, words.names))) if words.names else list(cases)
+    paths = sorted(set(chosen(cases, asked.names))) if asked.names else list(cases)
     with ThreadPoolExecutor(os.cpu_count()) as pool:
         faults = [fault for fault in pool.map(lambda path: check_case(program, path, cases[path]), paths) if fault]
     passed = len(paths) - len(faults)
-    if not words.names:
+    if not asked.names:
         faults += ['%s: the file belongs to no case' % file.relative_to(CASES) for file in strange]
     for fault in faults:
         print(fault)
     print('%d passed, %d failed' % (passed, len(faults)))
-    sys.exit(1 if faults else 0)
+    return 1 if faults else 0
 

@@ -29,6 +29,7 @@ class Log:
 
     def __init__(self, folder: str):
         self.path, self.share, self.began = Path(folder) / 'out/build.log', 0.0, time.monotonic()
+        self.ended: float | None = None
         self.path.parent.mkdir(exist_ok=True)
         self.file = open(self.path, 'w', encoding='utf-8')
 
@@ -68,6 +69,17 @@ class Estimate:
         self.at_first = self.left_by_shares()
         self.told, self.told_at = self.at_first * pace, self.began
 
+    def clock_pace(self) -> float:
+        """The pace of before and that of single crates, each by the clock, whatever else was going on."""
+        before, now = 0.05 * sum(self.seconds.values()), time.monotonic()
+        taken, whole = self.pace * before, before
+        for name, log in list(self.logs.items()):
+            share = 1 if name in self.done else log.share
+            if share > 0.1:
+                taken += (log.ended or now) - log.began
+                whole += self.seconds[name] * share
+        return taken / whole if whole else self.pace
+
     def left_of(self, crate: Crate) -> float:
         """What is left of a crate, in seconds of its share."""
         if crate.name in self.done:
@@ -76,7 +88,7 @@ class Estimate:
         if not log:
             return whole
         # (a check tells late how far it is: till then it goes by the clock)
-        by_clock = min(0.8, (time.monotonic() - log.began) / (whole * max(1, self.pace)))
+        by_clock = min(0.8, (time.monotonic() - log.began) / (whole * max(1, self.clock_pace())))
         return whole * (1 - max(0.9 * log.share, by_clock))
 
     def left_by_shares(self) -> float:
@@ -94,6 +106,12 @@ class Estimate:
         most = self.told * (1 + MOST_RISE * (now - self.told_at) / 60)
         self.told, self.told_at = min(self.left_by_shares() * self.measured_pace(), most), now
         return self.told
+
+    def ends(self, name: str) -> None:
+        """A crate is proved."""
+        if name in self.logs:
+            self.logs[name].ended = time.monotonic()
+        self.done.append(name)
 
     def state(self) -> str:
         elapsed = time.monotonic() - self.began

@@ -7,18 +7,18 @@ and what is broken, and ends with a line `N passed, M failed`, and with status 1
 """
 from __future__ import annotations
 
+import argparse
 import os
 import re
-import sys
 from collections.abc import Callable
 from pathlib import Path
 
 from motesim.expectations import beside, expect
-from motesim.faults import Fault
+from motesim.faults import Fault, command
 from motesim.judge import Judge
 from motesim.report import Report
-from motesim.run import Run, program_path, read_run
-from project.tree import TOP
+from motesim.run import Run, read_run
+from project.tree import TOP, program_of
 
 PAGES = ['README.md', 'docs/use/EXAMPLES.md', 'docs/use/SCENARIO.md', 'docs/use/REPORT.md']
 EXPECTED = '.expect.toml'
@@ -30,10 +30,11 @@ class Wrong(Exception):
 
 def readings_of_those_below(run: Run) -> None:
     """Each mote sends its own reading from 300 on, and one for each mote below it; no sentence can say so."""
+    assert run.scenario
     judge = Judge(run.report, run.scenario)
     below = {mote.number: 1 for mote in run.report.motes}
     for mote in sorted(run.report.motes[1:], key=lambda mote: -judge.hops(0, mote.number)):
-        parents = [line.value for line in mote.lines if line.kind == 'print' and line.process == 'parent']
+        parents = [line.value or 0 for line in mote.lines if line.kind == 'print' and line.process == 'parent']
         sends = [line for line in mote.lines if line.kind == 'send' and line.at >= 300]
         if len(sends) != below[mote.number]:
             raise Wrong('mote %d sends %d readings, not %d' % (mote.number, len(sends), below[mote.number]))
@@ -84,16 +85,14 @@ def check(path: Path, quotes: dict[str, list[tuple[str, str]]]) -> str:
     return '%d sentences hold, %d quoted lines stand there' % (passed, len(lines))
 
 
-def main() -> None:
-    if sys.argv[2:] or sys.argv[1:] and sys.argv[1].startswith('-'):
-        print(__doc__.strip())
-        sys.exit(0 if sys.argv[1] in ('-h', '--help') else 2)
-    if sys.argv[1:]:
-        os.environ['MOTESIM'] = sys.argv[1]
-    try:
-        program_path()
-    except Fault as fault:
-        sys.exit('check_examples: %s' % fault)
+@command('check_examples')
+def main() -> int:
+    words = argparse.ArgumentParser(description=__doc__, formatter_class=argparse.RawDescriptionHelpFormatter)
+    words.add_argument('program', nargs='?', metavar='PROGRAM', help='the motesim to run')
+    asked = words.parse_args()
+    if asked.program:
+        os.environ['MOTESIM'] = asked.program
+    program_of(None)
     paths = [path for path in sorted((TOP / 'examples').glob('*.toml')) if not path.name.endswith(EXPECTED)]
     quotes, failed = quoted([page for page in PAGES if (TOP / page).is_file()]), 0
     for path in paths:
@@ -103,5 +102,4 @@ def main() -> None:
             failed += 1
             print('%s: FAILED: %s' % (path.stem, fault), flush=True)
     print('%d passed, %d failed' % (len(paths) - failed, failed))
-    sys.exit(1 if failed else 0)
-
+    return 1 if failed else 0

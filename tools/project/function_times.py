@@ -9,18 +9,23 @@ With --test the tests are checked too. Seconds are those of the clock. A functio
 and its contract; lemmas count by their file, and what is derived by its type. A large crate is checked in batches,
 and what a batch loads counts to the function that it begins with.
 """
+from __future__ import annotations
+
+import argparse
 import re
-import sys
 from collections import Counter
+from collections.abc import Iterable
+
+from motesim.faults import Fault, command
 
 from project.tree import TOP
 
 
-def is_function(part):
+def is_function(part: str) -> bool:
     return part[0] in '+_' or part[0].islower()
 
 
-def function_of(module, crate):
+def function_of(module: str, crate: str) -> str | None:
     """What a module of a check is about: a.b.S.f of Rattle-c-proofs.a.b.S.f.Lts; a.f of its closure's a.fn.f.map.Lts;
     what is derived, as a.SDebug of a.SDebug.TheImpl; and None of a module that isn't the crate's."""
     named = re.match(r'Rattle-%s[-.](?:proofs|specs)\.(?:contracts\.|declared\.)?(.+)' % re.escape(crate), module)
@@ -36,30 +41,33 @@ def function_of(module, crate):
     return '.'.join(parts[:(last or min(1, len(parts) - 1)) + 1])
 
 
-def seconds_of(files, crate):
+def seconds_of(files: Iterable[tuple[float, str]], crate: str) -> Counter[str]:
     """The seconds of each function, given the time at which each module was written."""
-    taken, before = Counter(), None
+    taken: Counter[str] = Counter()
+    before: float | None = None
     for time, module in sorted(files):
         if before is not None:
-            taken[function_of(module, crate) or 'the rest'] += time - before
+            taken[function_of(module, crate) or 'the rest'] += time - before  # type: ignore[assignment]
         before = time
     return taken
 
 
-def written(crate):
+def written(crate: str) -> list[tuple[float, str]]:
     kept = (TOP / 'crates' / crate / 'out/incremental').rglob('*.oantt')
     return [(it.stat().st_mtime, it.name.removesuffix('.oantt').removesuffix('.decls')) for it in kept]
 
 
-def main():
-    if not 2 <= len(sys.argv) <= 3 or sys.argv[1].startswith('-'):
-        sys.exit(__doc__)
-    crate, number = sys.argv[1], int(sys.argv[2]) if len(sys.argv) == 3 else 20
-    files = written(crate)
+@command('function_times')
+def main() -> int:
+    words = argparse.ArgumentParser(description=__doc__, formatter_class=argparse.RawDescriptionHelpFormatter)
+    words.add_argument('crate', metavar='CRATE', help='a crate that was checked from nothing')
+    words.add_argument('number', metavar='HOW MANY', nargs='?', type=int, default=20, help='so many functions (20)')
+    asked = words.parse_args()
+    files = written(asked.crate)
     if not files:
-        sys.exit('function_times: %s keeps no check' % crate)
-    taken = seconds_of(files, crate)
+        raise Fault('%s keeps no check' % asked.crate)
+    taken = seconds_of(files, asked.crate)
     print('%6.1f  in all' % sum(taken.values()))
-    for function, seconds in taken.most_common(number):
+    for function, seconds in taken.most_common(asked.number):
         print('%6.1f  %s' % (seconds, function))
-
+    return 0

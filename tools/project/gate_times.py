@@ -6,8 +6,11 @@ and notes the processor time of each `rattle`: of which crate, and whether it is
 nothing, as the measure of the machine. The figures go to out/gate_times.json, and one line of them to standard error.
 
 tools/gate_times --show    prints the last run's table by crate, and its line for the table by landing
-tools/gate_times --write   writes the table by crate into docs/dev/GATE.md, and prints the line
+tools/gate_times --write   writes the table by crate into docs/dev/GATE.md, and what proofs take into
+                           tools/project/crate_seconds.json, by which a build is estimated; and prints the line
 """
+from __future__ import annotations
+
 import json
 import os
 import resource
@@ -18,20 +21,27 @@ import tempfile
 import threading
 import time
 from collections import defaultdict
+from collections.abc import Sequence
 from pathlib import Path
+from typing import Any
 
-from project.shares import HEAD, PAGE, table_of
+from motesim.faults import Fault, command
+from project.shares import HEAD, PAGE, keep, table_of
 from project.tree import TOP
 
 KEPT = TOP / 'out/gate_times.json'
 UNIT = 'handed_on'
+# A crate and a kind of check.
+Task = tuple[str, str]
+# The figures of a run, as they are kept.
+Noted = dict[str, Any]
 PROOF, TESTS, BODIES = KINDS = 'proof', 'tests', 'wrong bodies'
 TICK = os.sysconf('SC_CLK_TCK')
 
 
-def processes():
+def processes() -> dict[int, tuple[int, int, str]]:
     """Of each process its parent, its ticks, those of the children that it has waited for included, and when it began."""
-    found = {}
+    found: dict[int, tuple[int, int, str]] = {}
     for name in filter(str.isdigit, os.listdir('/proc')):
         try:
             row = Path('/proc', name, 'stat').read_text().rpartition(')')[2].split()
@@ -41,7 +51,7 @@ def processes():
     return found
 
 
-def task_of(words, folder):
+def task_of(words: Sequence[str], folder: str) -> Task | None:
     """The crate and the kind of check of a process by its words and its folder, or None."""
     if len(words) < 2 or os.path.basename(words[0]) != 'rattle' or words[1] not in ('check', 'build') or '--crate-name' not in words:
         return None
@@ -49,7 +59,7 @@ def task_of(words, folder):
     return words[words.index('--crate-name') + 1], BODIES if is_body else TESTS if '--test' in words else PROOF
 
 
-def task_of_process(number):
+def task_of_process(number: int) -> Task | None:
     try:
         words = Path('/proc', str(number), 'cmdline').read_text('utf-8', 'replace').split('\0')
         return task_of(words, os.readlink('/proc/%d/cwd' % number))
@@ -60,19 +70,21 @@ def task_of_process(number):
 class Sampler:
     """Looks at the processes below one process until it is stopped."""
 
-    def __init__(self, top):
-        self.top, self.ticks, self.tasks = top, {}, {}
+    def __init__(self, top: int):
+        self.top = top
+        self.ticks: dict[tuple[int, str], int] = {}
+        self.tasks: dict[tuple[int, str], Task] = {}
         self.ended = threading.Event()
         self.thread = threading.Thread(target=self.run, daemon=True)
         self.thread.start()
 
-    def run(self):
+    def run(self) -> None:
         while not self.ended.wait(0.25):
             self.look()
 
-    def look(self):
+    def look(self) -> None:
         now = processes()
-        below = defaultdict(list)
+        below: dict[int, list[int]] = defaultdict(list)
         for number, (parent, _, _) in now.items():
             below[parent].append(number)
         # A rattle's own copies count with it: what they have used goes to the first of them once they end.
@@ -93,22 +105,22 @@ class Sampler:
                 family += below[member]
             self.ticks[one] = max(self.ticks.get(one, 0), ticks)
 
-    def stop(self):
+    def stop(self) -> dict[Task, float]:
         """Of each crate and kind the processor seconds."""
         self.ended.set()
         self.thread.join()
-        found = defaultdict(float)
+        found: dict[Task, float] = defaultdict(float)
         for one, ticks in self.ticks.items():
             found[self.tasks[one]] += ticks / TICK
         return found
 
 
-def children_seconds():
+def children_seconds() -> float:
     used = resource.getrusage(resource.RUSAGE_CHILDREN)
     return used.ru_utime + used.ru_stime
 
 
-def unit():
+def unit() -> float | None:
     """The processor seconds of a proof of one small crate from nothing."""
     with tempfile.TemporaryDirectory(prefix='unit-') as room:
         shutil.copytree(TOP / 'crates' / UNIT, Path(room, 'crates', UNIT), ignore=shutil.ignore_patterns('out'))
@@ -119,36 +131,36 @@ def unit():
         return children_seconds() - before if done.returncode == 0 else None
 
 
-def lines_by_kind(crates):
+def lines_by_kind(crates: Sequence[str]) -> list[int]:
     """The lines of code and contracts, of definitions and of proofs."""
     kinds = {'src': '*.rt', 'specs': '*.antt', 'proofs': '*.antt'}
     return [sum(it.read_bytes().count(b'\n') for crate in crates for it in (TOP / 'crates' / crate / part).rglob(name))
             for part, name in kinds.items()]
 
 
-def crates_listed():
+def crates_listed() -> list[str]:
     """The crates in the order of crates.txt, where each stands below those that use it."""
     rows = [it.partition('#')[0].split(':')[0].split() for it in (TOP / 'crates.txt').read_text('utf-8').split('\n')]
     return [row[0] for row in rows if row]
 
 
-def measured(command):
+def measured(called: Sequence[str]) -> tuple[int, Noted]:
     """Runs the command and returns its status and the figures."""
     of_unit, before, began = unit(), children_seconds(), time.monotonic()
-    ran = subprocess.Popen(command)
+    ran = subprocess.Popen(called)
     sampler = Sampler(ran.pid)
     status = ran.wait()
     elapsed, by_task = time.monotonic() - began, sampler.stop()
     crates = crates_listed()
     return status, {
-        'date': time.strftime('%Y-%m-%d'), 'command': ' '.join(command), 'status': status,
+        'date': time.strftime('%Y-%m-%d'), 'command': ' '.join(called), 'status': status,
         'cores': len(os.sched_getaffinity(0)), 'seconds': elapsed, 'processor seconds': children_seconds() - before, 'unit': of_unit,
         'crates': {it: {kind: by_task.get((it, kind), 0) for kind in KINDS} for it in crates},
         'bodies': {it: len(list((TOP / 'crates' / it / 'must-fail').glob('*.edit'))) for it in crates},
         'lines': lines_by_kind(crates)}
 
 
-def table(run):
+def table(run: Noted) -> str:
     """The table by crate."""
     rows = []
     for crate, seconds in run['crates'].items():
@@ -159,7 +171,7 @@ def table(run):
     return HEAD + ''.join(rows) + '| all | %s | %s | %s (%d) |\n' % (*sums, sum(run['bodies'].values()))
 
 
-def landing(run):
+def landing(run: Noted) -> str:
     """The line for the table by landing."""
     seconds, of_unit = run['processor seconds'], run['unit']
     return '| %s | %d | %s | %.0f | %d | %.0f | %s | %s |' % (
@@ -167,7 +179,7 @@ def landing(run):
         seconds / 60, '%.1f' % of_unit if of_unit else '?', '%.0f' % (seconds / of_unit) if of_unit else '?')
 
 
-def summary(run):
+def summary(run: Noted) -> str:
     of_unit = run['unit']
     return '%.0f minutes on %d cores, %.0f processor minutes%s' % (
         run['seconds'] / 60, run['cores'], run['processor seconds'] / 60,
@@ -176,13 +188,14 @@ def summary(run):
         if of_unit else ' (%s was not proved)' % UNIT)
 
 
-def among_others(run):
+def among_others(run: Noted) -> str:
     """What the unit took in the run itself, beside other checks, and how many of these the whole run took."""
     taken = run['crates'].get(UNIT, {}).get(PROOF)
     return ', and %.0f times those in the run itself, %.1f' % (run['processor seconds'] / taken, taken) if taken else ''
 
 
-def main():
+@command('gate_times')
+def main() -> int:
     words = sys.argv[1:]
     if words[:1] == ['--'] and len(words) > 1:
         status, run = measured(words[1:])
@@ -194,15 +207,16 @@ def main():
         print(__doc__, end='')
         return 0 if words in (['--help'], ['-h']) else 2
     if not KEPT.is_file():
-        sys.exit('gate_times: no run has been noted')
+        raise Fault('no run has been noted')
     run = json.loads(KEPT.read_text('utf-8'))
     if words == ['--show']:
         print(table(run))
     else:
         before, _, after = table_of(PAGE.read_text('utf-8'))
         if not after:
-            sys.exit('gate_times: %s has no marks for the table' % PAGE)
+            raise Fault('%s has no marks for the table' % PAGE)
         PAGE.write_text(before + '\n' + table(run) + after, 'utf-8')
+        keep({crate: seconds[PROOF] for crate, seconds in run['crates'].items()})
     print(landing(run))
     return 0
 

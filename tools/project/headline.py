@@ -10,11 +10,11 @@ from __future__ import annotations
 
 import argparse
 import re
-import sys
 import textwrap
 from dataclasses import dataclass, field
 from pathlib import Path
 
+from motesim.faults import Fault, command
 from project.tree import TOP
 
 PAGE = Path('docs/proof/HEADLINE.md')
@@ -184,7 +184,8 @@ def parts_of(page: str) -> tuple[str, str, str]:
     return before + begin, between, end + after
 
 
-def main() -> None:
+@command('headline_files')
+def main() -> int:
     words = argparse.ArgumentParser(description=__doc__, formatter_class=argparse.RawDescriptionHelpFormatter)
     way = words.add_mutually_exclusive_group()
     way.add_argument('--write', action='store_true', help='write the list into %s' % PAGE)
@@ -194,14 +195,16 @@ def main() -> None:
         text = listed(TOP)
         if not asked.write and not asked.check:
             print(text.strip())
-            return
+            return 0
         before, between, after = parts_of((TOP / PAGE).read_text('utf-8'))
     except (Wrong, OSError) as fault:
-        sys.exit('headline_files: %s' % fault)
+        raise Fault(str(fault)) from None
     if asked.write:
         (TOP / PAGE).write_text(before + text + after, 'utf-8')
     elif between == text:
         print('%s has the files on which the headline rests' % PAGE)
     else:
-        sys.exit('headline_files: %s has another list; tools/headline_files --write renews it' % PAGE)
+        print('%s has another list; tools/headline_files --write renews it' % PAGE)
+        return 1
+    return 0
 

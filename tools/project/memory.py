@@ -13,14 +13,14 @@ import argparse
 import os
 import shutil
 import subprocess
-import sys
 import tempfile
 from collections import Counter
 from concurrent.futures import ThreadPoolExecutor
 from dataclasses import dataclass
 from pathlib import Path
 
-from project.tree import PROGRAM, TOP
+from motesim.faults import command
+from project.tree import TOP, program_of, take_program
 
 FILES = ['tests/cases/nets/two_senders.toml', 'tests/cases/nets/ring_overflows.toml', 'examples/wrong.toml']
 MARKS = [['--workers', workers, '--sync', 'marks'] for workers in '23']
@@ -159,23 +159,22 @@ def compiled(room: Path) -> Path:
     return made
 
 
-def main() -> None:
+@command('refuse_memory')
+def main() -> int:
     words = argparse.ArgumentParser(description=__doc__, formatter_class=argparse.RawDescriptionHelpFormatter)
-    words.add_argument('--program', default=str(PROGRAM), metavar='PROGRAM', help='the built motesim')
+    take_program(words)
     words.add_argument('file', nargs='?', metavar='FILE', help='a scenario')
     words.add_argument('words', nargs=argparse.REMAINDER, metavar='WORD', help='words for the program')
     asked = words.parse_args()
-    if not Path(asked.program).is_file():
-        sys.exit('refuse_memory: there is no program %s' % asked.program)
+    program = program_of(asked.program)
     if not shutil.which('cc'):
         print('refuse_memory: skipped, since there is no C compiler cc here')
         print('0 passed, 0 failed')
-        return
-    program = str(Path(asked.program).resolve())
+        return 0
     runs = [(Path(asked.file), asked.words)] if asked.file else SMALL
     with tempfile.TemporaryDirectory() as room:
         refuses = compiled(Path(room))
         ended = [tried(Scenario(program, path, words, refuses)) for path, words in runs]
     print('%d passed, %d failed' % (ended.count(True), ended.count(False)))
-    sys.exit(0 if all(ended) else 1)
+    return 0 if all(ended) else 1
 

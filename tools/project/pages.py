@@ -22,8 +22,7 @@ from dataclasses import dataclass
 from pathlib import Path
 
 from motesim.faults import Fault, command
-from motesim.run import program_path
-from project.tree import TOP
+from project.tree import TOP, program_of
 
 PAGES = ['docs/use/TUTORIAL.md', 'docs/use/TOOLS.md', 'docs/use/EXPECTATIONS.md', 'docs/use/EXPLAIN.md',
          'docs/use/EXPERIMENTS.md']
@@ -41,7 +40,8 @@ class Block:
 
 def blocks_of(lines: list[str]) -> list[Block]:
     """The blocks of a page."""
-    found, first = [], None
+    found: list[Block] = []
+    first: int | None = None
     for at, line in enumerate(lines):
         if not line.startswith(FENCE):
             continue
@@ -134,20 +134,18 @@ def main() -> int:
     words.add_argument('--write', action='store_true', help='put what the commands print into the pages')
     words.add_argument('--page', action='append', metavar='FILE', help='this page, and no other')
     words.add_argument('program', nargs='?', metavar='PROGRAM', help='the motesim to run')
-    words = words.parse_args()
-    program = Path(words.program).resolve() if words.program else program_path().resolve()
-    if not program.is_file():
-        raise Fault('there is no program %s' % program)
+    asked = words.parse_args()
+    program = Path(program_of(asked.program))
     passed = failed = 0
-    for page in map(Path, words.page or [TOP / it for it in PAGES]):
+    for page in map(Path, asked.page or [TOP / it for it in PAGES]):
         text = page.read_text(encoding='utf-8')
         checked = check(page.name, text, program)
         passed += checked.passed
         failed += sum(not it.startswith('  ') for it in checked.faults)
         print(''.join(it + '\n' for it in checked.faults), end='')
-        if words.write and checked.text != text:
+        if asked.write and checked.text != text:
             page.write_text(checked.text, encoding='utf-8')
             print('%s is written anew' % page.name)
     print('%d passed, %d failed' % (passed, failed))
-    return 1 if failed and not words.write else 0
+    return 1 if failed and not asked.write else 0
 

@@ -6,21 +6,26 @@ long their reports are together, was counted by another simulator of the same ru
 (fault 1) or lacks a key (fault 2); the one that lacks only the last line feed is whole. Ends with a line
 `N passed, M failed`, and with status 1 where a check failed.
 """
+from __future__ import annotations
+
 import argparse
 import os
 import subprocess
-import sys
 from collections import Counter
+from collections.abc import Sequence
 from concurrent.futures import ThreadPoolExecutor
-from pathlib import Path
 
-from project.tree import PROGRAM, TOP
+from motesim.faults import command
+from project.tree import TOP, program_of, take_program
 
 CASE = TOP / 'tests/cases/motes/print_then_yield'
 SECONDS = 60
 
+# A word for what the program answers, and its report.
+Answer = tuple[str, bytes]
+
 # For each byte how many texts are answered which fault, or a report, and how many bytes these reports have together.
-SPOILED = [
+SPOILED: list[tuple[bytes, dict[str, int], int]] = [
     (b'\0', {'scenario fault 1': 180}, 0),
     (b'\xff', {'scenario is not UTF-8': 180}, 0),
     (b'"', {'report': 4, 'scenario fault 1': 176}, 356),
@@ -43,7 +48,7 @@ SPOILED = [
 ]
 
 
-def answer(program, text):
+def answer(program: str, text: bytes) -> Answer:
     """A word for what the program answers, and its report."""
     done = subprocess.run([program], input=text, capture_output=True, timeout=SECONDS)
     line = done.stderr.decode('utf-8', 'backslashreplace')
@@ -54,7 +59,7 @@ def answer(program, text):
     return 'status %d, %d bytes and %r' % (done.returncode, len(done.stdout), line), b''
 
 
-def spoiled_fault(answers, wanted, length):
+def spoiled_fault(answers: Sequence[Answer], wanted: dict[str, int], length: int) -> str | None:
     """What is wrong with the answers to the spoiled texts, or None."""
     counts = Counter(word for word, report in answers)
     found = sum(len(report) for word, report in answers)
@@ -64,7 +69,7 @@ def spoiled_fault(answers, wanted, length):
     return 'the reports have %d bytes, not %d' % (found, length) if found != length else None
 
 
-def fronts_fault(answers, report):
+def fronts_fault(answers: Sequence[Answer], report: bytes) -> str | None:
     """What is wrong with the answers to the fronts of the scenario, the shortest first, or None."""
     for length, (word, _) in enumerate(answers[:-1]):
         if word not in ('scenario fault 1', 'scenario fault 2'):
@@ -72,14 +77,13 @@ def fronts_fault(answers, report):
     return None if answers[-1] == ('report', report) else 'all but the last byte: %s' % answers[-1][0]
 
 
-def main():
+@command('spoil_bytes')
+def main() -> int:
     words = argparse.ArgumentParser(description=__doc__, formatter_class=argparse.RawDescriptionHelpFormatter)
-    words.add_argument('--program', default=str(PROGRAM), metavar='FILE', help='the built motesim')
-    program = str(Path(words.parse_args().program).resolve())
-    if not Path(program).is_file():
-        sys.exit('spoil_bytes: there is no program %s' % program)
+    take_program(words)
+    program = program_of(words.parse_args().program)
     text, report = CASE.with_suffix('.toml').read_bytes(), CASE.with_suffix('.expected').read_bytes()
-    faults = []
+    faults: list[tuple[str, str | None]] = []
     with ThreadPoolExecutor(os.cpu_count()) as pool:
         for byte, wanted, length in SPOILED:
             texts = [text[:place] + byte + text[place + 1:] for place in range(len(text))]
@@ -92,5 +96,5 @@ def main():
             print('%s: %s' % (what, fault))
     failed = sum(fault is not None for what, fault in faults)
     print('%d passed, %d failed' % (len(faults) - failed, failed))
-    sys.exit(1 if failed else 0)
+    return 1 if failed else 0
 

@@ -23,6 +23,8 @@ from project import kit
 from project.progress import Line
 
 PROGRAM = 'motesim'
+# (the program's own text, for which it needn't be compiled)
+HELP = Path(__file__).with_name('help.txt')
 # The processor seconds that it took where this was measured (one thread).
 SECONDS = 100
 
@@ -86,6 +88,9 @@ def made_program(line: Line) -> Path:
 @command('motesim')
 def main() -> int:
     words = sys.argv[1:]
+    if '-h' in words or '--help' in words:
+        print(HELP.read_text('utf-8'), end='')
+        return 0
     path = made_program(Line(sys.stderr))
     say_unproved()
     sys.stdout.flush()

@@ -6,31 +6,38 @@ folders too, but for the files NAME.expect.toml of tools/expect; without a name,
 NAME.expected stands beside NAME.toml, the run on one thread has to answer what stands in it: a report, or the one line
 of a fault. Prints a line for each file that differs and a count at the end, and ends with status 1 where one does.
 """
+from __future__ import annotations
+
 import argparse
 import itertools
 import subprocess
-import sys
+from collections.abc import Iterable, Sequence
 from pathlib import Path
+from typing import Iterator
 
-from project.tree import PROGRAM, TOP
+from motesim.faults import Fault, command
+from project.tree import TOP, program_of, take_program
 
 WORKERS = ['1', '2', '3', '7', '16']
 CUTS = ['block', 'stripe']
 SYNCS = ['joins', 'marks']
 SECONDS = 300
 
+# The status, the report and the fault line, or None where there is no answer in time.
+Answer = tuple[int, bytes, bytes] | None
 
-def answer(program, words, path):
+
+def answer(program: str, words: Sequence[str], path: Path) -> Answer:
     """The status, the report and the fault line, or None where there is no answer in time."""
     try:
         with open(path, 'rb') as text:
-            done = subprocess.run([program] + words, stdin=text, stdout=subprocess.PIPE, stderr=subprocess.PIPE, timeout=SECONDS)
+            done = subprocess.run([program, *words], stdin=text, stdout=subprocess.PIPE, stderr=subprocess.PIPE, timeout=SECONDS)
     except subprocess.TimeoutExpired:
         return None
     return done.returncode, done.stdout, done.stderr
 
 
-def expected(path):
+def expected(path: Path) -> Answer:
     """What is written down as the answer, if it is."""
     noted = path.with_suffix('.expected')
     if not noted.is_file():
@@ -39,13 +46,13 @@ def expected(path):
     return (1, b'', text) if text.startswith(b'motesim:') else (0, text, b'')
 
 
-def first_line(got, wanted):
+def first_line(got: bytes, wanted: bytes) -> int:
     """The first line at which two texts differ, counted from 1."""
     pairs = itertools.zip_longest(got.split(b'\n'), wanted.split(b'\n'))
     return next(number for number, (a, b) in enumerate(pairs, 1) if a != b)
 
 
-def difference(got, wanted):
+def difference(got: Answer, wanted: Answer) -> str | None:
     """In what two answers differ, or None."""
     if got == wanted:
         return None
@@ -58,13 +65,13 @@ def difference(got, wanted):
     return 'another fault line: %s' % got[2].decode('utf-8', 'replace').strip()
 
 
-def ways():
+def ways() -> Iterator[list[str]]:
     """The words of each way to run a scenario by workers."""
     for sync, workers, cut in itertools.product(SYNCS, WORKERS, CUTS):
         yield ['--workers', workers, '--cut', cut, '--sync', sync]
 
 
-def differences(program, path):
+def differences(program: str, path: Path) -> Iterator[tuple[str, str | None]]:
     """Each way to run the scenario that answers something else."""
     serial = answer(program, [], path)
     noted = expected(path)
@@ -74,7 +81,7 @@ def differences(program, path):
         yield ' '.join(words), difference(answer(program, words, path), serial)
 
 
-def scenarios(names):
+def scenarios(names: Iterable[str | Path]) -> Iterator[Path]:
     for name in names:
         path = Path(name)
         if path.is_dir():
@@ -83,23 +90,25 @@ def scenarios(names):
             yield path
 
 
-def main():
-    words = argparse.ArgumentParser(description='Compares runs by workers with the run on one thread.')
-    words.add_argument('--program', default=str(PROGRAM), help='the built motesim')
+@command('compare_workers')
+def main() -> int:
+    words = argparse.ArgumentParser(description=__doc__, formatter_class=argparse.RawDescriptionHelpFormatter)
+    take_program(words)
     words.add_argument('names', nargs='*', metavar='FILE or FOLDER', help='scenarios; without them, the examples')
-    words = words.parse_args()
-    paths = list(scenarios(words.names or [TOP / 'examples']))
-    for path in [Path(words.program)] + paths:
+    asked = words.parse_args()
+    program = program_of(asked.program)
+    paths = list(scenarios(asked.names or [TOP / 'examples']))
+    for path in paths:
         if not path.is_file():
-            sys.exit('compare_workers: there is no file %s' % path)
+            raise Fault('there is no file %s' % path)
     if not paths:
-        sys.exit('compare_workers: there is no scenario')
+        raise Fault('there is no scenario')
     differ = 0
     for path in paths:
-        found = [(how, what) for how, what in differences(words.program, path) if what]
+        found = [(how, what) for how, what in differences(program, path) if what]
         if found:
             differ += 1
             print('%s: %d of its runs differ; %s: %s' % ((path, len(found)) + found[0]), flush=True)
     print('%d scenarios, each on one thread and in %d runs by workers: %d differ' % (len(paths), len(list(ways())), differ))
-    sys.exit(1 if differ else 0)
+    return 1 if differ else 0
 

@@ -16,21 +16,24 @@ are taken as they lie there: rt ci has just built them, or taken them from what 
 a fresh clone's sources. As many checks run side by side as there are processors and memory, or as RT_JOBS says. The last line is
 `N passed, M failed`, and the status 1 where one failed.
 """
+from __future__ import annotations
+
 import argparse
 import os
 import resource
-import sys
 import time
-from pathlib import Path
+from collections.abc import Collection, Sequence
+from typing import Any
 
-from project.bodies.edits import FOLDERS, Bodies
+from motesim.faults import Fault, command
+from project.bodies.edits import FOLDERS, Bodies, Edit
 from project.bodies.trial import ONE_JOB, verdicts
 from project import kit
 from project.tree import TOP
 
 
-def words():
-    about, _, details = __doc__.partition('\n\n')
+def words() -> argparse.Namespace:
+    about, _, details = (__doc__ or '').partition('\n\n')
     form = argparse.RawDescriptionHelpFormatter
     asked = argparse.ArgumentParser(description=about, epilog=details, formatter_class=form)
     asked.add_argument('--list', action='store_true', help='print each wrong body with its group and its functions, and try none')
@@ -40,33 +43,33 @@ def words():
     return asked.parse_args()
 
 
-def bodies_asked_for(names, folders):
+def bodies_asked_for(names: Sequence[str], folders: Sequence[str]) -> list[Bodies]:
     """The wrong bodies of each crate that has some, lowest first."""
-    wanted = {}
+    wanted: dict[str, list[str]] = {}
     for crate, _, name in (word.partition('/') for word in names):
         wanted.setdefault(crate, []).append(name)
     crates = {crate.name: crate for crate in kit.crates_below(os.getcwd())}
     for crate in wanted:
         if crate not in crates:
-            sys.exit('wrong_bodies: there is no crate %s' % crate)
+            raise Fault('there is no crate %s' % crate)
     found = [bodies_of(crate, folders, wanted.get(name, [''])) for name, crate in crates.items() if not wanted or name in wanted]
     return [bodies for bodies in found if bodies.edits]
 
 
-def bodies_of(crate, folders, names):
+def bodies_of(crate: kit.Crate, folders: Sequence[str], names: Collection[str]) -> Bodies:
     """The wrong bodies of a crate that have these names; all, where one of these is empty."""
     bodies = Bodies(crate, folders, () if '' in names else names)
     missing = {*names} - {edit.name for edit in bodies.edits} - {''}
     if missing:
-        sys.exit('wrong_bodies: %s has no wrong body %s' % (crate.name, ', '.join(sorted(missing))))
+        raise Fault('%s has no wrong body %s' % (crate.name, ', '.join(sorted(missing))))
     return bodies
 
 
-def label(bodies, edit):
+def label(bodies: Bodies, edit: Edit) -> str:
     return '%s/%s' % (bodies.crate.name, edit.name)
 
 
-def list_groups(of_crates):
+def list_groups(of_crates: Sequence[Bodies]) -> None:
     for bodies in of_crates:
         for edit in bodies.edits:
             if edit.trouble:
@@ -77,14 +80,14 @@ def list_groups(of_crates):
                 print('%s: group %d, %s' % (label(bodies, edit), number, functions or 'the whole crate'))
 
 
-def has_new_library(crate):
+def has_new_library(crate: kit.Crate) -> bool:
     """Whether a crate's library is there, and no file of the crate or below it is newer."""
     made = '%s/format' % crate.rlib
     files = [file for part in [crate, *crate.below()] for file in kit.files_of(part.folder)]
     return os.path.isfile(made) and all(os.path.getmtime(file) < os.path.getmtime(made) for file in files)
 
 
-def build_libraries(of_crates, as_they_lie):
+def build_libraries(of_crates: Sequence[Bodies], as_they_lie: bool) -> bool:
     """Builds what is missing of the libraries below these crates, and returns whether all are there. (rt notes what a library was built
     from, but not where it's the gate's own.)"""
     below = list(dict.fromkeys(library for bodies in of_crates for library in bodies.crate.below()))
@@ -97,7 +100,7 @@ def build_libraries(of_crates, as_they_lie):
     return not any(library.build_rlib(ONE_JOB, anew=False) for library in below)
 
 
-def judge(bodies, group):
+def judge(bodies: Bodies, group: Sequence[Edit]) -> tuple[int, list[str]]:
     """Tries a group, says what came out, and returns how many were refused and which not."""
     found = verdicts(bodies, group)
     for edit in group:
@@ -106,9 +109,10 @@ def judge(bodies, group):
     return len(group) - len(failed), failed
 
 
-def judge_all(of_crates):
+def judge_all(of_crates: Sequence[Bodies]) -> tuple[int, list[str]]:
     """Tries all wrong bodies, and returns how many were refused and which not."""
-    tasks, failed = {}, []
+    tasks: dict[Any, Any] = {}
+    failed: list[str] = []
     for bodies in of_crates:
         for edit in bodies.edits:
             if edit.trouble:
@@ -122,7 +126,8 @@ def judge_all(of_crates):
     return sum(passed for passed, _ in judged), failed + [name for _, names in judged for name in names]
 
 
-def main():
+@command('wrong_bodies')
+def main() -> int:
     asked = words()
     os.chdir(TOP)
     kit.without_c()
@@ -130,9 +135,9 @@ def main():
     of_crates = bodies_asked_for(asked.names, [asked.folder] if asked.folder else FOLDERS)
     if asked.list:
         list_groups(of_crates)
-        return
+        return 0
     if not build_libraries(of_crates, asked.built):
-        sys.exit("wrong_bodies: a library below isn't proved")
+        raise Fault("a library below isn't proved")
     began = time.time()
     passed, failed = judge_all(of_crates)
     if failed:
@@ -140,5 +145,5 @@ def main():
     used = resource.getrusage(resource.RUSAGE_CHILDREN)
     print('%.0f seconds, of the processors %.0f' % (time.time() - began, used.ru_utime + used.ru_stime))
     print('%d passed, %d failed' % (passed, len(failed)))
-    sys.exit(1 if failed else 0)
+    return 1 if failed else 0
 

@@ -56,7 +56,7 @@ class Foretold(unittest.TestCase):
         clock, told = Clock(), []
         with unittest.mock.patch.object(estimate, 'time', clock):
             it = estimate.Estimate([LOW], {'low': 1000}, 1)
-            it.logs['low'] = types.SimpleNamespace(share=0, began=clock.now)
+            it.logs['low'] = types.SimpleNamespace(share=0, began=clock.now, ended=None)
             while it.logs['low'].share < 1:
                 told.append(it.left())
                 clock.now += 10

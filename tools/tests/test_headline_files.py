@@ -73,15 +73,13 @@ class Lists(unittest.TestCase):
         path.write_text(text, 'utf-8')
 
     def run_with(self, *words):
-        """What the command prints, and its exit: None where all is well."""
-        said = io.StringIO()
+        """What the command prints, and what it says where not all is well, else None."""
+        said, told = io.StringIO(), io.StringIO()
         with mock.patch.object(headline, 'TOP', self.top), mock.patch.object(sys, 'argv', ['headline_files', *words]):
-            with contextlib.redirect_stdout(said):
-                try:
+            with contextlib.redirect_stdout(said), contextlib.redirect_stderr(told):
+                with self.assertRaises(SystemExit) as end:
                     headline.main()
-                except SystemExit as end:
-                    return said.getvalue(), end.code
-        return said.getvalue(), None
+        return said.getvalue(), told.getvalue() or said.getvalue() if end.exception.code else None
 
     def test_what_is_imported_is_listed_from_the_top_down(self):
         self.assertEqual(headline.listed(self.top), LIST)

@@ -63,21 +63,19 @@ class Runs(unittest.TestCase):
     def run_with(self, *words):
         said = io.StringIO()
         with mock.patch.object(sys, 'argv', ['refuse_memory', *words]), contextlib.redirect_stdout(said):
-            try:
+            with contextlib.redirect_stderr(said), self.assertRaises(SystemExit) as end:
                 refuse.main()
-            except SystemExit as end:
-                return said.getvalue(), end.code
-        return said.getvalue(), None
+        return said.getvalue(), end.exception.code
 
     def test_without_a_compiler_nothing_is_tried(self):
         with mock.patch.object(refuse.shutil, 'which', lambda name: None):
             said, code = self.run_with('--program', sys.executable)
         self.assertIn('skipped', said)
         self.assertEqual(said.splitlines()[-1], '0 passed, 0 failed')
-        self.assertIsNone(code)
+        self.assertEqual(code, 0)
 
     def test_without_a_program_it_fails(self):
-        self.assertIn('there is no program', self.run_with('--program', '/nowhere/motesim')[1])
+        self.assertIn('there is no program', self.run_with('--program', '/nowhere/motesim')[0])
 
     @unittest.skipUnless(shutil.which('cc'), 'there is no C compiler cc here')
     def test_each_request_of_a_small_program(self):

@@ -1,5 +1,8 @@
-"""What shares reads in docs/dev/GATE.md."""
+"""What is noted of each crate, and the table of docs/dev/GATE.md."""
+import tempfile
 import unittest
+from pathlib import Path
+from unittest import mock
 
 import here  # (it puts tools/ on the path)
 from project import shares
@@ -16,8 +19,15 @@ class Shares(unittest.TestCase):
         self.assertEqual(shares.table_of('no marks'), ('no marks', '', ''))
 
     def test_proofs_have_their_seconds(self):
-        self.assertEqual(shares.proof_seconds(PAGE), {'low': 10, 'high': 20})
-        self.assertEqual(shares.proof_seconds('no marks'), {})
+        with tempfile.TemporaryDirectory() as room, mock.patch.object(shares, 'KEPT', Path(room) / 'kept.json'):
+            self.assertEqual((shares.kept(), shares.minutes_from_nothing(4)), ({}, None))
+            shares.keep({'low': 10.4, 'high': 20, 'none': 0})
+            self.assertEqual(shares.kept()['proof'], {'low': 10, 'high': 20})
+            self.assertEqual(shares.shares(['low', 'high']), {'low': 10, 'high': 20})
+
+    def test_the_machine_that_is_nearest_counts(self):
+        with mock.patch.object(shares, 'kept', lambda: {'minutes from nothing': {'2': 40, '4': 25}}):
+            self.assertEqual([shares.minutes_from_nothing(it) for it in (1, 2, 4, 16)], [40, 40, 25, 25])
 
     def test_each_crate_has_a_share(self):
         crates = ['handed_on', 'motesim', 'no_such_crate']

@@ -180,7 +180,7 @@ class WhatACheckSays(unittest.TestCase):
 
 class AnswersOfTheKit(unittest.TestCase):
     def told(self, answers, **names):
-        with unittest.mock.patch('project.kit.rt', types.SimpleNamespace(**names)):
+        with unittest.mock.patch('project.kit.rt', lambda: types.SimpleNamespace(**names)):
             return list(map(is_refusal, answers))
 
     def test_truth_values(self):

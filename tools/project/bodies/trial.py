@@ -1,11 +1,20 @@
 """Tries wrong bodies of one crate: many in one check, and what that leaves open each by itself."""
+from __future__ import annotations
+
+import subprocess
+from collections.abc import Callable, Sequence
 from typing import NamedTuple
 
+from project.bodies.edits import Bodies, Edit
 from project.bodies.faults import UNEXPLAINED, is_of, own_faults
 from project.kit import checked, must_fail, says_nothing
+from project.bodies.functions import Function
 from project.bodies.stated import stated
 
 ONE_JOB = ['--jobs', '1']
+
+
+Ran = subprocess.CompletedProcess[str]
 
 
 class Verdict(NamedTuple):
@@ -14,7 +23,7 @@ class Verdict(NamedTuple):
     said: str
 
 
-def verdicts(bodies, group):
+def verdicts(bodies: Bodies, group: Sequence[Edit]) -> dict[str, Verdict]:
     """The verdict on each edit of a group, by its file."""
     refused = refused_together(bodies, group) if group[0].functions else {}
     left = [edit.file for edit in group if edit.file not in refused]
@@ -25,7 +34,7 @@ def verdicts(bodies, group):
     return found
 
 
-def refused_together(bodies, group):
+def refused_together(bodies: Bodies, group: Sequence[Edit]) -> dict[str, str]:
     """Which edits of a group a check of them all refuses. Those that it leaves open are tried again with fewer others, down to one by itself."""
     refused = told_of(bodies, group)
     left = [edit for edit in group if edit.file not in refused]
@@ -38,7 +47,7 @@ def refused_together(bodies, group):
     return refused
 
 
-def told_of(bodies, group):
+def told_of(bodies: Bodies, group: Sequence[Edit]) -> dict[str, str]:
     """What is said against each edit of a group: by a check that takes what their functions call by its contract, and where that leaves
     one open by a check that proves it too."""
     told = told_by(check_alone, bodies, group)
@@ -47,7 +56,8 @@ def told_of(bodies, group):
     return told
 
 
-def told_by(check, bodies, group):
+def told_by(check: Callable[[Bodies, dict[str, str], Sequence[Function]], Ran], bodies: Bodies,
+            group: Sequence[Edit]) -> dict[str, str]:
     """What one check of all these edits says against each, or nothing where it says nothing of the proofs, or refuses a function that no
     edit stands in for more than what that calls."""
     texts = bodies.with_all(group)
@@ -56,7 +66,7 @@ def told_by(check, bodies, group):
     if not lines:
         return {}
     faults = own_faults(lines, {it.path: it.cycle for it in functions if it.cycle})
-    told = {}
+    told: dict[str, str] = {}
     for edit in group:
         for name in [name for name in faults if any(is_of(name, it.path) for it in edit.functions)]:
             why = faults.pop(name)
@@ -68,7 +78,7 @@ def told_by(check, bodies, group):
     return {} if others and all(edit.is_inside for edit in group) else told
 
 
-def lines_said(ran, texts):
+def lines_said(ran: Ran, texts: dict[str, str]) -> list[str]:
     """The lines of a check, or none where it doesn't get as far as the proofs."""
     lines = ran.stdout.rstrip('\n').split('\n')
     reached = ran.returncode == 1 and lines[-1].startswith(('only=', 'logic=not-proved'))
@@ -77,17 +87,17 @@ def lines_said(ran, texts):
     return lines
 
 
-def only(functions):
+def only(functions: Sequence[Function]) -> list[str]:
     return [word for function in functions for word in ('--only', function.path)]
 
 
-def check_alone(bodies, texts, functions):
+def check_alone(bodies: Bodies, texts: dict[str, str], functions: Sequence[Function]) -> Ran:
     """Checks these functions, given the contracts of what they call."""
     with stated(bodies, functions) as crate:
         return checked(crate, texts, [*ONE_JOB, '--allow-holes', *only(functions)])
 
 
-def check_with_calls(bodies, texts, functions):
+def check_with_calls(bodies: Bodies, texts: dict[str, str], functions: Sequence[Function]) -> Ran:
     """Checks these functions and what they call; or all of the crate, where a path that was guessed names none."""
     ran = checked(bodies.crate, texts, ONE_JOB + only(functions))
     if ran.returncode == 2 and any(function.is_guess for function in functions):
