@@ -25,6 +25,7 @@ from pathlib import Path
 from typing import NamedTuple
 
 from motesim.faults import Fault
+from motesim.programs import TOP as TOP
 from motesim.programs import ProgramFault as ProgramFault
 from motesim.programs import program_path as program_path
 from motesim.report import Report, ReportFault

@@ -4,17 +4,12 @@ from __future__ import annotations
 import subprocess
 from pathlib import Path
 
-from motesim.run import TOP
+from motesim.version import KIT
 
 
 def kit_version() -> str:
-    """The Rattle kit that everything was proved with, where the tree says it."""
-    path = TOP / 'tools/kit.txt'
-    try:
-        lines = path.read_text('utf-8').splitlines()
-    except (OSError, UnicodeDecodeError):
-        return ''
-    return next((line.strip() for line in lines if line.strip() and not line.startswith('#')), '')
+    """The Rattle kit that everything was proved with."""
+    return KIT
 
 
 def program_version(program: Path) -> str:
