@@ -13,7 +13,7 @@ import argparse
 from collections import Counter
 from itertools import compress, count
 from operator import ne
-from typing import Iterator, NamedTuple
+from typing import Any, Iterator, NamedTuple
 
 from motesim.faults import command
 from motesim.report import FIELDS, Line, Packet, Report
@@ -27,6 +27,8 @@ MEDIUM = -1
 
 
 Pair = tuple[Report, Report]
+# How many lines, by mote and kind, only the one and only the other has.
+Counts = tuple[Counter[tuple[int, str]], Counter[tuple[int, str]]]
 Met = dict[tuple[int, int], list[tuple[int, int]]]
 
 
@@ -34,7 +36,7 @@ class Difference(NamedTuple):
     """Where two lists of lines part: the moment, the mote or MEDIUM, and the place in the lists."""
     at: int
     mote: int
-    index: int
+    place: int
 
 
 class Collision(NamedTuple):
@@ -48,14 +50,14 @@ def number_of(n: int, what: str) -> str:
     return '%d %s%s' % (n, what, '' if n == 1 else 's')
 
 
-def part(a: list, b: list) -> int | None:
+def part(a: list[Any], b: list[Any]) -> int | None:
     """The first place at which two lists differ, or None."""
     if a == b:
         return None
     return next(compress(count(), map(ne, a, b)), min(len(a), len(b)))
 
 
-def lists_of(report: Report) -> dict[int, list]:
+def lists_of(report: Report) -> dict[int, list[Any]]:
     """The lines of each mote, and those of the medium."""
     return {**{mote.number: mote.lines for mote in report.motes}, MEDIUM: report.medium}
 
@@ -90,7 +92,7 @@ def collisions(report: Report) -> Met:
     """The packets that met, by moment and mote."""
     found: Met = {}
     for line in report.lines():
-        if line.kind == 'collide':
+        if line.kind == 'collide' and line.packet:
             found.setdefault((line.at, line.mote), []).append(line.packet)
     return found
 
@@ -132,12 +134,12 @@ def origin(line: Line | Packet, report: Report) -> str:
     if isinstance(line, Packet):
         return ''
     if line.kind in OF_PACKETS and line.kind != 'send' and line.packet in report.packets:
-        return 'packet %d of mote %d was sent at %d with value %d' % (
-            line.number, line.sender, report.packets[line.packet].at, report.packets[line.packet].value)
+        packet = report.packets[line.packet]
+        return 'packet %d of mote %d was sent at %d with value %d' % (packet.number, packet.sender, packet.at, packet.value)
     if line.kind in ('take', 'drop'):
         for other in report.motes[line.mote].lines:
             if other.kind == 'post' and other.serial == line.serial:
-                return 'event %d was posted at %d: %s %d' % (line.serial, other.at, other.event, other.word)
+                return 'event %s was posted at %d: %s %s' % (line.serial, other.at, other.event, other.word)
     return ''
 
 
@@ -150,10 +152,10 @@ def side_in_words(letter: str, report: Report, it: Difference) -> list[str]:
     lines = lists_of(report).get(it.mote)
     if lines is None:
         return ['  %s has no such mote' % letter]
-    if it.index >= len(lines):
+    if it.place >= len(lines):
         return ['  %s has no line more of it' % letter]
-    line = lines[it.index]
-    shown = ['  %s, line %d: %s' % (letter, row_of(report, it.mote, it.index), line)]
+    line = lines[it.place]
+    shown = ['  %s, line %d: %s' % (letter, row_of(report, it.mote, it.place), line)]
     why = origin(line, report)
     return shown + (['      (%s)' % why] if why else [])
 
@@ -173,13 +175,13 @@ def before(lines: list[Line]) -> list[Line]:
 
 def packet_of(reports: Pair, it: Difference) -> Packet:
     """The packet by which two logs of the medium part first."""
-    found = [report.medium[it.index] for report in reports if it.index < len(report.medium)]
+    found = [report.medium[it.place] for report in reports if it.place < len(report.medium)]
     return min(found, key=lambda packet: packet[:3])
 
 
 def led_to(reports: Pair, it: Difference) -> list[str]:
     """What a mote did before a difference, the same on both sides. In the log of the medium the mote is the sender."""
-    mote, index, report = it.mote, it.index, reports[0]
+    mote, index, report = it.mote, it.place, reports[0]
     if mote == MEDIUM:
         packet = packet_of(reports, it)
         mote = packet.sender
@@ -213,12 +215,12 @@ def few(numbers: list[int]) -> str:
     return ', '.join(map(str, numbers[:8])) + (' and %d more' % (len(numbers) - 8) if len(numbers) > 8 else '')
 
 
-def only_in(reports: Pair, found: list[Difference]) -> tuple[Counter, Counter]:
+def only_in(reports: Pair, found: list[Difference]) -> Counts:
     """How many lines only the one and only the other has, by mote (or MEDIUM) and kind."""
-    counts: tuple[Counter, Counter] = Counter(), Counter()
+    counts: Counts = (Counter(), Counter())
     ours, others = map(lists_of, reports)
     for it in found:
-        left, right = (Counter(lists.get(it.mote, [])[it.index:]) for lists in (ours, others))
+        left, right = (Counter(lists.get(it.mote, [])[it.place:]) for lists in (ours, others))
         for into, lines in (counts[0], left - right), (counts[1], right - left):
             for line, number in lines.items():
                 into[it.mote, 'medium' if it.mote == MEDIUM else line.kind] += number
@@ -229,29 +231,30 @@ def table(name: str, rows: list[tuple[str, int, int]], most: int) -> Iterator[st
     """A table of what only A and only B has, and at most so many rows of it."""
     shown = rows[:most]
     if len(rows) > most:
-        shown.append(('%d more' % (len(rows) - most), *(sum(row[side] for row in rows[most:]) for side in (1, 2))))
-    width = max(len(row[0]) for row in [(name,), *shown])
+        shown.append(('%d more' % (len(rows) - most), sum(row[1] for row in rows[most:]), sum(row[2] for row in rows[most:])))
+    width = max(len(it) for it in [name, *(row[0] for row in shown)])
     yield '  %-*s  %8s  %8s' % (width, name, 'only A', 'only B')
     for row in shown:
         yield '  %-*s  %8d  %8d' % (width, *row)
 
 
-def counted(counts: tuple[Counter, Counter], most: int) -> Iterator[str]:
+def counted(counts: Counts, most: int) -> Iterator[str]:
     """How many lines differ, by mote and by kind."""
-    by_mote, by_kind = {}, {}
+    by_mote: dict[int, list[int]] = {}
+    by_kind: dict[str, list[int]] = {}
     for side, counter in enumerate(counts):
         for (mote, kind), number in counter.items():
-            for sums, key in (by_mote, mote), (by_kind, kind):
-                sums.setdefault(key, [0, 0])[side] += number
+            by_mote.setdefault(mote, [0, 0])[side] += number
+            by_kind.setdefault(kind, [0, 0])[side] += number
     totals = tuple(sum(sums[side] for sums in by_kind.values()) for side in (0, 1))
     if not any(totals):
         yield 'Both have the same lines, in another order within a moment.'
         return
     yield 'Lines that differ: %d only in A, %d only in B' % totals
-    motes = [('mote %d' % mote, *by_mote[mote]) for mote in sorted(by_mote) if mote != MEDIUM]
+    motes = [('mote %d' % mote, it[0], it[1]) for mote, it in sorted(by_mote.items()) if mote != MEDIUM]
     if motes:
         yield from table('by mote', motes, most)
-    kinds = [(kind, *by_kind[kind]) for kind in (*FIELDS, 'medium') if kind in by_kind]
+    kinds = [(kind, by_kind[kind][0], by_kind[kind][1]) for kind in (*FIELDS, 'medium') if kind in by_kind]
     yield from table('by kind', kinds, len(kinds))
 
 
@@ -298,11 +301,11 @@ def main() -> int:
     words.add_argument('b', metavar='B', help='another')
     words.add_argument('--rows', type=int, default=20, metavar='N', help='at most so many motes in the table (20)')
     words.add_argument('--html', metavar='FILE', help='write both timelines to this page, which opens where they part')
-    words = words.parse_args()
-    a, b = read_run(words.a), read_run(words.b)
-    lines, first, is_same = compared(a, b, max(1, words.rows))
-    if words.html:
-        write_html(words.html, a, b, first)
+    asked = words.parse_args()
+    a, b = read_run(asked.a), read_run(asked.b)
+    lines, first, is_same = compared(a, b, max(1, asked.rows))
+    if asked.html:
+        write_html(asked.html, a, b, first)
     print('\n'.join(lines))
     return 0 if is_same else 1
 

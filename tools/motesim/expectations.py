@@ -8,7 +8,7 @@ import itertools
 import tomllib
 from dataclasses import dataclass
 from pathlib import Path
-from typing import NamedTuple
+from typing import Any, NamedTuple
 
 from motesim.faults import Fault
 from motesim.judge import Broken, Judge
@@ -52,7 +52,7 @@ class Told(NamedTuple):
     more: list[str]
 
 
-def part_of(table: dict, name: str, keys: set[str]) -> Part:
+def part_of(table: dict[str, Any], name: str, keys: set[str]) -> Part:
     """What a table of the file expects."""
     for key, value in table.items():
         if key not in keys:

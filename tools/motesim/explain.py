@@ -50,7 +50,7 @@ def shown_place(name: str, text: str, place: Place) -> list[str]:
 
 def program_line(text: str, program: str, token: program_faults.Token) -> str:
     """The line of a program's text on which a token stands."""
-    source = tables_of(text)['programs'][program]
+    source: str = tables_of(text)['programs'][program]
     return source.split('\n')[token.line - 1].rstrip('\r')
 
 

@@ -49,7 +49,7 @@ def _within(at: int, span: Span) -> bool:
 def _shown(span: Span) -> str:
     if span[1] is None:
         return ' from %d on' % span[0] if span[0] else ''
-    return ' at %d' % span[0] if span[0] == span[1] else ' from %d to %d' % span
+    return ' at %d' % span[0] if span[0] == span[1] else ' from %d to %d' % (span[0], span[1])
 
 
 def _first_spare(rows: list[int], count: Count) -> int | None:
@@ -110,7 +110,7 @@ class Judge:
         """The lines of a mote that have this pattern."""
         tests = [(index, set(map(str, self.values(it, mote))) if isinstance(it, Value) else {it})
                  for index, it in enumerate(pattern[1:], 2) if it is not None]
-        if len(pattern) > 1 + len(FIELDS[pattern[0]].split()):
+        if len(pattern) > 1 + len(FIELDS[str(pattern[0])].split()):
             return
         for event in self.events[mote]:
             if event.line.kind == pattern[0]:
@@ -156,7 +156,7 @@ class Judge:
         """Whether the values of all lines are those of a list, in its order."""
         for event, wanted in zip(events, deed.values):
             if event.line.value != wanted:
-                why = '%s prints %d in the place of %d' % (self.name(motes), event.line.value, wanted)
+                why = '%s prints %s in the place of %d' % (self.name(motes), event.line.value, wanted)
                 return Broken(why, event.row)
         if len(events) > len(deed.values):
             return Broken('%s prints one value more' % self.name(motes), events[len(deed.values)].row)
@@ -175,7 +175,7 @@ class Judge:
 
     def last(self, deed: Deed, events: list[Event], motes: tuple[int, ...]) -> Broken | None:
         """Whether the last line has the value."""
-        allowed = self.values(deed.value, motes[0])
+        allowed = self.values(deed.value, motes[0]) if deed.value else set()
         if not events:
             return Broken('%s has no such line' % self.name(motes))
         if events[-1].line.value in allowed:
@@ -185,7 +185,7 @@ class Judge:
 
     def than(self, it: Does, events: list[Event], motes: tuple[int, ...]) -> Broken | None:
         """Whether there are so many times as many lines as of the others."""
-        others, window = it.than
+        others, window = it.than or (None, it.window)
         other = events if others is None else self.done(it.deed, self.chosen(others))
         one, two = self.within(events, it.window, motes), self.within(other, window, motes)
         if it.count.admits(len(one), len(two)):
@@ -237,6 +237,7 @@ class Judge:
             return Broken('mote %d does' % doing[0], self.shown_by(it, doing[0])) if doing else None
         if it.motes.kind == 'some':
             return None if doing else Broken('no mote does')
+        assert it.motes.count
         if it.motes.count.admits(len(doing)):
             return None
         why = '%s; wanted: %s' % ('1 mote does' if len(doing) == 1 else '%d motes do' % len(doing), it.motes.count)

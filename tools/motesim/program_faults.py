@@ -86,14 +86,17 @@ class ProgramFault(Exception):
 
 def tokens_of(text: str) -> list[Token]:
     """The tokens of a text, and its end."""
-    found, at, line, begin = [], 0, 1, 0
+    found: list[Token] = []
+    at, line = 0, 1
     while True:
-        behind = BLANK.match(text, at).end()
+        blank = BLANK.match(text, at)
+        behind = blank.end() if blank else at
         line += text.count('\n', at, behind)
         begin = text.rfind('\n', 0, behind) + 1
         if behind == len(text):
             return found + [Token('', line, behind - begin)]
-        word = TOKEN.match(text, behind)[0]
+        matched = TOKEN.match(text, behind)
+        word = matched[0] if matched else text[behind]
         found.append(Token(word, line, behind - begin))
         at = behind + len(word)
 

@@ -11,9 +11,9 @@ import gc
 import re
 import sys
 from collections import namedtuple
+from collections.abc import Callable
 from functools import cached_property
-from operator import getitem
-from typing import Iterator, NamedTuple, NoReturn
+from typing import Any, Iterator, NamedTuple, NoReturn
 
 from motesim.faults import Fault
 from motesim.notation import EVENTS, RESERVED, SYSTEM
@@ -32,7 +32,7 @@ class ReportFault(Fault):
         super().__init__('line %d: expected %s, but %s' % (row, expected, shown))
 
 
-class Line:
+class Line(tuple[Any, ...]):
     """A line of a trace. What its kind doesn't have is None.
 
     kind      what the line says: its second word, one of `FORMS`
@@ -69,13 +69,14 @@ class Line:
 
 def _form(kind: str, fields: str) -> type[Line]:
     """The class of the lines of one kind: tuples of the mote, the moment, these fields and the kind."""
-    form = namedtuple(kind, 'mote at %s kind' % fields)
-    names = {'__slots__': (), '__str__': Line.__str__, '__module__': __name__}
+    form = namedtuple(kind, 'mote at %s kind' % fields)  # type: ignore[misc]
+    names: dict[str, Any] = {'__slots__': (), '__str__': Line.__str__, '__module__': __name__}
     if 'sender' in fields:
         names['packet'] = property(lambda line: (line.sender, line.number))
     if kind == 'send':
         names['packet'] = property(lambda line: (line.mote, line.number))
-    return type(kind, (form, Line), names)
+    made: type[Line] = type(kind, (form, Line), names)
+    return made
 
 
 # The kinds of lines, each with its fields in the order of the text.
@@ -190,9 +191,11 @@ class Report:
         for mote in self.motes:
             here = mote.number
             for line in mote.lines:
-                if line.kind in _BECAME:
-                    became[here, line.sender, line.number] = _BECAME[line.kind]
-        found, silent, new = [], [], tuple.__new__
+                if line.kind in _BECAME and line.packet:
+                    became[(here, *line.packet)] = _BECAME[line.kind]
+        found: list[Outcome] = []
+        silent: list[int] = []
+        new: Callable[..., Any] = tuple.__new__
         for packet in self.medium:
             _, sender, number, _, copies = packet
             for copy in copies:
@@ -201,7 +204,7 @@ class Report:
                 if not what:
                     silent.append(len(found))
                 found.append(new(Outcome, (packet, copy, what)))
-        silent.sort(key=lambda index: found[index].copy.at)
+        silent.sort(key=lambda index: found[index].copy.at or 0)
         halted = len(silent) - self.left
         for place, index in enumerate(silent):
             found[index] = found[index]._replace(what='halted' if place < halted else 'left')
@@ -225,7 +228,7 @@ class _Bad(Exception):
     """A word that can't stand: what was expected in its place."""
 
 
-class _Words(dict):
+class _Words(dict[str, Any]):
     """The words of one kind that were met, each with what it means. A new one is looked at once."""
     __slots__ = ('expected',)
 
@@ -233,11 +236,11 @@ class _Words(dict):
         super().__init__()
         self.expected = expected
 
-    def value(self, word: str) -> object:
+    def value(self, word: str) -> Any:
         """What the word means, or None."""
         raise NotImplementedError
 
-    def __missing__(self, word: str) -> object:
+    def __missing__(self, word: str) -> Any:
         value = self.value(word)
         if value is None:
             raise _Bad(self.expected)
@@ -288,7 +291,7 @@ class _Reader:
         target = _Names('a process or all', SYSTEM + ('all',))
         tables = {'process': process, 'event': _Names('an event', EVENTS), 'word': self.words, 'value': self.words,
                   'sender': self.senders, 'number': self.numbers, 'serial': self.numbers}
-        self.forms = {}
+        self.forms: dict[str, tuple[Any, ...]] = {}
         for kind, fields in FIELDS.items():
             named = [tables[field] for field in fields.split()]
             if kind in ('post', 'full'):
@@ -327,8 +330,10 @@ class _Reader:
 
     def trace(self, mote: int) -> list[Line]:
         """The lines up to the next mote or the medium."""
-        rows, forms, moments, lines, last, new = self.rows, self.forms, self.moments, [], 0, tuple.__new__
-        none = (None, '', 0, None, None, None, None)
+        rows, forms, moments, last = self.rows, self.forms, self.moments, 0
+        lines: list[Line] = []
+        new: Callable[..., Any] = tuple.__new__
+        none: tuple[Any, ...] = (None, '', 0, None, None, None, None)
         for at in range(self.at, len(rows)):
             words = rows[at].split(' ')
             count = len(words)
@@ -373,7 +378,9 @@ class _Reader:
 
     def medium(self) -> list[Packet]:
         """The packets up to the last line."""
-        rows, packets, last, new = self.rows, [], (-1, -1, -1), tuple.__new__
+        rows, last = self.rows, (-1, -1, -1)
+        packets: list[Packet] = []
+        new: Callable[..., Any] = tuple.__new__
         tables = self.moments, self.senders, self.numbers, self.words
         senders, arrivals = self.senders, self.arrivals
         for at in range(self.at, len(rows)):
@@ -384,12 +391,14 @@ class _Reader:
             if len(words) < 4:
                 self.fault("MOMENT SENDER NUMBER VALUE and the packet's copies, or 'left' and a number", at)
             try:
-                key = moment, sender, number, value = tuple(map(getitem, tables, words))
-                copies, heard = [], -1
+                moment, sender, number, value = (table[word] for table, word in zip(tables, words))
+                key: tuple[int, int, int] = moment, sender, number
+                copies: list[Copy] = []
+                heard = -1
                 for word in words[4:]:
-                    to, _, arrival = word.partition('@')
-                    to = senders[to]
-                    arrival = None if arrival == 'lost' else arrivals[arrival]
+                    name, _, after = word.partition('@')
+                    to = senders[name]
+                    arrival = None if after == 'lost' else arrivals[after]
                     if to <= heard or to == sender:
                         self.fault('receivers in rising order, without the sender', at)
                     if arrival is not None and arrival <= moment:
@@ -398,9 +407,9 @@ class _Reader:
                     heard = to
             except _Bad as bad:
                 self.fault(str(bad), at)
-            if key[:3] <= last:
+            if key <= last:
                 self.fault('packets in the order of moment, sender and number', at)
-            last = key[:3]
+            last = key
             packets.append(new(Packet, (moment, sender, number, value, tuple(copies))))
         self.fault("a packet, or 'left' and a number", len(rows))
 
@@ -409,7 +418,7 @@ class _Reader:
         try:
             if len(words) != 2:
                 raise _Bad("'left' and a number")
-            left = self.numbers[words[1]]
+            left: int = self.numbers[words[1]]
         except _Bad as bad:
             self.fault(str(bad))
         self.at += 1

@@ -86,12 +86,12 @@ def read_run(path: str | Path, scenario: str | Path | None = None) -> Run:
     if str(path).endswith('.toml') and scenario is not None:
         raise Fault('%s is a scenario itself, and takes no other' % path)
     data = read_file(path)
-    at = path
+    at, found = path, None
     try:
         if str(path).endswith('.toml'):
             found = Scenario.parse(data)
             return Run(str(path), Report.parse(run_program(data)), found)
-        report, found = Report.parse(data), None
+        report = Report.parse(data)
         if scenario is not None:
             at = scenario
             found = Scenario.parse(read_file(scenario))

@@ -3,7 +3,7 @@ from __future__ import annotations
 
 import tomllib
 from functools import cached_property
-from typing import Iterator, NamedTuple
+from typing import Any, Iterator, NamedTuple
 
 from motesim.faults import Fault
 
@@ -23,7 +23,7 @@ class Place(NamedTuple):
 _KINDS = {int: 'a whole number', str: 'a text', dict: 'a table', list: 'an array of tables', bool: 'true or false'}
 
 
-def _get(table: dict, key: str, kind: type, where: str) -> object:
+def _get(table: dict[str, Any], key: str, kind: type, where: str) -> Any:
     """What a table holds under a key that it needs."""
     if key not in table:
         raise ScenarioFault('%s has no key %s' % (where, key))
@@ -43,8 +43,8 @@ class Scenario:
     It is read for the tools' needs: what motesim refuses has no sense here, and isn't all looked for.
     """
 
-    def __init__(self, tables: dict):
-        medium = _get(tables, 'medium', dict, 'the scenario')
+    def __init__(self, tables: dict[str, Any]):
+        medium: dict[str, Any] = _get(tables, 'medium', dict, 'the scenario')
         self.version: int = _get(tables, 'version', int, 'the scenario')
         self.end: int = _get(tables, 'end', int, 'the scenario')
         self.range: int = _get(medium, 'range', int, 'medium')
@@ -53,8 +53,8 @@ class Scenario:
         self.collide: bool = self.version > 1 and _get(medium, 'collide', bool, 'medium')
         self.programs: dict[str, str] = _get(tables, 'programs', dict, 'the scenario')
         self.queue: dict[str, int] = _get(tables, 'queue', dict, 'the scenario') if 'queue' in tables else {}
-        motes = _get(tables, 'mote', list, 'the scenario')
-        losses = _get(tables, 'loss', list, 'the scenario') if 'loss' in tables else []
+        motes: list[dict[str, Any]] = _get(tables, 'mote', list, 'the scenario')
+        losses: list[dict[str, Any]] = _get(tables, 'loss', list, 'the scenario') if 'loss' in tables else []
         if not all(type(it) is dict for it in motes + losses):
             raise ScenarioFault('a mote or a loss is not a table')
         if self.per < 1 or self.base < 1:

@@ -9,6 +9,7 @@ import re
 import tomllib
 from collections.abc import Iterator
 from dataclasses import dataclass
+from typing import Any
 
 from motesim.program_faults import ProgramFault
 from motesim.program_faults import find_fault as find_program_fault
@@ -100,7 +101,7 @@ def _fault(number: int, path: Path, may: str) -> ScenarioFault:
     return ScenarioFault('scenario fault %d' % number, path, may)
 
 
-def _check_table(table: dict, path: Path, keys: dict[str, Key]) -> None:
+def _check_table(table: dict[str, Any], path: Path, keys: dict[str, Key]) -> None:
     """A table's first fault: missing keys, unknown ones, values of another kind, and those out of range."""
     for name, key in keys.items():
         if key.is_needed and name not in table:
@@ -117,7 +118,7 @@ def _check_table(table: dict, path: Path, keys: dict[str, Key]) -> None:
                 raise _fault(5, path + (name,), may_of(name, key))
 
 
-def _check_kind(table: dict, path: Path, name: str, key: Key) -> None:
+def _check_kind(table: dict[str, Any], path: Path, name: str, key: Key) -> None:
     if name in table and type(table[name]) is not key.kind:
         raise _fault(4, path + (name,), may_of(name, key))
     if name in table and key.kind is list:
@@ -126,7 +127,7 @@ def _check_kind(table: dict, path: Path, name: str, key: Key) -> None:
                 raise _fault(4, path + (name, index), 'a table')
 
 
-def _check_programs(programs: dict) -> None:
+def _check_programs(programs: dict[str, Any]) -> None:
     for name in programs:
         if not re.fullmatch('[A-Za-z0-9_-]{1,32}', name):
             raise _fault(3, ('programs', name), 'a name of 1 to 32 of `A-Z a-z 0-9 _ -`')
@@ -137,7 +138,7 @@ def _check_programs(programs: dict) -> None:
         raise _fault(5, ('programs',), 'at most %d programs' % MOST_PROGRAMS)
 
 
-def _check_queue(queue: dict) -> None:
+def _check_queue(queue: dict[str, Any]) -> None:
     for name, length in queue.items():
         if type(length) is not int:
             raise _fault(4, ('queue', name), may_of(name, QUEUE))
@@ -146,7 +147,7 @@ def _check_queue(queue: dict) -> None:
             raise _fault(5, ('queue', name), may_of(name, QUEUE))
 
 
-def _check_names(tables: dict) -> None:
+def _check_names(tables: dict[str, Any]) -> None:
     """Whether each program that is named is there."""
     may = 'the name of a program (%s)' % (', '.join(tables['programs']) or 'there is none')
     for name in tables.get('queue', {}):
@@ -157,15 +158,15 @@ def _check_names(tables: dict) -> None:
             raise _fault(6, ('mote', index, 'program'), may)
 
 
-def _check_texts(programs: dict) -> None:
-    for name in sorted(programs, key=lambda name: name.encode()):
+def _check_texts(programs: dict[str, Any]) -> None:
+    for name in sorted(programs, key=str.encode):
         fault = find_program_fault(programs[name])
         if fault:
             told = 'program %s fault %d line %d' % (name, fault.kind, fault.token.line)
             raise ScenarioFault(told, ('programs', name), program=fault)
 
 
-def _check_medium(tables: dict) -> None:
+def _check_medium(tables: dict[str, Any]) -> None:
     for number, name in (2, 'base'), (3, 'per'):
         if tables['medium'][name] == 0:
             raise ScenarioFault('medium fault %d' % number, ('medium', name), may_of(name, MEDIUM[name]))
@@ -186,7 +187,7 @@ def _check_medium(tables: dict) -> None:
         seen[pair] = index
 
 
-def _read(data: bytes) -> dict:
+def _read(data: bytes) -> dict[str, Any]:
     """The tables of a scenario."""
     if len(data) > LONGEST_TEXT:
         front = data[:LONGEST_TEXT]
@@ -220,7 +221,7 @@ def _too_large(value: object, path: Path) -> Iterator[Path]:
         yield from _too_large(member, path + (name,))
 
 
-def _check(tables: dict) -> None:
+def _check(tables: dict[str, Any]) -> None:
     is_second = type(tables.get('version')) is int and tables['version'] == 2
     _check_table(tables, (), {**TOP, 'queue': Key(dict, is_needed=False)} if is_second else TOP)
     _check_table(tables['medium'], ('medium',), {**MEDIUM, 'collide': Key(bool)} if is_second else MEDIUM)

@@ -59,7 +59,7 @@ class Count:
     number: int
 
     def admits(self, found: int, times: int = 1) -> bool:
-        return COMPARES[self.compare](found, self.number * times)
+        return bool(COMPARES[self.compare](found, self.number * times))
 
     @property
     def least(self) -> int:
@@ -404,11 +404,14 @@ class _Reader:
             process = self.needed_process()
             values = self.ranges(lambda least: self.number('a value', MOST_WORD, least))
             return Deed((('print', process),), 'set' if self.accept('in any order') else 'just', values=tuple(values))
-        process = self.process()
-        if process is None:
+        printer = self.process()
+        if printer is None:
             return Deed((('print',),))
         value = self.value()
-        return Deed((('print', process, value) if value else ('print', process),))
+        pattern: Pattern = ('print', printer)
+        if value:
+            pattern = ('print', printer, value)
+        return Deed((pattern,))
 
     def motes(self) -> Motes | None:
         """Of which motes the sentence speaks, where it begins with them."""
@@ -490,9 +493,9 @@ class _Reader:
         motes = self.motes()
         if motes is not None:
             return self.does(motes)
-        for word, count in ('no', Count('at most', 0)), ('some', Count('at least', 1)):
+        for word, few in ('no', Count('at most', 0)), ('some', Count('at least', 1)):
             if self.accept(word):
-                return self.things(count, ('copy', 'packet'))
+                return self.things(few, ('copy', 'packet'))
         if self.accept('the report has'):
             count = self.count()
             if count is None:

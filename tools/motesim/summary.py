@@ -44,7 +44,7 @@ import csv
 import json
 import sys
 from collections import Counter
-from typing import Iterator, Union
+from typing import Any, Iterator
 
 from motesim.faults import command
 from motesim.flows import NAMES as FLOW_NAMES
@@ -53,7 +53,8 @@ from motesim.report import Report
 from motesim.run import Run, read_run
 from motesim.scenario import Scenario
 
-Row = dict[str, Union[int, float, str, None]]
+# A row of a table by its columns: numbers, names, or None where there is no value.
+Row = dict[str, Any]
 
 # What became of copies, as the reader and as the tables call it.
 BECAME = {'received': 'received', 'lost': 'lost', 'full': 'ring', 'collided': 'collided', 'halted': 'halted',
@@ -69,7 +70,7 @@ def ratio(row: Row) -> float | None:
     return round(row['received'] / due, 4) if due else None
 
 
-def copies_row(counts: Counter, key: object) -> Row:
+def copies_row(counts: Counter[Any], key: object) -> Row:
     """What became of the copies that are counted under a key."""
     row: Row = {'copies': sum(counts[key, what] for what in BECAME)}
     row.update((name, counts[key, what]) for what, name in BECAME.items())
@@ -77,7 +78,7 @@ def copies_row(counts: Counter, key: object) -> Row:
     return row
 
 
-def by_mote(report: Report, became: Counter) -> list[Row]:
+def by_mote(report: Report, became: Counter[Any]) -> list[Row]:
     """A row for each mote."""
     rows = []
     for mote in report.motes:
@@ -99,7 +100,7 @@ def of_net(motes: list[Row]) -> Row:
     return row
 
 
-def by_link(report: Report, scenario: Scenario | None, became: Counter) -> list[Row]:
+def by_link(report: Report, scenario: Scenario | None, became: Counter[Any]) -> list[Row]:
     """A row for each pair of sender and receiver between which copies went, and for all pairs of a scenario."""
     delays: dict[tuple[int, int], int | None] = {}
     for packet in report.medium:
@@ -117,7 +118,7 @@ def by_link(report: Report, scenario: Scenario | None, became: Counter) -> list[
 def summary(run: Run) -> tuple[list[Row], Row, list[Row]]:
     """The rows of the motes, that of the net, and those of the links."""
     links = Counter(((it.packet.sender, it.copy.to), it.what) for it in run.report.outcomes())
-    receivers: Counter = Counter()
+    receivers: Counter[Any] = Counter()
     for ((_, to), what), number in links.items():
         receivers[to, what] += number
     motes = by_mote(run.report, receivers)
@@ -169,24 +170,24 @@ def main() -> int:
     part.add_argument('--motes', action='store_true', help='the motes and the net alone')
     part.add_argument('--links', action='store_true', help='the links alone')
     part.add_argument('--flow', metavar='WORDS', help='flows from end to end, as "print sink"')
-    words = words.parse_args()
-    run = read_run(words.report, words.scenario)
-    if words.flow is not None:
-        return show_flow(flow_rows(run.report, run.scenario, words.flow), words)
+    asked = words.parse_args()
+    run = read_run(asked.report, asked.scenario)
+    if asked.flow is not None:
+        return show_flow(flow_rows(run.report, run.scenario, asked.flow), asked)
     motes, net, links = summary(run)
     names, of_links = list(net), LINK_NAMES
-    if words.json:
+    if asked.json:
         parts = {'motes': motes, 'net': {name: net[name] for name in names[2:]}, 'links': links}
-        kept = ['links'] if words.links else ['motes', 'net'] if words.motes else list(parts)
+        kept = ['links'] if asked.links else ['motes', 'net'] if asked.motes else list(parts)
         print(json.dumps({name: parts[name] for name in kept}, indent=1))
-    elif words.csv:
-        write_csv(links, of_links) if words.links else write_csv(motes + [net], names)
+    elif asked.csv:
+        write_csv(links, of_links) if asked.links else write_csv(motes + [net], names)
     else:
-        if not words.links:
+        if not asked.links:
             print('\n'.join(table(motes + [net], names)))
-        if not (words.links or words.motes):
+        if not (asked.links or asked.motes):
             print()
-        if not words.motes:
+        if not asked.motes:
             print('\n'.join(table(links, of_links)) if links else 'no link carried anything')
     return 0
 

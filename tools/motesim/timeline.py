@@ -19,7 +19,7 @@ import sys
 import zlib
 from array import array
 from pathlib import Path
-from typing import Iterable, Sequence
+from typing import Any, Iterable, Sequence
 
 from motesim.faults import Fault, command
 from motesim.report import FIELDS, Mote, Report
@@ -37,12 +37,12 @@ ALL = 0xFFFF
 ARRAYS = {'u8': 'B', 'u16': 'H', 'u32': 'I'}
 
 
-class _Names(dict):
+class _Names(dict[str | None, int]):
     """Names in the order in which they were met, each with its place."""
 
-    def __missing__(self, name: str) -> int:
-        self[name] = len(self)
-        return self[name]
+    def __missing__(self, name: str | None) -> int:
+        self[name] = place = len(self)
+        return place
 
 
 def _zigzag(difference: int) -> int:
@@ -82,19 +82,19 @@ class Columns:
             add_kind(kinds[kind])
             p = x = e = w = 0
             if kind in ('post', 'take', 'drop'):
-                x = _zigzag(line.serial - last[kind] - 1)
-                last[kind] = line.serial
+                serial = line.serial or 0
+                x, last[kind] = _zigzag(serial - last[kind] - 1), serial
             elif kind in ('send', 'recv', 'lost', 'collide', 'deaf'):
-                x = _zigzag(line.number - last[kind] - 1)
-                last[kind] = line.number
+                number = line.number or 0
+                x, last[kind] = _zigzag(number - last[kind] - 1), number
             if kind in ('recv', 'lost', 'collide', 'deaf'):
-                p = line.sender
+                p = line.sender or 0
             elif kind not in ('send', 'halt'):
                 p = ALL if line.process == 'all' else processes[line.process]
             if kind in ('post', 'full'):
-                e, w = events[line.event], line.word
+                e, w = events[line.event], line.word or 0
             elif kind in ('print', 'send', 'recv'):
-                w = line.value
+                w = line.value or 0
             add_p(p)
             add_x(x)
             add_e(e)
@@ -133,7 +133,7 @@ class Columns:
         """All columns, compressed."""
         return zlib.compress(self.joined(), 6)
 
-    def said(self) -> list[list]:
+    def said(self) -> list[list[Any]]:
         """What the page has to know of the columns: name, kind of number, length."""
         return [[name, kind, len(self.columns[name])] for name, kind in self.names.items()]
 
@@ -144,7 +144,7 @@ def _last_moment(report: Report) -> int:
     return max(moments + [packet.at for packet in report.medium[-1:]], default=0)
 
 
-def _said_of_scenario(scenario: Scenario | None) -> dict:
+def _said_of_scenario(scenario: Scenario | None) -> dict[str, Any]:
     """What the page shows of a scenario: places, who hears whom, losses."""
     if scenario is None:
         return {'places': None}
@@ -155,7 +155,7 @@ def _said_of_scenario(scenario: Scenario | None) -> dict:
     }
 
 
-def said_of(run: Run, columns: Columns) -> dict:
+def said_of(run: Run, columns: Columns) -> dict[str, Any]:
     """The small table of names and numbers that the page has of a run beside its columns."""
     end = run.scenario.end if run.scenario else _last_moment(run.report)
     return {
@@ -165,7 +165,7 @@ def said_of(run: Run, columns: Columns) -> dict:
     }
 
 
-def data_of(run: Run) -> tuple[dict, bytes]:
+def data_of(run: Run) -> tuple[dict[str, Any], bytes]:
     """What the page has of a run: a small table of names and numbers, and its packed columns."""
     columns = Columns(run.report)
     return said_of(run, columns), columns.packed()
@@ -177,15 +177,16 @@ def _escaped(text: str) -> str:
 
 def page_of(title: str, runs: Sequence[Run], start: int | None = None, mote: int | None = None) -> Iterable[str]:
     """The page's text in parts. It opens on the whole run, or around the moment `start` with `mote` in view."""
-    table, packed = [], []
+    table: list[dict[str, Any]] = []
+    packed: list[str] = []
     for run in runs:
-        said, columns = data_of(run)
-        table.append(said)
+        of_run, columns = data_of(run)
+        table.append(of_run)
         packed.append(base64.b64encode(columns).decode('ascii'))
     said = json.dumps({'title': title, 'start': start, 'mote': mote, 'runs': table},
         separators=(',', ':')).replace('<', '\\u003c')
     scripts = '\n'.join((PAGE / name).read_text() for name in SCRIPTS)
-    fill = {
+    fill: dict[str, list[str]] = {
         '@TITLE@': [_escaped(title)], '@STYLE@': [(PAGE / 'page.css').read_text()], '@SAID@': [said],
         '@COLUMNS@': ['<script id="run%d" type="text/plain">%s</script>\n' % item for item in enumerate(packed)],
         '@SCRIPT@': ["(() => {\n'use strict';\n" + scripts + '\n})();'],
