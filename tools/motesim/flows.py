@@ -72,8 +72,13 @@ def hops_from(scenario: Scenario, origin: int) -> dict[int, int]:
     """The least number of hops to each mote that is reached from one."""
     found, edge = {origin: 0}, [origin]
     while edge:
-        edge = sorted({r for s in edge for r in scenario.hearers(s) if r not in found and scenario.losses.get((s, r)) != 1})
-        found.update((r, found[s] + 1) for s in list(found) for r in scenario.hearers(s) if r in edge and r not in found)
+        reached = []
+        for s in edge:
+            for r in scenario.hearers(s):
+                if r not in found and scenario.losses.get((s, r)) != 1:
+                    found[r] = found[s] + 1
+                    reached.append(r)
+        edge = reached
     return found
 
 

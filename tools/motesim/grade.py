@@ -1,7 +1,7 @@
 """Makes a table of students' scenarios: tools/grade FOLDER EXPECTATIONS
 
-Runs each scenario NAME.toml of FOLDER, and in the folders in it, on the sentences of EXPECTATIONS, as tools/expect does
-for one, and shows a row for each: how many sentences hold, and which are broken, by their numbers. A scenario that the
+Runs each scenario NAME.toml of FOLDER, and in the folders in it, on the sentences of EXPECTATIONS, as tools/expect
+does for one, and shows a row for each: how many sentences hold, and which are broken, by their numbers. A scenario that the
 program refuses has its fault in the row. Below the table stand the sentences with how many scenarios keep each.
 
 `--csv` is for a spreadsheet: a column for each sentence, 1 where it holds and 0 where not. `--why NAME` shows for one
@@ -68,7 +68,8 @@ def table(graded: list[Graded]) -> list[str]:
     for it in graded:
         broken = ', '.join(str(number) for number, one in enumerate(it.told, 1) if not one.holds)
         count = '%d of %d' % (sum(one.holds for one in it.told), len(sentences(graded)))
-        rows.append(('%s  %s  %s' % (it.name.ljust(width), count, it.why or broken and 'broken: %s' % broken)).rstrip())
+        shown = it.why or broken and 'broken: %s' % broken
+        rows.append(('%s  %s  %s' % (it.name.ljust(width), count, shown)).rstrip())
     return rows
 
 

@@ -1,7 +1,7 @@
 """Hints on faults: what the writer most likely meant, and how it is written here.
 
-`of_program(text, fault)` and `of_scenario(tables, fault)` give one sentence, or None where nothing better is known than
-the rule. They go by the word that can't stand and the words before it; whether a hint is right, the next run shows.
+`of_program(text, fault)` and `of_scenario(tables, fault)` give one sentence, or None where nothing better is known
+than the rule. They go by the word that can't stand and the words before it; whether a hint is right, the next run shows.
 """
 from __future__ import annotations
 
@@ -83,7 +83,7 @@ def _of_sign(here: Token, behind: Token) -> str | None:
     if word == '#':
         return 'A comment begins with `//`.'
     if word == '&' or word == '|':
-        return 'There are no operators on bits: `&&` and `||` are "and" and "or", `/` and `%` by powers of 2 take parts.'
+        return 'There are no operators on bits: `/` and `%` by powers of 2 take parts, `&&` is "and", `||` is "or".'
     if word == '.':
         return 'Numbers are whole, 0 to 65,535; there are no fields.'
     if word in '[]':
@@ -144,7 +144,7 @@ def _of_unknown(before: list[Token], here: Token, may: list[str]) -> str | None:
     declared = {one.text for one in before if one.kind == 'name'}
     # (may lists the names of the kind that is wanted, in brackets after it)
     wanted = {name for it in may if '(' in it for name in it[it.index('(') + 1:].rstrip(')').split(', ')}
-    known = (wanted | set(STATEMENTS) if begins else wanted | {'data', 'from', 'now', 'self'}) - {'none is declared here'}
+    known = (wanted | (set(STATEMENTS) if begins else {'data', 'from', 'now', 'self'})) - {'none is declared here'}
     like = nearest(here.text, known) or nearest(here.text, declared & known)
     if like:
         return 'Did you mean `%s`?' % like

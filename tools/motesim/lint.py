@@ -79,7 +79,8 @@ def of_program(program: Program) -> Iterator[Warned]:
     if packet and not program.receivers:
         yield Warned('packets are waited for, and no process is the `receiver`: they are dropped', name, packet)
     for loop in program.endless_loops():
-        yield Warned('a loop without an end, in which nothing waits: the mote halts when its work is used up', name, loop)
+        what = 'a loop without an end, in which nothing waits: the mote halts when its work is used up'
+        yield Warned(what, name, loop)
     for kind in 'etimer', 'ctimer':
         for at, word in enumerate(program.words[:-1]):
             if word == kind and program.tokens[at + 1].kind == 'name':

@@ -20,7 +20,8 @@ CODE = 'process a; autostart a; code a { var seq = 0; var seen = 0; etimer t; bo
 
 # What is written in the body, and what stands in the hint.
 BODIES = [
-    ('seq = seq + 1;', '(seq + 1)'), ('seq++;', 'no `++`'), ('seq += 1;', 'no `+=`'), ('if seq == 1 { }', '(seq == 1)'),
+    ('seq = seq + 1;', '(seq + 1)'), ('seq++;', 'no `++`'), ('seq += 1;', 'no `+=`'),
+    ('if seq == 1 { }', '(seq == 1)'),
     ('if (seq == 1) { } else if (seq == 2) { }', 'into it'), ('send 1, seq;', '256'), ('print "got";', 'numbers'),
     ('for (seq = 0; seq < 3) { }', 'while'), ('# x', '//'), ('/* x */ print 1;', '//'), ('seq = random(3);', 'seed'),
     ('pritn 1;', '`print`'), ('print sen;', '`seen`'), ('if (seq = 1) { }', '`==`'), ('seq = -1;', '65535'),
@@ -73,7 +74,8 @@ class Hints(unittest.TestCase):
 
     def test_a_scenario(self) -> None:
         for text, wanted in [
-            (scenario(medium='colide = true', version='2'), '`collide`'), (scenario(medium='collide = true'), 'version = 2'),
+            (scenario(medium='colide = true', version='2'), '`collide`'),
+            (scenario(medium='collide = true'), 'version = 2'),
             (scenario(medium='probability = 3'), 'chance'), (scenario().replace('x = 5', 'x = 5.5'), 'whole numbers'),
             (scenario().replace('program = "source"', 'program = "sorce"'), '`source`'),
             (scenario(version='3'), 'versions 1 and 2'), (scenario().replace('end = 9', 'ende = 9'), '`end`'),
@@ -171,8 +173,8 @@ class Grades(unittest.TestCase):
         answers = {'good': Answer(0, b'mote 0 p\n0 print a 1\nmedium\nleft 0\n', b''),
                    'poor': Answer(0, b'mote 0 p\nmedium\nleft 0\n', b''),
                    'ill': Answer(1, b'', b'motesim: program p fault 2 line 1\n')}
-        text = 'version = 1\nend = 5\n[medium]\nrange = 1\nbase = 1\nper = 1\n[programs]\np = "process a; code a { body { } }"\n' \
-               '[[mote]]\nx = 0\ny = 0\nprogram = "p"\n# %s\n'
+        text = 'version = 1\nend = 5\n[medium]\nrange = 1\nbase = 1\nper = 1\n' \
+               '[programs]\np = "process a; code a { body { } }"\n[[mote]]\nx = 0\ny = 0\nprogram = "p"\n# %s\n'
         with tempfile.TemporaryDirectory() as folder:
             for name in answers:
                 (Path(folder) / (name + '.toml')).write_text(text % name, encoding='utf-8')
