@@ -1,8 +1,9 @@
 """Makes a table of students' scenarios: tools/grade FOLDER EXPECTATIONS
 
 Runs each scenario NAME.toml of FOLDER, and in the folders in it, on the sentences of EXPECTATIONS, as tools/expect
-does for one, and shows a row for each: how many sentences hold, and which are broken, by their numbers. A scenario that the
-program refuses has its fault in the row. Below the table stand the sentences with how many scenarios keep each.
+does for one, and shows a row for each: how many sentences hold, and which are broken, by their numbers. A scenario
+that the program refuses has its fault in the row. Below the table stand the sentences with how many scenarios keep
+each. Tables `[[change]]` are not tried: they replace texts of one solution.
 
 `--csv` is for a spreadsheet: a column for each sentence, 1 where it holds and 0 where not. `--why NAME` shows for one
 scenario the first line of the report that breaks each broken sentence.
@@ -19,6 +20,7 @@ from typing import NamedTuple
 
 from motesim.expectations import Told, judged, parts_of, text_of
 from motesim.faults import Fault, command
+from motesim.run import answer, read_file
 
 
 class Graded(NamedTuple):
@@ -36,19 +38,24 @@ def scenarios(folder: Path) -> list[Path]:
     return found
 
 
+def refusal(path: Path) -> str:
+    """The fault that the program reports of a scenario, or nothing where it has a report."""
+    got = answer(read_file(path))
+    return got.fault.decode('utf-8', 'backslashreplace').strip() if got.status else ''
+
+
 def grade(folder: Path, expectations: Path) -> list[Graded]:
     """What holds of each scenario of a folder."""
-    parts = parts_of(text_of(expectations), expectations.name)
+    part = parts_of(text_of(expectations), expectations.name)[0]
     graded = []
     for path in scenarios(folder):
         told: list[Told] = []
         name, why = str(path.relative_to(folder)), ''
         try:
-            for part in parts:
-                told += judged(text_of(path), part)
+            told = judged(text_of(path), part)
         except Fault as fault:
             # (what a student's scenario lacks is the student's; a sentence that no scenario knows is the teacher's)
-            why = str(fault).split('\n')[0]
+            why = refusal(path) or ': '.join(line.strip() for line in str(fault).split('\n')[:2])
         refused = next((it.more[0] for it in told if it.more and it.more[0].startswith('the scenario is refused')), '')
         graded.append(Graded(name, told, why or refused))
     if all(it.why and not it.told for it in graded):
