@@ -55,7 +55,7 @@ RANGE = re.compile(r'(-?[0-9]{1,9})\.\.(-?[0-9]{1,9})(?:\.\.([0-9]{1,9}))?')
 SWEEP = {'vary': optional(dict, {}), 'measure': optional(list, []), 'seconds': optional(int, SECONDS, 1, MOST_SECONDS)}
 MADE = ('fault', 'plan', 'plan_sha256', 'scenario_sha256', 'report_sha256', 'program', 'program_sha256', 'kit',
         'measures_sha256', 'parameters')
-SHOWN_EVERY = 10
+SHOWN_EVERY = 30
 
 
 def values_of(words: str) -> list[Value]:

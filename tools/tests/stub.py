@@ -8,9 +8,6 @@ from pathlib import Path
 
 STUB = '''#!%s
 import re, sys, time, tomllib
-if sys.argv[1:] == ['--version']:
-    print('stub 1.0')
-    sys.exit(0)
 scenario = tomllib.loads(sys.stdin.read())
 out = []
 for number, mote in enumerate(scenario['mote']):

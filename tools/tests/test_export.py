@@ -2,7 +2,6 @@
 import json
 import os
 import re
-import shutil
 import subprocess
 import sys
 import tempfile
@@ -11,9 +10,9 @@ from collections import Counter
 from pathlib import Path
 
 from here import TOOLS
-from motesim import packages
 from motesim.export import pcapng, perfetto, times, vcd
 from motesim.report import Report
+from skips import interpreter_with, need_command
 
 LUA = TOOLS / 'motesim/export/motesim.lua'
 # The report of examples/small_network.toml, with a mote that halts.
@@ -145,10 +144,6 @@ class ExportTest(unittest.TestCase):
         self.assertEqual((done.returncode, done.stderr), (0, ''))
         return done.stdout
 
-    def needs(self, program: str, package: str) -> None:
-        if not shutil.which(program):
-            self.skipTest('%s is not installed: on Debian `apt-get install %s`' % (program, package))
-
     def test_lines_of_a_turn_stand_apart_and_within_their_moment(self) -> None:
         lines = ''.join('3 print a %d\n' % (number % 7) for number in range(5_000))
         mote = Report.parse('mote 0 p\n0 start a\n%s4 print a 1\nmedium\nleft 0\n' % lines).motes[0]
@@ -167,7 +162,7 @@ class ExportTest(unittest.TestCase):
         self.assertEqual((len(names), max(map(len, names))), (20_000, 3))
 
     def test_gtkwave_reads_the_waveform(self) -> None:
-        self.needs('vcd2fst', 'gtkwave')
+        need_command(self, 'vcd2fst', 'gtkwave')
         self.export('a.report', '--to', 'vcd')
         done = self.run_it('vcd2fst', 'a.vcd', 'a.fst')
         self.assertEqual(done.returncode, 0, done)
@@ -176,7 +171,7 @@ class ExportTest(unittest.TestCase):
             self.assertEqual(back[name], values, name)
 
     def test_wireshark_reads_the_packets(self) -> None:
-        self.needs('tshark', 'tshark')
+        need_command(self, 'tshark', 'tshark')
         self.export('a.report', '--to', 'pcapng', '-o', 'b.pcapng')
         fields = [word for name in FIELDS for word in ('-e', name)]
         read = ['tshark', '-X', 'lua_script:%s' % LUA, '-r', 'b.pcapng']
@@ -215,9 +210,7 @@ class ExportTest(unittest.TestCase):
                              and it['ts'] == arrow['ts']])
 
     def test_pandas_reads_the_tables(self) -> None:
-        interpreter = sys.executable if packages.is_here('pandas') else packages.SYSTEM
-        if not packages.has('pandas', interpreter):
-            self.skipTest(packages.how_to_install('pandas'))
+        interpreter = interpreter_with(self, 'pandas')
         self.assertEqual(self.export('a.report', '--to', 'csv'), 'a.lines.csv\na.packets.csv\na.copies.csv\n')
         done = self.run_it(interpreter, '-c', PANDAS)
         self.assertEqual(done.stdout.split('\n'), [

@@ -13,8 +13,9 @@ from motesim.chance import Chance
 from motesim.faults import Fault
 from motesim.plan import Plan
 from motesim.plan_files import Files
-from motesim.run import program_path, run_program
+from motesim.run import run_program
 from motesim.scenario import Scenario
+from skips import need_program
 
 PLAN = '''end = 160
 [medium]
@@ -183,10 +184,7 @@ flood = 5
             self.assertEqual(Scenario.parse(there.scenario({})).programs['odd'], source)
 
     def test_the_program_takes_what_is_written(self) -> None:
-        try:
-            program_path()
-        except Fault as fault:
-            self.skipTest(str(fault))
+        need_program(self)
         for rule in RULES:
             self.assertIn(b'medium\n', run_program(plan(with_places(rule)).scenario({}).encode()))
 

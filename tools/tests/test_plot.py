@@ -11,6 +11,7 @@ from here import TOOLS
 from motesim import packages, plot
 from motesim.faults import Fault
 from motesim.results import Row
+from skips import interpreter_with
 from stub import write_stub
 
 HEAD = 'period,density,seed,sent,late,fault,plan,parameters\n'
@@ -47,10 +48,6 @@ class PlotTest(unittest.TestCase):
         return subprocess.run([sys.executable, '-B', str(TOOLS / 'plot'), 'net.csv', *words], cwd=self.folder,
                               env={**os.environ, **here}, capture_output=True, text=True)
 
-    def needs_matplotlib(self) -> None:
-        if not packages.is_here('matplotlib') and not packages.has('matplotlib'):
-            self.skipTest(packages.how_to_install('matplotlib'))
-
     def test_the_table(self) -> None:
         done = self.plot('--measure', 'sent', '--against', 'period', '--by', 'density')
         found = done.returncode, ' '.join(done.stdout.split()), done.stderr
@@ -68,7 +65,7 @@ class PlotTest(unittest.TestCase):
         self.assertEqual(plot.quartiles([5.0, 1.0, 3.0, 2.0, 4.0]), (2.0, 3.0, 4.0))
 
     def test_a_picture_in_svg(self) -> None:
-        self.needs_matplotlib()
+        interpreter_with(self, 'matplotlib')
         words = '--measure', 'sent', '--against', 'period', '--by', 'density', '-o', 'a.svg', '--title', 'How it goes'
         done = self.plot(*words)
         self.assertEqual((done.returncode, done.stdout), (0, 'a.svg\n'), done)
@@ -81,7 +78,7 @@ class PlotTest(unittest.TestCase):
         self.assertEqual((self.folder / 'a.svg').read_text(), text)
 
     def test_a_picture_in_png(self) -> None:
-        self.needs_matplotlib()
+        interpreter_with(self, 'matplotlib')
         done = self.plot('--measure', 'sent', '--against', 'density', '-o', 'a.png')
         self.assertEqual(done.returncode, 0, done)
         self.assertEqual((self.folder / 'a.png').read_bytes()[:8], b'\x89PNG\r\n\x1a\n')
@@ -117,7 +114,7 @@ class PlotTest(unittest.TestCase):
             plot.shown_of(rows, plot.Wish('said', 'a'))
 
     def test_what_a_plan_says_is_drawn(self) -> None:
-        self.needs_matplotlib()
+        interpreter_with(self, 'matplotlib')
         stub = write_stub(self.folder)
         (self.folder / 'a.mote').write_text('process a;\ncode a { body { print ${period}; } }\n')
         (self.folder / 'a.plan.toml').write_text('''end = 9

@@ -20,6 +20,7 @@ from motesim.run import Run
 from motesim.scenario import Scenario
 from motesim.sentences import names_of
 from motesim.sweep import values_of
+from skips import interpreter_with
 from stub import write_stub
 
 PLAN = '''end = 160
@@ -187,7 +188,7 @@ class SweepTest(Bed):
         found = [(row['period'], row['motes'], row['name'], row['end'], row['prints'], row['fault']) for row in rows]
         self.assertEqual(found[:3], [('1', '2', 'a', '2', '2', ''), ('1', '3', 'a', '3', '3', ''),
                                      ('2', '2', 'a', '4', '2', '')])
-        self.assertEqual({(row['plan'], row['program']) for row in rows}, {('net.plan.toml', 'stub 1.0')})
+        self.assertEqual({(row['plan'], row['program']) for row in rows}, {('net.plan.toml', 'another')})
         self.assertTrue(all(len(row[name]) == 16 for row in rows for name in row if name.endswith('sha256')))
         self.assertEqual(len({row['scenario_sha256'] for row in rows}), 6)
 
@@ -315,7 +316,7 @@ progress.add(True)
 CLUSTER = '''import sys
 from distributed import LocalCluster
 if __name__ == '__main__':
-    with LocalCluster(n_workers=2, threads_per_worker=1, dashboard_address=None) as cluster:
+    with LocalCluster(n_workers=2, threads_per_worker=1, dashboard_address=None, local_directory='.') as cluster:
         print(cluster.scheduler_address, flush=True)
         sys.stdin.read()
 '''
@@ -325,9 +326,7 @@ class DaskTest(Bed):
     """The same rows by a cluster of two workers."""
 
     def test_a_cluster_of_two_workers(self) -> None:
-        interpreter = sys.executable if packages.is_here('distributed') else packages.SYSTEM
-        if not packages.has('distributed', interpreter):
-            self.skipTest(packages.how_to_install('distributed'))
+        interpreter = interpreter_with(self, 'distributed')
         self.sweep(*self.words)
         (self.folder / 'cluster.py').write_text(CLUSTER)
         cluster = subprocess.Popen([interpreter, 'cluster.py'], cwd=self.folder, env=self.here(), text=True,
