@@ -2,6 +2,8 @@
 
     report    reads reports            scenario  reads scenarios
     run       runs the program         faults    the error type of the tools, and how each command ends
+    plan      scenarios by rule        measures  what is measured of a run
+    results   the rows of a sweep      export    files for other programs
 
 docs/use/TOOLS.md shows a script that uses them.
 """

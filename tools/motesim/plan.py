@@ -13,7 +13,8 @@ from pathlib import Path
 
 from motesim.faults import Fault
 from motesim.plan_files import Files
-from motesim.plan_net import TOP, Builder, files_of
+from motesim.plan_keys import TOP
+from motesim.plan_net import Builder, files_of
 from motesim.plan_tables import NAME, Tables, Value
 from motesim.run import read_file
 

@@ -31,7 +31,7 @@ class Files:
         try:
             text = self.read(name).decode('utf-8', 'replace').removeprefix('\ufeff')
             rows = list(csv.DictReader(io.StringIO(text, newline=''), skipinitialspace=True))
-        except (Fault, csv.Error):
+        except (Fault, ValueError, csv.Error):
             return set()
         return {value.strip() for row in rows for key, value in row.items()
                 if type(key) is str and key.strip() == column and type(value) is str and value.strip()}
@@ -42,7 +42,7 @@ class Files:
         for name in names:
             try:
                 data = self.read(name)
-            except Fault:
+            except (Fault, ValueError):
                 data = b''
             made.update(b'\0%s\0%d\0' % (name.encode(), len(data)) + data)
         return made.hexdigest()

@@ -11,46 +11,12 @@ from motesim.chance import Chance
 from motesim.faults import Fault
 from motesim.places import Crowd, NoPlace, Point
 from motesim.plan_files import CsvTable, Files
-from motesim.plan_tables import (
-    Key, NoParameter, PlanFault, Tables, any_kind, filled, needed, optional, shown, text_of_value,
+from motesim.plan_keys import (
+    CORNER, LOSS_STREAM, LOSSES, MEDIUM, MOST_BYTES, MOST_LOSSES, MOST_MOTES, MOST_PLACE, OTHER, PLACES, TOP,
 )
+from motesim.plan_tables import Key, NoParameter, PlanFault, Tables, filled, needed, optional, shown, text_of_value
 from motesim.plan_text import Mote, Net, scenario_text
 from motesim.scenario_faults import Path, Place
-
-MOST_BYTES, MOST_MOTES, MOST_LOSSES, MOST_PLACE = 1_048_576, 1_000, 10_000, 30_000
-MOST_SEED = 2 ** 63 - 1
-
-TOP = {'end': needed(int, 0, 1_000_000), 'medium': needed(dict),
-       'places': any_kind('a table, or an array of tables, with a `rule`', True), 'queue': optional(dict, {}),
-       'parameters': optional(dict, {}), 'other': any_kind('an array of tables', False),
-       'loss': any_kind('an array of tables', False), 'sweep': optional(dict, {}),
-       'plot': any_kind('an array of tables', False)}
-MEDIUM = {'range': needed(int, 0, 100_000), 'base': needed(int, 1, 1_000_000), 'per': needed(int, 1, 1_000_000),
-          'collide': optional(bool, False)}
-AREA = {'width': needed(int, 0, 60_000), 'height': needed(int, 0, 60_000), 'seed': needed(int, 0, MOST_SEED),
-        'least': optional(int, 0, 0, 60_000), 'connected': optional(bool, False)}
-COUNT, STEP = needed(int, 1, MOST_MOTES), needed(int, 0, 60_000)
-PLACES: dict[str, dict[str, Key]] = {
-    'grid': {'columns': COUNT, 'rows': COUNT, 'step': STEP},
-    'line': {'count': COUNT, 'step': STEP},
-    'ring': {'count': COUNT, 'radius': STEP},
-    'random': {'count': COUNT, **AREA},
-    'clusters': {'count': COUNT, 'motes': COUNT, 'spread': STEP, **AREA},
-    'list': {'at': needed(list, 1, MOST_MOTES)},
-    'csv': {'file': needed(str)},
-}
-CORNER = {'x': optional(int, 0, -MOST_PLACE, MOST_PLACE), 'y': optional(int, 0, -MOST_PLACE, MOST_PLACE)}
-OTHER = {'motes': any_kind('numbers of motes, as in `"0, 3 to 5"`', True), 'program': needed(str)}
-EVERY, NUMBER = needed(int, 1, 1_000_000), needed(int, 0, MOST_MOTES - 1)
-LOSSES: dict[str, dict[str, Key]] = {
-    'all': {'every': EVERY},
-    'longer': {'than': needed(int, 0, 100_000), 'every': EVERY},
-    'random': {'one_in': needed(int, 1, 1_000_000), 'seed': needed(int, 0, MOST_SEED), 'every': EVERY},
-    'link': {'from': NUMBER, 'to': NUMBER, 'every': EVERY},
-    'csv': {'file': needed(str)},
-}
-LOSS_STREAM = 1
-
 
 def files_of(tables: Tables, files: Files) -> list[str]:
     """The names of the files that a plan is made from, as far as they can be told."""
@@ -112,7 +78,8 @@ class Builder:
             return self.files.read(name).decode('utf-8')
         except UnicodeDecodeError:
             raise self.tables.fault(path, 'This file is not UTF-8.', 'a file with a text') from None
-        except Fault as fault:
+        except (Fault, ValueError) as fault:
+            # (a ValueError is of a name that none can have)
             raise self.tables.fault(path, 'The file can\'t be read: %s.' % fault,
                                     'the name of a file, as it is found from the folder of the plan') from None
 
@@ -125,7 +92,7 @@ class Builder:
         if 'rule' not in table:
             raise self.tables.fault(path, '%s needs a `rule`.' % what, '`rule`: one of ' + may, False)
         name = self.tables.filled(table['rule'], path + ('rule',))
-        if name not in rules:
+        if type(name) is not str or name not in rules:
             raise self.tables.fault(path + ('rule',), '%s has no such rule.' % what, may)
         keys = {'rule': needed(str), **rules[name], **more}
         return self.tables.read(table, path, keys, '%s by the rule `%s`' % (what, name))
@@ -251,8 +218,7 @@ class Builder:
         """Motes by their numbers: one, an array of them, or a text as `0, 3 to 5`."""
         value = self.tables.filled(value, path)
         found: list[int] = []
-        parts = value if type(value) is list else str(value).split(',')
-        for part in parts if type(value) is not bool else ['']:
+        for part in value if type(value) is list else str(value).split(','):
             words = re.fullmatch(r'\s*([0-9]{1,4})(?:\s+to\s+([0-9]{1,4}))?\s*', str(part))
             begin, end = (int(words[1]), int(words[2] or words[1])) if words else (1, 0)
             if not begin <= end < count:
@@ -274,8 +240,9 @@ class Builder:
     def losses(self, motes: list[Mote]) -> dict[tuple[int, int], int]:
         """Of each link with a loss which of its packets are lost. Of several rules the last counts."""
         found: dict[tuple[int, int], int] = {}
-        links = sorted(self.links(motes))
-        for path, table in self.tables.array('loss'):
+        rules = self.tables.array('loss')
+        links = sorted(self.links(motes)) if rules else []
+        for path, table in rules:
             values = self.rule(table, path, LOSSES, {}, 'A loss')
             found.update(self.losses_of_rule(values, path, motes, links))
             if len(found) > MOST_LOSSES:
@@ -286,8 +253,6 @@ class Builder:
     def links(self, motes: list[Mote]) -> Iterator[tuple[int, int]]:
         """Each pair of a sender and a mote that hears it."""
         reach = self.medium['range']
-        if not self.tables.array('loss'):
-            return
         crowd = Crowd(reach)
         at: dict[Point, list[int]] = {}
         for number, mote in enumerate(motes):

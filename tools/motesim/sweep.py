@@ -24,6 +24,7 @@ with 2 where nothing could be done, and with 130 after Ctrl-C.
 from __future__ import annotations
 
 import argparse
+import contextlib
 import hashlib
 import itertools
 import os
@@ -259,9 +260,12 @@ class Sweeper:
         return [Job(place, tuple(given.items()), self.files(given), work) for place, given in enumerate(missing)]
 
     def files(self, given: Mapping[str, Value]) -> tuple[tuple[str, bytes], ...]:
-        """The files that are there; one that isn't is the run's fault."""
-        names = self.plan.used_files(given)
-        return tuple((name, self.plan.files.known[name]) for name in names if name in self.plan.files.known)
+        """The files that a run takes. One that can't be read is the run's fault, and is told by it."""
+        found = []
+        for name in self.plan.used_files(given):
+            with contextlib.suppress(Fault, ValueError):
+                found.append((name, self.plan.files.read(name)))
+        return tuple(found)
 
     def row(self, given: Mapping[str, Value], result: Result) -> Row:
         parameters = {name: text_of_value(value) if type(value) is bool else value for name, value in given.items()}

@@ -250,10 +250,35 @@ class FaultsTest(unittest.TestCase):
         for old, new, begin in FAULTS_BESIDE:
             told = self.told(PLAN.replace(old, new, 1))
             self.assertTrue(told.startswith(begin), told)
+        self.assertIn('null byte', self.told(with_places('rule = "csv"\nfile = "\\u0000"')))
         for file, line, words in ('few.csv', 3, 'another number of values'), ('far.csv', 2, '-30,000 to 30,000'):
             told = self.told(with_places('rule = "csv"\nfile = "%s"' % file))
             self.assertIn('%s, line %d:' % (file, line), told)
             self.assertIn(words, told)
+
+    def test_whatever_stands_there_is_a_fault_or_a_scenario(self) -> None:
+        text = PLAN.replace('[places]', '[[places]]') + '''[[other]]
+motes = 3
+program = "sink.mote"
+[queue]
+sink = 3
+[sweep]
+measure = ["sent"]
+[[plot]]
+file = "a.svg"
+'''
+        for rule in RULES:
+            text += '[[places]]\nprogram = "sink.mote"\n%s\n' % rule
+        lines = text.split('\n')
+        values = ['-1', '0', '3', '99999999999999999999', '1.5', 'nan', '"x"', '"${step}"', '"${"', 'true', '[]', '[1]',
+                  '[[1, 2], [3]]', '{}', '{ a = 1 }', '1979-05-27', '', '"\u0000"']
+        for number, line in enumerate(lines):
+            for value in values:
+                changed = [*lines[:number], line.partition(' = ')[0] + ' = ' + value, *lines[number + 1:]]
+                try:
+                    plan('\n'.join(changed)).scenario({})
+                except Fault as fault:
+                    self.assertIn('line ', str(fault))
 
     def test_a_parameter_that_there_is_not(self) -> None:
         with self.assertRaisesRegex(Fault, 'has no parameter speed; it has: period, step'):

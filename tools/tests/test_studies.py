@@ -1,0 +1,76 @@
+"""The worked studies in a small form: what examples/studies/README.md says of them shows there too."""
+import csv
+import os
+import subprocess
+import sys
+import tempfile
+import unittest
+from pathlib import Path
+
+from here import TOOLS, TOP
+from motesim import packages
+from motesim.plan import Plan
+from motesim.plot import wishes_of
+from skips import need_program, skip
+
+STUDIES = TOP / 'examples/studies'
+
+
+class StudiesTest(unittest.TestCase):
+    def setUp(self) -> None:
+        scratch = tempfile.TemporaryDirectory()
+        self.addCleanup(scratch.cleanup)
+        self.folder = Path(scratch.name)
+
+    def study(self, name: str, *words: str) -> list[dict[str, str]]:
+        """The rows of a study with fewer values. Its pictures are drawn too, or shown as tables."""
+        need_program(self)
+        plan = STUDIES / (name + '.plan.toml')
+        command = [sys.executable, '-B', str(TOOLS / 'sweep'), str(plan), '--plot', *words]
+        done = subprocess.run(command, cwd=self.folder, capture_output=True, text=True, env=dict(os.environ))
+        has_pictures = packages.is_here('matplotlib') or packages.has('matplotlib')
+        self.assertEqual(done.returncode, 0 if has_pictures else 1, done)
+        pictures = {wish.file for wish in wishes_of(Plan.read(plan))}
+        made = {it.name for it in self.folder.iterdir()} - {name + '.csv'}
+        self.assertEqual(made, pictures if has_pictures else set())
+        with open(self.folder / (name + '.csv'), newline='') as file:
+            return list(csv.DictReader(file))
+
+    def test_every_study_is_on_the_page(self) -> None:
+        page = (STUDIES / 'README.md').read_text('utf-8')
+        for plan in STUDIES.glob('*.plan.toml'):
+            self.assertIn('tools/sweep examples/studies/%s --plot' % plan.name, page)
+            for wish in wishes_of(Plan.read(plan)):
+                self.assertIn('(%s)' % wish.file, page)
+                if not (STUDIES / wish.file).is_file():
+                    skip(self, 'the picture %s is not kept' % wish.file)
+
+    def test_trickle(self) -> None:
+        rows = self.study('trickle', '--vary', 'seed=1,2', '--vary', 'enough=1,4', '--vary', 'step=20,8')
+        found = {(int(row['step']), int(row['enough']), int(row['seed'])): row for row in rows}
+        self.assertEqual((len(found), {row['fault'] for row in rows}), (8, {''}))
+        for seed in (1, 2):
+            def of(step: int, enough: int, name: str) -> int:
+                return int(found[step, enough, seed][name])
+
+            # More are silent where more are heard, and where one of them is enough.
+            self.assertLess(of(20, 1, 'messages'), of(20, 4, 'messages'))
+            self.assertLess(of(8, 1, 'messages'), of(8, 4, 'messages'))
+            self.assertLess(of(8, 1, 'messages'), of(20, 1, 'messages'))
+            # What that costs is delay, in the thin net.
+            self.assertGreater(of(20, 1, 'delay'), of(20, 4, 'delay'))
+
+    def test_flooding(self) -> None:
+        rows = self.study('flooding', '--vary', 'seed=1,2', '--vary', 'jitter=1,32', '--vary', 'range=10,25')
+        found = {(int(row['range']), int(row['jitter']), int(row['seed'])): row for row in rows}
+        self.assertEqual((len(found), {row['fault'] for row in rows}), (8, {''}))
+        for reach in (10, 25):
+            for seed in (1, 2):
+                soon, late = found[reach, 1, seed], found[reach, 32, seed]
+                self.assertGreater(int(soon['collided']), 2 * int(late['collided']))
+                self.assertLess(int(soon['reached']), int(late['reached']))
+                self.assertLess(int(soon['delay']), int(late['delay']))
+
+
+if __name__ == '__main__':
+    unittest.main()
