@@ -1,11 +1,15 @@
 """Refuses each request for memory of a run in turn: tools/refuse_memory [--program PROGRAM] [FILE [WORD ..]]
 
-The built program simulates a scenario, and is refused its first request, in the next run its second, and so on until a
-run needs no more of them. Each run has to end with the whole report and status 0, or with `motesim: out of memory`,
-status 1 and a beginning of the report, or, by workers, with `motesim: run fault 5`, status 1 and no report; and each
-has to end. The words behind FILE are the program's, as `--workers 2 --sync marks`. Without FILE three small scenarios
-are tried, on one thread and by two workers, and two of them by two and three workers with marks. The allocator that refuses is compiled by `cc`; where there is none, nothing is tried, and a line says so.
-Ends with a line `N passed, M failed`, and with status 1 where one failed.
+The program simulates a scenario, and is refused its first request, in the next run its second, and so on until a run
+needs no more of them. The start of a thread is a request too, for its stack. Each run has to end with the whole report
+and status 0, or with `motesim: out of memory`, status 1 and a beginning of the report, or, by workers, with `motesim:
+run fault 5`, status 1 and no report; and each has to end. The words after FILE are the program's, as `--workers 2
+--sync marks`. Without FILE small scenarios are tried, on one thread and by two and three workers of both kinds: packets
+that meet and are heard, a full ring, a full queue, a refused timer, and a scenario with a fault.
+
+What refuses is a library in C that stands before the C library. `cc` compiles it, or else the compiler of the Rattle
+kit; where there is neither, nothing is tried and all fails. Ends with a line `N passed, M failed`, and with status 1
+where one failed.
 """
 from __future__ import annotations
 
@@ -19,62 +23,20 @@ from concurrent.futures import ThreadPoolExecutor
 from dataclasses import dataclass
 from pathlib import Path
 
-from motesim.faults import command
+from motesim.faults import Fault, command
+from project import kit
 from project.tree import TOP, program_of, take_program
 
-FILES = ['tests/cases/nets/two_senders.toml', 'tests/cases/nets/ring_overflows.toml', 'examples/wrong.toml']
-MARKS = [['--workers', workers, '--sync', 'marks'] for workers in '23']
-SMALL = [(TOP / file, words) for words in ([], ['--workers', '2']) for file in FILES]
-SMALL += [(TOP / file, words) for words in MARKS for file in FILES[:2]]
+FILES = ['tests/cases/nets/two_senders.toml', 'tests/cases/nets/ring_overflows.toml', 'tests/cases/queues/full_queue.toml',
+         'tests/cases/queues/refused_timer_waits.toml', 'examples/wrong.toml']
+WORKERS = [['--workers', workers, '--sync', sync] for sync in ('joins', 'marks') for workers in '23']
+# (the last has a fault, which is found before there are workers)
+SMALL = [(TOP / file, words) for words in ([], *WORKERS)
+         for file in (FILES if words in ([], WORKERS[0]) else FILES[:-1])]
+REFUSES = TOP / 'tools/project/refuses.c'
 SECONDS = 60
 AT_ONCE = 16
 MOST_SHOWN = 10
-
-# In front of the C library's allocator: it refuses the request of the number in REFUSED, and makes the file DONE where
-# there was one.
-REFUSES = r'''
-#define _GNU_SOURCE
-#include <dlfcn.h>
-#include <errno.h>
-#include <fcntl.h>
-#include <stdlib.h>
-#include <unistd.h>
-
-static long seen;
-
-static int refused(void) {
-  const char *number = getenv("REFUSED");
-  if (!number || __atomic_add_fetch(&seen, 1, __ATOMIC_SEQ_CST) != atol(number)) return 0;
-  const char *name = getenv("DONE");
-  if (name) close(open(name, O_CREAT | O_WRONLY, 0600));
-  errno = ENOMEM;
-  return 1;
-}
-
-void *malloc(size_t size) {
-  static void *(*next)(size_t);
-  if (!next) next = (void *(*)(size_t))dlsym(RTLD_NEXT, "malloc");
-  return refused() ? NULL : next(size);
-}
-
-void *realloc(void *old, size_t size) {
-  static void *(*next)(void *, size_t);
-  if (!next) next = (void *(*)(void *, size_t))dlsym(RTLD_NEXT, "realloc");
-  return refused() ? NULL : next(old, size);
-}
-
-void *aligned_alloc(size_t alignment, size_t size) {
-  static void *(*next)(size_t, size_t);
-  if (!next) next = (void *(*)(size_t, size_t))dlsym(RTLD_NEXT, "aligned_alloc");
-  return refused() ? NULL : next(alignment, size);
-}
-
-int posix_memalign(void **made, size_t alignment, size_t size) {
-  static int (*next)(void **, size_t, size_t);
-  if (!next) next = (int (*)(void **, size_t, size_t))dlsym(RTLD_NEXT, "posix_memalign");
-  return refused() ? ENOMEM : next(made, alignment, size);
-}
-'''
 
 
 @dataclass(frozen=True)
@@ -152,10 +114,20 @@ def tried(scenario: Scenario) -> bool:
     return not wrong and bool(answers)
 
 
-def compiled(room: Path) -> Path:
-    source, made = room / 'refuses.c', room / 'refuses.so'
-    source.write_text(REFUSES, 'ascii')
-    subprocess.run(['cc', '-O1', '-shared', '-fPIC', '-o', str(made), str(source), '-ldl'], check=True)
+def compiler() -> list[str] | None:
+    """The words that call a C compiler, or None where there is none."""
+    if shutil.which('cc'):
+        return ['cc']
+    return kit.c_compiler() if shutil.which('rt') else None
+
+
+def compiled(room: Path, words: list[str]) -> Path:
+    """The library that refuses."""
+    made = room / 'refuses.so'
+    done = subprocess.run([*words, '-O1', '-shared', '-fPIC', '-fno-builtin', '-o', str(made), str(REFUSES)],
+                          capture_output=True, encoding='utf-8', errors='replace')
+    if done.returncode:
+        raise Fault('%s does not compile %s: %s' % (words[0], REFUSES, done.stderr.strip()))
     return made
 
 
@@ -167,13 +139,14 @@ def main() -> int:
     words.add_argument('words', nargs=argparse.REMAINDER, metavar='WORD', help='words for the program')
     asked = words.parse_args()
     program = program_of(asked.program)
-    if not shutil.which('cc'):
-        print('refuse_memory: skipped, since there is no C compiler cc here')
-        print('0 passed, 0 failed')
-        return 0
     runs = [(Path(asked.file), asked.words)] if asked.file else SMALL
+    words_of_compiler = compiler()
+    if words_of_compiler is None:
+        print('refuse_memory: nothing is tried, since there is no C compiler here, neither cc nor the Rattle kit')
+        print('0 passed, %d failed' % len(runs))
+        return 1
     with tempfile.TemporaryDirectory() as room:
-        refuses = compiled(Path(room))
+        refuses = compiled(Path(room), words_of_compiler)
         ended = [tried(Scenario(program, path, words, refuses)) for path, words in runs]
     print('%d passed, %d failed' % (ended.count(True), ended.count(False)))
     return 0 if all(ended) else 1

@@ -9,7 +9,7 @@ import unittest
 from pathlib import Path
 from unittest import mock
 
-import here  # (it puts tools/ on the path)
+from here import TOP
 from project import memory as refuse
 
 WHOLE = refuse.Answer(0, b'mote 0 p\nleft 0\n', b'')
@@ -31,6 +31,27 @@ int main(void) {
     if (!part && n != CALM) return write(2, "motesim: out of memory\n", 23) == 23;
   }
   return write(1, "left 0\n", 7) != 7;
+}
+"""
+
+
+# A program that starts two threads, the second one after the first has ended where it is told so.
+STARTS = r"""
+#include <pthread.h>
+#include <stdlib.h>
+#include <unistd.h>
+
+static void *work(void *given) {
+  return given;
+}
+
+int main(void) {
+  pthread_t made[2];
+  for (int n = 0; n < 2; n++) {
+    if (pthread_create(&made[n], 0, work, 0)) _exit(write(2, "motesim: run fault 5\n", 21) == 21);
+    if (JOINS) pthread_join(made[n], 0);
+  }
+  _exit(write(1, "left 0\n", 7) != 7);
 }
 """
 
@@ -67,12 +88,19 @@ class Runs(unittest.TestCase):
                 refuse.main()
         return said.getvalue(), end.exception.code
 
-    def test_without_a_compiler_nothing_is_tried(self):
+    def test_without_a_compiler_all_fails(self):
         with mock.patch.object(refuse.shutil, 'which', lambda name: None):
             said, code = self.run_with('--program', sys.executable)
-        self.assertIn('skipped', said)
-        self.assertEqual(said.splitlines()[-1], '0 passed, 0 failed')
-        self.assertEqual(code, 0)
+        self.assertIn('nothing is tried', said)
+        self.assertEqual(said.splitlines()[-1], '0 passed, %d failed' % len(refuse.SMALL))
+        self.assertEqual(code, 1)
+
+    @unittest.skipUnless(shutil.which('rt'), 'the command rt of the Rattle kit is not here')
+    def test_the_kits_compiler_serves_too(self):
+        which = shutil.which
+        with mock.patch.object(refuse.shutil, 'which', lambda name: None if name == 'cc' else which(name)):
+            with tempfile.TemporaryDirectory() as room:
+                self.assertTrue(refuse.compiled(Path(room), refuse.compiler()).is_file())
 
     def test_without_a_program_it_fails(self):
         self.assertIn('there is no program', self.run_with('--program', '/nowhere/motesim')[0])
@@ -92,6 +120,19 @@ class Runs(unittest.TestCase):
                 self.assertEqual(code, 0)
 
     @unittest.skipUnless(shutil.which('cc'), 'there is no C compiler cc here')
+    def test_a_start_is_refused(self):
+        # (a start asks for a stack, and for memory of the thread's own; the second one takes those of a thread that has ended)
+        for joins, shown in (0, '4 times no thread'), (1, '2 times no thread, 1 times the same answer'):
+            with self.subTest(joins=joins), tempfile.TemporaryDirectory() as room:
+                scenario, source, program = (Path(room) / name for name in ('s.toml', 'p.c', 'p'))
+                scenario.write_text('')
+                source.write_text(STARTS)
+                subprocess.run(['cc', '-O0', '-DJOINS=%d' % joins, '-o', str(program), str(source), '-pthread'], check=True)
+                said, code = self.run_with('--program', str(program), str(scenario), '--workers', '2')
+                self.assertIn(': %s\n' % shown, said)
+                self.assertEqual((said.splitlines()[-1], code), ('1 passed, 0 failed', 0))
+
+    @unittest.skipUnless(shutil.which('cc'), 'there is no C compiler cc here')
     def test_a_run_that_does_not_end(self):
         with tempfile.TemporaryDirectory() as room, mock.patch.object(refuse, 'SECONDS', 1):
             scenario, source, program = (Path(room) / name for name in ('s.toml', 'p.c', 'p'))
@@ -107,9 +148,10 @@ class Runs(unittest.TestCase):
 class Small(unittest.TestCase):
     def test_scenarios_without_a_name(self):
         words = [' '.join(words) for _, words in refuse.SMALL]
-        for wanted, number in ('', 3), ('--workers 2', 3), ('--workers 2 --sync marks', 2), ('--workers 3 --sync marks', 2):
+        for wanted, number in [('', 5), ('--workers 2 --sync joins', 5), ('--workers 3 --sync joins', 4),
+                               ('--workers 2 --sync marks', 4), ('--workers 3 --sync marks', 4)]:
             self.assertEqual(words.count(wanted), number)
-        self.assertEqual(len(words), 10)
+        self.assertIn("tools/refuse_memory program %d\n" % len(words), (TOP / 'test').read_text('utf-8'))
         self.assertTrue(all(path.is_file() for path, _ in refuse.SMALL))
 
 

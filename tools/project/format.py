@@ -1,0 +1,23 @@
+"""Checks the format of all sources, definitions and proofs: tools/check_format
+
+Prints what is formatted otherwise, and ends with status 1 where something is; `rt fmt` in a crate's folder formats it.
+"""
+from __future__ import annotations
+
+import argparse
+
+from motesim.faults import Fault, command
+from project import kit
+from project.tree import TOP
+
+
+@command('check_format')
+def main() -> int:
+    words = argparse.ArgumentParser(description=__doc__, formatter_class=argparse.RawDescriptionHelpFormatter)
+    words.parse_args()
+    files = [it for crate in sorted(TOP.glob('crates/*')) for it in kit.files_of(str(crate)) if it.endswith(('.rt', '.antt'))]
+    if not files:
+        raise Fault('there is no source')
+    said = kit.badly_formatted(files)
+    print(said or 'all %d files have their format' % len(files))
+    return 1 if said else 0

@@ -1,0 +1,80 @@
+"""Runs the tests of the tools: tools/test_tools [NAME ..]
+
+NAME is a file of tools/tests, test_report, or a part of its name; without one all are run. Prints each test that fails,
+with what it says, and each that is skipped, with why. The last line is `N passed, M failed, K skipped`, and the status
+1 where one failed. As many files are run side by side as there are processors.
+"""
+from __future__ import annotations
+
+import argparse
+import os
+import re
+import subprocess
+import sys
+from collections.abc import Sequence
+from concurrent.futures import ThreadPoolExecutor
+from pathlib import Path
+from typing import NamedTuple
+
+from motesim.faults import Fault, command
+from project.tree import TOP
+
+TESTS = TOP / 'tools/tests'
+SKIPPED = re.compile(r"^(\w+) \(([\w.]+)\)(?:\n.*)? \.\.\. skipped (.*)$", re.M)
+# (what stands between is written by the tests themselves)
+COUNT = re.compile(r'^Ran (\d+) tests? in .*\n\n(OK|FAILED)(?: \((.*)\))?$', re.M)
+
+
+class Told(NamedTuple):
+    """What a file of tests comes to, and what to print of it."""
+    passed: int
+    failed: int
+    skipped: int
+    lines: str
+
+
+def told_of(name: str, said: str) -> Told:
+    """What a run of one file says."""
+    counted = list(COUNT.finditer(said))
+    if not counted:
+        return Told(0, 1, 0, '%s ran no test:\n%s' % (name, said))
+    ran, _, rest = counted[-1].groups()
+    counts = {key: int(number) for key, number in re.findall(r'(\w+)=(\d+)', rest or '')}
+    skipped, failed = counts.get('skipped', 0), counts.get('failures', 0) + counts.get('errors', 0)
+    lines = ['skipped: %s.%s: %s\n' % (name, test[0], test[2].strip('\'"')) for test in SKIPPED.findall(said)]
+    if failed:
+        begin = said.find('=' * 70)
+        lines.append(said[begin if begin >= 0 else 0:counted[-1].start()])
+    return Told(max(0, int(ran) - failed - skipped), failed, skipped, ''.join(lines))
+
+
+def run_file(path: Path) -> Told:
+    words = [sys.executable, '-B', '-m', 'unittest', '-v', path.stem]
+    done = subprocess.run(words, cwd=TESTS, stdin=subprocess.DEVNULL, stdout=subprocess.PIPE, stderr=subprocess.STDOUT,
+                          encoding='utf-8', errors='replace')
+    told = told_of(path.stem, done.stdout)
+    if done.returncode and not told.failed:
+        return told._replace(failed=1, lines=told.lines + '%s ended with status %d\n' % (path.stem, done.returncode))
+    return told
+
+
+def files_of(names: Sequence[str]) -> list[Path]:
+    found = sorted(TESTS.glob('test_*.py'))
+    chosen = [path for path in found if not names or any(name in path.stem for name in names)]
+    if not chosen:
+        raise Fault('no file of tests has a name with %s' % ', '.join(names))
+    # (those that take long first)
+    return sorted(chosen, key=lambda path: -path.stat().st_size)
+
+
+@command('test_tools')
+def main() -> int:
+    words = argparse.ArgumentParser(description=__doc__, formatter_class=argparse.RawDescriptionHelpFormatter)
+    words.add_argument('names', nargs='*', metavar='NAME', help='a file of tools/tests, or a part of its name')
+    with ThreadPoolExecutor(os.cpu_count()) as pool:
+        told = list(pool.map(run_file, files_of(words.parse_args().names)))
+    for it in told:
+        print(it.lines, end='')
+    passed, failed, skipped = (sum(counts) for counts in zip(*(it[:3] for it in told)))
+    print('%d passed, %d failed, %d skipped' % (passed, failed, skipped))
+    return 1 if failed else 0
