@@ -24,12 +24,13 @@ MOST_NUMBER = 2 ** 62 - 1
 class ReportFault(Fault):
     """A text that is no report: its first line that can't stand, and what was expected there."""
 
-    def __init__(self, row: int, expected: str, found: str | None):
+    def __init__(self, row: int, expected: str, found: str | None, is_cut: bool = False):
         self.row, self.expected, self.found = row, expected, found
         shown = 'the text ends'
         if found is not None:
             shown = 'there is %r' % (found if len(found) <= 80 else found[:80] + '..')
-        super().__init__('line %d: expected %s, but %s' % (row, expected, shown))
+        where = 'the report is cut off at line %d' % row if is_cut else 'line %d' % row
+        super().__init__('%s: expected %s, but %s' % (where, expected, shown))
 
 
 class Line(tuple[Any, ...]):
@@ -301,7 +302,9 @@ class _Reader:
     def fault(self, expected: str, row: int | None = None) -> NoReturn:
         row = self.at if row is None else row
         is_end = row >= len(self.rows) or (row == len(self.rows) - 1 and not self.rows[row])
-        raise ReportFault(row + 1, expected, None if is_end else self.rows[row])
+        # (a text that is cut off in a line has no line end, and one that has nothing at all is no report)
+        is_cut = row > 0 and row >= len(self.rows) - 1
+        raise ReportFault(row + 1, expected, None if is_end else self.rows[row], is_cut)
 
     def report(self) -> Report:
         was_on = gc.isenabled()

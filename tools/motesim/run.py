@@ -24,6 +24,7 @@ import sys
 from pathlib import Path
 from typing import NamedTuple
 
+from motesim.belongs import check_scenario as check_scenario
 from motesim.faults import Fault
 from motesim.programs import TOP as TOP
 from motesim.programs import ProgramFault as ProgramFault
@@ -100,13 +101,3 @@ def read_run(path: str | Path, scenario: str | Path | None = None) -> Run:
         fault.args = ('%s: %s' % (at, fault),)
         raise
     return Run(str(path), report, found)
-
-
-def check_scenario(report: Report, scenario: Scenario) -> None:
-    """Whether a report can be of that scenario: the same motes, which run the same programs."""
-    if len(report.motes) != scenario.motes:
-        raise ScenarioFault('the scenario has %d motes, the report %d' % (scenario.motes, len(report.motes)))
-    for mote, place in zip(report.motes, scenario.places):
-        if mote.program != place.program:
-            raise ScenarioFault('mote %d runs %s in the scenario, %s in the report' % (
-                mote.number, place.program, mote.program))

@@ -134,7 +134,12 @@ class Reports(unittest.TestCase):
     def test_a_text_that_is_cut_off_or_goes_on_has_its_fault(self):
         self.assertEqual(self.fault('')[0], 1)
         self.assertEqual(self.fault('mote 0 a\n')[0], 2)
-        self.assertEqual(self.fault(SMALL[:-1]), (21, "line 21: expected a line end behind 'left', but the text ends"))
+        self.assertEqual(self.fault(SMALL[:-1]), (21, 
+                         "the report is cut off at line 21: expected a line end behind 'left', but the text ends"))
+
+    def test_a_report_that_is_cut_off_is_told_so(self):
+        for cut in range(SMALL.index('\n') + 1, len(SMALL)):
+            self.assertIn('the report is cut off at line ', self.fault(SMALL[:cut])[1])
         self.assertEqual(self.fault(SMALL[:SMALL.index('left')])[0], 20)
         self.assertEqual(self.fault(SMALL + '\n'), (21, "line 21: expected nothing more, but there is ''"))
         self.assertEqual(self.fault(SMALL.replace('\n', '\r\n'))[0], 1)
@@ -204,6 +209,16 @@ class Scenarios(unittest.TestCase):
     def test_a_report_of_other_motes_has_a_fault(self):
         with self.assertRaisesRegex(ScenarioFault, 'the scenario has 3 motes, the report 2'):
             check_scenario(Report.parse(SMALL), Scenario.parse(EXAMPLE))
+
+
+    def test_a_report_of_another_medium_has_a_fault(self):
+        for change, said in [(('range = 5', 'range = 10'), 'in the scenario mote 2 hears mote 0'),
+                             (('range = 5', 'range = 4'), 'in the scenario mote 1 does not hear mote 0'),
+                             (('base = 2', 'base = 3'), 'the scenario has 1@'), (('every = 2', 'every = 1'), 'has 1@lost in the'),
+                             (('end = 20', 'end = 10'), 'the scenario ends at 10'),
+                             (('program = "listener"', 'program = "sender"'), 'mote 1 runs sender in the scenario')]:
+            with self.assertRaisesRegex(ScenarioFault, said):
+                check_scenario(Report.parse(EXAMPLE_REPORT), Scenario.parse(EXAMPLE.replace(*change)))
 
 
 class Runs(unittest.TestCase):

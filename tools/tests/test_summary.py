@@ -163,7 +163,7 @@ from to copies received lost ring collided halted late ratio delay
         self.path.write_text(REPORT[:-2], encoding='ascii')
         done = self.run_it()
         self.assertEqual((done.returncode, done.stdout), (2, ''))
-        self.assertRegex(done.stderr, '^summary: .*report: line %d: expected a number' % REPORT.count('\n'))
+        self.assertRegex(done.stderr, '^summary: .*report: the report is cut off at line %d: expected a number' % REPORT.count('\n'))
 
 
 if __name__ == '__main__':
