@@ -2,7 +2,7 @@
 
 A and B are files with reports, or scenarios, NAME.toml, which are run. The first difference is the one at the least
 moment, not the one on the least line. It is shown with the mote, the moment, the line of each side, and the last
-packets and events of that mote before. Then come the first collision that only one of the two has, and how many lines
+packets and events of that mote before. Of two scenarios it says in what they differ. Then come the first collision that only one of the two has, and how many lines
 differ, by mote and by kind. `--html FILE` writes a page with both timelines above one another.
 
 Ends with status 0 where the reports are the same, 1 where they differ, and 2 where one can't be read.
@@ -15,6 +15,7 @@ from itertools import compress, count
 from operator import ne
 from typing import Any, Iterator, NamedTuple
 
+from motesim import scenario_differences
 from motesim.faults import command
 from motesim.report import FIELDS, Line, Packet, Report
 from motesim.run import Run, read_run
@@ -262,6 +263,8 @@ def compared(a: Run, b: Run, most: int) -> tuple[list[str], Difference | None, b
     """The lines that say how two reports differ, their first difference, and whether they are the same."""
     reports = a.report, b.report
     lines = ['%s: %s' % (letter, run.name) for letter, run in zip(LETTERS, (a, b))]
+    if a.scenario and b.scenario:
+        lines += scenario_differences.told(a.scenario, b.scenario, most)
     found, others = differences(*reports), heads(*reports)
     if not found and not others and a.report.left == b.report.left:
         return lines + ['The reports are the same: %s, %s.' % (

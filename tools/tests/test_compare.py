@@ -6,9 +6,10 @@ import unittest
 from pathlib import Path
 
 from here import TOOLS
-from motesim import compare
+from motesim import compare, scenario_differences
 from motesim.report import Report
 from motesim.run import Run
+from motesim.scenario import Scenario
 
 # Motes 0 and 2 send to mote 1 in turn. The event of the second timer of mote 2 is posted at 6.
 A = '''mote 0 talker
@@ -155,6 +156,60 @@ The first difference in a trace is at moment 9, in the trace of mote 1:
         rows = ['%d send %d 0' % (at, at) for at in range(4)] + ['%d take %d p' % (at, at) for at in range(9, 15)]
         lines = Report.parse('mote 0 a\n%s\nmedium\nleft 0\n' % '\n'.join(rows)).motes[0].lines
         self.assertEqual([line.at for line in compare.before(lines)], [1, 2, 3, 11, 12, 13, 14])
+
+
+class Scenarios(unittest.TestCase):
+    A = """version = 2
+end = 20
+[medium]
+range = 5
+base = 2
+per = 100
+collide = true
+[programs]
+p = '''
+process a;
+code a { body { print 1; } }
+'''
+[[mote]]
+x = 0
+y = 0
+program = "p"
+[[mote]]
+x = 3
+y = 4
+program = "p"
+[[loss]]
+from = 0
+to = 1
+every = 2
+"""
+
+    def told(self, *changes):
+        text = self.A
+        for change in changes:
+            text = text.replace(*change)
+        return scenario_differences.differences(Scenario.parse(self.A), Scenario.parse(text))
+
+    def test_each_part_is_told(self):
+        self.assertEqual(self.told(), [])
+        self.assertEqual(self.told(('end = 20', 'end = 30'), ('collide = true', 'collide = false')), [
+            'end is 20 in A and 30 in B', 'collide of medium is true in A and false in B'])
+        self.assertEqual(self.told(('x = 3', 'x = 4')), ['the place of mote 1 is (3, 4) in A and (4, 4) in B'])
+        self.assertEqual(self.told(('every = 2', 'every = 3')), ['the loss from 0 to 1 is every 2 in A and every 3 in B'])
+        self.assertEqual(self.told(('from = 0\nto = 1', 'from = 1\nto = 0')), [
+            'the loss from 0 to 1 is every 2 in A and none in B', 'the loss from 1 to 0 is none in A and every 2 in B'])
+        self.assertEqual(self.told(('print 1;', 'print 2;')), [
+            'program p differs in its line 2', '  A: code a { body { print 1; } }', '  B: code a { body { print 2; } }'])
+        self.assertEqual(self.told(('[[loss]]', '[queue]\np = 3\n[[loss]]')), ['queue of program p is none in A and 3 in B'])
+        self.assertEqual(self.told(('[[loss]]', '[[mote]]\nx = 1\ny = 1\nprogram = "p"\n[[loss]]')), [
+            'there are 2 motes in A and 3 in B'])
+
+    def test_only_so_many_are_shown(self):
+        a, b = Scenario.parse(self.A), Scenario.parse(self.A.replace('end = 20', 'end = 21').replace('per = 100', 'per = 9'))
+        self.assertEqual(scenario_differences.told(a, a, 5), ['The scenarios are the same.'])
+        self.assertEqual(scenario_differences.told(a, b, 1), ['The scenarios differ:', '  end is 20 in A and 21 in B',
+                                                              '  and 1 lines more'])
 
 
 class Command(unittest.TestCase):

@@ -352,6 +352,28 @@ class Pages(unittest.TestCase):
         self.assertAlmostEqual(self.value('pane.moment(pane.gutter)'), 4, places=6)
         self.assertFalse(self.value('document.querySelector("aside").offsetHeight'))
 
+    def test_an_address_selects_a_mote(self):
+        self.open(small_network(), fragment='#mote=2')
+        self.assertEqual(self.value('m.chosen().mote'), 2)
+
+    def test_the_count_of_lines_is_that_of_the_report(self):
+        run = small_network()
+        self.open(run)
+        lines = run.report.text().count('\n')
+        self.assertIn('%d lines' % lines, self.value('document.getElementById("about").textContent'))
+
+    def test_labels_are_apart_where_the_page_is_narrow(self):
+        self.open(small_network())
+        self.browser.size(500, 900)
+        self.browser.settle()
+        wide = 'pane.context.measureText("%s").width + 6 <= pane.gutter'
+        self.value('pane.context.font = "12px system-ui, \\"DejaVu Sans\\", sans-serif"')
+        for name in 'mote 999', 'moment':
+            self.assertTrue(self.value(wide % name), name)
+        for name in 'arrows', 'now', 'speed':
+            tops = ['document.querySelector("%s").getBoundingClientRect().top' % it for it in ('#' + name, '[for=%s]' % name)]
+            self.assertLess(abs(self.value('%s - %s' % tuple(tops))), 20)
+
     def test_forms_are_drawn_light_dark_narrow_and_for_print(self):
         self.open(small_network())
         light = self.value('pane.canvas.toDataURL()')

@@ -51,7 +51,7 @@ function drawAxis(pane) {
   c.fillStyle = colours.panel;
   c.fillRect(0, 0, pane.gutter, AXIS);
   c.fillStyle = colours.quiet;
-  c.fillText('moment', 6, AXIS / 2);
+  c.fillText('moment', 6, AXIS / 2, pane.gutter - 9);
   c.fillStyle = colours.edge;
   c.fillRect(0, AXIS - 1, pane.width, 1);
 }
@@ -386,7 +386,7 @@ function drawNames(pane, from, to) {
     c.fillStyle = colours.ink;
     c.font = (isChosen ? 'bold ' : '') + '12px system-ui, "DejaVu Sans", sans-serif';
     const both = several && pane.lane >= 30, name = pane.lane >= 11 ? `mote ${mote}` : String(mote);
-    c.fillText(name, 6, y + pane.lane / 2 - (both ? 7 : 0));
+    c.fillText(name, 6, y + pane.lane / 2 - (both ? 7 : 0), pane.gutter - 9);
     if (both) {
       c.font = '11px system-ui, "DejaVu Sans", sans-serif';
       c.fillStyle = colours.quiet;

@@ -270,7 +270,8 @@ function addPane(run, number, several) {
 function sayAbout() {
   document.getElementById('about').textContent = panes.map(({run}) => `${run.name}: ` +
     `${count(run.begins.length, 'mote')}, ${count(run.end + 1, 'moment')}, ${count(run.packets, 'packet')}, ` +
-    count(run.count, 'line')).join('; ');
+    // (the heads of the motes, the packets, and the words `medium` and `left` have lines of the report too)
+    count(run.count + run.begins.length + run.packets + 2, 'line')).join('; ');
   document.getElementById('now').max = time.end;
 }
 

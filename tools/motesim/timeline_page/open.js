@@ -26,7 +26,10 @@ function openAsAddressed() {
   }
   if (wish.has('from')) showTime(number('from'), wish.has('to') ? number('to') : number('from') + 60);
   if (wish.has('lane')) pane.zoomLanes(number('lane') / pane.lane, AXIS);
-  if (wish.has('mote') && number('mote') < pane.order.length) pane.reveal(number('mote'));
+  if (wish.has('mote') && number('mote') < pane.order.length) {
+    chooseMote(pane, number('mote'), false);
+    pane.reveal(number('mote'));
+  }
   if (wish.has('line')) {
     const {traceStart} = pane.run, wanted = number('line');
     let mote = 0;

@@ -63,7 +63,7 @@ class Pane {
     this.canvas.height = Math.round(height * dots);
     this.context.setTransform(dots, 0, 0, dots, 0, 0);
     this.dots = dots;
-    this.gutter = this.width < 560 ? 54 : 74;
+    this.gutter = this.width < 560 ? 64 : 74;
   }
 
   get heads() { return this.run.groups.length * HEAD; }

@@ -1,0 +1,80 @@
+"""In what two scenarios differ, in lines for people."""
+from __future__ import annotations
+
+from collections.abc import Iterator
+from itertools import zip_longest
+
+from motesim.scenario import Scenario
+
+MEDIUM = 'range', 'base', 'per', 'collide'
+
+
+def shown(value: object) -> str:
+    """A value as TOML has it."""
+    return 'none' if value is None else str(value).lower() if isinstance(value, bool) else str(value)
+
+
+def both(what: str, one: object, other: object) -> str:
+    return '%s is %s in A and %s in B' % (what, shown(one), shown(other))
+
+
+def of_keys(a: Scenario, b: Scenario) -> Iterator[str]:
+    """The keys that stand once in a scenario."""
+    for name in 'version', 'end':
+        if getattr(a, name) != getattr(b, name):
+            yield both(name, getattr(a, name), getattr(b, name))
+    for name in MEDIUM:
+        if getattr(a, name) != getattr(b, name):
+            yield both('%s of medium' % name, getattr(a, name), getattr(b, name))
+
+
+def of_text(name: str, a: str, b: str) -> Iterator[str]:
+    """The first line of a program's text that differs, without the blanks around it, and how many differ."""
+    pairs = [(row, one, other) for row, (one, other) in enumerate(zip_longest(a.split('\n'), b.split('\n')), 1)
+             if one != other]
+    row, one, other = pairs[0]
+    rest = '' if len(pairs) == 1 else ', the first of %d lines that differ in their places' % len(pairs)
+    yield 'program %s differs in its line %d%s' % (name, row, rest)
+    for letter, line in ('A', one), ('B', other):
+        yield '  %s: %s' % (letter, 'it has no such line' if line is None else line.strip() or '(an empty line)')
+
+
+def of_programs(a: Scenario, b: Scenario) -> Iterator[str]:
+    for name in sorted(a.programs.keys() | b.programs.keys()):
+        if name not in a.programs or name not in b.programs:
+            yield 'only %s has a program %s' % ('A' if name in a.programs else 'B', name)
+        elif a.programs[name] != b.programs[name]:
+            yield from of_text(name, a.programs[name], b.programs[name])
+        if a.queue.get(name) != b.queue.get(name):
+            yield both('queue of program %s' % name, a.queue.get(name), b.queue.get(name))
+
+
+def of_motes(a: Scenario, b: Scenario) -> Iterator[str]:
+    if a.motes != b.motes:
+        yield 'there are %d motes in A and %d in B' % (a.motes, b.motes)
+    for number, (one, other) in enumerate(zip(a.places, b.places)):
+        if one[:2] != other[:2]:
+            yield both('the place of mote %d' % number, '(%d, %d)' % one[:2], '(%d, %d)' % other[:2])
+        if one.program != other.program:
+            yield both('the program of mote %d' % number, one.program, other.program)
+
+
+def of_losses(a: Scenario, b: Scenario) -> Iterator[str]:
+    for link in sorted(a.losses.keys() | b.losses.keys()):
+        if a.losses.get(link) != b.losses.get(link):
+            yield both('the loss from %d to %d' % link, *('every %d' % it.losses[link] if link in it.losses else None
+                                                         for it in (a, b)))
+
+
+def differences(a: Scenario, b: Scenario) -> list[str]:
+    """The lines that say in what two scenarios differ; none where a run can't tell them apart."""
+    return [*of_keys(a, b), *of_motes(a, b), *of_losses(a, b), *of_programs(a, b)]
+
+
+def told(a: Scenario, b: Scenario, most: int) -> list[str]:
+    """At most so many of these lines, with a line above them."""
+    lines = differences(a, b)
+    if not lines:
+        return ['The scenarios are the same.']
+    more = ['  and %d lines more' % (len(lines) - most)] if len(lines) > most else []
+    return ['The scenarios differ:', *('  ' + it for it in lines[:most]), *more]

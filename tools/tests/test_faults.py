@@ -1,0 +1,79 @@
+"""How a command ends: one line and status 2, whatever goes wrong; 130 after Ctrl-C."""
+import os
+import signal
+import subprocess
+import sys
+import unittest
+from pathlib import Path
+
+from here import TOOLS, TOP
+
+COMMAND = '''import sys, time
+sys.path.insert(0, %r)
+from motesim.faults import Fault, command
+
+
+@command('thing')
+def main() -> int:
+    %s
+    return 0
+
+
+main()
+'''
+
+
+class Ends(unittest.TestCase):
+    def ended(self, work, **how):
+        words = [sys.executable, '-B', '-c', COMMAND % (str(TOOLS), work)]
+        return subprocess.run(words, **{'capture_output': True, 'text': True, 'timeout': 60, **how})
+
+    def test_what_goes_wrong_is_one_line(self):
+        for work, told in [("raise Fault('no such thing')", 'thing: no such thing\n'), ('raise MemoryError', 'thing: out of memory\n'),
+                           ("open('/nowhere/a')", 'thing: /nowhere/a: No such file or directory\n')]:
+            done = self.ended(work)
+            self.assertEqual((done.returncode, done.stdout, done.stderr), (2, '', told))
+
+    def test_a_status_is_handed_on(self):
+        self.assertEqual(self.ended('return 1').returncode, 1)
+
+    @unittest.skipUnless(Path('/dev/full').exists(), 'there is no /dev/full here')
+    def test_a_full_disk_is_told(self):
+        for work in "print('x')", "print('x' * 100000)":
+            with open('/dev/full', 'w') as full:
+                done = self.ended(work, capture_output=False, stdout=full, stderr=subprocess.PIPE)
+            self.assertEqual((done.returncode, done.stderr), (2, 'thing: standard output: No space left on device\n'))
+
+    def test_a_closed_pipe_is_told(self):
+        ours, its = os.pipe()
+        os.close(ours)
+        done = self.ended("print('x' * 100000)", capture_output=False, stdout=its, stderr=subprocess.PIPE)
+        os.close(its)
+        self.assertEqual((done.returncode, done.stderr), (2, 'thing: standard output was closed before all of it was written\n'))
+
+    def test_an_interrupt_ends_with_130(self):
+        words = [sys.executable, '-B', '-c', COMMAND % (str(TOOLS), "print('begun', flush=True); time.sleep(60)")]
+        with subprocess.Popen(words, stdout=subprocess.PIPE, stderr=subprocess.PIPE, text=True) as running:
+            running.stdout.readline()
+            running.send_signal(signal.SIGINT)
+            self.assertEqual((running.wait(20), running.stderr.read()), (130, ''))
+
+
+class Tools(unittest.TestCase):
+    @unittest.skipUnless(Path('/dev/full').exists(), 'there is no /dev/full here')
+    def test_a_tool_on_a_full_disk(self):
+        report = TOP / 'tests/cases/nets/two_senders.expected'
+        with open('/dev/full', 'w') as full:
+            done = subprocess.run([str(TOOLS / 'summary'), str(report)], stdout=full, stderr=subprocess.PIPE, text=True)
+        self.assertEqual((done.returncode, done.stderr), (2, 'summary: standard output: No space left on device\n'))
+
+    def test_each_command_has_no_more_than_its_lines(self):
+        for path in sorted(TOOLS.iterdir()):
+            if path.is_file() and not path.suffix:
+                lines = path.read_text('utf-8').splitlines()
+                self.assertEqual((len(lines), lines[0], lines[2]), (3, '#!/usr/bin/env python3', 'main()'), path.name)
+                self.assertRegex(lines[1], r'^from (motesim|project)\.[\w.]+ import main$')
+
+
+if __name__ == '__main__':
+    unittest.main()
