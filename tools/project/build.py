@@ -17,7 +17,6 @@ from collections.abc import Sequence
 from concurrent.futures import FIRST_COMPLETED, Future, ThreadPoolExecutor, wait
 
 from motesim.faults import Fault, command
-from motesim.version import KIT
 from project import kit
 from project.estimate import Crate, Estimate, Log, by_shares, minutes
 from project.progress import Line
@@ -173,8 +172,8 @@ def main() -> int:
     line.say('building, since no program of these sources is here')
     # With Python's own handler an interrupt would wait for the provers.
     signal.signal(signal.SIGINT, signal.SIG_DFL)
-    if kit.version() != KIT:
-        line.say('the kit here is %s, and what stands here was proved with %s' % (kit.version(), KIT))
+    if kit.another():
+        line.say(str(kit.another()))
     os.chdir(TOP)
     whole = kit.crates_to_build(NAME, TOP)
     held = kit.lock(whole)

@@ -60,6 +60,8 @@ def waited_for(ran: subprocess.Popen[str], line: Line) -> str:
 def compile_to(path: Path, line: Line) -> None:
     """Compiles the program and keeps it under this path; what is kept of other sources goes."""
     line.say('compiling the program without any proof: one or two minutes on an idle processor, once for these sources')
+    if kit.another():
+        line.say(str(kit.another()))
     path.parent.mkdir(parents=True, exist_ok=True)
     made = path.with_suffix('.%d' % os.getpid())
     try:

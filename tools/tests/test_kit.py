@@ -31,6 +31,12 @@ class AtHand(unittest.TestCase):
 
 
 class Others(unittest.TestCase):
+    def test_another_kit_is_told(self):
+        for at_hand, told in (KIT, None), ('another kit', 'the kit here is another kit, and what stands here was proved with %s' % KIT):
+            with mock.patch.object(kit, 'version', lambda: at_hand):
+                self.assertEqual(bool(kit.another()), bool(told))
+                self.assertIn(told or 'None', str(kit.another()))
+
     def test_a_kit_that_lacks_a_part_is_told(self):
         self.assertIn('rtlib.lock', kit.lacking_in(types.SimpleNamespace(rtlib=types.SimpleNamespace(PARTS=()))))
 
