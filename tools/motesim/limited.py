@@ -13,7 +13,7 @@ STEP = 0.02
 
 
 def answer_within(program: Path, scenario: bytes, seconds: float, most: int) -> Answer:
-    """What the program answers to a scenario. It is stopped after so many seconds, or behind so many bytes."""
+    """What the program answers to a scenario. It is stopped after so many seconds, or after so many bytes."""
     with tempfile.TemporaryFile() as given, tempfile.TemporaryFile() as report, tempfile.TemporaryFile() as fault:
         given.write(scenario)
         given.seek(0)

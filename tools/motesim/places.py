@@ -55,12 +55,12 @@ def is_connected(points: list[Point], reach: int) -> bool:
     crowd = Crowd(reach)
     for point in points:
         crowd.add(point)
-    seen, front = {points[0]}, [points[0]]
-    for point in front:
+    seen, reached = {points[0]}, [points[0]]
+    for point in reached:
         for other in crowd.near(point):
             if other not in seen and squared(point, other) <= reach * reach:
                 seen.add(other)
-                front.append(other)
+                reached.append(other)
     return len(seen) == len(set(points))
 
 

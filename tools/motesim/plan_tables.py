@@ -117,7 +117,7 @@ class Tables:
                               'TOML (Python says: %s)' % what))
 
     def fault(self, path: Path, rule: str, may: str = '', is_value: bool = True) -> PlanFault:
-        """A fault at a key or a table; `is_value` marks what stands behind the key."""
+        """A fault at a key or a table; `is_value` marks what stands after the key."""
         place = place_of(self.text, path)
         if is_value and path and type(path[-1]) is str:
             place = value_of(self.text, place)

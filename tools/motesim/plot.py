@@ -29,8 +29,9 @@ from motesim.results import Row, cell, read_results, text_of
 from motesim.summary import table
 
 FORMATS = ('.svg', '.png')
+MOST_TICKS = 12
 PLOT = {'file': needed(str), 'measure': needed(str), 'against': needed(str), 'by': optional(str, ''),
-        'title': optional(str, ''), 'x': optional(str, ''), 'y': optional(str, '')}
+        'title': optional(str, ''), 'x': optional(str, ''), 'y': optional(str, ''), 'log': optional(bool, False)}
 # Colours that are told apart by those who see fewer of them (Okabe and Ito); lines differ by their marks too.
 COLOURS = ['#0072b2', '#d55e00', '#009e73', '#cc79a7', '#e69f00', '#56b4e9', '#000000']
 MARKS = ['o', 's', '^', 'D', 'v', 'P', 'X']
@@ -46,6 +47,7 @@ class Wish(NamedTuple):
     title: str = ''
     x: str = ''
     y: str = ''
+    log: bool = False
 
 
 class Point(NamedTuple):
@@ -145,6 +147,8 @@ def draw(shown: Shown, wish: Wish, path: Path) -> None:
     figure, axes = pyplot.subplots(figsize=(6.4, 4.2), layout='constrained')
     places = sorted({point.against for point in shown.points}, key=order)
     is_scale = all(type(it) in (int, float) for it in places)
+    if wish.log and not all(isinstance(it, int | float) and it > 0 for it in places):
+        raise Fault('values of %s are not above 0, and --log takes only such' % wish.against)
     groups: dict[Cell, list[Point]] = {}
     for point in shown.points:
         groups.setdefault(point.by, []).append(point)
@@ -156,10 +160,11 @@ def draw(shown: Shown, wish: Wish, path: Path) -> None:
         axes.plot(xs, [it.median for it in points], label=label, **look)
         axes.fill_between(xs, [it.first for it in points], [it.third for it in points], alpha=0.18, linewidth=0,
                           color=look['color'])
-    axes.set_xticks(places if is_scale and len(places) <= 12 else axes.get_xticks() if is_scale else
-                    range(len(places)))
-    if not is_scale:
-        axes.set_xticklabels([text_of(it) for it in places])
+    if is_scale and wish.log:
+        axes.set_xscale('log', base=2)
+    if not is_scale or len(places) <= MOST_TICKS:
+        axes.set_xticks(places if is_scale else range(len(places)), [text_of(it) for it in places])
+        axes.minorticks_off()
     axes.set_xlabel(wish.x or wish.against)
     axes.set_ylabel(wish.y or wish.measure)
     axes.set_title(wish.title or heading(shown, wish), loc='left')
@@ -168,7 +173,8 @@ def draw(shown: Shown, wish: Wish, path: Path) -> None:
     notes = [it for it in [note, *left_out(shown, wish)] if it]
     axes.annotate('; '.join(notes), (1, 0), (0, -34), 'axes fraction', 'offset points', ha='right', va='top',
                   fontsize=7, color='#555555')
-    if all(point.median >= 0 for point in shown.points):
+    # (from 0 on, unless all values would lie in the upper half)
+    if 0 <= 2 * min(point.first for point in shown.points) < max(point.third for point in shown.points):
         axes.set_ylim(bottom=0)
     axes.grid(True, color='#dddddd', linewidth=0.6)
     axes.spines[['top', 'right']].set_visible(False)
@@ -217,7 +223,7 @@ def wishes(asked: argparse.Namespace) -> list[Wish]:
         raise Fault('what is to be shown? --measure NAME --against NAME, or --plan PLAN')
     if asked.output and Path(asked.output).suffix not in FORMATS:
         raise Fault('%s: a picture is SVG or PNG, and its name ends so' % asked.output)
-    return [Wish(asked.measure, asked.against, asked.by or '', asked.output or '', asked.title or '')]
+    return [Wish(asked.measure, asked.against, asked.by or '', asked.output or '', asked.title or '', log=asked.log)]
 
 
 def chosen(rows: Sequence[Row], where: Sequence[str]) -> list[Row]:
@@ -240,6 +246,7 @@ def main() -> int:
     words.add_argument('--by', metavar='NAME', help='a parameter with a line for each value')
     words.add_argument('--where', action='append', default=[], metavar='NAME=VALUE', help='only runs with this value')
     words.add_argument('--title', help='the words above the picture')
+    words.add_argument('--log', action='store_true', help='a step to the right doubles the parameter')
     words.add_argument('--plan', metavar='PLAN', help="show what this plan's `plot` says")
     words.add_argument('-o', dest='output', metavar='FILE', help='the picture, NAME.svg or NAME.png')
     asked = words.parse_args()

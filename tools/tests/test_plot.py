@@ -79,9 +79,14 @@ class PlotTest(unittest.TestCase):
 
     def test_a_picture_in_png(self) -> None:
         interpreter_with(self, 'matplotlib')
-        done = self.plot('--measure', 'sent', '--against', 'density', '-o', 'a.png')
-        self.assertEqual(done.returncode, 0, done)
-        self.assertEqual((self.folder / 'a.png').read_bytes()[:8], b'\x89PNG\r\n\x1a\n')
+        for words in ('--against', 'density'), ('--against', 'period', '--log'):
+            done = self.plot('--measure', 'sent', *words, '-o', 'a.png')
+            self.assertEqual(done.returncode, 0, done)
+            self.assertEqual((self.folder / 'a.png').read_bytes()[:8], b'\x89PNG\r\n\x1a\n')
+            (self.folder / 'a.png').unlink()
+        wrong = self.plot('--measure', 'sent', '--against', 'density', '--log', '-o', 'a.png')
+        self.assertEqual((wrong.returncode, wrong.stdout), (2, ''))
+        self.assertIn('values of density are not above 0', wrong.stderr)
 
     def test_without_matplotlib(self) -> None:
         # (an interpreter that finds none, as -I and -S leave the packages out)

@@ -9,17 +9,20 @@ import tempfile
 import time
 import unittest
 from pathlib import Path
+from unittest import mock
 
 from here import TOOLS
 from motesim import packages
 from motesim.faults import Fault
 from motesim.measures import Bench, Cell, MeasureFault, read_measure
+from motesim.one_run import run_job
+from motesim.plan import Plan
 from motesim.report import Report
 from motesim.results import CsvFile, cell, read_results
 from motesim.run import Run
 from motesim.scenario import Scenario
 from motesim.sentences import names_of
-from motesim.sweep import values_of
+from motesim.sweep import Sweeper, sweep_of, values_of
 from skips import interpreter_with
 from stub import write_stub
 
@@ -249,6 +252,15 @@ class SweepTest(Bed):
         (self.folder / 'long.mote').write_text(MOTE + '// long\n')
         self.sweep('--vary', 'name=long', '--measure', 'prints', '--bytes', '1000000')
         self.assertEqual(self.rows()[0]['fault'], 'the report is longer than 1,000,000 bytes')
+
+    def test_a_job_takes_the_files_along(self) -> None:
+        with mock.patch.dict(os.environ, MOTESIM=str(self.stub)):
+            plan = Plan.read(self.folder / 'net.plan.toml')
+            sweeper = Sweeper(sweep_of(plan, ['period=3'], ['python: mine.py:lines'], None), self.folder / 'a.csv')
+            self.addCleanup(sweeper.file.close)
+            job = sweeper.jobs([plan.with_given({'period': 3})])[0]
+            result = run_job(job._replace(work=job.work._replace(folder='/nowhere')))
+        self.assertEqual((result.measures, result.fault), ({'lines': 15}, ''))
 
     def test_a_measure_that_fails_is_a_fault(self) -> None:
         self.sweep('--vary', 'motes=2', '--measure', 'python: mine.py:wrong')

@@ -22,7 +22,7 @@ class Turn(NamedTuple):
     lines: list[Line]
 
     def time(self, place: int) -> int:
-        """The time of a line; that of the place behind the last line is the end of the turn."""
+        """The time of a line; that of the place after the last line is the end of the turn."""
         return self.begin + place * self.step
 
 
