@@ -12,6 +12,8 @@ import sys
 from collections.abc import Callable
 from typing import NoReturn
 
+from motesim.version import KIT, VERSION
+
 FAILED, INTERRUPTED = 2, 130
 
 
@@ -58,7 +60,12 @@ def finish(tool: str, work: Callable[[], int]) -> NoReturn:
     """Ends a command with the status that `work` gives, or with 2 and one line on standard error."""
     # (looking for cycles among millions of lines would take longer than the work)
     gc.disable()
-    sys.exit(status_of(tool, work))
+    sys.exit(status_of(tool, say_version if sys.argv[1:] == ['--version'] else work))
+
+
+def say_version() -> int:
+    print('motesim %s, proved with %s' % (VERSION, KIT))
+    return 0
 
 
 def command(tool: str) -> Callable[[Callable[[], int]], Callable[[], NoReturn]]:

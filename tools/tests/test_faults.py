@@ -1,5 +1,6 @@
 """How a command ends: one line and status 2, whatever goes wrong; 130 after Ctrl-C."""
 import os
+import re
 import signal
 import subprocess
 import sys
@@ -7,6 +8,7 @@ import unittest
 from pathlib import Path
 
 from here import TOOLS, TOP
+from motesim.version import KIT, VERSION
 
 COMMAND = '''import sys, time
 sys.path.insert(0, %r)
@@ -60,6 +62,14 @@ class Ends(unittest.TestCase):
 
 
 class Tools(unittest.TestCase):
+    def test_the_version_is_told(self):
+        told = 'motesim %s, proved with %s\n' % (VERSION, KIT)
+        for command in TOOLS / 'compare', TOOLS / 'build', TOP / 'run':
+            done = subprocess.run([str(command), '--version'], stdin=subprocess.DEVNULL, capture_output=True, text=True)
+            self.assertEqual((done.returncode, done.stdout, done.stderr), (0, told, ''))
+        changes = (TOP / 'CHANGES.md').read_text('utf-8')
+        self.assertEqual(re.search(r'^## (\S+),', changes, re.M)[1], VERSION)
+
     @unittest.skipUnless(Path('/dev/full').exists(), 'there is no /dev/full here')
     def test_a_tool_on_a_full_disk(self):
         report = TOP / 'tests/cases/nets/two_senders.expected'
