@@ -270,8 +270,8 @@ file = "a.svg"
         for rule in RULES:
             text += '[[places]]\nprogram = "sink.mote"\n%s\n' % rule
         lines = text.split('\n')
-        values = ['-1', '0', '3', '99999999999999999999', '1.5', 'nan', '"x"', '"${step}"', '"${"', 'true', '[]', '[1]',
-                  '[[1, 2], [3]]', '{}', '{ a = 1 }', '1979-05-27', '', '"\u0000"']
+        values = ['-1', '0', '3', '99999999999999999999', '1.5', 'nan', '"x"', '"${step}"', '"${"', 'true', '[]',
+                  '[1]', '[[1, 2], [3]]', '{}', '{ a = 1 }', '1979-05-27', '', '"\u0000"']
         for number, line in enumerate(lines):
             for value in values:
                 changed = [*lines[:number], line.partition(' = ')[0] + ' = ' + value, *lines[number + 1:]]
