@@ -9,6 +9,7 @@ from __future__ import annotations
 import argparse
 import os
 import re
+import signal
 import subprocess
 import sys
 from collections.abc import Sequence
@@ -20,6 +21,8 @@ from motesim.faults import Fault, command
 from project.tree import TOP
 
 TESTS = TOP / 'tools/tests'
+# How long one file may take.
+SECONDS = 600
 SKIPPED = re.compile(r"^(\w+) \(([\w.]+)\)(?:\n.*)? \.\.\. skipped (.*)$", re.M)
 # (what stands between is written by the tests themselves)
 COUNT = re.compile(r'^Ran (\d+) tests? in .*\n\n(OK|FAILED)(?: \((.*)\))?$', re.M)
@@ -50,11 +53,16 @@ def told_of(name: str, said: str) -> Told:
 
 def run_file(path: Path) -> Told:
     words = [sys.executable, '-B', '-m', 'unittest', '-v', path.stem]
-    done = subprocess.run(words, cwd=TESTS, stdin=subprocess.DEVNULL, stdout=subprocess.PIPE, stderr=subprocess.STDOUT,
-                          encoding='utf-8', errors='replace')
-    told = told_of(path.stem, done.stdout)
-    if done.returncode and not told.failed:
-        return told._replace(failed=1, lines=told.lines + '%s ended with status %d\n' % (path.stem, done.returncode))
+    with subprocess.Popen(words, cwd=TESTS, stdin=subprocess.DEVNULL, stdout=subprocess.PIPE, stderr=subprocess.STDOUT,
+                          encoding='utf-8', errors='replace', start_new_session=True) as ran:
+        try:
+            said = ran.communicate(timeout=SECONDS)[0]
+        except subprocess.TimeoutExpired:
+            os.killpg(ran.pid, signal.SIGKILL)
+            return Told(0, 1, 0, '%s did not end in %d seconds:\n%s' % (path.stem, SECONDS, ran.communicate()[0]))
+    told = told_of(path.stem, said)
+    if ran.returncode and not told.failed:
+        return told._replace(failed=1, lines=told.lines + '%s ended with status %d\n' % (path.stem, ran.returncode))
     return told
 
 

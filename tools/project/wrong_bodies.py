@@ -13,7 +13,7 @@ look at.
 
 The libraries below are those that lie in crates/*/out; what is missing or older than its sources is built first. With --built they
 are taken as they lie there: rt ci has just built them, or taken them from what it keeps on this machine, whose files are older than
-a fresh clone's sources. As many checks run side by side as there are processors and memory, or as RT_JOBS says. The last line is
+a fresh clone's sources. What is tried is noted in log/wrong_bodies.tsv. As many checks run side by side as there are processors and memory, or as RT_JOBS says. The last line is
 `N passed, M failed`, and the status 1 where one failed.
 """
 from __future__ import annotations
@@ -23,12 +23,13 @@ import os
 import resource
 import time
 from collections.abc import Collection, Sequence
+from pathlib import Path
 from typing import Any
 
 from motesim.faults import Fault, command
 from project.bodies.edits import FOLDERS, Bodies, Edit
 from project.bodies.trial import ONE_JOB, verdicts
-from project import kit
+from project import kit, tried
 from project.tree import TOP
 
 
@@ -37,6 +38,7 @@ def words() -> argparse.Namespace:
     form = argparse.RawDescriptionHelpFormatter
     asked = argparse.ArgumentParser(description=about, epilog=details, formatter_class=form)
     asked.add_argument('--list', action='store_true', help='print each wrong body with its group and its functions, and try none')
+    asked.add_argument('--tried', action='store_true', help='print when each was last tried, by log/wrong_bodies.tsv, and try none')
     asked.add_argument('--folder', choices=FOLDERS, help='those of this folder alone; without it, of all three')
     asked.add_argument('--built', action='store_true', help='take the libraries as rt ci has left them, and build none')
     asked.add_argument('names', nargs='*', metavar='CRATE or CRATE/NAME', help='crates, or single wrong bodies; without them, all')
@@ -67,6 +69,12 @@ def bodies_of(crate: kit.Crate, folders: Sequence[str], names: Collection[str]) 
 
 def label(bodies: Bodies, edit: Edit) -> str:
     return '%s/%s' % (bodies.crate.name, edit.name)
+
+
+def digests(of_crates: Sequence[Bodies]) -> dict[str, str]:
+    """Of each wrong body that can be applied a digest of what it is tried over."""
+    return {label(bodies, edit): tried.digest(Path(bodies.crate.folder), Path(edit.file))
+            for bodies in of_crates for edit in bodies.edits if not edit.trouble}
 
 
 def list_groups(of_crates: Sequence[Bodies]) -> None:
@@ -136,10 +144,15 @@ def main() -> int:
     if asked.list:
         list_groups(of_crates)
         return 0
+    if asked.tried:
+        print('\n'.join(tried.told(digests(of_crates))))
+        return 0
     if not build_libraries(of_crates, asked.built):
         raise Fault("a library below isn't proved")
     began = time.time()
+    sums = digests(of_crates)
     passed, failed = judge_all(of_crates)
+    tried.note({name: (name not in failed, sums[name]) for name in sums})
     if failed:
         print('not refused: %s' % ' '.join(failed))
     used = resource.getrusage(resource.RUSAGE_CHILDREN)

@@ -1,0 +1,71 @@
+"""When each wrong body was last tried, and over which text of its crate: log/wrong_bodies.tsv.
+
+tools/wrong_bodies notes what it tries. A line has the wrong body, the day, `refused` or `open`, and a digest of the
+crate and of the wrong body, by which it can be told whether either has changed since.
+"""
+from __future__ import annotations
+
+import hashlib
+import time
+from collections.abc import Mapping
+from pathlib import Path
+from typing import NamedTuple
+
+from project.tree import TOP
+
+KEPT = TOP / 'log/wrong_bodies.tsv'
+PARTS = 'src', 'specs', 'proofs'
+
+
+class Tried(NamedTuple):
+    """When a wrong body was tried, whether it was refused, and the digest of what it was tried over."""
+    day: str
+    is_refused: bool
+    digest: str
+
+
+def digest(crate: Path, edit: Path) -> str:
+    """A digest of a crate's files and of a wrong body."""
+    found = hashlib.sha256(edit.read_bytes())
+    for part in PARTS:
+        for path in sorted((crate / part).rglob('*')):
+            if path.is_file():
+                data = path.read_bytes()
+                found.update(b'%s %d\n' % (str(path.relative_to(crate)).encode(), len(data)))
+                found.update(data)
+    return found.hexdigest()[:16]
+
+
+def noted() -> dict[str, Tried]:
+    """What is noted, by CRATE/NAME."""
+    rows = KEPT.read_text('utf-8').splitlines() if KEPT.is_file() else []
+    cells = [row.split('\t') for row in rows if row and not row.startswith('#')]
+    return {name: Tried(day, answer == 'refused', sum_) for name, day, answer, sum_ in cells}
+
+
+def note(answers: Mapping[str, tuple[bool, str]]) -> None:
+    """Notes that these were tried today: whether each was refused, and the digest of what it was tried over."""
+    day, kept = time.strftime('%Y-%m-%d'), noted()
+    kept.update((name, Tried(day, is_refused, sum_)) for name, (is_refused, sum_) in answers.items())
+    KEPT.parent.mkdir(exist_ok=True)
+    rows = ['%s\t%s\t%s\t%s\n' % (name, it.day, 'refused' if it.is_refused else 'open', it.digest)
+            for name, it in sorted(kept.items())]
+    KEPT.write_text('# written by tools/wrong_bodies: wrong body, day, answer, digest\n' + ''.join(rows), 'utf-8')
+
+
+def told(names: Mapping[str, str]) -> list[str]:
+    """A line for each of these wrong bodies, which come with their digests of now, and one that counts them."""
+    kept, lines, counts = noted(), [], {'as it is': 0, 'before': 0, 'never': 0}
+    for name, now in names.items():
+        it = kept.get(name)
+        if it is None:
+            said, key = 'not noted', 'never'
+        else:
+            is_same = it.digest == now
+            said = '%s  %s%s' % (it.day, 'refused' if it.is_refused else 'NOT REFUSED',
+                                 '' if is_same else ', over an earlier text of the crate')
+            key = 'as it is' if is_same else 'before'
+        counts[key] += 1
+        lines.append('%-55s %s' % (name, said))
+    return lines + ['%d wrong bodies: %d tried over the crate as it is, %d over an earlier text, %d not noted' % (
+        len(names), counts['as it is'], counts['before'], counts['never'])]

@@ -1,0 +1,52 @@
+"""What is noted of wrong bodies that were tried."""
+import tempfile
+import unittest
+from pathlib import Path
+from unittest import mock
+
+import here  # (it puts tools/ on the path)
+from project import tried
+
+
+class Tried(unittest.TestCase):
+    def setUp(self):
+        room = tempfile.TemporaryDirectory()
+        self.addCleanup(room.cleanup)
+        self.room = Path(room.name)
+        patch = mock.patch.object(tried, 'KEPT', self.room / 'log/kept.tsv')
+        patch.start()
+        self.addCleanup(patch.stop)
+
+    def test_the_last_try_is_noted(self):
+        self.assertEqual(tried.noted(), {})
+        tried.note({'low/a': (True, '1'), 'low/b': (False, '1')})
+        tried.note({'low/b': (True, '2')})
+        found = tried.noted()
+        self.assertEqual([(name, it.is_refused, it.digest) for name, it in found.items()], [('low/a', True, '1'), ('low/b', True, '2')])
+
+    def test_what_has_changed_since_is_told(self):
+        tried.note({'low/a': (True, '1'), 'low/b': (False, '1')})
+        lines = tried.told({'low/a': '1', 'low/b': '2', 'low/c': '3'})
+        self.assertRegex(lines[0], r'^low/a +\d{4}-\d\d-\d\d  refused$')
+        self.assertRegex(lines[1], r'^low/b +\S+  NOT REFUSED, over an earlier text of the crate$')
+        self.assertRegex(lines[2], r'^low/c +not noted$')
+        self.assertEqual(lines[3], '3 wrong bodies: 1 tried over the crate as it is, 1 over an earlier text, 1 not noted')
+
+    def test_a_digest_has_all_that_is_read(self):
+        crate, edit = self.room / 'low', self.room / 'a.edit'
+        (crate / 'src').mkdir(parents=True)
+        (crate / 'src/lib.rt').write_text('fn a() {}\n')
+        edit.write_text('file: src/lib.rt\n')
+        sums = [tried.digest(crate, edit)]
+        (crate / 'src/lib.rt').write_text('fn b() {}\n')
+        sums.append(tried.digest(crate, edit))
+        edit.write_text('file: src/main.rt\n')
+        sums.append(tried.digest(crate, edit))
+        (crate / 'out').mkdir()
+        (crate / 'out/log').write_text('x')
+        self.assertEqual(tried.digest(crate, edit), sums[2])
+        self.assertEqual(len(set(sums)), 3)
+
+
+if __name__ == '__main__':
+    unittest.main()
