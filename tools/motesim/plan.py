@@ -64,11 +64,11 @@ class Plan:
 
     def scenario(self, given: Mapping[str, Value]) -> str:
         """The scenario's text."""
-        return Builder(Tables(self.name, self.text, self.with_given(given)), self.files).scenario()
+        return Builder(self.tables.with_parameters(self.with_given(given)), self.files).scenario()
 
     def used_files(self, given: Mapping[str, Value]) -> list[str]:
         """The names of the files that the scenario is made from, as far as they can be told."""
-        return files_of(Tables(self.name, self.text, self.with_given(given)), self.files)
+        return files_of(self.tables.with_parameters(self.with_given(given)), self.files)
 
     def digest(self, given: Mapping[str, Value]) -> str:
         """The SHA-256 of the plan and of the files that it takes."""

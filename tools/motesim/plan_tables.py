@@ -8,6 +8,7 @@ from __future__ import annotations
 import re
 import tomllib
 from collections.abc import Mapping
+from copy import copy
 from dataclasses import dataclass
 from typing import Any, NoReturn
 
@@ -101,13 +102,19 @@ def shown(name: str, text: str, place: Place, rule: str, may: str) -> str:
 class Tables:
     """A plan's text with its tables, and the values of its parameters."""
 
-    def __init__(self, name: str, text: str, parameters: Mapping[str, Value] | None = None) -> None:
+    def __init__(self, name: str, text: str) -> None:
         self.name, self.text = name, text
-        self.parameters: dict[str, Value] = dict(parameters or {})
+        self.parameters: dict[str, Value] = {}
         try:
             self.top: Table = tomllib.loads(text.removeprefix('\ufeff'))
         except (tomllib.TOMLDecodeError, RecursionError) as fault:
             self._no_toml(str(fault))
+
+    def with_parameters(self, parameters: Mapping[str, Value]) -> Tables:
+        """The same tables where parameters have these values."""
+        made = copy(self)
+        made.parameters = dict(parameters)
+        return made
 
     def _no_toml(self, said: str) -> NoReturn:
         found, lines = re.search(r' \(at line (\d+), column (\d+)\)$', said), self.text.split('\n')

@@ -26,178 +26,24 @@ from __future__ import annotations
 import argparse
 import contextlib
 import hashlib
-import itertools
 import os
-import re
 import subprocess
 import sys
-import time
-from collections.abc import Iterator, Mapping, Sequence
-from dataclasses import dataclass
+from collections.abc import Mapping, Sequence
 from pathlib import Path
 from typing import Any
 
 from motesim import packages
 from motesim.faults import INTERRUPTED, Fault, command
-from motesim.measures import Cell, file_of, read_measure
 from motesim.one_run import DIGITS, Job, Result, Work, program_digest
 from motesim.plan import Plan
-from motesim.plan_tables import NAME, Value, needed, optional, text_of_value, value_of_text
+from motesim.plan_tables import Value, text_of_value, value_of_text
 from motesim.results import CsvFile, Row, SqliteFile, open_results, text_of
-from motesim.run import TOP, program_path, read_file
-from motesim.scenario import Scenario
-from motesim.sentences import Names, SentenceFault, names_of
+from motesim.run import TOP, program_path
+from motesim.sweep_asked import MOST_BYTES, MOST_SECONDS, Sweep, columns_of, known_names, sources_of, sweep_of
+from motesim.sweep_progress import Progress
 from motesim.sweep_runs import Stopped, run_by_dask, run_here
 from motesim.versions import kit_version, program_version
-
-MOST_RUNS = 1_000_000
-SECONDS, MOST_SECONDS, MOST_BYTES = 60, 86_400, 200_000_000
-RANGE = re.compile(r'(-?[0-9]{1,9})\.\.(-?[0-9]{1,9})(?:\.\.([0-9]{1,9}))?')
-SWEEP = {'vary': optional(dict, {}), 'measure': optional(list, []), 'seconds': optional(int, SECONDS, 1, MOST_SECONDS)}
-MADE = ('fault', 'plan', 'plan_sha256', 'scenario_sha256', 'report_sha256', 'program', 'program_sha256', 'kit',
-        'measures_sha256', 'parameters')
-SHOWN_EVERY = 30
-
-
-def values_of(words: str) -> list[Value]:
-    """The values of a parameter: `10,20,40`, `1..30`, `0..100..25`, or texts."""
-    found: list[Value] = []
-    for part in words.split(','):
-        numbers = RANGE.fullmatch(part.strip())
-        if not numbers:
-            found.append(value_of_text(part.strip()))
-            continue
-        begin, end, step = int(numbers[1]), int(numbers[2]), int(numbers[3] or 1)
-        if begin > end or step < 1 or (end - begin) // step >= MOST_RUNS:
-            raise Fault('%s are no values: a range goes upwards, and has at most 1,000,000 values' % part)
-        found += range(begin, end + 1, step)
-    doubled = [it for number, it in enumerate(found) if it in found[:number]]
-    if doubled or '' in found:
-        raise Fault('%s has %s' % (words, 'a value twice: %s' % doubled[0] if doubled else 'an empty value'))
-    return found
-
-
-@dataclass
-class Sweep:
-    """A plan, the values of the parameters that vary, and the measures."""
-    plan: Plan
-    vary: dict[str, list[Value]]
-    measures: list[str]
-    seconds: float
-    most_bytes: int = MOST_BYTES
-
-    def runs(self) -> int:
-        count = 1
-        for values in self.vary.values():
-            count *= len(values)
-        return count
-
-    def given(self) -> Iterator[dict[str, Value]]:
-        """The values of all parameters, run by run. The last of those that vary changes first."""
-        for values in itertools.product(*self.vary.values()):
-            yield self.plan.with_given(dict(zip(self.vary, values)))
-
-
-def sweep_of(plan: Plan, vary: Sequence[str], measures: Sequence[str], seconds: float | None) -> Sweep:
-    """What the plan's table `sweep` and the command line ask for."""
-    table = plan.tables.read(plan.tables.top.get('sweep', {}), ('sweep',), SWEEP, 'A sweep')
-    asked: dict[str, list[Value]] = {}
-    for name, values in table['vary'].items():
-        asked[name] = _values_in_plan(plan, name, values)
-    for words in vary:
-        name, sign, text = words.partition('=')
-        if not sign:
-            raise Fault('--vary takes NAME=VALUES, and not %r' % words)
-        asked[name] = values_of(text)
-    plan.with_given({name: values[0] for name, values in asked.items()})
-    if not all(type(it) is str for it in table['measure']):
-        raise plan.tables.fault(('sweep', 'measure'), 'A measure is a text.', 'an array of texts')
-    sweep = Sweep(plan, asked, [*table['measure'], *measures], seconds or table['seconds'])
-    if not sweep.measures:
-        raise Fault('there is nothing to measure: --measure sent, or `measure = ["sent"]` in the table `sweep` of the '
-                    'plan')
-    if sweep.runs() > MOST_RUNS:
-        raise Fault('these are %s runs, and at most 1,000,000 are made' % '{:,}'.format(sweep.runs()))
-    return sweep
-
-
-def _values_in_plan(plan: Plan, name: str, values: object) -> list[Value]:
-    path = 'sweep', 'vary', name
-    if name not in plan.parameters:
-        raise plan.tables.fault(path, 'The plan has no parameter of this name.',
-                                ', '.join('`%s`' % it for it in plan.parameters) or 'none', False)
-    if type(values) is str:
-        return values_of(values)
-    if type(values) is not list or not values or not all(type(it) in (int, str, bool) for it in values):
-        raise plan.tables.fault(path, 'These are no values.', '`"10,20,40"`, `"1..30"` or an array')
-    return list(values)
-
-
-def sources_of(plan: Plan, measures: Sequence[str]) -> dict[str, str]:
-    """The users' files that the measures take, by their names."""
-    names = sorted({file_of(words) for words in measures} - {''})
-    try:
-        return {name: read_file(plan.files.folder / name).decode('utf-8') for name in names}
-    except UnicodeDecodeError as fault:
-        raise Fault('a file of measures is not UTF-8: %s' % fault) from None
-
-
-def known_names(sweep: Sweep) -> Names:
-    """What sentences may name. A plan that makes no scenario, first or last, has its fault told."""
-    runs = list(itertools.islice(sweep.given(), 1))
-    last = dict(zip(sweep.vary, (values[-1] for values in sweep.vary.values())))
-    runs.append(sweep.plan.with_given(last))
-    faults = []
-    for given in runs:
-        try:
-            return names_of(Scenario.parse(sweep.plan.scenario(given)))
-        except Fault as fault:
-            faults.append(fault)
-    raise faults[0]
-
-
-def columns_of(sweep: Sweep, names: Names, sources: Mapping[str, str]) -> list[str]:
-    """The columns of the results. A measure that can't be read is told."""
-    measures = []
-    for words in sweep.measures:
-        try:
-            measures.append(read_measure(words, names, sources).name)
-        except SentenceFault as fault:
-            raise Fault('in the measure %r\n%s' % (words, str(fault).split('\n', 1)[1])) from None
-    columns = [*sweep.plan.parameters, *measures, *MADE]
-    twice = [it for number, it in enumerate(columns) if it in columns[:number]]
-    if twice:
-        raise Fault('two columns would have the name %s: `other_name = MEASURE` names one' % twice[0])
-    return columns
-
-
-class Progress:
-    """How many runs are done and how long the others will take, on standard error."""
-
-    def __init__(self, runs: int) -> None:
-        self.runs, self.done, self.faults = runs, 0, 0
-        self.begin = self.shown = time.monotonic()
-        self.is_terminal = sys.stderr.isatty()
-
-    def add(self, has_fault: bool) -> None:
-        self.done += 1
-        self.faults += has_fault
-        now = time.monotonic()
-        if self.is_terminal or now - self.shown >= SHOWN_EVERY:
-            self.shown = now
-            self.show(now)
-
-    def show(self, now: float) -> None:
-        left = round((now - self.begin) / self.done * (self.runs - self.done))
-        text = '%d of %d runs, %d with a fault, %d:%02d left' % (
-            self.done, self.runs, self.faults, left // 60, left % 60)
-        print('\r\033[K' + text if self.is_terminal else text, end='' if self.is_terminal else '\n', file=sys.stderr,
-              flush=True)
-
-    def end(self) -> None:
-        if self.is_terminal and self.done:
-            print('\r\033[K', end='', file=sys.stderr, flush=True)
-
 
 Key = tuple[str, ...]
 

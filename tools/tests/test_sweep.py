@@ -22,7 +22,8 @@ from motesim.results import CsvFile, cell, read_results
 from motesim.run import Run
 from motesim.scenario import Scenario
 from motesim.sentences import names_of
-from motesim.sweep import Sweeper, sweep_of, values_of
+from motesim.sweep import Sweeper
+from motesim.sweep_asked import sweep_of, values_of
 from skips import interpreter_with
 from stub import write_stub
 
@@ -312,9 +313,9 @@ class SweepTest(Bed):
 
     def test_progress_is_on_standard_error(self) -> None:
         source = '''import sys, time
-from motesim import sweep
-sweep.SHOWN_EVERY = 0
-progress = sweep.Progress(3)
+from motesim import sweep_progress
+sweep_progress.SHOWN_EVERY = 0
+progress = sweep_progress.Progress(3)
 progress.begin -= 60
 progress.add(False)
 progress.add(True)

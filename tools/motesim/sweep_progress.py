@@ -1,0 +1,36 @@
+"""How far a sweep is."""
+from __future__ import annotations
+
+import sys
+import time
+
+# (seconds between two lines where standard error is no terminal)
+SHOWN_EVERY = 30
+
+
+class Progress:
+    """How many runs are done and how long the others will take, on standard error."""
+
+    def __init__(self, runs: int) -> None:
+        self.runs, self.done, self.faults = runs, 0, 0
+        self.begin = self.shown = time.monotonic()
+        self.is_terminal = sys.stderr.isatty()
+
+    def add(self, has_fault: bool) -> None:
+        self.done += 1
+        self.faults += has_fault
+        now = time.monotonic()
+        if self.is_terminal or now - self.shown >= SHOWN_EVERY:
+            self.shown = now
+            self.show(now)
+
+    def show(self, now: float) -> None:
+        left = round((now - self.begin) / self.done * (self.runs - self.done))
+        text = '%d of %d runs, %d with a fault, %d:%02d left' % (
+            self.done, self.runs, self.faults, left // 60, left % 60)
+        print('\r\033[K' + text if self.is_terminal else text, end='' if self.is_terminal else '\n', file=sys.stderr,
+              flush=True)
+
+    def end(self) -> None:
+        if self.is_terminal and self.done:
+            print('\r\033[K', end='', file=sys.stderr, flush=True)
