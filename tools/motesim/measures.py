@@ -88,11 +88,9 @@ def _events(judge: Judge, it: Does, motes: tuple[int, ...]) -> list[Event]:
 
 
 def _moment(judge: Judge, it: Does) -> int | None:
-    """The moment from which on a sentence is fulfilled, or None where it never is."""
+    """The first moment at which a sentence is fulfilled, or None where it never is."""
     wanted, chosen = max(1, it.count.least), judge.chosen(it.motes)
-    groups = [chosen] if it.motes.kind in ('together', 'some') else [(mote,) for mote in chosen]
-    if it.motes.kind == 'some':
-        groups = [(mote,) for mote in chosen]
+    groups = [chosen] if it.motes.kind == 'together' else [(mote,) for mote in chosen]
     found = [events[wanted - 1].line.at for events in (_events(judge, it, group) for group in groups)
              if len(events) >= wanted]
     if it.motes.kind == 'some':
@@ -119,8 +117,8 @@ def _count_rows(judge: Judge, it: Copies | Packets) -> int:
     if isinstance(it, Copies) and it.outcome == 'left':
         return judge.report.left
     rows = judge.of_copies(it) if isinstance(it, Copies) else judge.of_packets()
-    end = it.window.end
-    return sum(it.window.begin <= row.at and (end is None or row.at <= end) for row in rows)
+    spans = ((row.at, judge.spans(it.window, (row.mote,))) for row in rows)
+    return sum(any(begin <= at and (end is None or at <= end) for begin, end in its) for at, its in spans)
 
 
 def _plain(sentence: Sentence, words: str) -> Does:
@@ -157,7 +155,7 @@ def _of_sentence(kind: str, words: str, names: Names) -> Callable[[Bench], Cell]
         return lambda bench: int(bench.judge.broken(first) is None)
     if kind == 'count' and isinstance(first, Copies | Packets):
         rows = first
-        return lambda bench: _count_rows(bench.judge, rows)
+        return _guarded(lambda judge: _count_rows(judge, rows))
     its = [_plain(sentence, part) for sentence, part in zip(sentences, parts)]
     if kind == 'delay':
         def delay(judge: Judge) -> Cell:
