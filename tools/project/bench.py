@@ -1,0 +1,196 @@
+"""Measures the program: tools/bench [NAME ..] [--against PROGRAM] [--rounds N]
+
+Runs the program on the scenarios of bench/, on one thread and by workers of both kinds, each in turn with an earlier
+program where --against names one, and prints of each way to run: the seconds of the processor (user time, the best
+round), the seconds of the clock, and the most memory; and the instructions on one thread, where valgrind or perf is
+installed. A ratio is the middle one of the rounds' own ratios of this program to the earlier one, with the quarter and
+the three quarters. Each report is compared with the first one of its scenario. --small runs scenarios of a tenth of
+the length.
+
+Ends with status 0, or with 1 where a report differs.
+"""
+from __future__ import annotations
+
+import argparse
+import hashlib
+import os
+import re
+import shutil
+import statistics
+import subprocess
+import tempfile
+import time
+from collections.abc import Callable, Sequence
+from pathlib import Path
+from typing import NamedTuple
+
+from motesim.faults import Fault, command
+from project.tree import TOP, program_of, take_program
+
+# Each scenario with its words, and those of one of a tenth of the length.
+SCENARIOS: dict[str, tuple[list[int], list[int]]] = {
+    'beacons': ([31, 2000, 10], [31, 200, 10]), 'polls': ([500, 200], [500, 20]), 'broadcasts': ([8, 20000], [8, 2000]),
+    'timers': ([64, 200000], [64, 20000]), 'steps': ([10, 1000], [10, 100]),
+}
+WAYS: list[list[str]] = [[], *(['--workers', workers, '--sync', sync] for sync in ('joins', 'marks') for workers in '24')]
+SECONDS = 600
+
+
+class Ran(NamedTuple):
+    """What one run took, and the digest of its report."""
+    user: float
+    clock: float
+    memory: int
+    report: str
+
+
+class Ratio(NamedTuple):
+    """The middle of several ratios, and the quarters around it."""
+    low: float
+    middle: float
+    high: float
+
+
+def generated(name: str, words: Sequence[int]) -> bytes:
+    """A scenario of bench/."""
+    done = subprocess.run([str(TOP / 'bench' / name), *map(str, words)], capture_output=True)
+    if done.returncode:
+        raise Fault('bench/%s makes no scenario: %s' % (name, done.stderr.decode('utf-8', 'replace').strip()))
+    return done.stdout
+
+
+def run_once(program: str, words: Sequence[str], scenario: Path, room: Path) -> Ran:
+    """One run, whose report goes to a file."""
+    report, fault = room / 'report', room / 'fault'
+    begin = time.perf_counter()
+    with open(report, 'wb') as out, open(fault, 'wb') as err:
+        ran = subprocess.Popen([program, *words, str(scenario)], stdout=out, stderr=err, stdin=subprocess.DEVNULL)
+        _, status, used = os.wait4(ran.pid, 0)
+        ran.returncode = os.waitstatus_to_exitcode(status)
+    clock = time.perf_counter() - begin
+    if ran.returncode:
+        raise Fault('%s %s: status %d, %s' % (program, ' '.join(words), ran.returncode,
+                                              fault.read_bytes()[:200].decode('utf-8', 'replace').strip()))
+    with open(report, 'rb') as found:
+        digest = hashlib.file_digest(found, 'sha256').hexdigest()
+    return Ran(used.ru_utime, clock, used.ru_maxrss * 1024, digest)
+
+
+def ratio_of(ours: Sequence[float], others: Sequence[float]) -> Ratio | None:
+    """The ratios of runs that were made in turn."""
+    ratios = sorted(one / other for one, other in zip(ours, others) if other > 0)
+    if not ratios:
+        return None
+    if len(ratios) < 4:
+        return Ratio(ratios[0], statistics.median(ratios), ratios[-1])
+    low, middle, high = statistics.quantiles(ratios, n=4, method='inclusive')
+    return Ratio(low, middle, high)
+
+
+def by_perf(program: str, scenario: Path) -> int | None:
+    """The instructions of a run, by the processor's own count."""
+    words = ['perf', 'stat', '-x', ',', '-e', 'instructions:u', program, str(scenario)]
+    done = subprocess.run(words, stdout=subprocess.DEVNULL, stderr=subprocess.PIPE, encoding='utf-8', timeout=SECONDS)
+    counted = re.search(r'^(\d+),,instructions:u', done.stderr, re.M)
+    return int(counted[1]) if counted else None
+
+
+def by_valgrind(program: str, scenario: Path) -> int | None:
+    """The instructions of a run, counted one by one, which takes some fifty times as long."""
+    words = ['valgrind', '--tool=cachegrind', '--cache-sim=no', '--cachegrind-out-file=/dev/null', program, str(scenario)]
+    done = subprocess.run(words, stdout=subprocess.DEVNULL, stderr=subprocess.PIPE, encoding='utf-8', timeout=SECONDS)
+    counted = re.search(r'I +refs: +([\d,]+)', done.stderr)
+    return int(counted[1].replace(',', '')) if counted else None
+
+
+def counter(scenario: Path, program: str) -> Callable[[str, Path], int | None] | None:
+    """What counts instructions here: perf where the processor lets it, else valgrind."""
+    if shutil.which('perf') and by_perf(program, scenario):
+        return by_perf
+    return by_valgrind if shutil.which('valgrind') else None
+
+
+def megabytes(number: float) -> str:
+    return '%.1f MB' % (number / 1e6)
+
+
+def seconds(number: float) -> str:
+    return '%.3f s' % number
+
+
+def millions(number: float) -> str:
+    return '%.1f M' % (number / 1e6)
+
+
+def cell(what: str, ours: Sequence[float], others: Sequence[float], shown: Callable[[float], str]) -> str:
+    """A measure of this program, with that of the earlier one and their ratio."""
+    if not others:
+        return '%s %s' % (what, shown(min(ours)))
+    ratio = ratio_of(ours, others)
+    told = ': %.2f (%.2f to %.2f)' % (ratio.middle, ratio.low, ratio.high) if ratio and len(ours) > 1 else (
+        ': %.2f' % ratio.middle if ratio else '')
+    return '%s %s, %s%s' % (what, shown(min(ours)), shown(min(others)), told)
+
+
+def measured(programs: Sequence[str], words: Sequence[str], scenario: Path, rounds: int) -> list[list[Ran]]:
+    """The runs of each program, made in turn."""
+    found: list[list[Ran]] = [[] for _ in programs]
+    with tempfile.TemporaryDirectory() as room:
+        for _ in range(rounds):
+            for program, runs in zip(programs, found):
+                runs.append(run_once(program, words, scenario, Path(room)))
+    return found
+
+
+def line_of(way: Sequence[str], runs: Sequence[Sequence[Ran]]) -> str:
+    """The line of one way to run."""
+    ours, others = runs[0], runs[1] if len(runs) > 1 else []
+    cells = [cell('user', [it.user for it in ours], [it.user for it in others], seconds),
+             cell('clock', [it.clock for it in ours], [it.clock for it in others], seconds),
+             cell('memory', [it.memory for it in ours], [it.memory for it in others], megabytes)]
+    return '  %-28s %s' % (' '.join(way) or 'one thread', '; '.join(cells))
+
+
+def measure(name: str, sizes: Sequence[int], programs: Sequence[str], rounds: int, counts: bool) -> bool:
+    """Measures one scenario, and returns whether all its reports are the same."""
+    with tempfile.TemporaryDirectory() as room:
+        scenario = Path(room) / 'scenario.toml'
+        scenario.write_bytes(generated(name, sizes))
+        print('%s %s' % (name, ' '.join(map(str, sizes))), flush=True)
+        reports: set[str] = set()
+        for way in WAYS:
+            runs = measured(programs, way, scenario, rounds)
+            reports.update(it.report for of_program in runs for it in of_program)
+            print(line_of(way, runs), flush=True)
+        if counts:
+            scenario.write_bytes(generated(name, SCENARIOS[name][1]))
+            count = counter(scenario, programs[0])
+            if count is None:
+                print('  instructions are not counted: on Debian `apt-get install valgrind` installs what counts them')
+            else:
+                found = [count(program, scenario) or 0 for program in programs]
+                print('  %s' % cell('instructions of a tenth, on one thread', found[:1], found[1:], millions))
+    if len(reports) > 1:
+        print('  THE REPORTS DIFFER')
+    return len(reports) == 1
+
+
+@command('bench')
+def main() -> int:
+    words = argparse.ArgumentParser(description=__doc__, formatter_class=argparse.RawDescriptionHelpFormatter)
+    words.add_argument('names', nargs='*', metavar='NAME', help='scenarios: %s; without one, all' % ', '.join(SCENARIOS))
+    take_program(words)
+    words.add_argument('--against', metavar='PROGRAM', help='an earlier motesim, which is run in turn with this one')
+    words.add_argument('--rounds', type=int, default=5, metavar='N', help='so many runs of each (5)')
+    words.add_argument('--small', action='store_true', help='a tenth of the length')
+    words.add_argument('--no-instructions', action='store_true', help='count no instructions')
+    asked = words.parse_args()
+    for name in asked.names:
+        if name not in SCENARIOS:
+            raise Fault('there is no scenario %s; there are: %s' % (name, ', '.join(SCENARIOS)))
+    programs = [program_of(asked.program), *([program_of(asked.against)] if asked.against else [])]
+    if len(programs) > 1:
+        print('Each measure is that of %s, that of %s, and their ratio.' % tuple(programs))
+    same = [measure(name, SCENARIOS[name][asked.small], programs, max(1, asked.rounds), not asked.no_instructions)
+            for name in asked.names or SCENARIOS]
+    return 0 if all(same) else 1

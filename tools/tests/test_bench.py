@@ -1,0 +1,75 @@
+"""The scenarios of bench/, and what tools/bench says of runs. The program is a stand-in."""
+import contextlib
+import io
+import subprocess
+import sys
+import tempfile
+import unittest
+from pathlib import Path
+from unittest import mock
+
+from here import TOP
+from motesim.program_faults import find_fault
+from motesim.scenario import Scenario
+from project import bench
+
+PROGRAM = '#!/bin/sh\necho "mote 0 p"\n[ "$1" = --workers ] && [ "$4" = ODD ] && echo "0 halt"\necho medium\necho "left 0"\n'
+
+
+class Scenarios(unittest.TestCase):
+    def test_each_is_a_scenario(self):
+        for name, sizes in bench.SCENARIOS.items():
+            found = Scenario.parse(bench.generated(name, sizes[1]))
+            for text in found.programs.values():
+                self.assertIsNone(find_fault(text), name)
+
+    def test_other_words_are_told(self):
+        for name in bench.SCENARIOS:
+            done = subprocess.run([str(TOP / 'bench' / name), 'x'], capture_output=True, text=True)
+            self.assertEqual((done.returncode, done.stdout), (1, ''))
+            self.assertIn('bench/%s' % name, done.stderr)
+
+
+class Ratios(unittest.TestCase):
+    def test_the_middle_ratio_counts(self):
+        self.assertEqual(bench.ratio_of([2, 3, 4, 50], [2, 2, 2, 2]), (1.375, 1.75, 7.75))
+        self.assertEqual(bench.ratio_of([2], [4]), (0.5, 0.5, 0.5))
+        self.assertIsNone(bench.ratio_of([1], [0]))
+
+    def test_a_cell_has_both_and_their_ratio(self):
+        self.assertEqual(bench.cell('user', [0.5], [], bench.seconds), 'user 0.500 s')
+        self.assertEqual(bench.cell('user', [0.5], [1], bench.seconds), 'user 0.500 s, 1.000 s: 0.50')
+        self.assertEqual(bench.cell('user', [1, 2, 1], [1, 1, 1], bench.seconds), 'user 1.000 s, 1.000 s: 1.00 (1.00 to 2.00)')
+
+
+class Command(unittest.TestCase):
+    def said(self, odd, *words):
+        said = io.StringIO()
+        with tempfile.TemporaryDirectory() as room:
+            program = Path(room) / 'motesim'
+            program.write_text(PROGRAM.replace('ODD', odd))
+            program.chmod(0o755)
+            words = ['bench', '--program', str(program), '--rounds', '1', '--no-instructions', '--small', *words]
+            with mock.patch.object(sys, 'argv', words), contextlib.redirect_stdout(said), contextlib.redirect_stderr(said):
+                with self.assertRaises(SystemExit) as end:
+                    bench.main()
+        return said.getvalue(), end.exception.code
+
+    def test_each_way_has_a_line(self):
+        said, code = self.said('none', 'timers')
+        self.assertEqual(code, 0)
+        self.assertEqual([line.split('user')[0].strip() for line in said.splitlines()], [
+            'timers 64 20000', 'one thread', '--workers 2 --sync joins', '--workers 4 --sync joins', '--workers 2 --sync marks',
+            '--workers 4 --sync marks'])
+
+    def test_a_report_that_differs_is_told(self):
+        said, code = self.said('marks', 'timers')
+        self.assertEqual(code, 1)
+        self.assertIn('THE REPORTS DIFFER', said)
+
+    def test_another_name_is_told(self):
+        self.assertIn('there is no scenario x', self.said('none', 'x')[0])
+
+
+if __name__ == '__main__':
+    unittest.main()
