@@ -108,10 +108,13 @@ class Page(unittest.TestCase):
         self.serve(Server(session, codemirror))
         self.stack.callback(self.stop)
         self.browser.size(1400, 900)
-        self.browser.visit(self.server.address, READY)
-        # (a page with a changed text asks before it goes)
-        self.stack.callback(self.browser.run, 'if (window.motesim && motesim.studio) motesim.studio.saved = motesim.editor().text')
+        self.visit(self.server.address, READY)
         self.browser.settle()
+
+    def visit(self, address, ready):
+        """Leaves the page, which asks nothing even where its text was changed, for another."""
+        self.browser.run('if (window.motesim && motesim.studio) motesim.studio.asks = false')
+        self.browser.visit(address, ready)
 
     def tearDown(self):
         self.assertEqual(self.browser.faults, [])
@@ -387,12 +390,11 @@ class Page(unittest.TestCase):
 
     def test_the_page_without_its_token_is_refused(self):
         self.open()
-        self.value('m.studio.saved = text')
         for address in ('/', '/wrong/', '/wrong/studio.js'):
-            self.browser.visit('http://127.0.0.1:%d%s' % (self.server.port, address), 'document.body')
+            self.visit('http://127.0.0.1:%d%s' % (self.server.port, address), 'document.body')
             self.browser.wait('document.body.innerText.includes("Not allowed")')
             self.assertNotIn('motesim studio', self.browser.run('document.documentElement.outerHTML'))
-        self.browser.visit(self.server.address, READY)
+        self.visit(self.server.address, READY)
 
     def test_nothing_comes_from_a_network(self):
         self.open()
@@ -408,7 +410,7 @@ class Page(unittest.TestCase):
         self.wait('Array.from(run.w).includes(7)')
         x, y = self.on_map(1)
         self.browser.drag(x, y, x + 60, y + 40)
-        self.wait('run.places[1][1] > 0')
+        self.wait('!text.includes("x = 8\\n") && m.studio.judged === m.studio.number && run.places[1][1] > 0')
         self.assertIn('# the first', self.value('text'))
 
     def test_a_scenario_that_begins_with_a_fault_is_opened(self):
@@ -427,8 +429,7 @@ class Page(unittest.TestCase):
             if page.exists() and page.stat().st_size:
                 break
             self.browser.settle()
-        self.value('m.studio.saved = text')
-        self.browser.open(page)
+        self.visit(page.as_uri(), 'window.motesim && motesim.ready')
         self.assertEqual(self.browser.run('motesim.panes[0].run.begins.length'), 3)
 
     def test_it_fits_narrow_windows_and_all_has_a_name(self):

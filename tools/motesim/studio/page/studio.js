@@ -3,7 +3,7 @@ const PAUSE = 250;
 const TABS = [['guide', 'Guide'], ['chosen', 'Selected'], ['steps', 'Steps'], ['compare', 'Differences'],
   ['checks', 'Checks'], ['sums', 'Sums'], ['legend', 'Forms and keys']];
 const studio = {document: null, saved: '', maySave: false, folder: '', number: 0, before: 0, pinned: 0, asked: 0,
-  changedAt: 0, programs: {}, knownStamp: '', fresh: true, timer: 0, tab: 'guide', latency: [], judged: 0};
+  changedAt: 0, programs: {}, knownStamp: '', fresh: true, timer: 0, asks: true, tab: 'guide', latency: [], judged: 0};
 let editor = null;
 
 function showTab(name) {
@@ -208,7 +208,7 @@ function beginButtons() {
     event.stopPropagation();
     save();
   }, true);
-  window.addEventListener('beforeunload', event => { if (isDirty()) event.preventDefault(); });
+  window.addEventListener('beforeunload', event => { if (studio.asks && isDirty()) event.preventDefault(); });
 }
 
 async function beginStudio() {
