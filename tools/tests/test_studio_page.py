@@ -143,6 +143,9 @@ class Page(unittest.TestCase):
         return self.value('document.getElementById(%s).innerText' % json.dumps(name))
 
     def on_map(self, mote):
+        """Where a mote is in the window, once all of its run is shown."""
+        self.wait('m.studio.judged === m.studio.number')
+        self.browser.settle()
         return self.value('(() => { const map = m.maps[0], at = map.canvas.getBoundingClientRect(); '
                           'return [at.x + map.x(%d), at.y + map.y(%d)]; })()' % (mote, mote))
 

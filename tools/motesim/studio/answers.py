@@ -48,12 +48,23 @@ def place16(text: str, offset: int) -> list[int]:
     return [text.count('\n', 0, begin), column16(text[begin:offset], offset - begin)]
 
 
+def unwrapped(lines: list[str]) -> list[str]:
+    """An explanation whose rules stand each on one line, however long, below the place with its mark."""
+    head = 3 if lines and lines[0].endswith(':') else 0
+    found = lines[:head]
+    for line in lines[head:]:
+        if line.startswith('  ') and len(found) > head:
+            found[-1] += ' ' + line.strip()
+        else:
+            found.append(line)
+    return found
+
+
 def fault_told(text: str, line: str) -> dict:
     """A fault in the words of tools/explain, with its place in the text where that is known."""
     data = text.encode('utf-8')
-    lines = explanation('the text', data, line)
     place = place_of_fault(data, line)
-    told = {'line': line, 'words': lines, 'place': None}
+    told = {'line': line, 'words': unwrapped(explanation('the text', data, line)), 'place': None}
     if place:
         row = text.split('\n')[place.line - 1]
         told['place'] = [place.line - 1, column16(row, place.column), column16(row, place.column + place.length)]
@@ -85,7 +96,7 @@ def difference(before: Finished, after: Finished, is_pinned: bool) -> dict:
     told = {'same': is_same, 'lines': lines, 'first': None, 'parts': []}
     if first:
         mote = first.mote if first.mote != MEDIUM else packet_of(reports, first).sender
-        told['first'] = {'at': first.at, 'mote': mote, 'medium': first.mote == MEDIUM}
+        told['first'] = {'at': first.at, 'mote': mote, 'index': -1 if first.mote == MEDIUM else first.index}
         told['parts'] = [[it.mote, it.at] for it in differences(*reports) if it.mote != MEDIUM][:MOST_PARTS]
     return told
 

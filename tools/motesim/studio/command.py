@@ -55,7 +55,7 @@ def serve(server: Server, is_open: bool) -> None:
     print(server.address, flush=True)
     if not server.session.has_editor:
         print('studio: ' + NO_EDITOR, file=sys.stderr, flush=True)
-    with opened(server.address, is_open), contextlib.suppress(KeyboardInterrupt):
+    with opened(server.address, is_open):
         server.serve_forever(poll_interval=0.2)
 
 
@@ -82,9 +82,8 @@ def main() -> int:
     except OSError as fault:
         raise Fault('no page can be served: %s' % in_words(fault)) from None
     with server:
-        try:
+        with contextlib.suppress(KeyboardInterrupt):
             serve(server, not asked.no_open)
-        finally:
-            runs.ask()
+        runs.ask()
     print('studio: ended', file=sys.stderr)
     return 0

@@ -80,7 +80,9 @@ def guide(name: str, text: str, page: Path = PAGE) -> list[dict]:
             for it in comment_of(text)]
     of_page = blocks(rows)
     tasks = [it for it in of_page if it['kind'] == 'task']
-    return told + tasks + [it for it in of_page if it['kind'] != 'task']
+    found = told + tasks + [it for it in of_page if it['kind'] != 'task']
+    line = shows(source, name)
+    return found or ([{'kind': 'text', 'text': line[0].upper() + line[1:] + '.'}] if line else [])
 
 
 def title(name: str, page: Path = PAGE) -> str:

@@ -31,7 +31,7 @@ let roomForPanes = () => {
 /** Panes and maps take the room that there is. */
 function resize() {
   if (!panes.length) return;
-  const room = roomForPanes(), titles = panes.length > 1 ? panes.length * 28 : 0;
+  const room = roomForPanes(), titles = panes.length > 1 ? panes.length * 28 : 0, fits = panes.map(pane => pane.isFit);
   for (const pane of panes) {
     const wanted = pane.heads + AXIS + pane.order.length * TALL_LANE;
     pane.resize(Math.round(Math.max(150, Math.min(wanted, (room - titles) / panes.length))));
@@ -41,7 +41,7 @@ function resize() {
   time.width = width;
   time.scale = isWhole ? leastScale() : width / shown;
   keepTime();
-  for (const pane of panes) pane.keep();
+  panes.forEach((pane, i) => fits[i] ? pane.fit() : pane.keep());
   for (const map of maps) map.resize();
 }
 

@@ -29,7 +29,9 @@ function showDifference(said, isPinned) {
 function sidesOf(lines) {
   const items = [];
   for (const line of lines) {
-    const found = /^ {2}([AB])(?:, (line \d+): (.*)| (.*))$/.exec(line);
+    const found = /^ {2}([AB])(?:, (line \d+): (.*)| (.*))$/.exec(line), why = /^ {6}\((.*)\)$/.exec(line);
+    if (why && items.length) items[items.length - 1].lastChild.after(Object.assign(element('span', why[1]), {className: 'why'}));
+    if (why) continue;
     if (!found) break;
     const who = Object.assign(element('span', `${WHO[found[1]]}`), {className: 'who'});
     items.push(element('li', '', [who, element('code', found[3] === undefined ? found[4] : found[3])]));
@@ -43,7 +45,7 @@ function goToDifference() {
   const pane = panes[0], {first} = differs;
   if (!first || !pane || first.mote >= pane.run.begins.length) return;
   const {run} = pane, {mote} = first, from = run.traceStart[mote], to = run.traceStart[mote + 1];
-  const line = Math.min(to - 1, lowerBound(run.at, first.at, from, to));
+  const line = Math.min(to - 1, first.index < 0 ? lowerBound(run.at, first.at, from, to) : from + first.index);
   showTime(Math.max(0, first.at - 15), Math.min(time.end, first.at + 30));
   setNow(first.at);
   if (pane.lane < 26) pane.zoomLanes(26 / pane.lane);

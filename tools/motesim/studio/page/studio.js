@@ -1,7 +1,7 @@
 // The studio: the text is run when no key has come for a while, and what the run shows takes the place of the last one.
 const PAUSE = 250;
 const TABS = [['guide', 'Guide'], ['chosen', 'Selected'], ['steps', 'Steps'], ['compare', 'Differences'],
-  ['checks', 'Checks'], ['sums', 'Sums'], ['legend', 'Forms and keys']];
+  ['checks', 'Checks'], ['sums', 'Sums'], ['legend', 'Forms']];
 const studio = {document: null, saved: '', maySave: false, folder: '', number: 0, before: 0, pinned: 0, asked: 0,
   changedAt: 0, programs: {}, knownStamp: '', fresh: true, timer: 0, asks: true, tab: 'guide', latency: [], judged: 0};
 let editor = null;
@@ -142,10 +142,12 @@ function showFault({words: lines, line, place}) {
   if (place) editor.mark(place); else editor.clear();
   const where = place ? `fault in line ${place[0] + 1}` : 'a fault';
   showState('bad', panes.length ? `${where}: the last run is shown` : where);
-  if (!panes.length) byId('about').textContent = 'There is no run to show yet.';
+  sayNoRun();
   page.ready = true;
   editor.refresh();
 }
+
+function sayNoRun() { if (!panes.length) byId('about').textContent = 'There is no run to show yet.'; }
 
 function noFault() {
   const was = !byId('fault').hidden;
@@ -159,7 +161,8 @@ function showLimit(words) {
   noFault();
   setStale(true);
   say('limit', words);
-  showState('bad', 'stopped: the last run is shown');
+  showState('bad', panes.length ? 'stopped: the last run is shown' : 'stopped');
+  sayNoRun();
   page.ready = true;
 }
 

@@ -1,0 +1,397 @@
+"""The studio without a browser: edits of the text, files, runs under limits, and who is answered."""
+import http.client
+import json
+import os
+import signal
+import struct
+import subprocess
+import sys
+import tempfile
+import threading
+import time
+import tomllib
+import unittest
+from pathlib import Path
+from unittest import mock
+
+from here import TOOLS, TOP
+import stand_in
+from motesim.faults import Fault
+from motesim.studio import answers, guides
+from motesim.studio.desk import Changed, Desk
+from motesim.studio.edits import applied, edit
+from motesim.studio.runs import LimitMet, Limits, Runs, Superseded
+from motesim.studio.server import Server
+from motesim.studio.session import Session
+from test_studio_page import EXPECTED, NET
+
+LOSSES = NET + '''
+# what is lost
+[[loss]]
+from = 0            # the first
+to = 1
+every = 2
+[[loss]]
+from = 2
+to = 0
+every = 3'''
+
+
+class Edits(unittest.TestCase):
+    def edited(self, text, **wish):
+        return applied(text, edit(text, wish)[0])
+
+    def refused(self, text, **wish):
+        with self.assertRaises(Fault) as caught:
+            edit(text, wish)
+        return str(caught.exception)
+
+    def test_a_moved_mote_changes_two_numbers(self):
+        self.assertEqual(self.edited(NET, what='move', mote=0, x=-5, y=1_000),
+                         NET.replace('x = 0               # the first\ny = 0', 'x = -5               # the first\ny = 1000'))
+
+    def test_an_added_mote_stands_behind_the_others(self):
+        text = self.edited(LOSSES, what='add', x=4, y=-4, program='talk')
+        self.assertIn('program = "talk"\n\n[[mote]]\nx = 4\ny = -4\nprogram = "talk"\n\n# what is lost\n', text)
+        self.assertEqual(len(tomllib.loads(text)['mote']), 4)
+
+    def test_a_mote_is_added_behind_a_text_without_a_last_line_end(self):
+        text = self.edited(NET.rstrip('\n'), what='add', x=4, y=-4, program='talk')
+        self.assertEqual(tomllib.loads(text)['mote'][3], {'x': 4, 'y': -4, 'program': 'talk'})
+
+    def test_a_removed_mote_takes_its_losses_and_renumbers_the_others(self):
+        text = self.edited(LOSSES, what='remove', mote=1)
+        self.assertEqual(tomllib.loads(text)['loss'], [{'from': 1, 'to': 0, 'every': 3}])
+        for words in ('# the first', '# what is lost', '# Two motes'):
+            self.assertIn(words, text)
+        self.assertNotIn('x = 8', text)
+        self.assertEqual(tomllib.loads(self.edited(NET, what='remove', mote=2)).get('loss'), None)
+
+    def test_the_last_mote_stays(self):
+        text = NET
+        for _ in range(2):
+            text = self.edited(text, what='remove', mote=0)
+        self.assertIn('at least one mote', self.refused(text, what='remove', mote=0))
+
+    def test_losses_are_set_changed_and_taken_away(self):
+        text = self.edited(NET, what='lose', **{'from': 1, 'to': 0}, every=4)
+        self.assertTrue(text.endswith('[[loss]]\nfrom = 1\nto = 0\nevery = 4\n'))
+        self.assertEqual(self.edited(text, what='lose', **{'from': 1, 'to': 0}, every=1), text.replace('= 4', '= 1'))
+        self.assertEqual(self.edited(text, what='lose', **{'from': 1, 'to': 0}, every=0), NET)
+        both = self.edited(LOSSES, what='lose', **{'from': 1, 'to': 0}, every=4)
+        self.assertEqual(len(tomllib.loads(both)['loss']), 3)
+        one = self.edited(LOSSES, what='lose', **{'from': 0, 'to': 1}, every=0)
+        self.assertEqual(tomllib.loads(one)['loss'], [{'from': 2, 'to': 0, 'every': 3}])
+        self.assertIn('# what is lost', one)
+        self.assertEqual(edit(NET, {'what': 'lose', 'from': 0, 'to': 1, 'every': 0})[0], [])
+
+    def test_a_program_text_that_looks_like_tables_is_left_alone(self):
+        text = NET.replace('  var n = 0;', '  var n = 0;\n// [[mote]]\n// x = 8\n[[mote]]\nx = 8')
+        self.assertEqual(self.edited(text, what='move', mote=1, x=9, y=0),
+                         text.replace('x = 8\ny = 0', 'x = 9\ny = 0'))
+
+    def test_what_the_map_cannot_change_is_refused_and_why(self):
+        inline = 'version = 1\nend = 1\nmote = [{x = 1, y = 2, program = "p"}, {x = 3, y = 2, program = "p"}]\n'
+        self.assertIn('cannot change', self.refused(inline, what='move', mote=0, x=1, y=1))
+        self.assertIn('does not stand in the text as a table', self.refused(inline, what='remove', mote=0))
+        self.assertIn('has a fault', self.refused(NET + '[', what='move', mote=0, x=1, y=1))
+        for wish in ({'mote': 3, 'x': 0, 'y': 0}, {'mote': 0, 'x': 30_001, 'y': 0}, {'mote': 0, 'x': 0.5, 'y': 0},
+                     {'mote': True, 'x': 0, 'y': 0}, {'mote': 0, 'x': 0}):
+            self.assertIn('is a whole number', self.refused(NET, what='move', **wish))
+        self.assertIn('has no program', self.refused(NET, what='add', x=0, y=0, program='q'))
+        self.assertIn('no edit', self.refused(NET, what='burn'))
+
+    def test_places_are_counted_as_browsers_do(self):
+        self.assertEqual(answers.place16('a\n\U0001f600b', 3), [1, 2])
+
+
+class Files(unittest.TestCase):
+    def setUp(self):
+        room = tempfile.TemporaryDirectory()
+        self.addCleanup(room.cleanup)
+        self.room = Path(room.name).resolve()
+        self.file = self.room / 'net.toml'
+        self.file.write_text(NET)
+        self.desk = Desk(self.file)
+
+    def document(self, **words):
+        return {**self.desk.read('folder', 'net.toml')._asdict(), **words}
+
+    def test_only_scenarios_of_the_folder_and_examples_are_read(self):
+        (self.room / 'secret.txt').write_text('no')
+        (self.room / 'link.toml').symlink_to('/etc/hostname')
+        (self.room / 'net.expect.toml').write_text('expect = []')
+        self.assertEqual(self.desk.names('folder'), ['link.toml', 'net.toml'])
+        self.assertEqual(self.desk.read('example', 'counter.toml').text, (TOP / 'examples/counter.toml').read_text())
+        for where, name in [('folder', 'secret.txt'), ('folder', '../net.toml'), ('folder', 'link.toml'), ('folder', '/etc/passwd'),
+                            ('example', '../README.md'), ('root', 'net.toml'), ('folder', 'none.toml'), ('folder', '.x.toml')]:
+            with self.assertRaises(Fault, msg=name):
+                self.desk.read(where, name)
+
+    def test_a_file_is_written_whole_and_only_the_one_that_was_named(self):
+        self.desk.save(self.document(text='# new\n'))
+        self.assertEqual(self.file.read_text(), '# new\n')
+        self.assertEqual(sorted(os.listdir(self.room)), ['net.toml'])
+        (self.room / 'other.toml').write_text(NET)
+        for document in (self.document(name='other.toml'), self.document(where='example', name='counter.toml')):
+            with self.assertRaises(Fault):
+                self.desk.save(document)
+
+    def test_a_change_made_elsewhere_is_not_written_over_unasked(self):
+        document = self.document(text='# mine\n')
+        self.file.write_text('# another\n')
+        with self.assertRaises(Changed):
+            self.desk.save(document)
+        self.assertEqual(self.file.read_text(), '# another\n')
+        self.desk.save(document, over=True)
+        self.assertEqual(self.file.read_text(), '# mine\n')
+        self.file.unlink()
+        with self.assertRaises(Changed):
+            self.desk.save(self.document(stamp='x') if self.file.exists() else document)
+
+    def test_a_new_file_takes_no_other_ones_name(self):
+        (self.room / 'other.toml').write_text(NET)
+        for name in ('other.toml', 'other', '../x', 'a/b', 'x.expect.toml', '', '.toml'):
+            with self.assertRaises(Fault, msg=name):
+                self.desk.save_new(self.document(), name)
+        stamp = self.desk.save_new(self.document(), 'mine')
+        self.assertEqual((self.room / 'mine.toml').read_text(), NET)
+        self.desk.save(self.document(name='mine.toml', text='# again\n', stamp=stamp))
+        self.assertEqual((self.room / 'mine.toml').read_text(), '# again\n')
+
+    def test_line_ends_and_a_mark_stay_as_they_were(self):
+        data = ('\ufeff' + NET.replace('\n', '\r\n')).encode()
+        self.file.write_bytes(data)
+        document = self.document()
+        self.assertEqual(document['text'], NET)
+        self.desk.save(document)
+        self.assertEqual(self.file.read_bytes(), data)
+        mixed = b'a = 1\r\nb = 2\n'
+        self.file.write_bytes(mixed)
+        self.desk.save(self.document())
+        self.assertEqual(self.file.read_bytes(), mixed)
+
+    def test_a_file_that_is_not_there_begins_with_a_first_scenario(self):
+        desk = Desk(self.room / 'new.toml')
+        document = desk.first()
+        self.assertIn('process hello', document.text)
+        desk.save(document._asdict())
+        self.assertEqual((self.room / 'new.toml').read_text(), document.text)
+
+    def test_names_that_the_studio_does_not_open(self):
+        for name in (self.room, self.room / 'a.txt', self.room / 'none' / 'a.toml'):
+            with self.assertRaises(Fault):
+                Desk(name)
+        self.file.write_bytes(b'\xff')
+        with self.assertRaises(Fault):
+            Desk(self.file).first()
+
+
+class Running(unittest.TestCase):
+    def setUp(self):
+        program = stand_in.program()
+        program.__enter__()
+        self.addCleanup(program.__exit__, None, None, None)
+
+    def run_text(self, text, **limits):
+        runs = Runs(Limits(**limits))
+        return runs.run(runs.ask(), text.encode())
+
+    def test_a_run_answers_what_the_program_does(self):
+        got = self.run_text(NET)
+        self.assertEqual((got.status, got.fault, got.report[:12]), (0, b'', b'mote 0 talk\n'))
+        got = self.run_text(NET.replace('base = 3', 'base = 0'))
+        self.assertEqual((got.status, got.report, got.fault), (1, b'', b'motesim: medium fault 2\n'))
+
+    def test_each_limit_stops_a_run_and_says_how_to_raise_it(self):
+        for word, limits, said in [('never_ends', {'seconds': 1}, 'after 1 seconds. tools/studio --seconds 6'),
+                                   ('long_report', {'output': 1}, 'after 1 megabytes of report. tools/studio --report 4'),
+                                   ('much_memory', {'memory': 400}, 'more than 400 megabytes of memory')]:
+            begin = time.monotonic()
+            with self.assertRaises(LimitMet, msg=word) as caught:
+                self.run_text('# %s\n%s' % (word, NET), **limits)
+            self.assertIn(said, str(caught.exception))
+            self.assertLess(time.monotonic() - begin, 20)
+
+    def test_a_newer_text_stops_the_run_before_and_none_run_at_once(self):
+        runs, ended, alive = Runs(Limits(seconds=60)), [], []
+
+        def one(text):
+            ticket = runs.ask()
+            try:
+                ended.append(runs.run(ticket, text.encode()).status)
+            except Superseded:
+                ended.append('superseded')
+
+        threads = []
+        for number in range(4):
+            thread = threading.Thread(target=one, args=('# never_ends %d' % number,))
+            thread.start()
+            threads.append(thread)
+            time.sleep(0.15)
+            alive.append(runs.process.pid if runs.process else None)
+        one(NET)
+        for thread in threads:
+            thread.join(20)
+        self.assertEqual(sorted(map(str, ended)), ['0'] + ['superseded'] * 4)
+        self.assertIsNone(runs.process)
+        for pid in filter(None, alive):
+            self.assertFalse(os.path.exists('/proc/%d' % pid))
+
+
+class Answering(unittest.TestCase):
+    """The server over HTTP."""
+
+    def setUp(self):
+        program = stand_in.program()
+        program.__enter__()
+        self.addCleanup(program.__exit__, None, None, None)
+        room = tempfile.TemporaryDirectory()
+        self.addCleanup(room.cleanup)
+        self.file = Path(room.name, 'net.toml')
+        self.file.write_text(NET)
+        self.file.with_suffix('.expect.toml').write_text(EXPECTED)
+        self.server = Server(Session(Desk(self.file), Runs(Limits())))
+        threading.Thread(target=self.server.serve_forever, kwargs={'poll_interval': 0.05}, daemon=True).start()
+        self.addCleanup(self.server.server_close)
+        self.addCleanup(self.server.shutdown)
+
+    def request(self, method, path, body=None, **headers):
+        connection = http.client.HTTPConnection('127.0.0.1', self.server.port, timeout=20)
+        names = {name.replace('_', '-'): value for name, value in headers.items()}
+        if body is not None:
+            names.setdefault('Content-Type', 'application/json')
+        connection.request(method, path, None if body is None else json.dumps(body), names)
+        answer = connection.getresponse()
+        data = answer.read()
+        connection.close()
+        return answer.status, answer.headers, data
+
+    def ask(self, what, **asked):
+        status, _, data = self.request('POST', '/%s/%s' % (self.server.token, what), asked)
+        self.assertEqual(status, 200)
+        return data
+
+    def run_text(self, text, **words):
+        data = self.ask('run', text=text, name='net.toml', **words)
+        length, = struct.unpack('<I', data[:4])
+        return json.loads(data[4:4 + length])
+
+    def test_it_listens_on_the_loopback_address_alone(self):
+        self.assertEqual(self.server.server_address[0], '127.0.0.1')
+        self.assertGreaterEqual(len(self.server.token), 32)
+
+    def test_only_its_own_page_with_the_token_is_answered(self):
+        own, port = '/%s/' % self.server.token, self.server.port
+        self.assertEqual(self.request('GET', own)[0], 200)
+        self.assertEqual(self.request('GET', own, Host='localhost:%d' % port)[0], 200)
+        wrong = [('/', {}), ('/studio.js', {}), ('/x' + own, {}), (own[:-2] + '/', {}),
+                 (own, {'Host': 'evil.example'}), (own, {'Host': '127.0.0.1:1'}), (own, {'Host': '0.0.0.0:%d' % port}),
+                 (own, {'Origin': 'http://evil.example'}), (own, {'Origin': 'null'}),
+                 (own, {'Sec_Fetch_Site': 'cross-site', 'Sec_Fetch_Mode': 'no-cors'})]
+        for path, headers in wrong:
+            status, _, data = self.request('GET', path, **headers)
+            self.assertEqual(status, 403, (path, headers))
+            self.assertNotIn(self.server.token.encode(), data)
+        for path, headers in wrong[:-1]:
+            self.assertEqual(self.request('POST', path + 'begin', {}, **headers)[0], 403, (path, headers))
+        self.assertEqual(self.request('POST', own + 'begin', {}, Content_Type='text/plain')[0], 403)
+
+    def test_pages_say_that_nothing_else_may_be_fetched(self):
+        _, headers, data = self.request('GET', '/%s/' % self.server.token)
+        self.assertIn("default-src 'none'", headers['Content-Security-Policy'])
+        self.assertEqual(headers['Referrer-Policy'], 'no-referrer')
+        for word in (b'http:', b'https:'):
+            self.assertNotIn(word, data)
+
+    def test_files_that_are_not_the_pages_are_not_there(self):
+        for name in ('studio.html', '../server.py', 'codemirror/lib/../../x', 'codemirror/keymap/vim.js', 'net.toml'):
+            self.assertEqual(self.request('GET', '/%s/%s' % (self.server.token, name))[0], 404, name)
+
+    def test_questions_that_are_none_are_told_so(self):
+        path = '/%s/' % self.server.token
+        self.assertEqual(self.request('POST', path + 'run', ['x'])[0], 400)
+        self.assertIn('refused', json.loads(self.ask('nothing')))
+        self.assertIn('refused', json.loads(self.ask('run')))
+        self.assertIn('refused', json.loads(self.ask('run', text='\ud800', name='x')))
+        self.assertIn('refused', json.loads(self.ask('edit', text=NET, edit=5)))
+        self.assertIn('refused', json.loads(self.ask('export', number=99, title='x')))
+
+    def test_a_run_is_judged_beside_another(self):
+        first, second = self.run_text(NET)['number'], self.run_text(NET.replace('print 1', 'print 4'))['number']
+        said = json.loads(self.ask('judge', number=second, against=first, where='folder', name='net.toml', saved=NET))
+        self.assertEqual(said['difference']['first'], {'at': 0, 'mote': 0, 'index': 4})
+        self.assertIn('The first difference is at moment 0, in the trace of mote 0:', said['difference']['lines'])
+        self.assertEqual([it['holds'] for it in said['checks']['told']], [False, True, True])
+        self.assertEqual(said['sums']['motes'][-1][0], 'net')
+        self.assertTrue(json.loads(self.ask('judge', number=99, against=0, where='folder', name='net.toml', saved=''))['gone'])
+
+    def test_a_fault_has_its_place_and_the_words_of_explain(self):
+        fault = self.run_text(NET.replace('print 1', 'print nothing'))['fault']
+        self.assertEqual((fault['line'], fault['place']), ('motesim: program talk fault 3 line 8', [17, 10, 17]))
+        self.assertTrue(any(line.startswith('UnknownName: ') for line in fault['words']))
+        self.assertTrue(any(line.startswith('Here may stand: ') for line in fault['words']))
+        self.assertEqual(self.run_text('x = ')['fault']['line'], 'motesim: scenario fault 1')
+
+    def test_the_pinned_run_is_kept_however_many_come(self):
+        pinned = self.run_text(NET)['number']
+        for number in range(8):
+            last = self.run_text(NET + '# %d\n' % number, pinned=pinned)['number']
+        said = json.loads(self.ask('judge', number=last, against=pinned, is_pinned=True, where='folder', name='net.toml',
+                                   saved=NET))
+        self.assertTrue(said['difference']['same'])
+        self.assertIn('A: the pinned run', said['difference']['lines'])
+
+    def test_a_changed_text_is_judged_by_the_sentences_of_its_change(self):
+        text = NET.replace('print 1', 'print 9')
+        said = json.loads(self.ask('judge', number=self.run_text(text)['number'], against=0, where='folder', name='net.toml',
+                                   saved=NET))
+        self.assertEqual([(it['sentence'], it['holds']) for it in said['checks']['told']], [('mote 1 prints talker 9', True)])
+
+
+class Guides(unittest.TestCase):
+    def test_each_example_says_what_to_look_at(self):
+        for path in sorted((TOP / 'examples').glob('*.toml')):
+            if not path.name.endswith('.expect.toml'):
+                self.assertTrue(guides.guide(path.name, path.read_text()), path.name)
+
+    def test_tasks_are_those_of_the_page_on_examples(self):
+        found = guides.guide('flooding.toml', (TOP / 'examples/flooding.toml').read_text())
+        self.assertTrue(any(it['kind'] == 'task' and 'broadcast storm' in it['text'] for it in found))
+        self.assertTrue(any(it['kind'] == 'look' for it in found))
+        self.assertIn('reaches all', guides.title('flooding.toml'))
+
+
+class Command(unittest.TestCase):
+    def start(self, *words, **variables):
+        return subprocess.Popen([sys.executable, '-B', str(TOOLS / 'studio'), '--no-open', *words], stdout=subprocess.PIPE,
+                                stderr=subprocess.PIPE, text=True, env={**os.environ, **variables}, start_new_session=True)
+
+    def test_ctrl_c_ends_it_cleanly(self):
+        with stand_in.program() as path:
+            process = self.start(str(TOP / 'examples/counter.toml'), MOTESIM=str(path))
+            self.assertRegex(process.stdout.readline(), r'\Ahttp://127\.0\.0\.1:\d+/[\w-]{32,}/\n\Z')
+            process.send_signal(signal.SIGINT)
+            _, said = process.communicate(timeout=20)
+        self.assertEqual(process.returncode, 0)
+        self.assertNotIn('Traceback', said)
+        self.assertTrue(said.endswith('studio: ended\n'), said)
+
+    def test_what_is_missing_is_said_in_one_line(self):
+        for words, variables in [([], {'MOTESIM': '/nowhere/motesim'}), (['/nowhere/x.toml'], {}), (['x.txt'], {}), (['.'], {})]:
+            with stand_in.program() as path:
+                process = self.start(*words, **{'MOTESIM': str(path), **variables})
+                said, fault = process.communicate(timeout=20)
+            self.assertEqual((process.returncode, said), (2, ''), words)
+            self.assertRegex(fault, r'\Astudio: .+\n\Z')
+
+    def test_a_missing_editor_is_no_fault(self):
+        with mock.patch('motesim.studio.server.CODEMIRROR', None), tempfile.TemporaryDirectory() as room:
+            server = Server(Session(Desk(Path(room, 'a.toml')), Runs(Limits())), None)
+            self.assertFalse(server.session.has_editor)
+            self.assertNotIn(b'codemirror/', server.page())
+            server.server_close()
+
+
+if __name__ == '__main__':
+    unittest.main()
