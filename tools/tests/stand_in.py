@@ -31,8 +31,9 @@ def program() -> Iterator[Path]:
     """A program that stands in, named by MOTESIM."""
     with tempfile.TemporaryDirectory() as room:
         path = Path(room, 'motesim')
-        path.write_text('#!%s\nimport sys\nsys.dont_write_bytecode = True\nsys.path[:0] = [%r, %r]\n'
-                        'import stand_in\nsys.exit(stand_in.main())\n' % (sys.executable, str(TOOLS / 'tests'), str(TOOLS)))
+        folders = [str(TOOLS / 'tests'), str(TOOLS)]
+        path.write_text('#!%s\nimport sys\nsys.dont_write_bytecode = True\nsys.path[:0] = %r\n'
+                        'import stand_in\nsys.exit(stand_in.main())\n' % (sys.executable, folders))
         path.chmod(0o755)
         with mock.patch.dict(os.environ, MOTESIM=str(path)):
             yield path
@@ -69,10 +70,11 @@ def report(scenario: Scenario) -> list[str]:
                       if to == mote and at is not None)
         if mote == 0:
             for at, number, value, _ in sent:
-                lines += ['%d post %d %s timer 0' % (at, number, text.process), '%d take %d %s' % (at, number, text.process),
-                          '%d send %d %d' % (at, number, value)]
+                lines += ['%d post %d %s timer 0' % (at, number, text.process),
+                          '%d take %d %s' % (at, number, text.process), '%d send %d %d' % (at, number, value)]
         for serial, (at, number, value) in enumerate(it for it in came if it[0] <= scenario.end):
-            lines += ['%d recv 0 %d %d' % (at, number, value), '%d post %d %s packet %d' % (at, serial, text.process, value),
+            lines += ['%d recv 0 %d %d' % (at, number, value),
+                      '%d post %d %s packet %d' % (at, serial, text.process, value),
                       '%d take %d %s' % (at, serial, text.process)]
     lines.append('medium')
     for at, number, value, copies in sent:

@@ -47,8 +47,9 @@ class Edits(unittest.TestCase):
         return str(caught.exception)
 
     def test_a_moved_mote_changes_two_numbers(self):
+        note = '               # the first\ny = '
         self.assertEqual(self.edited(NET, what='move', mote=0, x=-5, y=1_000),
-                         NET.replace('x = 0               # the first\ny = 0', 'x = -5               # the first\ny = 1000'))
+                         NET.replace('x = 0' + note + '0', 'x = -5' + note + '1000'))
 
     def test_an_added_mote_stands_behind_the_others(self):
         text = self.edited(LOSSES, what='add', x=4, y=-4, program='talk')
@@ -123,8 +124,9 @@ class Files(unittest.TestCase):
         (self.room / 'net.expect.toml').write_text('expect = []')
         self.assertEqual(self.desk.names('folder'), ['link.toml', 'net.toml'])
         self.assertEqual(self.desk.read('example', 'counter.toml').text, (TOP / 'examples/counter.toml').read_text())
-        for where, name in [('folder', 'secret.txt'), ('folder', '../net.toml'), ('folder', 'link.toml'), ('folder', '/etc/passwd'),
-                            ('example', '../README.md'), ('root', 'net.toml'), ('folder', 'none.toml'), ('folder', '.x.toml')]:
+        for where, name in [('folder', 'secret.txt'), ('folder', '../net.toml'), ('folder', 'link.toml'),
+                            ('folder', '/etc/passwd'), ('example', '../README.md'), ('root', 'net.toml'),
+                            ('folder', 'none.toml'), ('folder', '.x.toml')]:
             with self.assertRaises(Fault, msg=name):
                 self.desk.read(where, name)
 
@@ -204,8 +206,8 @@ class Running(unittest.TestCase):
         self.assertEqual((got.status, got.report, got.fault), (1, b'', b'motesim: medium fault 2\n'))
 
     def test_each_limit_stops_a_run_and_says_how_to_raise_it(self):
-        for word, limits, said in [('never_ends', {'seconds': 1}, 'after 1 seconds. tools/studio --seconds 6'),
-                                   ('long_report', {'output': 1}, 'after 1 megabytes of report. tools/studio --report 4'),
+        for word, limits, said in [('never_ends', {'seconds': 1}, 'after 1 second. tools/studio --seconds 6'),
+                                   ('long_report', {'output': 1}, 'after 1 megabyte of report. tools/studio --report'),
                                    ('much_memory', {'memory': 400}, 'more than 400 megabytes of memory')]:
             begin = time.monotonic()
             with self.assertRaises(LimitMet, msg=word) as caught:
@@ -277,6 +279,10 @@ class Answering(unittest.TestCase):
         length, = struct.unpack('<I', data[:4])
         return json.loads(data[4:4 + length])
 
+    def judge(self, number, against, saved=NET, **words):
+        return json.loads(self.ask('judge', number=number, against=against, where='folder', name='net.toml',
+                                   saved=saved, **words))
+
     def test_it_listens_on_the_loopback_address_alone(self):
         self.assertEqual(self.server.server_address[0], '127.0.0.1')
         self.assertGreaterEqual(len(self.server.token), 32)
@@ -319,12 +325,12 @@ class Answering(unittest.TestCase):
 
     def test_a_run_is_judged_beside_another(self):
         first, second = self.run_text(NET)['number'], self.run_text(NET.replace('print 1', 'print 4'))['number']
-        said = json.loads(self.ask('judge', number=second, against=first, where='folder', name='net.toml', saved=NET))
+        said = self.judge(second, first)
         self.assertEqual(said['difference']['first'], {'at': 0, 'mote': 0, 'index': 4})
         self.assertIn('The first difference is at moment 0, in the trace of mote 0:', said['difference']['lines'])
         self.assertEqual([it['holds'] for it in said['checks']['told']], [False, True, True])
         self.assertEqual(said['sums']['motes'][-1][0], 'net')
-        self.assertTrue(json.loads(self.ask('judge', number=99, against=0, where='folder', name='net.toml', saved=''))['gone'])
+        self.assertTrue(self.judge(99, 0, '')['gone'])
 
     def test_a_fault_has_its_place_and_the_words_of_explain(self):
         fault = self.run_text(NET.replace('print 1', 'print nothing'))['fault']
@@ -337,16 +343,14 @@ class Answering(unittest.TestCase):
         pinned = self.run_text(NET)['number']
         for number in range(8):
             last = self.run_text(NET + '# %d\n' % number, pinned=pinned)['number']
-        said = json.loads(self.ask('judge', number=last, against=pinned, is_pinned=True, where='folder', name='net.toml',
-                                   saved=NET))
+        said = self.judge(last, pinned, is_pinned=True)
         self.assertTrue(said['difference']['same'])
         self.assertIn('A: the pinned run', said['difference']['lines'])
 
     def test_a_changed_text_is_judged_by_the_sentences_of_its_change(self):
         text = NET.replace('print 1', 'print 9')
-        said = json.loads(self.ask('judge', number=self.run_text(text)['number'], against=0, where='folder', name='net.toml',
-                                   saved=NET))
-        self.assertEqual([(it['sentence'], it['holds']) for it in said['checks']['told']], [('mote 1 prints talker 9', True)])
+        told = self.judge(self.run_text(text)['number'], 0)['checks']['told']
+        self.assertEqual([(it['sentence'], it['holds']) for it in told], [('mote 1 prints talker 9', True)])
 
 
 class Guides(unittest.TestCase):
@@ -364,8 +368,9 @@ class Guides(unittest.TestCase):
 
 class Command(unittest.TestCase):
     def start(self, *words, **variables):
-        return subprocess.Popen([sys.executable, '-B', str(TOOLS / 'studio'), '--no-open', *words], stdout=subprocess.PIPE,
-                                stderr=subprocess.PIPE, text=True, env={**os.environ, **variables}, start_new_session=True)
+        return subprocess.Popen([sys.executable, '-B', str(TOOLS / 'studio'), '--no-open', *words], text=True,
+                                stdout=subprocess.PIPE, stderr=subprocess.PIPE, env={**os.environ, **variables},
+                                start_new_session=True)
 
     def test_ctrl_c_ends_it_cleanly(self):
         with stand_in.program() as path:
@@ -378,7 +383,8 @@ class Command(unittest.TestCase):
         self.assertTrue(said.endswith('studio: ended\n'), said)
 
     def test_what_is_missing_is_said_in_one_line(self):
-        for words, variables in [([], {'MOTESIM': '/nowhere/motesim'}), (['/nowhere/x.toml'], {}), (['x.txt'], {}), (['.'], {})]:
+        for words, variables in [([], {'MOTESIM': '/nowhere/motesim'}), (['/nowhere/x.toml'], {}), (['x.txt'], {}),
+                                 (['.'], {})]:
             with stand_in.program() as path:
                 process = self.start(*words, **{'MOTESIM': str(path), **variables})
                 said, fault = process.communicate(timeout=20)

@@ -191,7 +191,8 @@ class Page(unittest.TestCase):
             self.assertIn(words, self.shown('fault'))
         self.assertEqual(self.lines(0), lines)
         if has_editor(CODEMIRROR):
-            self.assertEqual(self.value('document.querySelector(".fault-line .CodeMirror-linenumber").textContent'), '18')
+            row = self.value('document.querySelector(".fault-line .CodeMirror-linenumber").textContent')
+            self.assertEqual(row, '18')
             self.assertEqual(self.value('document.querySelector(".fault-mark").textContent.trim()'), 'prin')
         self.value('m.editor().replace("; prin 2", "")')
         self.wait('document.getElementById("fault").hidden && !document.body.classList.contains("stale")')
@@ -209,7 +210,8 @@ class Page(unittest.TestCase):
         self.assertIn('Change anything', self.shown('change'))
         self.type_behind('send 6;', ' send 8;')
         self.wait('m.differs.first')
-        self.assertIn('The first difference from the run before is at moment 30, in the trace of mote 0', self.shown('change'))
+        words = 'The first difference from the run before is at moment 30, in the trace of mote 0'
+        self.assertIn(words, self.shown('change'))
         self.assertIn('30 post 2 talker timer 0', self.shown('change'))
         self.assertEqual(self.value('[m.differs.first.at, m.differs.first.mote]'), [30, 0])
         self.assertEqual(self.value('Array.from(m.differs.parts)'), [[0, 30], [1, 33]])
@@ -292,7 +294,8 @@ class Page(unittest.TestCase):
 
     def test_sums_are_those_of_summary(self):
         self.open()
-        cells = self.value('Array.from(document.querySelectorAll("#sums table:first-child tr.net td"), it => it.textContent)')
+        cells = self.value('Array.from(document.querySelectorAll("#sums table:first-child tr.net td"), '
+                           'it => it.textContent)')
         self.assertEqual(cells[:5], ['net', '', '2', '2', '2'])
 
     def test_steps_show_the_state_of_a_mote(self):
@@ -326,7 +329,8 @@ class Page(unittest.TestCase):
 
     def test_breakpoints_are_searches(self):
         self.open()
-        for words, found in [('stop where mote 3 prints', [['mote', '3', 'print']]), ('a packet collides', [['collide']]),
+        for words, found in [('stop where mote 3 prints', [['mote', '3', 'print']]),
+                             ('a packet collides', [['collide']]),
                              ('a packet is lost', [['lost']]), ('a mote halts', [['halt']]),
                              ('mote 2 takes packet or mote 1 sends 7', [['mote', '2', 'take', 'packet'],
                                                                         ['mote', '1', 'send', '7']])]:
@@ -336,7 +340,7 @@ class Page(unittest.TestCase):
         self.open(Limits(seconds=1))
         self.value('m.editor().replace("# Two", "# never_ends Two")')
         self.wait('!document.getElementById("notice").hidden')
-        self.assertIn('stopped after 1 seconds', self.shown('notice'))
+        self.assertIn('stopped after 1 second.', self.shown('notice'))
         self.assertIn('--seconds', self.shown('notice'))
         self.assertTrue(self.value('document.body.classList.contains("stale")'))
         self.value('m.editor().replace("never_ends", "ends")')
@@ -441,8 +445,8 @@ class Page(unittest.TestCase):
             self.browser.size(width, 900)
             self.browser.settle()
             self.assertLessEqual(self.value('document.documentElement.scrollWidth'), width)
-        unnamed = self.value('''Array.from(document.querySelectorAll("button, input, select, canvas, textarea")).filter(it =>
-          !(it.textContent.trim() && it.matches("button")) && !it.getAttribute("aria-label") &&
+        unnamed = self.value('''Array.from(document.querySelectorAll("button, input, select, canvas, textarea"))
+          .filter(it => !(it.textContent.trim() && it.matches("button")) && !it.getAttribute("aria-label") &&
           !(it.labels && it.labels.length) && !it.closest(".CodeMirror")).map(it => it.outerHTML)''')
         self.assertEqual(unnamed, [])
 

@@ -2,7 +2,6 @@
 from __future__ import annotations
 
 import re
-import tomllib
 from typing import NamedTuple
 
 from motesim import expectations
@@ -11,7 +10,7 @@ from motesim.explain import explanation, place_of_fault
 from motesim.faults import Fault
 from motesim.report import Report
 from motesim.run import Run
-from motesim.scenario import Scenario, ScenarioFault
+from motesim.scenario import Scenario
 from motesim.summary import LINK_NAMES, summary
 
 NOTE = re.compile(r'//[^\n]*')
@@ -96,7 +95,7 @@ def difference(before: Finished, after: Finished, is_pinned: bool) -> dict:
     told = {'same': is_same, 'lines': lines, 'first': None, 'parts': []}
     if first:
         mote = first.mote if first.mote != MEDIUM else packet_of(reports, first).sender
-        told['first'] = {'at': first.at, 'mote': mote, 'index': -1 if first.mote == MEDIUM else first.index}
+        told['first'] = {'at': first.at, 'mote': mote, 'index': -1 if first.mote == MEDIUM else first.place}
         told['parts'] = [[it.mote, it.at] for it in differences(*reports) if it.mote != MEDIUM][:MOST_PARTS]
     return told
 
@@ -147,14 +146,6 @@ def sums(done: Finished) -> dict:
     motes, net, links = summary(done.run)
     return {
         'motes': [list(net), *(list(row.values()) for row in [*motes, net])],
-        'links': [LINK_NAMES, *(list(row.values()) for row in links[:MOST_LINKS])], 'more': max(0, len(links) - MOST_LINKS),
+        'links': [LINK_NAMES, *(list(row.values()) for row in links[:MOST_LINKS])],
+        'more': max(0, len(links) - MOST_LINKS),
     }
-
-
-def is_toml(text: str) -> bool:
-    try:
-        Scenario.parse(text)
-        tomllib.loads(text)
-    except (ScenarioFault, tomllib.TOMLDecodeError, RecursionError):
-        return False
-    return True

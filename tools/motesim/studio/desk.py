@@ -18,7 +18,7 @@ from motesim.run import TOP
 LONGEST = 1_048_576
 NAME = re.compile(r'[A-Za-z0-9_][A-Za-z0-9_. -]{0,80}\.toml')
 MARK = '\ufeff'
-FIRST = '''# A scenario: which motes there are, where they stand, what they run, and how the radio carries their packets.
+FIRST = '''# A scenario: which motes there are, where they stand, what they run, and how packets travel.
 version = 1
 end = 60
 [medium]

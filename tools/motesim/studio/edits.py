@@ -56,17 +56,17 @@ class Text:
         return members if type(members) is list else []
 
     def lines(self, name: str, index: int) -> tuple[int, int]:
-        """The lines of a table `[[name]]`, from its header to its last key: first, behind the last, from 0."""
+        """The lines of a table `[[name]]`, from its header to its last key: the first and the one after the last."""
         place = self.places.get((name, index))
         if place is None or not self.rows[place.line - 1].lstrip().startswith('[['):
             raise Fault('%s %d does not stand in the text as a table [[%s]] of its own, so the map cannot change it.'
                         % (name, index, name))
-        behind = next((line - 1 for line in self.headers if line > place.line), len(self.rows))
-        last = max(it.line for path, it in self.places.items() if path[:2] == (name, index) and it.line <= behind)
+        following = next((line - 1 for line in self.headers if line > place.line), len(self.rows))
+        last = max(it.line for path, it in self.places.items() if path[:2] == (name, index) and it.line <= following)
         return place.line - 1, last
 
     def number(self, path: tuple, number: int) -> Change:
-        """Puts a number in the place of the one behind a key."""
+        """Puts another number in the place of a key's."""
         key = self.places.get(path)
         value = value_of(self.text, key) if key else None
         if value is None or value == key:
@@ -76,20 +76,21 @@ class Text:
 
     def without(self, name: str, index: int) -> Change:
         """Takes a table out, with the blank line that would stand double."""
-        first, behind = self.lines(name, index)
-        if first and behind < len(self.rows) and not self.rows[first - 1].strip() and not self.rows[behind].strip():
-            behind += 1
-        begin, end = self.begins[first], self.begins[behind]
+        first, end_line = self.lines(name, index)
+        if (first and end_line < len(self.rows) and not self.rows[first - 1].strip()
+                and not self.rows[end_line].strip()):
+            end_line += 1
+        begin, end = self.begins[first], self.begins[end_line]
         if end > len(self.text):
             return Change(max(begin - 1, 0), len(self.text), '\n' if begin else '')
         return Change(begin, end, '')
 
-    def behind(self, name: str, table: list[str]) -> Change:
-        """Puts a table behind the last of its name, or at the end of the text."""
+    def appended(self, name: str, table: list[str]) -> Change:
+        """Puts a table after the last of its name, or at the end of the text."""
         members = self.members(name)
-        first, behind = self.lines(name, len(members) - 1) if members else (0, len(self.rows))
+        first, end_line = self.lines(name, len(members) - 1) if members else (0, len(self.rows))
         spaced = bool(members) and first > 0 and not self.rows[first - 1].strip()
-        offset = min(self.begins[behind], len(self.text))
+        offset = min(self.begins[end_line], len(self.text))
         is_open = offset > 0 and self.text[offset - 1] != '\n'
         rows = ([''] if spaced else []) + table
         return Change(offset, offset, ('\n' if is_open else '') + ''.join(row + '\n' for row in rows))
@@ -116,7 +117,7 @@ def move(text: Text, wish: dict, wanted: dict) -> tuple[list[Change], str]:
 
 
 def add(text: Text, wish: dict, wanted: dict) -> tuple[list[Change], str]:
-    """One mote more, behind the others, so that their numbers stay."""
+    """One mote more, after the others, so that their numbers stay."""
     x, y = (_number(wish, name, -MOST_PLACE, MOST_PLACE) for name in ('x', 'y'))
     program, number = wish.get('program'), len(text.members('mote'))
     if type(program) is not str or program not in text.tables.get('programs', {}):
@@ -125,11 +126,11 @@ def add(text: Text, wish: dict, wanted: dict) -> tuple[list[Change], str]:
         raise Fault('a scenario has at most %s motes' % '{:,}'.format(MOST_MOTES))
     wanted['mote'].append({'x': x, 'y': y, 'program': program})
     rows = ['[[mote]]', 'x = %d' % x, 'y = %d' % y, 'program = "%s"' % program]
-    return [text.behind('mote', rows)], 'Mote %d, which runs %s, stands at %d, %d.' % (number, program, x, y)
+    return [text.appended('mote', rows)], 'Mote %d, which runs %s, stands at %d, %d.' % (number, program, x, y)
 
 
 def remove(text: Text, wish: dict, wanted: dict) -> tuple[list[Change], str]:
-    """One mote less. Those behind it get the number before theirs, in the losses too, and its losses go with it."""
+    """One mote less. Those after it get the number before theirs, in the losses too, and its losses go with it."""
     mote = _mote(text, wish)
     if len(text.members('mote')) == 1:
         raise Fault('a scenario has at least one mote')
@@ -149,7 +150,7 @@ def remove(text: Text, wish: dict, wanted: dict) -> tuple[list[Change], str]:
         wanted['loss'] = kept
     said = 'Mote %d is removed' % mote
     if mote < len(wanted['mote']):
-        said += '; motes behind it are numbered anew'
+        said += '; motes after it are numbered anew'
     return changes, said + ('; so are its %d losses.' % gone if gone > 1 else '; so is its loss.' if gone else '.')
 
 
@@ -173,7 +174,7 @@ def lose(text: Text, wish: dict, wanted: dict) -> tuple[list[Change], str]:
         return [text.number(('loss', found, 'every'), every)], said
     wanted.setdefault('loss', []).append({'from': sender, 'to': receiver, 'every': every})
     rows = ['[[loss]]', 'from = %d' % sender, 'to = %d' % receiver, 'every = %d' % every]
-    return [text.behind('loss', rows)], said
+    return [text.appended('loss', rows)], said
 
 
 EDITS = {'move': move, 'add': add, 'remove': remove, 'lose': lose}

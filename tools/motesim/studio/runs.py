@@ -94,7 +94,7 @@ class Runs:
     def finish(self, process: subprocess.Popen, scenario: bytes) -> Answer:
         """Gives the program its input, and takes what it answers, as far as the limits go."""
         seconds, memory, output = self.limits
-        timer = threading.Timer(seconds, self.meet, [process, 'stopped after %g seconds' % seconds, '--seconds'])
+        timer = threading.Timer(seconds, self.meet, [process, 'after ' + counted(seconds, 'second'), '--seconds'])
         said: list[bytes] = []
         helpers = [threading.Thread(target=give, args=(process, scenario), daemon=True),
                    threading.Thread(target=lambda: said.append(process.stderr.read(CHUNK)), daemon=True)]
@@ -105,7 +105,7 @@ class Runs:
         while chunk := process.stdout.read1(CHUNK):
             report += chunk
             if len(report) > output * MEGABYTE:
-                self.meet(process, 'stopped after %d megabytes of report' % output, '--report')
+                self.meet(process, 'after %s of report' % counted(output, 'megabyte'), '--report')
                 break
         status = process.wait()
         timer.cancel()
@@ -125,7 +125,11 @@ class Runs:
         more = {'--seconds': self.limits.seconds * 6, '--report': self.limits.output * 4}[option]
         with self.state:
             if self.process is process:
-                self.stop(LimitMet('The run was %s. tools/studio %s %g gives it more.' % (what, option, more)))
+                self.stop(LimitMet('The run was stopped %s. tools/studio %s %g gives it more.' % (what, option, more)))
+
+
+def counted(number: float, what: str) -> str:
+    return '%g %s%s' % (number, what, '' if number == 1 else 's')
 
 
 def give(process: subprocess.Popen, scenario: bytes) -> None:

@@ -16,13 +16,13 @@ from http.server import BaseHTTPRequestHandler, ThreadingHTTPServer
 from pathlib import Path
 
 from motesim.faults import Fault
-from motesim.studio.session import HTML, JSON, Answered, Session, told
+from motesim.studio.session import HTML, JSON, Session, told
 from motesim.timeline import PAGE as TIMELINE
 from motesim.timeline import SHARED
 
 PAGE = Path(__file__).resolve().parent / 'page'
 CODEMIRROR = Path('/usr/share/javascript/codemirror')
-# The page's own scripts, behind those that it shares with the pages of tools/timeline.
+# The page's own scripts, after those that it shares with the pages of tools/timeline.
 SCRIPTS = ['link.js', 'notation.js', 'editor.js', 'difference.js', 'checks.js', 'guide.js', 'steps.js', 'motes.js',
            'files.js', 'studio.js']
 # What is taken of Debian's package libjs-codemirror.
@@ -34,7 +34,8 @@ KINDS = {'.js': 'text/javascript; charset=utf-8', '.css': 'text/css; charset=utf
 LONGEST_QUESTION = 8 << 20
 HEADERS = {
     'Cache-Control': 'no-store', 'Referrer-Policy': 'no-referrer', 'X-Content-Type-Options': 'nosniff',
-    'X-Frame-Options': 'DENY', 'Cross-Origin-Resource-Policy': 'same-origin', 'Cross-Origin-Opener-Policy': 'same-origin',
+    'X-Frame-Options': 'DENY', 'Cross-Origin-Resource-Policy': 'same-origin',
+    'Cross-Origin-Opener-Policy': 'same-origin',
     'Content-Security-Policy': "default-src 'none'; script-src 'self'; style-src 'self' 'unsafe-inline'; "
                                "img-src 'self' data: blob:; connect-src 'self'; base-uri 'none'; form-action 'none'; "
                                "frame-ancestors 'none'",
@@ -176,10 +177,11 @@ class Server(ThreadingHTTPServer):
     def page(self) -> bytes:
         """The page, with the editor where it is installed."""
         text = (PAGE / 'studio.html').read_text()
-        styles = [name for name in EDITOR if name.endswith('.css')] if self.codemirror else []
-        scripts = [name for name in EDITOR if name.endswith('.js')] if self.codemirror else []
-        return text.replace('@STYLES@', '\n'.join('<link rel="stylesheet" href="codemirror/%s">' % it for it in styles)) \
-            .replace('@SCRIPTS@', '\n'.join('<script src="codemirror/%s"></script>' % it for it in scripts)).encode('utf-8')
+        names = EDITOR if self.codemirror else []
+        for mark, kind, form in [('@STYLES@', '.css', '<link rel="stylesheet" href="codemirror/%s">'),
+                                 ('@SCRIPTS@', '.js', '<script src="codemirror/%s"></script>')]:
+            text = text.replace(mark, '\n'.join(form % name for name in names if name.endswith(kind)))
+        return text.encode('utf-8')
 
     def file(self, name: str | None) -> tuple[str, bytes] | None:
         """A file of the page: its kind and its bytes."""
@@ -196,6 +198,3 @@ class Server(ThreadingHTTPServer):
         if self.codemirror and inner != name and inner in EDITOR:
             return KINDS[Path(inner).suffix], (self.codemirror / inner).read_bytes()
         return None
-
-
-__all__ = ['Answered', 'Server']

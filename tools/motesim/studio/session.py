@@ -1,4 +1,4 @@
-"""The studio behind its page: what is asked for, by name, and what is answered.
+"""What the page asks for: what is asked for, by name, and what is answered.
 
 `Session(desk, runs).answer('run', {...})` gives an `Answered`, or raises a `Fault` whose text the page shows.
 """
@@ -33,7 +33,7 @@ def told(value: object) -> Answered:
 
 
 def framed(said: dict, columns: bytes) -> Answered:
-    """What is said of a run, and behind it its columns, at a multiple of 4."""
+    """What is said of a run, and after it its columns, at a multiple of 4."""
     head = json.dumps(said).encode('utf-8')
     head += b' ' * (-len(head) % 4)
     return Answered(BYTES, struct.pack('<I', len(head)) + head + columns)

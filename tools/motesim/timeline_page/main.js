@@ -117,8 +117,8 @@ const KEYS = {
 /** Keys: everywhere but in fields and on buttons, where they mean something else. */
 function onKey(event) {
   if (event.ctrlKey || event.metaKey || event.altKey) return;
-  const there = event.target.closest ? event.target.closest('input, textarea, select, button, summary, #details, #matches') :
-    null;
+  const there = event.target.closest &&
+    event.target.closest('input, textarea, select, button, summary, #details, #matches');
   const isTyping = there && !there.matches('button, #details, #matches');
   if (isTyping && event.key !== 'Escape') return;
   if (there && (event.key === ' ' || event.key === 'Enter' || event.key.startsWith('Arrow') ||

@@ -19,9 +19,9 @@ function showChecks(said) {
   const box = byId('checks');
   if (!said) {
     labelTab('checks', 'Checks');
-    box.replaceChildren(element('p', 'Nothing is expected of this scenario: there is no file of expectations beside it. ' +
-      'Sentences such as "mote 6 prints flood 1 by 60", in a file NAME.expect.toml beside NAME.toml, are tried here ' +
-      'after each run.'));
+    box.replaceChildren(element('p', 'Nothing is expected of this scenario: there is no file of expectations beside ' +
+      'it. Sentences such as "mote 6 prints flood 1 by 60", in a file NAME.expect.toml beside NAME.toml, are tried ' +
+      'here after each run.'));
     return;
   }
   if (said.fault) {

@@ -9,7 +9,8 @@ function showDifference(said, isPinned) {
   Object.assign(differs, {first: null, parts: new Map()});
   sides.replaceChildren();
   byId('change-show').hidden = true;
-  byId('compare').querySelector('pre').textContent = said ? said.lines.join('\n') : 'There is no run yet to compare with.';
+  byId('compare').querySelector('pre').textContent = said ? said.lines.join('\n') :
+    'There is no run yet to compare with.';
   if (!said) return;
   box.dataset.is = said.same ? 'same' : 'differs';
   const at = said.lines.findIndex(line => line.startsWith('The first difference'));
@@ -30,7 +31,7 @@ function sidesOf(lines) {
   const items = [];
   for (const line of lines) {
     const found = /^ {2}([AB])(?:, (line \d+): (.*)| (.*))$/.exec(line), why = /^ {6}\((.*)\)$/.exec(line);
-    if (why && items.length) items[items.length - 1].lastChild.after(Object.assign(element('span', why[1]), {className: 'why'}));
+    if (why && items.length) items[items.length - 1].append(Object.assign(element('span', why[1]), {className: 'why'}));
     if (why) continue;
     if (!found) break;
     const who = Object.assign(element('span', `${WHO[found[1]]}`), {className: 'who'});
@@ -54,7 +55,7 @@ function goToDifference() {
   redraw();
 }
 
-/** On the lanes: a line at the moment of the first difference, a flag at its mote, and each lane from where it parts. */
+/** On the lanes: a line at the first difference, a flag at its mote, and a stroke in each lane from where it parts. */
 overlays.push(pane => {
   const {first, parts} = differs, c = pane.context;
   if (!first) return;
@@ -64,7 +65,8 @@ overlays.push(pane => {
     const x = Math.max(pane.gutter, pane.x(at)), y = pane.laneTop(mote) + pane.lane - Math.min(2.5, pane.lane * 0.3);
     c.globalAlpha = 0.75;
     c.fillStyle = colours.mark;
-    if (x < pane.width) c.fillRect(x, y, Math.min(pane.width, pane.x(pane.run.end + 1)) - x, Math.min(1.5, pane.lane * 0.2));
+    const right = Math.min(pane.width, pane.x(pane.run.end + 1));
+    if (x < right) c.fillRect(x, y, right - x, Math.min(1.5, pane.lane * 0.2));
   }
   c.globalAlpha = 1;
   const x = pane.x(first.at);

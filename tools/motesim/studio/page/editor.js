@@ -17,7 +17,8 @@ class Editor {
       mode: 'motes', theme: 'motes', lineNumbers: true, matchBrackets: true, autoCloseBrackets: '(){}[]""',
       styleActiveLine: true, indentUnit: 2, tabSize: 2, lineSeparator: '\n', undoDepth: 1000,
       extraKeys: {
-        Tab: mirror => mirror.somethingSelected() ? mirror.indentSelection('add') : mirror.replaceSelection('  ', 'end'),
+        Tab: mirror => mirror.somethingSelected() ? mirror.indentSelection('add') :
+          mirror.replaceSelection('  ', 'end'),
         'Shift-Tab': 'indentLess', 'Ctrl-/': 'toggleComment', 'Cmd-/': 'toggleComment',
         Esc: mirror => mirror.getInputField().blur(),
       },
@@ -65,9 +66,10 @@ class Editor {
     for (let from = whole.indexOf(old); from >= 0; from = whole.indexOf(old, from + old.length)) {
       changes.unshift({from: lineAndColumn(whole, from), to: lineAndColumn(whole, from + old.length), text});
     }
-    if (changes.length) this.apply(changes);
-    if (changes.length) this.goTo(changes[changes.length - 1].from[0], changes[changes.length - 1].from[1], text.length);
-    return changes.length;
+    if (!changes.length) return;
+    this.apply(changes);
+    const [line, column] = changes[changes.length - 1].from;
+    this.goTo(line, column, text.length);
   }
 
   /** Marks a fault: its line, the column at which it begins and the one at which it ends. */

@@ -39,8 +39,9 @@ function fillOpen({examples, files, document: {where, name}}) {
   const inFolder = where === 'folder' && !files.includes(name) ? [name, ...files] : files;
   box.replaceChildren();
   if (inFolder.length) box.append(group('This folder', inFolder.map(file => option('folder', file))));
-  const orders = ['flooding', 'trickle', 'neighbours', 'collection_tree', 'tdma', 'tdma_without_slots', 'leader_ring', 'small_network'];
-  const rank = it => (orders.indexOf(it.name.replace('.toml', '')) + 100) % 100;
+  const first = ['flooding', 'trickle', 'neighbours', 'collection_tree', 'tdma', 'tdma_without_slots', 'leader_ring',
+    'small_network'];
+  const rank = it => (first.indexOf(it.name.replace('.toml', '')) + 100) % 100;
   const sorted = [...examples].sort((a, b) => rank(a) - rank(b));
   box.append(group('Examples', sorted.map(it => option('example', it.name, it.title))));
 }
@@ -48,7 +49,8 @@ function fillOpen({examples, files, document: {where, name}}) {
 async function openChosen() {
   const [where, ...rest] = byId('open').value.split(' '), name = rest.join(' ');
   if (isDirty()) {
-    const [answer] = await question(`What you changed in ${studio.document.name} is not saved.`, ['Open without saving', 'Stay']);
+    const words = `What you changed in ${studio.document.name} is not saved.`;
+    const [answer] = await question(words, ['Open without saving', 'Stay']);
     if (answer !== 'Open without saving') return nameDocument();
   }
   await attempt(async () => take(await ask('open', {where, name})));
@@ -94,7 +96,8 @@ function wrote({stamp, name, where}, text) {
 }
 
 async function askOver(words) {
-  const [answer] = await question(`${words}. Which text shall stay?`, ['Write mine over it', 'Read the other', 'Neither']);
+  const [answer] = await question(`${words}. Which text shall stay?`,
+    ['Write mine over it', 'Read the other', 'Neither']);
   if (answer === 'Write mine over it') return save(true);
   const {where, name} = studio.document;
   if (answer === 'Read the other') await attempt(async () => take(await ask('open', {where, name})));

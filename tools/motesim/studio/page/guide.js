@@ -4,7 +4,9 @@
 function words(name, text, className = '') {
   const made = element(name);
   if (className) made.className = className;
-  text.split('`').forEach((part, i) => { if (part) made.append(i % 2 ? element('code', part) : part.replace(/\*(\S[^*]*)\*/g, '$1')); });
+  text.split('`').forEach((part, i) => {
+    if (part) made.append(i % 2 ? element('code', part) : part.replace(/\*(\S[^*]*)\*/g, '$1'));
+  });
   return made;
 }
 
@@ -18,7 +20,8 @@ function tryItem({about, replace}) {
   });
   const button = makeButton('Make this change', () => {
     const missing = pairs.find(([old]) => !editor.text.includes(old));
-    if (missing) return say('refused', `The text has no ${oneLine(missing[0])} any more; undo (Ctrl Z), or open the example again.`);
+    if (missing) return say('refused',
+      `The text has no ${oneLine(missing[0])} any more; undo (Ctrl Z), or open the example again.`);
     for (const [old, text] of pairs) editor.replace(old, text);
   });
   const item = element('div', '', [said, button]);
@@ -36,8 +39,8 @@ function showGuide({document: {name}, guide, changes}) {
   const parts = [element('h2', name)];
   const looks = guide.filter(it => it.kind === 'look' || it.kind === 'task');
   if (!guide.length) {
-    parts.push(words('p', 'The run follows the text while you type. Above the lanes stands what your last change did. On ' +
-      'the map, drag a mote, or click a line between two. Under Steps you go through the run event by event.'));
+    parts.push(words('p', 'The run follows the text while you type. Above the lanes stands what your last change ' +
+      'did. On the map, drag a mote, or click a line between two. Under Steps you go through the run event by event.'));
   }
   if (changes.length) {
     parts.push(element('h3', 'One click, and see what it does'));
@@ -54,7 +57,9 @@ function showGuide({document: {name}, guide, changes}) {
   }
   const rest = guide.filter(it => !looks.includes(it));
   if (rest.length) parts.push(element('h3', 'The protocol'));
-  for (const it of rest) parts.push(it.kind === 'code' ? element('pre', '', [element('code', it.text)]) : words('p', it.text));
+  for (const it of rest) {
+    parts.push(it.kind === 'code' ? element('pre', '', [element('code', it.text)]) : words('p', it.text));
+  }
   box.replaceChildren(...parts);
   box.scrollTop = 0;
 }

@@ -36,7 +36,8 @@ async function ask(what, asked) {
 function lose() {
   if (connection.isLost) return;
   connection.isLost = true;
-  say('lost', 'The connection to tools/studio is lost. Your text is kept here; the page goes on when the studio is back.');
+  say('lost', 'The connection to tools/studio is lost. Your text is kept here; the page goes on when the studio is ' +
+    'back.');
   showState('bad', 'not connected');
 }
 

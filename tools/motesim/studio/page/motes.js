@@ -1,5 +1,5 @@
-// The map as a place to change the scenario: motes are moved, added and removed, and ways lose packets. What is done there
-// changes the text, which stays what counts.
+// The map as a place to change the scenario: motes are moved, added and removed, and ways lose packets. What is done
+// there changes the text, which stays what counts.
 const ground = {adding: false, way: null, held: null};
 
 /** Asks for a change of the text, and makes it. */
@@ -103,16 +103,19 @@ function showWay(way) {
   const [s, r] = way;
   const close = makeButton('×', () => showWay(null));
   close.setAttribute('aria-label', 'Close');
-  box.replaceChildren(element('h3', '', [element('span', `Mote ${s} and mote ${r}`), close]), wayOf(run, s, r), wayOf(run, r, s));
+  const head = element('h3', '', [element('span', `Mote ${s} and mote ${r}`), close]);
+  box.replaceChildren(head, wayOf(run, s, r), wayOf(run, r, s));
 }
 
 function wayOf(run, s, r) {
   const every = run.lossOf.get(s * 65536 + r), lost = run.troubled.get(s * 65536 + r), box = element('p');
-  const input = Object.assign(element('input'), {type: 'number', min: 0, max: 1000000, value: every || '', placeholder: 'none'});
+  const input = Object.assign(element('input'), {type: 'number', min: 0, max: 1000000, value: every || '',
+    placeholder: 'none'});
   const label = element('label', '', ['loses 1 in ', input]);
   input.setAttribute('aria-label', `Which packets are lost from mote ${s} to mote ${r}: 1 in so many; empty for none`);
   input.dataset.way = `${s} ${r}`;
-  input.addEventListener('change', () => editText({what: 'lose', from: s, to: r, every: Math.floor(Number(input.value)) || 0}));
+  input.addEventListener('change',
+    () => editText({what: 'lose', from: s, to: r, every: Math.floor(Number(input.value)) || 0}));
   box.append(`${s} → ${r}: after ${count(delayOf(run, s, r), 'moment')}, `, label);
   if (lost) box.append(element('br'), [['lost', 0], ['collided', 1], ['found no room', 2]].filter(([, i]) => lost[i])
     .map(([name, i]) => `${lost[i]} ${name}`).join(', ') + ' in this run');
@@ -136,13 +139,11 @@ function beginMotes() {
   const map = maps[0];
   map.edits = map.run.places ? groundEdits : null;
   ground.held = null;
-  const {way} = ground;
-  if (way && document.activeElement && byId('way').contains(document.activeElement)) {
-    const name = document.activeElement.dataset.way;
-    showWay(Math.max(...way) < map.run.begins.length ? way : null);
-    const again = byId('way').querySelector(`[data-way="${name}"]`);
-    if (again) again.focus();
-  } else showWay(way && Math.max(...way) < map.run.begins.length && map.run.hearers[way[0]].includes(way[1]) ? way : null);
+  const {way} = ground, typing = byId('way').contains(document.activeElement) && document.activeElement.dataset.way;
+  const isThere = way && Math.max(...way) < map.run.begins.length && map.run.hearers[way[0]].includes(way[1]);
+  showWay(isThere ? way : null);
+  const again = typing && byId('way').querySelector(`[data-way="${typing}"]`);
+  if (again) again.focus();
 }
 
 /** The button for the mote that is selected. */

@@ -1,5 +1,5 @@
-// The colours of a scenario's text: TOML by the editor's own mode, and within its texts the notation of programs. What a
-// statement does has the colour that it has on the lanes.
+// The colours of a scenario's text: TOML by the editor's own mode, and within its texts the notation of programs. What
+// a statement does has the colour that it has on the lanes.
 const NOTATION = {
   send: ['send'], print: ['print'], recv: ['packet', 'receiver', 'from', 'data'],
   timer: ['etimer', 'ctimer', 'set', 'reset', 'restart_timer', 'stop', 'fired', 'expired', 'timer'],

@@ -5,16 +5,24 @@ const VERBS = {
   arrives: 'recv', collides: 'collide', collide: 'collide', overflows: 'lost', starts: 'start', leaves: 'leave',
   posts: 'post', takes: 'take', drops: 'drop', halts: 'halt', refused: 'full', silent: 'silent',
 };
+const FILLERS = new Set(['stop', 'break', 'where', 'when', 'a', 'an', 'the', 'some', 'any', 'is', 'gets', 'value',
+  'with', 'of']);
 const steps = {order: null, rank: null, run: null, shown: ''};
 
-/** What is looked for, in the words of the search: `mote 3 prints` is `mote 3 print`. Several are told apart by `or`. */
+/** What is looked for, in the words of the search: `mote 3 prints` is `mote 3 print`. `or` stands between several. */
 function searchesOf(text) {
-  return text.toLowerCase().split(/\bor\b/).map(part => part
-    .replace(/^\s*(stop|break)\b/, ' ').replace(/\b(where|when|a|an|the|some|any|is|gets|value|with|of)\b/g, ' ')
-    .replace(/\b(packets?|copy|copies)\s+(?=\w+)/g, (whole, _, at, all) =>
-      VERBS[/^\w+/.exec(all.slice(at + whole.length))[0]] || /^lost/.test(all.slice(at + whole.length)) ? ' ' : 'packet ')
-    .replace(/\bmotes?\b(?!\s+\d)/g, ' ')
-    .trim().split(/\s+/).filter(Boolean).map(word => VERBS[word] || word)).filter(words => words.length);
+  return text.toLowerCase().split(/\bor\b/).map(searchOf).filter(search => search.length);
+}
+
+function searchOf(text) {
+  const given = text.split(/\s+/).filter(word => word && !FILLERS.has(word)), found = [];
+  given.forEach((word, i) => {
+    const next = given[i + 1] || '', isVerb = next === 'lost' || Boolean(VERBS[next]);
+    if (/^(packets?|copy|copies)$/.test(word) && isVerb) return;
+    if (/^motes?$/.test(word) && !/^\d+$/.test(next)) return;
+    found.push(VERBS[word] || word);
+  });
+  return found;
 }
 
 /** All lines of the run as they happened: by moment, then by mote. */
@@ -30,7 +38,7 @@ function orderOf(run) {
   return Object.assign(steps, {run, order, rank});
 }
 
-/** The place in the order of all lines at which the reader is: the line that is selected, or the moment that is shown. */
+/** The place in that order at which the reader is: the line that is selected, or the moment that is shown. */
 function rankNow(run) {
   const {rank, order} = orderOf(run);
   if (chosen && chosen.line >= 0) return rank[chosen.line];
@@ -126,7 +134,8 @@ function lineOfState(pane) {
 function card(title, items, empty) {
   const made = element('div', '', [element('h3', title)]);
   made.className = 'card';
-  made.append(items.length ? element('ol', '', items.map(item => element('li', '', [item].flat()))) : element('p', empty));
+  const list = items.map(item => element('li', '', [item].flat()));
+  made.append(list.length ? element('ol', '', list) : element('p', empty));
   return made;
 }
 
@@ -170,7 +179,7 @@ function cardsOf(pane, mote, line) {
 }
 
 /** Shows the state anew where the selection or the moment has changed. */
-function showState_(pane) {
+function showStep(pane) {
   const [mote, line] = lineOfState(pane), key = `${mote} ${line} ${Math.floor(play.now)}`;
   if (steps.shown === key && steps.run === pane.run) return;
   orderOf(pane.run);
@@ -181,8 +190,8 @@ function showState_(pane) {
     byId('cards').replaceChildren();
     return;
   }
-  at.replaceChildren(element('strong', `Mote ${mote} at moment ${run.at[line]}`), `, after line ${run.numberOf(line, mote)}: `,
-    element('code', run.text(line)));
+  at.replaceChildren(element('strong', `Mote ${mote} at moment ${run.at[line]}`),
+    `, after line ${run.numberOf(line, mote)}: `, element('code', run.text(line)));
   byId('cards').replaceChildren(...cardsOf(pane, mote, line));
 }
 
@@ -206,12 +215,12 @@ function beginSteps() {
   bar.append(button('« moment', 'The moment before', () => stepMoment(-1)),
     button('‹ event', 'The line before', () => stepLine(-1)), button('event ›', 'The next line', () => stepLine(1)),
     button('moment »', 'The next moment', () => stepMoment(1)), of, label, stop,
-    button('‹', 'Back to the stop before', () => runToStop(-1)), button('On ›', 'On to the next stop', () => runToStop(1)),
+    button('‹', 'Back to the stop before', () => runToStop(-1)),
+    button('On ›', 'On to the next stop', () => runToStop(1)),
     Object.assign(element('output'), {id: 'stopped'}));
   box.append(bar, Object.assign(element('p'), {id: 'step-at'}), Object.assign(element('div'), {id: 'cards'}));
-  const note = element('p', 'A report tells when a timer fires, and not when it is set: a timer stands here if its event ' +
-    'is still to come.');
-  note.style.color = 'var(--quiet)';
+  const note = Object.assign(element('p', 'A report tells when a timer fires, and not when it is set: a timer stands ' +
+    'here if it will still fire.'), {className: 'note'});
   box.append(note);
-  overlays.push(pane => { if (!byId('steps').hidden) showState_(pane); });
+  overlays.push(pane => { if (!byId('steps').hidden) showStep(pane); });
 }

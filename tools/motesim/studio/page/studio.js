@@ -67,7 +67,8 @@ async function runNow() {
     return say('limit', fault.message);
   }
   if (asked !== studio.asked) return;
-  const length = new DataView(got).getUint32(0, true), said = JSON.parse(new TextDecoder().decode(new Uint8Array(got, 4, length)));
+  const length = new DataView(got).getUint32(0, true);
+  const said = JSON.parse(new TextDecoder().decode(new Uint8Array(got, 4, length)));
   if (said.superseded) return;
   if (said.fault) return showFault(said.fault);
   if (said.limit) return showLimit(said.limit);
@@ -127,8 +128,8 @@ async function judge(number) {
 function forgetDifference() {
   showDifference(null, false);
   delete byId('change').dataset.is;
-  byId('change-said').textContent = 'Change anything in the text: the run follows while you type, and what your change did ' +
-    'is said here.';
+  byId('change-said').textContent = 'Change anything in the text: the run follows while you type, and what your ' +
+    'change did is said here.';
 }
 
 function setStale(isStale) { document.body.classList.toggle('stale', isStale); }
@@ -186,7 +187,9 @@ roomForPanes = () => Math.max(150, byId('panes').clientHeight);
 
 /** What is selected by a click is shown, unless the reader steps. */
 function watchChosen() {
-  byId('panes').addEventListener('pointerup', () => setTimeout(() => { if (chosen && studio.tab !== 'steps') showTab('chosen'); }));
+  byId('panes').addEventListener('pointerup', () => setTimeout(() => {
+    if (chosen && studio.tab !== 'steps') showTab('chosen');
+  }));
   byId('maps').addEventListener('pointerup', () => setTimeout(() => {
     if (chosen && !ground.way && !['steps', 'guide'].includes(studio.tab)) showTab('chosen');
   }));
