@@ -337,10 +337,10 @@ class Page(unittest.TestCase):
             self.assertEqual(self.value('m.searchesOf(%s)' % json.dumps(words)), found, words)
 
     def test_a_run_past_its_limit_is_stopped(self):
-        self.open(Limits(seconds=1))
+        self.open(Limits(seconds=5))
         self.value('m.editor().replace("# Two", "# never_ends Two")')
         self.wait('!document.getElementById("notice").hidden')
-        self.assertIn('stopped after 1 second.', self.shown('notice'))
+        self.assertIn('stopped after 5 seconds.', self.shown('notice'))
         self.assertIn('--seconds', self.shown('notice'))
         self.assertTrue(self.value('document.body.classList.contains("stale")'))
         self.value('m.editor().replace("never_ends", "ends")')

@@ -2,7 +2,7 @@
 from __future__ import annotations
 
 import re
-from typing import NamedTuple
+from typing import Any, NamedTuple
 
 from motesim import expectations
 from motesim.compare import MEDIUM, compared, differences, packet_of
@@ -26,6 +26,7 @@ class Finished(NamedTuple):
     text: str
     data: bytes
     run: Run
+    scenario: Scenario
 
     def named(self, name: str) -> Run:
         return self.run._replace(name=name)
@@ -33,7 +34,8 @@ class Finished(NamedTuple):
 
 def finished(number: int, text: str, data: bytes, name: str) -> Finished:
     """A run by its report."""
-    return Finished(number, text, data, Run(name, Report.parse(data), Scenario.parse(text)))
+    scenario = Scenario.parse(text)
+    return Finished(number, text, data, Run(name, Report.parse(data), scenario), scenario)
 
 
 def column16(line: str, column: int) -> int:
@@ -59,22 +61,24 @@ def unwrapped(lines: list[str]) -> list[str]:
     return found
 
 
-def fault_told(text: str, line: str) -> dict:
+def fault_told(text: str, line: str) -> dict[str, Any]:
     """A fault in the words of tools/explain, with its place in the text where that is known."""
     data = text.encode('utf-8')
     place = place_of_fault(data, line)
-    told = {'line': line, 'words': unwrapped(explanation('the text', data, line)), 'place': None}
+    told: dict[str, Any] = {'line': line, 'words': unwrapped(explanation('the text', data, line)), 'place': None}
     if place:
         row = text.split('\n')[place.line - 1]
         told['place'] = [place.line - 1, column16(row, place.column), column16(row, place.column + place.length)]
     return told
 
 
-def names_of_programs(scenario: Scenario) -> dict:
+def names_of_programs(scenario: Scenario) -> dict[str, Any]:
     """Of each program its timers, in the order of their numbers, and what each process prints, as the text has it."""
     found = {}
     for name, source in scenario.programs.items():
-        text, timers, prints, process = NOTE.sub('', source), [], {}, ''
+        text, process = NOTE.sub('', source), ''
+        timers: list[list[str]] = []
+        prints: dict[str, list[str]] = {}
         for it in TIMER.finditer(text):
             process = it[1] or process
             if it[3]:
@@ -87,7 +91,7 @@ def names_of_programs(scenario: Scenario) -> dict:
     return found
 
 
-def difference(before: Finished, after: Finished, is_pinned: bool) -> dict:
+def difference(before: Finished, after: Finished, is_pinned: bool) -> dict[str, Any]:
     """How a run differs from another, in the words of tools/compare, and where each trace parts."""
     one = before.named('the pinned run' if is_pinned else SAID_A)
     lines, first, is_same = compared(one, after.named(SAID_B), MOST_ROWS)
@@ -100,7 +104,7 @@ def difference(before: Finished, after: Finished, is_pinned: bool) -> dict:
     return told
 
 
-def parts_for(text: str, saved: str, parts: list) -> list:
+def parts_for(text: str, saved: str, parts: list[expectations.Part]) -> list[expectations.Part]:
     """The parts of a file of expectations that are about this text: of a change, where the text is changed so."""
     for part in parts[1:]:
         try:
@@ -111,7 +115,7 @@ def parts_for(text: str, saved: str, parts: list) -> list:
     return parts[:1]
 
 
-def checks(done: Finished, saved: str, expected: tuple[str, str] | None) -> dict | None:
+def checks(done: Finished, saved: str, expected: tuple[str, str] | None) -> dict[str, Any] | None:
     """Which of the sentences that stand beside the scenario hold, each with the line that breaks it."""
     if expected is None:
         return None
@@ -121,7 +125,7 @@ def checks(done: Finished, saved: str, expected: tuple[str, str] | None) -> dict
         told = []
         for part in parts_for(done.text, saved, parts):
             about = part.name if part.replace else ''
-            for it in expectations.judged_by(part, done.run.report, done.run.scenario):
+            for it in expectations.judged_by(part, done.run.report, done.scenario):
                 row = next((int(found[1]) for more in it.more if (found := re.match(r'line (\d+):', more))), None)
                 told.append({'sentence': it.sentence, 'holds': it.holds, 'more': it.more, 'row': row, 'about': about})
         return {'name': name, 'told': told, 'fault': ''}
@@ -129,7 +133,7 @@ def checks(done: Finished, saved: str, expected: tuple[str, str] | None) -> dict
         return {'name': name, 'told': [], 'fault': str(fault)}
 
 
-def changes_of(expected: tuple[str, str] | None) -> list[dict]:
+def changes_of(expected: tuple[str, str] | None) -> list[dict[str, Any]]:
     """The changes of a file of expectations, to be made by a button."""
     if expected is None:
         return []
@@ -141,7 +145,7 @@ def changes_of(expected: tuple[str, str] | None) -> list[dict]:
             for part in parts if part.replace]
 
 
-def sums(done: Finished) -> dict:
+def sums(done: Finished) -> dict[str, Any]:
     """The tables of tools/summary."""
     motes, net, links = summary(done.run)
     return {

@@ -7,6 +7,7 @@ from __future__ import annotations
 
 import argparse
 import contextlib
+import gc
 import os
 import sys
 import tempfile
@@ -15,7 +16,7 @@ from collections.abc import Iterator
 from pathlib import Path
 
 from motesim.faults import Fault, command, in_words
-from motesim.run import program_path
+from motesim.programs import program_path
 from motesim.studio.desk import Desk
 from motesim.studio.runs import Limits, Runs
 from motesim.studio.server import Server
@@ -73,6 +74,8 @@ def main() -> int:
     words.add_argument('--report', type=positive, default=usual.output, metavar='N',
                        help='how many megabytes of report a run may write (%(default)s)')
     asked = words.parse_args()
+    # (the studio goes on for hours, other commands end soon)
+    gc.enable()
     program_path()
     runs = Runs(Limits(asked.seconds, asked.memory, asked.report))
     session = Session(Desk(asked.file), runs)

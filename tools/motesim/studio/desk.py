@@ -10,10 +10,10 @@ import hashlib
 import os
 import re
 from pathlib import Path
-from typing import NamedTuple
+from typing import Any, NamedTuple
 
 from motesim.faults import Fault, in_words
-from motesim.run import TOP
+from motesim.programs import TOP
 
 LONGEST = 1_048_576
 NAME = re.compile(r'[A-Za-z0-9_][A-Za-z0-9_. -]{0,80}\.toml')
@@ -167,10 +167,10 @@ class Desk:
         data = self.data(self.path(where, name))
         return None if data is None else (name, document(where, name, data).text)
 
-    def may_save(self, document: dict) -> bool:
+    def may_save(self, document: dict[str, Any]) -> bool:
         return document['where'] == 'folder' and document['name'] in self.written
 
-    def save(self, document: dict, over: bool = False) -> str:
+    def save(self, document: dict[str, Any], over: bool = False) -> str:
         """Writes a document into its file, and gives the stamp of what is there now."""
         name = document['name']
         if not self.may_save(document):
@@ -182,7 +182,7 @@ class Desk:
         self.write(path, data)
         return stamp_of(data)
 
-    def save_new(self, document: dict, name: str) -> str:
+    def save_new(self, document: dict[str, Any], name: str) -> str:
         """Writes a document into a new file of the folder, from which on it may be saved there."""
         name = name if name.endswith('.toml') else name + '.toml'
         path = self.path('folder', name)

@@ -9,7 +9,7 @@ from __future__ import annotations
 
 import copy
 import tomllib
-from typing import NamedTuple
+from typing import Any, NamedTuple
 
 from motesim.faults import Fault
 from motesim.scenario_faults import Place, places, value_of
@@ -51,7 +51,7 @@ class Text:
     def offset(self, place: Place) -> int:
         return self.begins[place.line - 1] + place.column
 
-    def members(self, name: str) -> list:
+    def members(self, name: str) -> list[Any]:
         members = self.tables.get(name, [])
         return members if type(members) is list else []
 
@@ -65,12 +65,12 @@ class Text:
         last = max(it.line for path, it in self.places.items() if path[:2] == (name, index) and it.line <= following)
         return place.line - 1, last
 
-    def number(self, path: tuple, number: int) -> Change:
+    def number(self, path: tuple[str | int, ...], number: int) -> Change:
         """Puts another number in the place of a key's."""
         key = self.places.get(path)
         value = value_of(self.text, key) if key else None
         if value is None or value == key:
-            raise Fault('%s of %s %d does not stand in a line of its own, so the map cannot change it.'
+            raise Fault('%s of %s %s does not stand in a line of its own, so the map cannot change it.'
                         % (path[2], path[0], path[1]))
         return Change(self.offset(value), self.offset(value) + value.length, str(number))
 
@@ -96,18 +96,18 @@ class Text:
         return Change(offset, offset, ('\n' if is_open else '') + ''.join(row + '\n' for row in rows))
 
 
-def _number(wish: dict, name: str, least: int, most: int) -> int:
+def _number(wish: dict[str, Any], name: str, least: int, most: int) -> int:
     value = wish.get(name)
     if type(value) is not int or not least <= value <= most:
         raise Fault('%s is a whole number, %s to %s' % (name, '{:,}'.format(least), '{:,}'.format(most)))
     return value
 
 
-def _mote(text: Text, wish: dict, name: str = 'mote') -> int:
+def _mote(text: Text, wish: dict[str, Any], name: str = 'mote') -> int:
     return _number(wish, name, 0, len(text.members('mote')) - 1)
 
 
-def move(text: Text, wish: dict, wanted: dict) -> tuple[list[Change], str]:
+def move(text: Text, wish: dict[str, Any], wanted: dict[str, Any]) -> tuple[list[Change], str]:
     """Another place for a mote."""
     mote = _mote(text, wish)
     place = {name: _number(wish, name, -MOST_PLACE, MOST_PLACE) for name in ('x', 'y')}
@@ -116,7 +116,7 @@ def move(text: Text, wish: dict, wanted: dict) -> tuple[list[Change], str]:
     return changes, 'Mote %d stands at %d, %d.' % (mote, place['x'], place['y'])
 
 
-def add(text: Text, wish: dict, wanted: dict) -> tuple[list[Change], str]:
+def add(text: Text, wish: dict[str, Any], wanted: dict[str, Any]) -> tuple[list[Change], str]:
     """One mote more, after the others, so that their numbers stay."""
     x, y = (_number(wish, name, -MOST_PLACE, MOST_PLACE) for name in ('x', 'y'))
     program, number = wish.get('program'), len(text.members('mote'))
@@ -129,7 +129,7 @@ def add(text: Text, wish: dict, wanted: dict) -> tuple[list[Change], str]:
     return [text.appended('mote', rows)], 'Mote %d, which runs %s, stands at %d, %d.' % (number, program, x, y)
 
 
-def remove(text: Text, wish: dict, wanted: dict) -> tuple[list[Change], str]:
+def remove(text: Text, wish: dict[str, Any], wanted: dict[str, Any]) -> tuple[list[Change], str]:
     """One mote less. Those after it get the number before theirs, in the losses too, and its losses go with it."""
     mote = _mote(text, wish)
     if len(text.members('mote')) == 1:
@@ -154,7 +154,7 @@ def remove(text: Text, wish: dict, wanted: dict) -> tuple[list[Change], str]:
     return changes, said + ('; so are its %d losses.' % gone if gone > 1 else '; so is its loss.' if gone else '.')
 
 
-def lose(text: Text, wish: dict, wanted: dict) -> tuple[list[Change], str]:
+def lose(text: Text, wish: dict[str, Any], wanted: dict[str, Any]) -> tuple[list[Change], str]:
     """Which packets are lost on the way from a mote to another: each `every`th, or none for 0."""
     sender, receiver = _mote(text, wish, 'from'), _mote(text, wish, 'to')
     every = _number(wish, 'every', 0, MOST_EVERY)
@@ -180,7 +180,7 @@ def lose(text: Text, wish: dict, wanted: dict) -> tuple[list[Change], str]:
 EDITS = {'move': move, 'add': add, 'remove': remove, 'lose': lose}
 
 
-def edit(source: str, wish: dict) -> tuple[list[Change], str]:
+def edit(source: str, wish: dict[str, Any]) -> tuple[list[Change], str]:
     """The changes that an edit takes, and what it does in words."""
     text = Text(source)
     if wish.get('what') not in EDITS:

@@ -3,8 +3,9 @@ from __future__ import annotations
 
 import re
 from pathlib import Path
+from typing import Any
 
-from motesim.run import TOP
+from motesim.programs import TOP
 
 PAGE = TOP / 'docs/use/EXAMPLES.md'
 LINK = re.compile(r'\[([^]]*)\]\([^)]*\)')
@@ -34,9 +35,9 @@ def sections(page: str) -> dict[str, list[str]]:
     return found
 
 
-def blocks(rows: list[str]) -> list[dict]:
+def blocks(rows: list[str]) -> list[dict[str, Any]]:
     """Paragraphs and pieces of code. A paragraph that begins with *Try:* is a task."""
-    found: list[dict] = []
+    found: list[dict[str, Any]] = []
     open_text: list[str] = []
     code: list[str] | None = None
 
@@ -69,7 +70,7 @@ def shows(page: str, name: str) -> str:
     return found[1] if found else ''
 
 
-def guide(name: str, text: str, page: Path = PAGE) -> list[dict]:
+def guide(name: str, text: str, page: Path = PAGE) -> list[dict[str, Any]]:
     """What stands beside an example."""
     try:
         source = page.read_text(encoding='utf-8')

@@ -7,17 +7,20 @@
 from __future__ import annotations
 
 import contextlib
-import resource
+import os
 import subprocess
 import threading
+import time
+from io import BufferedReader, BufferedWriter
 from typing import NamedTuple
 
 from motesim.faults import Fault
-from motesim.run import Answer, ProgramFault, program_path
+from motesim.programs import ProgramFault, program_path
+from motesim.run import Answer
 
 CHUNK = 1 << 16
 MEGABYTE = 1 << 20
-OUT_OF_MEMORY = b'out of memory'
+WATCH = 0.02
 
 
 class Limits(NamedTuple):
@@ -44,7 +47,7 @@ class Runs:
         self.started = 0
         self.turn = threading.Lock()
         self.state = threading.Lock()
-        self.process: subprocess.Popen | None = None
+        self.process: subprocess.Popen[bytes] | None = None
         self.why: Fault | None = None
 
     def ask(self) -> int:
@@ -77,32 +80,29 @@ class Runs:
                 with self.state:
                     self.process = None
 
-    def begin(self) -> subprocess.Popen:
-        """Starts the program, which waits for its input; so its limits hold before it does anything."""
+    def begin(self) -> subprocess.Popen[bytes]:
+        """Starts the program, which waits for its input."""
         path = program_path()
         try:
-            process = subprocess.Popen(['motesim'], executable=str(path.resolve()), stdin=subprocess.PIPE,
-                                       stdout=subprocess.PIPE, stderr=subprocess.PIPE, start_new_session=True)
+            return subprocess.Popen(['motesim'], executable=str(path.resolve()), stdin=subprocess.PIPE,
+                                    stdout=subprocess.PIPE, stderr=subprocess.PIPE, start_new_session=True)
         except OSError as fault:
             raise ProgramFault("%s can't be run: %s" % (path, fault.strerror)) from None
-        most = self.limits.memory * MEGABYTE
-        with contextlib.suppress(OSError, AttributeError):
-            resource.prlimit(process.pid, resource.RLIMIT_AS, (most, most))
-            resource.prlimit(process.pid, resource.RLIMIT_CORE, (0, 0))
-        return process
 
-    def finish(self, process: subprocess.Popen, scenario: bytes) -> Answer:
+    def finish(self, process: subprocess.Popen[bytes], scenario: bytes) -> Answer:
         """Gives the program its input, and takes what it answers, as far as the limits go."""
-        seconds, memory, output = self.limits
+        seconds, _, output = self.limits
         timer = threading.Timer(seconds, self.meet, [process, 'after ' + counted(seconds, 'second'), '--seconds'])
+        given, written, told = pipes_of(process)
         said: list[bytes] = []
-        helpers = [threading.Thread(target=give, args=(process, scenario), daemon=True),
-                   threading.Thread(target=lambda: said.append(process.stderr.read(CHUNK)), daemon=True)]
+        helpers = [threading.Thread(target=give, args=(given, scenario), daemon=True),
+                   threading.Thread(target=lambda: said.append(told.read(CHUNK)), daemon=True),
+                   threading.Thread(target=self.watch, args=(process,), daemon=True)]
         timer.daemon = True
         for helper in (timer, *helpers):
             helper.start()
         report = bytearray()
-        while chunk := process.stdout.read1(CHUNK):
+        while chunk := written.read1(CHUNK):
             report += chunk
             if len(report) > output * MEGABYTE:
                 self.meet(process, 'after %s of report' % counted(output, 'megabyte'), '--report')
@@ -111,30 +111,55 @@ class Runs:
         timer.cancel()
         for helper in helpers:
             helper.join()
-        process.stdout.close()
-        process.stderr.close()
+        written.close()
+        told.close()
         if self.why:
             raise self.why
-        if status and (OUT_OF_MEMORY in said[0] or status < 0):
-            raise LimitMet('The run took more than %d megabytes of memory, or was stopped from outside. '
-                           'tools/studio --memory %d gives it more.' % (memory, 4 * memory))
+        if status < 0:
+            raise LimitMet('The run was ended from outside, by signal %d.' % -status)
         return Answer(status, bytes(report), said[0])
 
-    def meet(self, process: subprocess.Popen, what: str, option: str) -> None:
+    def watch(self, process: subprocess.Popen[bytes]) -> None:
+        """Stops a run that takes too much memory. What it has is asked for, since a program that is compiled with
+        checks has far more addresses than memory."""
+        memory = self.limits.memory
+        while process.poll() is None:
+            if memory_of(process.pid) > memory * MEGABYTE:
+                self.meet(process, 'at %s of memory' % counted(memory, 'megabyte'), '--memory')
+            time.sleep(WATCH)
+
+    def meet(self, process: subprocess.Popen[bytes], what: str, option: str) -> None:
         """Stops a run that has met a limit."""
-        more = {'--seconds': self.limits.seconds * 6, '--report': self.limits.output * 4}[option]
+        seconds, memory, output = self.limits
+        more = {'--seconds': seconds * 6, '--memory': memory * 4, '--report': output * 4}[option]
         with self.state:
             if self.process is process:
                 self.stop(LimitMet('The run was stopped %s. tools/studio %s %g gives it more.' % (what, option, more)))
+
+
+def memory_of(pid: int) -> int:
+    """How many bytes of memory a process has; 0 where the system doesn't say it."""
+    try:
+        with open('/proc/%d/statm' % pid, encoding='ascii') as file:
+            return int(file.read().split()[1]) * os.sysconf('SC_PAGE_SIZE')
+    except (OSError, IndexError, ValueError):
+        return 0
 
 
 def counted(number: float, what: str) -> str:
     return '%g %s%s' % (number, what, '' if number == 1 else 's')
 
 
-def give(process: subprocess.Popen, scenario: bytes) -> None:
+def pipes_of(process: subprocess.Popen[bytes]) -> tuple[BufferedWriter, BufferedReader, BufferedReader]:
+    """Standard input, output and error of a program that has pipes for all three."""
+    given, written, told = process.stdin, process.stdout, process.stderr
+    assert isinstance(given, BufferedWriter) and isinstance(written, BufferedReader) and isinstance(told, BufferedReader)
+    return given, written, told
+
+
+def give(given: BufferedWriter, scenario: bytes) -> None:
     """Writes the scenario; a program that ends before it has read all of it is no fault."""
     with contextlib.suppress(OSError):
-        process.stdin.write(scenario)
+        given.write(scenario)
     with contextlib.suppress(OSError):
-        process.stdin.close()
+        given.close()

@@ -14,6 +14,7 @@ import socket
 import sys
 from http.server import BaseHTTPRequestHandler, ThreadingHTTPServer
 from pathlib import Path
+from typing import Any
 
 from motesim.faults import Fault
 from motesim.studio.session import HTML, JSON, Session, told
@@ -123,7 +124,7 @@ class Handler(BaseHTTPRequestHandler):
             return self.refuse(400, 'The question is no JSON.')
         self.reply_to(self.path.split('/', 2)[-1], asked)
 
-    def reply_to(self, what: str, asked: dict) -> None:
+    def reply_to(self, what: str, asked: dict[str, Any]) -> None:
         try:
             answered = self.server.session.answer(what, asked)
         except Fault as fault:
@@ -145,13 +146,14 @@ class Server(ThreadingHTTPServer):
         self.connections: set[socket.socket] = set()
         super().__init__(('127.0.0.1', port), Handler)
 
-    def process_request(self, request: socket.socket, client_address: object) -> None:
+    def get_request(self) -> tuple[socket.socket, Any]:
+        request, address = super().get_request()
         self.connections.add(request)
-        super().process_request(request, client_address)
+        return request, address
 
-    def shutdown_request(self, request: socket.socket) -> None:
+    def close_request(self, request: Any) -> None:
         self.connections.discard(request)
-        super().shutdown_request(request)
+        super().close_request(request)
 
     def server_close(self) -> None:
         """Ends the connections too, which a browser keeps open."""

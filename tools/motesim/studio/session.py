@@ -8,7 +8,7 @@ import json
 import struct
 import threading
 from collections import OrderedDict
-from typing import Callable, NamedTuple
+from typing import Any, Callable, NamedTuple
 
 from motesim.faults import Fault
 from motesim.report import ReportFault
@@ -32,14 +32,14 @@ def told(value: object) -> Answered:
     return Answered(JSON, json.dumps(value).encode('utf-8'))
 
 
-def framed(said: dict, columns: bytes) -> Answered:
+def framed(said: dict[str, Any], columns: bytes) -> Answered:
     """What is said of a run, and after it its columns, at a multiple of 4."""
     head = json.dumps(said).encode('utf-8')
     head += b' ' * (-len(head) % 4)
     return Answered(BYTES, struct.pack('<I', len(head)) + head + columns)
 
 
-def _text(asked: dict, name: str) -> str:
+def _text(asked: dict[str, Any], name: str) -> str:
     value = asked.get(name)
     if type(value) is not str:
         raise Fault('the page asked without a text %s' % name)
@@ -58,11 +58,11 @@ class Session:
         self.kept: OrderedDict[int, answers.Finished] = OrderedDict()
         self.lock = threading.Lock()
         self.work = threading.Lock()
-        self.does: dict[str, Callable[[dict], Answered]] = {
+        self.does: dict[str, Callable[[dict[str, Any]], Answered]] = {
             'begin': self.begin, 'open': self.open, 'run': self.run, 'judge': self.judge, 'edit': self.edit,
             'save': self.save, 'export': self.export, 'alive': self.alive}
 
-    def answer(self, what: str, asked: dict) -> Answered:
+    def answer(self, what: str, asked: dict[str, Any]) -> Answered:
         if what not in self.does:
             raise Fault('there is nothing called %s' % what)
         return self.does[what](asked)
@@ -79,7 +79,7 @@ class Session:
     def is_example(self, it: Document) -> bool:
         return self.desk.folder == self.desk.examples and it.name in self.desk.names('example')
 
-    def begin(self, asked: dict) -> Answered:
+    def begin(self, asked: dict[str, Any]) -> Answered:
         """What the page shows when it opens."""
         examples = [{'name': name, 'title': guides.title(name)} for name in self.desk.names('example')]
         files = [] if self.desk.folder == self.desk.examples else self.desk.names('folder')
@@ -87,10 +87,10 @@ class Session:
         return told({**opened, 'examples': examples, 'files': files, 'folder': str(self.desk.folder),
                      'editor': self.has_editor, 'limits': self.runs.limits._asdict()})
 
-    def open(self, asked: dict) -> Answered:
+    def open(self, asked: dict[str, Any]) -> Answered:
         return self.opened(self.desk.read(_text(asked, 'where'), _text(asked, 'name')))
 
-    def alive(self, asked: dict) -> Answered:
+    def alive(self, asked: dict[str, Any]) -> Answered:
         """That the studio is there, and whether the open file is as it was."""
         try:
             stamp = self.desk.stamp(_text(asked, 'where'), _text(asked, 'name'))
@@ -98,11 +98,11 @@ class Session:
             stamp = None
         return told({'stamp': stamp})
 
-    def document(self, asked: dict) -> dict:
+    def document(self, asked: dict[str, Any]) -> dict[str, Any]:
         it = {name: _text(asked, name) for name in ('where', 'name', 'text', 'stamp')}
         return {**it, 'returns': asked.get('returns') is True, 'mark': asked.get('mark') is True}
 
-    def save(self, asked: dict) -> Answered:
+    def save(self, asked: dict[str, Any]) -> Answered:
         """Writes a document into its own file, or under a new name."""
         it, new = self.document(asked), asked.get('new')
         try:
@@ -117,7 +117,7 @@ class Session:
 
     # Runs.
 
-    def run(self, asked: dict) -> Answered:
+    def run(self, asked: dict[str, Any]) -> Answered:
         """Runs a text: its columns; or its fault; or that a newer text came, or that a limit was met."""
         text, ticket = _text(asked, 'text'), self.runs.ask()
         data = text.encode('utf-8')
@@ -138,7 +138,7 @@ class Session:
         except (ReportFault, ScenarioFault) as fault:
             return framed({'limit': 'This run cannot be shown: %s' % fault}, b'')
         self.keep(done, asked.get('pinned'))
-        names = answers.names_of_programs(done.run.scenario)
+        names = answers.names_of_programs(done.scenario)
         return framed({'number': ticket, 'run': said_of(done.run, columns), 'programs': names,
                        'bytes': len(got.report)}, columns.joined())
 
@@ -156,26 +156,26 @@ class Session:
         with self.lock:
             return self.kept.get(number) if type(number) is int else None
 
-    def judge(self, asked: dict) -> Answered:
+    def judge(self, asked: dict[str, Any]) -> Answered:
         """What a run's report adds up to, and how it differs from another."""
         done, before = self.kept_run(asked.get('number')), self.kept_run(asked.get('against'))
         if done is None:
             return told({'gone': True})
         with self.work:
-            said = {'sums': answers.sums(done)}
+            said: dict[str, Any] = {'sums': answers.sums(done)}
             if before:
                 said['difference'] = answers.difference(before, done, asked.get('is_pinned') is True)
             expected = self.expectations(asked)
             said['checks'] = answers.checks(done, _text(asked, 'saved'), expected)
         return told(said)
 
-    def expectations(self, asked: dict) -> tuple[str, str] | None:
+    def expectations(self, asked: dict[str, Any]) -> tuple[str, str] | None:
         try:
             return self.desk.expectations(_text(asked, 'where'), _text(asked, 'name'))
         except Fault:
             return None
 
-    def edit(self, asked: dict) -> Answered:
+    def edit(self, asked: dict[str, Any]) -> Answered:
         """What an edit on the map changes in the text."""
         text, wish = _text(asked, 'text'), asked.get('edit')
         changes, said = edit(text, wish if type(wish) is dict else {})
@@ -183,7 +183,7 @@ class Session:
             {'from': answers.place16(text, it.begin), 'to': answers.place16(text, it.end), 'text': it.text}
             for it in sorted(changes, reverse=True)]})
 
-    def export(self, asked: dict) -> Answered:
+    def export(self, asked: dict[str, Any]) -> Answered:
         """The page of a run as one file, as tools/timeline writes it."""
         done = self.kept_run(asked.get('number'))
         if done is None:
