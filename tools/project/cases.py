@@ -13,6 +13,7 @@ with its name in tests/cases:
   NAME.expected  what comes on standard output; without it, nothing
   NAME.stderr    what comes on standard error; without it, nothing
   NAME.status    the exit status; without it, 0
+  NAME.stack     how many KB of stack the proved program has (ulimit -s); without it, as many as the shell gives
 
 A word {} stands for the path of a file with the scenario, and standard input then holds a text that is no scenario. A case
 without a scenario has an empty standard input. Shows for each case that fails the first run that does, with the difference
@@ -35,7 +36,7 @@ from motesim.faults import Fault, command
 from project.tree import TOP, program_of, take_program
 
 CASES = TOP / 'tests' / 'cases'
-KINDS = ['.toml', '.make', '.args', '.runs', '.expected', '.stderr', '.status']
+KINDS = ['.toml', '.make', '.args', '.runs', '.expected', '.stderr', '.status', '.stack']
 NO_SCENARIO = b'this is no scenario\n'
 SECONDS = 60
 MOST_LINES = 20
@@ -114,27 +115,31 @@ def difference(got: bytes, wanted: bytes) -> list[str]:
     return lines if left <= 0 else lines[:MOST_LINES] + ['.. and %d lines more' % left]
 
 
-def answer(program: str, words: Sequence[str], text: bytes) -> Answer:
-    """The status, the standard output and the standard error of a run."""
+def answer(program: str, words: Sequence[str], text: bytes, stack: str) -> Answer:
+    """The status, the standard output and the standard error of a run with so many KB of stack, where some are named."""
+    asked, executable = ['motesim', *words], program
+    # (what is built without a proof has checks that take more stack)
+    if stack and 'unproved' not in Path(program).parts:
+        asked, executable = ['sh', '-c', 'ulimit -s "$0" && exec "$@"', stack, program, *words], '/bin/sh'
     try:
-        done = subprocess.run(['motesim', *words], executable=program, input=text, capture_output=True, timeout=SECONDS)
+        done = subprocess.run(asked, executable=executable, input=text, capture_output=True, timeout=SECONDS)
     except subprocess.TimeoutExpired:
         raise Wrong('no answer in %d seconds' % SECONDS) from None
     return done.returncode, done.stdout, done.stderr
 
 
-def run(program: str, words: Sequence[str], scenario: bytes) -> Answer:
+def run(program: str, words: Sequence[str], scenario: bytes, stack: str) -> Answer:
     """A run with these words, where {} stands for the scenario's path."""
     if '{}' not in words:
-        return answer(program, words, scenario)
+        return answer(program, words, scenario, stack)
     with tempfile.NamedTemporaryFile(suffix='.toml') as file:
         file.write(scenario)
         file.flush()
-        return answer(program, [file.name if word == '{}' else word for word in words], NO_SCENARIO)
+        return answer(program, [file.name if word == '{}' else word for word in words], NO_SCENARIO, stack)
 
 
-def check_run(program: str, words: Sequence[str], scenario: bytes, wanted: Answer) -> None:
-    found = run(program, words, scenario)
+def check_run(program: str, words: Sequence[str], scenario: bytes, stack: str, wanted: Answer) -> None:
+    found = run(program, words, scenario, stack)
     faults: list[str] = []
     for what, got, want in (('standard output', found[1], wanted[1]), ('standard error', found[2], wanted[2])):
         if got != want:
@@ -152,9 +157,10 @@ def check_case(program: str, path: Path, kinds: set[str]) -> str | None:
     try:
         case = Case(path, kinds)
         case.check_files()
+        stack = case.read('.stack').decode().strip()
         for name, scenario, wanted in case.table():
             for words in case.runs():
-                check_run(program, words, scenario, wanted)
+                check_run(program, words, scenario, stack, wanted)
     except Exception as fault:  # Whatever is in the files of a case, the others are run.
         what = str(fault) if isinstance(fault, Wrong) else '%s: %s' % (type(fault).__name__, fault)
         return '%s: %s' % (' '.join([str(path.relative_to(CASES))] + words + [name] * bool(name)), what)

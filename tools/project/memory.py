@@ -5,7 +5,9 @@ needs no more of them. The start of a thread is a request too, for its stack. Ea
 and status 0, or with `motesim: out of memory`, status 1 and a beginning of the report, or, by workers, with `motesim:
 run fault 5`, status 1 and no report; and each has to end. The words after FILE are the program's, as `--workers 2
 --sync marks`. Without FILE small scenarios are tried, on one thread and by two and three workers of both kinds: packets
-that meet and are heard, a full ring, a full queue, a refused timer, and a scenario with a fault.
+that meet and are heard, a full ring, a full queue, a refused timer, and a scenario with a fault. So is the program of
+crates/refused_calls, which asks kernels and motes what they answer once they are out of memory: it has to print the
+same, or to end with status 1 where it has no kernel or mote to ask.
 
 What refuses is a library in C that stands before the C library. `cc` compiles it, or else the compiler of the Rattle
 kit; where there is neither, nothing is tried and all fails. Ends with a line `N passed, M failed`, and with status 1
@@ -34,6 +36,7 @@ WORKERS = [['--workers', workers, '--sync', sync] for sync in ('joins', 'marks')
 SMALL = [(TOP / file, words) for words in ([], *WORKERS)
          for file in (FILES if words in ([], WORKERS[0]) else FILES[:-1])]
 REFUSES = TOP / 'tools/project/refuses.c'
+CALLS = TOP / 'crates/refused_calls'
 SECONDS = 60
 AT_ONCE = 16
 MOST_SHOWN = 10
@@ -72,6 +75,9 @@ class Scenario:
                 return Answer(None, b'', b'no answer in %d seconds' % SECONDS)
         return Answer(done.returncode, done.stdout, done.stderr)
 
+    def kind_of(self, got: Answer, wanted: Answer) -> str | None:
+        return kind_of(got, wanted, '--workers' in self.words)
+
     def refused(self, number: int) -> Answer | None:
         """The answer where the request of this number is refused; None where the run makes fewer."""
         done = self.refuses.parent / ('done-%d' % number)
@@ -96,11 +102,32 @@ class Scenario:
                         return answers
 
 
+class Calls(Scenario):
+    """The program that asks kernels and motes what they answer once they are out of memory."""
+
+    def __init__(self, refuses: Path) -> None:
+        super().__init__(str(CALLS / 'out/refused_calls'), Path(os.devnull), [], refuses)
+
+    def kind_of(self, got: Answer, wanted: Answer) -> str | None:
+        if got == Answer(1, b'', b''):
+            return 'nothing to ask'
+        return 'the same answer' if got == wanted and wanted.status == 0 else None
+
+
+def calls_tried(refuses: Path) -> bool:
+    """Whether that program is built, and each refusal is answered as it should be."""
+    calls = Calls(refuses)
+    if not Path(calls.program).is_file():
+        print('%s is not built' % CALLS.relative_to(TOP))
+        return False
+    return tried(calls)
+
+
 def tried(scenario: Scenario) -> bool:
     """Whether each refusal is answered as it should be; what came is printed."""
     wanted = scenario.answer({})
     answers = scenario.all_refused() if wanted.status is not None else [wanted]
-    kinds = [kind_of(got, wanted, '--workers' in scenario.words) for got in answers]
+    kinds = [scenario.kind_of(got, wanted) for got in answers]
     counts = Counter(kind or 'another answer' for kind in kinds)
     wrong = [(number, got) for number, (got, kind) in enumerate(zip(answers, kinds), 1) if kind is None]
     for number, got in wrong[:MOST_SHOWN]:
@@ -108,7 +135,7 @@ def tried(scenario: Scenario) -> bool:
         print('request %d refused: status %s, %s' % (number, got.status, fault or 'no fault line'))
     shown = ', '.join('%d times %s' % (number, kind) for kind, number in sorted(counts.items())) or 'none'
     path = scenario.path.relative_to(TOP) if TOP in scenario.path.parents else scenario.path
-    name = ' '.join([str(path), *scenario.words])
+    name = ' '.join([str(path), *scenario.words]) if path != Path(os.devnull) else str(CALLS.relative_to(TOP))
     print('%s: %d requests, each refused in turn: %s' % (name, len(answers), shown), flush=True)
     # (a program that asks for no memory at all isn't reached by the allocator)
     return not wrong and bool(answers)
@@ -148,6 +175,8 @@ def main() -> int:
     with tempfile.TemporaryDirectory() as room:
         refuses = compiled(Path(room), words_of_compiler)
         ended = [tried(Scenario(program, path, words, refuses)) for path, words in runs]
+        if not asked.file and CALLS.is_dir():
+            ended.append(calls_tried(refuses))
     print('%d passed, %d failed' % (ended.count(True), ended.count(False)))
     return 0 if all(ended) else 1
 
