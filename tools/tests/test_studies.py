@@ -11,7 +11,7 @@ from here import TOOLS, TOP
 from motesim import packages
 from motesim.plan import Plan
 from motesim.plot import wishes_of
-from skips import need_program, skip
+from skips import need_program
 
 STUDIES = TOP / 'examples/studies'
 
@@ -43,7 +43,7 @@ class StudiesTest(unittest.TestCase):
             for wish in wishes_of(Plan.read(plan)):
                 self.assertIn('(%s)' % wish.file, page)
                 if not (STUDIES / wish.file).is_file():
-                    skip(self, 'the picture %s is not kept' % wish.file)
+                    self.skipTest('the picture %s is not kept' % wish.file)
 
     def test_trickle(self) -> None:
         rows = self.study('trickle', '--vary', 'seed=1,2', '--vary', 'enough=1,4', '--vary', 'step=20,8')
