@@ -218,15 +218,17 @@ class ExportTest(unittest.TestCase):
             ''], done.stderr)
 
     def test_what_is_wrong_is_told(self) -> None:
+        (self.folder / 'late.report').write_text(REPORT.replace('1@21', '1@4000000000000000000'))
         for words, told in [
             (('no.report', '--to', 'vcd'), 'no.report: No such file'),
             (('a.report', '--to', 'vcd', '-o', 'no/a.vcd'), 'no/a.vcd: No such file'),
             (('a.report', '--to', 'gif'), 'invalid choice'),
+            (('late.report', '--to', 'pcapng'), 'a number that is too great'),
         ]:
             done = self.run_it(sys.executable, '-B', str(TOOLS / 'export'), *words)
             self.assertEqual((done.returncode, done.stdout), (2, ''))
             self.assertIn(told, done.stderr)
-        self.assertEqual(sorted(it.name for it in self.folder.iterdir()), ['a.report'])
+        self.assertEqual(sorted(it.name for it in self.folder.iterdir()), ['a.report', 'late.report'])
 
 
 if __name__ == '__main__':

@@ -26,7 +26,7 @@ class StudiesTest(unittest.TestCase):
         """The rows of a study with fewer values. Its pictures are drawn too, or shown as tables."""
         need_program(self)
         plan = STUDIES / (name + '.plan.toml')
-        command = [sys.executable, '-B', str(TOOLS / 'sweep'), str(plan), '--plot', *words]
+        command = [sys.executable, '-B', str(TOOLS / 'sweep'), str(plan), '--plot', '--seconds', '500', *words]
         done = subprocess.run(command, cwd=self.folder, capture_output=True, text=True, env=dict(os.environ))
         has_pictures = packages.is_here('matplotlib') or packages.has('matplotlib')
         self.assertEqual(done.returncode, 0 if has_pictures else 1, done)

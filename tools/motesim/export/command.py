@@ -11,6 +11,7 @@ the formats, and how the files are opened. Ends with status 0, or with 2 where a
 from __future__ import annotations
 
 import argparse
+import contextlib
 from collections.abc import Callable, Iterable
 from pathlib import Path
 
@@ -44,8 +45,10 @@ def write(path: Path, parts: Iterable[bytes]) -> None:
             file.writelines(parts)
         beside.replace(path)
     except OSError as fault:
-        beside.unlink(missing_ok=True)
         raise Fault('%s: %s' % (path, fault.strerror)) from None
+    finally:
+        with contextlib.suppress(OSError):
+            beside.unlink()
 
 
 @command('export')

@@ -21,6 +21,7 @@ import struct
 from collections.abc import Iterator
 
 from motesim.export.times import copies, sends
+from motesim.faults import Fault
 from motesim.report import Report
 
 USER0 = 147
@@ -68,6 +69,13 @@ def record(mote: int, time: int, direction: int, data: bytes) -> bytes:
 
 def pcapng(report: Report) -> Iterator[bytes]:
     """The file, block by block; records stand in the order of their times."""
+    try:
+        yield from blocks(report)
+    except struct.error:
+        raise Fault('the report has a number that is too great for a capture file') from None
+
+
+def blocks(report: Report) -> Iterator[bytes]:
     yield section()
     for mote in report.motes:
         yield interface('mote %d' % mote.number, mote.program)
