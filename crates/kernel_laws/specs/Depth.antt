@@ -5,7 +5,7 @@ use Rattle.program_tree.specs.declared.event.Event.{Event}
 use Rattle.program_tree.specs.Code.{Code}
 use Rattle.protothread.specs.Remainder.{Remainder}
 use Rattle.radio_packet.specs.declared.sent.Sent.{Sent}
-use Rattle.process_kernel.specs.declared.line.Line.{Line}
+use Rattle.trace_lines.specs.declared.line.Line.{Line}
 use Rattle.process_kernel.specs.State.{State}
 use Rattle.process_kernel.specs.Call.{calls_of}
 use Rattle.process_kernel.specs.Mote.{Mote}

@@ -11,9 +11,9 @@ use Rattle.program_tree.specs.Code.{Tree}
 use Rattle.mote_timers.specs.Numbers.{is_member}
 use Rattle.mote_timers.specs.Timer.{is_due}
 use Rattle.mote_timers.specs.TimerLists.{TimerLists, timer_at}
-use Rattle.process_kernel.specs.declared.line.Line.{Line}
+use Rattle.trace_lines.specs.declared.line.Line.{Line}
 use Rattle.radio_packet.specs.declared.sent.Sent.{Sent}
-use Rattle.process_kernel.specs.declared.line.What.{What}
+use Rattle.trace_lines.specs.declared.line.What.{What}
 use Rattle.process_kernel.specs.Run.{most_units}
 use Rattle.process_kernel.specs.State.{State, Goes}
 use Rattle.process_kernel.specs.Processes.{is_listed}

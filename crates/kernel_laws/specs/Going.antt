@@ -6,9 +6,9 @@ use Rattle.handed_on.specs.StartsAndHalts.{HaltIsLast, StartsTheUnlisted}
 use Rattle.handed_on.specs.View as view
 use Rattle.handed_on.specs.View.{HasHalted}
 use Rattle.program_tree.specs.declared.event.Proc.TheVariants.{Etimer}
-use Rattle.process_kernel.specs.declared.line.Line.{Line}
-use Rattle.process_kernel.specs.declared.line.What.{What}
-use Rattle.process_kernel.specs.declared.line.What.TheVariants as what
+use Rattle.trace_lines.specs.declared.line.Line.{Line}
+use Rattle.trace_lines.specs.declared.line.What.{What}
+use Rattle.trace_lines.specs.declared.line.What.TheVariants as what
 use Rattle.process_kernel.specs.State.{State}
 use Rattle.process_kernel.specs.Processes.{has_process, is_busy, is_listed}
 use Rattle.process_kernel.specs.Mote.{Mote}

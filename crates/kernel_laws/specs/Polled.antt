@@ -11,9 +11,9 @@ use Rattle.mote_timers.specs.Numbers.{is_member}
 use Rattle.mote_timers.specs.Timer.{is_due}
 use Rattle.mote_timers.specs.TimerLists.{timer_at}
 use Rattle.radio_packet.specs.declared.arrival.Arrival.{Arrival}
-use Rattle.process_kernel.specs.declared.line.Line.{Line}
-use Rattle.process_kernel.specs.declared.line.What.{What}
-use Rattle.process_kernel.specs.declared.line.What.TheVariants as what
+use Rattle.trace_lines.specs.declared.line.Line.{Line}
+use Rattle.trace_lines.specs.declared.line.What.{What}
+use Rattle.trace_lines.specs.declared.line.What.TheVariants as what
 use Rattle.process_kernel.specs.State.{State, Goes}
 use Rattle.process_kernel.specs.Calls.{is_system_event}
 use Rattle.process_kernel.specs.Etimer.{etimer_of}

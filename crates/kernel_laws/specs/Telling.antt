@@ -9,7 +9,7 @@ use Rattle.protothread.specs.Remainder.{Remainder}
 use Rattle.protothread.specs.Reading.{Sight, Happening, Completion}
 use Rattle.protothread.specs.Runs.{Runs}
 use Rattle.radio_packet.specs.declared.arrival.Arrival.{Arrival}
-use Rattle.process_kernel.specs.declared.line.Line.{Line}
+use Rattle.trace_lines.specs.declared.line.Line.{Line}
 use Rattle.radio_packet.specs.declared.sent.Sent.{Sent}
 use Rattle.process_kernel.specs.declared.process.ProcessState.{ProcessState}
 use Rattle.process_kernel.specs.declared.process.ProcessState.TheVariants.{Off, Running}

@@ -1,7 +1,7 @@
 -- What the calls of a `Mote` tell.
 use Rattle.std.specs.Prelude.{ℕ, Bool, false, if◌then◌else◌, Option, Some, None, option_map}
 use Rattle.program_tree.specs.Code.{Tree}
-use Rattle.process_kernel.specs.declared.line.Out.{Out}
+use Rattle.trace_lines.specs.declared.out.Out.{Out}
 use Rattle.process_kernel.specs.Mote.{Mote}
 use Rattle.process_kernel.specs.Public.{mote_in, held_in}
 use Rattle.mote_node.specs.declared.mote.Mote.{Mote as MoteOfCode}

@@ -1,9 +1,9 @@
 -- What a boot or a run of a kernel gives.
 use Rattle.std.proofs.Common.{ℕ, ◌≡◌, Bool, true, false, List, [], append-nil, Result, Ok, Err, refl, sym, ap, ◌∙◌}
 use Rattle.program_tree.specs.Code.{Tree}
-use Rattle.process_kernel.specs.declared.line.Line.{Line}
+use Rattle.trace_lines.specs.declared.line.Line.{Line}
 use Rattle.radio_packet.specs.declared.sent.Sent.{Sent}
-use Rattle.process_kernel.specs.declared.line.Out.{Out}
+use Rattle.trace_lines.specs.declared.out.Out.{Out}
 use Rattle.process_kernel.specs.declared.kernel.Kernel.{Kernel}
 use Rattle.process_kernel.specs.declared.kernel.Ran.{Ran}
 use Rattle.process_kernel.specs.declared.kernel.Ran.TheVariants as ran

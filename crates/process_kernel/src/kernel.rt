@@ -6,13 +6,13 @@ ghost use Rattle.program_tree.specs.Program.{tree_of};
 ghost use Rattle.mote_timers.specs.TimerLists.{next_expiration_of};
 ghost use Rattle.process_kernel.specs.Mote.{unbooted, with_poll, with_packet, has_room, is_pending};
 
-use crate::line::Out;
 use crate::machine::{Machine, Stop};
 use program_tree::{Proc, Program};
 use radio_packet::Arrival;
 use std::alloc::Global;
 use std::error::Error;
 use std::{fmt, mem};
+use trace_lines::Out;
 
 /// How a boot or a kernel run ends: with so many events and polls left, or with the mote halted for good.
 #[derive(Clone, Copy, Debug, PartialEq, Eq)]

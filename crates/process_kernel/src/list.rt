@@ -8,7 +8,6 @@ ghost use Rattle.process_kernel.specs.ProcessList.{put_remainder, enlist_of, exi
 ghost use Rattle.process_kernel.specs.Reaction.{remainder_at};
 ghost use Rattle.process_kernel.specs.Views.{state_of, body_of, Tells, Grows, KeepsCounts};
 
-use crate::line::What;
 use crate::machine::{MOST_PROCESSES, Machine, Stop};
 use crate::process::{Member, ProcessState};
 use crate::table::is_same;
@@ -16,6 +15,7 @@ use arrayvec::ArrayVec;
 use program_tree::Proc;
 use protothread::{Part, Thread};
 use std::alloc::AllocError;
+use trace_lines::What;
 
 impl Machine {
     /// The process list as it stands now.

@@ -5,7 +5,6 @@ ghost use Rattle.process_kernel.specs.Members.{AreMembers};
 ghost use Rattle.process_kernel.specs.ProcessList.{numbered_from};
 ghost use Rattle.std.proofs.Props.{props};
 
-use crate::line::Out;
 use crate::look::Shown;
 use crate::process::Member;
 use circular_buffer::HeapCircularBuffer;
@@ -14,6 +13,7 @@ use mote_timers::Callbacks;
 use protothread::{Fuel, Thread, Vars};
 use radio_packet::Arrival;
 use std::alloc::{AllocError, AllocFailed, Global};
+use trace_lines::Out;
 
 /// How many processes a mote has at most: 64 of its program, and the three system processes.
 pub const MOST_PROCESSES: usize = 67;

@@ -12,12 +12,12 @@ ghost use Rattle.process_kernel.specs.Operation.{posted, act_of, perform_of};
 ghost use Rattle.process_kernel.specs.Views.{state_of, Tells, Grows, HasRoom, Spends, told_thread};
 
 use crate::event::told;
-use crate::line::What;
 use crate::machine::{Machine, Stop};
 use crate::process::Member;
 use crate::table::is_same;
 use program_tree::{Event, Proc, ProcessText, Program, SystemEvent};
 use protothread::{Op, Thread};
+use trace_lines::What;
 
 /// An event that a program posts. It has no sender.
 fn posted(number: u8, word: u16) -> Event

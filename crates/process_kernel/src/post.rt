@@ -8,11 +8,11 @@ ghost use Rattle.process_kernel.specs.Posts.{post_of, poll_of, send_of};
 ghost use Rattle.process_kernel.specs.Semaphores.{take_of, signal_of};
 ghost use Rattle.process_kernel.specs.Views.{state_of, Tells, Grows, KeepsCounts, KeepsLists};
 
-use crate::line::{Line, What};
 use crate::machine::{Machine, Stop};
 use crate::table::is_alive;
 use program_tree::{Event, Proc, Target};
 use radio_packet::Sent;
+use trace_lines::{Line, What};
 
 /// How many events a mote accepts, and how many packets it sends, before it halts.
 const LIMIT: u64 = 1 << 62;

@@ -7,10 +7,10 @@ ghost use Rattle.process_kernel.specs.Radio.{packet_of, hand_to, empty_ring, rad
 ghost use Rattle.process_kernel.specs.Views.{state_of, Tells, Grows, KeepsCounts};
 
 use crate::event::is_event;
-use crate::line::What;
 use crate::machine::{Machine, Stop};
 use program_tree::{Event, Proc, Program, SystemEvent, Target};
 use radio_packet::Arrival;
+use trace_lines::What;
 
 /// A packet as an event: its value, and the mote that sent it.
 fn packet_event(packet: &Arrival) -> Event

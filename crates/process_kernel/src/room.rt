@@ -7,7 +7,6 @@ ghost use Rattle.protothread.specs.Remainder.{fresh_of};
 ghost use Rattle.process_kernel.specs.Mote.{unbooted};
 ghost use Rattle.process_kernel.specs.Views.{state_of, remainders_of};
 
-use crate::line::Out;
 use crate::look::Shown;
 use crate::machine::Machine;
 use crate::process::ProcessState;
@@ -17,6 +16,7 @@ use mote_timers::{Callbacks, Timers};
 use program_tree::Program;
 use protothread::{Fuel, Part, Semaphore, Thread, Vars};
 use std::alloc::{AllocError, Global};
+use trace_lines::Out;
 
 /// How many packets the receive ring holds.
 const RING: usize = 8;

@@ -12,13 +12,13 @@ ghost use Rattle.process_kernel.specs.Run.{begun_of, deliver_front, kernel_of};
 ghost use Rattle.process_kernel.specs.Views.{state_of, Tells, Grows, HasRoom, KeepsCounts, Spends};
 
 use crate::event::told;
-use crate::line::What;
 use crate::machine::{Machine, Stop};
 use crate::process::Member;
 use arrayvec::ArrayVec;
 use event_queue::Posted;
 use program_tree::{Proc, Program, SystemEvent, Target};
 use protothread::Fuel;
+use trace_lines::What;
 
 /// How many processes are few, and some: a walk over so many makes a short copy of the list, since a call pays for all the room
 /// that its copy has.
