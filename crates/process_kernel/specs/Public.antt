@@ -1,5 +1,5 @@
 -- What the calls of a `Kernel` tell.
-use Rattle.std.specs.Prelude.{ℕ, ◌≡◌, ◌+◌, ◌++◌, true, false, List, Option, Some, None, Result, Ok, Err, if◌then◌else◌}
+use Rattle.std.specs.Prelude.{ℕ, ◌≡◌, ◌+◌, true, false, List, Option, Some, None, Result, Ok, Err, if◌then◌else◌}
 use Rattle.program_tree.specs.Code.{Tree}
 use Rattle.trace_lines.specs.declared.line.Line.{Line}
 use Rattle.radio_packet.specs.declared.sent.Sent.{Sent}
@@ -61,6 +61,12 @@ Tells gives None out result new out' = (result ≡ Err error.Failed) × (new ≡
 Tells gives (Some m) out (Ok r) new out' =
     (m' : Mote) × (new ≡ Some m') × (gives m out.lines.items out.sends.items ≡ record { ran = r; mote = m'; lines = out'.lines.items; sends = out'.sends.items })
 Tells gives (Some m) out (Err e) new out' = (e ≡ error.Memory) × (new ≡ None) × BeginsWith out out'
+
+-- What an error leaves: a kernel that had failed answers so, and changes nothing; else it was out of memory, from which
+-- on there is no mote, and what was written before is still there.
+abbrev pub FailsAs : Option Mote → Out → KernelError → Option Mote → Out → Type 0
+FailsAs None out e new out' = (e ≡ error.Failed) × (new ≡ None) × (out' ≡ out)
+FailsAs (Some m) out e new out' = (e ≡ error.Memory) × (new ≡ None) × BeginsWith out out'
 
 -- what a kernel answers to how a run of its machine ended, and what it notes
 abbrev pub Closes : Kernel → Result ℕ Stop → Result Ran KernelError → Kernel → Type 0

@@ -97,7 +97,8 @@ impl Machine {
     /// Notes a packet that is sent.
     #[tactic(auto, unfolding(crate::specs::Views::Begins))]
     fn put_sent(&mut self, packet: Sent) -> Result<(), Stop>
-        ensures exact { (t : Tree) → Tells result (state_of t self.new) (Goes tt (record (state_of t self.old) { sends = self.old.out.sends.items ++ packet ∷ [] })) }
+        ensures exact { (t : Tree) → Tells result (state_of t self.new)
+            (Goes tt (record (state_of t self.old) { sends = self.old.out.sends.items ++ packet ∷ [] })) }
         ensures kept { KeepsCounts self.old self.new }
         ensures grows { Grows self.old.out self.new.out }
     {
