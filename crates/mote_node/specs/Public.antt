@@ -17,7 +17,7 @@ node_over last collides m = record { mote = m; last = last; collides = collides 
 unfoldable pub node_held : Tree → MoteOfCode → Node
 node_held t m = node_over m.last m.collide (held_in t m.kernel.value)
 
--- The node that a `Mote` is, where its program is this; one that found no memory is none.
+-- The node that a `Mote` is, where its program is this; one that was out of memory is none.
 unfoldable pub node_in : Tree → MoteOfCode → Option Node
 node_in t m = if m.failed then None else option_map (node_over m.last m.collide) (mote_in t m.kernel.value)
 
