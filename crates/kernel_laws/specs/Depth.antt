@@ -29,9 +29,11 @@ ThreadsAreAnyDepth =
 abbrev pub BootsAreAnyDepth : Type 0
 BootsAreAnyDepth =
     (depth moment : ℕ) (m : Mote) (lines : List Line) (sends : List Sent) → most_units < depth
-    → boot_given moment m lines sends ≡ unless_halted m lines sends (given (boot_of (calls_of depth) (begun m moment lines sends)))
+    → boot_given moment m lines sends
+    ≡ unless_halted m lines sends (given (boot_of (calls_of depth) (begun m moment lines sends)))
 
 abbrev pub RunsAreAnyDepth : Type 0
 RunsAreAnyDepth =
     (depth moment : ℕ) (m : Mote) (lines : List Line) (sends : List Sent) → most_units < depth
-    → run_given moment m lines sends ≡ unless_halted m lines sends (given (kernel_of (calls_of depth) (begun m moment lines sends)))
+    → run_given moment m lines sends
+    ≡ unless_halted m lines sends (given (kernel_of (calls_of depth) (begun m moment lines sends)))

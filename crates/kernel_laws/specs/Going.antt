@@ -1,4 +1,4 @@
--- Whether the lines of a mote so far go with the mote as it stands.
+-- Whether the lines of a mote so far go with the current mote.
 use Rattle.std.specs.Prelude.{Bool, true, false, ◌≡◌, List, [], ◌++◌}
 use Rattle.std.specs.List.{All}
 use Rattle.handed_on.specs.HandedOn.{HandedOn}
@@ -44,8 +44,8 @@ GoesWithAs false true lines s = ⊥
 GoesWithAs true false lines s = StandsBooted lines s
 GoesWithAs true true lines s = HasHalted (seen_lines lines)
 
--- The lines of a mote are a run of the delivery machine: to where the mote stands, or to its halt. No mote halts before it
--- is booted.
+-- The lines of a mote are a run of the delivery machine: to where the mote stands, or to its halt. No mote halts
+-- before it is booted.
 abbrev pub GoesWith : List Line → Mote → Type 0
 GoesWith lines m = GoesWithAs m.booted m.halted lines m.state
 

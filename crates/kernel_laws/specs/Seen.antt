@@ -40,4 +40,9 @@ abbrev pub seen_posted : Posted → Waiting
 seen_posted x = record { serial = x.serial; target = seen_target x.target }
 
 abbrev pub view_of : State → View
-view_of s = record { list = map seen_member s.members; numbered = s.started; queue = map seen_posted s.queue.events; accepted = s.queue.accepted }
+view_of s = record {
+  list = map seen_member s.members;
+  numbered = s.started;
+  queue = map seen_posted s.queue.events;
+  accepted = s.queue.accepted;
+}

@@ -8,8 +8,8 @@ use Rattle.process_kernel.specs.Mote.{Mote, unbooted, with_packet, with_poll}
 use Rattle.process_kernel.specs.Public.{Given, boot_given, run_given}
 use Rattle.kernel_laws.specs.Going.{IsNote}
 
--- A call of a kernel after its boot: a kernel run at a moment, a process that is to be polled, or a packet for the ring.
--- Between the calls lines of packets that arrive may be written.
+-- A call of a kernel after its boot: a kernel run at a moment, a process that is to be polled, or a packet for the
+-- ring. Between the calls lines of packets that arrive may be written.
 pub data KernelCall : Type 0 where
   RunAt : (moment : ℕ) → KernelCall
   PollOf : Proc → KernelCall
