@@ -8,4 +8,5 @@ HaltIsLast lines = (before behind : List Line) → lines ≡ before ++ Halt ∷ 
 
 -- Only a process that is not listed starts: between two `start` lines of a process stands a `leave` of it.
 abbrev pub StartsTheUnlisted : List Line → Type 0
-StartsTheUnlisted lines = (before behind : List Line) (p : ℕ) → lines ≡ before ++ Start p ∷ behind → is_listed (process_list before) p ≡ false
+StartsTheUnlisted lines = (before behind : List Line) (p : ℕ) → lines ≡ before ++ Start p ∷ behind
+    → is_listed (process_list before) p ≡ false

@@ -70,7 +70,8 @@ halted_before_the_first = Start 5 ∷ Start 6 ∷ Post 0 ToAll ∷ Halt ∷ []
 
 -- an event to one process goes to whatever incarnation is there when it is taken
 abbrev pub taken_by_the_next : List Line
-taken_by_the_next = Start 5 ∷ Post 0 (ToOne 5) ∷ Leave 5 ∷ Post 1 (ToOne 5) ∷ Drop 0 5 ∷ Start 5 ∷ Take 1 5 ∷ Post 2 ToAll ∷ []
+taken_by_the_next = Start 5 ∷ Post 0 (ToOne 5) ∷ Leave 5 ∷ Post 1 (ToOne 5) ∷ Drop 0 5 ∷ Start 5 ∷ Take 1 5
+    ∷ Post 2 ToAll ∷ []
 
 -- What the property does not see: it holds of these too, though a kernel would write other lines.
 
@@ -86,7 +87,7 @@ list_of_the_post = Start 5 ∷ Post 0 ToAll ∷ Start 6 ∷ Other ∷ Take 0 5 �
 abbrev pub starts_twice : List Line
 starts_twice = Start 5 ∷ Start 5 ∷ Leave 6 ∷ []
 
--- lines behind a halt
+-- lines after a halt
 abbrev pub goes_on_after_a_halt : List Line
 goes_on_after_a_halt = Halt ∷ Start 5 ∷ []
 

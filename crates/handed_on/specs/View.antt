@@ -12,9 +12,11 @@ pub record View : Type 0 where
 
 -- with the serial of the walk that was begun last, and the incarnations still to come in it
 abbrev pub machine_at : View → ℕ → List Incarnation → DeliveryMachine
-machine_at v walked coming = record { list = v.list; numbered = v.numbered; queue = v.queue; accepted = v.accepted; walked = walked; coming = coming }
+machine_at v walked coming = record
+    { list = v.list; numbered = v.numbered; queue = v.queue; accepted = v.accepted; walked = walked; coming = coming }
 
--- The lines so far are a run of the machine from its beginning, and the kernel stands where it ends, with no walk under way.
+-- The lines so far are a run of the machine from its beginning, and the kernel stands where it ends, with no walk
+-- under way.
 pub record GoesWithView (lines : List Line) (v : View) : Type 0 where
   pub walked : ℕ
   pub runs : DeliveryRuns initial lines (machine_at v walked [])

@@ -1,4 +1,4 @@
-//! Laws of the delivery of events. Each is the contract of a function that does nothing.
+//! Laws of the delivery of events. Each is a theorem, stated as the contract of an empty function.
 
 ghost use Rattle.handed_on.specs.Laws.{DeliveryHandsOn, DeliveryHaltsLast, DeliveryStartsTheUnlisted};
 ghost use Rattle.handed_on.specs.Traces.{TracesThatDoNot, TracesThatHandOn, TracesThatPass, TracesThatBreakTheOthers};

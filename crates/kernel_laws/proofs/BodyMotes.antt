@@ -14,10 +14,10 @@ use Rattle.event_queue.specs.declared.queue.Posted.{Posted}
 use Rattle.event_queue.specs.Queue.{without_front}
 use Rattle.protothread.specs.declared.part.Part.TheVariants.{Body}
 use Rattle.protothread.specs.Remainder.{fresh_of}
-use Rattle.process_kernel.specs.declared.line.Line.{Line}
+use Rattle.trace_lines.specs.declared.line.Line.{Line}
 use Rattle.radio_packet.specs.declared.sent.Sent.{Sent}
-use Rattle.process_kernel.specs.declared.line.What.{What}
-use Rattle.process_kernel.specs.declared.line.What.TheVariants as what
+use Rattle.trace_lines.specs.declared.line.What.{What}
+use Rattle.trace_lines.specs.declared.line.What.TheVariants as what
 use Rattle.process_kernel.specs.declared.process.ProcessState.{ProcessState}
 use Rattle.process_kernel.specs.declared.process.ProcessState.TheVariants.{Off, Running, Called}
 use Rattle.process_kernel.specs.declared.process.Member.{Member}

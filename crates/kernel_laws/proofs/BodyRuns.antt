@@ -17,8 +17,8 @@ use Rattle.protothread.specs.Remainder.{Remainder}
 use Rattle.protothread.specs.Step.{advanced_of, answered_of}
 use Rattle.protothread.specs.Reading.{Sight, operates, Completion, stands}
 use Rattle.protothread.specs.Runs.{Steps}
-use Rattle.process_kernel.specs.declared.line.Line.{Line}
-use Rattle.process_kernel.specs.declared.line.What.TheVariants as what
+use Rattle.trace_lines.specs.declared.line.Line.{Line}
+use Rattle.trace_lines.specs.declared.line.What.TheVariants as what
 use Rattle.process_kernel.specs.State.{State, Outcome, Ends, Goes, ◌>>=◌}
 use Rattle.process_kernel.specs.Processes.{is_running_state, is_called_state}
 use Rattle.process_kernel.specs.Looks.{looks_of}

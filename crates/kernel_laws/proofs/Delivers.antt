@@ -16,8 +16,8 @@ use Rattle.program_tree.specs.declared.event.Target.TheVariants.{One, All as ToE
 use Rattle.program_tree.specs.declared.event.SystemEvent.TheVariants.{Init, Poll, Exit}
 use Rattle.program_tree.specs.Events.{system_number}
 use Rattle.event_queue.specs.declared.queue.Posted.{Posted}
-use Rattle.process_kernel.specs.declared.line.Line.{Line}
-use Rattle.process_kernel.specs.declared.line.What.TheVariants as what
+use Rattle.trace_lines.specs.declared.line.Line.{Line}
+use Rattle.trace_lines.specs.declared.line.What.TheVariants as what
 use Rattle.process_kernel.specs.declared.process.Member.{Member}
 use Rattle.process_kernel.specs.Members.{place_of, holds_member, stands_in}
 use Rattle.process_kernel.specs.State.{State, Outcome, Ends, Goes, ◌>>=◌}

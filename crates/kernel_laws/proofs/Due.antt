@@ -10,7 +10,7 @@ use Rattle.program_tree.specs.declared.event.Target.TheVariants.{One}
 use Rattle.program_tree.specs.declared.event.SystemEvent.TheVariants.{Poll, Timer}
 use Rattle.program_tree.specs.Events.{system_number}
 use Rattle.mote_timers.specs.TimerLists.{new_timers}
-use Rattle.process_kernel.specs.declared.line.Line.{Line}
+use Rattle.trace_lines.specs.declared.line.Line.{Line}
 use Rattle.radio_packet.specs.declared.sent.Sent.{Sent}
 use Rattle.process_kernel.specs.declared.kernel.Ran.TheVariants as ran
 use Rattle.process_kernel.specs.State.{State, Outcome, Ends, Goes, ◌>>=◌}

@@ -6,7 +6,7 @@ use Rattle.program_tree.specs.declared.event.SystemEvent.TheVariants.{Poll, Exit
 use Rattle.protothread.specs.declared.state.PtState.TheVariants.{Yielded}
 use Rattle.process_kernel.specs.declared.process.ProcessState.TheVariants.{Called}
 use Rattle.radio_packet.specs.declared.arrival.Arrival.{Arrival}
-use Rattle.process_kernel.specs.declared.line.Line.{Line}
+use Rattle.trace_lines.specs.declared.line.Line.{Line}
 use Rattle.radio_packet.specs.declared.sent.Sent.{Sent}
 use Rattle.process_kernel.specs.declared.kernel.Ran.TheVariants as ran
 use Rattle.process_kernel.specs.State.{State, Outcome, Went, Ends, Goes, ◌>>=◌}

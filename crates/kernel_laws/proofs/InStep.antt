@@ -20,8 +20,8 @@ use Rattle.protothread.specs.declared.step.Step.{Step}
 use Rattle.protothread.specs.declared.step.Step.TheVariants as step
 use Rattle.protothread.specs.Remainder.{Remainder, fresh_of}
 use Rattle.radio_packet.specs.declared.arrival.Arrival.{Arrival}
-use Rattle.process_kernel.specs.declared.line.What.{What}
-use Rattle.process_kernel.specs.declared.line.What.TheVariants as what
+use Rattle.trace_lines.specs.declared.line.What.{What}
+use Rattle.trace_lines.specs.declared.line.What.TheVariants as what
 use Rattle.process_kernel.specs.declared.process.ProcessState.{ProcessState}
 use Rattle.process_kernel.specs.declared.process.ProcessState.TheVariants.{Off, Running, Called}
 use Rattle.process_kernel.specs.declared.process.Member.{Member}

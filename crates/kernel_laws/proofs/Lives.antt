@@ -13,8 +13,8 @@ use Rattle.protothread.specs.Step.{answered_of}
 use Rattle.protothread.specs.Reading.{Sight, Happening, operates, gives_up, Completion, done, exits, stands}
 use Rattle.protothread.specs.Runs.{Steps, Runs, operated, operated_last, gave_up, gave_up_last, has_exited, has_ended}
 use Rattle.protothread.proofs.Splits.{reads_the_text}
-use Rattle.process_kernel.specs.declared.line.Line.{Line}
-use Rattle.process_kernel.specs.declared.line.What.TheVariants as what
+use Rattle.trace_lines.specs.declared.line.Line.{Line}
+use Rattle.trace_lines.specs.declared.line.What.TheVariants as what
 use Rattle.kernel_laws.specs.Printed.{printed, prints}
 use Rattle.kernel_laws.specs.Telling.{Next, AtStart, InCall, AtCall, CanCome, IsAnswered}
 use Rattle.kernel_laws.specs.Telling as telling

@@ -6,9 +6,9 @@ use Rattle.handed_on.specs.View as view
 use Rattle.handed_on.specs.View.{HasHalted}
 use Rattle.handed_on.proofs.Views.{goes_further, goes_to_halt, other_moves, goes_with_hands_on, halted_hands_on, goes_with_halts_last, halted_halts_last, goes_with_starts, halted_starts}
 use Rattle.program_tree.specs.declared.event.Proc.{Proc}
-use Rattle.process_kernel.specs.declared.line.Line.{Line}
-use Rattle.process_kernel.specs.declared.line.What.{What}
-use Rattle.process_kernel.specs.declared.line.What.TheVariants as what
+use Rattle.trace_lines.specs.declared.line.Line.{Line}
+use Rattle.trace_lines.specs.declared.line.What.{What}
+use Rattle.trace_lines.specs.declared.line.What.TheVariants as what
 use Rattle.process_kernel.specs.Processes.{is_alive, process_state, with_mark}
 use Rattle.radio_packet.specs.declared.sent.Sent.{Sent}
 use Rattle.radio_packet.specs.declared.arrival.Arrival.{Arrival}

@@ -6,8 +6,8 @@ use Rattle.program_tree.specs.declared.event.Proc.TheVariants.{Own, Etimer, Ctim
 use Rattle.program_tree.specs.declared.event.Target.{Target}
 use Rattle.program_tree.specs.declared.event.Event.{Event}
 use Rattle.mote_timers.specs.TimerLists.{TimerLists}
-use Rattle.process_kernel.specs.declared.line.What.{What}
-use Rattle.process_kernel.specs.declared.line.What.TheVariants as what
+use Rattle.trace_lines.specs.declared.line.What.{What}
+use Rattle.trace_lines.specs.declared.line.What.TheVariants as what
 use Rattle.process_kernel.specs.declared.process.ProcessState.{ProcessState}
 use Rattle.process_kernel.specs.declared.process.ProcessState.TheVariants.{Running, Called}
 use Rattle.process_kernel.specs.State.{State, Outcome, Ends, Goes, ◌>>=◌}
@@ -19,7 +19,7 @@ use Rattle.process_kernel.specs.Writes.{with_line, write_of, halted_of}
 use Rattle.std.specs.List.{range_with_len}
 use Rattle.std.proofs.lemmas.List.Elements.{All-nil, All-cons, All-append}
 use Rattle.radio_packet.specs.declared.sent.Sent.{Sent}
-use Rattle.process_kernel.specs.declared.line.What.TheVariants.{Halt}
+use Rattle.trace_lines.specs.declared.line.What.TheVariants.{Halt}
 use Rattle.kernel_laws.specs.Stamps.{PacketsBear, AreNumberedFrom, Stamped}
 use Rattle.kernel_laws.proofs.Steps.{lines_joined}
 use Rattle.kernel_laws.proofs.EachStep.{Whoever, Lead, AreJoined, AreSteps, AreRunSteps, lead_goes, lead_bind, lead_from, lead_if, empty_led}

@@ -14,9 +14,9 @@ use Rattle.program_tree.specs.declared.event.Target.{Target}
 use Rattle.program_tree.specs.declared.event.Event.{Event}
 use Rattle.event_queue.specs.Queue.{with_posted}
 use Rattle.mote_timers.specs.TimerLists.{TimerLists}
-use Rattle.process_kernel.specs.declared.line.Line.{Line}
-use Rattle.process_kernel.specs.declared.line.What.{What}
-use Rattle.process_kernel.specs.declared.line.What.TheVariants as what
+use Rattle.trace_lines.specs.declared.line.Line.{Line}
+use Rattle.trace_lines.specs.declared.line.What.{What}
+use Rattle.trace_lines.specs.declared.line.What.TheVariants as what
 use Rattle.process_kernel.specs.declared.process.ProcessState.{ProcessState}
 use Rattle.process_kernel.specs.declared.process.ProcessState.TheVariants.{Running}
 use Rattle.process_kernel.specs.declared.process.Member.{Member}

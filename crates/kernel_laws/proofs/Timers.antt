@@ -13,7 +13,7 @@ use Rattle.mote_timers.specs.Numbers.{is_member, without_member}
 use Rattle.mote_timers.specs.Timer.{is_due, unset}
 use Rattle.mote_timers.specs.TimerLists.{TimerLists, timer_at, stop_timer}
 use Rattle.mote_timers.proofs.NumberLists.{is_member-filter}
-use Rattle.process_kernel.specs.declared.line.Line.{Line}
+use Rattle.trace_lines.specs.declared.line.Line.{Line}
 use Rattle.process_kernel.specs.State.{State, Went, Ends, Goes}
 use Rattle.process_kernel.specs.Calls.{told, is_system_event}
 use Rattle.process_kernel.specs.Etimer.{fired_of, post_due, walk_timers, walks_of, pass_of, etimer_of}

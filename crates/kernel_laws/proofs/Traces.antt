@@ -7,7 +7,7 @@ use Rattle.std.proofs.lemmas.Bool.Decides.{nat_tests}
 use Rattle.handed_on.specs.Delivery.{stays}
 use Rattle.program_tree.specs.Code.{Tree}
 use Rattle.process_kernel.specs.declared.process.ProcessState.TheVariants.{Off}
-use Rattle.process_kernel.specs.declared.line.Line.{Line}
+use Rattle.trace_lines.specs.declared.line.Line.{Line}
 use Rattle.radio_packet.specs.declared.sent.Sent.{Sent}
 use Rattle.process_kernel.specs.State.{State, Outcome, Ends, Goes}
 use Rattle.process_kernel.specs.Mote.{Mote, unbooted, with_poll, with_packet}

@@ -12,7 +12,7 @@ use Rattle.mote_timers.specs.TimerLists.{timer_at}
 use Rattle.protothread.specs.Step.{PaysFor}
 use Rattle.protothread.specs.Remainder.{Remainder}
 use Rattle.protothread.proofs.Units.{costs}
-use Rattle.process_kernel.specs.declared.line.What.{What}
+use Rattle.trace_lines.specs.declared.line.What.{What}
 use Rattle.process_kernel.specs.State.{State, Outcome, Went, Ends, Goes}
 use Rattle.process_kernel.specs.Processes.{is_alive, process_state, with_state, with_exiting, with_mark}
 use Rattle.process_kernel.specs.ProcessList.{with_fresh_process, enlist_of, unlisted_of, leave_of}

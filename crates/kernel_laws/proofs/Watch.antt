@@ -13,8 +13,8 @@ use Rattle.mote_timers.specs.TimerLists.{TimerLists, timer_at, stop_timer, purge
 use Rattle.process_kernel.specs.declared.process.ProcessState.{ProcessState}
 use Rattle.process_kernel.specs.declared.process.ProcessState.TheVariants.{Running, Called}
 use Rattle.process_kernel.specs.declared.process.Member.{Member}
-use Rattle.process_kernel.specs.declared.line.What.{What}
-use Rattle.process_kernel.specs.declared.line.What.TheVariants as what
+use Rattle.trace_lines.specs.declared.line.What.{What}
+use Rattle.trace_lines.specs.declared.line.What.TheVariants as what
 use Rattle.process_kernel.specs.Members.{place_of}
 use Rattle.process_kernel.specs.State.{State, Outcome}
 use Rattle.process_kernel.specs.Processes.{is_alive, process_state, is_marked, with_state, with_exiting, with_mark}

@@ -7,7 +7,7 @@ use Rattle.program_tree.specs.declared.event.Proc.TheVariants.{Own, Etimer, Ctim
 use Rattle.program_tree.specs.declared.event.SystemEvent.TheVariants.{Init}
 use Rattle.process_kernel.specs.declared.process.ProcessState.{ProcessState}
 use Rattle.process_kernel.specs.declared.process.ProcessState.TheVariants.{Off, Running, Called}
-use Rattle.process_kernel.specs.declared.line.What.TheVariants as what
+use Rattle.trace_lines.specs.declared.line.What.TheVariants as what
 use Rattle.process_kernel.specs.State.{State, Went, Ends, Goes}
 use Rattle.process_kernel.specs.Processes.{is_alive, is_listed, is_busy, has_process, with_state}
 use Rattle.process_kernel.specs.ProcessList.{with_fresh_process, enlist_of}

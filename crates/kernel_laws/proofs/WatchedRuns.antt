@@ -13,7 +13,7 @@ use Rattle.event_queue.specs.Queue.{without_front}
 use Rattle.process_kernel.specs.declared.process.ProcessState.{ProcessState}
 use Rattle.process_kernel.specs.declared.process.ProcessState.TheVariants.{Off, Running, Called}
 use Rattle.process_kernel.specs.declared.process.Member.{Member}
-use Rattle.process_kernel.specs.declared.line.What.TheVariants as what
+use Rattle.trace_lines.specs.declared.line.What.TheVariants as what
 use Rattle.process_kernel.specs.Members.{place_of}
 use Rattle.process_kernel.specs.State.{State, Outcome, Went, Ends, Goes}
 use Rattle.process_kernel.specs.Processes.{is_alive, is_running, is_running_state, is_called_state, process_state, is_marked, is_listed, is_on_list, has_process, with_mark}

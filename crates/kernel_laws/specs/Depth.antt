@@ -5,7 +5,7 @@ use Rattle.program_tree.specs.declared.event.Event.{Event}
 use Rattle.program_tree.specs.Code.{Code}
 use Rattle.protothread.specs.Remainder.{Remainder}
 use Rattle.radio_packet.specs.declared.sent.Sent.{Sent}
-use Rattle.process_kernel.specs.declared.line.Line.{Line}
+use Rattle.trace_lines.specs.declared.line.Line.{Line}
 use Rattle.process_kernel.specs.State.{State}
 use Rattle.process_kernel.specs.Call.{calls_of}
 use Rattle.process_kernel.specs.Mote.{Mote}
@@ -29,9 +29,11 @@ ThreadsAreAnyDepth =
 abbrev pub BootsAreAnyDepth : Type 0
 BootsAreAnyDepth =
     (depth moment : ℕ) (m : Mote) (lines : List Line) (sends : List Sent) → most_units < depth
-    → boot_given moment m lines sends ≡ unless_halted m lines sends (given (boot_of (calls_of depth) (begun m moment lines sends)))
+    → boot_given moment m lines sends
+    ≡ unless_halted m lines sends (given (boot_of (calls_of depth) (begun m moment lines sends)))
 
 abbrev pub RunsAreAnyDepth : Type 0
 RunsAreAnyDepth =
     (depth moment : ℕ) (m : Mote) (lines : List Line) (sends : List Sent) → most_units < depth
-    → run_given moment m lines sends ≡ unless_halted m lines sends (given (kernel_of (calls_of depth) (begun m moment lines sends)))
+    → run_given moment m lines sends
+    ≡ unless_halted m lines sends (given (kernel_of (calls_of depth) (begun m moment lines sends)))

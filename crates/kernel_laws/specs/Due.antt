@@ -11,9 +11,9 @@ use Rattle.program_tree.specs.Code.{Tree}
 use Rattle.mote_timers.specs.Numbers.{is_member}
 use Rattle.mote_timers.specs.Timer.{is_due}
 use Rattle.mote_timers.specs.TimerLists.{TimerLists, timer_at}
-use Rattle.process_kernel.specs.declared.line.Line.{Line}
+use Rattle.trace_lines.specs.declared.line.Line.{Line}
 use Rattle.radio_packet.specs.declared.sent.Sent.{Sent}
-use Rattle.process_kernel.specs.declared.line.What.{What}
+use Rattle.trace_lines.specs.declared.line.What.{What}
 use Rattle.process_kernel.specs.Run.{most_units}
 use Rattle.process_kernel.specs.State.{State, Goes}
 use Rattle.process_kernel.specs.Processes.{is_listed}
@@ -43,7 +43,8 @@ HaveOwners l = (timer : ℕ) → is_member timer l.listed ≡ true → IsSome (t
 abbrev pub ForgetsNone : (moment : ℕ) → State → Type 0
 ForgetsNone moment s = NoneIsDue moment s.timers ⊎ PollWaits Etimer s
 
--- what holds of a kernel between its runs: etimer and the radio process can be polled and never leave, and no process is in a call
+-- what holds of a kernel between its runs: etimer and the radio process can be polled and never leave, and no process
+-- is in a call
 pub record IsAtRest (s : State) : Type 0 where
   pub sound : SystemStays s
   pub step : IsInStep s
@@ -63,35 +64,42 @@ pub record HasTelling (moment : ℕ) (lines : List Line) (target : Target) (numb
 -- Whatever a call does in its turn: where no timer was forgotten before, none is forgotten after it.
 abbrev pub CallsForgetNone : Type 0
 CallsForgetNone =
-    (depth : ℕ) (s t : State) (p : Proc) (e : Event) → FitsTarget (One p) e.number → CanBePolled Etimer s → ForgetsNone s.moment s → (calls_of depth).call s p e ≡ Goes tt t
+    (depth : ℕ) (s t : State) (p : Proc) (e : Event) → FitsTarget (One p) e.number → CanBePolled Etimer s
+    → ForgetsNone s.moment s → (calls_of depth).call s p e ≡ Goes tt t
     → ForgetsNone t.moment t
 
 -- a mote that was booted is at rest, with no timer forgotten
 abbrev pub BootForgetsNone : Type 0
 BootForgetsNone =
-    (program : Tree) (mote queue moment : ℕ) (lines : List Line) (sends : List Sent) → let m = (boot_given moment (unbooted program mote queue) lines sends).mote in
+    (program : Tree) (mote queue moment : ℕ) (lines : List Line) (sends : List Sent)
+    → let m = (boot_given moment (unbooted program mote queue) lines sends).mote in
     m.halted ≡ false → IsAtRest m.state × ForgetsNone moment m.state
 
 -- and so is one after a kernel run, where it was before
 abbrev pub RunForgetsNone : Type 0
 RunForgetsNone =
-    (moment : ℕ) (m : Mote) (lines : List Line) (sends : List Sent) → IsAtRest m.state → ForgetsNone moment m.state → let after = (run_given moment m lines sends).mote in
+    (moment : ℕ) (m : Mote) (lines : List Line) (sends : List Sent) → IsAtRest m.state → ForgetsNone moment m.state
+    → let after = (run_given moment m lines sends).mote in
     after.halted ≡ false → IsAtRest after.state × ForgetsNone moment after.state
 
 -- boots and kernel runs keep that each timer on the list has an owner, also where the mote halts
 abbrev pub BootKeepsOwners : Type 0
-BootKeepsOwners = (moment : ℕ) (m : Mote) (lines : List Line) (sends : List Sent) → HaveOwners m.state.timers → HaveOwners (boot_given moment m lines sends).mote.state.timers
+BootKeepsOwners = (moment : ℕ) (m : Mote) (lines : List Line) (sends : List Sent) → HaveOwners m.state.timers
+    → HaveOwners (boot_given moment m lines sends).mote.state.timers
 
 abbrev pub RunKeepsOwners : Type 0
-RunKeepsOwners = (moment : ℕ) (m : Mote) (lines : List Line) (sends : List Sent) → HaveOwners m.state.timers → HaveOwners (run_given moment m lines sends).mote.state.timers
+RunKeepsOwners = (moment : ℕ) (m : Mote) (lines : List Line) (sends : List Sent) → HaveOwners m.state.timers
+    → HaveOwners (run_given moment m lines sends).mote.state.timers
 
--- Lines that a run added behind those before: one of them tells of each timer that is due in this state.
+-- Lines that a run appended: one of them tells of each timer that is due in this state.
 pub record TellsDue (moment : ℕ) (u : State) (lines after : List Line) : Type 0 where
   pub added : List Line
   pub wrote : after ≡ lines ++ added
-  pub each : (timer : ℕ) (owner : Proc) → IsDueFor moment u.timers timer owner → HasTelling moment added (One owner) (system_number Timer) timer
+  pub each : (timer : ℕ) (owner : Proc) → IsDueFor moment u.timers timer owner
+      → HasTelling moment added (One owner) (system_number Timer) timer
 
--- the polls of a run that begins like this come to etimer, and each timer that is due then has its line, unless the mote halts
+-- the polls of a run that begins like this come to etimer, and each timer that is due then has its line, unless the
+-- mote halts
 pub record PollsEtimer (moment : ℕ) (s : State) (lines after : List Line) : Type 0 where
   pub at_turn : State
   pub comes : polls_before Etimer (calls_of (most_units + 1)) s ≡ Goes tt at_turn
@@ -100,5 +108,6 @@ pub record PollsEtimer (moment : ℕ) (s : State) (lines after : List Line) : Ty
 -- a kernel run in which a poll of etimer waits polls it, and each timer that is due then is told of
 abbrev pub RunTellsDue : Type 0
 RunTellsDue =
-    (moment : ℕ) (m : Mote) (lines : List Line) (sends : List Sent) → m.halted ≡ false → IsAtRest m.state → PollWaits Etimer m.state → let g = run_given moment m lines sends in
+    (moment : ℕ) (m : Mote) (lines : List Line) (sends : List Sent) → m.halted ≡ false → IsAtRest m.state
+    → PollWaits Etimer m.state → let g = run_given moment m lines sends in
     g.mote.halted ≡ false → PollsEtimer moment (begun m moment lines sends) lines g.lines

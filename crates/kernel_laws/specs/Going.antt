@@ -1,4 +1,4 @@
--- Whether the lines of a mote so far go with the mote as it stands.
+-- Whether the lines of a mote so far go with the current mote.
 use Rattle.std.specs.Prelude.{Bool, true, false, ◌≡◌, List, [], ◌++◌}
 use Rattle.std.specs.List.{All}
 use Rattle.handed_on.specs.HandedOn.{HandedOn}
@@ -6,9 +6,9 @@ use Rattle.handed_on.specs.StartsAndHalts.{HaltIsLast, StartsTheUnlisted}
 use Rattle.handed_on.specs.View as view
 use Rattle.handed_on.specs.View.{HasHalted}
 use Rattle.program_tree.specs.declared.event.Proc.TheVariants.{Etimer}
-use Rattle.process_kernel.specs.declared.line.Line.{Line}
-use Rattle.process_kernel.specs.declared.line.What.{What}
-use Rattle.process_kernel.specs.declared.line.What.TheVariants as what
+use Rattle.trace_lines.specs.declared.line.Line.{Line}
+use Rattle.trace_lines.specs.declared.line.What.{What}
+use Rattle.trace_lines.specs.declared.line.What.TheVariants as what
 use Rattle.process_kernel.specs.State.{State}
 use Rattle.process_kernel.specs.Processes.{has_process, is_busy, is_listed}
 use Rattle.process_kernel.specs.Mote.{Mote}
@@ -44,8 +44,8 @@ GoesWithAs false true lines s = ⊥
 GoesWithAs true false lines s = StandsBooted lines s
 GoesWithAs true true lines s = HasHalted (seen_lines lines)
 
--- The lines of a mote are a run of the delivery machine: to where the mote stands, or to its halt. No mote halts before it
--- is booted.
+-- The lines of a mote are a run of the delivery machine: to where the mote stands, or to its halt. No mote halts
+-- before it is booted.
 abbrev pub GoesWith : List Line → Mote → Type 0
 GoesWith lines m = GoesWithAs m.booted m.halted lines m.state
 

@@ -18,8 +18,8 @@ exiting_at s k = unwrap_or (slice_get s.exiting k) false
 abbrev pub listed_in : List Member → (place : ℕ) → Bool
 listed_in ms k = list_any (λ m. k == place_of m.process) ms
 
--- A process that is running or called is on the list and is not being exited; of the others, those that are being exited
--- are on the list.
+-- A process that is running or called is on the list and is not being exited; of the others, those that are being
+-- exited are on the list.
 abbrev pub AreInStep : ProcessState → (is_exiting is_listed : Bool) → Type 0
 AreInStep Off exiting listed = exiting ≡ listed
 AreInStep Running exiting listed = (exiting ≡ false) × (listed ≡ true)

@@ -4,7 +4,7 @@ use Rattle.program_tree.specs.declared.event.Proc.{Proc}
 use Rattle.program_tree.specs.declared.event.Event.{Event}
 use Rattle.program_tree.specs.Code.{Tree}
 use Rattle.radio_packet.specs.declared.arrival.Arrival.{Arrival}
-use Rattle.process_kernel.specs.declared.line.Line.{Line}
+use Rattle.trace_lines.specs.declared.line.Line.{Line}
 use Rattle.radio_packet.specs.declared.sent.Sent.{Sent}
 use Rattle.process_kernel.specs.State.{State, Goes}
 use Rattle.process_kernel.specs.Processes.{is_running, is_listed}
@@ -18,7 +18,8 @@ use Rattle.kernel_laws.specs.Traces.{KernelCall, after_calls, booted_at, trace_o
 
 -- whatever the program is, and whatever calls follow the boot
 abbrev pub KernelsHandOn : Type 0
-KernelsHandOn = (program : Tree) (mote queue moment : ℕ) (calls : List KernelCall) → IsInOrder (trace_of program mote queue moment calls)
+KernelsHandOn = (program : Tree) (mote queue moment : ℕ) (calls : List KernelCall)
+    → IsInOrder (trace_of program mote queue moment calls)
 
 -- Lines that go with a mote are in order, and each call of its kernel keeps that they go with it.
 
@@ -30,11 +31,13 @@ NoLinesGoFirst = (program : Tree) (mote queue : ℕ) → GoesWith [] (unbooted p
 
 abbrev pub BootAddsItsLines : Type 0
 BootAddsItsLines =
-    (lines : List Line) (m : Mote) (moment : ℕ) (before : List Line) (sends : List Sent) → m.booted ≡ false → GoesWith lines m → Adds lines before (boot_given moment m before sends)
+    (lines : List Line) (m : Mote) (moment : ℕ) (before : List Line) (sends : List Sent) → m.booted ≡ false
+    → GoesWith lines m → Adds lines before (boot_given moment m before sends)
 
 abbrev pub RunAddsItsLines : Type 0
 RunAddsItsLines =
-    (lines : List Line) (m : Mote) (moment : ℕ) (before : List Line) (sends : List Sent) → m.booted ≡ true → GoesWith lines m → Adds lines before (run_given moment m before sends)
+    (lines : List Line) (m : Mote) (moment : ℕ) (before : List Line) (sends : List Sent) → m.booted ≡ true
+    → GoesWith lines m → Adds lines before (run_given moment m before sends)
 
 abbrev pub PollKeeps : Type 0
 PollKeeps = (lines : List Line) (m : Mote) (p : Proc) → GoesWith lines m → GoesWith lines (with_poll m p)
@@ -43,33 +46,40 @@ abbrev pub PacketKeeps : Type 0
 PacketKeeps = (lines : List Line) (m : Mote) (a : Arrival) → GoesWith lines m → GoesWith lines (with_packet m a)
 
 abbrev pub NoteKeeps : Type 0
-NoteKeeps = (lines : List Line) (m : Mote) (l : Line) → m.halted ≡ false → IsNote l.what → GoesWith lines m → GoesWith (lines ++ l ∷ []) m
+NoteKeeps = (lines : List Line) (m : Mote) (l : Line) → m.halted ≡ false → IsNote l.what → GoesWith lines m
+    → GoesWith (lines ++ l ∷ []) m
 
 -- Processes are called only while they are running, and those that are running or called are on the process list.
 
 -- for a process that is not running the event is lost
 abbrev pub OnlyTheRunningAreCalled : Type 0
-OnlyTheRunningAreCalled = (depth : ℕ) (s : State) (p : Proc) (e : Event) → is_running s p ≡ false → (calls_of (depth + 1)).call s p e ≡ Goes tt s
+OnlyTheRunningAreCalled = (depth : ℕ) (s : State) (p : Proc) (e : Event) → is_running s p ≡ false
+    → (calls_of (depth + 1)).call s p e ≡ Goes tt s
 
 -- whatever a call does in its turn, it keeps the process list and the states in step, and who was busy stays so
 abbrev pub CallsKeepStep : Type 0
-CallsKeepStep = (depth : ℕ) (s t : State) (p : Proc) (e : Event) → IsInStep s → (calls_of depth).call s p e ≡ Goes tt t → IsInStep t × IsAsBusy s t
+CallsKeepStep = (depth : ℕ) (s t : State) (p : Proc) (e : Event) → IsInStep s → (calls_of depth).call s p e ≡ Goes tt t
+    → IsInStep t × IsAsBusy s t
 
 -- between the calls of a kernel that has not halted, the processes on the list are running, and no others
 abbrev pub ListedAreRunning : Type 0
 ListedAreRunning =
-    (program : Tree) (mote queue moment : ℕ) (calls : List KernelCall) → let m = (after_calls (booted_at program mote queue moment) calls).mote in
+    (program : Tree) (mote queue moment : ℕ) (calls : List KernelCall)
+    → let m = (after_calls (booted_at program mote queue moment) calls).mote in
     m.halted ≡ false → (p : Proc) → is_running m.state p ≡ is_listed m.state p
 
--- Whatever is written bears the moment of the boot or the run, also where the mote halts.
+-- Whatever is written is stamped with the moment of the boot or the run, also where the mote halts.
 
--- whatever a call does in its turn, the moment stays, and each line and packet bears it
+-- whatever a call does in its turn, the moment stays, and each line and packet is stamped with it
 abbrev pub CallsStamp : Type 0
 CallsStamp =
-    (depth : ℕ) (s : State) (p : Proc) (e : Event) → let t = state_after ((calls_of depth).call s p e) in Stamped s.moment s t × (t.moment ≡ s.moment)
+    (depth : ℕ) (s : State) (p : Proc) (e : Event) → let t = state_after ((calls_of depth).call s p e) in
+    Stamped s.moment s t × (t.moment ≡ s.moment)
 
 abbrev pub BootStamps : Type 0
-BootStamps = (moment : ℕ) (m : Mote) (lines : List Line) (sends : List Sent) → GivesStamped moment m lines sends (boot_given moment m lines sends)
+BootStamps = (moment : ℕ) (m : Mote) (lines : List Line) (sends : List Sent)
+    → GivesStamped moment m lines sends (boot_given moment m lines sends)
 
 abbrev pub RunStamps : Type 0
-RunStamps = (moment : ℕ) (m : Mote) (lines : List Line) (sends : List Sent) → GivesStamped moment m lines sends (run_given moment m lines sends)
+RunStamps = (moment : ℕ) (m : Mote) (lines : List Line) (sends : List Sent)
+    → GivesStamped moment m lines sends (run_given moment m lines sends)

@@ -11,9 +11,9 @@ use Rattle.mote_timers.specs.Numbers.{is_member}
 use Rattle.mote_timers.specs.Timer.{is_due}
 use Rattle.mote_timers.specs.TimerLists.{timer_at}
 use Rattle.radio_packet.specs.declared.arrival.Arrival.{Arrival}
-use Rattle.process_kernel.specs.declared.line.Line.{Line}
-use Rattle.process_kernel.specs.declared.line.What.{What}
-use Rattle.process_kernel.specs.declared.line.What.TheVariants as what
+use Rattle.trace_lines.specs.declared.line.Line.{Line}
+use Rattle.trace_lines.specs.declared.line.What.{What}
+use Rattle.trace_lines.specs.declared.line.What.TheVariants as what
 use Rattle.process_kernel.specs.State.{State, Goes}
 use Rattle.process_kernel.specs.Calls.{is_system_event}
 use Rattle.process_kernel.specs.Etimer.{etimer_of}
@@ -47,7 +47,8 @@ pub record EmptiesRing (s t : State) : Type 0 where
 
 -- each packet that was accepted into the ring is posted to the receiver once, in order, or nobody hears it
 abbrev pub PacketsAreHanded : Type 0
-PacketsAreHanded = (s t : State) (e : Event) → is_system_event Poll e ≡ true → radio_of s e ≡ Goes tt t → EmptiesRing s t
+PacketsAreHanded = (s t : State) (e : Event) → is_system_event Poll e ≡ true → radio_of s e ≡ Goes tt t
+    → EmptiesRing s t
 
 -- one of the lines between the two states tells of this post
 pub record TellsOfPost (s t : State) (target : Target) (number word : ℕ) : Type 0 where
@@ -61,5 +62,6 @@ pub record TellsOfPost (s t : State) (target : Target) (number word : ℕ) : Typ
 abbrev pub TimersAreTold : Type 0
 TimersAreTold =
     (s t : State) (e : Event) (timer : ℕ) (owner : Proc) → is_system_event Poll e ≡ true → etimer_of s e ≡ Goes tt t
-    → is_member timer s.timers.listed ≡ true → is_due s.moment (timer_at s.timers.timers timer) ≡ true → (timer_at s.timers.timers timer).owner ≡ Some owner
+    → is_member timer s.timers.listed ≡ true → is_due s.moment (timer_at s.timers.timers timer) ≡ true
+    → (timer_at s.timers.timers timer).owner ≡ Some owner
     → TellsOfPost s t (One owner) (system_number Timer) timer

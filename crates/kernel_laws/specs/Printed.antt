@@ -4,14 +4,16 @@ use Rattle.std.specs.List.{filter}
 use Rattle.program_tree.specs.declared.event.Proc.{Proc}
 use Rattle.program_tree.specs.declared.event.Proc.TheVariants.{Own}
 use Rattle.program_tree.specs.declared.event.SystemEvent.TheVariants.{Init}
-use Rattle.program_tree.specs.Tree.{Action, assign, print, spawn, post, broadcast, Statement, does, branch, while, Body, end, next, Otherwise, nothing, otherwise, listed}
+use Rattle.program_tree.specs.Tree.{Action, assign, print, spawn, post, broadcast, Statement, does, branch, while, Body}
+use Rattle.program_tree.specs.Tree.{end, next, Otherwise, nothing, otherwise, listed}
 use Rattle.program_tree.specs.Code.{Code, Tree}
 use Rattle.protothread.specs.declared.state.PtState.TheVariants.{Yielded}
 use Rattle.protothread.specs.declared.step.Op.TheVariants as op
-use Rattle.protothread.specs.Reading.{Sight, Happening, operates, gives_up, Completion, done, restarts, exits, stands, ReadsThread}
-use Rattle.process_kernel.specs.declared.line.Line.{Line}
-use Rattle.process_kernel.specs.declared.line.What.{What}
-use Rattle.process_kernel.specs.declared.line.What.TheVariants as what
+use Rattle.protothread.specs.Reading.{Sight, Happening, operates, gives_up, Completion, done, restarts, exits, stands}
+use Rattle.protothread.specs.Reading.{ReadsThread}
+use Rattle.trace_lines.specs.declared.line.Line.{Line}
+use Rattle.trace_lines.specs.declared.line.What.{What}
+use Rattle.trace_lines.specs.declared.line.What.TheVariants as what
 use Rattle.process_kernel.specs.Members.{is_same}
 use Rattle.process_kernel.specs.Calls.{told}
 use Rattle.kernel_laws.specs.Traces.{KernelCall, after_calls, booted_at}
@@ -48,8 +50,8 @@ abbrev pub is_quiet_block : Option (Body ℕ) → Bool
 is_quiet_block None = true
 is_quiet_block (Some b) = is_quiet b
 
--- Apart from its body a process is quiet, in the blocks that are run at POLL and at EXIT, and in those of its callback timers. Else these would
--- print in its name too, and change its variables between the calls of its body.
+-- Apart from its body a process is quiet, in the blocks that are run at POLL and at EXIT, and in those of its callback
+-- timers. Else these would print in its name too, and change its variables between the calls of its body.
 pub record IsQuietApart (code : Code) : Type 0 where
   pub at_poll : is_quiet_block code.on_poll ≡ true
   pub at_exit : is_quiet_block code.on_exit ≡ true
@@ -65,7 +67,8 @@ is_told_of p w = false
 abbrev pub starts_and_prints : Proc → List Line → List Line
 starts_and_prints p lines = filter (λ l. is_told_of p l.what) lines
 
--- what a process prints where it is shown these sights, and does this: a line for each print, at the moment at which it is seen
+-- what a process prints where it is shown these sights, and does this: a line for each print, at the moment at which
+-- it is seen
 abbrev pub printed : Proc → Sight → Happening → List Line
 printed p now (operates (op.Print v)) = record { at = now.looks.moment; what = what.Print p v } ∷ []
 printed p now h = []
@@ -75,8 +78,8 @@ prints p [] did = []
 prints p (now ∷ later) [] = []
 prints p (now ∷ later) (h ∷ did) = printed p now h ++ prints p later did
 
--- Behind an operation a process is shown the same event at the same moment, since it is still in the same call, and it is told 0, or 1 for a
--- full queue.
+-- Behind an operation a process is shown the same event at the same moment, since it is still in the same call, and it
+-- is told 0, or 1 for a full queue.
 pub record IsSameCall (now then : Sight) : Type 0 where
   pub event : then.event ≡ now.event
   pub moment : then.looks.moment ≡ now.looks.moment
@@ -86,12 +89,13 @@ abbrev pub IsShownThen : Happening → Sight → Sight → Type 0
 IsShownThen (operates o) now then = IsSameCall now then
 IsShownThen (gives_up a) now then = Unit {0}
 
--- such sights, one behind another, of this mote
+-- such sights, one after another, of this mote
 abbrev pub AreShown : (mote : ℕ) → List Sight → List Happening → Type 0
 AreShown mote [] did = Unit {0}
 AreShown mote (now ∷ []) did = now.looks.mote ≡ mote
 AreShown mote (now ∷ then ∷ later) [] = ⊥
-AreShown mote (now ∷ then ∷ later) (h ∷ did) = (now.looks.mote ≡ mote) × IsShownThen h now then × AreShown mote (then ∷ later) did
+AreShown mote (now ∷ then ∷ later) (h ∷ did) = (now.looks.mote ≡ mote) × IsShownThen h now then
+    × AreShown mote (then ∷ later) did
 
 -- the variables that a reading leaves
 abbrev pub left_by : Completion → List ℕ
@@ -100,8 +104,8 @@ left_by (restarts now later variables) = variables
 left_by (exits now later variables) = variables
 left_by (stands variables) = variables
 
--- One life of a process that starts with these variables: it is shown these sights, INIT first, and does what its body says, read by its
--- structure.
+-- One life of a process that starts with these variables: it is shown these sights, INIT first, and does what its body
+-- says, read by its structure.
 pub record Life (code : Code) (mote : ℕ) (variables : List ℕ) : Type 0 where
   pub now : Sight
   pub later : List Sight
@@ -122,28 +126,33 @@ pub data Lives (code : Code) (p : Proc) (mote : ℕ) (variables : List ℕ) : Li
       → Lives code p mote variables lines left → (life : Life code mote left)
       → Lives code p mote variables (lines ++ lines_of p life) (left_by life.became)
 
--- What is told of a process at any time: its lives, of which the last may not be over; or these and one more start, behind which it has not
--- done anything yet.
+-- What is told of a process at any time: its lives, of which the last may not be over; or these and one more start,
+-- after which it has not done anything yet.
 pub data LivesSoFar (code : Code) (p : Proc) (mote : ℕ) (variables : List ℕ) : List Line → Type 0 where
-  Told : {lines : List Line} {left : List ℕ} → Lives code p mote variables lines left → LivesSoFar code p mote variables lines
+  Told : {lines : List Line} {left : List ℕ} → Lives code p mote variables lines left
+      → LivesSoFar code p mote variables lines
   HasStarted : {lines : List Line} {left : List ℕ} → Lives code p mote variables lines left → (moment : ℕ)
       → LivesSoFar code p mote variables (lines ++ record { at = moment; what = what.Start p } ∷ [])
 
 -- the starts and the prints among these lines are those of lives of the process, in which it came to these variables
 abbrev pub TellsLives : Code → (p mote : ℕ) → List Line → (variables : Option (List ℕ)) → Type 0
-TellsLives code p mote lines variables = (left : List ℕ) × (variables ≡ Some left) × Lives code (Own p) mote code.starts (starts_and_prints (Own p) lines) left
+TellsLives code p mote lines variables = (left : List ℕ) × (variables ≡ Some left)
+    × Lives code (Own p) mote code.starts (starts_and_prints (Own p) lines) left
 
--- A process that is quiet apart from its body prints, from each start on, what a reading of its body does, whatever the others do, and whatever calls
--- follow the boot, as long as the mote doesn't halt.
+-- A process that is quiet apart from its body prints, from each start on, what a reading of its body does, whatever
+-- the others do, and whatever calls follow the boot, as long as the mote doesn't halt.
 abbrev pub PrintsAreTheReading : Type 0
 PrintsAreTheReading =
-    (program : Tree) (p : ℕ) (code : Code) (mote queue moment : ℕ) (calls : List KernelCall) → slice_get program.codes p ≡ Some code → IsQuietApart code →
+    (program : Tree) (p : ℕ) (code : Code) (mote queue moment : ℕ) (calls : List KernelCall)
+    → slice_get program.codes p ≡ Some code → IsQuietApart code →
     let t = after_calls (booted_at program mote queue moment) calls in
     t.mote.halted ≡ false → TellsLives code p mote t.lines (slice_get t.mote.state.variables p)
 
--- and up to the line with which it halts, where it does: what it printed by then in its last life is what a reading does by then
+-- and up to the line with which it halts, where it does: what it printed by then in its last life is what a reading
+-- does by then
 abbrev pub PrintsSoFarAreTheReading : Type 0
 PrintsSoFarAreTheReading =
-    (program : Tree) (p : ℕ) (code : Code) (mote queue moment : ℕ) (calls : List KernelCall) → slice_get program.codes p ≡ Some code → IsQuietApart code →
+    (program : Tree) (p : ℕ) (code : Code) (mote queue moment : ℕ) (calls : List KernelCall)
+    → slice_get program.codes p ≡ Some code → IsQuietApart code →
     let t = after_calls (booted_at program mote queue moment) calls in
     LivesSoFar code (Own p) mote code.starts (starts_and_prints (Own p) t.lines)

@@ -5,10 +5,10 @@ use Rattle.program_tree.specs.declared.event.Proc.{Proc}
 use Rattle.program_tree.specs.declared.event.Proc.TheVariants.{Radio}
 use Rattle.program_tree.specs.declared.event.Event.{Event}
 use Rattle.radio_packet.specs.declared.arrival.Arrival.{Arrival}
-use Rattle.process_kernel.specs.declared.line.Line.{Line}
+use Rattle.trace_lines.specs.declared.line.Line.{Line}
 use Rattle.radio_packet.specs.declared.sent.Sent.{Sent}
-use Rattle.process_kernel.specs.declared.line.What.{What}
-use Rattle.process_kernel.specs.declared.line.What.TheVariants as what
+use Rattle.trace_lines.specs.declared.line.What.{What}
+use Rattle.trace_lines.specs.declared.line.What.TheVariants as what
 use Rattle.process_kernel.specs.State.{State, Outcome, Ends, Goes}
 use Rattle.process_kernel.specs.Call.{calls_of}
 use Rattle.process_kernel.specs.Mote.{Mote}
@@ -25,10 +25,10 @@ IsApart (what.Lost f n) = ⊥
 IsApart (what.Deaf f n) = ⊥
 IsApart w = Unit {0}
 
--- Lines in their order, beside a ring that first holds these packets, the oldest in front, and at last those that are left. A
--- packet that is received goes to the back, where the ring of 8 has room; one is lost only where it has none. A packet leaves from
--- the front, and its line is there: it was posted to the receiver, the receiver's queue was full, or nobody hears it. Each line that
--- tells of a received, a lost or an unheard packet is one of these.
+-- Lines in their order, beside a ring that first holds these packets, the oldest in front, and at last those that are
+-- left. A packet that is received goes to the back, where the ring of 8 has room; one is lost only where it has none.
+-- A packet leaves from the front, and its line is there: it was posted to the receiver, the receiver's queue was full,
+-- or nobody hears it. Each line that tells of a received, a lost or an unheard packet is one of these.
 pub data RingRuns (receiver : Option ℕ) : List Arrival → List Line → List Arrival → Type 0 where
   NoneMore : {ring : List Arrival} → RingRuns receiver ring [] ring
   Receives : {ring left : List Arrival} {lines : List Line} {moment : ℕ} (a : Arrival)
@@ -41,10 +41,11 @@ pub data RingRuns (receiver : Option ℕ) : List Arrival → List Line → List 
       → TellsPacket receiver a w → RingRuns receiver later lines left
       → RingRuns receiver (a ∷ later) (record { at = moment; what = w } ∷ lines) left
   Passes : {ring left : List Arrival} {lines : List Line} {moment : ℕ} {w : What}
-      → IsApart w → RingRuns receiver ring lines left → RingRuns receiver ring (record { at = moment; what = w } ∷ lines) left
+      → IsApart w → RingRuns receiver ring lines left
+      → RingRuns receiver ring (record { at = moment; what = w } ∷ lines) left
 
--- from one state to a later one lines were added, beside which the ring goes from what it held to what it holds; none is of a packet that
--- arrives
+-- from one state to a later one lines were added, beside which the ring goes from what it held to what it holds; none
+-- is of a packet that arrives
 pub record RingGoes (s t : State) : Type 0 where
   pub added : List Line
   pub wrote : t.lines ≡ s.lines ++ added
@@ -69,8 +70,8 @@ RingLeads s (Goes a t) = RingGoes s t
 abbrev pub CallsTellPackets : Type 0
 CallsTellPackets = (depth : ℕ) (s : State) (p : Proc) (e : Event) → RingLeads s ((calls_of depth).call s p e)
 
--- beside the lines that a boot or a run adds, the ring goes from what it held to what it holds, unless the mote has halted; none is of a
--- packet that arrives
+-- beside the lines that a boot or a run adds, the ring goes from what it held to what it holds, unless the mote has
+-- halted; none is of a packet that arrives
 pub record GivesPackets (m : Mote) (lines : List Line) (g : Given) : Type 0 where
   pub added : List Line
   pub wrote : g.lines ≡ lines ++ added
@@ -81,13 +82,16 @@ pub record GivesPackets (m : Mote) (lines : List Line) (g : Given) : Type 0 wher
   pub program : g.mote.state.program ≡ m.state.program
 
 abbrev pub BootTellsPackets : Type 0
-BootTellsPackets = (moment : ℕ) (m : Mote) (lines : List Line) (sends : List Sent) → GivesPackets m lines (boot_given moment m lines sends)
+BootTellsPackets = (moment : ℕ) (m : Mote) (lines : List Line) (sends : List Sent)
+    → GivesPackets m lines (boot_given moment m lines sends)
 
 abbrev pub RunTellsPackets : Type 0
-RunTellsPackets = (moment : ℕ) (m : Mote) (lines : List Line) (sends : List Sent) → GivesPackets m lines (run_given moment m lines sends)
+RunTellsPackets = (moment : ℕ) (m : Mote) (lines : List Line) (sends : List Sent)
+    → GivesPackets m lines (run_given moment m lines sends)
 
 -- A kernel run leaves no packet in the ring, where none was there before, or a poll of the radio process waited.
 abbrev pub RunEmptiesRing : Type 0
 RunEmptiesRing =
-    (moment : ℕ) (m : Mote) (lines : List Line) (sends : List Sent) → IsAtRest m.state → (m.state.ring ≡ []) ⊎ PollWaits Radio m.state → let g = run_given moment m lines sends in
+    (moment : ℕ) (m : Mote) (lines : List Line) (sends : List Sent) → IsAtRest m.state → (m.state.ring ≡ [])
+    ⊎ PollWaits Radio m.state → let g = run_given moment m lines sends in
     g.mote.halted ≡ false → g.mote.state.ring ≡ []

@@ -7,9 +7,9 @@ use Rattle.handed_on.specs.View.{View}
 use Rattle.program_tree.specs.declared.event.Target.{Target}
 use Rattle.program_tree.specs.declared.event.Target.TheVariants.{One, All}
 use Rattle.event_queue.specs.declared.queue.Posted.{Posted}
-use Rattle.process_kernel.specs.declared.line.Line.{Line}
-use Rattle.process_kernel.specs.declared.line.What.{What}
-use Rattle.process_kernel.specs.declared.line.What.TheVariants as what
+use Rattle.trace_lines.specs.declared.line.Line.{Line}
+use Rattle.trace_lines.specs.declared.line.What.{What}
+use Rattle.trace_lines.specs.declared.line.What.TheVariants as what
 use Rattle.process_kernel.specs.declared.process.Member.{Member}
 use Rattle.process_kernel.specs.Members.{place_of}
 use Rattle.process_kernel.specs.State.{State}
@@ -40,4 +40,9 @@ abbrev pub seen_posted : Posted → Waiting
 seen_posted x = record { serial = x.serial; target = seen_target x.target }
 
 abbrev pub view_of : State → View
-view_of s = record { list = map seen_member s.members; numbered = s.started; queue = map seen_posted s.queue.events; accepted = s.queue.accepted }
+view_of s = record {
+  list = map seen_member s.members;
+  numbered = s.started;
+  queue = map seen_posted s.queue.events;
+  accepted = s.queue.accepted;
+}

@@ -1,17 +1,17 @@
--- What is written bears its moment, and packets are numbered on.
+-- What is written is stamped with its moment, and packets are numbered on.
 use Rattle.std.specs.Prelude.{ℕ, ◌≡◌, ◌+◌, List, ◌++◌, length, map, All}
 use Rattle.std.specs.List.{range_with_len}
-use Rattle.process_kernel.specs.declared.line.Line.{Line}
+use Rattle.trace_lines.specs.declared.line.Line.{Line}
 use Rattle.radio_packet.specs.declared.sent.Sent.{Sent}
 use Rattle.process_kernel.specs.State.{State, Outcome, Ends, Goes}
 use Rattle.process_kernel.specs.Mote.{Mote}
 use Rattle.process_kernel.specs.Public.{Given}
 
--- each of these lines bears the moment
+-- each of these lines is stamped with the moment
 abbrev pub LinesBear : (moment : ℕ) → List Line → Type 0
 LinesBear moment lines = All (λ l. l.at ≡ moment) lines
 
--- each of these packets bears the moment and the mote that sent it
+-- each of these packets is stamped with the moment and the mote that sent it
 abbrev pub PacketsBear : (moment mote : ℕ) → List Sent → Type 0
 PacketsBear moment mote sends = All (λ x. (x.at ≡ moment) × (x.sender ≡ mote)) sends
 
@@ -19,8 +19,9 @@ PacketsBear moment mote sends = All (λ x. (x.at ≡ moment) × (x.sender ≡ mo
 abbrev pub AreNumberedFrom : (first : ℕ) → List Sent → Type 0
 AreNumberedFrom first sends = map (λ x. x.number) sends ≡ range_with_len first (length sends)
 
--- From one state to a later one, each line and each packet that was written bears the moment, the packets the mote too; these
--- are numbered on from how many were sent before, and are counted; the mote's number and its program stay.
+-- From one state to a later one, each line and each packet that was written is stamped with the moment, the packets
+-- with the mote too; these are numbered on from how many were sent before, and are counted; the mote's number and its
+-- program stay.
 pub record Stamped (moment : ℕ) (s t : State) : Type 0 where
   pub lines : List Line
   pub wrote : t.lines ≡ s.lines ++ lines

@@ -1,5 +1,6 @@
--- How a process stands behind the lines that tell of its lives, which each call of its kernel keeps.
-use Rattle.std.specs.Prelude.{ℕ, ◌≡◌, ◌⊎◌, Bool, true, false, nat_lt, List, [], ◌∷◌, ◌++◌, length, Option, Some, slice_get}
+-- What a process has still to do after the lines that tell of its lives, which each call of its kernel keeps.
+use Rattle.std.specs.Prelude.{ℕ, ◌≡◌, ◌⊎◌, Bool, true, false, nat_lt, List, [], ◌∷◌, ◌++◌, length, Option, Some}
+use Rattle.std.specs.Prelude.{slice_get}
 use Rattle.program_tree.specs.declared.event.Proc.{Proc}
 use Rattle.program_tree.specs.declared.event.Proc.TheVariants.{Own}
 use Rattle.program_tree.specs.declared.event.Event.{Event}
@@ -9,7 +10,7 @@ use Rattle.protothread.specs.Remainder.{Remainder}
 use Rattle.protothread.specs.Reading.{Sight, Happening, Completion}
 use Rattle.protothread.specs.Runs.{Runs}
 use Rattle.radio_packet.specs.declared.arrival.Arrival.{Arrival}
-use Rattle.process_kernel.specs.declared.line.Line.{Line}
+use Rattle.trace_lines.specs.declared.line.Line.{Line}
 use Rattle.radio_packet.specs.declared.sent.Sent.{Sent}
 use Rattle.process_kernel.specs.declared.process.ProcessState.{ProcessState}
 use Rattle.process_kernel.specs.declared.process.ProcessState.TheVariants.{Off, Running}
@@ -20,9 +21,11 @@ use Rattle.process_kernel.specs.Calls.{told}
 use Rattle.process_kernel.specs.Mote.{Mote, unbooted, with_packet, with_poll}
 use Rattle.process_kernel.specs.Public.{boot_given, run_given}
 use Rattle.kernel_laws.specs.Going.{IsNote}
-use Rattle.kernel_laws.specs.Printed.{IsQuietApart, starts_and_prints, prints, AreShown, Life, lines_of, Lives, LivesSoFar, TellsLives}
+use Rattle.kernel_laws.specs.Printed.{IsQuietApart, starts_and_prints, prints, AreShown, Life, lines_of, Lives}
+use Rattle.kernel_laws.specs.Printed.{LivesSoFar, TellsLives}
 
--- what the process is shown next: INIT at its start, at this moment; the same event at the same moment, told this answer; or anything
+-- what the process is shown next: INIT at its start, at this moment; the same event at the same moment, told this
+-- answer; or anything
 pub data Next : Type 0 where
   AtStart : (moment : ℕ) → Next
   InCall : (answer : ℕ) → Event → (moment : ℕ) → Next
@@ -38,18 +41,22 @@ IsAnswered (InCall a e m) answer = answer ≡ a
 IsAnswered next answer = Unit {0}
 
 -- a life with these lines
-pub record HasLife (p : ℕ) (code : Code) (mote : ℕ) (start : List ℕ) (lines : List Line) (became : Completion) : Type 0 where
+pub record HasLife (p : ℕ) (code : Code) (mote : ℕ) (start : List ℕ) (lines : List Line)
+    (became : Completion) : Type 0 where
   pub life : Life code mote start
   pub became_so : life.became ≡ became
   pub has_lines : lines_of (Own p) life ≡ lines
 
 -- These are its lines so far, and whatever it does from here on, in a sight that can come, belongs to the same life.
-pub record ComesTo (p : ℕ) (code : Code) (mote : ℕ) (start : List ℕ) (lines : List Line) (next : Next) (r : Remainder) (vars : List ℕ) : Type 0 where
-  pub on : (now : Sight) (later : List Sight) (more : List Happening) (out : Completion) → CanCome next now.event now.looks.moment → IsAnswered next now.answer → AreShown mote (now ∷ later) more
+pub record ComesTo (p : ℕ) (code : Code) (mote : ℕ) (start : List ℕ) (lines : List Line) (next : Next) (r : Remainder)
+    (vars : List ℕ) : Type 0 where
+  pub on : (now : Sight) (later : List Sight) (more : List Happening) (out : Completion)
+      → CanCome next now.event now.looks.moment → IsAnswered next now.answer → AreShown mote (now ∷ later) more
       → Runs code r vars now later more out → HasLife p code mote start (lines ++ prints (Own p) (now ∷ later) more) out
 
 -- In the life that its last start began the process came to here.
-pub record ComesHere (p : ℕ) (code : Code) (mote : ℕ) (told : List Line) (next : Next) (r : Remainder) (vars : List ℕ) : Type 0 where
+pub record ComesHere (p : ℕ) (code : Code) (mote : ℕ) (told : List Line) (next : Next) (r : Remainder)
+    (vars : List ℕ) : Type 0 where
   pub before : List Line
   pub start : List ℕ
   pub lived : Lives code (Own p) mote code.starts before start
@@ -57,9 +64,9 @@ pub record ComesHere (p : ℕ) (code : Code) (mote : ℕ) (told : List Line) (ne
   pub comes : ComesTo p code mote start lines next r vars
   pub is_told : told ≡ before ++ lines
 
--- A process in the state of a mote: the program, the mote and the moment; whether the tables have room for it; its state, whether it is
--- being exited, and whether it is on the process list; what its body has still to do, its variables, and what the lines of the run under
--- way tell of it.
+-- A process in the state of a mote: the program, the mote and the moment; whether the tables have room for it; its
+-- state, whether it is being exited, and whether it is on the process list; what its body has still to do, its
+-- variables, and what the lines of the run under way tell of it.
 pub record Standing : Type 0 where
   pub program : Tree
   pub mote : ℕ
@@ -93,7 +100,8 @@ pub record IsOut (v : Standing) : Type 0 where
   pub state : v.state ≡ Off
   pub listed : v.listed ≡ false
 
-pub record IsIn (p : ℕ) (code : Code) (mote : ℕ) (told : List Line) (next : Next) (v : Standing) (r : Remainder) (vars : List ℕ) : Type 0 where
+pub record IsIn (p : ℕ) (code : Code) (mote : ℕ) (told : List Line) (next : Next) (v : Standing) (r : Remainder)
+    (vars : List ℕ) : Type 0 where
   pub has : v.has ≡ true
   pub state : v.state ≡ Running
   pub listed : v.listed ≡ true
@@ -112,9 +120,11 @@ pub record RestsAsTold (program : Tree) (mote p : ℕ) (code : Code) (told : Lis
   pub lived : Lives code (Own p) mote code.starts told left
   pub where_it_is : IsOut v ⊎ IsIn p code mote told AtCall v still left
 
--- The lines so far of a mote tell of the lives of the process, up to where it stands; or up to where the mote has halted.
+-- The lines so far of a mote tell of the lives of the process, up to where it stands; or up to where the mote has
+-- halted.
 pub record TellsSoFar (program : Tree) (mote p : ℕ) (code : Code) (lines : List Line) (m : Mote) : Type 0 where
-  pub going : m.halted ≡ false → RestsAsTold program mote p code (starts_and_prints (Own p) lines) (standing_of p m.state)
+  pub going : m.halted ≡ false → RestsAsTold program mote p code (starts_and_prints (Own p) lines)
+      (standing_of p m.state)
   pub halted : m.halted ≡ true → LivesSoFar code (Own p) mote code.starts (starts_and_prints (Own p) lines)
 
 -- a process of this number, with this code, that is quiet apart from its body
@@ -126,32 +136,41 @@ pub record IsProcess (program : Tree) (p : ℕ) (code : Code) : Type 0 where
 
 abbrev pub TellingIsOfLives : Type 0
 TellingIsOfLives =
-    (program : Tree) (mote p : ℕ) (code : Code) (lines : List Line) (m : Mote) → TellsSoFar program mote p code lines m → m.halted ≡ false → TellsLives code p mote lines (slice_get m.state.variables p)
+    (program : Tree) (mote p : ℕ) (code : Code) (lines : List Line) (m : Mote) → TellsSoFar program mote p code lines m
+    → m.halted ≡ false → TellsLives code p mote lines (slice_get m.state.variables p)
 
 abbrev pub TellingIsOfLivesSoFar : Type 0
 TellingIsOfLivesSoFar =
-    (program : Tree) (mote p : ℕ) (code : Code) (lines : List Line) (m : Mote) → TellsSoFar program mote p code lines m → LivesSoFar code (Own p) mote code.starts (starts_and_prints (Own p) lines)
+    (program : Tree) (mote p : ℕ) (code : Code) (lines : List Line) (m : Mote) → TellsSoFar program mote p code lines m
+    → LivesSoFar code (Own p) mote code.starts (starts_and_prints (Own p) lines)
 
--- A mote that was not booted has no lines, and each call of its kernel keeps that the lines so far tell, whatever was written before.
+-- A mote that was not booted has no lines, and each call of its kernel keeps that the lines so far tell, whatever was
+-- written before.
 
 abbrev pub NoLinesTellFirst : Type 0
-NoLinesTellFirst = (program : Tree) (mote p : ℕ) (code : Code) (queue : ℕ) → IsProcess program p code → TellsSoFar program mote p code [] (unbooted program mote queue)
+NoLinesTellFirst = (program : Tree) (mote p : ℕ) (code : Code) (queue : ℕ) → IsProcess program p code
+    → TellsSoFar program mote p code [] (unbooted program mote queue)
 
 abbrev pub BootTells : Type 0
 BootTells =
-    (program : Tree) (mote p : ℕ) (code : Code) (earlier : List Line) (m : Mote) (moment : ℕ) (before : List Line) (sends : List Sent) → IsProcess program p code → TellsSoFar program mote p code (earlier ++ before) m
+    (program : Tree) (mote p : ℕ) (code : Code) (earlier : List Line) (m : Mote) (moment : ℕ) (before : List Line)
+    (sends : List Sent) → IsProcess program p code → TellsSoFar program mote p code (earlier ++ before) m
     → let g = boot_given moment m before sends in TellsSoFar program mote p code (earlier ++ g.lines) g.mote
 
 abbrev pub RunTells : Type 0
 RunTells =
-    (program : Tree) (mote p : ℕ) (code : Code) (earlier : List Line) (m : Mote) (moment : ℕ) (before : List Line) (sends : List Sent) → IsProcess program p code → TellsSoFar program mote p code (earlier ++ before) m
+    (program : Tree) (mote p : ℕ) (code : Code) (earlier : List Line) (m : Mote) (moment : ℕ) (before : List Line)
+    (sends : List Sent) → IsProcess program p code → TellsSoFar program mote p code (earlier ++ before) m
     → let g = run_given moment m before sends in TellsSoFar program mote p code (earlier ++ g.lines) g.mote
 
 abbrev pub PollTells : Type 0
-PollTells = (program : Tree) (mote p : ℕ) (code : Code) (lines : List Line) (m : Mote) (q : Proc) → TellsSoFar program mote p code lines m → TellsSoFar program mote p code lines (with_poll m q)
+PollTells = (program : Tree) (mote p : ℕ) (code : Code) (lines : List Line) (m : Mote) (q : Proc)
+    → TellsSoFar program mote p code lines m → TellsSoFar program mote p code lines (with_poll m q)
 
 abbrev pub PacketTells : Type 0
-PacketTells = (program : Tree) (mote p : ℕ) (code : Code) (lines : List Line) (m : Mote) (a : Arrival) → TellsSoFar program mote p code lines m → TellsSoFar program mote p code lines (with_packet m a)
+PacketTells = (program : Tree) (mote p : ℕ) (code : Code) (lines : List Line) (m : Mote) (a : Arrival)
+    → TellsSoFar program mote p code lines m → TellsSoFar program mote p code lines (with_packet m a)
 
 abbrev pub NoteTells : Type 0
-NoteTells = (program : Tree) (mote p : ℕ) (code : Code) (lines : List Line) (m : Mote) (l : Line) → IsNote l.what → TellsSoFar program mote p code lines m → TellsSoFar program mote p code (lines ++ l ∷ []) m
+NoteTells = (program : Tree) (mote p : ℕ) (code : Code) (lines : List Line) (m : Mote) (l : Line) → IsNote l.what
+    → TellsSoFar program mote p code lines m → TellsSoFar program mote p code (lines ++ l ∷ []) m

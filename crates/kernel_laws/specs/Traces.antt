@@ -3,13 +3,13 @@ use Rattle.std.specs.Prelude.{ℕ, List, [], ◌∷◌, ◌++◌, if◌then◌el
 use Rattle.program_tree.specs.declared.event.Proc.{Proc}
 use Rattle.program_tree.specs.Code.{Tree}
 use Rattle.radio_packet.specs.declared.arrival.Arrival.{Arrival}
-use Rattle.process_kernel.specs.declared.line.Line.{Line}
+use Rattle.trace_lines.specs.declared.line.Line.{Line}
 use Rattle.process_kernel.specs.Mote.{Mote, unbooted, with_packet, with_poll}
 use Rattle.process_kernel.specs.Public.{Given, boot_given, run_given}
 use Rattle.kernel_laws.specs.Going.{IsNote}
 
--- A call of a kernel after its boot: a kernel run at a moment, a process that is to be polled, or a packet for the ring.
--- Between the calls lines of packets that arrive may be written.
+-- A call of a kernel after its boot: a kernel run at a moment, a process that is to be polled, or a packet for the
+-- ring. Between the calls lines of packets that arrive may be written.
 pub data KernelCall : Type 0 where
   RunAt : (moment : ℕ) → KernelCall
   PollOf : Proc → KernelCall

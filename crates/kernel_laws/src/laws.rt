@@ -1,21 +1,25 @@
-//! Laws of the traces of a kernel. Each is the contract of a function that does nothing.
+//! Laws of the traces of a kernel. Each is a theorem, stated as the contract of an empty function.
 
 ghost use Rattle.kernel_laws.specs.Polled.{PacketsAreHanded, TimersAreTold};
 ghost use Rattle.kernel_laws.specs.Depth.{CallsAreAnyDepth, ThreadsAreAnyDepth, BootsAreAnyDepth, RunsAreAnyDepth};
-ghost use Rattle.kernel_laws.specs.Due.{CallsForgetNone, BootForgetsNone, RunForgetsNone, RunTellsDue, BootKeepsOwners, RunKeepsOwners};
+ghost use Rattle.kernel_laws.specs.Due.{CallsForgetNone, BootForgetsNone, RunForgetsNone, RunTellsDue, BootKeepsOwners};
+ghost use Rattle.kernel_laws.specs.Due.{RunKeepsOwners};
 ghost use Rattle.kernel_laws.specs.Printed.{PrintsAreTheReading, PrintsSoFarAreTheReading};
-ghost use Rattle.kernel_laws.specs.Telling.{TellingIsOfLives, TellingIsOfLivesSoFar, NoLinesTellFirst, BootTells, RunTells, PollTells, PacketTells, NoteTells};
+ghost use Rattle.kernel_laws.specs.Telling.{TellingIsOfLives, TellingIsOfLivesSoFar, NoLinesTellFirst, BootTells};
+ghost use Rattle.kernel_laws.specs.Telling.{RunTells, PollTells, PacketTells, NoteTells};
 ghost use Rattle.kernel_laws.specs.Ring.{CallsTellPackets, BootTellsPackets, RunTellsPackets, RunEmptiesRing};
-ghost use Rattle.kernel_laws.specs.Laws.{KernelsHandOn, GoingIsInOrder, NoLinesGoFirst, BootAddsItsLines, RunAddsItsLines, PollKeeps, PacketKeeps, NoteKeeps, OnlyTheRunningAreCalled, CallsKeepStep, ListedAreRunning, CallsStamp, BootStamps, RunStamps};
+ghost use Rattle.kernel_laws.specs.Laws.{KernelsHandOn, GoingIsInOrder, NoLinesGoFirst, BootAddsItsLines};
+ghost use Rattle.kernel_laws.specs.Laws.{RunAddsItsLines, PollKeeps, PacketKeeps, NoteKeeps, OnlyTheRunningAreCalled};
+ghost use Rattle.kernel_laws.specs.Laws.{CallsKeepStep, ListedAreRunning, CallsStamp, BootStamps, RunStamps};
 
-/// Whatever its program is, and whatever calls follow its boot: the lines of a kernel, joined, hand its events on, nothing
-/// follows a halt, and only a process that is not listed starts.
+/// Whatever its program is, and whatever calls follow its boot: the lines of a kernel, joined, deliver each accepted
+/// event, in order, nothing follows a halt, and only a process that is not listed starts.
 pub fn kernels_hand_on()
     ensures { KernelsHandOn }
 {}
 
-/// Lines that go with a mote are in order; a mote that was not booted has none, and each call of its kernel keeps that its lines go
-/// with it.
+/// Lines that go with a mote are in order; a mote that was not booted has none, and each call of its kernel keeps that
+/// its lines go with it.
 pub fn each_call_keeps_order()
     ensures in_order { GoingIsInOrder }
     ensures first { NoLinesGoFirst }
@@ -26,33 +30,35 @@ pub fn each_call_keeps_order()
     ensures note { NoteKeeps }
 {}
 
-/// A process is called only while it is on the process list and running: the event is lost for one that isn't running, and the
-/// states of the processes stay in step with the list, within calls and between those of the kernel.
+/// A process is called only while it is on the process list and running: the event is lost for one that isn't running,
+/// and the states of the processes stay in step with the list, within calls and between those of the kernel.
 pub fn the_listed_are_running()
     ensures lost { OnlyTheRunningAreCalled }
     ensures within { CallsKeepStep }
     ensures between { ListedAreRunning }
 {}
 
-/// What becomes of what waits, when the system processes are polled: each packet that was accepted into the receive ring is posted to the
-/// receiver once, in order, or nobody hears it; and a timer that is due by now gives its owner TIMER. Where the queue was full, a line
-/// says so.
+/// What becomes of what waits, when the system processes are polled: each packet that was accepted into the receive
+/// ring is posted to the receiver once, in order, or nobody hears it; and a timer that is due by now gives its owner
+/// TIMER. Where the queue was full, a line says so.
 pub fn what_waits_is_told()
     ensures packets { PacketsAreHanded }
     ensures timers { TimersAreTold }
 {}
 
-/// Each line that is written in a boot or a kernel run bears its moment, whatever calls nest, and also where the mote halts; each
-/// packet that is sent bears the moment and the mote, and packets are numbered on from how many were sent before.
+/// Each line that is written in a boot or a kernel run is stamped with its moment, whatever calls nest, and also where
+/// the mote halts; each packet that is sent is stamped with the moment and the mote, and packets are numbered on from
+/// how many were sent before.
 pub fn what_is_written_bears_its_moment()
     ensures within { CallsStamp }
     ensures boot { BootStamps }
     ensures run { RunStamps }
 {}
 
-/// No packet leaves the receive ring without its line, and packets leave in the order in which they came: within calls, however they nest, and
-/// over boots and kernel runs, none of which writes a line of a packet that arrives. A kernel run in which a poll of the radio process waits
-/// leaves the ring empty. Where the mote halts, the packets that are left have no line.
+/// No packet leaves the receive ring without its line, and packets leave in the order in which they came: within
+/// calls, however they nest, and over boots and kernel runs, none of which writes a line of a packet that arrives. A
+/// kernel run in which a poll of the radio process waits leaves the ring empty. Where the mote halts, the packets that
+/// are left have no line.
 pub fn the_ring_is_told_of()
     ensures within { CallsTellPackets }
     ensures boot { BootTellsPackets }
@@ -60,9 +66,10 @@ pub fn the_ring_is_told_of()
     ensures emptied { RunEmptiesRing }
 {}
 
-/// No timer is forgotten: whatever calls a boot or a kernel run makes, in the end no timer is due, or a poll of etimer waits, as before. And a
-/// kernel run in which one waits polls etimer, behind the processes before it on the process list: of each timer that is due then a
-/// line tells that TIMER was posted to its owner, or that the queue was full, unless the mote halts.
+/// No timer is forgotten: whatever calls a boot or a kernel run makes, in the end no timer is due, or a poll of etimer
+/// waits, as before. And a kernel run in which one waits polls etimer, after the processes before it on the process
+/// list: of each timer that is due then a line tells that TIMER was posted to its owner, or that the queue was full,
+/// unless the mote halts.
 pub fn no_timer_is_forgotten()
     ensures within { CallsForgetNone }
     ensures boot { BootForgetsNone }
@@ -72,19 +79,20 @@ pub fn no_timer_is_forgotten()
     ensures run_owners { RunKeepsOwners }
 {}
 
-/// A process that is quiet apart from its body (its blocks at POLL and EXIT and those of its callback timers print nothing, set no
-/// variable and spawn no thread) prints, from each of its starts on, what a reading of its body does: of its block, read by its
-/// structure, over sights of its mote, whatever the others do in between, and whatever calls of the kernel follow the boot. INIT comes
-/// first, each call has one event and one moment, and each line is at the moment of its sight; what else is seen there (later events,
-/// timers, processes, semaphores) isn't told by the lines. A next life begins with the variables that the one before left. Where the mote
-/// halts, the last life is told up to there.
+/// A process that is quiet apart from its body (its blocks at POLL and EXIT and those of its callback timers print
+/// nothing, set no variable and spawn no thread) prints, from each of its starts on, what a reading of its body does:
+/// of its block, read by its structure, over sights of its mote, whatever the others do in between, and whatever calls
+/// of the kernel follow the boot. INIT comes first, each call has one event and one moment, and each line is at the
+/// moment of its sight; what else is seen there (later events, timers, processes, semaphores) isn't told by the lines.
+/// A next life begins with the variables that the one before left. Where the mote halts, the last life is told up to
+/// there.
 pub fn prints_are_the_reading()
     ensures whole { PrintsAreTheReading }
     ensures so_far { PrintsSoFarAreTheReading }
 {}
 
-/// The lines so far of a kernel tell of the lives of such a process up to where it stands: a mote that was not booted has none, and each call of
-/// its kernel keeps this, whatever was written before the call.
+/// The lines so far of a kernel tell of the lives of such a process up to where it stands: a mote that was not booted
+/// has none, and each call of its kernel keeps this, whatever was written before the call.
 pub fn each_call_tells_lives()
     ensures lives { TellingIsOfLives }
     ensures lives_so_far { TellingIsOfLivesSoFar }
@@ -96,8 +104,8 @@ pub fn each_call_tells_lives()
     ensures note { NoteTells }
 {}
 
-/// The depth that the rules give to calls is no limit, since a unit of work is spent at each: with more depth than units, more depth
-/// changes nothing of what a call, a thread, a boot or a kernel run does.
+/// The depth that the rules give to calls is no limit, since a unit of work is spent at each: with more depth than
+/// units, more depth changes nothing of what a call, a thread, a boot or a kernel run does.
 pub fn depth_is_no_limit()
     ensures calls { CallsAreAnyDepth }
     ensures threads { ThreadsAreAnyDepth }

@@ -10,7 +10,7 @@ use Rattle.mote_timers.specs.TimerLists.{next_expiration_of}
 use Rattle.process_kernel.specs.declared.kernel.Ran.{Ran}
 use Rattle.process_kernel.specs.declared.kernel.Ran.TheVariants as ran
 use Rattle.radio_packet.specs.declared.arrival.Arrival.{Arrival}
-use Rattle.process_kernel.specs.declared.line.Line.{Line}
+use Rattle.trace_lines.specs.declared.line.Line.{Line}
 use Rattle.radio_packet.specs.declared.sent.Sent.{Sent}
 use Rattle.process_kernel.specs.State.{State}
 use Rattle.process_kernel.specs.Mote.{unbooted, has_room, with_packet, with_poll}

@@ -5,7 +5,7 @@ use Rattle.mote_timers.specs.TimerLists.{next_expiration_of}
 use Rattle.process_kernel.specs.declared.kernel.Ran.{Ran}
 use Rattle.process_kernel.specs.declared.kernel.Ran.TheVariants as ran
 use Rattle.radio_packet.specs.declared.arrival.Arrival.{Arrival}
-use Rattle.process_kernel.specs.declared.line.Line.{Line}
+use Rattle.trace_lines.specs.declared.line.Line.{Line}
 use Rattle.process_kernel.specs.Mote.{has_room, with_packet, with_poll}
 use Rattle.process_kernel.specs.Public.{Given, boot_given, run_given}
 use Rattle.mote_node.specs.Node.{Node, new_node}

@@ -2,7 +2,7 @@
 use Rattle.std.specs.Prelude.{ℕ, Bool, List, [], ◌++◌}
 use Rattle.program_tree.specs.Code.{Tree}
 use Rattle.radio_packet.specs.declared.arrival.Arrival.{Arrival}
-use Rattle.process_kernel.specs.declared.line.Line.{Line}
+use Rattle.trace_lines.specs.declared.line.Line.{Line}
 use Rattle.kernel_laws.specs.Going.{GoesWith, IsInOrder}
 use Rattle.mote_node.specs.Node.{Node, new_node}
 use Rattle.mote_node.specs.Public.{with_collide}
@@ -13,10 +13,11 @@ use Rattle.mote_node.specs.Laws.{TurnInput, Turns}
 abbrev pub first_node : Tree → (number queue : ℕ) → (collides : Bool) → Node
 first_node program number queue collides = with_collide collides (new_node program number queue)
 
--- the lines of a mote so far, with those of a turn behind them, go with the mote after the turn
+-- the lines of a mote so far, with those of a turn appended, go with the mote after the turn
 abbrev pub TurnKeeps : Type 0
 TurnKeeps =
-    (lines : List Line) (moment : ℕ) (arrivals : List Arrival) (n : Node) → GoesWith lines n.mote → let t = turn_of moment arrivals n in GoesWith (lines ++ t.lines) t.node.mote
+    (lines : List Line) (moment : ℕ) (arrivals : List Arrival) (n : Node) → GoesWith lines n.mote
+    → let t = turn_of moment arrivals n in GoesWith (lines ++ t.lines) t.node.mote
 
 -- before its first turn a mote has no lines
 abbrev pub NewGoesWithNoLines : Type 0
@@ -25,5 +26,6 @@ NewGoesWithNoLines = (program : Tree) (number queue : ℕ) → GoesWith [] (new_
 -- whatever its program is, and whatever turns it takes
 abbrev pub MotesHandOn : Type 0
 MotesHandOn =
-    (program : Tree) (number queue : ℕ) (collides : Bool) (given : List TurnInput) (lines : List Line) (last : Node) → Turns (first_node program number queue collides) given lines last
+    (program : Tree) (number queue : ℕ) (collides : Bool) (given : List TurnInput) (lines : List Line) (last : Node)
+    → Turns (first_node program number queue collides) given lines last
     → IsInOrder lines

@@ -2,9 +2,9 @@
 use Rattle.std.specs.Prelude.{ℕ, ◌≡◌, ◌&&◌, Bool, true, false, List, [], ◌∷◌, ◌++◌, map, Option}
 use Rattle.program_tree.specs.Code.{Tree}
 use Rattle.radio_packet.specs.declared.arrival.Arrival.{Arrival}
-use Rattle.process_kernel.specs.declared.line.Line.{Line}
-use Rattle.process_kernel.specs.declared.line.What.{What}
-use Rattle.process_kernel.specs.declared.line.What.TheVariants as what
+use Rattle.trace_lines.specs.declared.line.Line.{Line}
+use Rattle.trace_lines.specs.declared.line.What.{What}
+use Rattle.trace_lines.specs.declared.line.What.TheVariants as what
 use Rattle.process_kernel.specs.Mote.{Mote}
 use Rattle.kernel_laws.specs.Polled.{TellEach}
 use Rattle.kernel_laws.specs.Ring.{RingRuns}
@@ -28,13 +28,16 @@ notes_in (l ∷ lines) = note_of l.what ++ notes_in lines
 -- each of these packets was received or is lost, in order
 pub data AreHeard : List Arrival → List What → Type 0 where
   NoneCame : AreHeard [] []
-  IsReceived : {a : Arrival} {later : List Arrival} {ws : List What} → AreHeard later ws → AreHeard (a ∷ later) (what.Recv a.sender a.number a.value ∷ ws)
-  IsLost : {a : Arrival} {later : List Arrival} {ws : List What} → AreHeard later ws → AreHeard (a ∷ later) (what.Lost a.sender a.number ∷ ws)
+  IsReceived : {a : Arrival} {later : List Arrival} {ws : List What} → AreHeard later ws
+      → AreHeard (a ∷ later) (what.Recv a.sender a.number a.value ∷ ws)
+  IsLost : {a : Arrival} {later : List Arrival} {ws : List What} → AreHeard later ws
+      → AreHeard (a ∷ later) (what.Lost a.sender a.number ∷ ws)
 
 -- a turn hears each packet that arrives, and no other, unless they collide or the mote halts in it
 abbrev pub TurnsHear : Type 0
 TurnsHear =
-    (moment : ℕ) (arrivals : List Arrival) (n : Node) → let t = turn_of moment arrivals n in (n.collides && is_collision n.mote arrivals) ≡ false → t.node.mote.halted ≡ false
+    (moment : ℕ) (arrivals : List Arrival) (n : Node) → let t = turn_of moment arrivals n in
+    (n.collides && is_collision n.mote arrivals) ≡ false → t.node.mote.halted ≡ false
     → AreHeard arrivals (notes_in t.lines)
 
 -- lines that begin with one for each of these packets, in order, and tell of no other that arrives
@@ -46,9 +49,11 @@ pub record BeginWithCollisions (moment : ℕ) (arrivals : List Arrival) (lines :
 -- a turn whose packets collide begins with their lines, and hears none of them
 abbrev pub TurnsCollide : Type 0
 TurnsCollide =
-    (moment : ℕ) (arrivals : List Arrival) (n : Node) → (n.collides && is_collision n.mote arrivals) ≡ true → BeginWithCollisions moment arrivals (turn_of moment arrivals n).lines
+    (moment : ℕ) (arrivals : List Arrival) (n : Node) → (n.collides && is_collision n.mote arrivals) ≡ true
+    → BeginWithCollisions moment arrivals (turn_of moment arrivals n).lines
 
--- Beside these lines the ring goes from empty to the packets that are left: those that the mote holds, unless it has halted.
+-- Beside these lines the ring goes from empty to the packets that are left: those that the mote holds, unless it has
+-- halted.
 pub record GoesWithRing (receiver : Option ℕ) (lines : List Line) (m : Mote) : Type 0 where
   pub left : List Arrival
   pub runs : RingRuns receiver [] lines left
@@ -57,7 +62,8 @@ pub record GoesWithRing (receiver : Option ℕ) (lines : List Line) (m : Mote) :
 -- whatever turns a mote takes, up to any of them
 abbrev pub RingGoesWithLines : Type 0
 RingGoesWithLines =
-    (program : Tree) (number queue : ℕ) (collides : Bool) (given : List TurnInput) (lines : List Line) (last : Node) → Turns (first_node program number queue collides) given lines last
+    (program : Tree) (number queue : ℕ) (collides : Bool) (given : List TurnInput) (lines : List Line) (last : Node)
+    → Turns (first_node program number queue collides) given lines last
     → GoesWithRing program.receiver lines last.mote
 
 -- the packets that were received, in order
@@ -78,11 +84,12 @@ pub data AreAmong : List What → List Line → Type 0 where
 -- after a turn of a mote that has not halted its ring is empty
 abbrev pub TurnsEmptyRing : Type 0
 TurnsEmptyRing =
-    (program : Tree) (number queue : ℕ) (collides : Bool) (given : List TurnInput) (lines : List Line) (last : Node) → Turns (first_node program number queue collides) given lines last
+    (program : Tree) (number queue : ℕ) (collides : Bool) (given : List TurnInput) (lines : List Line) (last : Node)
+    → Turns (first_node program number queue collides) given lines last
     → last.mote.halted ≡ false → last.mote.state.ring ≡ []
 
--- The packets that were received are, in order, those that lines tell of, each with a line of its own in the same order. Only where
--- the mote halts some are left behind those.
+-- The packets that were received are, in order, those that lines tell of, each with a line of its own in the same
+-- order. Only where the mote halts some are left after those.
 pub record AccountsForPackets (receiver : Option ℕ) (lines : List Line) (m : Mote) : Type 0 where
   pub handed : List Arrival
   pub left : List Arrival
@@ -94,5 +101,6 @@ pub record AccountsForPackets (receiver : Option ℕ) (lines : List Line) (m : M
 
 abbrev pub PacketsAreAccountedFor : Type 0
 PacketsAreAccountedFor =
-    (program : Tree) (number queue : ℕ) (collides : Bool) (given : List TurnInput) (lines : List Line) (last : Node) → Turns (first_node program number queue collides) given lines last
+    (program : Tree) (number queue : ℕ) (collides : Bool) (given : List TurnInput) (lines : List Line) (last : Node)
+    → Turns (first_node program number queue collides) given lines last
     → AccountsForPackets program.receiver lines last.mote

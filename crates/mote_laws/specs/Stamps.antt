@@ -1,9 +1,9 @@
--- What a turn writes bears its moment, and a mote's packets are numbered on from turn to turn.
+-- What a turn writes is stamped with its moment, and a mote's packets are numbered on from turn to turn.
 use Rattle.std.specs.Prelude.{ℕ, ◌≡◌, ◌+◌, Bool, List, [], ◌∷◌, ◌++◌, length, All}
 use Rattle.std.specs.List.Sorted.{IsNonDecreasingBy}
 use Rattle.program_tree.specs.Code.{Tree}
 use Rattle.radio_packet.specs.declared.arrival.Arrival.{Arrival}
-use Rattle.process_kernel.specs.declared.line.Line.{Line}
+use Rattle.trace_lines.specs.declared.line.Line.{Line}
 use Rattle.radio_packet.specs.declared.sent.Sent.{Sent}
 use Rattle.kernel_laws.specs.Stamps.{LinesBear, PacketsBear, AreNumberedFrom}
 use Rattle.mote_node.specs.Node.{Node}
@@ -11,8 +11,8 @@ use Rattle.mote_node.specs.Turn.{TurnGiven, turn_of}
 use Rattle.mote_node.specs.Laws.{TurnInput, Turns}
 use Rattle.mote_laws.specs.Laws.{first_node}
 
--- The lines of a turn bear its moment, and so do its packets, which bear the mote too and are numbered on from how many the mote
--- sent before; these are counted, and the mote keeps its number.
+-- The lines of a turn are stamped with its moment, and so are its packets, which have the mote too and are numbered on
+-- from how many the mote sent before; these are counted, and the mote keeps its number.
 pub record IsStamped (moment : ℕ) (n : Node) (t : TurnGiven) : Type 0 where
   pub lines : LinesBear moment t.lines
   pub packets : PacketsBear moment n.mote.state.mote t.sends
@@ -28,10 +28,12 @@ abbrev pub packets_of : Node → List TurnInput → List Sent
 packets_of n [] = []
 packets_of n (g ∷ later) = let t = turn_of g.moment g.arrivals n in t.sends ++ packets_of t.node later
 
--- whatever turns a new node takes, its packets bear its number, and are numbered 0, 1, 2 and so on, in order
+-- whatever turns a new node takes, its packets are stamped with its number, and are numbered 0, 1, 2 and so on, in
+-- order
 abbrev pub PacketsCountUp : Type 0
 PacketsCountUp =
-    (program : Tree) (number queue : ℕ) (collides : Bool) (given : List TurnInput) → let sends = packets_of (first_node program number queue collides) given in
+    (program : Tree) (number queue : ℕ) (collides : Bool) (given : List TurnInput)
+    → let sends = packets_of (first_node program number queue collides) given in
     All (λ x. x.sender ≡ number) sends × AreNumberedFrom 0 sends
 
 -- no line is of an earlier moment than one before it
@@ -39,4 +41,5 @@ abbrev pub NeverGoBack : List Line → Type 0
 NeverGoBack lines = IsNonDecreasingBy (λ l. l.at) lines
 
 abbrev pub TurnsNeverGoBack : Type 0
-TurnsNeverGoBack = (n last : Node) (given : List TurnInput) (lines : List Line) → Turns n given lines last → NeverGoBack lines
+TurnsNeverGoBack = (n last : Node) (given : List TurnInput) (lines : List Line) → Turns n given lines last
+    → NeverGoBack lines

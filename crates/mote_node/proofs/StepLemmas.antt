@@ -1,6 +1,6 @@
 -- Steps of a turn that go on by their definitions.
 use Rattle.std.proofs.Common.{◌≡◌, Bool, true, false, option_map, Option, Some, None, refl, if◌then◌else◌}
-use Rattle.process_kernel.specs.declared.line.Out.{Out}
+use Rattle.trace_lines.specs.declared.out.Out.{Out}
 use Rattle.process_kernel.specs.Mote.{Mote}
 use Rattle.mote_node.specs.Underway.{with_mote}
 use Rattle.mote_node.specs.Steps.{GoesOn}

@@ -3,7 +3,7 @@ use Rattle.std.proofs.Common.{ℕ, ◌≡◌, Bool, true, false, List, option_ma
 use Rattle.program_tree.specs.Code.{Tree}
 use Rattle.process_kernel.specs.declared.kernel.Kernel.{Kernel}
 use Rattle.radio_packet.specs.declared.arrival.Arrival.{Arrival}
-use Rattle.process_kernel.specs.declared.line.Out.{Out}
+use Rattle.trace_lines.specs.declared.out.Out.{Out}
 use Rattle.process_kernel.specs.Mote.{Mote}
 use Rattle.process_kernel.specs.Public.{mote_in}
 use Rattle.mote_node.specs.Underway.{Underway}

@@ -2,8 +2,8 @@
 use Rattle.std.specs.Prelude.{ℕ, nat_lt, nat_le, Bool, not, ◌&&◌, List, [], ◌∷◌, length, map, if◌then◌else◌}
 use Rattle.program_tree.specs.declared.event.Proc.TheVariants.{Radio}
 use Rattle.radio_packet.specs.declared.arrival.Arrival.{Arrival}
-use Rattle.process_kernel.specs.declared.line.Line.{Line}
-use Rattle.process_kernel.specs.declared.line.What.TheVariants as what
+use Rattle.trace_lines.specs.declared.line.Line.{Line}
+use Rattle.trace_lines.specs.declared.line.What.TheVariants as what
 use Rattle.process_kernel.specs.Mote.{Mote, has_room, with_packet, with_poll}
 use Rattle.mote_node.specs.Underway.{Underway, with_mote, with_lines}
 

@@ -1,25 +1,29 @@
 -- Laws of the turns of a node.
 use Rattle.std.specs.List.Sorted.{IsStrictlyIncreasing}
-use Rattle.std.specs.Prelude.{ℕ, ◌≡◌, ◌+◌, ◌<◌, ◌≤◌, max, true, false, List, [], ◌∷◌, ◌++◌, map, Option, Some, None, IfSome}
+use Rattle.std.specs.Prelude.{ℕ, ◌≡◌, ◌+◌, ◌<◌, ◌≤◌, max, true, false, List, [], ◌∷◌, ◌++◌, map, Option, Some, None}
+use Rattle.std.specs.Prelude.{IfSome}
 use Rattle.mote_timers.specs.TimerLists.{next_expiration_of}
 use Rattle.radio_packet.specs.declared.arrival.Arrival.{Arrival}
-use Rattle.process_kernel.specs.declared.line.Line.{Line}
+use Rattle.trace_lines.specs.declared.line.Line.{Line}
 use Rattle.mote_node.specs.Node.{Node, is_past}
 use Rattle.mote_node.specs.Turn.{turn_of}
 
 -- the wake that a turn gives is above its own moment
 abbrev pub WakesLater : Type 0
-WakesLater = (moment : ℕ) (arrivals : List Arrival) (n : Node) → IfSome (turn_of moment arrivals n).wake (λ wake. moment < wake)
+WakesLater = (moment : ℕ) (arrivals : List Arrival) (n : Node)
+    → IfSome (turn_of moment arrivals n).wake (λ wake. moment < wake)
 
 -- there is a wake, and it isn't later than this
 abbrev pub WakesBy : (limit : ℕ) → (wake : Option ℕ) → Type 0
 WakesBy limit wake = (w : ℕ) × (wake ≡ Some w) × (w ≤ limit)
 
--- no timer is forgotten: a node that has not halted wakes when its first timer is due, or before, but for the turn's own moment
+-- no timer is forgotten: a node that has not halted wakes when its first timer is due, or before, but for the turn's
+-- own moment
 abbrev pub WakesInTime : Type 0
 WakesInTime =
     (moment : ℕ) (arrivals : List Arrival) (n : Node) (due : ℕ) → let after = (turn_of moment arrivals n).node in
-    after.mote.halted ≡ false → next_expiration_of after.mote.state.timers ≡ Some due → WakesBy (max (moment + 1) due) (turn_of moment arrivals n).wake
+    after.mote.halted ≡ false → next_expiration_of after.mote.state.timers ≡ Some due
+    → WakesBy (max (moment + 1) due) (turn_of moment arrivals n).wake
 
 -- a turn that a node is to take
 pub record TurnInput : Type 0 where
@@ -35,7 +39,8 @@ pub data Turns : Node → List TurnInput → List Line → Node → Type 0 where
 
 -- turns happen at rising moments alone
 abbrev pub TurnsRise : Type 0
-TurnsRise = (n last : Node) (given : List TurnInput) (lines : List Line) → Turns n given lines last → IsStrictlyIncreasing (map (λ g. g.moment) given)
+TurnsRise = (n last : Node) (given : List TurnInput) (lines : List Line) → Turns n given lines last
+    → IsStrictlyIncreasing (map (λ g. g.moment) given)
 
 -- a turn of a node that has halted changes its clock alone, writes and sends nothing, and gives no wake
 abbrev pub HaltedRests : Type 0

@@ -1,7 +1,7 @@
 -- What the calls of a `Mote` tell.
 use Rattle.std.specs.Prelude.{ℕ, Bool, false, if◌then◌else◌, Option, Some, None, option_map}
 use Rattle.program_tree.specs.Code.{Tree}
-use Rattle.process_kernel.specs.declared.line.Out.{Out}
+use Rattle.trace_lines.specs.declared.out.Out.{Out}
 use Rattle.process_kernel.specs.Mote.{Mote}
 use Rattle.process_kernel.specs.Public.{mote_in, held_in}
 use Rattle.mote_node.specs.declared.mote.Mote.{Mote as MoteOfCode}
@@ -17,7 +17,7 @@ node_over last collides m = record { mote = m; last = last; collides = collides 
 unfoldable pub node_held : Tree → MoteOfCode → Node
 node_held t m = node_over m.last m.collide (held_in t m.kernel.value)
 
--- The node that a `Mote` is, where its program is this; one that found no memory is none.
+-- The node that a `Mote` is, where its program is this; one that was out of memory is none.
 unfoldable pub node_in : Tree → MoteOfCode → Option Node
 node_in t m = if m.failed then None else option_map (node_over m.last m.collide) (mote_in t m.kernel.value)
 

@@ -1,6 +1,6 @@
 -- Steps of a turn under way.
 use Rattle.std.specs.Prelude.{List, ◌++◌, if◌then◌else◌}
-use Rattle.process_kernel.specs.declared.line.Line.{Line}
+use Rattle.trace_lines.specs.declared.line.Line.{Line}
 use Rattle.process_kernel.specs.Mote.{Mote}
 pub use Rattle.process_kernel.specs.Underway.{Underway, after}
 

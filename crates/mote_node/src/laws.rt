@@ -1,4 +1,4 @@
-//! Laws of turns. Each is the contract of a function that does nothing.
+//! Laws of turns. Each is a theorem, stated as the contract of an empty function.
 
 ghost use Rattle.mote_node.specs.Laws.{HaltedRests, TurnsRise, WakesInTime, WakesLater};
 
@@ -7,8 +7,8 @@ pub fn wakes_later()
     ensures { WakesLater }
 {}
 
-/// A node that has not halted wakes when its first timer is due, or before: at the moment after its turn, where the timer is
-/// due by then.
+/// A node that has not halted wakes when its first timer is due, or before: at the moment after its turn, where the
+/// timer is due by then.
 pub fn wakes_in_time()
     ensures { WakesInTime }
 {}

@@ -1,6 +1,7 @@
 //! A mote with its clock: one turn after another.
 
-ghost use Rattle.std.specs.Prelude.{◌≡◌, ◌≤◌, ◌^◌, ◌↔◌, true, false, IsTrue, IsSome, IfSome, IfOk, IfErr, Some, None, Err, [], option_map, OnOk, OnErr};
+ghost use Rattle.std.specs.Prelude.{◌≡◌, ◌≤◌, ◌^◌, ◌↔◌, true, false, IsTrue, IsSome, IfSome, IfOk, IfErr, Some, None};
+ghost use Rattle.std.specs.Prelude.{Err, [], option_map, OnOk, OnErr};
 ghost use Rattle.program_tree.specs.Code.{Tree};
 ghost use Rattle.program_tree.specs.Program.{tree_of};
 ghost use Rattle.process_kernel.specs.Public.{mote_in};
@@ -19,9 +20,9 @@ use std::{fmt, mem};
 /// Why a mote gives no turn.
 #[derive(Clone, Copy, Debug, PartialEq, Eq)]
 pub enum MoteError {
-    /// No memory was found.
+    /// Out of memory: an allocation failed.
     Memory = 1,
-    /// An earlier turn found no memory.
+    /// An earlier turn was out of memory.
     Failed = 2,
     /// The moment isn't above that of the last turn.
     Past = 3,
@@ -61,8 +62,8 @@ pub struct TurnOut {
     pub wake: Option<u64>,
 }
 
-/// A mote of a net. Its turns come at rising moments, always with the same program. The kernel stands behind a pointer, so a mote
-/// is moved at little cost.
+/// A mote of a net. Its turns come at rising moments, always with the same program. The kernel is behind a pointer,
+/// so a mote is moved at little cost.
 pub struct Mote {
     alloc: Global,
     kernel: Box<Kernel>,
@@ -114,9 +115,11 @@ fn is_past(moment: u64, last: Option<u64>) -> bool
 impl Mote {
     ghost use Rattle.mote_node.specs.Node.{new_node};
     ghost use Rattle.mote_node.specs.Turn.{turn_of};
-    ghost use Rattle.mote_node.specs.Public.{node_in, node_held, wake_in, is_past_in, with_collide, turn_told, told_with};
+    ghost use Rattle.mote_node.specs.Public.{node_in, node_held, wake_in, is_past_in, with_collide, turn_told};
+    ghost use Rattle.mote_node.specs.Public.{told_with};
 
-    /// The mote with this number and program, before its first turn. Its event queue has room for this many events, 1 to 128.
+    /// The mote with this number and program, before its first turn. Its event queue has room for this many events, 1
+    /// to 128.
     ///
     /// # Errors
     /// `Memory` alone.
@@ -124,7 +127,8 @@ impl Mote {
     pub fn new(alloc: Global, number: u16, program: &Program, queue: u16) -> Result<Mote, MoteError>
         requires some_room { 1 ≤ queue }
         requires limit { queue ≤ 128 }
-        ensures new { let t = tree_of program.now in IfOk result (λ mote. node_in t mote ≡ Some (new_node t number queue)) }
+        ensures new { let t = tree_of program.now in
+            IfOk result (λ mote. node_in t mote ≡ Some (new_node t number queue)) }
         ensures err { IfErr result (λ error. error ≡ MoteError.Memory) }
     {
         let Ok(kernel) = Kernel::new(alloc, program, number, queue) else {
@@ -174,11 +178,12 @@ impl Mote {
         }
     }
 
-    /// A turn at this moment with the packets that arrive, in order of sender and number. The first turn boots the mote.
+    /// A turn at this moment with the packets that arrive, in order of sender and number. The first turn boots the
+    /// mote.
     ///
     /// # Errors
-    /// In this order: `Failed` after a turn that found no memory, for good; `Past` where the moment isn't above that of the
-    /// last turn, and nothing changes. `Memory` only where a growth was refused.
+    /// In this order: `Failed` after a turn that was out of memory, for good; `Past` where the moment isn't above that
+    /// of the last turn, and nothing changes. `Memory` only where an allocation failed.
     #[tactic(auto, unfolding(crate::specs::Public::node_in, crate::specs::Turn::turn_of))]
     pub fn turn(
         &mut self,
@@ -187,10 +192,13 @@ impl Mote {
         arrivals: &[Arrival],
     ) -> Result<TurnOut, MoteError>
         requires { moment ≤ 2 ^ 40 }
-        ensures ok { let t = tree_of program.now in IfOk result (λ out. option_map (turn_told out) (node_in t self.new) ≡ option_map (turn_of moment arrivals.now) (node_in t self.old)) }
+        ensures ok { let t = tree_of program.now in
+            IfOk result (λ out. option_map (turn_told out) (node_in t self.new)
+            ≡ option_map (turn_of moment arrivals.now) (node_in t self.old)) }
 
         ensures failed { let t = tree_of program.now in (result ≡ Err MoteError.Failed) ↔ (node_in t self.old ≡ None) }
-        ensures past { let t = tree_of program.now in (result ≡ Err MoteError.Past) ↔ IsTrue (is_past_in moment (node_in t self.old)) }
+        ensures past { let t = tree_of program.now in
+            (result ≡ Err MoteError.Past) ↔ IsTrue (is_past_in moment (node_in t self.old)) }
         ensures unchanged { result ≡ Err MoteError.Past → self.new ≡ self.old }
 
         // It has failed for good, whatever its program.
@@ -203,8 +211,8 @@ impl Mote {
         Ok(TurnOut { lines, sends, wake })
     }
 
-    /// The turn that `turn` answers: its lines and packets take the place of what `out` had, in the room that this has, and the
-    /// answer is when the mote wakes next. After an error `out` may have anything.
+    /// The turn that `turn` answers: its lines and packets take the place of what `out` had, in the room that this
+    /// has, and the answer is when the mote wakes next. After an error `out` may have anything.
     ///
     /// # Errors
     /// Those of `turn`.
@@ -218,10 +226,13 @@ impl Mote {
         out: &mut Out,
     ) -> Result<Option<u64>, MoteError>
         requires { moment ≤ 2 ^ 40 }
-        ensures ok { let t = tree_of program.now in IfOk result (λ wake. option_map (turn_told (told_with out.new wake)) (node_in t self.new) ≡ option_map (turn_of moment arrivals.now) (node_in t self.old)) }
+        ensures ok { let t = tree_of program.now in
+            IfOk result (λ wake. option_map (turn_told (told_with out.new wake)) (node_in t self.new)
+            ≡ option_map (turn_of moment arrivals.now) (node_in t self.old)) }
 
         ensures failed { let t = tree_of program.now in (result ≡ Err MoteError.Failed) ↔ (node_in t self.old ≡ None) }
-        ensures past { let t = tree_of program.now in (result ≡ Err MoteError.Past) ↔ IsTrue (is_past_in moment (node_in t self.old)) }
+        ensures past { let t = tree_of program.now in
+            (result ≡ Err MoteError.Past) ↔ IsTrue (is_past_in moment (node_in t self.old)) }
         ensures unchanged { result ≡ Err MoteError.Past → self.new ≡ self.old }
 
         // It has failed for good, whatever its program.

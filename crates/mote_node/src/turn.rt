@@ -26,7 +26,8 @@ fn boot(
     out: &mut Out,
 ) -> Result<(), AllocError>
     requires { moment ≤ 2 ^ 40 }
-    ensures { let t = tree_of program.now in OnOk result (GoesOn (boot_due moment) (mote_in t kernel.old) out.old (mote_in t kernel.new) out.new) }
+    ensures { let t = tree_of program.now in
+        OnOk result (GoesOn (boot_due moment) (mote_in t kernel.old) out.old (mote_in t kernel.new) out.new) }
 {
     if !kernel.is_booted() {
         let Ok(_) = kernel.boot(program, moment, out) else {
@@ -44,7 +45,8 @@ fn hear(
     packet: Arrival,
     out: &mut Out,
 ) -> Result<bool, AllocError>
-    ensures heard { (t : Tree) → OnOk result (GoesOn (hear moment packet) (mote_in t kernel.old) out.old (mote_in t kernel.new) out.new) }
+    ensures heard { (t : Tree) → OnOk result
+        (GoesOn (hear moment packet) (mote_in t kernel.old) out.old (mote_in t kernel.new) out.new) }
     ensures room { (t : Tree) → IfOk result (λ heard. IfSome (mote_in t kernel.old) (λ m. heard ≡ has_room m)) }
 {
     let heard = kernel.accept_packet(packet);
@@ -64,7 +66,8 @@ fn hear_all(
     packets: &[Arrival],
     out: &mut Out,
 ) -> Result<(), AllocError>
-    ensures { (t : Tree) → OnOk result (GoesOn (hear_all moment packets.now) (mote_in t kernel.old) out.old (mote_in t kernel.new) out.new) }
+    ensures { (t : Tree) → OnOk result
+        (GoesOn (hear_all moment packets.now) (mote_in t kernel.old) out.old (mote_in t kernel.new) out.new) }
 {
     let mut any = false;
     for packet in packets {
@@ -97,7 +100,8 @@ fn run_all(
     out: &mut Out,
 ) -> Result<(), AllocError>
     requires { moment ≤ 2 ^ 40 }
-    ensures { let t = tree_of program.now in OnOk result (GoesOn (runs_of most_runs moment) (mote_in t kernel.old) out.old (mote_in t kernel.new) out.new) }
+    ensures { let t = tree_of program.now in
+        OnOk result (GoesOn (runs_of most_runs moment) (mote_in t kernel.old) out.old (mote_in t kernel.new) out.new) }
 {
     match kernel.run_all(program, moment, RUNS, out) {
         Ok(()) => Ok(()),
@@ -115,7 +119,9 @@ fn turn_mote(
     out: &mut Out,
 ) -> Result<(), AllocError>
     requires { moment ≤ 2 ^ 40 }
-    ensures { let t = tree_of program.now in OnOk result (GoesOn (mote_turn moment packets.now) (mote_in t kernel.old) out.old (mote_in t kernel.new) out.new) }
+    ensures { let t = tree_of program.now in
+        OnOk result (GoesOn (mote_turn moment packets.now) (mote_in t kernel.old) out.old
+        (mote_in t kernel.new) out.new) }
 {
     boot(kernel, program, moment, out)?;
     if kernel.is_halted() {
@@ -151,7 +157,9 @@ pub fn turn_in_net(
     out: &mut Out,
 ) -> Result<(), AllocError>
     requires { moment ≤ 2 ^ 40 }
-    ensures { let t = tree_of program.now in OnOk result (GoesOn (net_turn collide moment packets.now) (mote_in t kernel.old) out.old (mote_in t kernel.new) out.new) }
+    ensures { let t = tree_of program.now in
+        OnOk result (GoesOn (net_turn collide moment packets.now) (mote_in t kernel.old) out.old
+        (mote_in t kernel.new) out.new) }
 {
     if collide && !kernel.is_halted() && packets.len() >= 2 {
         write_collisions(moment, packets, out)?;

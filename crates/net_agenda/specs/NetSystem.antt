@@ -1,7 +1,7 @@
 -- The motes of a net and the medium between them.
 use Rattle.std.specs.Prelude.{ℕ, List, [], length, map, slice_get, unwrap_or, None}
 use Rattle.program_tree.specs.Code.{Tree}
-use Rattle.process_kernel.specs.declared.line.Line.{Line}
+use Rattle.trace_lines.specs.declared.line.Line.{Line}
 use Rattle.mote_node.specs.Node.{Node, new_node}
 use Rattle.mote_node.specs.Public.{with_collide}
 use Rattle.mote_node.specs.Turn.{turn_of}

@@ -1,8 +1,8 @@
 //! What a run of a net has to tell.
 #![tactic(auto)]
 
-use process_kernel::Line;
 use radio_packet::{Fate, Sent};
+use trace_lines::Line;
 
 /// A packet with the fates of its copies, by rising receiver.
 #[derive(Debug, Drop)]

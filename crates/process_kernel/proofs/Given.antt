@@ -1,9 +1,10 @@
 -- What a boot or a run of a kernel gives.
-use Rattle.std.proofs.Common.{ℕ, ◌≡◌, Bool, true, false, List, [], append-nil, Result, Ok, Err, refl, sym, ap, ◌∙◌}
+use Rattle.std.proofs.Common.{ℕ, ◌≡◌, ◌++◌, Bool, true, false, List, [], append-nil, Option, Some, None, Result, Ok, Err, refl, sym, ap, ◌∙◌}
+use Rattle.std.proofs.lemmas.List.{append_assoc}
 use Rattle.program_tree.specs.Code.{Tree}
-use Rattle.process_kernel.specs.declared.line.Line.{Line}
+use Rattle.trace_lines.specs.declared.line.Line.{Line}
 use Rattle.radio_packet.specs.declared.sent.Sent.{Sent}
-use Rattle.process_kernel.specs.declared.line.Out.{Out}
+use Rattle.trace_lines.specs.declared.out.Out.{Out}
 use Rattle.process_kernel.specs.declared.kernel.Kernel.{Kernel}
 use Rattle.process_kernel.specs.declared.kernel.Ran.{Ran}
 use Rattle.process_kernel.specs.declared.kernel.Ran.TheVariants as ran
@@ -15,7 +16,7 @@ use Rattle.process_kernel.specs.State.{State, Outcome}
 use Rattle.process_kernel.specs.Mote.{Mote, at_rest}
 use Rattle.process_kernel.specs.Views as views
 use Rattle.process_kernel.specs.Views.{state_of, mote_of, Begins}
-use Rattle.process_kernel.specs.Public.{mote_in, Given, given, BeginsWith, Tells, Closes}
+use Rattle.process_kernel.specs.Public.{mote_in, Given, given, BeginsWith, Tells, FailsAs, Closes}
 
 -- a kernel that an earlier call left without memory
 pub failed : (t : Tree) (gives : Mote → List Line → List Sent → Given) (k : Kernel) (out : Out) → k.failed ≡ true → Tells gives (mote_in t k) out (Err error.Failed) (mote_in t k) out
@@ -62,3 +63,37 @@ unfolding Begins
 begins_with old new grows =
     let b = grows old.lines.items old.sends.items (([], sym (append-nil old.lines.items)), ([], sym (append-nil old.sends.items))) in
     record { lines = b.0; sends = b.1 }
+
+pub begins_same : (out : Out) → BeginsWith out out
+begins_same out = record { lines = ([], sym (append-nil out.lines.items)); sends = ([], sym (append-nil out.sends.items)) }
+
+pub begins_further : (a b c : Out) → BeginsWith a b → BeginsWith b c → BeginsWith a c
+begins_further a b c h g = record {
+  lines = (h.lines.0 ++ g.lines.0, g.lines.1 ∙ ap (λ (ls : List Line). ls ++ g.lines.0) h.lines.1 ∙ append_assoc a.lines.items h.lines.0 g.lines.0);
+  sends = (h.sends.0 ++ g.sends.0, g.sends.1 ∙ ap (λ (ss : List Sent). ss ++ g.sends.0) h.sends.1 ∙ append_assoc a.sends.items h.sends.0 g.sends.0);
+}
+
+-- a mote that had not failed has not failed by now, and what was written before is still there
+abbrev pub GoesOnSoFar : Option Mote → Out → Option Mote → Out → Type 0
+GoesOnSoFar None out now out' = (now ≡ None) × (out' ≡ out)
+GoesOnSoFar (Some m) out now out' = ((m' : Mote) × (now ≡ Some m')) × BeginsWith out out'
+
+pub so_far_none : (m : Option Mote) (out : Out) → GoesOnSoFar m out m out
+so_far_none None out = (refl, refl)
+so_far_none (Some m) out = ((m, refl), begins_same out)
+
+-- one more call that told no error
+pub so_far_next : (gives : Mote → List Line → List Sent → Given) (old : Option Mote) (out : Out) (now : Option Mote) (out1 : Out) (r : Ran) (new : Option Mote) (out2 : Out)
+    → GoesOnSoFar old out now out1 → Tells gives now out1 (Ok r) new out2 → BeginsWith out1 out2 → GoesOnSoFar old out new out2
+so_far_next gives None out None out1 r new out2 so_far told more = let failed = told.0 in cc
+so_far_next gives None out (Some m) out1 r new out2 so_far told more = let none = so_far.0 in cc
+so_far_next gives (Some m) out None out1 r new out2 so_far told more = let some = so_far.0.1 in cc
+so_far_next gives (Some m) out (Some m1) out1 r new out2 so_far told more = ((told.0, told.1), begins_further out out1 out2 so_far.1 more)
+
+-- and one that told an error
+pub so_far_fails : (gives : Mote → List Line → List Sent → Given) (old : Option Mote) (out : Out) (now : Option Mote) (out1 : Out) (e : KernelError) (new : Option Mote) (out2 : Out)
+    → GoesOnSoFar old out now out1 → Tells gives now out1 (Err e) new out2 → FailsAs old out e new out2
+so_far_fails gives None out None out1 e new out2 so_far told = ((let failed = told.0 in cc), told.1, told.2 ∙ so_far.1)
+so_far_fails gives None out (Some m) out1 e new out2 so_far told = let none = so_far.0 in cc
+so_far_fails gives (Some m) out None out1 e new out2 so_far told = let some = so_far.0.1 in cc
+so_far_fails gives (Some m) out (Some m1) out1 e new out2 so_far told = (told.0, told.1, begins_further out out1 out2 so_far.1 told.2)

@@ -1,8 +1,8 @@
 -- Steps of a turn under way that go on by their definitions.
 use Rattle.std.proofs.Common.{◌≡◌, List, Option, Some, None, Ok, refl, subst}
 use Rattle.process_kernel.specs.declared.kernel.Ran.{Ran}
-use Rattle.process_kernel.specs.declared.line.Line.{Line}
-use Rattle.process_kernel.specs.declared.line.Out.{Out}
+use Rattle.trace_lines.specs.declared.line.Line.{Line}
+use Rattle.trace_lines.specs.declared.out.Out.{Out}
 use Rattle.radio_packet.specs.declared.sent.Sent.{Sent}
 use Rattle.process_kernel.specs.Mote.{Mote}
 use Rattle.process_kernel.specs.Public.{Given, Tells}

@@ -1,6 +1,6 @@
 -- Laws of kernels.
 use Rattle.std.specs.Prelude.{ℕ, ◌≡◌, nat_lt, true, List}
-use Rattle.process_kernel.specs.declared.line.Line.{Line}
+use Rattle.trace_lines.specs.declared.line.Line.{Line}
 use Rattle.radio_packet.specs.declared.sent.Sent.{Sent}
 use Rattle.process_kernel.specs.declared.kernel.Ran.TheVariants.{Left, Halted}
 use Rattle.process_kernel.specs.Mote.{Mote, is_pending}

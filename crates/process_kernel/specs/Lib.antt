@@ -29,3 +29,4 @@ pub mod TimerOperations
 pub mod Underway
 pub mod Views
 pub mod Writes
+pub use Rattle.trace_lines.specs.Out

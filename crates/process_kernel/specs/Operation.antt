@@ -9,7 +9,7 @@ use Rattle.protothread.specs.declared.step.Step.{Step}
 use Rattle.protothread.specs.declared.step.Step.TheVariants as step
 use Rattle.protothread.specs.Remainder.{Remainder}
 use Rattle.protothread.specs.Step.{answered_of}
-use Rattle.process_kernel.specs.declared.line.What.TheVariants as what
+use Rattle.trace_lines.specs.declared.line.What.TheVariants as what
 use Rattle.process_kernel.specs.State.{State, Outcome, Went, Ends, Goes, ◌>>=◌}
 use Rattle.process_kernel.specs.Posts.{post_of, poll_of, send_of}
 use Rattle.process_kernel.specs.Semaphores.{take_of, signal_of}

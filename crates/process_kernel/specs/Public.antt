@@ -1,9 +1,10 @@
 -- What the calls of a `Kernel` tell.
-use Rattle.std.specs.Prelude.{ℕ, ◌≡◌, ◌+◌, ◌++◌, true, false, List, Option, Some, None, Result, Ok, Err, if◌then◌else◌}
+use Rattle.std.specs.Prelude.{ℕ, ◌≡◌, ◌+◌, true, false, List, Option, Some, None, Result, Ok, Err, if◌then◌else◌}
 use Rattle.program_tree.specs.Code.{Tree}
-use Rattle.process_kernel.specs.declared.line.Line.{Line}
+use Rattle.trace_lines.specs.declared.line.Line.{Line}
 use Rattle.radio_packet.specs.declared.sent.Sent.{Sent}
-use Rattle.process_kernel.specs.declared.line.Out.{Out}
+use Rattle.trace_lines.specs.declared.out.Out.{Out}
+pub use Rattle.trace_lines.specs.Out.{BeginsWith}
 use Rattle.process_kernel.specs.declared.kernel.Kernel.{Kernel}
 use Rattle.process_kernel.specs.declared.kernel.Ran.{Ran}
 use Rattle.process_kernel.specs.declared.kernel.Ran.TheVariants as ran
@@ -54,17 +55,18 @@ boot_given moment m lines sends = unless_halted m lines sends (given (boot_of (c
 unfoldable pub run_given : (moment : ℕ) → Mote → List Line → List Sent → Given
 run_given moment m lines sends = unless_halted m lines sends (given (kernel_of (calls_of (most_units + 1)) (begun m moment lines sends)))
 
--- so much was written before
-pub record BeginsWith (old new : Out) : Type 0 where
-  pub lines : (more : List Line) × (new.lines.items ≡ old.lines.items ++ more)
-  pub sends : (more : List Sent) × (new.sends.items ≡ old.sends.items ++ more)
-
 -- What a boot or a run told of a mote: what the definition gives, or that no memory was found, from which on there is no mote.
 abbrev pub Tells : (Mote → List Line → List Sent → Given) → Option Mote → Out → Result Ran KernelError → Option Mote → Out → Type 0
 Tells gives None out result new out' = (result ≡ Err error.Failed) × (new ≡ None) × (out' ≡ out)
 Tells gives (Some m) out (Ok r) new out' =
     (m' : Mote) × (new ≡ Some m') × (gives m out.lines.items out.sends.items ≡ record { ran = r; mote = m'; lines = out'.lines.items; sends = out'.sends.items })
 Tells gives (Some m) out (Err e) new out' = (e ≡ error.Memory) × (new ≡ None) × BeginsWith out out'
+
+-- What an error leaves: a kernel that had failed answers so, and changes nothing; else it was out of memory, from which
+-- on there is no mote, and what was written before is still there.
+abbrev pub FailsAs : Option Mote → Out → KernelError → Option Mote → Out → Type 0
+FailsAs None out e new out' = (e ≡ error.Failed) × (new ≡ None) × (out' ≡ out)
+FailsAs (Some m) out e new out' = (e ≡ error.Memory) × (new ≡ None) × BeginsWith out out'
 
 -- what a kernel answers to how a run of its machine ended, and what it notes
 abbrev pub Closes : Kernel → Result ℕ Stop → Result Ran KernelError → Kernel → Type 0

@@ -7,7 +7,7 @@ use Rattle.mote_timers.specs.TimerLists.{TimerLists}
 use Rattle.process_kernel.specs.declared.process.ProcessState.{ProcessState}
 use Rattle.process_kernel.specs.declared.process.Member.{Member}
 use Rattle.radio_packet.specs.declared.arrival.Arrival.{Arrival}
-use Rattle.process_kernel.specs.declared.line.Line.{Line}
+use Rattle.trace_lines.specs.declared.line.Line.{Line}
 use Rattle.radio_packet.specs.declared.sent.Sent.{Sent}
 
 -- The program and the number of the mote. For each process, the system processes first: its state, whether it is being

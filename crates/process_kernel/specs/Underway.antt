@@ -1,7 +1,7 @@
 -- A turn under way: a mote, with what it has told so far.
 use Rattle.std.specs.Prelude.{◌≡◌, List, Option, Some, option_map}
-use Rattle.process_kernel.specs.declared.line.Line.{Line}
-use Rattle.process_kernel.specs.declared.line.Out.{Out}
+use Rattle.trace_lines.specs.declared.line.Line.{Line}
+use Rattle.trace_lines.specs.declared.out.Out.{Out}
 use Rattle.radio_packet.specs.declared.sent.Sent.{Sent}
 use Rattle.process_kernel.specs.Mote.{Mote}
 use Rattle.process_kernel.specs.Public.{Given}

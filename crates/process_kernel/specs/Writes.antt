@@ -1,7 +1,7 @@
 -- Lines of the trace, work, and the halt of a mote.
 use Rattle.std.specs.Prelude.{◌==◌, ◌-◌, [], ◌∷◌, ◌++◌, if◌then◌else◌}
-use Rattle.process_kernel.specs.declared.line.What.{What}
-use Rattle.process_kernel.specs.declared.line.What.TheVariants.{Halt}
+use Rattle.trace_lines.specs.declared.line.What.{What}
+use Rattle.trace_lines.specs.declared.line.What.TheVariants.{Halt}
 use Rattle.process_kernel.specs.State.{State, Went, Ends, Goes}
 
 abbrev pub with_line : State → What → State

@@ -25,7 +25,13 @@ impl Machine {
         process: u8,
         event: &Event,
     ) -> Step
-        ensures exact { (t : Tree) → stepped_of (state_of t self.old) (code_of text.now) (remainder_of (code_of text.now) thread.old) process event.now ≡ record { step = result; remainder = remainder_of (code_of text.now) thread.new; state = state_of t self.new } }
+        ensures exact { (t : Tree) → stepped_of (state_of t self.old) (code_of text.now)
+            (remainder_of (code_of text.now) thread.old) process event.now
+            ≡ record {
+              step = result;
+              remainder = remainder_of (code_of text.now) thread.new;
+              state = state_of t self.new;
+            } }
         ensures pays { PaysFor result self.old.fuel self.new.fuel }
         ensures started { self.new.started ≡ self.old.started }
         ensures grows { Grows self.old.out self.new.out }
@@ -46,7 +52,9 @@ impl Machine {
     /// Tells a thread whether the queue was full for what it posted.
     #[tactic(auto, unfolding(crate::specs::Operation::answer_of))]
     pub fn answer(&mut self, thread: &mut Thread, process: u8, is_full: bool)
-        ensures exact { (t : Tree) (code : Code) → answer_of (state_of t self.old) (remainder_of code thread.old) process is_full ≡ Goes (remainder_of code thread.new) (state_of t self.new) }
+        ensures exact { (t : Tree) (code : Code)
+            → answer_of (state_of t self.old) (remainder_of code thread.old) process is_full
+            ≡ Goes (remainder_of code thread.new) (state_of t self.new) }
         ensures kept { KeepsCounts self.old self.new }
         ensures grows { Grows self.old.out self.new.out }
     {

@@ -13,7 +13,9 @@ impl Machine {
     /// Starts processes of the program, in order.
     fn start_each(&mut self, program: &Program, processes: &[u8]) -> Result<(), Stop>
         requires { HasRoom 1 self.old }
-        ensures exact { (k : ℕ) → self.old.fuel < k → Tells result (state_of (tree_of program.now) self.new) (starts_of (calls_of k) (map Proc.Own processes.now) (state_of (tree_of program.now) self.old)) }
+        ensures exact { (k : ℕ) → self.old.fuel < k
+            → Tells result (state_of (tree_of program.now) self.new)
+            (starts_of (calls_of k) (map Proc.Own processes.now) (state_of (tree_of program.now) self.old)) }
         ensures grows { Grows self.old.out self.new.out }
     {
         for process in processes {
@@ -26,7 +28,9 @@ impl Machine {
     #[tactic(auto, unfolding(crate::specs::Boot::boot_of))]
     pub fn boot(&mut self, program: &Program) -> Result<u16, Stop>
         requires { HasRoom 1 self.old }
-        ensures exact { (k : ℕ) → self.old.fuel < k → Tells result (state_of (tree_of program.now) self.new) (boot_of (calls_of k) (state_of (tree_of program.now) self.old)) }
+        ensures exact { (k : ℕ) → self.old.fuel < k
+            → Tells result (state_of (tree_of program.now) self.new)
+            (boot_of (calls_of k) (state_of (tree_of program.now) self.old)) }
         ensures grows { Grows self.old.out self.new.out }
     {
         self.start(program, Proc::Etimer)?;

@@ -32,7 +32,9 @@ impl Machine {
     #[tactic(auto, unfolding(crate::specs::Call::call_of, crate::specs::Call::answered))]
     pub fn call(&mut self, program: &Program, process: Proc, event: &Event) -> Result<(), Stop>
         requires { HasRoom 0 self.old }
-        ensures exact { (k : ℕ) → self.old.fuel < k → Tells result (state_of (tree_of program.now) self.new) ((calls_of k).call (state_of (tree_of program.now) self.old) process event.now) }
+        ensures exact { (k : ℕ) → self.old.fuel < k
+            → Tells result (state_of (tree_of program.now) self.new)
+            ((calls_of k).call (state_of (tree_of program.now) self.old) process event.now) }
         ensures spends { OnOk result (Spends 0 self.old self.new) }
         ensures pays { OnOk result (Pays process self.old self.new) }
         ensures grows { Grows self.old.out self.new.out }
@@ -62,7 +64,9 @@ impl Machine {
         event: &Event,
     ) -> Result<PtState, Stop>
         requires { HasRoom 0 self.old }
-        ensures exact { (k : ℕ) → self.old.fuel < k → Tells result (state_of (tree_of program.now) self.new) (react_of (calls_of k) (state_of (tree_of program.now) self.old) process event.now) }
+        ensures exact { (k : ℕ) → self.old.fuel < k
+            → Tells result (state_of (tree_of program.now) self.new)
+            (react_of (calls_of k) (state_of (tree_of program.now) self.old) process event.now) }
         ensures spends { OnOk result (Spends 0 self.old self.new) }
         ensures grows { Grows self.old.out self.new.out }
     {
@@ -94,7 +98,9 @@ impl Machine {
         event: &Event,
     ) -> Result<PtState, Stop>
         requires { HasRoom 0 self.old }
-        ensures exact { (k : ℕ) → self.old.fuel < k → Tells result (state_of (tree_of program.now) self.new) (own_of (calls_of k) (state_of (tree_of program.now) self.old) number event.now) }
+        ensures exact { (k : ℕ) → self.old.fuel < k
+            → Tells result (state_of (tree_of program.now) self.new)
+            (own_of (calls_of k) (state_of (tree_of program.now) self.old) number event.now) }
         ensures spends { OnOk result (Spends 0 self.old self.new) }
         ensures grows { Grows self.old.out self.new.out }
     {
@@ -117,7 +123,9 @@ impl Machine {
         event: &Event,
     ) -> Result<(), Stop>
         requires { HasRoom 0 self.old }
-        ensures exact { (k : ℕ) → self.old.fuel < k → Tells result (state_of (tree_of program.now) self.new) (handler_of (calls_of k) (state_of (tree_of program.now) self.old) (code_of text.now) number event.now) }
+        ensures exact { (k : ℕ) → self.old.fuel < k
+            → Tells result (state_of (tree_of program.now) self.new)
+            (handler_of (calls_of k) (state_of (tree_of program.now) self.old) (code_of text.now) number event.now) }
         ensures spends { OnOk result (Spends 0 self.old self.new) }
         ensures grows { Grows self.old.out self.new.out }
     {
@@ -143,7 +151,9 @@ impl Machine {
     ) -> Result<PtState, Stop>
         requires room { HasRoom 0 self.old }
         requires text { slice_get (tree_of program.now).codes number ≡ Some (code_of text.now) }
-        ensures exact { (k : ℕ) → self.old.fuel < k → Tells result (state_of (tree_of program.now) self.new) (resume_of (calls_of k) (state_of (tree_of program.now) self.old) (code_of text.now) number event.now) }
+        ensures exact { (k : ℕ) → self.old.fuel < k
+            → Tells result (state_of (tree_of program.now) self.new)
+            (resume_of (calls_of k) (state_of (tree_of program.now) self.old) (code_of text.now) number event.now) }
         ensures spends { OnOk result (Spends 0 self.old self.new) }
         ensures grows { Grows self.old.out self.new.out }
     {
@@ -158,7 +168,9 @@ impl Machine {
     #[tactic(auto, unfolding(crate::specs::Ctimer::ctimer_of))]
     fn react_as_ctimer(&mut self, program: &Program, event: &Event) -> Result<(), Stop>
         requires { HasRoom 0 self.old }
-        ensures exact { (k : ℕ) → self.old.fuel < k → Tells result (state_of (tree_of program.now) self.new) (ctimer_of (calls_of k) (state_of (tree_of program.now) self.old) event.now) }
+        ensures exact { (k : ℕ) → self.old.fuel < k
+            → Tells result (state_of (tree_of program.now) self.new)
+            (ctimer_of (calls_of k) (state_of (tree_of program.now) self.old) event.now) }
         ensures spends { OnOk result (Spends 0 self.old self.new) }
         ensures grows { Grows self.old.out self.new.out }
     {
@@ -176,7 +188,9 @@ impl Machine {
     #[tactic(auto, unfolding(crate::specs::Ctimer::callback_of))]
     fn call_back(&mut self, program: &Program, event: &Event) -> Result<(), Stop>
         requires { HasRoom 0 self.old }
-        ensures exact { (k : ℕ) → self.old.fuel < k → Tells result (state_of (tree_of program.now) self.new) (callback_of (calls_of k) (state_of (tree_of program.now) self.old) event.now) }
+        ensures exact { (k : ℕ) → self.old.fuel < k
+            → Tells result (state_of (tree_of program.now) self.new)
+            (callback_of (calls_of k) (state_of (tree_of program.now) self.old) event.now) }
         ensures spends { OnOk result (Spends 0 self.old self.new) }
         ensures grows { Grows self.old.out self.new.out }
     {
@@ -200,7 +214,9 @@ impl Machine {
         event: &Event,
     ) -> Result<(), Stop>
         requires { HasRoom 0 self.old }
-        ensures exact { (k : ℕ) → self.old.fuel < k → Tells result (state_of (tree_of program.now) self.new) (part_of (calls_of k) (state_of (tree_of program.now) self.old) (code_of text.now) part process event.now) }
+        ensures exact { (k : ℕ) → self.old.fuel < k
+            → Tells result (state_of (tree_of program.now) self.new)
+            (part_of (calls_of k) (state_of (tree_of program.now) self.old) (code_of text.now) part process event.now) }
         ensures spends { OnOk result (Spends 0 self.old self.new) }
         ensures grows { Grows self.old.out self.new.out }
     {
@@ -222,7 +238,9 @@ impl Machine {
         event: &Event,
     ) -> Result<(), Stop>
         requires { HasRoom 0 self.old }
-        ensures exact { (k : ℕ) → self.old.fuel < k → Tells result (state_of (tree_of program.now) self.new) (part_of (calls_of k) (state_of (tree_of program.now) self.old) (code_of text.now) part process event.now) }
+        ensures exact { (k : ℕ) → self.old.fuel < k
+            → Tells result (state_of (tree_of program.now) self.new)
+            (part_of (calls_of k) (state_of (tree_of program.now) self.old) (code_of text.now) part process event.now) }
         ensures spends { OnOk result (Spends 0 self.old self.new) }
         ensures grows { Grows self.old.out self.new.out }
     {
@@ -243,7 +261,10 @@ impl Machine {
         event: &Event,
     ) -> Result<PtState, Stop>
         requires { HasRoom 0 self.old }
-        ensures exact { (k : ℕ) → self.old.fuel < k → Tells (told_answer (code_of text.now) thread.new result) (state_of (tree_of program.now) self.new) ((calls_of k).run (state_of (tree_of program.now) self.old) (code_of text.now) (remainder_of (code_of text.now) thread.old) process event.now) }
+        ensures exact { (k : ℕ) → self.old.fuel < k
+            → Tells (told_answer (code_of text.now) thread.new result) (state_of (tree_of program.now) self.new)
+            ((calls_of k).run (state_of (tree_of program.now) self.old) (code_of text.now)
+            (remainder_of (code_of text.now) thread.old) process event.now) }
         ensures spends { OnOk result (Spends 0 self.old self.new) }
         ensures grows { Grows self.old.out self.new.out }
     {

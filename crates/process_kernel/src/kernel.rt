@@ -6,13 +6,13 @@ ghost use Rattle.program_tree.specs.Program.{tree_of};
 ghost use Rattle.mote_timers.specs.TimerLists.{next_expiration_of};
 ghost use Rattle.process_kernel.specs.Mote.{unbooted, with_poll, with_packet, has_room, is_pending};
 
-use crate::line::Out;
 use crate::machine::{Machine, Stop};
 use program_tree::{Proc, Program};
 use radio_packet::Arrival;
 use std::alloc::Global;
 use std::error::Error;
 use std::{fmt, mem};
+use trace_lines::Out;
 
 /// How a boot or a kernel run ends: with so many events and polls left, or with the mote halted for good.
 #[derive(Clone, Copy, Debug, PartialEq, Eq)]
@@ -25,9 +25,9 @@ pub enum Ran {
 /// Why a kernel gives no answer.
 #[derive(Clone, Copy, Debug, PartialEq, Eq)]
 pub enum KernelError {
-    /// No memory was found.
+    /// Out of memory: an allocation failed.
     Memory = 1,
-    /// An earlier call found no memory.
+    /// An earlier call was out of memory.
     Failed = 2,
 }
 
@@ -46,9 +46,10 @@ impl fmt::Display for KernelError {
 
 impl Error for KernelError {}
 
-/// The process kernel of a mote (`process.c`, `etimer.c` and `ctimer.c` of Contiki). It is booted once and then run, always with
-/// the same program. All its memory is taken by `new`, but for the lines and packets of its runs, and for the thread of a body that
-/// begins anew while it runs. Where that is refused, what `out` had stays, perhaps with more behind it, and the kernel fails from then on.
+/// The process kernel of a mote (`process.c`, `etimer.c` and `ctimer.c` of Contiki). It is booted once and then run,
+/// always with the same program. All its memory is taken by `new`, but for the lines and packets of its runs, and for
+/// the thread of a body that begins anew while it runs. Where such an allocation fails, what `out` had stays, perhaps
+/// with more appended to it, and the kernel fails from then on.
 pub struct Kernel {
     booted: bool,
     halted: bool,
@@ -69,7 +70,8 @@ impl Drop for Kernel {
 }
 
 impl Kernel {
-    ghost use Rattle.process_kernel.specs.Public.{mote_in, held_in, boot_given, run_given, Tells, Closes};
+    ghost use Rattle.process_kernel.specs.Public.{mote_in, held_in, boot_given, run_given, Tells, FailsAs, BeginsWith};
+    ghost use Rattle.process_kernel.specs.Public.{Closes};
     ghost use Rattle.process_kernel.specs.Underway.{GoesOn};
     ghost use Rattle.process_kernel.specs.Runs.{runs_of};
 
@@ -83,7 +85,8 @@ impl Kernel {
     ) -> Result<Kernel, KernelError>
         requires some_room { 1 ≤ queue }
         requires limit { queue ≤ 128 }
-        ensures ok { IfOk result (λ k. mote_in (tree_of program.now) k ≡ Some (unbooted (tree_of program.now) mote queue)) }
+        ensures ok { IfOk result (λ k. mote_in (tree_of program.now) k
+            ≡ Some (unbooted (tree_of program.now) mote queue)) }
         ensures err { IfErr result (λ e. e ≡ KernelError.Memory) }
     {
         match Machine::new(alloc, program, mote, queue) {
@@ -97,11 +100,12 @@ impl Kernel {
         }
     }
 
-    /// Boots the mote at this moment: the system processes are started, and then those that the program names. Lines and
-    /// packets are added to `out`. A kernel that found no memory fails from then on.
+    /// Boots the mote at this moment: the system processes are started, and then those that the program names. Lines
+    /// and packets are appended to `out`. A kernel that was out of memory fails from then on.
     pub fn boot(&mut self, program: &Program, now: u64, out: &mut Out) -> Result<Ran, KernelError>
         requires { now ≤ 2 ^ 40 }
-        ensures { Tells (boot_given now) (mote_in (tree_of program.now) self.old) out.old result (mote_in (tree_of program.now) self.new) out.new }
+        ensures { let t = tree_of program.now in
+            Tells (boot_given now) (mote_in t self.old) out.old result (mote_in t self.new) out.new }
     {
         if self.failed {
             return Err(KernelError::Failed);
@@ -119,7 +123,10 @@ impl Kernel {
     /// One kernel run at this moment, whose lines and packets are added to what the machine has.
     fn run_on(&mut self, program: &Program, now: u64) -> Result<Ran, KernelError>
         requires { now ≤ 2 ^ 40 }
-        ensures { Tells (run_given now) (mote_in (tree_of program.now) self.old) self.old.machine.out result (mote_in (tree_of program.now) self.new) self.new.machine.out }
+        ensures told { let t = tree_of program.now in
+            Tells (run_given now) (mote_in t self.old) self.old.machine.out result
+            (mote_in t self.new) self.new.machine.out }
+        ensures begins { BeginsWith self.old.machine.out self.new.machine.out }
     {
         if self.failed {
             return Err(KernelError::Failed);
@@ -133,10 +140,11 @@ impl Kernel {
     }
 
     /// One kernel run at this moment: the polls, where they are due, and the event at the front of the queue. Lines and
-    /// packets are added to `out`. A kernel that found no memory fails from then on.
+    /// packets are added to `out`. A kernel that was out of memory fails from then on.
     pub fn run(&mut self, program: &Program, now: u64, out: &mut Out) -> Result<Ran, KernelError>
         requires { now ≤ 2 ^ 40 }
-        ensures { Tells (run_given now) (mote_in (tree_of program.now) self.old) out.old result (mote_in (tree_of program.now) self.new) out.new }
+        ensures { let t = tree_of program.now in
+            Tells (run_given now) (mote_in t self.old) out.old result (mote_in t self.new) out.new }
     {
         mem::swap(&mut self.machine.out, out);
         let ran = self.run_on(program, now);
@@ -144,10 +152,16 @@ impl Kernel {
         ran
     }
 
-    /// Kernel runs at this moment, at most so many, until one leaves nothing to do or the mote halts, on what the machine has.
+    /// Kernel runs at this moment, at most so many, until one leaves nothing to do or the mote halts, on what the
+    /// machine has.
     fn run_all_on(&mut self, program: &Program, now: u64, most: u8) -> Result<(), KernelError>
         requires { now ≤ 2 ^ 40 }
-        ensures { let t = tree_of program.now in OnOk result (GoesOn (runs_of most now) (mote_in t self.old) self.old.machine.out (mote_in t self.new) self.new.machine.out) }
+        ensures ok { let t = tree_of program.now in
+            OnOk result (GoesOn (runs_of most now) (mote_in t self.old) self.old.machine.out
+            (mote_in t self.new) self.new.machine.out) }
+        ensures err { let t = tree_of program.now in
+            IfErr result (λ e. FailsAs (mote_in t self.old) self.old.machine.out e
+            (mote_in t self.new) self.new.machine.out) }
     {
         'runs: for _run in 0..most {
             match self.run_on(program, now)? {
@@ -162,8 +176,9 @@ impl Kernel {
         Ok(())
     }
 
-    /// Kernel runs at this moment, at most so many, until one leaves nothing to do or the mote halts: as so many calls of `run`.
-    /// Lines and packets are added to `out`. A kernel that found no memory fails from then on.
+    /// Kernel runs at this moment, at most so many, until one leaves nothing to do or the mote halts: as so many calls
+    /// of `run`. Lines and packets are appended to `out`, also where one of them is out of memory; the kernel fails
+    /// from then on.
     pub fn run_all(
         &mut self,
         program: &Program,
@@ -172,7 +187,10 @@ impl Kernel {
         out: &mut Out,
     ) -> Result<(), KernelError>
         requires { now ≤ 2 ^ 40 }
-        ensures { let t = tree_of program.now in OnOk result (GoesOn (runs_of most now) (mote_in t self.old) out.old (mote_in t self.new) out.new) }
+        ensures ok { let t = tree_of program.now in
+            OnOk result (GoesOn (runs_of most now) (mote_in t self.old) out.old (mote_in t self.new) out.new) }
+        ensures err { let t = tree_of program.now in
+            IfErr result (λ e. FailsAs (mote_in t self.old) out.old e (mote_in t self.new) out.new) }
     {
         mem::swap(&mut self.machine.out, out);
         let ran = self.run_all_on(program, now, most);
@@ -211,9 +229,11 @@ impl Kernel {
     #[tactic(auto, unfolding(crate::specs::Public::mote_in, crate::specs::Public::held_in, crate::specs::Mote::with_packet))]
     pub fn accept_packet(&mut self, packet: Arrival) -> bool
         ensures room { (t : Tree) → IfSome (mote_in t self.old) (λ m. result ≡ has_room m) }
-        ensures after { (t : Tree) → mote_in t self.new ≡ option_map (λ m. if has_room m then with_packet m packet else m) (mote_in t self.old) }
+        ensures after { (t : Tree) → mote_in t self.new
+            ≡ option_map (λ m. if has_room m then with_packet m packet else m) (mote_in t self.old) }
         ensures held_room { (t : Tree) → result ≡ has_room (held_in t self.old) }
-        ensures held_after { (t : Tree) → held_in t self.new ≡ (if result then with_packet (held_in t self.old) packet else held_in t self.old) }
+        ensures held_after { (t : Tree)
+            → held_in t self.new ≡ (if result then with_packet (held_in t self.old) packet else held_in t self.old) }
     {
         self.machine.accept_packet(packet)
     }

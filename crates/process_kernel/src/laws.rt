@@ -1,10 +1,10 @@
-//! Laws of kernels. Each is the contract of a function that does nothing.
+//! Laws of kernels. Each is a theorem, stated as the contract of an empty function.
 
 ghost use Rattle.process_kernel.specs.Laws.{TellsLeft, PendingIsLeft, StaysHalted};
 ghost use Rattle.process_kernel.specs.Public.{boot_given, run_given};
 
-/// What a boot or a run answers as left is what the mote has left to do, and a kernel is pending exactly where that is more
-/// than nothing.
+/// What a boot or a run answers as left is what the mote has left to do, and a kernel is pending exactly where that is
+/// more than nothing.
 pub fn left_is_pending()
     ensures boot { TellsLeft boot_given }
     ensures run { TellsLeft run_given }

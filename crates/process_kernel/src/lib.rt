@@ -7,7 +7,6 @@ mod call;
 mod event;
 mod kernel;
 mod laws;
-mod line;
 mod list;
 mod look;
 mod machine;
@@ -22,5 +21,5 @@ mod timer;
 
 pub use kernel::{Kernel, KernelError, Ran};
 pub use laws::{halted_for_good, left_is_pending};
-pub use line::{Line, Out, What};
 pub use radio_packet::{Arrival, Sent};
+pub use trace_lines::{Line, Out, What};

@@ -1,14 +1,15 @@
 //! How the process list grows and shrinks.
 
-ghost use Rattle.std.specs.Prelude.{◌≡◌, ◌<◌, ◌≤◌, ◌+◌, ◌^◌, ◌∷◌, false, not, OnOk, IfOk, IfErr, Some, drop, filter, length, slice_get};
+ghost use Rattle.std.specs.Prelude.{◌≡◌, ◌<◌, ◌≤◌, ◌+◌, ◌^◌, ◌∷◌, false, not, OnOk, IfOk, IfErr, Some, drop, filter};
+ghost use Rattle.std.specs.Prelude.{length, slice_get};
 ghost use Rattle.program_tree.specs.Code.{Tree, Code};
 ghost use Rattle.protothread.specs.Frames.{remainder_of};
 ghost use Rattle.process_kernel.specs.Members.{is_same as are_same, place_of, stands_in};
-ghost use Rattle.process_kernel.specs.ProcessList.{put_remainder, enlist_of, exiting_of, unlisted_of, leave_of, numbered_from, with_fresh_body, with_fresh_process};
+ghost use Rattle.process_kernel.specs.ProcessList.{put_remainder, enlist_of, exiting_of, unlisted_of, leave_of};
+ghost use Rattle.process_kernel.specs.ProcessList.{numbered_from, with_fresh_body, with_fresh_process};
 ghost use Rattle.process_kernel.specs.Reaction.{remainder_at};
 ghost use Rattle.process_kernel.specs.Views.{state_of, body_of, Tells, Grows, KeepsCounts};
 
-use crate::line::What;
 use crate::machine::{MOST_PROCESSES, Machine, Stop};
 use crate::process::{Member, ProcessState};
 use crate::table::is_same;
@@ -16,9 +17,10 @@ use arrayvec::ArrayVec;
 use program_tree::Proc;
 use protothread::{Part, Thread};
 use std::alloc::AllocError;
+use trace_lines::What;
 
 impl Machine {
-    /// The process list as it stands now.
+    /// The current process list.
     pub fn snapshot(&self) -> ArrayVec<Member, MOST_PROCESSES>
         ensures { result.items ≡ self.now.members.items }
     {
@@ -27,7 +29,7 @@ impl Machine {
         members
     }
 
-    /// The process list as it stands now, from a place on.
+    /// The current process list, from a place on.
     pub fn snapshot_from<const ROOM: usize>(&self, place: usize) -> ArrayVec<Member, ROOM>
         requires inside { place ≤ length self.now.members.items }
         requires room { length self.now.members.items ≤ place + ROOM }
@@ -44,7 +46,8 @@ impl Machine {
     #[inline(always)]
     #[tactic(auto, using(crate::proofs::Remainders::remainders_set, crate::proofs::Remainders::remainders_set_past), unfolding(crate::specs::ProcessList::put_remainder))]
     pub fn put_thread(&mut self, process: u8, thread: Box<Thread>)
-        ensures exact { (t : Tree) (code : Code) → slice_get t.codes process ≡ Some code → state_of t self.new ≡ put_remainder (state_of t self.old) process (remainder_of code thread.value) }
+        ensures exact { (t : Tree) (code : Code) → slice_get t.codes process ≡ Some code
+            → state_of t self.new ≡ put_remainder (state_of t self.old) process (remainder_of code thread.value) }
         ensures kept { KeepsCounts self.old self.new }
         ensures grows { Grows self.old.out self.new.out }
     {
@@ -57,7 +60,8 @@ impl Machine {
     /// Takes the body of a process out of the table, where it is there.
     #[tactic(auto, using(crate::proofs::Remainders::remainders_get, crate::proofs::Remainders::remainders_past, crate::proofs::Remainders::remainders_fresh, crate::proofs::Remainders::fresh_past))]
     fn lift_thread(&mut self, process: u8) -> Option<Box<Thread>>
-        ensures exact { (t : Tree) (code : Code) → slice_get t.codes process ≡ Some code → body_of code result ≡ remainder_at (state_of t self.old) code process }
+        ensures exact { (t : Tree) (code : Code) → slice_get t.codes process ≡ Some code
+            → body_of code result ≡ remainder_at (state_of t self.old) code process }
         ensures after { (t : Tree) → state_of t self.new ≡ with_fresh_body (state_of t self.old) process }
         ensures kept { KeepsCounts self.old self.new }
         ensures grows { Grows self.old.out self.new.out }
@@ -73,7 +77,8 @@ impl Machine {
     /// Takes the body of a process out of the table; one that isn't there is fresh.
     #[inline(always)]
     pub fn take_thread(&mut self, process: u8) -> Result<Box<Thread>, Stop>
-        ensures exact { (t : Tree) (code : Code) → slice_get t.codes process ≡ Some code → IfOk result (λ thread. remainder_of code thread.value ≡ remainder_at (state_of t self.old) code process) }
+        ensures exact { (t : Tree) (code : Code) → slice_get t.codes process ≡ Some code
+            → IfOk result (λ thread. remainder_of code thread.value ≡ remainder_at (state_of t self.old) code process) }
         ensures err { IfErr result (λ stop. stop ≡ Stop.Memory) }
         ensures after { (t : Tree) → state_of t self.new ≡ with_fresh_body (state_of t self.old) process }
         ensures kept { KeepsCounts self.old self.new }
@@ -117,7 +122,11 @@ impl Machine {
         requires there { place_of process < length self.old.shown.states.items }
         requires away { stands_in self.old.members.items process ≡ false }
         requires room { self.old.started + 1 < 2 ^ 32 }
-        ensures exact { (t : Tree) → OnOk result (state_of t self.new ≡ record (state_of t self.old) { members = record { process = process; incarnation = self.old.started } ∷ self.old.members.items; started = self.old.started + 1 }) }
+        ensures exact { (t : Tree) → OnOk result
+            (state_of t self.new ≡ record (state_of t self.old) {
+              members = record { process = process; incarnation = self.old.started } ∷ self.old.members.items;
+              started = self.old.started + 1;
+            }) }
         ensures counts { OnOk result ((self.new.fuel ≡ self.old.fuel) × (self.new.started ≡ self.old.started + 1)) }
         ensures grows { Grows self.old.out self.new.out }
     {

@@ -7,7 +7,8 @@ use crate::table::{is_alive, state_at};
 use mote_timers::Timers;
 use protothread::{Look, Semaphore};
 
-/// What a protothread is shown: the moment, the mote's number, the timers, the states of the processes and the semaphores.
+/// What a protothread is shown: the moment, the mote's number, the timers, the states of the processes and the
+/// semaphores.
 #[derive(Drop)]
 pub struct Shown {
     pub(crate) moment: u64,

@@ -5,7 +5,6 @@ ghost use Rattle.process_kernel.specs.Members.{AreMembers};
 ghost use Rattle.process_kernel.specs.ProcessList.{numbered_from};
 ghost use Rattle.std.proofs.Props.{props};
 
-use crate::line::Out;
 use crate::look::Shown;
 use crate::process::Member;
 use circular_buffer::HeapCircularBuffer;
@@ -14,6 +13,7 @@ use mote_timers::Callbacks;
 use protothread::{Fuel, Thread, Vars};
 use radio_packet::Arrival;
 use std::alloc::{AllocError, AllocFailed, Global};
+use trace_lines::Out;
 
 /// How many processes a mote has at most: 64 of its program, and the three system processes.
 pub const MOST_PROCESSES: usize = 67;
@@ -23,7 +23,7 @@ pub const MOST_PROCESSES: usize = 67;
 pub enum Stop {
     /// The mote has halted.
     Halted,
-    /// No memory was found for a line, a packet, or the thread of a body that begins anew while it runs.
+    /// Out of memory for a line, a packet, or the thread of a body that begins anew while it runs.
     Memory,
 }
 
@@ -47,10 +47,10 @@ impl<T: Drop> From<AllocFailed<T>> for Stop {
     }
 }
 
-/// The kernel of a mote. The tables have the system processes first, then those of the program in their order; threads and
-/// variables are those of the program's processes alone. The thread of a body is out of its table while it runs. Whether the
-/// incarnations on the process list are known to have the numbers from 0 on is kept, so that they aren't numbered anew for nothing.
-/// What a run touches stands together, so that it takes few cache lines.
+/// The kernel of a mote. The tables have the system processes first, then those of the program in their order; threads
+/// and variables are those of the program's processes alone. The thread of a body is out of its table while it runs.
+/// Whether the incarnations on the process list are known to have the numbers from 0 on is kept, so that they aren't
+/// numbered anew for nothing. What a run touches stands together, so that it takes few cache lines.
 #[derive(Drop)]
 pub struct Machine {
     pub(crate) shown: Shown,

@@ -12,12 +12,12 @@ ghost use Rattle.process_kernel.specs.Operation.{posted, act_of, perform_of};
 ghost use Rattle.process_kernel.specs.Views.{state_of, Tells, Grows, HasRoom, Spends, told_thread};
 
 use crate::event::told;
-use crate::line::What;
 use crate::machine::{Machine, Stop};
 use crate::process::Member;
 use crate::table::is_same;
 use program_tree::{Event, Proc, ProcessText, Program, SystemEvent};
 use protothread::{Op, Thread};
+use trace_lines::What;
 
 /// An event that a program posts. It has no sender.
 fn posted(number: u8, word: u16) -> Event
@@ -55,7 +55,10 @@ impl Machine {
         op: &Op,
     ) -> Result<(), Stop>
         requires { HasRoom 1 self.old }
-        ensures exact { (k : ℕ) → self.old.fuel < k → Tells (told_thread (code_of text.now) thread.new result) (state_of (tree_of program.now) self.new) (perform_of (calls_of k) (state_of (tree_of program.now) self.old) (remainder_of (code_of text.now) thread.old) current op.now) }
+        ensures exact { (k : ℕ) → self.old.fuel < k
+            → Tells (told_thread (code_of text.now) thread.new result) (state_of (tree_of program.now) self.new)
+            (perform_of (calls_of k) (state_of (tree_of program.now) self.old)
+            (remainder_of (code_of text.now) thread.old) current op.now) }
         ensures spends { OnOk result (Spends 1 self.old self.new) }
         ensures grows { Grows self.old.out self.new.out }
     {
@@ -74,7 +77,9 @@ impl Machine {
     #[tactic(auto, unfolding(crate::specs::Operation::act_of))]
     fn act(&mut self, program: &Program, current: u8, op: &Op) -> Result<(), Stop>
         requires { HasRoom 1 self.old }
-        ensures exact { (k : ℕ) → self.old.fuel < k → Tells result (state_of (tree_of program.now) self.new) (act_of (calls_of k) (state_of (tree_of program.now) self.old) current op.now) }
+        ensures exact { (k : ℕ) → self.old.fuel < k
+            → Tells result (state_of (tree_of program.now) self.new)
+            (act_of (calls_of k) (state_of (tree_of program.now) self.old) current op.now) }
         ensures spends { OnOk result (Spends 1 self.old self.new) }
         ensures grows { Grows self.old.out self.new.out }
     {
@@ -98,12 +103,15 @@ impl Machine {
         Ok(())
     }
 
-    /// Starts a process: one that isn't on the process list goes to its front, and is called with INIT (`process_start`).
+    /// Starts a process: one that isn't on the process list goes to its front, and is called with INIT
+    /// (`process_start`).
     #[cycle(kernel)]
     #[tactic(auto, unfolding(crate::specs::Start::start_of))]
     pub fn start(&mut self, program: &Program, process: Proc) -> Result<(), Stop>
         requires { HasRoom 1 self.old }
-        ensures exact { (k : ℕ) → self.old.fuel < k → Tells result (state_of (tree_of program.now) self.new) (start_of (calls_of k) (state_of (tree_of program.now) self.old) process) }
+        ensures exact { (k : ℕ) → self.old.fuel < k
+            → Tells result (state_of (tree_of program.now) self.new)
+            (start_of (calls_of k) (state_of (tree_of program.now) self.old) process) }
         ensures spends { OnOk result (Spends 1 self.old self.new) }
         ensures paid { OnOk result (Spends 0 self.old self.new) }
         ensures grows { Grows self.old.out self.new.out }
@@ -124,7 +132,9 @@ impl Machine {
     #[tactic(auto, unfolding(crate::specs::Kill::kill_of))]
     fn kill(&mut self, program: &Program, process: Proc, current: u8) -> Result<(), Stop>
         requires { HasRoom 0 self.old }
-        ensures exact { (k : ℕ) → self.old.fuel < k → Tells result (state_of (tree_of program.now) self.new) (kill_of (calls_of k) (state_of (tree_of program.now) self.old) process current) }
+        ensures exact { (k : ℕ) → self.old.fuel < k
+            → Tells result (state_of (tree_of program.now) self.new)
+            (kill_of (calls_of k) (state_of (tree_of program.now) self.old) process current) }
         ensures spends { OnOk result (Spends 0 self.old self.new) }
         ensures grows { Grows self.old.out self.new.out }
     {
@@ -140,7 +150,9 @@ impl Machine {
     #[tactic(auto, unfolding(crate::specs::Exit::exit_of))]
     pub fn exit(&mut self, program: &Program, process: Proc, behalf: Proc) -> Result<(), Stop>
         requires { HasRoom 0 self.old }
-        ensures exact { (k : ℕ) → self.old.fuel < k → Tells result (state_of (tree_of program.now) self.new) (exit_of (calls_of k) (state_of (tree_of program.now) self.old) process behalf) }
+        ensures exact { (k : ℕ) → self.old.fuel < k
+            → Tells result (state_of (tree_of program.now) self.new)
+            (exit_of (calls_of k) (state_of (tree_of program.now) self.old) process behalf) }
         ensures spends { OnOk result (Spends 0 self.old self.new) }
         ensures grows { Grows self.old.out self.new.out }
     {
@@ -162,7 +174,9 @@ impl Machine {
     #[tactic(auto, unfolding(crate::specs::Exit::last_run_of))]
     fn run_last(&mut self, program: &Program, process: Proc) -> Result<(), Stop>
         requires { HasRoom 0 self.old }
-        ensures exact { (k : ℕ) → self.old.fuel < k → Tells result (state_of (tree_of program.now) self.new) (last_run_of (calls_of k) (state_of (tree_of program.now) self.old) process) }
+        ensures exact { (k : ℕ) → self.old.fuel < k
+            → Tells result (state_of (tree_of program.now) self.new)
+            (last_run_of (calls_of k) (state_of (tree_of program.now) self.old) process) }
         ensures spends { OnOk result (Spends 0 self.old self.new) }
         ensures grows { Grows self.old.out self.new.out }
     {
@@ -181,7 +195,9 @@ impl Machine {
         members: &[Member],
     ) -> Result<(), Stop>
         requires { HasRoom 0 self.old }
-        ensures exact { (k : ℕ) → self.old.fuel < k → Tells result (state_of (tree_of program.now) self.new) (walk_of (calls_of k) event.now skipped members.now (state_of (tree_of program.now) self.old)) }
+        ensures exact { (k : ℕ) → self.old.fuel < k
+            → Tells result (state_of (tree_of program.now) self.new)
+            (walk_of (calls_of k) event.now skipped members.now (state_of (tree_of program.now) self.old)) }
         ensures spends { OnOk result (Spends 0 self.old self.new) }
         ensures grows { Grows self.old.out self.new.out }
     {

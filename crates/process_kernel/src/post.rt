@@ -8,11 +8,11 @@ ghost use Rattle.process_kernel.specs.Posts.{post_of, poll_of, send_of};
 ghost use Rattle.process_kernel.specs.Semaphores.{take_of, signal_of};
 ghost use Rattle.process_kernel.specs.Views.{state_of, Tells, Grows, KeepsCounts, KeepsLists};
 
-use crate::line::{Line, What};
 use crate::machine::{Machine, Stop};
 use crate::table::is_alive;
 use program_tree::{Event, Proc, Target};
 use radio_packet::Sent;
+use trace_lines::{Line, What};
 
 /// How many events a mote accepts, and how many packets it sends, before it halts.
 const LIMIT: u64 = 1 << 62;
@@ -97,7 +97,8 @@ impl Machine {
     /// Notes a packet that is sent.
     #[tactic(auto, unfolding(crate::specs::Views::Begins))]
     fn put_sent(&mut self, packet: Sent) -> Result<(), Stop>
-        ensures exact { (t : Tree) → Tells result (state_of t self.new) (Goes tt (record (state_of t self.old) { sends = self.old.out.sends.items ++ packet ∷ [] })) }
+        ensures exact { (t : Tree) → Tells result (state_of t self.new)
+            (Goes tt (record (state_of t self.old) { sends = self.old.out.sends.items ++ packet ∷ [] })) }
         ensures kept { KeepsCounts self.old self.new }
         ensures grows { Grows self.old.out self.new.out }
     {

@@ -7,10 +7,10 @@ ghost use Rattle.process_kernel.specs.Radio.{packet_of, hand_to, empty_ring, rad
 ghost use Rattle.process_kernel.specs.Views.{state_of, Tells, Grows, KeepsCounts};
 
 use crate::event::is_event;
-use crate::line::What;
 use crate::machine::{Machine, Stop};
 use program_tree::{Event, Proc, Program, SystemEvent, Target};
 use radio_packet::Arrival;
+use trace_lines::What;
 
 /// A packet as an event: its value, and the mote that sent it.
 fn packet_event(packet: &Arrival) -> Event
@@ -27,7 +27,9 @@ impl Machine {
     /// Puts a packet into the receive ring, where it has room; a full ring stays as it was.
     pub fn accept_packet(&mut self, packet: Arrival) -> bool
         ensures room { result ≡ nat_lt (length self.old.ring.items) 8 }
-        ensures after { (t : Tree) → state_of t self.new ≡ (if result then record (state_of t self.old) { ring = self.old.ring.items ++ packet ∷ [] } else state_of t self.old) }
+        ensures after { (t : Tree) → state_of t self.new
+            ≡ (if result then record (state_of t self.old) { ring = self.old.ring.items ++ packet ∷ [] } else state_of t
+            self.old) }
     {
         match self.ring.try_push_back(packet) {
             Ok(()) => true,
@@ -35,11 +37,12 @@ impl Machine {
         }
     }
 
-    /// Takes the oldest packet out of the ring. The only one is taken from the back, so a ring that is emptied each time stays at
-    /// its first slots.
+    /// Takes the oldest packet out of the ring. The only one is taken from the back, so a ring that is emptied each
+    /// time stays at its first slots.
     fn take_packet(&mut self) -> Option<Arrival>
         ensures value { result ≡ slice_get self.old.ring.items 0 }
-        ensures after { (t : Tree) → state_of t self.new ≡ record (state_of t self.old) { ring = drop 1 self.old.ring.items } }
+        ensures after { (t : Tree) → state_of t self.new
+            ≡ record (state_of t self.old) { ring = drop 1 self.old.ring.items } }
         ensures ring { self.new.ring.items ≡ drop 1 self.old.ring.items }
         ensures kept { KeepsCounts self.old self.new }
         ensures grows { Grows self.old.out self.new.out }
@@ -54,7 +57,8 @@ impl Machine {
     /// Posts a packet to the receiver; without one nobody hears it.
     #[tactic(auto, unfolding(crate::specs::Radio::hand_to))]
     fn hand_to(&mut self, receiver: Option<u8>, packet: &Arrival) -> Result<(), Stop>
-        ensures exact { (t : Tree) → Tells result (state_of t self.new) (hand_to receiver (state_of t self.old) packet.now) }
+        ensures exact { (t : Tree) → Tells result (state_of t self.new)
+            (hand_to receiver (state_of t self.old) packet.now) }
         ensures kept { OnOk result (KeepsCounts self.old self.new) }
         ensures ring { OnOk result (self.new.ring ≡ self.old.ring) }
         ensures grows { Grows self.old.out self.new.out }
@@ -70,7 +74,8 @@ impl Machine {
 
     /// Takes the packets out of the ring, the oldest first.
     fn empty_ring(&mut self, receiver: Option<u8>) -> Result<(), Stop>
-        ensures exact { (t : Tree) → Tells result (state_of t self.new) (empty_ring receiver self.old.ring.items (state_of t self.old)) }
+        ensures exact { (t : Tree) → Tells result (state_of t self.new)
+            (empty_ring receiver self.old.ring.items (state_of t self.old)) }
         ensures kept { OnOk result (KeepsCounts self.old self.new) }
         ensures grows { Grows self.old.out self.new.out }
     {
@@ -83,7 +88,8 @@ impl Machine {
     /// What the radio process does with an event.
     #[tactic(auto, unfolding(crate::specs::Radio::radio_of))]
     pub fn react_as_radio(&mut self, program: &Program, event: &Event) -> Result<(), Stop>
-        ensures exact { Tells result (state_of (tree_of program.now) self.new) (radio_of (state_of (tree_of program.now) self.old) event.now) }
+        ensures exact { Tells result (state_of (tree_of program.now) self.new)
+            (radio_of (state_of (tree_of program.now) self.old) event.now) }
         ensures kept { OnOk result (KeepsCounts self.old self.new) }
         ensures grows { Grows self.old.out self.new.out }
     {

@@ -7,7 +7,6 @@ ghost use Rattle.protothread.specs.Remainder.{fresh_of};
 ghost use Rattle.process_kernel.specs.Mote.{unbooted};
 ghost use Rattle.process_kernel.specs.Views.{state_of, remainders_of};
 
-use crate::line::Out;
 use crate::look::Shown;
 use crate::machine::Machine;
 use crate::process::ProcessState;
@@ -17,13 +16,15 @@ use mote_timers::{Callbacks, Timers};
 use program_tree::Program;
 use protothread::{Fuel, Part, Semaphore, Thread, Vars};
 use std::alloc::{AllocError, Global};
+use trace_lines::Out;
 
 /// How many packets the receive ring holds.
 const RING: usize = 8;
 
 /// A fresh body for each process.
 fn fresh_bodies(alloc: Global, program: &Program) -> Result<Vec<Option<Box<Thread>>>, AllocError>
-    ensures { IfOk result (λ threads. remainders_of (tree_of program.now).codes threads.items ≡ map (λ c. fresh_of c Part.Body) (tree_of program.now).codes) }
+    ensures { IfOk result (λ threads. remainders_of (tree_of program.now).codes threads.items
+        ≡ map (λ c. fresh_of c Part.Body) (tree_of program.now).codes) }
 {
     let mut threads = Vec::with_capacity(alloc, usize::from(program.processes()))?;
     for _process in 0..program.processes() {
@@ -58,8 +59,10 @@ fn first_semaphores(alloc: Global, program: &Program) -> Result<Vec<Semaphore>, 
 /// What a protothread of a mote with this number would be shown before the boot.
 fn first_shown(alloc: Global, program: &Program, mote: u16) -> Result<Shown, AllocError>
     ensures mote { IfOk result (λ shown. (shown.mote ≡ mote) × (shown.moment ≡ 0)) }
-    ensures timers { let n = length (tree_of program.now).timers in IfOk result (λ shown. (shown.timer_count ≡ n) × (shown.timers ≡ new_timers n)) }
-    ensures states { IfOk result (λ shown. shown.states.items ≡ replicate (length (tree_of program.now).processes + 3) ProcessState.Off) }
+    ensures timers { let n = length (tree_of program.now).timers in
+        IfOk result (λ shown. (shown.timer_count ≡ n) × (shown.timers ≡ new_timers n)) }
+    ensures states { IfOk result (λ shown. shown.states.items
+        ≡ replicate (length (tree_of program.now).processes + 3) ProcessState.Off) }
     ensures semaphores { IfOk result (λ shown. shown.semaphores.items ≡ (tree_of program.now).counts) }
 {
     let timers = program.timers();
@@ -85,7 +88,14 @@ impl Machine {
     ) -> Result<Machine, AllocError>
         requires some_room { 1 ≤ queue }
         requires limit { queue ≤ 128 }
-        ensures { let t = tree_of program.now in IfOk result (λ m. state_of t m ≡ record (unbooted t mote queue).state { exiting = []; marks = []; remainders = remainders_of t.codes []; variables = [] }) }
+        ensures { let t = tree_of program.now in
+            IfOk result (λ m. state_of t m ≡ record
+            (unbooted t mote queue).state {
+              exiting = [];
+              marks = [];
+              remainders = remainders_of t.codes [];
+              variables = [];
+            }) }
     {
         Ok(Machine {
             alloc,
@@ -108,10 +118,18 @@ impl Machine {
         })
     }
 
-    /// Makes the tables of the processes, none of which is listed, and room for a list of all of them. What a run touches is made one
-    /// after another, right behind the timers and the states, so that it lies close together.
+    /// Makes the tables of the processes, none of which is listed, and room for a list of all of them. What a run
+    /// touches is made one after another, right after the timers and the states, so that it lies close together.
     fn make_tables(&mut self, program: &Program) -> Result<(), AllocError>
-        ensures { let t = tree_of program.now in let n = length t.processes + 3 in OnOk result (state_of t self.new ≡ record (state_of t self.old) { exiting = replicate n false; marks = replicate n false; remainders = map (λ c. fresh_of c Part.Body) t.codes; variables = map (λ c. c.starts) t.codes; members = [] }) }
+        ensures { let t = tree_of program.now in let n = length t.processes + 3 in
+            OnOk result (state_of t self.new
+            ≡ record (state_of t self.old) {
+              exiting = replicate n false;
+              marks = replicate n false;
+              remainders = map (λ c. fresh_of c Part.Body) t.codes;
+              variables = map (λ c. c.starts) t.codes;
+              members = [];
+            }) }
     {
         let places = usize::from(program.processes()) + 3;
         self.marks = vec![in self.alloc; false; places]?;
@@ -132,7 +150,8 @@ impl Machine {
     ) -> Result<Machine, AllocError>
         requires some_room { 1 ≤ queue }
         requires limit { queue ≤ 128 }
-        ensures { IfOk result (λ m. state_of (tree_of program.now) m ≡ (unbooted (tree_of program.now) mote queue).state) }
+        ensures { IfOk result (λ m. state_of (tree_of program.now) m
+            ≡ (unbooted (tree_of program.now) mote queue).state) }
     {
         let mut machine = Machine::without_tables(alloc, program, mote, queue)?;
         machine.make_tables(program)?;

@@ -12,16 +12,16 @@ ghost use Rattle.process_kernel.specs.Run.{begun_of, deliver_front, kernel_of};
 ghost use Rattle.process_kernel.specs.Views.{state_of, Tells, Grows, HasRoom, KeepsCounts, Spends};
 
 use crate::event::told;
-use crate::line::What;
 use crate::machine::{Machine, Stop};
 use crate::process::Member;
 use arrayvec::ArrayVec;
 use event_queue::Posted;
 use program_tree::{Proc, Program, SystemEvent, Target};
 use protothread::Fuel;
+use trace_lines::What;
 
-/// How many processes are few, and some: a walk over so many makes a short copy of the list, since a call pays for all the room
-/// that its copy has.
+/// How many processes are few, and some: a walk over so many makes a short copy of the list, since a call pays for all
+/// the room that its copy has.
 const FEW: usize = 4;
 
 const SOME: usize = 16;
@@ -42,7 +42,8 @@ fn number(members: &mut [Member])
 impl Machine {
     /// Numbers the incarnations on the process list from 0 on, where they aren't numbered so.
     fn number_members(&mut self)
-        ensures exact { (t : Tree) → state_of t self.new ≡ record (state_of t self.old) { members = numbered_from 0 self.old.members.items } }
+        ensures exact { (t : Tree) → state_of t self.new
+            ≡ record (state_of t self.old) { members = numbered_from 0 self.old.members.items } }
         ensures kept { KeepsCounts self.old self.new }
         ensures grows { Grows self.old.out self.new.out }
     {
@@ -77,7 +78,9 @@ impl Machine {
     #[tactic(auto, unfolding(crate::specs::Polls::poll_turn_of))]
     fn poll_in_turn(&mut self, program: &Program, member: Member) -> Result<(), Stop>
         requires { HasRoom 0 self.old }
-        ensures exact { (k : ℕ) → self.old.fuel < k → Tells result (state_of (tree_of program.now) self.new) (poll_turn_of (calls_of k) (state_of (tree_of program.now) self.old) member) }
+        ensures exact { (k : ℕ) → self.old.fuel < k
+            → Tells result (state_of (tree_of program.now) self.new)
+            (poll_turn_of (calls_of k) (state_of (tree_of program.now) self.old) member) }
         ensures spends { OnOk result (Spends 0 self.old self.new) }
         ensures grows { Grows self.old.out self.new.out }
     {
@@ -95,7 +98,9 @@ impl Machine {
     #[inline(always)]
     fn walk_polls(&mut self, program: &Program, members: &[Member]) -> Result<(), Stop>
         requires { HasRoom 0 self.old }
-        ensures exact { (k : ℕ) → self.old.fuel < k → Tells result (state_of (tree_of program.now) self.new) (walk_polls (calls_of k) members.now (state_of (tree_of program.now) self.old)) }
+        ensures exact { (k : ℕ) → self.old.fuel < k
+            → Tells result (state_of (tree_of program.now) self.new)
+            (walk_polls (calls_of k) members.now (state_of (tree_of program.now) self.old)) }
         ensures spends { OnOk result (Spends 0 self.old self.new) }
         ensures grows { Grows self.old.out self.new.out }
     {
@@ -110,7 +115,9 @@ impl Machine {
     #[tactic(auto, unfolding(crate::specs::Polls::polls_of, crate::specs::Polls::polls_due_of))]
     fn poll_due(&mut self, program: &Program) -> Result<(), Stop>
         requires { HasRoom 0 self.old }
-        ensures exact { (k : ℕ) → self.old.fuel < k → Tells result (state_of (tree_of program.now) self.new) (polls_due_of (calls_of k) (state_of (tree_of program.now) self.old)) }
+        ensures exact { (k : ℕ) → self.old.fuel < k
+            → Tells result (state_of (tree_of program.now) self.new)
+            (polls_due_of (calls_of k) (state_of (tree_of program.now) self.old)) }
         ensures spends { OnOk result (Spends 0 self.old self.new) }
         ensures grows { Grows self.old.out self.new.out }
     {
@@ -135,7 +142,9 @@ impl Machine {
         requires units { HasRoom 0 self.old }
         requires inside { place ≤ length self.old.members.items }
         requires few { length self.old.members.items ≤ place + 4 }
-        ensures exact { (k : ℕ) → self.old.fuel < k → Tells result (state_of (tree_of program.now) self.new) (walk_polls (calls_of k) (drop place self.old.members.items) (state_of (tree_of program.now) self.old)) }
+        ensures exact { (k : ℕ) → self.old.fuel < k
+            → Tells result (state_of (tree_of program.now) self.new)
+            (walk_polls (calls_of k) (drop place self.old.members.items) (state_of (tree_of program.now) self.old)) }
         ensures spends { OnOk result (Spends 0 self.old self.new) }
         ensures grows { Grows self.old.out self.new.out }
     {
@@ -146,7 +155,9 @@ impl Machine {
     /// The polls of all processes on the list.
     fn poll_many(&mut self, program: &Program) -> Result<(), Stop>
         requires { HasRoom 0 self.old }
-        ensures exact { (k : ℕ) → self.old.fuel < k → Tells result (state_of (tree_of program.now) self.new) (walk_polls (calls_of k) self.old.members.items (state_of (tree_of program.now) self.old)) }
+        ensures exact { (k : ℕ) → self.old.fuel < k
+            → Tells result (state_of (tree_of program.now) self.new)
+            (walk_polls (calls_of k) self.old.members.items (state_of (tree_of program.now) self.old)) }
         ensures spends { OnOk result (Spends 0 self.old self.new) }
         ensures grows { Grows self.old.out self.new.out }
     {
@@ -154,12 +165,14 @@ impl Machine {
         self.walk_polls(program, members.as_slice())
     }
 
-    /// The polls: each member of the process list as it stands now has its turn. It makes room for a copy of the list, so it stands
-    /// apart.
+    /// The polls: each member of the current process list has its turn. It makes room for a copy of the list, so it
+    /// stands apart.
     #[inline(never)]
     fn poll_all(&mut self, program: &Program) -> Result<(), Stop>
         requires { HasRoom 0 self.old }
-        ensures exact { (k : ℕ) → self.old.fuel < k → Tells result (state_of (tree_of program.now) self.new) (walk_polls (calls_of k) self.old.members.items (state_of (tree_of program.now) self.old)) }
+        ensures exact { (k : ℕ) → self.old.fuel < k
+            → Tells result (state_of (tree_of program.now) self.new)
+            (walk_polls (calls_of k) self.old.members.items (state_of (tree_of program.now) self.old)) }
         ensures spends { OnOk result (Spends 0 self.old self.new) }
         ensures grows { Grows self.old.out self.new.out }
     {
@@ -185,7 +198,9 @@ impl Machine {
         is_there: bool,
     ) -> Result<(), Stop>
         requires { HasRoom 0 self.old }
-        ensures exact { (k : ℕ) → self.old.fuel < k → Tells result (state_of (tree_of program.now) self.new) (give_of (calls_of k) (state_of (tree_of program.now) self.old) posted.now process is_there) }
+        ensures exact { (k : ℕ) → self.old.fuel < k
+            → Tells result (state_of (tree_of program.now) self.new)
+            (give_of (calls_of k) (state_of (tree_of program.now) self.old) posted.now process is_there) }
         ensures spends { OnOk result (Spends 0 self.old self.new) }
         ensures grows { Grows self.old.out self.new.out }
     {
@@ -205,7 +220,9 @@ impl Machine {
         member: Member,
     ) -> Result<(), Stop>
         requires { HasRoom 0 self.old }
-        ensures exact { (k : ℕ) → self.old.fuel < k → Tells result (state_of (tree_of program.now) self.new) (visit_of (calls_of k) (state_of (tree_of program.now) self.old) posted.now member) }
+        ensures exact { (k : ℕ) → self.old.fuel < k
+            → Tells result (state_of (tree_of program.now) self.new)
+            (visit_of (calls_of k) (state_of (tree_of program.now) self.old) posted.now member) }
         ensures spends { OnOk result (Spends 0 self.old self.new) }
         ensures grows { Grows self.old.out self.new.out }
     {
@@ -222,7 +239,9 @@ impl Machine {
         members: &[Member],
     ) -> Result<(), Stop>
         requires { HasRoom 0 self.old }
-        ensures exact { (k : ℕ) → self.old.fuel < k → Tells result (state_of (tree_of program.now) self.new) (walk_event (calls_of k) posted.now members.now (state_of (tree_of program.now) self.old)) }
+        ensures exact { (k : ℕ) → self.old.fuel < k
+            → Tells result (state_of (tree_of program.now) self.new)
+            (walk_event (calls_of k) posted.now members.now (state_of (tree_of program.now) self.old)) }
         ensures spends { OnOk result (Spends 0 self.old self.new) }
         ensures grows { Grows self.old.out self.new.out }
     {
@@ -236,7 +255,9 @@ impl Machine {
     #[tactic(auto, unfolding(crate::specs::Delivery::deliver_of))]
     fn deliver(&mut self, program: &Program, posted: &Posted) -> Result<(), Stop>
         requires { HasRoom 0 self.old }
-        ensures exact { (k : ℕ) → self.old.fuel < k → Tells result (state_of (tree_of program.now) self.new) (deliver_of (calls_of k) (state_of (tree_of program.now) self.old) posted.now) }
+        ensures exact { (k : ℕ) → self.old.fuel < k
+            → Tells result (state_of (tree_of program.now) self.new)
+            (deliver_of (calls_of k) (state_of (tree_of program.now) self.old) posted.now) }
         ensures spends { OnOk result (Spends 0 self.old self.new) }
         ensures grows { Grows self.old.out self.new.out }
     {
@@ -253,7 +274,9 @@ impl Machine {
     fn deliver_to_some(&mut self, program: &Program, posted: &Posted) -> Result<(), Stop>
         requires units { HasRoom 0 self.old }
         requires some { length self.old.members.items ≤ 16 }
-        ensures exact { (k : ℕ) → self.old.fuel < k → Tells result (state_of (tree_of program.now) self.new) (walk_event (calls_of k) posted.now self.old.members.items (state_of (tree_of program.now) self.old)) }
+        ensures exact { (k : ℕ) → self.old.fuel < k
+            → Tells result (state_of (tree_of program.now) self.new)
+            (walk_event (calls_of k) posted.now self.old.members.items (state_of (tree_of program.now) self.old)) }
         ensures spends { OnOk result (Spends 0 self.old self.new) }
         ensures grows { Grows self.old.out self.new.out }
     {
@@ -264,7 +287,9 @@ impl Machine {
     /// Delivers an event that goes to all of any number of processes.
     fn deliver_to_many(&mut self, program: &Program, posted: &Posted) -> Result<(), Stop>
         requires { HasRoom 0 self.old }
-        ensures exact { (k : ℕ) → self.old.fuel < k → Tells result (state_of (tree_of program.now) self.new) (walk_event (calls_of k) posted.now self.old.members.items (state_of (tree_of program.now) self.old)) }
+        ensures exact { (k : ℕ) → self.old.fuel < k
+            → Tells result (state_of (tree_of program.now) self.new)
+            (walk_event (calls_of k) posted.now self.old.members.items (state_of (tree_of program.now) self.old)) }
         ensures spends { OnOk result (Spends 0 self.old self.new) }
         ensures grows { Grows self.old.out self.new.out }
     {
@@ -275,7 +300,9 @@ impl Machine {
     /// Delivers an event that goes to all.
     fn deliver_to_all(&mut self, program: &Program, posted: &Posted) -> Result<(), Stop>
         requires { HasRoom 0 self.old }
-        ensures exact { (k : ℕ) → self.old.fuel < k → Tells result (state_of (tree_of program.now) self.new) (walk_event (calls_of k) posted.now self.old.members.items (state_of (tree_of program.now) self.old)) }
+        ensures exact { (k : ℕ) → self.old.fuel < k
+            → Tells result (state_of (tree_of program.now) self.new)
+            (walk_event (calls_of k) posted.now self.old.members.items (state_of (tree_of program.now) self.old)) }
         ensures spends { OnOk result (Spends 0 self.old self.new) }
         ensures grows { Grows self.old.out self.new.out }
     {
@@ -289,7 +316,9 @@ impl Machine {
     /// Takes the event at the front of the queue, if there is one, and delivers it (`do_event` of `process.c`).
     fn deliver_front(&mut self, program: &Program) -> Result<(), Stop>
         requires { HasRoom 0 self.old }
-        ensures exact { (k : ℕ) → self.old.fuel < k → Tells result (state_of (tree_of program.now) self.new) (deliver_front (calls_of k) self.old.queue.events (state_of (tree_of program.now) self.old)) }
+        ensures exact { (k : ℕ) → self.old.fuel < k
+            → Tells result (state_of (tree_of program.now) self.new)
+            (deliver_front (calls_of k) self.old.queue.events (state_of (tree_of program.now) self.old)) }
         ensures grows { Grows self.old.out self.new.out }
     {
         match self.queue.take() {
@@ -302,7 +331,9 @@ impl Machine {
     #[tactic(auto, unfolding(crate::specs::Run::kernel_of))]
     pub fn run_kernel(&mut self, program: &Program) -> Result<u16, Stop>
         requires { HasRoom 0 self.old }
-        ensures exact { (k : ℕ) → self.old.fuel < k → Tells result (state_of (tree_of program.now) self.new) (kernel_of (calls_of k) (state_of (tree_of program.now) self.old)) }
+        ensures exact { (k : ℕ) → self.old.fuel < k
+            → Tells result (state_of (tree_of program.now) self.new)
+            (kernel_of (calls_of k) (state_of (tree_of program.now) self.old)) }
         ensures grows { Grows self.old.out self.new.out }
     {
         self.poll_due(program)?;

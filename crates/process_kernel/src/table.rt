@@ -3,7 +3,9 @@
 ghost use Rattle.std.specs.Prelude.{◌≡◌, ◌||◌, nat_lt, length, slice_get, unwrap_or};
 ghost use Rattle.program_tree.specs.Code.{Tree};
 ghost use Rattle.process_kernel.specs.Members.{place_of, is_same as are_same, holds_member, stands_in};
-ghost use Rattle.process_kernel.specs.Processes.{state_at as state_of_process, flag_at, is_running_state, is_called_state, with_state, with_exiting, with_mark, is_alive as lives};
+ghost use Rattle.process_kernel.specs.Processes.{state_at as state_of_process, flag_at, is_running_state};
+ghost use Rattle.process_kernel.specs.Processes.{is_called_state, with_state, with_exiting, with_mark};
+ghost use Rattle.process_kernel.specs.Processes.{is_alive as lives};
 ghost use Rattle.process_kernel.specs.Views.{state_of, Grows, KeepsCounts, KeepsLists};
 
 use crate::machine::Machine;
@@ -76,7 +78,8 @@ impl Machine {
 
     /// Whether its body or a handler of it is being executed, or it is being exited.
     pub fn is_busy(&self, process: Proc) -> bool
-        ensures { result ≡ (is_called_state (state_of_process self.now.shown.states.items process) || flag_at self.now.exiting.items process) }
+        ensures { result ≡ (is_called_state
+            (state_of_process self.now.shown.states.items process) || flag_at self.now.exiting.items process) }
     {
         match self.process_state(process) {
             ProcessState::Off => self.is_exiting(process),

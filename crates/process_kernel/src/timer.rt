@@ -5,7 +5,8 @@ ghost use Rattle.program_tree.specs.Code.{Tree};
 ghost use Rattle.program_tree.specs.Program.{tree_of};
 ghost use Rattle.mote_timers.specs.Numbers.{with_member, without_member};
 ghost use Rattle.process_kernel.specs.Ctimer.{waits_for};
-ghost use Rattle.process_kernel.specs.TimerOperations.{is_callback as is_of_callback, owner_of, timer_is_set, set_of, reset_of, restart_of, stop_of};
+ghost use Rattle.process_kernel.specs.TimerOperations.{is_callback as is_of_callback, owner_of, timer_is_set, set_of};
+ghost use Rattle.process_kernel.specs.TimerOperations.{reset_of, restart_of, stop_of};
 ghost use Rattle.process_kernel.specs.Etimer.{fired_of, pass_of, purge_of, etimer_of};
 ghost use Rattle.process_kernel.specs.Views.{state_of, Tells, Grows, KeepsCounts};
 
@@ -35,7 +36,12 @@ impl Machine {
     /// Puts the callback of a timer, if it has one, on the callback list.
     fn put_callback(&mut self, program: &Program, timer: u16)
         requires { timer < self.old.shown.timer_count }
-        ensures exact { state_of (tree_of program.now) self.new ≡ record (state_of (tree_of program.now) self.old) { callbacks = if is_of_callback (tree_of program.now) timer then with_member timer self.old.callbacks.members else self.old.callbacks.members } }
+        ensures exact { state_of (tree_of program.now) self.new
+            ≡ record (state_of (tree_of program.now) self.old) {
+              callbacks = if is_of_callback
+                  (tree_of program.now) timer then with_member timer self.old.callbacks.members else
+                  self.old.callbacks.members;
+            } }
         ensures kept { KeepsCounts self.old self.new }
         ensures grows { Grows self.old.out self.new.out }
     {
@@ -48,7 +54,8 @@ impl Machine {
     #[tactic(auto, unfolding(crate::specs::TimerOperations::timer_is_set))]
     fn timer_is_set(&mut self, program: &Program, timer: u16)
         requires { timer < self.old.shown.timer_count }
-        ensures exact { state_of (tree_of program.now) self.new ≡ timer_is_set (state_of (tree_of program.now) self.old) timer }
+        ensures exact { state_of (tree_of program.now) self.new
+            ≡ timer_is_set (state_of (tree_of program.now) self.old) timer }
         ensures kept { KeepsCounts self.old self.new }
         ensures grows { Grows self.old.out self.new.out }
     {
@@ -58,7 +65,8 @@ impl Machine {
 
     #[tactic(auto, unfolding(crate::specs::TimerOperations::set_of))]
     pub fn set_timer(&mut self, program: &Program, timer: u16, interval: u16, current: u8)
-        ensures exact { state_of (tree_of program.now) self.new ≡ set_of (state_of (tree_of program.now) self.old) timer interval current }
+        ensures exact { state_of (tree_of program.now) self.new
+            ≡ set_of (state_of (tree_of program.now) self.old) timer interval current }
         ensures kept { KeepsCounts self.old self.new }
         ensures grows { Grows self.old.out self.new.out }
     {
@@ -73,7 +81,8 @@ impl Machine {
 
     #[tactic(auto, unfolding(crate::specs::TimerOperations::reset_of))]
     pub fn reset_timer(&mut self, program: &Program, timer: u16, current: u8)
-        ensures exact { state_of (tree_of program.now) self.new ≡ reset_of (state_of (tree_of program.now) self.old) timer current }
+        ensures exact { state_of (tree_of program.now) self.new
+            ≡ reset_of (state_of (tree_of program.now) self.old) timer current }
         ensures kept { KeepsCounts self.old self.new }
         ensures grows { Grows self.old.out self.new.out }
     {
@@ -87,7 +96,8 @@ impl Machine {
 
     #[tactic(auto, unfolding(crate::specs::TimerOperations::restart_of))]
     pub fn restart_timer(&mut self, program: &Program, timer: u16, current: u8)
-        ensures exact { state_of (tree_of program.now) self.new ≡ restart_of (state_of (tree_of program.now) self.old) timer current }
+        ensures exact { state_of (tree_of program.now) self.new
+            ≡ restart_of (state_of (tree_of program.now) self.old) timer current }
         ensures kept { KeepsCounts self.old self.new }
         ensures grows { Grows self.old.out self.new.out }
     {
@@ -113,7 +123,9 @@ impl Machine {
     /// Takes the callback of a timer off the callback list, and answers whether it was there.
     pub fn takes_callback(&mut self, timer: u16) -> bool
         ensures waited { (t : Tree) → result ≡ waits_for (state_of t self.old) timer }
-        ensures after { (t : Tree) → state_of t self.new ≡ (if result then record (state_of t self.old) { callbacks = without_member timer self.old.callbacks.members } else state_of t self.old) }
+        ensures after { (t : Tree) → state_of t self.new
+            ≡ (if result then record (state_of t self.old)
+            { callbacks = without_member timer self.old.callbacks.members } else state_of t self.old) }
         ensures kept { KeepsCounts self.old self.new }
         ensures grows { Grows self.old.out self.new.out }
     {
@@ -124,7 +136,8 @@ impl Machine {
         }
     }
 
-    /// Posts the event of each timer that is due, and begins again at the front of the list after each that is accepted.
+    /// Posts the event of each timer that is due, and begins again at the front of the list after each that is
+    /// accepted.
     #[tactic(auto, unfolding(crate::specs::Etimer::pass_of))]
     fn post_due_timers(&mut self) -> Result<(), Stop>
         ensures exact { (t : Tree) → Tells result (state_of t self.new) (pass_of (state_of t self.old)) }

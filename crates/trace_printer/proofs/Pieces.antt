@@ -2,7 +2,7 @@
 use Rattle.std.proofs.Common.{◌≡◌, ◌+◌, ◌<◌, ◌≤◌, append_assoc, append-nil, ℕ, zero, suc, List, [], map, ◌∷◌, ◌++◌, length, get_or, drop, refl, ap, sym, ◌∙◌, add-one, arith, Vec, Global, Some, slice_get, option_map, codes, decimal}
 use Rattle.std.specs.List.{flat_map}
 use Rattle.program_tree.specs.Code.{Tree}
-use Rattle.process_kernel.specs.declared.line.Line.{Line}
+use Rattle.trace_lines.specs.declared.line.Line.{Line}
 use Rattle.mote_net.specs.Net.{MoteTold}
 use Rattle.net_report.specs.Report.{lines_in}
 use Rattle.trace_printer.specs.ReportText.{line_text, mote_text, motes_text}

@@ -3,7 +3,7 @@
 use Rattle.std.specs.Prelude.{ℕ, ◌+◌, List, [], ◌∷◌, ◌++◌, codes, decimal, map}
 use Rattle.std.specs.List.{flat_map}
 use Rattle.program_tree.specs.Code.{Tree}
-use Rattle.process_kernel.specs.declared.line.Line.{Line}
+use Rattle.trace_lines.specs.declared.line.Line.{Line}
 use Rattle.mote_net.specs.Net.{MoteTold, NetTold}
 use Rattle.net_report.specs.Report.{Packet, ReportTold}
 use Rattle.trace_printer.specs.Words.{line_of, words_of, fate_word}

@@ -8,8 +8,8 @@ use Rattle.program_tree.specs.declared.event.Target.{Target}
 use Rattle.program_tree.specs.declared.event.Target.TheVariants.{One, All}
 use Rattle.program_tree.specs.declared.event.SystemEvent.TheVariants as event
 use Rattle.program_tree.specs.Events.{system_number, system_word}
-use Rattle.process_kernel.specs.declared.line.What.{What}
-use Rattle.process_kernel.specs.declared.line.What.TheVariants.{Start, Leave, Post, Full, Take, Drop, Print, Busy, Halt, Send, Recv, Lost, Deaf, Collide}
+use Rattle.trace_lines.specs.declared.line.What.{What}
+use Rattle.trace_lines.specs.declared.line.What.TheVariants.{Start, Leave, Post, Full, Take, Drop, Print, Busy, Halt, Send, Recv, Lost, Deaf, Collide}
 use Rattle.radio_packet.specs.declared.fate.Fate.{Fate}
 
 -- a line: its first word, each other word behind a space, and a line feed

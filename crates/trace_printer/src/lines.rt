@@ -10,10 +10,10 @@ use crate::names::{event_word, process_word, target_word};
 use crate::page::{Page, make_room};
 use crate::words::{put_arrival, put_byte, put_number, put_spaced, put_spaced_number, put_text};
 use net_report::LogLine;
-use process_kernel::{Line, What};
 use program_tree::Program;
 use radio_packet::{Fate, Sent};
 use std::alloc::AllocError;
+use trace_lines::{Line, What};
 
 /// Room for all of a line but its keyword, its names and its fates.
 const LINE: usize = 128;

@@ -15,10 +15,10 @@ use crate::output::WriteFault;
 use crate::page::Page;
 use mote_net::Net;
 use net_report::{LogLine, Report};
-use process_kernel::Line;
 use program_tree::Program;
 use std::alloc::Global;
 use std::io::Write;
+use trace_lines::Line;
 
 /// Writes the page where it is full.
 fn write_if_full<W: Write>(writer: &mut W, page: &mut Page) -> Result<(), WriteFault>

@@ -1,6 +1,6 @@
 -- Laws of windows.
 use Rattle.std.specs.Prelude.{◌≡◌, ℕ, false, List, ◌++◌}
-use Rattle.process_kernel.specs.declared.line.Line.{Line}
+use Rattle.trace_lines.specs.declared.line.Line.{Line}
 use Rattle.radio_packet.specs.declared.sent.Sent.{Sent}
 use Rattle.mote_node.specs.Node.{is_past}
 use Rattle.mote_node.specs.Wake.{wake_of}

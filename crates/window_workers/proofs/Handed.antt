@@ -1,7 +1,7 @@
 -- Each mote's trace goes with the mote, turn by turn.
 use Rattle.std.proofs.Common.{ℕ, inl, inr}
 use Rattle.std.proofs.lemmas.Bool.{cases_eq, eq-eqb, ne_eqb}
-use Rattle.process_kernel.specs.declared.line.Line.{Line}
+use Rattle.trace_lines.specs.declared.line.Line.{Line}
 use Rattle.kernel_laws.specs.Going.{GoesWith}
 use Rattle.kernel_laws.proofs.Motes.{in_order}
 use Rattle.mote_laws.proofs.Turns.{turn_keeps, new_goes}

@@ -5,7 +5,7 @@ use Rattle.kernel_laws.specs.Going.{IsInOrder}
 use Rattle.std.specs.declared.alloc.Global.{Global}
 use Rattle.std.proofs.Math.Seq.{take-suc, take-length}
 use Rattle.std.proofs.lemmas.List.{map-append}
-use Rattle.process_kernel.specs.declared.line.Line.{Line}
+use Rattle.trace_lines.specs.declared.line.Line.{Line}
 use Rattle.mote_net.specs.Net.{NetTold}
 use Rattle.net_report.specs.declared.Report.{Report}
 use Rattle.net_report.specs.Report.{Packet, ReportTold, lines_in, told_line, report_of}

@@ -1,6 +1,6 @@
 -- The run of a net, and its report.
 use Rattle.std.specs.Prelude.{◌≡◌, length, map}
-use Rattle.process_kernel.specs.declared.line.Line.{Line}
+use Rattle.trace_lines.specs.declared.line.Line.{Line}
 use Rattle.radio_packet.specs.declared.sent.Sent.{Sent}
 use Rattle.mote_node.specs.Node.{Node}
 use Rattle.radio_medium.specs.Medium.{Radio, fates}

@@ -1,7 +1,7 @@
 -- No turn comes too late: what is to come to a mote comes after its last turn.
 use Rattle.std.specs.Prelude.{ℕ, ◌≡◌, ◌≤◌, false, Option, Some, None, IsSomeAnd}
 use Rattle.std.specs.List.{AllByRecursion}
-use Rattle.process_kernel.specs.declared.line.Line.{Line}
+use Rattle.trace_lines.specs.declared.line.Line.{Line}
 use Rattle.mote_node.specs.Node.{Node, is_past}
 use Rattle.window_law.specs.Agenda.{moment_of, mote_of}
 use Rattle.window_law.specs.NetStep.{NetState}

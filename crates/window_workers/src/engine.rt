@@ -6,7 +6,7 @@ ghost use Rattle.mote_node.specs.Node.{Node};
 ghost use Rattle.mote_node.specs.Public.{node_in, told_with, wake_in};
 ghost use Rattle.mote_node.specs.declared.mote.Mote.{Mote as MoteOfCode};
 ghost use Rattle.program_tree.specs.Code.{Tree};
-ghost use Rattle.process_kernel.specs.declared.line.Line.{Line};
+ghost use Rattle.trace_lines.specs.declared.line.Line.{Line};
 ghost use Rattle.mote_net.specs.Net.{net_of};
 ghost use Rattle.net_agenda.specs.Buckets.{wake_but_at};
 ghost use Rattle.net_agenda.specs.NetSystem.{system_of, first_node_in, tree_at};

@@ -1,7 +1,7 @@
 -- Where the copies of the agenda are at the start of a window.
 use Rattle.std.specs.Prelude.{ℕ, suc, ◌<◌, List, ◌++◌, length, slice_index_or, IsPermutation}
 use Rattle.std.specs.List.{flat_map}
-use Rattle.process_kernel.specs.declared.line.Line.{Line}
+use Rattle.trace_lines.specs.declared.line.Line.{Line}
 use Rattle.mote_node.specs.Node.{Node}
 use Rattle.radio_packet.specs.declared.copy.RadioCopy.{RadioCopy}
 use Rattle.mote_net.specs.Net.{NetTold}

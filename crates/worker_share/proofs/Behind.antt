@@ -1,7 +1,7 @@
 -- No turn comes too late: each mote's last turn was before the moment at which its share stands.
 use Rattle.std.proofs.Common.{◌≡◌, ◌∙◌, ℕ, ◌<◌, ◌≤◌, false, nat_le, Option, Some, None, List, refl, ap, arith}
 use Rattle.std.proofs.lemmas.Bool.Decides.{nat_tests}
-use Rattle.process_kernel.specs.declared.line.Line.{Line}
+use Rattle.trace_lines.specs.declared.line.Line.{Line}
 use Rattle.mote_node.specs.Node.{Node, new_node, is_past}
 use Rattle.mote_node.specs.Turn.{turn_of}
 use Rattle.radio_packet.specs.declared.copy.RadioCopy.{RadioCopy}

@@ -2,7 +2,7 @@
 
 ghost use Rattle.std.specs.Prelude.{◌≡◌, ◌+◌, ◌<◌, ◌≤◌, ◌^◌, ◌++◌, ◌∷◌, ◌==◌, ℕ, true, [], length, map, List, Some, None, IfOk, OnOk, IsSome, slice_index_or, slice_set, if◌then◌else◌, Vec as VecOfCode};
 ghost use Rattle.std.specs.declared.alloc.Global.{Global as GlobalOfCode};
-ghost use Rattle.process_kernel.specs.declared.line.Line.{Line as LineOfCode};
+ghost use Rattle.trace_lines.specs.declared.line.Line.{Line as LineOfCode};
 ghost use Rattle.std.specs.List.{filter, flat_map, AllByRecursion};
 ghost use Rattle.radio_medium.specs.Medium.{copies};
 ghost use Rattle.window_law.specs.Agenda.{Item, Packet};

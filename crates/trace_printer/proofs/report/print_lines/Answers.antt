@@ -3,8 +3,8 @@ use Rattle.std.proofs.lemmas.Result.{err_from_is_err_and}
 use Rattle.program_tree.specs.Program.{tree_of}
 use Rattle.program_tree.specs.declared.event.Proc.TheVariants.{Own}
 use Rattle.trace_printer.specs.ReportText.{line_text}
-use Rattle.process_kernel.specs.declared.line.Line.{Line}
-use Rattle.process_kernel.specs.declared.line.What.TheVariants.{Start}
+use Rattle.trace_lines.specs.declared.line.Line.{Line}
+use Rattle.trace_lines.specs.declared.line.What.TheVariants.{Start}
 use Rattle.trace_printer.proofs.Pieces.{flat_map-drop}
 use Rattle.trace_printer.proofs.Written.{put_printed, put_stopped, printed_next, stopped_next}
 use Rattle.trace_printer.proofs.report.print_lines.Goals as goal

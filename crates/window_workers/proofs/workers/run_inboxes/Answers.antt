@@ -3,7 +3,7 @@ use Rattle.std.specs.Prelude.{All, IfOk}
 use Rattle.std.specs.declared.alloc.Global.{Global}
 use Rattle.std.specs.List.{AllZip, zip, AllByRecursion as Each}
 use Rattle.std.proofs.lemmas.List.{length-map}
-use Rattle.process_kernel.specs.declared.line.Line.{Line}
+use Rattle.trace_lines.specs.declared.line.Line.{Line}
 use Rattle.kernel_laws.specs.Going.{IsInOrder}
 use Rattle.mote_net.specs.Net.{net_of}
 use Rattle.copy_inbox.specs.Gathered.{known_of}

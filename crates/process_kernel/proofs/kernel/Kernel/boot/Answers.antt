@@ -1,6 +1,6 @@
 use Rattle.std.proofs.Common.{arith, ◌≡◌, ◌+◌, refl, ap, sym}
 use Rattle.program_tree.specs.Program.{tree_of}
-use Rattle.process_kernel.specs.declared.line.Out.{Out}
+use Rattle.trace_lines.specs.declared.out.Out.{Out}
 use Rattle.process_kernel.specs.State.{State}
 use Rattle.process_kernel.specs.Run.{begun_of, most_units}
 use Rattle.process_kernel.specs.Boot.{boot_of}

@@ -2,6 +2,10 @@ use Rattle.process_kernel.specs.Public.{mote_in}
 use Rattle.process_kernel.proofs.kernel.Kernel.run_all.Goals as goal
 
 -- what a kernel has written is no part of its mote
-pub returns : goal.returns
+pub returns-clause-ok : goal.returns-clause-ok
 unfolding mote_in
-returns c = rw c.swap-2.ensures.y_after (rw c.swap.ensures.x_after at c.run_all_on-ran.ensures)
+returns-clause-ok c = rw c.swap-2.ensures.y_after (rw c.swap.ensures.x_after at c.run_all_on-ran.ensures.ok)
+
+pub returns-clause-err : goal.returns-clause-err
+unfolding mote_in
+returns-clause-err c = rw c.swap-2.ensures.y_after (rw c.swap.ensures.x_after at c.run_all_on-ran.ensures.err)

@@ -1,26 +1,26 @@
 use Rattle.std.proofs.Common.{arith, ◌≡◌, ◌+◌, refl, ap, sym, subst}
 use Rattle.program_tree.specs.Program.{tree_of}
-use Rattle.process_kernel.specs.declared.line.Out.{Out}
+use Rattle.trace_lines.specs.declared.out.Out.{Out}
 use Rattle.process_kernel.specs.declared.machine.Machine.{Machine}
 use Rattle.process_kernel.specs.State.{State}
 use Rattle.process_kernel.specs.Run.{begun_of, kernel_of, most_units}
 use Rattle.process_kernel.specs.Call.{calls_of}
 use Rattle.process_kernel.specs.Views.{state_of, mote_of}
-use Rattle.process_kernel.specs.Public.{run_given, given, begun, mote_in, Tells}
-use Rattle.process_kernel.proofs.Given.{failed, halted, finished, begins_with, machine_kept}
+use Rattle.process_kernel.specs.Public.{run_given, given, begun, mote_in, Tells, BeginsWith}
+use Rattle.process_kernel.proofs.Given.{failed, halted, finished, begins_with, begins_same, machine_kept}
 use Rattle.process_kernel.proofs.kernel.Kernel.run_on.Goals as goal
 
-pub returns-then-self : goal.returns-then-self
-returns-then-self c = failed _ _ _ _ c.if-self.true
+pub returns-then-self-clause-told : goal.returns-then-self-clause-told
+returns-then-self-clause-told c = failed _ _ _ _ c.if-self.true
 
-pub returns-then-self-2 : goal.returns-then-self-2
+pub returns-then-self-2-clause-told : goal.returns-then-self-2-clause-told
 unfolding run_given
-returns-then-self-2 c =
+returns-then-self-2-clause-told c =
     halted (tree_of c.args.program.now) (run_given c.args.now) c.args.self.now c.args.self.now.machine.out c.if-self.false (rw c.if-self-2.true refl)
 
-pub returns : goal.returns
+pub returns-clause-told : goal.returns-clause-told
 unfolding run_given begun_of
-returns c =
+returns-clause-told c =
     let t = tree_of c.args.program.now in
     let k = c.args.self.now in
     let out = k.machine.out in
@@ -34,3 +34,17 @@ returns c =
     (finished t (run_given c.args.now) k (record k { machine = machine }) c.close.new.self out machine.out (state_of t machine) o c.run_kernel-ran.result c.close.result
     c.if-self.false c.if-self.false c.if-self-2.false gives (c.run_kernel-ran.ensures.exact (most_units + 1) (omega (arith, work))) refl refl refl
     (begins_with out machine.out (λ ls ss h. c.run_kernel-ran.ensures.grows ls ss (c.begin.ensures.grows ls ss h))) c.close.ensures)
+
+pub returns-then-self-clause-begins : goal.returns-then-self-clause-begins
+returns-then-self-clause-begins c = begins_same c.args.self.now.machine.out
+
+pub returns-then-self-2-clause-begins : goal.returns-then-self-2-clause-begins
+returns-then-self-2-clause-begins c = begins_same c.args.self.now.machine.out
+
+pub returns-clause-begins : goal.returns-clause-begins
+returns-clause-begins c =
+    let k = c.args.self.now in
+    let machine = c.run_kernel-ran.new.self in
+    let kept = machine_kept (record k { machine = machine }) c.close.new.self c.run_kernel-ran.result c.close.result c.close.ensures in
+    subst (λ (told : Out). BeginsWith k.machine.out told) (sym (ap (λ (m : Machine). m.out) kept))
+    (begins_with k.machine.out machine.out (λ ls ss h. c.run_kernel-ran.ensures.grows ls ss (c.begin.ensures.grows ls ss h)))

@@ -1,7 +1,7 @@
 use Rattle.std.proofs.Common.{◌≡◌, ◌∙◌, true, ap, arith, subst, length, length-append, map, [], None, Some, Vec, Global, Option}
 use Rattle.std.specs.List.{filter}
 use Rattle.mote_node.specs.declared.mote.Mote.{Mote}
-use Rattle.process_kernel.specs.declared.line.Line.{Line}
+use Rattle.trace_lines.specs.declared.line.Line.{Line}
 use Rattle.mote_net.specs.Net.{net_of}
 use Rattle.window_law.specs.Agenda.{Wake, up_to}
 use Rattle.net_agenda.specs.Buckets.{Holds}

@@ -1,10 +1,6 @@
-//! What the runs of a kernel give: the lines of its trace, and packets that are sent.
-
-ghost use Rattle.std.specs.Prelude.{◌≡◌, []};
+//! A line of a trace.
 
 use program_tree::{Proc, Target};
-use radio_packet::Sent;
-use std::alloc::Global;
 
 /// What a line of a trace tells.
 #[derive(Clone, Copy, Debug, PartialEq, Eq)]
@@ -39,29 +35,9 @@ pub enum What {
     Collide(u16, u64),
 }
 
-/// A line of a trace: its moment, and what it tells.
+/// A line of a trace: its moment (a tick of the simulated clock), and what it tells.
 #[derive(Clone, Copy, Debug, PartialEq, Eq)]
 pub struct Line {
     pub at: u64,
     pub what: What,
-}
-
-/// What the runs of a kernel give, in order.
-#[derive(Debug, Drop)]
-pub struct Out {
-    pub lines: Vec<Line>,
-    pub sends: Vec<Sent>,
-}
-
-impl Out {
-    /// No lines and no packets.
-    pub fn new(alloc: Global) -> Out
-        ensures lines { result.lines.items ≡ [] }
-        ensures sends { result.sends.items ≡ [] }
-    {
-        Out {
-            lines: Vec::new(alloc),
-            sends: Vec::new(alloc),
-        }
-    }
 }

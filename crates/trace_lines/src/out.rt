@@ -1,0 +1,27 @@
+//! What the runs of a kernel give.
+
+ghost use Rattle.std.specs.Prelude.{◌≡◌, []};
+
+use crate::line::Line;
+use radio_packet::Sent;
+use std::alloc::Global;
+
+/// What the runs of a kernel give, in order.
+#[derive(Debug, Drop)]
+pub struct Out {
+    pub lines: Vec<Line>,
+    pub sends: Vec<Sent>,
+}
+
+impl Out {
+    /// No lines and no packets.
+    pub fn new(alloc: Global) -> Out
+        ensures lines { result.lines.items ≡ [] }
+        ensures sends { result.sends.items ≡ [] }
+    {
+        Out {
+            lines: Vec::new(alloc),
+            sends: Vec::new(alloc),
+        }
+    }
+}
