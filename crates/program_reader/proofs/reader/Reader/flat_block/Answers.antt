@@ -1,4 +1,4 @@
-use Rattle.std.proofs.Common.{sym, subst, ℕ}
+use Rattle.std.proofs.Common.{arith, sym, subst, ℕ}
 use Rattle.program_tree.specs.Grammar.{block_marks}
 use Rattle.program_tree.specs.InScope.{name_in, number_in}
 use Rattle.program_tree.specs.Scope.{block_fits}
@@ -22,3 +22,8 @@ pub returns-clause-fits : goal.returns-clause-fits
 returns-clause-fits c =
     let P : Body ℕ → Type 0 = λ b. Fits (scope_of c.args.self.now.scope).names (context_of c.args.place.now).thread (λ w. block_fits w b) in
     subst P (sym c.in_ok-flat.ensures) c.in_ok-block.ensures.fits
+
+pub returns-clause-within : goal.returns-clause-within
+returns-clause-within c =
+    let P : Body ℕ → Type 0 = λ b. IsWithinLimits b in
+    subst P (sym c.in_ok-flat.ensures) (within_limits _ _ _ (omega (arith, c.requires, c.in_ok-block.ensures.shallow)) c.in_ok-block.ensures.counts c.block.new.self.scope.few_statements)
