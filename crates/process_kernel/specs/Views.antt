@@ -6,7 +6,7 @@ use Rattle.protothread.specs.declared.state.PtState.{PtState}
 use Rattle.protothread.specs.declared.thread.Thread.{Thread}
 use Rattle.protothread.specs.declared.part.Part.TheVariants.{Body}
 use Rattle.protothread.specs.Remainder.{Remainder, fresh_of}
-use Rattle.protothread.specs.Frames.{remainder_of}
+use Rattle.protothread.specs.Places.{remainder_of}
 use Rattle.protothread.specs.Looks.{Looks}
 use Rattle.trace_lines.specs.declared.line.Line.{Line}
 use Rattle.radio_packet.specs.declared.sent.Sent.{Sent}

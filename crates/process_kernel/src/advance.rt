@@ -3,7 +3,7 @@
 ghost use Rattle.std.specs.Prelude.{◌≡◌};
 ghost use Rattle.program_tree.specs.Code.{Code, Tree};
 ghost use Rattle.program_tree.specs.Program.{code_of};
-ghost use Rattle.protothread.specs.Frames.{remainder_of};
+ghost use Rattle.protothread.specs.Places.{remainder_of};
 ghost use Rattle.protothread.specs.Step.{PaysFor};
 ghost use Rattle.process_kernel.specs.Thread.{stepped_of};
 ghost use Rattle.process_kernel.specs.Operation.{answer_of};

@@ -2,7 +2,7 @@
 
 ghost use Rattle.std.specs.Prelude.{◌≡◌, ◌<◌, ℕ, Some, OnOk, slice_get};
 ghost use Rattle.program_tree.specs.Program.{tree_of, code_of};
-ghost use Rattle.protothread.specs.Frames.{remainder_of};
+ghost use Rattle.protothread.specs.Places.{remainder_of};
 ghost use Rattle.process_kernel.specs.Call.{calls_of, has_ended as is_an_end};
 ghost use Rattle.process_kernel.specs.Ctimer.{callback_of, ctimer_of};
 ghost use Rattle.process_kernel.specs.Reaction.{handler_of, resume_of, own_of, react_of};

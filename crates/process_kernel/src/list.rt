@@ -3,7 +3,7 @@
 ghost use Rattle.std.specs.Prelude.{◌≡◌, ◌<◌, ◌≤◌, ◌+◌, ◌^◌, ◌∷◌, false, not, OnOk, IfOk, IfErr, Some, drop, filter};
 ghost use Rattle.std.specs.Prelude.{length, slice_get};
 ghost use Rattle.program_tree.specs.Code.{Tree, Code};
-ghost use Rattle.protothread.specs.Frames.{remainder_of};
+ghost use Rattle.protothread.specs.Places.{remainder_of};
 ghost use Rattle.process_kernel.specs.Members.{is_same as are_same, place_of, stands_in};
 ghost use Rattle.process_kernel.specs.ProcessList.{put_remainder, enlist_of, exiting_of, unlisted_of, leave_of};
 ghost use Rattle.process_kernel.specs.ProcessList.{numbered_from, with_fresh_body, with_fresh_process};

@@ -2,7 +2,7 @@
 
 ghost use Rattle.std.specs.Prelude.{◌≡◌, ◌<◌, ℕ, OnOk};
 ghost use Rattle.program_tree.specs.Program.{tree_of, code_of};
-ghost use Rattle.protothread.specs.Frames.{remainder_of};
+ghost use Rattle.protothread.specs.Places.{remainder_of};
 ghost use Rattle.process_kernel.specs.Call.{calls_of};
 ghost use Rattle.process_kernel.specs.Calls.{walk_of};
 ghost use Rattle.process_kernel.specs.Exit.{process_number as number_told, last_run_of, exit_of};

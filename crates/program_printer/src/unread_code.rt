@@ -3,16 +3,16 @@ ghost use Rattle.std.specs.Prelude.{◌≡◌, ◌++◌, [], length, map, IfOk, 
 ghost use Rattle.std.specs.List.{flat_map, zip};
 ghost use Rattle.program_tree.specs.Program.{code_of, tree_of};
 ghost use Rattle.program_tree.specs.ShapeOf.{block_with, code_with, codes_of_tree};
-ghost use Rattle.program_printer.specs.Spelled.{names_in, listed_tokens, valued_tokens, named_tokens, handler_tokens, declared_tokens, runs_tokens, code_tokens, process_tokens, autostart_tokens, receiver_tokens, head_tokens, spelled_tokens};
+ghost use Rattle.program_printer.specs.Spelled.{names_in, block_tokens, listed_tokens, valued_tokens, named_tokens, handler_tokens, declared_tokens, runs_tokens, code_tokens, process_tokens, autostart_tokens, receiver_tokens, head_tokens, spelled_tokens};
 ghost use Rattle.program_tree.specs.Tokens.{token_of};
-ghost use Rattle.program_tree.specs.Tree.{block_of};
+ghost use Rattle.program_tree.specs.FlatBlock.{tree_in};
 
 use crate::unread::{Scoped, add, add_all, name_at};
+use program_tree::flat_block::FlatBlock;
 use program_tree::keyword::Keyword;
 use program_tree::names::Names;
 use program_tree::program::Program;
 use program_tree::token::Token;
-use program_tree::tree::Block;
 use std::alloc::{AllocError, Global};
 
 /// Adds declarations that are names alone.
@@ -58,21 +58,32 @@ fn valued<'a>(
 }
 
 impl<'a> Scoped<'a> {
+    /// Adds a block of the process.
+    fn flat_block(
+        &self,
+        block: &FlatBlock,
+        out: &mut Vec<Token<'a>>,
+    ) -> Result<(), AllocError>
+        ensures { OnOk result (map token_of out.new.items ≡ map token_of out.old.items ++ block_tokens (block_with (names_in self.now) (tree_in block.now))) }
+    {
+        self.block(block.block(), out)
+    }
+
     /// Adds declarations of names with their blocks.
     fn blocks(
         &self,
         keyword: Keyword,
         names: &'a Names,
-        blocks: &[Block],
+        blocks: &[FlatBlock],
         out: &mut Vec<Token<'a>>,
     ) -> Result<(), AllocError>
         requires { length blocks.now ≡ length names.now }
-        ensures { OnOk result (map token_of out.new.items ≡ map token_of out.old.items ++ flat_map (named_tokens keyword) (zip names.now (map (block_with (names_in self.now)) (map block_of blocks.now)))) }
+        ensures { OnOk result (map token_of out.new.items ≡ map token_of out.old.items ++ flat_map (named_tokens keyword) (zip names.now (map (block_with (names_in self.now)) (map tree_in blocks.now)))) }
     {
         for place in 0..names.len() {
             let name = Token::Name(names.get(place));
             add_all(out, &[Token::Keyword(keyword), name])?;
-            self.block(&blocks[place], out)?;
+            self.flat_block(&blocks[place], out)?;
         }
         Ok(())
     }
@@ -81,16 +92,16 @@ impl<'a> Scoped<'a> {
     fn handler(
         &self,
         keyword: Keyword,
-        block: &Option<Block>,
+        block: &Option<FlatBlock>,
         out: &mut Vec<Token<'a>>,
     ) -> Result<(), AllocError>
-        ensures { OnOk result (map token_of out.new.items ≡ map token_of out.old.items ++ handler_tokens keyword (option_map (block_with (names_in self.now)) (option_map block_of block.now))) }
+        ensures { OnOk result (map token_of out.new.items ≡ map token_of out.old.items ++ handler_tokens keyword (option_map (block_with (names_in self.now)) (option_map tree_in block.now))) }
     {
         match block {
             None => Ok(()),
             Some(block) => {
                 add(out, Token::Keyword(keyword))?;
-                self.block(block, out)
+                self.flat_block(block, out)
             }
         }
     }
@@ -114,7 +125,7 @@ impl<'a> Scoped<'a> {
         self.handler(Keyword::OnPoll, &code.on_poll, out)?;
         self.handler(Keyword::OnExit, &code.on_exit, out)?;
         add(out, Token::Keyword(Keyword::Body))?;
-        self.block(&code.body, out)?;
+        self.flat_block(&code.body, out)?;
         add(out, Token::CloseBrace)
     }
 

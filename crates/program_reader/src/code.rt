@@ -13,18 +13,19 @@ ghost use Rattle.program_tree.specs.Scope.{threads_fit, earlier_threads};
 ghost use Rattle.program_tree.specs.Shapes.{Name};
 ghost use Rattle.program_reader.specs.Steps.{scope_of};
 ghost use Rattle.program_tree.specs.Tokens as token;
-ghost use Rattle.program_tree.specs.Tree.{block_of, IsWithinLimits};
+ghost use Rattle.program_tree.specs.FlatBlock.{tree_in};
+ghost use Rattle.program_tree.specs.Tree.{IsWithinLimits};
 ghost use Rattle.program_reader.specs.declared.fault.Fault.{Fault};
 
 use crate::cursor::{Cursor, Sign};
 use crate::fault::Refusal;
 use crate::reader::Reader;
 use crate::scope::Scope;
+use program_tree::flat_block::FlatBlock;
 use program_tree::keyword::Keyword;
 use program_tree::names::Names;
 use program_tree::process_text::ProcessText;
 use program_tree::token::Token;
-use program_tree::tree::Block;
 use std::alloc::Global;
 use std::mem;
 
@@ -77,11 +78,11 @@ impl Cursor<'_> {
 #[derive(Drop)]
 struct Content {
     starts: Vec<u16>,
-    callbacks: Vec<Block>,
-    thread_blocks: Vec<Block>,
-    on_poll: Option<Block>,
-    on_exit: Option<Block>,
-    body: Block,
+    callbacks: Vec<FlatBlock>,
+    thread_blocks: Vec<FlatBlock>,
+    on_poll: Option<FlatBlock>,
+    on_exit: Option<FlatBlock>,
+    body: FlatBlock,
 }
 
 /// The names of a code, and how many timers the program has before it.
@@ -132,14 +133,14 @@ impl Reader<'_> {
         requires etimers { self.old.scope.etimers ≡ [] }
         requires ctimers { self.old.scope.ctimers ≡ [] }
         requires threads { self.old.scope.threads ≡ [] }
-        ensures body { IfOk result (λ c. IsWithinLimits (block_of c.body)) }
-        ensures callbacks { IfOk result (λ c. All (λ b. IsWithinLimits (block_of b)) c.callbacks.items) }
-        ensures threads { IfOk result (λ c. All (λ b. IsWithinLimits (block_of b)) c.thread_blocks.items) }
-        ensures on_poll { IfOk result (λ c. ForSome c.on_poll (λ b. IsWithinLimits (block_of b))) }
-        ensures on_exit { IfOk result (λ c. ForSome c.on_exit (λ b. IsWithinLimits (block_of b))) }
-        ensures earlier { IfOk result (λ c. threads_fit earlier_threads 0 (map block_of c.thread_blocks.items) ≡ true) }
-        ensures ok { IfOk result (λ c. ReadsContent self.new.scope.etimers self.new.scope.ctimers c.starts.items (map block_of c.callbacks.items) (map block_of c.thread_blocks.items)
-            (option_map block_of c.on_poll) (option_map block_of c.on_exit) (block_of c.body) (scope_of self.old.scope) (scope_of self.new.scope) self.old.cursor self.new.cursor) }
+        ensures body { IfOk result (λ c. IsWithinLimits (tree_in c.body)) }
+        ensures callbacks { IfOk result (λ c. All (λ b. IsWithinLimits (tree_in b)) c.callbacks.items) }
+        ensures threads { IfOk result (λ c. All (λ b. IsWithinLimits (tree_in b)) c.thread_blocks.items) }
+        ensures on_poll { IfOk result (λ c. ForSome c.on_poll (λ b. IsWithinLimits (tree_in b))) }
+        ensures on_exit { IfOk result (λ c. ForSome c.on_exit (λ b. IsWithinLimits (tree_in b))) }
+        ensures earlier { IfOk result (λ c. threads_fit earlier_threads 0 (map tree_in c.thread_blocks.items) ≡ true) }
+        ensures ok { IfOk result (λ c. ReadsContent self.new.scope.etimers self.new.scope.ctimers c.starts.items (map tree_in c.callbacks.items) (map tree_in c.thread_blocks.items)
+            (option_map tree_in c.on_poll) (option_map tree_in c.on_exit) (tree_in c.body) (scope_of self.old.scope) (scope_of self.new.scope) self.old.cursor self.new.cursor) }
         ensures err { FailsIn (scope_of self.old.scope) (machine.from_variables ∷ []) self.old.cursor result }
     {
         let starts = self.variables()?;

@@ -3,21 +3,23 @@ ghost use Rattle.std.specs.Prelude.{◌≡◌, ◌≤◌, true, ◌∷◌, [], l
 ghost use Rattle.std.specs.List.{All};
 ghost use Rattle.std.specs.Option.{ForSome};
 ghost use Rattle.program_reader.specs.CodeParts.{IsNamedBlock, ReadsBlocks, ReadsHandler, ReadsBody};
-ghost use Rattle.program_tree.specs.Grammar.{at_simple, at_thread, ctimer_marks, thread_marks};
+ghost use Rattle.program_tree.specs.Grammar.{at_simple, at_thread, block_marks, ctimer_marks, thread_marks};
+ghost use Rattle.program_tree.specs.InScope.{name_in, number_in};
 ghost use Rattle.program_reader.specs.Head.{FailsIn};
 ghost use Rattle.text_laws.specs.Machine as machine;
 ghost use Rattle.text_laws.specs.Machine.{new_name};
 ghost use Rattle.program_tree.specs.Scope.{block_fits, threads_fit, earlier_threads};
-ghost use Rattle.program_reader.specs.Steps.{scope_of, fixed};
-ghost use Rattle.program_tree.specs.Tree.{a_timer, a_thread, block_of, IsWithinLimits};
+ghost use Rattle.program_reader.specs.Steps.{scope_of, context_of, fixed, Reads, Fails, Numbered, Fits};
+ghost use Rattle.program_tree.specs.FlatBlock.{tree_in};
+ghost use Rattle.program_tree.specs.Tree.{a_timer, a_thread, body_map, IsWithinLimits};
 ghost use Rattle.program_tree.specs.declared.keyword.Keyword.TheVariants as word;
 
 use crate::declarations::Kind;
 use crate::fault::Refusal;
 use crate::reader::Reader;
 use crate::scope::Context;
+use program_tree::flat_block::FlatBlock;
 use program_tree::keyword::Keyword;
-use program_tree::tree::Block;
 
 /// Where the block of a callback, `onpoll` or `onexit` stands.
 const SIMPLE: Context<'static> = Context {
@@ -27,29 +29,46 @@ const SIMPLE: Context<'static> = Context {
 };
 
 impl Reader<'_> {
+    /// A block of a process, with its flat code.
+    fn flat_block(&mut self, place: &Context) -> Result<FlatBlock, Refusal>
+        requires { place.now.level ≡ 0 }
+        ensures names { fixed self.new.scope ≡ fixed self.old.scope }
+        ensures no_longer { OnOk result (length self.new.cursor ≤ length self.old.cursor) }
+        ensures within { IfOk result (λ b. IsWithinLimits (tree_in b)) }
+        ensures ok { IfOk result (λ b. Reads (scope_of self.old.scope) (scope_of self.new.scope) (machine.block (context_of place.now))
+            (λ n ms. block_marks (context_of place.now) (body_map (name_in n) (tree_in b)) ms) self.old.cursor self.new.cursor) }
+        ensures numbered { IfOk result (λ b. Numbered (scope_of self.old.scope).names (λ n. body_map (number_in n) (body_map (name_in n) (tree_in b))) (tree_in b)) }
+        ensures fits { IfOk result (λ b. Fits (scope_of self.old.scope).names (context_of place.now).thread (λ w. block_fits w (tree_in b))) }
+        ensures err { Fails (scope_of self.old.scope) (machine.block (context_of place.now)) self.old.cursor result }
+    {
+        let block = self.block(place)?;
+        let flat = FlatBlock::new(self.alloc, block)?;
+        Ok(flat)
+    }
+
     /// The name and the block of a callback timer.
     #[tactic(auto, using(crate::proofs::BlockLaws::ctimer_steps))]
-    fn ctimer(&mut self) -> Result<Block, Refusal>
+    fn ctimer(&mut self) -> Result<FlatBlock, Refusal>
         ensures no_longer { OnOk result (length self.new.cursor ≤ length self.old.cursor) }
         ensures etimers { OnOk result (self.new.scope.etimers ≡ self.old.scope.etimers) }
-        ensures within { IfOk result (λ b. IsWithinLimits (block_of b)) }
-        ensures ok { IfOk result (λ b. IsNamedBlock a_timer (λ f. new_name a_timer ∷ machine.block at_simple ∷ f) (λ x. at_simple) (block_of b)
+        ensures within { IfOk result (λ b. IsWithinLimits (tree_in b)) }
+        ensures ok { IfOk result (λ b. IsNamedBlock a_timer (λ f. new_name a_timer ∷ machine.block at_simple ∷ f) (λ x. at_simple) (tree_in b)
             (scope_of self.old.scope) (scope_of self.new.scope) self.old.cursor self.new.cursor) }
         ensures err { FailsIn (scope_of self.old.scope) (new_name a_timer ∷ machine.block at_simple ∷ []) self.old.cursor result }
     {
         self.cursor
             .new_name(self.alloc, &mut self.scope, Kind::Ctimer)?;
-        let block = self.block(&SIMPLE)?;
+        let block = self.flat_block(&SIMPLE)?;
         Ok(block)
     }
 
     /// The callback timers of a process, with their blocks.
     #[tactic(auto, using(crate::proofs::BlockLaws::ctimers_steps))]
-    pub(crate) fn ctimers(&mut self) -> Result<Vec<Block>, Refusal>
+    pub(crate) fn ctimers(&mut self) -> Result<Vec<FlatBlock>, Refusal>
         ensures no_longer { OnOk result (length self.new.cursor ≤ length self.old.cursor) }
         ensures etimers { OnOk result (self.new.scope.etimers ≡ self.old.scope.etimers) }
-        ensures within { IfOk result (λ blocks. All (λ b. IsWithinLimits (block_of b)) blocks.items) }
-        ensures ok { IfOk result (λ blocks. ReadsBlocks a_timer machine.from_ctimers machine.from_threads ctimer_marks (map block_of blocks.items)
+        ensures within { IfOk result (λ blocks. All (λ b. IsWithinLimits (tree_in b)) blocks.items) }
+        ensures ok { IfOk result (λ blocks. ReadsBlocks a_timer machine.from_ctimers machine.from_threads ctimer_marks (map tree_in blocks.items)
             (scope_of self.old.scope) (scope_of self.new.scope) self.old.cursor self.new.cursor) }
         ensures err { FailsIn (scope_of self.old.scope) (machine.from_ctimers ∷ []) self.old.cursor result }
     {
@@ -63,13 +82,13 @@ impl Reader<'_> {
 
     /// The name and the block of a thread, which can spawn the threads before it.
     #[tactic(auto, using(crate::proofs::BlockLaws::thread_steps))]
-    fn thread(&mut self) -> Result<Block, Refusal>
+    fn thread(&mut self) -> Result<FlatBlock, Refusal>
         ensures no_longer { OnOk result (length self.new.cursor ≤ length self.old.cursor) }
         ensures etimers { OnOk result (self.new.scope.etimers ≡ self.old.scope.etimers) }
         ensures ctimers { OnOk result (self.new.scope.ctimers ≡ self.old.scope.ctimers) }
-        ensures within { IfOk result (λ b. IsWithinLimits (block_of b)) }
-        ensures earlier { IfOk result (λ b. block_fits (earlier_threads (length self.old.scope.threads)) (block_of b) ≡ true) }
-        ensures ok { IfOk result (λ b. IsNamedBlock a_thread (λ f. machine.new_thread ∷ f) at_thread (block_of b)
+        ensures within { IfOk result (λ b. IsWithinLimits (tree_in b)) }
+        ensures earlier { IfOk result (λ b. block_fits (earlier_threads (length self.old.scope.threads)) (tree_in b) ≡ true) }
+        ensures ok { IfOk result (λ b. IsNamedBlock a_thread (λ f. machine.new_thread ∷ f) at_thread (tree_in b)
             (scope_of self.old.scope) (scope_of self.new.scope) self.old.cursor self.new.cursor) }
         ensures err { FailsIn (scope_of self.old.scope) (machine.new_thread ∷ []) self.old.cursor result }
     {
@@ -81,20 +100,20 @@ impl Reader<'_> {
             simple: false,
             thread: Some(name),
         };
-        let block = self.block(&place)?;
+        let block = self.flat_block(&place)?;
         Ok(block)
     }
 
     /// The threads of a process, with their blocks.
     #[tactic(auto, using(crate::proofs::BlockLaws::threads_steps))]
-    pub(crate) fn threads(&mut self) -> Result<Vec<Block>, Refusal>
+    pub(crate) fn threads(&mut self) -> Result<Vec<FlatBlock>, Refusal>
         requires { self.old.scope.threads ≡ [] }
         ensures no_longer { OnOk result (length self.new.cursor ≤ length self.old.cursor) }
         ensures etimers { OnOk result (self.new.scope.etimers ≡ self.old.scope.etimers) }
         ensures ctimers { OnOk result (self.new.scope.ctimers ≡ self.old.scope.ctimers) }
-        ensures within { IfOk result (λ blocks. All (λ b. IsWithinLimits (block_of b)) blocks.items) }
-        ensures earlier { IfOk result (λ blocks. threads_fit earlier_threads 0 (map block_of blocks.items) ≡ true) }
-        ensures ok { IfOk result (λ blocks. ReadsBlocks a_thread machine.from_threads machine.from_on_poll thread_marks (map block_of blocks.items)
+        ensures within { IfOk result (λ blocks. All (λ b. IsWithinLimits (tree_in b)) blocks.items) }
+        ensures earlier { IfOk result (λ blocks. threads_fit earlier_threads 0 (map tree_in blocks.items) ≡ true) }
+        ensures ok { IfOk result (λ blocks. ReadsBlocks a_thread machine.from_threads machine.from_on_poll thread_marks (map tree_in blocks.items)
             (scope_of self.old.scope) (scope_of self.new.scope) self.old.cursor self.new.cursor) }
         ensures err { FailsIn (scope_of self.old.scope) (machine.from_threads ∷ []) self.old.cursor result }
     {
@@ -108,42 +127,42 @@ impl Reader<'_> {
 
     /// What runs at POLL, where it is there.
     #[tactic(auto, using(crate::proofs::BlockLaws::on_poll_steps))]
-    pub(crate) fn on_poll(&mut self) -> Result<Option<Block>, Refusal>
+    pub(crate) fn on_poll(&mut self) -> Result<Option<FlatBlock>, Refusal>
         ensures fixed { fixed self.new.scope ≡ fixed self.old.scope }
-        ensures within { IfOk result (λ block. ForSome block (λ b. IsWithinLimits (block_of b))) }
-        ensures ok { IfOk result (λ block. ReadsHandler word.OnPoll machine.from_on_poll machine.from_on_exit (option_map block_of block)
+        ensures within { IfOk result (λ block. ForSome block (λ b. IsWithinLimits (tree_in b))) }
+        ensures ok { IfOk result (λ block. ReadsHandler word.OnPoll machine.from_on_poll machine.from_on_exit (option_map tree_in block)
             (scope_of self.old.scope) (scope_of self.new.scope) self.old.cursor self.new.cursor) }
         ensures err { FailsIn (scope_of self.old.scope) (machine.from_on_poll ∷ []) self.old.cursor result }
     {
         if !self.cursor.accept(Keyword::OnPoll) {
             return Ok(None);
         }
-        let block = self.block(&SIMPLE)?;
+        let block = self.flat_block(&SIMPLE)?;
         Ok(Some(block))
     }
 
     /// What runs at EXIT, where it is there.
     #[tactic(auto, using(crate::proofs::BlockLaws::on_exit_steps))]
-    pub(crate) fn on_exit(&mut self) -> Result<Option<Block>, Refusal>
+    pub(crate) fn on_exit(&mut self) -> Result<Option<FlatBlock>, Refusal>
         ensures fixed { fixed self.new.scope ≡ fixed self.old.scope }
-        ensures within { IfOk result (λ block. ForSome block (λ b. IsWithinLimits (block_of b))) }
-        ensures ok { IfOk result (λ block. ReadsHandler word.OnExit machine.from_on_exit machine.from_body (option_map block_of block)
+        ensures within { IfOk result (λ block. ForSome block (λ b. IsWithinLimits (tree_in b))) }
+        ensures ok { IfOk result (λ block. ReadsHandler word.OnExit machine.from_on_exit machine.from_body (option_map tree_in block)
             (scope_of self.old.scope) (scope_of self.new.scope) self.old.cursor self.new.cursor) }
         ensures err { FailsIn (scope_of self.old.scope) (machine.from_on_exit ∷ []) self.old.cursor result }
     {
         if !self.cursor.accept(Keyword::OnExit) {
             return Ok(None);
         }
-        let block = self.block(&SIMPLE)?;
+        let block = self.flat_block(&SIMPLE)?;
         Ok(Some(block))
     }
 
     /// The body.
     #[tactic(auto, using(crate::proofs::BlockLaws::body_steps))]
-    pub(crate) fn body(&mut self) -> Result<Block, Refusal>
+    pub(crate) fn body(&mut self) -> Result<FlatBlock, Refusal>
         ensures fixed { fixed self.new.scope ≡ fixed self.old.scope }
-        ensures within { IfOk result (λ b. IsWithinLimits (block_of b)) }
-        ensures ok { IfOk result (λ b. ReadsBody (block_of b) (scope_of self.old.scope) (scope_of self.new.scope) self.old.cursor self.new.cursor) }
+        ensures within { IfOk result (λ b. IsWithinLimits (tree_in b)) }
+        ensures ok { IfOk result (λ b. ReadsBody (tree_in b) (scope_of self.old.scope) (scope_of self.new.scope) self.old.cursor self.new.cursor) }
         ensures err { FailsIn (scope_of self.old.scope) (machine.from_body ∷ []) self.old.cursor result }
     {
         if !self.cursor.accept(Keyword::Body) {
@@ -154,7 +173,7 @@ impl Reader<'_> {
             simple: false,
             thread: None,
         };
-        let block = self.block(&place)?;
+        let block = self.flat_block(&place)?;
         Ok(block)
     }
 }

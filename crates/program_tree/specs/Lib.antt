@@ -1,9 +1,12 @@
 pub mod Canonical
 pub mod Classes
 pub mod Code
+pub mod Emits
 pub mod EventNames
 pub mod Events
 pub mod Faults
+pub mod Flat
+pub mod FlatBlock
 pub mod Forms
 pub mod Grammar
 pub mod InScope
@@ -12,6 +15,7 @@ pub mod Names
 pub mod Numbers
 pub mod ProcessText
 pub mod Program
+pub mod Props
 pub mod Reading
 pub mod Scope
 pub mod ShapeOf

@@ -95,6 +95,11 @@ abbrev pub body_of : {N : Type 0} → List (Statement N) → Body N
 body_of [] = end
 body_of (s ∷ ss) = next s (body_of ss)
 
+-- the statements of the other block of an `if`
+abbrev pub other_block : Otherwise ℕ → List (Statement ℕ)
+other_block nothing = []
+other_block (otherwise b) = listed b
+
 -- how many blocks stand in one another, this one counted
 abbrev mutual
   pub height : {N : Type 0} → Body N → ℕ
@@ -124,6 +129,10 @@ abbrev mutual
   pub other_size : {N : Type 0} → Otherwise N → ℕ
   other_size nothing = 0
   other_size (otherwise b) = size b
+
+-- a statement with those of its blocks
+abbrev pub statement_size : {N : Type 0} → Statement N → ℕ
+statement_size s = suc (inner_size s)
 
 -- a block within the limits: at most 32 blocks stand in one another, with at most 4,096 statements
 pub record IsWithinLimits {N : Type 0} (b : Body N) : Type 0 where

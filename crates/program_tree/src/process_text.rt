@@ -1,14 +1,15 @@
 //! The text of each process of a program.
 //!
 //! The crates that read and print programs see its fields. Its ghost fields hold of each value.
-ghost use Rattle.std.specs.Prelude.{◌≡◌, ◌+◌, ◌≤◌, length, map, slice_get, IsTrue, IfSome, option_map};
+ghost use Rattle.std.specs.Prelude.{◌≡◌, ◌+◌, ◌<◌, ◌≤◌, length, map, slice_get, IsTrue, IfSome, option_map};
 ghost use Rattle.std.specs.Option.{ForSome};
 ghost use Rattle.std.specs.List.{All};
-ghost use Rattle.program_tree.specs.Scope.{threads_fit, earlier_threads};
-ghost use Rattle.program_tree.specs.Tree.{block_of, IsWithinLimits};
+ghost use Rattle.program_tree.specs.Scope.{block_fits, threads_fit, earlier_threads};
+ghost use Rattle.program_tree.specs.FlatBlock.{tree_in};
+ghost use Rattle.program_tree.specs.Tree.{IsWithinLimits};
 
+use crate::flat_block::FlatBlock;
 use crate::names::Names;
-use crate::tree::Block;
 
 /// What a process runs: its variables with their first values, its timers, its threads, and its blocks.
 #[derive(Drop)]
@@ -19,24 +20,24 @@ pub struct ProcessText {
     pub first_timer: u8,
     pub etimers: Names,
     pub ctimers: Names,
-    pub callbacks: Vec<Block>,
+    pub callbacks: Vec<FlatBlock>,
     pub threads: Names,
-    pub thread_blocks: Vec<Block>,
-    pub on_poll: Option<Block>,
-    pub on_exit: Option<Block>,
-    pub body: Block,
+    pub thread_blocks: Vec<FlatBlock>,
+    pub on_poll: Option<FlatBlock>,
+    pub on_exit: Option<FlatBlock>,
+    pub body: FlatBlock,
     ghost few_variables: { length variables ≤ 64 },
     ghost paired: { length starts.items ≡ length variables },
     ghost few_timers: { first_timer + length etimers + length ctimers ≤ 64 },
     ghost each_callback: { length callbacks.items ≡ length ctimers },
     ghost few_threads: { length threads ≤ 7 },
     ghost each_thread: { length thread_blocks.items ≡ length threads },
-    ghost body_within: { IsWithinLimits (block_of body) },
-    ghost callbacks_within: { All (λ b. IsWithinLimits (block_of b)) callbacks.items },
-    ghost threads_within: { All (λ b. IsWithinLimits (block_of b)) thread_blocks.items },
-    ghost on_poll_within: { ForSome on_poll (λ b. IsWithinLimits (block_of b)) },
-    ghost on_exit_within: { ForSome on_exit (λ b. IsWithinLimits (block_of b)) },
-    ghost spawns_earlier: { IsTrue (threads_fit earlier_threads 0 (map block_of thread_blocks.items)) },
+    ghost body_within: { IsWithinLimits (tree_in body) },
+    ghost callbacks_within: { All (λ b. IsWithinLimits (tree_in b)) callbacks.items },
+    ghost threads_within: { All (λ b. IsWithinLimits (tree_in b)) thread_blocks.items },
+    ghost on_poll_within: { ForSome on_poll (λ b. IsWithinLimits (tree_in b)) },
+    ghost on_exit_within: { ForSome on_exit (λ b. IsWithinLimits (tree_in b)) },
+    ghost spawns_earlier: { IsTrue (threads_fit earlier_threads 0 (map tree_in thread_blocks.items)) },
 }
 
 impl ProcessText {
@@ -67,25 +68,25 @@ impl ProcessText {
     }
 
     /// The statements of the body. Its blocks stand at most 32 deep in one another, as in each block of a process.
-    pub fn body(&self) -> &Block
-        ensures value { block_of result.now ≡ (code_of self.now).body }
-        ensures within { IsWithinLimits (block_of result.now) }
+    pub fn body(&self) -> &FlatBlock
+        ensures value { tree_in result.now ≡ (code_of self.now).body }
+        ensures within { IsWithinLimits (tree_in result.now) }
     {
         &self.body
     }
 
     /// What runs before the body at POLL, where the process has it.
-    pub fn on_poll(&self) -> Option<&Block>
-        ensures value { option_map (λ b. block_of b.now) result ≡ (code_of self.now).on_poll }
-        ensures within { IfSome result (λ b. IsWithinLimits (block_of b.now)) }
+    pub fn on_poll(&self) -> Option<&FlatBlock>
+        ensures value { option_map (λ b. tree_in b.now) result ≡ (code_of self.now).on_poll }
+        ensures within { IfSome result (λ b. IsWithinLimits (tree_in b.now)) }
     {
         self.on_poll.as_ref()
     }
 
     /// What runs before the body at EXIT, where the process has it.
-    pub fn on_exit(&self) -> Option<&Block>
-        ensures value { option_map (λ b. block_of b.now) result ≡ (code_of self.now).on_exit }
-        ensures within { IfSome result (λ b. IsWithinLimits (block_of b.now)) }
+    pub fn on_exit(&self) -> Option<&FlatBlock>
+        ensures value { option_map (λ b. tree_in b.now) result ≡ (code_of self.now).on_exit }
+        ensures within { IfSome result (λ b. IsWithinLimits (tree_in b.now)) }
     {
         self.on_exit.as_ref()
     }
@@ -100,18 +101,20 @@ impl ProcessText {
         self.thread_blocks.len() as u8
     }
 
-    /// The block of a thread, by its number, where there is such a thread.
-    pub fn thread(&self, number: u8) -> Option<&Block>
-        ensures value { option_map (λ b. block_of b.now) result ≡ slice_get (code_of self.now).thread_bodies number }
-        ensures within { IfSome result (λ b. IsWithinLimits (block_of b.now)) }
+    /// The block of a thread, by its number, where there is such a thread. It spawns only threads before itself.
+    pub fn thread(&self, number: u8) -> Option<&FlatBlock>
+        ensures value { option_map (λ b. tree_in b.now) result ≡ slice_get (code_of self.now).thread_bodies number }
+        ensures few { IfSome result (λ b. number < 7) }
+        ensures within { IfSome result (λ b. IsWithinLimits (tree_in b.now)) }
+        ensures earlier { IfSome result (λ b. IsTrue (block_fits (earlier_threads number) (tree_in b.now))) }
     {
         self.thread_blocks.get(usize::from(number))
     }
 
     /// The block of a callback timer, by its number in the program, where it is one of this process.
-    pub fn callback(&self, timer: u8) -> Option<&Block>
-        ensures value { option_map (λ b. block_of b.now) result ≡ callback_at (code_of self.now) timer }
-        ensures within { IfSome result (λ b. IsWithinLimits (block_of b.now)) }
+    pub fn callback(&self, timer: u8) -> Option<&FlatBlock>
+        ensures value { option_map (λ b. tree_in b.now) result ≡ callback_at (code_of self.now) timer }
+        ensures within { IfSome result (λ b. IsWithinLimits (tree_in b.now)) }
     {
         let before = usize::from(self.first_timer) + self.etimers.len();
         self.callbacks.get(usize::from(timer).checked_sub(before)?)

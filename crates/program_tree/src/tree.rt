@@ -1,8 +1,9 @@
 //! The trees of a program: its expressions, statements and blocks, with each name resolved to its number.
-ghost use Rattle.std.specs.Prelude.{◌≡◌, map};
-ghost use Rattle.program_tree.specs.Tree.{statement_of, block_of, listed};
+ghost use Rattle.std.specs.Prelude.{◌≡◌, map, IfOk};
+ghost use Rattle.program_tree.specs.Tree.{expression_of, action_of, statement_of, block_of, listed};
 
 use crate::event_name::{AnyEvent, CastEvent, SentEvent};
+use std::alloc::{AllocError, Global};
 
 /// An operator of two values of 16 bits.
 #[derive(Clone, Copy, Debug, PartialEq, Eq)]
@@ -114,5 +115,75 @@ impl Block {
         ensures { map statement_of result.now ≡ listed (block_of self.now) }
     {
         &self.statements
+    }
+}
+
+impl Expr {
+    /// A copy of the expression. It fails only where an allocation does.
+    pub(crate) fn clone_in(&self, alloc: Global) -> Result<Expr, AllocError>
+        ensures { IfOk result (λ e. expression_of e ≡ expression_of self.now) }
+    {
+        match self {
+            Expr::Number(number) => Ok(Expr::Number(*number)),
+            Expr::Variable(variable) => Ok(Expr::Variable(*variable)),
+            Expr::Word => Ok(Expr::Word),
+            Expr::Sender => Ok(Expr::Sender),
+            Expr::Moment => Ok(Expr::Moment),
+            Expr::Mote => Ok(Expr::Mote),
+            Expr::Is(event) => Ok(Expr::Is(*event)),
+            Expr::Fired(timer) => Ok(Expr::Fired(*timer)),
+            Expr::Expired(timer) => Ok(Expr::Expired(*timer)),
+            Expr::Gone(process) => Ok(Expr::Gone(*process)),
+            Expr::Running(process) => Ok(Expr::Running(*process)),
+            Expr::Count(semaphore) => Ok(Expr::Count(*semaphore)),
+            Expr::Not(inner) => {
+                let inner = inner.clone_in(alloc)?;
+                Ok(Expr::Not(Box::new(alloc, inner)?))
+            }
+            Expr::Binary(operator, left, right) => {
+                let left = left.clone_in(alloc)?;
+                let right = right.clone_in(alloc)?;
+                Ok(Expr::Binary(*operator, Box::new(alloc, left)?, Box::new(alloc, right)?))
+            }
+        }
+    }
+}
+
+impl Action {
+    /// A copy of the action. It fails only where an allocation does.
+    pub(crate) fn clone_in(&self, alloc: Global) -> Result<Action, AllocError>
+        ensures { IfOk result (λ a. action_of a ≡ action_of self.now) }
+    {
+        match self {
+            Action::Assign(variable, value) => Ok(Action::Assign(*variable, value.clone_in(alloc)?)),
+            Action::Print(value) => Ok(Action::Print(value.clone_in(alloc)?)),
+            Action::Send(value) => Ok(Action::Send(value.clone_in(alloc)?)),
+            Action::WaitUntil(test) => Ok(Action::WaitUntil(test.clone_in(alloc)?)),
+            Action::WaitWhile(test) => Ok(Action::WaitWhile(test.clone_in(alloc)?)),
+            Action::Yield => Ok(Action::Yield),
+            Action::YieldUntil(test) => Ok(Action::YieldUntil(test.clone_in(alloc)?)),
+            Action::Spawn(thread) => Ok(Action::Spawn(*thread)),
+            Action::Restart => Ok(Action::Restart),
+            Action::Exit => Ok(Action::Exit),
+            Action::Pause => Ok(Action::Pause),
+            Action::Acquire(semaphore) => Ok(Action::Acquire(*semaphore)),
+            Action::Signal(semaphore) => Ok(Action::Signal(*semaphore)),
+            Action::Post(process, event, word, into) => {
+                Ok(Action::Post(*process, *event, word.clone_in(alloc)?, *into))
+            }
+            Action::Broadcast(event, word, into) => {
+                Ok(Action::Broadcast(*event, word.clone_in(alloc)?, *into))
+            }
+            Action::Synch(process, event, word) => {
+                Ok(Action::Synch(*process, *event, word.clone_in(alloc)?))
+            }
+            Action::Poll(process) => Ok(Action::Poll(*process)),
+            Action::Start(process) => Ok(Action::Start(*process)),
+            Action::Kill(process) => Ok(Action::Kill(*process)),
+            Action::Set(timer, interval) => Ok(Action::Set(*timer, interval.clone_in(alloc)?)),
+            Action::Reset(timer) => Ok(Action::Reset(*timer)),
+            Action::RestartTimer(timer) => Ok(Action::RestartTimer(*timer)),
+            Action::Stop(timer) => Ok(Action::Stop(*timer)),
+        }
     }
 }

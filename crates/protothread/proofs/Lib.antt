@@ -1,12 +1,10 @@
 pub mod Advance
-pub mod Counts
+pub mod Begin
+pub mod CallLaws
 pub mod Deeds
-pub mod Depth
 pub mod Follows
-pub mod FrameLaws
 pub mod Goes
 pub mod Held
-pub mod Limits
 pub mod Lists
 pub mod Own
 pub mod Reaching

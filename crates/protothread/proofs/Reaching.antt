@@ -1,25 +1,31 @@
 -- What the innermost thread makes of those around it, and what the code does of it.
-use Rattle.std.proofs.Common.{◌≡◌, ℕ, ◌+◌, ◌-◌, Bool, true, false, if◌then◌else◌, List, [], ◌∷◌, ◌++◌, drop, length, Some, refl, ap, sym, ◌∙◌, arith}
-use Rattle.std.specs.Prelude.{slice_get}
-use Rattle.std.proofs.lemmas.List.{append-nil}
+use Rattle.std.proofs.Common.{◌≡◌, ℕ, Bool, true, false, if◌then◌else◌, List, [], ◌∷◌, ◌++◌, length, refl, ap, sym, ◌∙◌, subst}
+use Rattle.std.proofs.lemmas.Bool.{ltb-true}
 use Rattle.program_tree.specs.declared.event.Event.{Event}
-use Rattle.program_tree.specs.Tree.{Statement, does, spawn}
+use Rattle.program_tree.specs.declared.instruction.Instruction.{Instruction}
+use Rattle.program_tree.specs.declared.instruction.Instruction.TheVariants.{Act, Branch, Loop}
+use Rattle.program_tree.specs.Tree.{Expression, Statement, Body, does, branch, while, spawn, listed, other_block, action_of}
 use Rattle.program_tree.specs.Code.{Code}
-use Rattle.protothread.specs.declared.frame.Branch.{Branch}
-use Rattle.protothread.specs.declared.frame.Branch.TheVariants.{Spawned}
-use Rattle.protothread.specs.declared.frame.Frame.{Frame}
+use Rattle.program_tree.specs.Flat.{rest_at, Branches, Loops, Leads}
+use Rattle.program_tree.specs.Scope.{earlier_threads}
+use Rattle.program_tree.proofs.Emitting.{rest_at-start}
+use Rattle.program_tree.proofs.Spawning.{action_fits_there}
+use Rattle.protothread.specs.declared.calls.Call.{Call}
+use Rattle.protothread.specs.declared.deed.Deed.{Deed}
+use Rattle.protothread.specs.declared.deed.Deed.TheVariants.{Passes, Assigns, Operates, Pauses, Waits, Yields, Spawns, Restarts, Exits}
 use Rattle.protothread.specs.declared.thread.Thread.{Thread}
 use Rattle.protothread.specs.declared.thread.Mark.{Mark}
 use Rattle.protothread.specs.declared.thread.Mark.TheVariants.{AtRest}
 use Rattle.protothread.specs.declared.step.Op.{Op}
 use Rattle.protothread.specs.declared.state.PtState.TheVariants.{Waiting, Yielded, Exited}
+use Rattle.protothread.specs.Calls.{before_number, below_last, CanSpawn, SpawnsSo}
 use Rattle.protothread.specs.Looks.{Looks}
-use Rattle.protothread.specs.Remainder.{Place, at, within, before, thread_block}
+use Rattle.protothread.specs.Value.{value, holds}
+use Rattle.protothread.specs.Remainder.{Place, at, within, before, thread_block, whole_of}
 use Rattle.protothread.specs.Step.{goes_on, operates, answers, spawner_reached, statement_reached, reached}
-use Rattle.protothread.specs.Frames.{branch_block, statement_place, statement_at, inner_block, block_at, yielding, rest_of, Caller, thread_of, callers_in, callers_of, nested, thread_place}
-use Rattle.protothread.specs.Spawns.{is_thread, spawns}
-use Rattle.protothread.specs.Reach.{home_of, made_of, behind_of, reached_at, GoesOnAt, IsAtHome, in_the_part, in_a_thread, LeavesBlocks}
-use Rattle.protothread.proofs.FrameLaws.{block_at-push, rest_of-push, callers_in-block, callers_in-thread, caller_at, callers_in-blocks, length-callers_in, nested-snoc, home_block, home_rest, drop_at, thread_place-at}
+use Rattle.protothread.specs.Places.{part_body, thread_body, innermost, Caller, callers_in, nested, yielding, body_of_thread, callers_of, thread_place, place_by}
+use Rattle.protothread.specs.Reach.{home_of, made_of, reached_at, IsDoneBy, DeedCanSpawn, StandsIn, GoesOnAt}
+use Rattle.protothread.proofs.CallLaws.{innermost-push, callers_in-push, listed-thread, listed-part, home_of-calls}
 
 -- the statement of the innermost thread
 pub reached-nested : (code : Code) (whole : List (Statement ℕ)) (vars : List ℕ) (event : Event) (looks : Looks) (cs : List Caller) (p : Place)
@@ -51,173 +57,139 @@ pub made_of-exits : (cs : List Caller) (c : Caller) (vars : List ℕ) (p : Place
 made_of-exits [] c vars p = refl
 made_of-exits (d ∷ cs) c vars p = ap (λ r. spawner_reached d.thread d.rest vars r) (made_of-exits cs c vars p)
 
--- a thread that yields, and the spawns that a call passes, by the frames
-pub yields_by : (code : Code) (whole : List (Statement ℕ)) (t : Thread) → yielding (length (callers_of code whole t)) ≡ yielding (spawns t.frames)
-yields_by code whole t = ap yielding (length-callers_in code whole t.frames [])
+pub nested-snoc : (cs : List Caller) (c : Caller) (p : Place) → nested (cs ++ c ∷ []) p ≡ nested cs (within c.thread p c.rest)
+nested-snoc [] c p = refl
+nested-snoc (d ∷ cs) c p = ap (λ q. within d.thread q d.rest) (nested-snoc cs c p)
 
-module _ (code : Code) (whole block : List (Statement ℕ)) (old : Thread) (s : Statement ℕ)
-    (inside : block_at code whole old.frames ≡ block) (here : slice_get block old.position ≡ Some s) where
-  stands : slice_get (block_at code whole old.frames) old.position ≡ Some s
-  stands = ap (λ b. slice_get b old.position) inside ∙ here
+-- what the statement of the innermost thread makes of the outermost
+pub reached_here : (code : Code) (t : Thread) (vars : List ℕ) (event : Event) (looks : Looks) (s : Statement ℕ) (rest : List (Statement ℕ))
+    → reached_at code t vars event looks s rest ≡ made_of (callers_of code t) vars (statement_reached code (listed (body_of_thread code t)) t.is_yielded vars event looks s rest)
+reached_here code t vars event looks s rest =
+    reached-nested code (whole_of code t.part) vars event looks (callers_of code t) (at t.is_yielded s rest)
+    ∙ ap (λ home. made_of (callers_of code t) vars (statement_reached code home t.is_yielded vars event looks s rest))
+    (ap (λ whole. home_of code whole (callers_of code t)) (sym (listed-part code t.part)) ∙ home_of-calls code (part_body code t.part) t.calls)
 
-  -- going on behind the statement
-  pub passes_so : (mark : Mark) (new : Thread) → new ≡ record old { mark = mark; is_yielded = false; position = old.position + 1 }
-      → thread_place code whole new ≡ nested (callers_of code whole old) (before false (behind_of code whole old))
-  passes_so mark new moved = ap (λ t. thread_place code whole t) moved
+-- a deed spawns what its statement does
+pub deed_can : (cs : List Call) (s : Statement ℕ) (d : Deed) → IsDoneBy s d → ((t : ℕ) → s ≡ does (spawn t) → CanSpawn cs t) → DeedCanSpawn cs d
+deed_can cs s Passes by can = tt
+deed_can cs s (Assigns i v) by can = tt
+deed_can cs s (Operates o into) by can = tt
+deed_can cs s (Pauses o) by can = tt
+deed_can cs s Waits by can = tt
+deed_can cs s Yields by can = tt
+deed_can cs s (Spawns t) by can = can t by
+deed_can cs s Restarts by can = tt
+deed_can cs s Exits by can = tt
 
-  -- staying at it
+-- and that spawns a thread before its own
+pub spawn_there : (cs : List Call) (b : Body ℕ) (place t : ℕ) (rest : List (Statement ℕ)) → SpawnsSo cs b → rest_at b place ≡ does (spawn t) ∷ rest → CanSpawn cs t
+spawn_there [] b place t rest so here = tt
+spawn_there (c ∷ cs) b place t rest so here =
+    let n : ℕ = below_last (before_number c.thread) cs in
+    ltb-true t n (action_fits_there (earlier_threads n) b place (spawn t) rest so here)
+
+-- tests, by the local property
+pub takes_branch : (left_at : ℕ → List (Statement ℕ)) (c : Expression ℕ) (held failed : ℕ) (code : Code) (whole : List (Statement ℕ)) (y : Bool) (vars : List ℕ) (event : Event) (looks : Looks) (s : Statement ℕ) (rest : List (Statement ℕ))
+    → Branches left_at c held failed (s ∷ rest) → statement_reached code whole y vars event looks s rest ≡ goes_on vars (before false (left_at (place_by vars event looks c held failed)))
+takes_branch left_at c held failed code whole y vars event looks (does a) rest h = absurd h
+takes_branch left_at c held failed code whole y vars event looks (branch d a o) rest h =
+    ap (λ x. goes_on vars (before false ((if holds (value vars event looks x) then listed a else other_block o) ++ rest))) h.0
+    ∙ ap (λ l. goes_on vars (before false l)) (either (holds (value vars event looks c)))
+  where
+    either : (b : Bool) → (if b then listed a else other_block o) ++ rest ≡ left_at (if b then held else failed)
+    either true = sym h.1
+    either false = sym h.2
+takes_branch left_at c held failed code whole y vars event looks (while d a) rest h = absurd h
+
+pub takes_loop : (left_at : ℕ → List (Statement ℕ)) (c : Expression ℕ) (body after : ℕ) (code : Code) (whole : List (Statement ℕ)) (y : Bool) (vars : List ℕ) (event : Event) (looks : Looks) (s : Statement ℕ) (rest : List (Statement ℕ))
+    → Loops left_at c body after (s ∷ rest) → statement_reached code whole y vars event looks s rest ≡ goes_on vars (before false (left_at (place_by vars event looks c body after)))
+takes_loop left_at c body after code whole y vars event looks (does a) rest h = absurd h
+takes_loop left_at c body after code whole y vars event looks (branch d a o) rest h = absurd h
+takes_loop left_at c body after code whole y vars event looks (while d a) rest h =
+    ap (λ x. goes_on vars (before false (if holds (value vars event looks x) then listed a ++ while d a ∷ rest else rest))) h.0
+    ∙ ap (λ l. goes_on vars (before false l)) (either (holds (value vars event looks c)))
+  where
+    either : (b : Bool) → (if b then listed a ++ while d a ∷ rest else rest) ≡ left_at (if b then body else after)
+    either true = sym h.2
+    either false = sym h.1
+
+-- where an instruction stands, a statement is left
+pub stands_at : (left_at : ℕ → List (Statement ℕ)) (i : Instruction) (here : List (Statement ℕ)) → Leads left_at i here → (s : Statement ℕ) × (rest : List (Statement ℕ)) × (here ≡ s ∷ rest)
+stands_at left_at (Act a after) here h = (does (action_of a), left_at after, h)
+stands_at left_at (Branch c held failed) here h = by_cases _ here h
+  where
+    by_cases : (e : Expression ℕ) (l : List (Statement ℕ)) → Branches left_at e held failed l → (s : Statement ℕ) × (rest : List (Statement ℕ)) × (l ≡ s ∷ rest)
+    by_cases e [] k = absurd k
+    by_cases e (s ∷ rest) k = (s, rest, refl)
+stands_at left_at (Loop c body after) here h = by_cases _ here h
+  where
+    by_cases : (e : Expression ℕ) (l : List (Statement ℕ)) → Loops left_at e body after l → (s : Statement ℕ) × (rest : List (Statement ℕ)) × (l ≡ s ∷ rest)
+    by_cases e [] k = absurd k
+    by_cases e (s ∷ rest) k = (s, rest, refl)
+
+module _ (code : Code) (old : Thread) (s : Statement ℕ) (rest : List (Statement ℕ)) (here : rest_at (body_of_thread code old) old.position ≡ s ∷ rest) where
+  -- going on at a place
+  pub moves_so : (mark : Mark) (p : ℕ) (new : Thread) → new ≡ record old { mark = mark; is_yielded = false; position = p }
+      → thread_place code new ≡ nested (callers_of code old) (before false (rest_at (body_of_thread code old) p))
+  moves_so mark p new moved = ap (λ t. thread_place code t) moved
+
+  -- staying at the statement
   pub stays_so : (mark : Mark) (y : Bool) (new : Thread) → new ≡ record old { mark = mark; is_yielded = y }
-      → thread_place code whole new ≡ nested (callers_of code whole old) (at y s (behind_of code whole old))
-  stays_so mark y new moved =
-      ap (λ t. thread_place code whole t) moved ∙ thread_place-at code whole (record old { mark = mark; is_yielded = y }) s stands
+      → thread_place code new ≡ nested (callers_of code old) (at y s rest)
+  stays_so mark y new moved = ap (λ t. thread_place code t) moved ∙ ap (λ l. nested (callers_of code old) (before y l)) here
 
-  -- going on in a block of the statement
-  pub enters_block : (which : Branch) (p : ℕ) (new : Thread)
-      → new ≡ record old { is_yielded = false; position = 0; frames = old.frames ++ record { branch = which; position = p } ∷ [] }
-      → is_thread which ≡ false
-      → (let f : Frame = record { branch = which; position = p } in
-      thread_place code whole new ≡ nested (callers_of code whole old) (before false (inner_block code block f ++ (drop p (block_at code whole old.frames) ++ rest_of code whole old.frames []))))
-  enters_block which p new moved no_thread =
-      let f : Frame = record { branch = which; position = p } in
-      let fs : List Frame = old.frames in
-      ap (λ t. thread_place code whole t) moved
-      ∙ ap (λ cs. nested cs (before false (block_at code whole (fs ++ f ∷ []) ++ rest_of code whole (fs ++ f ∷ []) []))) (callers_in-block code whole fs f [] no_thread)
-      ∙ ap (λ b. nested (callers_of code whole old) (before false (b ++ rest_of code whole (fs ++ f ∷ []) []))) (block_at-push code whole fs f ∙ ap (λ b. inner_block code b f) inside)
-      ∙ ap (λ r. nested (callers_of code whole old) (before false (inner_block code block f ++ r)))
-      (rest_of-push code whole fs f [] ∙ ap (λ b. if b then [] else drop p (block_at code whole fs) ++ rest_of code whole fs []) no_thread)
+  -- beginning again
+  pub restarts_so : (mark : Mark) (new : Thread) → new ≡ record old { mark = mark; is_yielded = false; position = 0 }
+      → thread_place code new ≡ nested (callers_of code old) (before false (listed (body_of_thread code old)))
+  restarts_so mark new moved = moves_so mark 0 new moved ∙ ap (λ l. nested (callers_of code old) (before false l)) (rest_at-start (body_of_thread code old))
 
-  -- the block of the thread that it spawns
-  spawned_at : (thread : ℕ) → s ≡ does (spawn thread)
-      → statement_at (block_at code whole old.frames) (record { branch = Spawned; position = old.position + 1 }) ≡ Some (does (spawn thread))
-  spawned_at thread is = ap (λ k. slice_get (block_at code whole old.frames) k) (back old.position) ∙ stands ∙ ap (λ u. Some u) is
-    where
-      back : (k : ℕ) → k + 1 - 1 ≡ k
-      back k = omega arith
+  -- going on in a thread that is spawned
+  pub enters_thread : (c : Call) (new : Thread) → new ≡ record old { is_yielded = false; position = 0; calls = old.calls ++ c ∷ [] }
+      → rest_at (body_of_thread code old) c.next ≡ rest
+      → thread_place code new ≡ nested (callers_of code old) (within c.thread (before false (thread_block code c.thread)) rest)
+  enters_thread c new moved after =
+      let b : Body ℕ = part_body code old.part in
+      ap (λ t. thread_place code t) moved
+      ∙ ap (λ cs. nested cs (before false (rest_at (innermost code b (old.calls ++ c ∷ [])) 0))) (callers_in-push code b old.calls c)
+      ∙ ap (λ i. nested (callers_of code old ++ record { thread = c.thread; rest = rest_at (body_of_thread code old) c.next } ∷ []) (before false (rest_at i 0))) (innermost-push code b old.calls c)
+      ∙ ap (λ l. nested (callers_of code old ++ record { thread = c.thread; rest = rest_at (body_of_thread code old) c.next } ∷ []) (before false l)) (rest_at-start (thread_body code c.thread) ∙ listed-thread code c.thread)
+      ∙ nested-snoc (callers_of code old) _ (before false (thread_block code c.thread))
+      ∙ ap (λ l. nested (callers_of code old) (within c.thread (before false (thread_block code c.thread)) l)) after
 
-  pub spawned_block : (thread : ℕ) (new : Thread) → s ≡ does (spawn thread)
-      → new ≡ record old { is_yielded = false; position = 0; frames = old.frames ++ record { branch = Spawned; position = old.position + 1 } ∷ [] }
-      → block_at code whole new.frames ≡ thread_block code thread
-  spawned_block thread new is moved =
-      ap (λ t. block_at code whole t.frames) moved ∙ block_at-push code whole old.frames (record { branch = Spawned; position = old.position + 1 })
-      ∙ ap (λ o. thread_block code (thread_of o)) (spawned_at thread is)
+  -- the flat code stays the same
+  pub same_code : (flat : List Instruction) (mark : Mark) (y : Bool) (p : ℕ) (new : Thread) → StandsIn code old flat → new ≡ record old { mark = mark; is_yielded = y; position = p } → StandsIn code new flat
+  same_code flat mark y p new inside moved = subst (λ t. StandsIn code t flat) (sym moved) (record { flat_of = inside.flat_of; earlier = inside.earlier })
 
-  -- going on in it
-  pub enters_thread : (thread : ℕ) (new : Thread) → s ≡ does (spawn thread)
-      → new ≡ record old { is_yielded = false; position = 0; frames = old.frames ++ record { branch = Spawned; position = old.position + 1 } ∷ [] }
-      → thread_place code whole new ≡ nested (callers_of code whole old) (within thread (before false (thread_block code thread)) (behind_of code whole old))
-  enters_thread thread new is moved =
-      let f : Frame = record { branch = Spawned; position = old.position + 1 } in
-      let fs : List Frame = old.frames in
-      let c : Caller = caller_at code whole fs f [] in
-      ap (λ t. thread_place code whole t) moved
-      ∙ ap (λ cs. nested cs (before false (block_at code whole (fs ++ f ∷ []) ++ rest_of code whole (fs ++ f ∷ []) []))) (callers_in-thread code whole fs f [] refl)
-      ∙ ap (λ b. nested (callers_of code whole old ++ c ∷ []) (before false (b ++ rest_of code whole (fs ++ f ∷ []) []))) (block_at-push code whole fs f)
-      ∙ ap (λ r. nested (callers_of code whole old ++ c ∷ []) (before false (thread_block code c.thread ++ r))) (rest_of-push code whole fs f [])
-      ∙ ap (λ r. nested (callers_of code whole old ++ c ∷ []) (before false r)) (append-nil (thread_block code c.thread))
-      ∙ nested-snoc (callers_of code whole old) c (before false (thread_block code c.thread))
-      ∙ ap (λ o. nested (callers_of code whole old) (within (thread_of o) (before false (thread_block code (thread_of o))) c.rest)) (spawned_at thread is)
-
-  -- what the statement does in its own thread is what is made of the outermost
-  made_here : (vars changed : List ℕ) (event : Event) (looks : Looks) (p : Place)
-      → statement_reached code (home_of code whole (callers_of code whole old)) old.is_yielded vars event looks s (behind_of code whole old) ≡ goes_on changed p
-      → reached_at code whole old vars event looks s ≡ goes_on changed (nested (callers_of code whole old) p)
-  made_here vars changed event looks p does_so =
-      reached-nested code whole vars event looks (callers_of code whole old) (at old.is_yielded s (behind_of code whole old))
-      ∙ ap (λ r. made_of (callers_of code whole old) vars r) does_so ∙ made_of-goes_on (callers_of code whole old) vars changed p
-
-  pub goes_into : (vars : List ℕ) (event : Event) (looks : Looks) (which : Branch) (p : ℕ) (inner : List (Statement ℕ)) (new : Thread)
-      → new ≡ record old { is_yielded = false; position = 0; frames = old.frames ++ record { branch = which; position = p } ∷ [] }
-      → is_thread which ≡ false
-      → branch_block code which (Some s) ≡ inner
-      → statement_place which p ≡ old.position
-      → statement_reached code (home_of code whole (callers_of code whole old)) old.is_yielded vars event looks s (behind_of code whole old)
-      ≡ goes_on vars (before false (inner ++ (drop p (block_at code whole old.frames) ++ rest_of code whole old.frames [])))
-      → GoesOnAt code whole inner (reached_at code whole old vars event looks s) old new vars
-  goes_into vars event looks which p inner new moved no_thread is_inner place does_so =
-      let f : Frame = record { branch = which; position = p } in
-      let behind : List (Statement ℕ) = drop p (block_at code whole old.frames) ++ rest_of code whole old.frames [] in
-      let found : inner_block code block f ≡ inner = ap (λ k. branch_block code which (slice_get block k)) place ∙ ap (λ o. branch_block code which o) here ∙ is_inner in
+  -- an `if` or a `while`
+  pub goes_by_test : (flat : List Instruction) (vars : List ℕ) (event : Event) (looks : Looks) (p : ℕ) (new : Thread) → StandsIn code old flat
+      → new ≡ record old { is_yielded = false; position = p }
+      → statement_reached code (listed (body_of_thread code old)) old.is_yielded vars event looks s rest ≡ goes_on vars (before false (rest_at (body_of_thread code old) p))
+      → GoesOnAt code flat (reached_at code old vars event looks s rest) old new vars
+  goes_by_test flat vars event looks p new inside moved does_so =
       record {
         part = ap (λ t. t.part) moved;
-        innermost = ap (λ t. block_at code whole t.frames) moved ∙ block_at-push code whole old.frames f ∙ ap (λ b. inner_block code b f) inside ∙ found;
+        inside = same_code flat old.mark false p new inside moved;
         made_so =
-            made_here vars vars event looks (before false (inner ++ behind)) does_so
-            ∙ ap (λ b. goes_on vars (nested (callers_of code whole old) (before false (b ++ behind)))) (sym found)
-            ∙ ap (λ q. goes_on vars q) (sym (enters_block which p new moved no_thread));
+            reached_here code old vars event looks s rest ∙ ap (λ r. made_of (callers_of code old) vars r) does_so
+            ∙ made_of-goes_on (callers_of code old) vars vars (before false (rest_at (body_of_thread code old) p))
+            ∙ ap (λ q. goes_on vars q) (sym (moves_so old.mark p new moved));
       }
-
-  pub goes_behind : (vars : List ℕ) (event : Event) (looks : Looks) (new : Thread)
-      → new ≡ record old { is_yielded = false; position = old.position + 1 }
-      → statement_reached code (home_of code whole (callers_of code whole old)) old.is_yielded vars event looks s (behind_of code whole old)
-      ≡ goes_on vars (before false (behind_of code whole old))
-      → GoesOnAt code whole block (reached_at code whole old vars event looks s) old new vars
-  goes_behind vars event looks new moved does_so =
-      record {
-        part = ap (λ t. t.part) moved;
-        innermost = ap (λ t. block_at code whole t.frames) moved ∙ inside;
-        made_so =
-            made_here vars vars event looks (before false (behind_of code whole old)) does_so
-            ∙ ap (λ q. goes_on vars q) (sym (passes_so old.mark new moved));
-      }
-
-  -- the loop itself comes before what is behind it
-  pub loops_here : drop old.position (block_at code whole old.frames) ++ rest_of code whole old.frames [] ≡ s ∷ behind_of code whole old
-  loops_here = ap (λ d. d ++ rest_of code whole old.frames []) (drop_at (block_at code whole old.frames) old.position s stands)
-
-last_frame : Frame → List Frame → Frame
-last_frame d [] = d
-last_frame d (f ∷ fs) = last_frame f fs
-
-last_frame-snoc : (d : Frame) (fs : List Frame) (f : Frame) → last_frame d (fs ++ f ∷ []) ≡ f
-unfolding last_frame
-last_frame-snoc d [] f = refl
-last_frame-snoc d (g ∷ fs) f = last_frame-snoc g fs f
-
-none_there : (fs : List Frame) (f : Frame) → fs ++ f ∷ [] ≡ [] → ⊥
-none_there [] f h = cc
-none_there (g ∷ fs) f h = cc
-
--- at home the last frame is that of a thread
-home_thread : (frames fs : List Frame) (f : Frame) → IsAtHome frames → frames ≡ fs ++ f ∷ [] → is_thread f.branch ≡ true
-home_thread frames fs f (in_the_part none) is = absurd (none_there fs f (sym is ∙ none))
-home_thread frames fs f (in_a_thread gs g so thread) is =
-    let same : g ≡ f = sym (last_frame-snoc g gs g) ∙ ap (last_frame g) (sym so ∙ is) ∙ last_frame-snoc g fs f in
-    ap (λ h. is_thread h.branch) (sym same) ∙ thread
-
-module _ (code : Code) (whole : List (Statement ℕ)) (old mid : Thread) (left : LeavesBlocks old mid) where
-  same_callers : callers_of code whole old ≡ callers_of code whole mid
-  same_callers = ap (λ fs. callers_in code whole fs []) left.frames ∙ callers_in-blocks code whole mid.frames left.left [] left.no_threads
-
-  -- the innermost thread is fresh again
-  pub restarts_so : (new : Thread) → new ≡ record mid { mark = AtRest }
-      → thread_place code whole new ≡ nested (callers_of code whole old) (before false (home_of code whole (callers_of code whole old)))
-  restarts_so new moved =
-      let fs : List Frame = mid.frames in
-      ap (λ t. thread_place code whole t) moved
-      ∙ ap (λ y. nested (callers_of code whole mid) (before y (drop mid.position (block_at code whole fs) ++ rest_of code whole fs []))) left.unyielded
-      ∙ ap (λ k. nested (callers_of code whole mid) (before false (drop k (block_at code whole fs) ++ rest_of code whole fs []))) left.start
-      ∙ ap (λ r. nested (callers_of code whole mid) (before false (block_at code whole fs ++ r))) (home_rest code whole fs left.home)
-      ∙ ap (λ b. nested (callers_of code whole mid) (before false b)) (append-nil (block_at code whole fs) ∙ home_block code whole fs left.home)
-      ∙ ap (λ cs. nested cs (before false (home_of code whole cs))) (sym same_callers)
 
   -- the thread that was spawned has exited, and its spawner goes on
-  pub exits_so : (rest : List Frame) (f : Frame) (new : Thread) (vars : List ℕ) → mid.frames ≡ rest ++ f ∷ []
-      → new ≡ record mid { position = f.position; frames = rest }
-      → made_of (callers_of code whole old) vars (answers Exited (before false (home_of code whole (callers_of code whole old)))) ≡ goes_on vars (thread_place code whole new)
-  exits_so rest f new vars popped moved =
-      let c : Caller = caller_at code whole rest f [] in
-      let callers : callers_of code whole old ≡ callers_in code whole rest [] ++ c ∷ [] =
-      same_callers ∙ ap (λ fs. callers_in code whole fs []) popped ∙ callers_in-thread code whole rest f [] (home_thread mid.frames rest f left.home popped) in
-      ap (λ cs. made_of cs vars (answers Exited (before false (home_of code whole cs)))) callers
-      ∙ made_of-exits (callers_in code whole rest []) c vars (before false (home_of code whole (callers_in code whole rest [] ++ c ∷ [])))
-      ∙ ap (λ y. goes_on vars (nested (callers_in code whole rest []) (before y c.rest))) (sym left.unyielded)
-      ∙ ap (λ t. goes_on vars (thread_place code whole t)) (sym moved)
+  pub exits_so : (cs : List Call) (c : Call) (new : Thread) (vars : List ℕ) (p : Place) → old.calls ≡ cs ++ c ∷ []
+      → new ≡ record old { is_yielded = false; position = c.next; calls = cs }
+      → made_of (callers_of code old) vars (answers Exited p) ≡ goes_on vars (thread_place code new)
+  exits_so cs c new vars p popped moved =
+      let b : Body ℕ = part_body code old.part in
+      ap (λ ds. made_of (callers_in code b ds) vars (answers Exited p)) popped
+      ∙ ap (λ ds. made_of ds vars (answers Exited p)) (callers_in-push code b cs c)
+      ∙ made_of-exits (callers_in code b cs) _ vars p
+      ∙ ap (λ t. goes_on vars (thread_place code t)) (sym moved)
 
   -- the part has exited
-  pub exits_last : (new : Thread) (vars : List ℕ) → mid.frames ≡ [] → new ≡ record mid { mark = AtRest }
-      → made_of (callers_of code whole old) vars (answers Exited (before false (home_of code whole (callers_of code whole old)))) ≡ answers Exited (thread_place code whole new)
+  pub exits_last : (new : Thread) (vars : List ℕ) → old.calls ≡ [] → new ≡ record old { mark = AtRest; is_yielded = false; position = 0 }
+      → made_of (callers_of code old) vars (answers Exited (before false (listed (body_of_thread code old)))) ≡ answers Exited (thread_place code new)
   exits_last new vars none moved =
-      let callers : callers_of code whole old ≡ [] = same_callers ∙ ap (λ fs. callers_in code whole fs []) none in
-      ap (λ cs. made_of cs vars (answers Exited (before false (home_of code whole cs)))) callers
-      ∙ ap (λ cs. answers Exited (nested cs (before false (home_of code whole cs)))) (sym callers)
-      ∙ ap (λ p. answers Exited p) (sym (restarts_so new moved))
+      ap (λ ds. made_of (callers_in code (part_body code old.part) ds) vars (answers Exited (before false (listed (body_of_thread code old))))) none
+      ∙ ap (λ ds. answers Exited (nested (callers_in code (part_body code old.part) ds) (before false (listed (body_of_thread code old))))) (sym none)
+      ∙ ap (λ q. answers Exited q) (sym (restarts_so AtRest new moved))

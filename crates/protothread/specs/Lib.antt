@@ -1,12 +1,12 @@
-pub mod Frames
+pub mod Calls
 pub mod Laws
 pub mod Looks
+pub mod Places
 pub mod Reach
 pub mod Reading
 pub mod Remainder
 pub mod Runs
 pub mod Semaphores
-pub mod Spawns
 pub mod State
 pub mod Step
 pub mod Value

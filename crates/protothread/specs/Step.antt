@@ -4,7 +4,8 @@ use Rattle.program_tree.specs.declared.event.Event.{Event}
 use Rattle.program_tree.specs.declared.event.Proc.TheVariants.{Own}
 use Rattle.program_tree.specs.declared.event.SystemEvent.TheVariants.{Continue}
 use Rattle.program_tree.specs.declared.event.Target.TheVariants.{One, All}
-use Rattle.program_tree.specs.Tree.{Action, assign, print, send, wait_until, wait_while, yield, yield_until, spawn, restart, exit, pause, acquire, signal, post, broadcast, synch, poll, start, kill, set, reset, restart_timer, stop, Statement, does, branch, while, Otherwise, nothing, otherwise, listed}
+use Rattle.program_tree.specs.Tree.{Action, assign, print, send, wait_until, wait_while, yield, yield_until, spawn, restart, exit, pause, acquire, signal, post, broadcast, synch, poll, start, kill, set, reset, restart_timer, stop, Statement, does, branch, while, listed}
+pub use Rattle.program_tree.specs.Tree.{other_block}
 use Rattle.program_tree.specs.Code.{Code}
 use Rattle.program_tree.specs.Events.{system_number}
 use Rattle.program_tree.specs.EventNames.{cast_number, sent_number}
@@ -85,10 +86,6 @@ performed code whole vars s rest Yields = answers Yielded (at true s rest)
 performed code whole vars s rest (Spawns t) = goes_on vars (within t (before false (thread_block code t)) rest)
 performed code whole vars s rest Restarts = answers Waiting (before false whole)
 performed code whole vars s rest Exits = answers Exited (before false whole)
-
-abbrev pub other_block : Otherwise ℕ → List (Statement ℕ)
-other_block nothing = []
-other_block (otherwise b) = listed b
 
 abbrev pub statement_reached : Code → (whole : List (Statement ℕ)) → (is_yielded : Bool) → (variables : List ℕ) → Event → Looks → (s : Statement ℕ) → (rest : List (Statement ℕ)) → Reached
 statement_reached code whole yielded vars event looks (does a) rest =

@@ -12,7 +12,7 @@ use program_tree::{Action, Event, Proc, SystemEvent, Target};
 /// What a statement does to the thread that stands at it.
 #[derive(Clone, Copy)]
 pub(crate) enum Deed {
-    /// Nothing; the thread goes on behind it.
+    /// Nothing; the thread goes on after it.
     Passes,
     /// A variable gets a value.
     Assigns(u8, u16),

@@ -1,9 +1,8 @@
 //! Protothreads: stackless threads that are advanced from wait to wait.
 #![tactic(auto)]
 
+mod calls;
 mod deed;
-mod frame;
-mod frames;
 mod fuel;
 mod laws;
 mod look;

@@ -1,10 +1,13 @@
 //! The parts of a process's text that a thread can run.
-ghost use Rattle.std.specs.Prelude.{◌≡◌, ◌↔◌, IsTrue, [], map, option_map};
-ghost use Rattle.program_tree.specs.Tree.{statement_of, block_of, body_of, IsWithinLimits};
+ghost use Rattle.std.specs.Prelude.{◌≡◌, ◌↔◌, IsTrue, true, [], option_map};
+ghost use Rattle.program_tree.specs.Flat.{IsFlat};
+ghost use Rattle.program_tree.specs.FlatBlock.{tree_in};
 ghost use Rattle.program_tree.specs.Program.{code_of};
-ghost use Rattle.protothread.specs.Remainder.{statements_of as listed_if_any};
+ghost use Rattle.program_tree.specs.Scope.{block_fits, earlier_threads};
+ghost use Rattle.protothread.specs.Calls.{before_number};
+ghost use Rattle.protothread.specs.Places.{body_or_end, part_body, thread_body};
 
-use program_tree::{Block, ProcessText, Stmt};
+use program_tree::{FlatBlock, Instruction, ProcessText};
 
 /// A block of a process's text that a thread runs. One that the text lacks is empty.
 #[derive(Clone, Copy, Debug, PartialEq, Eq)]
@@ -16,29 +19,36 @@ pub enum Part {
     Callback(u8),
 }
 
-/// The statements of a block, none where there is no block.
-fn statements_of(block: Option<&Block>) -> &[Stmt]
-    ensures { map statement_of result.now ≡ listed_if_any (option_map (λ b. block_of b.now) block.entry) }
+/// The flat code of a block, none where there is no block.
+fn code_of_block(block: Option<&FlatBlock>) -> &[Instruction]
+    ensures { IsFlat (body_or_end (option_map (λ b. tree_in b.now) block.entry)) result.now }
 {
     match block {
-        Some(block) => block.statements(),
+        Some(block) => block.code(),
         None => &[],
     }
+}
+
+/// The flat code of a thread of the process, none where there is no such thread.
+pub(crate) fn thread_code(text: &ProcessText, thread: u8) -> &[Instruction]
+    ensures flat { IsFlat (thread_body (code_of text.now) thread) result.now }
+    ensures earlier { block_fits (earlier_threads (before_number thread)) (thread_body (code_of text.now) thread) ≡ true }
+{
+    code_of_block(text.thread(thread))
 }
 
 impl Part {
     ghost use Rattle.protothread.specs.Remainder.{whole_of};
 
-    /// The statements of the part.
-    pub(crate) fn statements(self, text: &ProcessText) -> &[Stmt]
-        ensures value { map statement_of result.now ≡ whole_of (code_of text.now) self }
-        ensures within { IsWithinLimits (body_of (map statement_of result.now)) }
+    /// The flat code of the part.
+    pub(crate) fn code(self, text: &ProcessText) -> &[Instruction]
+        ensures { IsFlat (part_body (code_of text.now) self) result.now }
     {
         match self {
-            Part::Body => text.body().statements(),
-            Part::OnPoll => statements_of(text.on_poll()),
-            Part::OnExit => statements_of(text.on_exit()),
-            Part::Callback(timer) => statements_of(text.callback(timer)),
+            Part::Body => text.body().code(),
+            Part::OnPoll => code_of_block(text.on_poll()),
+            Part::OnExit => code_of_block(text.on_exit()),
+            Part::Callback(timer) => code_of_block(text.callback(timer)),
         }
     }
 
@@ -46,6 +56,6 @@ impl Part {
     pub fn is_empty(self, text: &ProcessText) -> bool
         ensures { IsTrue result ↔ (whole_of (code_of text.now) self ≡ []) }
     {
-        self.statements(text).is_empty()
+        self.code(text).is_empty()
     }
 }

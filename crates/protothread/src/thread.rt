@@ -1,28 +1,24 @@
 //! Protothreads.
-ghost use Rattle.std.specs.Prelude.{◌≡◌, ℕ, ◌+◌, ◌^◌, ◌<◌, ◌≤◌, if◌then◌else◌, [], ◌∷◌, ◌++◌, false, length, map, Some, slice_get};
-ghost use Rattle.program_tree.specs.Tree.{Statement, statement_of};
+ghost use Rattle.std.specs.Prelude.{◌≡◌, ℕ, ◌+◌, ◌≤◌, [], ◌∷◌, false, List, length};
+ghost use Rattle.program_tree.specs.Tree.{Statement, expression_of};
 ghost use Rattle.program_tree.specs.Code.{Code};
+ghost use Rattle.program_tree.specs.Flat.{Leads, rest_at};
 ghost use Rattle.program_tree.specs.Program.{code_of};
 ghost use Rattle.protothread.specs.Remainder.{fresh_of};
 ghost use Rattle.protothread.specs.Step.{advanced_of, answered_of, PaysFor};
-ghost use Rattle.protothread.specs.Frames.{block_at, yielding, remainder_of};
-ghost use Rattle.protothread.specs.Spawns.{is_thread, spawns};
-ghost use Rattle.protothread.specs.Reach.{IsDoneBy, Reaches, LeavesBlocks, Resumes, performed_at, reached_at};
+ghost use Rattle.protothread.specs.Places.{place_by, yielding, body_of_thread, remainder_of};
+ghost use Rattle.protothread.specs.Reach.{DeedCanSpawn, StandsIn, Reaches, Resumes, performed_at, reached_at};
 
+use crate::calls::{Call, Calls};
 use crate::deed::{Deed, done_by};
-use crate::frame::{Branch, Frame, innermost, thread_statements};
-use crate::frames::Frames;
 use crate::fuel::Fuel;
 use crate::look::Look;
-use crate::part::Part;
+use crate::part::{Part, thread_code};
 use crate::state::PtState;
 use crate::step::{Op, Step};
 use crate::value::evaluate;
 use crate::vars::Vars;
-use program_tree::{Event, ProcessText, Stmt};
-
-/// How many blocks can be run in one another by spawns: a part, and at most 7 threads, each spawned by a later one.
-const STACKS: u8 = 8;
+use program_tree::{Event, Expr, Instruction, ProcessText};
 
 /// What a thread did last.
 #[derive(Clone, Copy)]
@@ -37,22 +33,42 @@ enum Mark {
     RunAway,
 }
 
-/// A thread: the part that it runs, and where it stands. The frames lead from the part's block to the innermost one.
+/// A thread: the part that it runs, and where it stands. The position is a place in the flat code of the innermost of the
+/// threads that it has spawned, and each of these keeps the place where its spawner goes on.
 #[derive(Drop)]
 pub struct Thread {
     part: Part,
     mark: Mark,
     is_yielded: bool,
     position: u16,
-    frames: Frames,
+    calls: Calls,
 }
 
-/// What became of a statement: the thread goes on in a block, or stops.
+/// What became of a statement: the thread goes on in this code, or stops.
 #[derive(Clone, Copy)]
 enum Reach<'a> {
-    GoesOn(&'a [Stmt]),
+    GoesOn(&'a [Instruction]),
     Operates(Op),
     Answers(PtState),
+}
+
+/// The place where a test leads.
+#[inline(always)]
+fn chosen<L: Look>(
+    test: &Expr,
+    vars: &Vars,
+    event: &Event,
+    look: &L,
+    holds: u16,
+    fails: u16,
+) -> u16
+    ensures { result ≡ place_by vars.now event.now (L.looks look.now) (expression_of test.now) holds fails }
+{
+    if evaluate(test, vars, event, look) != 0 {
+        holds
+    } else {
+        fails
+    }
 }
 
 impl Thread {
@@ -65,66 +81,41 @@ impl Thread {
             mark: Mark::AtRest,
             is_yielded: false,
             position: 0,
-            frames: Frames::new(),
+            calls: Calls::new(),
+        }
+    }
+
+    /// The flat code of the innermost thread.
+    fn innermost<'a>(&self, text: &'a ProcessText) -> &'a [Instruction]
+        ensures { StandsIn (code_of text.now) self.now result.now }
+    {
+        match self.calls.last() {
+            None => self.part.code(text),
+            Some(call) => thread_code(text, call.thread),
         }
     }
 
     /// What the thread answers that yields here: a spawner waits for the thread that it spawned.
     fn yield_answer(&self) -> PtState
-        ensures { result ≡ yielding (spawns self.now.frames) }
+        ensures { result ≡ yielding (length self.now.calls) }
     {
-        match self.frames.spawns() {
+        match self.calls.len() {
             0 => PtState::Yielded,
             _ => PtState::Waiting,
         }
     }
 
-    /// Goes on behind the statement.
-    fn pass(&mut self)
-        requires { self.old.position + 1 < 2 ^ 16 }
-        ensures { self.new ≡ record self.old { is_yielded = false; position = self.old.position + 1 } }
+    /// Goes on at a place.
+    fn go_on(&mut self, position: u16)
+        ensures { self.new ≡ record self.old { is_yielded = false; position = position } }
     {
         self.is_yielded = false;
-        self.position += 1;
+        self.position = position;
     }
 
-    /// Goes on at the beginning of a block of the statement, and behind it at that position.
-    fn enter(&mut self, branch: Branch, position: u16)
-        requires { length self.old.frames < 256 }
-        ensures { self.new ≡ record self.old { is_yielded = false; position = 0; frames = self.old.frames ++ record { branch = branch; position = position } ∷ [] } }
-    {
-        self.frames.push(Frame { branch, position });
-        self.is_yielded = false;
-        self.position = 0;
-    }
-
-    /// Leaves the blocks of the innermost thread but its outermost one, and goes on at the beginning of that.
-    fn leave_blocks(&mut self)
-        ensures { LeavesBlocks self.old self.new }
-    {
-        self.is_yielded = false;
-        self.position = 0;
-        while let Some(frame) = self.frames.as_slice().last() {
-            if frame.is_of_a_thread() {
-                return;
-            }
-            self.frames.pop();
-        }
-    }
-
-    /// Goes on behind the block of a frame.
-    fn go_on_behind(&mut self, frame: Frame)
-        ensures { self.new ≡ record self.old { is_yielded = (if is_thread frame.branch then false else self.old.is_yielded); position = frame.position } }
-    {
-        if frame.is_of_a_thread() {
-            self.is_yielded = false;
-        }
-        self.position = frame.position;
-    }
-
-    /// Is fresh again, where the thread stands in its part's own block.
+    /// Is fresh again, where no thread is spawned.
     fn begin_again(&mut self)
-        requires { self.old.frames ≡ [] }
+        requires { self.old.calls ≡ [] }
         ensures { (code : Code) → remainder_of code self.new ≡ fresh_of code self.old.part }
     {
         self.mark = Mark::AtRest;
@@ -140,35 +131,36 @@ impl Thread {
         self.is_yielded = is_yielded;
     }
 
-    /// Does a statement without blocks, the one at the thread's position in the innermost block.
+    /// Does a statement without blocks, the one at the thread's position, after which it goes on at this place.
     fn perform<'a>(
         &mut self,
         text: &'a ProcessText,
-        whole: &'a [Stmt],
-        block: &'a [Stmt],
+        flat: &'a [Instruction],
         deed: Deed,
+        next: u16,
         vars: &mut Vars,
     ) -> Reach<'a>
-        requires room { length self.old.frames < 256 }
-        requires fits { self.old.position + 1 < 2 ^ 16 }
-        requires inside { block_at (code_of text.now) (map statement_of whole.now) self.old.frames ≡ map statement_of block.now }
+        requires inside { StandsIn (code_of text.now) self.old flat.now }
+        requires earlier { DeedCanSpawn self.old.calls deed }
         ensures kept { length vars.new ≡ length vars.old }
-        ensures frames { length self.new.frames ≤ length self.old.frames + 1 }
-        ensures reaches { (s : Statement ℕ) → slice_get (map statement_of block.now) self.old.position ≡ Some s → IsDoneBy s deed → Reaches (code_of text.now) (map statement_of whole.now) (performed_at (code_of text.now) (map statement_of whole.now) self.old vars.old s deed) result self.old self.new vars.old vars.new }
+        ensures calls { length self.new.calls ≤ length self.old.calls + 1 }
+        ensures reaches { (s : Statement ℕ) (rest : List (Statement ℕ)) → rest_at (body_of_thread (code_of text.now) self.old) self.old.position ≡ s ∷ rest
+            → rest_at (body_of_thread (code_of text.now) self.old) next ≡ rest
+            → Reaches (code_of text.now) (performed_at (code_of text.now) self.old vars.old s rest deed) result self.old self.new vars.old vars.new }
     {
         match deed {
             Deed::Passes => {
-                self.pass();
-                Reach::GoesOn(block)
+                self.go_on(next);
+                Reach::GoesOn(flat)
             }
             Deed::Assigns(variable, value) => {
                 vars.set(variable, value);
-                self.pass();
-                Reach::GoesOn(block)
+                self.go_on(next);
+                Reach::GoesOn(flat)
             }
             Deed::Operates(op, into) => {
                 self.mark = Mark::UnderWay(into);
-                self.pass();
+                self.go_on(next);
                 Reach::Operates(op)
             }
             Deed::Pauses(op) => {
@@ -185,88 +177,71 @@ impl Thread {
                 Reach::Answers(self.yield_answer())
             }
             Deed::Spawns(thread) => {
-                self.enter(Branch::Spawned, self.position + 1);
-                Reach::GoesOn(thread_statements(text, thread))
+                self.calls.push(Call { thread, next });
+                self.go_on(0);
+                Reach::GoesOn(thread_code(text, thread))
             }
             Deed::Restarts => {
-                self.leave_blocks();
                 self.mark = Mark::AtRest;
+                self.go_on(0);
                 Reach::Answers(PtState::Waiting)
             }
-            Deed::Exits => {
-                self.leave_blocks();
-                match self.frames.pop() {
-                    Some(frame) => {
-                        self.position = frame.position;
-                        Reach::GoesOn(innermost(text, whole, self.frames.as_slice()))
-                    }
-                    None => {
-                        self.mark = Mark::AtRest;
-                        Reach::Answers(PtState::Exited)
-                    }
+            Deed::Exits => match self.calls.pop() {
+                Some(call) => {
+                    self.go_on(call.next);
+                    Reach::GoesOn(self.innermost(text))
                 }
-            }
+                None => {
+                    self.mark = Mark::AtRest;
+                    self.go_on(0);
+                    Reach::Answers(PtState::Exited)
+                }
+            },
         }
     }
 
-    /// Does a statement, the one at the thread's position in the innermost block.
+    /// Does a statement, the one at the thread's position.
     fn reach<'a, L: Look>(
         &mut self,
         text: &'a ProcessText,
-        whole: &'a [Stmt],
-        block: &'a [Stmt],
-        statement: &'a Stmt,
+        flat: &'a [Instruction],
+        instruction: &'a Instruction,
         event: &Event,
         vars: &mut Vars,
         look: &L,
     ) -> Reach<'a>
-        requires room { length self.old.frames < 256 }
-        requires fits { self.old.position + 1 < 2 ^ 16 }
-        requires inside { block_at (code_of text.now) (map statement_of whole.now) self.old.frames ≡ map statement_of block.now }
-        requires here { slice_get (map statement_of block.now) self.old.position ≡ Some (statement_of statement.now) }
+        requires inside { StandsIn (code_of text.now) self.old flat.now }
+        requires leads { Leads (rest_at (body_of_thread (code_of text.now) self.old)) instruction.now (rest_at (body_of_thread (code_of text.now) self.old) self.old.position) }
         ensures kept { length vars.new ≡ length vars.old }
-        ensures frames { length self.new.frames ≤ length self.old.frames + 1 }
-        ensures reaches { Reaches (code_of text.now) (map statement_of whole.now) (reached_at (code_of text.now) (map statement_of whole.now) self.old vars.old event.now (L.looks look.now) (statement_of statement.now)) result self.old self.new vars.old vars.new }
+        ensures calls { length self.new.calls ≤ length self.old.calls + 1 }
+        ensures reaches { (s : Statement ℕ) (rest : List (Statement ℕ)) → rest_at (body_of_thread (code_of text.now) self.old) self.old.position ≡ s ∷ rest
+            → Reaches (code_of text.now) (reached_at (code_of text.now) self.old vars.old event.now (L.looks look.now) s rest) result self.old self.new vars.old vars.new }
     {
-        let position = self.position;
-        match statement {
-            Stmt::Do(action) => {
+        match instruction {
+            Instruction::Act(action, next) => {
                 let deed = done_by(action, text.number(), self.is_yielded, vars, event, look);
-                self.perform(text, whole, block, deed, vars)
+                self.perform(text, flat, deed, *next, vars)
             }
-            Stmt::If(condition, then, other) => {
-                if evaluate(condition, vars, event, look) != 0 {
-                    self.enter(Branch::Then, position + 1);
-                    Reach::GoesOn(then.statements())
-                } else if let Some(other) = other {
-                    self.enter(Branch::Else, position + 1);
-                    Reach::GoesOn(other.statements())
-                } else {
-                    self.pass();
-                    Reach::GoesOn(block)
-                }
+            Instruction::Branch(test, holds, fails) => {
+                self.go_on(chosen(test, vars, event, look, *holds, *fails));
+                Reach::GoesOn(flat)
             }
-            Stmt::While(test, body) => {
-                if evaluate(test, vars, event, look) != 0 {
-                    self.enter(Branch::Loop, position);
-                    Reach::GoesOn(body.statements())
-                } else {
-                    self.pass();
-                    Reach::GoesOn(block)
-                }
+            Instruction::Loop(test, body, next) => {
+                self.go_on(chosen(test, vars, event, look, *body, *next));
+                Reach::GoesOn(flat)
             }
         }
     }
 
     /// Comes back to where the thread stands, and pays for the spawns that a new call passes. There is a step at once where
-    /// they can't be paid, behind the post of a `pause`, and where the thread has run away.
+    /// they can't be paid, after the post of a `pause`, and where the thread has run away.
     #[tactic(auto, unfolding(crate::specs::Step::advanced_of))]
     fn resume(&mut self, fuel: &mut Fuel) -> Option<Step>
         ensures { Resumes result self.old self.new fuel.old fuel.new }
     {
         match self.mark {
             Mark::AtRest => {
-                if fuel.pay(self.frames.spawns()) {
+                if fuel.pay(self.calls.len()) {
                     return None;
                 }
                 self.mark = Mark::RunAway;
@@ -305,29 +280,26 @@ impl Thread {
         if let Some(step) = self.resume(fuel) {
             return step;
         }
-        let threads = text.threads();
-        prove!(threads < STACKS);
-        let whole = self.part.statements(text);
-        let mut block = innermost(text, whole, self.frames.as_slice());
+        let mut flat = self.innermost(text);
         loop {
-            match block.get(usize::from(self.position)) {
-                None => match self.frames.pop() {
+            match flat.get(usize::from(self.position)) {
+                None => match self.calls.pop() {
                     None => {
                         self.begin_again();
                         return Step::Done(PtState::Ended);
                     }
-                    Some(frame) => {
-                        self.go_on_behind(frame);
-                        block = innermost(text, whole, self.frames.as_slice());
+                    Some(call) => {
+                        self.go_on(call.next);
+                        flat = self.innermost(text);
                     }
                 },
-                Some(statement) => {
+                Some(instruction) => {
                     if !fuel.spend() {
                         self.mark = Mark::RunAway;
                         return Step::Runaway;
                     }
-                    match self.reach(text, whole, block, statement, event, vars, look) {
-                        Reach::GoesOn(next) => block = next,
+                    match self.reach(text, flat, instruction, event, vars, look) {
+                        Reach::GoesOn(next) => flat = next,
                         Reach::Operates(op) => return Step::Op(op),
                         Reach::Answers(state) => return Step::Done(state),
                     }

@@ -15,7 +15,7 @@ fn first_set(program: &Program, process: u8) -> Option<u16>
 {
     names_are_declared(program);
     let code = program.process(process);
-    let Stmt::Do(action) = code.body().statements().first()? else {
+    let Stmt::Do(action) = code.body().block().statements().first()? else {
         return None;
     };
     let Action::Assign(variable, _) = action else {

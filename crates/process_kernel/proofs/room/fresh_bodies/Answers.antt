@@ -1,7 +1,7 @@
 use Rattle.std.proofs.Common.{rules, arith, ap, ◌∙◌, Some}
 use Rattle.std.proofs.lemmas.List.{length-map}
 use Rattle.program_tree.specs.Program.{tree_of, code_of}
-use Rattle.protothread.specs.Frames.{remainder_of}
+use Rattle.protothread.specs.Places.{remainder_of}
 use Rattle.process_kernel.proofs.First.{AreFresh-push, fresh_remainders}
 use Rattle.process_kernel.proofs.room.fresh_bodies.Goals as goal
 

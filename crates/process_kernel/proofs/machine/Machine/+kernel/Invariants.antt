@@ -1,6 +1,6 @@
 use Rattle.std.proofs.Common.{◌≡◌, ◌<◌, ◌+◌, ◌*◌, ℕ, drop}
 use Rattle.program_tree.specs.Program.{tree_of, code_of}
-use Rattle.protothread.specs.Frames.{remainder_of}
+use Rattle.protothread.specs.Places.{remainder_of}
 use Rattle.process_kernel.specs.Calls.{walk_of}
 use Rattle.process_kernel.specs.Call.{calls_of}
 use Rattle.process_kernel.specs.Views.{state_of, Spends, Grows}

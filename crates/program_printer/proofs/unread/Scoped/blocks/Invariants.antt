@@ -2,11 +2,11 @@ use Rattle.std.proofs.Common.{◌≡◌, ◌++◌, map, drop}
 use Rattle.std.specs.List.{flat_map, zip}
 use Rattle.program_printer.specs.Spelled.{names_in, named_tokens}
 use Rattle.program_tree.specs.ShapeOf.{block_with}
-use Rattle.program_tree.specs.Tree.{block_of}
+use Rattle.program_tree.specs.FlatBlock.{tree_in}
 use Rattle.program_tree.specs.Tokens.{token_of}
 use Rattle.program_printer.proofs.unread.Scoped.blocks.Given as goal
 
 abbrev pub invariant-loop-place : goal.invariant-loop-place
 invariant-loop-place l =
-    let items = zip l.names (map (block_with (names_in l.self)) (map block_of l.blocks)) in
+    let items = zip l.names (map (block_with (names_in l.self)) (map tree_in l.blocks)) in
     map token_of l.out.items ++ flat_map (named_tokens l.keyword) (drop l.place items) ≡ map token_of l.fn.out.items ++ flat_map (named_tokens l.keyword) items

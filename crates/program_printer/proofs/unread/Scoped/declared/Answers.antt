@@ -3,7 +3,7 @@ use Rattle.std.specs.List.{flat_map, zip}
 use Rattle.program_tree.specs.ShapeOf.{block_with}
 use Rattle.program_printer.specs.Spelled.{names_in, valued_tokens, named_tokens}
 use Rattle.program_tree.specs.Tokens.{token_of}
-use Rattle.program_tree.specs.Tree.{block_of}
+use Rattle.program_tree.specs.FlatBlock.{tree_in}
 use Rattle.program_tree.specs.declared.keyword.Keyword.TheVariants as word
 use Rattle.program_printer.proofs.Adding.{on_ok, four_added}
 use Rattle.program_printer.proofs.unread.Scoped.declared.Goals as goal
@@ -16,6 +16,6 @@ returns c =
     (λ m. four_added _ _ _ _ _ _ _ _ _
     (c.in_ok-valued.ensures ∙ ap (λ vs. map token_of c.args.out.now.items ++ flat_map (valued_tokens word.Var) (zip code.variables vs)) c.deref.ensures.value)
     c.in_ok-listed.ensures
-    (c.in_ok-blocks.ensures ∙ ap (λ bs. map token_of c.listed.new.out.items ++ flat_map (named_tokens word.Ctimer) (zip code.ctimers (map (block_with names) (map block_of bs)))) c.deref-2.ensures.value)
-    (m ∙ ap (λ bs. map token_of c.blocks-2.new.out.items ++ flat_map (named_tokens word.Thread) (zip code.threads (map (block_with names) (map block_of bs)))) c.deref-3.ensures.value))
+    (c.in_ok-blocks.ensures ∙ ap (λ bs. map token_of c.listed.new.out.items ++ flat_map (named_tokens word.Ctimer) (zip code.ctimers (map (block_with names) (map tree_in bs)))) c.deref-2.ensures.value)
+    (m ∙ ap (λ bs. map token_of c.blocks-2.new.out.items ++ flat_map (named_tokens word.Thread) (zip code.threads (map (block_with names) (map tree_in bs)))) c.deref-3.ensures.value))
     c.blocks-3.ensures

@@ -3,7 +3,7 @@ use Rattle.std.proofs.lemmas.List.{length-map}
 use Rattle.std.proofs.lemmas.Result.{err_from_is_err_and}
 use Rattle.text_laws.specs.Machine.{codes_form}
 use Rattle.program_reader.specs.Steps.{scope_of}
-use Rattle.program_tree.specs.Tree.{block_of}
+use Rattle.program_tree.specs.FlatBlock.{tree_in}
 use Rattle.program_reader.specs.declared.code.Content.{Content}
 use Rattle.program_reader.specs.declared.fault.Refusal.{Refusal}
 use Rattle.program_reader.specs.declared.fault.Refusal.TheVariants as refusal
@@ -34,12 +34,12 @@ invariant_of-result c =
       paired = paired c.leave-own.result.variables c.in_ok-content.content.starts.items r.variables (own.variables ∙ ap (λ z. z.variables) r.names) r.started;
       few_timers = c.leave-own.result.few_timers;
       each_callback =
-          sym (length-map c.in_ok-content.content.callbacks.items block_of)
-          ∙ blocks_paired c.leave-own.result.ctimers (map block_of c.in_ok-content.content.callbacks.items) r.ctimers (own.ctimers ∙ r.last_timers) r.called;
+          sym (length-map c.in_ok-content.content.callbacks.items tree_in)
+          ∙ blocks_paired c.leave-own.result.ctimers (map tree_in c.in_ok-content.content.callbacks.items) r.ctimers (own.ctimers ∙ r.last_timers) r.called;
       few_threads = c.leave-own.result.few_threads;
       each_thread =
-          sym (length-map c.in_ok-content.content.thread_blocks.items block_of)
-          ∙ blocks_paired c.leave-own.result.threads (map block_of c.in_ok-content.content.thread_blocks.items) r.threads (own.threads ∙ ap (λ z. z.threads) r.names) r.threaded;
+          sym (length-map c.in_ok-content.content.thread_blocks.items tree_in)
+          ∙ blocks_paired c.leave-own.result.threads (map tree_in c.in_ok-content.content.thread_blocks.items) r.threads (own.threads ∙ ap (λ z. z.threads) r.names) r.threaded;
       body_within = c.in_ok-content.ensures.body;
       callbacks_within = c.in_ok-content.ensures.callbacks;
       threads_within = c.in_ok-content.ensures.threads;

@@ -4,15 +4,16 @@ use Rattle.program_reader.specs.CodeParts.{HasBlocks}
 use Rattle.program_tree.specs.Grammar.{ctimer_marks}
 use Rattle.text_laws.specs.Machine.{from_ctimers}
 use Rattle.program_reader.specs.Steps.{scope_of}
-use Rattle.program_tree.specs.Tree.{a_timer, block_of, IsWithinLimits}
+use Rattle.program_tree.specs.FlatBlock.{tree_in}
+use Rattle.program_tree.specs.Tree.{a_timer, IsWithinLimits}
 use Rattle.program_reader.proofs.reader.Reader.ctimers.Given as goal
 
 abbrev pub invariant-ctimers : goal.invariant-ctimers
 invariant-ctimers l = record {
   no_longer : length l.self.cursor ≤ length l.fn.self.cursor;
   etimers : l.self.scope.etimers ≡ l.fn.self.scope.etimers;
-  within : All (λ b. IsWithinLimits (block_of b)) l.blocks.items;
-  reads : HasBlocks a_timer from_ctimers ctimer_marks (map block_of l.blocks.items) (scope_of l.fn.self.scope) (scope_of l.self.scope) l.fn.self.cursor l.self.cursor;
+  within : All (λ b. IsWithinLimits (tree_in b)) l.blocks.items;
+  reads : HasBlocks a_timer from_ctimers ctimer_marks (map tree_in l.blocks.items) (scope_of l.fn.self.scope) (scope_of l.self.scope) l.fn.self.cursor l.self.cursor;
 }
 
 abbrev pub decreases-ctimers : goal.decreases-ctimers

@@ -5,7 +5,8 @@ use Rattle.program_tree.specs.Grammar.{thread_marks}
 use Rattle.text_laws.specs.Machine.{from_threads}
 use Rattle.program_tree.specs.Scope.{threads_fit, earlier_threads}
 use Rattle.program_reader.specs.Steps.{scope_of}
-use Rattle.program_tree.specs.Tree.{a_thread, block_of, IsWithinLimits}
+use Rattle.program_tree.specs.FlatBlock.{tree_in}
+use Rattle.program_tree.specs.Tree.{a_thread, IsWithinLimits}
 use Rattle.program_reader.proofs.reader.Reader.threads.Given as goal
 
 abbrev pub invariant-threads : goal.invariant-threads
@@ -14,9 +15,9 @@ invariant-threads l = record {
   etimers : l.self.scope.etimers ≡ l.fn.self.scope.etimers;
   ctimers : l.self.scope.ctimers ≡ l.fn.self.scope.ctimers;
   counted : length l.self.scope.threads ≡ length l.blocks.items;
-  earlier : threads_fit earlier_threads 0 (map block_of l.blocks.items) ≡ true;
-  within : All (λ b. IsWithinLimits (block_of b)) l.blocks.items;
-  reads : HasBlocks a_thread from_threads thread_marks (map block_of l.blocks.items) (scope_of l.fn.self.scope) (scope_of l.self.scope) l.fn.self.cursor l.self.cursor;
+  earlier : threads_fit earlier_threads 0 (map tree_in l.blocks.items) ≡ true;
+  within : All (λ b. IsWithinLimits (tree_in b)) l.blocks.items;
+  reads : HasBlocks a_thread from_threads thread_marks (map tree_in l.blocks.items) (scope_of l.fn.self.scope) (scope_of l.self.scope) l.fn.self.cursor l.self.cursor;
 }
 
 abbrev pub decreases-threads : goal.decreases-threads

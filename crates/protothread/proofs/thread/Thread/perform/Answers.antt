@@ -1,188 +1,203 @@
-use Rattle.std.proofs.Common.{◌≡◌, [], true, false, map, refl, ap, sym, ◌∙◌, arith, subst}
+use Rattle.std.proofs.Common.{◌≡◌, [], true, false, length, refl, ap, sym, ◌∙◌, arith}
 use Rattle.std.proofs.lemmas.Grind.{common_steps}
-use Rattle.program_tree.specs.Tree.{statement_of}
+use Rattle.program_tree.specs.Tree.{listed}
 use Rattle.program_tree.specs.Program.{code_of}
+use Rattle.program_tree.specs.Flat.{rest_at}
+use Rattle.protothread.specs.declared.calls.Call.{Call}
 use Rattle.protothread.specs.declared.thread.Mark.TheVariants.{AtRest, UnderWay, Pausing}
-use Rattle.protothread.specs.declared.deed.Deed.{Deed}
 use Rattle.protothread.specs.declared.state.PtState.TheVariants.{Waiting}
 use Rattle.protothread.specs.Remainder.{at, before}
 use Rattle.protothread.specs.Step.{goes_on, operates, answers}
-use Rattle.protothread.specs.Frames.{block_at, nested, callers_of, yielding}
-use Rattle.protothread.specs.Spawns.{spawns}
-use Rattle.protothread.specs.Reach.{IsDoneBy, home_of, behind_of, performed_at}
-use Rattle.protothread.proofs.Reaching.{made_of-goes_on, made_of-operates, made_of-waits, made_of-yields, restarts_so, exits_so, exits_last, enters_thread, stays_so, passes_so, yields_by, spawned_block}
+use Rattle.protothread.specs.Places.{part_body, nested, callers_of, yielding, body_of_thread}
+use Rattle.protothread.specs.Reach.{performed_at}
+use Rattle.protothread.proofs.CallLaws.{length-callers_in, stands_in_last}
+use Rattle.protothread.proofs.Reaching.{made_of-goes_on, made_of-operates, made_of-waits, made_of-yields, moves_so, stays_so, restarts_so, enters_thread, same_code, exits_so, exits_last}
 use Rattle.protothread.proofs.thread.Thread.perform.Goals as goal
 
 pub returns-in-Passes-clause-reaches : goal.returns-in-Passes-clause-reaches
 returns-in-Passes-clause-reaches c =
     let code = code_of c.args.text.now in
-    let whole = map statement_of c.args.whole.now in
     let old = c.args.self.now in
     let vars = c.args.vars.now in
-    λ s here by.
+    let b = body_of_thread code old in
+    let cs = callers_of code old in
+    λ s rest here after.
     record {
-      part = ap (λ t. t.part) c.pass.ensures;
-      innermost = ap (λ t. block_at code whole t.frames) c.pass.ensures ∙ c.requires.inside;
+      part = ap (λ t. t.part) c.go_on.ensures;
+      inside = same_code code old s rest here c.args.flat.now old.mark false c.args.next c.go_on.new.self c.requires.inside c.go_on.ensures;
       made_so =
-          ap (λ d. performed_at code whole old vars s d) c.in-Passes.is
-          ∙ made_of-goes_on (callers_of code whole old) vars vars (before false (behind_of code whole old))
-          ∙ ap (λ p. goes_on vars p) (sym (passes_so code whole _ old s c.requires.inside here old.mark c.pass.new.self c.pass.ensures));
+          ap (λ d. performed_at code old vars s rest d) c.in-Passes.is
+          ∙ made_of-goes_on cs vars vars (before false rest)
+          ∙ ap (λ l. goes_on vars (nested cs (before false l))) (sym after)
+          ∙ ap (λ p. goes_on vars p) (sym (moves_so code old s rest here old.mark c.args.next c.go_on.new.self c.go_on.ensures));
     }
 
 pub returns-in-Assigns-clause-reaches : goal.returns-in-Assigns-clause-reaches
 returns-in-Assigns-clause-reaches c =
     let code = code_of c.args.text.now in
-    let whole = map statement_of c.args.whole.now in
     let old = c.args.self.now in
     let vars = c.args.vars.now in
-    let new = c.pass-in-Assigns.new.self in
-    λ s here by.
+    let b = body_of_thread code old in
+    let cs = callers_of code old in
+    λ s rest here after.
+    let new = c.go_on-in-Assigns.new.self in
     record {
-      part = ap (λ t. t.part) c.pass-in-Assigns.ensures;
-      innermost = ap (λ t. block_at code whole t.frames) c.pass-in-Assigns.ensures ∙ c.requires.inside;
+      part = ap (λ t. t.part) c.go_on-in-Assigns.ensures;
+      inside = same_code code old s rest here c.args.flat.now old.mark false c.args.next new c.requires.inside c.go_on-in-Assigns.ensures;
       made_so =
-          ap (λ d. performed_at code whole old vars s d) c.in-Assigns.is
-          ∙ made_of-goes_on (callers_of code whole old) vars _ (before false (behind_of code whole old))
-          ∙ ap (λ v. goes_on v (nested (callers_of code whole old) (before false (behind_of code whole old)))) (sym c.set.ensures)
-          ∙ ap (λ p. goes_on c.set.new.self p) (sym (passes_so code whole _ old s c.requires.inside here old.mark new c.pass-in-Assigns.ensures));
+          ap (λ d. performed_at code old vars s rest d) c.in-Assigns.is
+          ∙ made_of-goes_on cs vars _ (before false rest)
+          ∙ ap (λ v. goes_on v (nested cs (before false rest))) (sym c.set.ensures)
+          ∙ ap (λ l. goes_on c.set.new.self (nested cs (before false l))) (sym after)
+          ∙ ap (λ p. goes_on c.set.new.self p) (sym (moves_so code old s rest here old.mark c.args.next new c.go_on-in-Assigns.ensures));
     }
 
 pub returns-in-Operates-clause-reaches : goal.returns-in-Operates-clause-reaches
 returns-in-Operates-clause-reaches c =
     let code = code_of c.args.text.now in
-    let whole = map statement_of c.args.whole.now in
     let old = c.args.self.now in
     let vars = c.args.vars.now in
-    let new = c.pass-in-Operates.new.self in
-    λ s here by.
+    let b = body_of_thread code old in
+    let cs = callers_of code old in
+    λ s rest here after.
+    let new = c.go_on-in-Operates.new.self in
     record {
-      part = ap (λ t. t.part) c.pass-in-Operates.ensures;
+      part = ap (λ t. t.part) c.go_on-in-Operates.ensures;
       variables = refl;
       made_so =
-          ap (λ d. performed_at code whole old vars s d) c.in-Operates.is
-          ∙ made_of-operates (callers_of code whole old) vars c.in-Operates.op (UnderWay c.in-Operates.into) (before false (behind_of code whole old))
-          ∙ ap (λ m. operates c.in-Operates.op m (nested (callers_of code whole old) (before false (behind_of code whole old)))) (sym (ap (λ t. t.mark) c.pass-in-Operates.ensures))
-          ∙ ap (λ p. operates c.in-Operates.op new.mark p) (sym (passes_so code whole _ old s c.requires.inside here (UnderWay c.in-Operates.into) new c.pass-in-Operates.ensures));
+          ap (λ d. performed_at code old vars s rest d) c.in-Operates.is
+          ∙ made_of-operates cs vars c.in-Operates.op (UnderWay c.in-Operates.into) (before false rest)
+          ∙ ap (λ l. operates c.in-Operates.op (UnderWay c.in-Operates.into) (nested cs (before false l))) (sym after)
+          ∙ ap (λ m. operates c.in-Operates.op m (nested cs (before false (rest_at b c.args.next)))) (sym (ap (λ t. t.mark) c.go_on-in-Operates.ensures))
+          ∙ ap (λ p. operates c.in-Operates.op new.mark p) (sym (moves_so code old s rest here (UnderWay c.in-Operates.into) c.args.next new c.go_on-in-Operates.ensures));
     }
 
 pub returns-in-Pauses-clause-reaches : goal.returns-in-Pauses-clause-reaches
 returns-in-Pauses-clause-reaches c =
     let code = code_of c.args.text.now in
-    let whole = map statement_of c.args.whole.now in
     let old = c.args.self.now in
     let vars = c.args.vars.now in
-    λ s here by.
+    λ s rest here after.
     record {
       part = refl;
       variables = refl;
       made_so =
-          ap (λ d. performed_at code whole old vars s d) c.in-Pauses.is
-          ∙ made_of-operates (callers_of code whole old) vars c.in-Pauses.op Pausing (at true s (behind_of code whole old))
-          ∙ ap (λ p. operates c.in-Pauses.op Pausing p) (sym (stays_so code whole _ old s c.requires.inside here Pausing true _ refl));
+          ap (λ d. performed_at code old vars s rest d) c.in-Pauses.is
+          ∙ made_of-operates (callers_of code old) vars c.in-Pauses.op Pausing (at true s rest)
+          ∙ ap (λ p. operates c.in-Pauses.op Pausing p) (sym (stays_so code old s rest here Pausing true _ refl));
     }
 
 pub returns-in-Waits-clause-reaches : goal.returns-in-Waits-clause-reaches
 returns-in-Waits-clause-reaches c =
     let code = code_of c.args.text.now in
-    let whole = map statement_of c.args.whole.now in
     let old = c.args.self.now in
     let vars = c.args.vars.now in
-    λ s here by.
+    let b = body_of_thread code old in
+    let cs = callers_of code old in
+    λ s rest here after.
     record {
       part = ap (λ t. t.part) c.give_up.ensures;
       mark = ap (λ t. t.mark) c.give_up.ensures;
       variables = refl;
       made_so =
-          ap (λ d. performed_at code whole old vars s d) c.in-Waits.is
-          ∙ made_of-waits (callers_of code whole old) vars (at false s (behind_of code whole old))
-          ∙ ap (λ p. answers Waiting p) (sym (stays_so code whole _ old s c.requires.inside here AtRest false c.give_up.new.self c.give_up.ensures));
+          ap (λ d. performed_at code old vars s rest d) c.in-Waits.is
+          ∙ made_of-waits cs vars (at false s rest)
+          ∙ ap (λ p. answers Waiting p) (sym (stays_so code old s rest here AtRest false c.give_up.new.self c.give_up.ensures));
     }
 
 pub returns-in-Yields-clause-reaches : goal.returns-in-Yields-clause-reaches
 returns-in-Yields-clause-reaches c =
     let code = code_of c.args.text.now in
-    let whole = map statement_of c.args.whole.now in
     let old = c.args.self.now in
     let vars = c.args.vars.now in
+    let b = body_of_thread code old in
+    let cs = callers_of code old in
+    λ s rest here after.
     let new = c.give_up-in-Yields.new.self in
-    λ s here by.
     record {
       part = ap (λ t. t.part) c.give_up-in-Yields.ensures;
       mark = ap (λ t. t.mark) c.give_up-in-Yields.ensures;
       variables = refl;
       made_so =
-          ap (λ d. performed_at code whole old vars s d) c.in-Yields.is
-          ∙ made_of-yields (callers_of code whole old) vars (at true s (behind_of code whole old))
-          ∙ ap (λ a. answers a (nested (callers_of code whole old) (at true s (behind_of code whole old)))) (yields_by code whole old ∙ sym (c.yield_answer.ensures ∙ ap (λ t. yielding (spawns t.frames)) c.give_up-in-Yields.ensures))
-          ∙ ap (λ p. answers c.yield_answer.result p) (sym (stays_so code whole _ old s c.requires.inside here AtRest true new c.give_up-in-Yields.ensures));
+          ap (λ d. performed_at code old vars s rest d) c.in-Yields.is
+          ∙ made_of-yields cs vars (at true s rest)
+          ∙ ap (λ n. answers (yielding n) (nested cs (at true s rest))) (length-callers_in code (part_body code old.part) old.calls ∙ sym (ap (λ t. length t.calls) c.give_up-in-Yields.ensures))
+          ∙ ap (λ a. answers a (nested cs (at true s rest))) (sym c.yield_answer.ensures)
+          ∙ ap (λ p. answers c.yield_answer.result p) (sym (stays_so code old s rest here AtRest true new c.give_up-in-Yields.ensures));
     }
 
 pub returns-in-Spawns-clause-reaches : goal.returns-in-Spawns-clause-reaches
 returns-in-Spawns-clause-reaches c =
     let code = code_of c.args.text.now in
-    let whole = map statement_of c.args.whole.now in
     let old = c.args.self.now in
     let vars = c.args.vars.now in
-    let new = c.enter.new.self in
-    λ s here by.
-    let P : Deed → Type 0 = λ d. IsDoneBy s d in
-    let is = subst P c.in-Spawns.is by in
+    let b = body_of_thread code old in
+    let cs = callers_of code old in
+    λ s rest here after.
+    let new = c.go_on-in-Spawns.new.self in
+    let call : Call = record { thread = c.in-Spawns.thread; next = c.args.next } in
+    let moved = c.go_on-in-Spawns.ensures ∙ ap (λ ds. record old { is_yielded = false; position = 0; calls = ds }) c.push.ensures in
     record {
-      part = ap (λ t. t.part) c.enter.ensures;
-      innermost = spawned_block code whole _ old s c.requires.inside here c.in-Spawns.thread new is c.enter.ensures ∙ sym c.thread_statements.ensures;
+      part = ap (λ t. t.part) moved;
+      inside = stands_in_last code new c.thread_code.result.now old.calls call (ap (λ t. t.calls) moved) c.thread_code.ensures.flat c.thread_code.ensures.earlier;
       made_so =
-          ap (λ d. performed_at code whole old vars s d) c.in-Spawns.is
-          ∙ made_of-goes_on (callers_of code whole old) vars vars _
-          ∙ ap (λ p. goes_on vars p) (sym (enters_thread code whole _ old s c.requires.inside here c.in-Spawns.thread new is c.enter.ensures));
+          ap (λ d. performed_at code old vars s rest d) c.in-Spawns.is
+          ∙ made_of-goes_on cs vars vars _
+          ∙ ap (λ p. goes_on vars p) (sym (enters_thread code old s rest here call new moved after));
     }
 
 pub returns-in-Restarts-clause-reaches : goal.returns-in-Restarts-clause-reaches
 returns-in-Restarts-clause-reaches c =
     let code = code_of c.args.text.now in
-    let whole = map statement_of c.args.whole.now in
     let old = c.args.self.now in
     let vars = c.args.vars.now in
-    λ s here by.
+    let b = body_of_thread code old in
+    let cs = callers_of code old in
+    λ s rest here after.
+    let new = c.go_on-in-Restarts.new.self in
     record {
-      part = c.leave_blocks.ensures.part;
-      mark = refl;
+      part = ap (λ t. t.part) c.go_on-in-Restarts.ensures;
+      mark = ap (λ t. t.mark) c.go_on-in-Restarts.ensures;
       variables = refl;
       made_so =
-          ap (λ d. performed_at code whole old vars s d) c.in-Restarts.is
-          ∙ made_of-waits (callers_of code whole old) vars (before false (home_of code whole (callers_of code whole old)))
-          ∙ ap (λ p. answers Waiting p) (sym (restarts_so code whole old c.leave_blocks.new.self c.leave_blocks.ensures _ refl));
+          ap (λ d. performed_at code old vars s rest d) c.in-Restarts.is
+          ∙ made_of-waits cs vars (before false (listed b))
+          ∙ ap (λ p. answers Waiting p) (sym (restarts_so code old s rest here AtRest new c.go_on-in-Restarts.ensures));
     }
 
 pub returns-in-Some-clause-reaches : goal.returns-in-Some-clause-reaches
 returns-in-Some-clause-reaches c =
     let code = code_of c.args.text.now in
-    let whole = map statement_of c.args.whole.now in
     let old = c.args.self.now in
     let vars = c.args.vars.now in
-    let mid = c.leave_blocks-in-Exits.new.self in
-    λ s here by.
+    let b = body_of_thread code old in
+    let cs = callers_of code old in
+    λ s rest here after.
+    let new = c.go_on-in-Some.new.self in
     record {
-      part = c.leave_blocks-in-Exits.ensures.part;
-      innermost = ap (λ fs. block_at code whole fs) (sym c.as_slice.ensures) ∙ sym c.innermost.ensures;
+      part = ap (λ t. t.part) c.go_on-in-Some.ensures;
+      inside = c.innermost.ensures;
       made_so =
-          ap (λ d. performed_at code whole old vars s d) c.in-Exits.is
-          ∙ exits_so code whole old mid c.leave_blocks-in-Exits.ensures c.pop.new.self c.in-Some.frame _ vars c.in-Some.ensures.items refl;
+          ap (λ d. performed_at code old vars s rest d) c.in-Exits.is
+          ∙ exits_so code old s rest here c.pop.new.self c.in-Some.call new vars (before false (listed b)) c.in-Some.ensures.items c.go_on-in-Some.ensures;
     }
 
 pub returns-in-None-clause-reaches : goal.returns-in-None-clause-reaches
 returns-in-None-clause-reaches c =
     let code = code_of c.args.text.now in
-    let whole = map statement_of c.args.whole.now in
     let old = c.args.self.now in
     let vars = c.args.vars.now in
-    let mid = c.leave_blocks-in-Exits.new.self in
-    let none : mid.frames ≡ [] = grind (arith, common_steps) in
-    λ s here by.
+    let b = body_of_thread code old in
+    let cs = callers_of code old in
+    λ s rest here after.
+    let new = c.go_on-in-None.new.self in
+    let none : old.calls ≡ [] = grind (arith, common_steps) in
+    let moved = c.go_on-in-None.ensures ∙ ap (λ ds. record old { mark = AtRest; is_yielded = false; position = 0; calls = ds }) c.in-None.ensures.empty in
     record {
-      part = c.leave_blocks-in-Exits.ensures.part;
-      mark = refl;
+      part = ap (λ t. t.part) moved;
+      mark = ap (λ t. t.mark) moved;
       variables = refl;
       made_so =
-          ap (λ d. performed_at code whole old vars s d) c.in-Exits.is
-          ∙ exits_last code whole old mid c.leave_blocks-in-Exits.ensures _ vars none (ap (λ fs. record mid { mark = AtRest; frames = fs }) c.in-None.ensures.empty);
+          ap (λ d. performed_at code old vars s rest d) c.in-Exits.is
+          ∙ exits_last code old s rest here new vars none moved;
     }

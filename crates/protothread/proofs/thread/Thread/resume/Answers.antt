@@ -1,33 +1,31 @@
-use Rattle.std.proofs.Common.{◌≡◌, ◌-◌, ◌<◌, ◌≤◌, refl, ap, sym, ◌∙◌, arith}
+use Rattle.std.proofs.Common.{◌≡◌, ◌-◌, ◌<◌, ◌≤◌, length, refl, ap, sym, ◌∙◌, arith}
 use Rattle.std.proofs.lemmas.Grind.{common_steps}
 use Rattle.protothread.specs.declared.thread.Mark.TheVariants.{AtRest, RunAway}
 use Rattle.protothread.specs.declared.step.Step.TheVariants as step
-use Rattle.protothread.specs.Remainder.{whole_of}
 use Rattle.protothread.specs.Step.{continued}
-use Rattle.protothread.specs.Frames.{thread_place, remainder_of}
-use Rattle.protothread.specs.Spawns.{spawns}
+use Rattle.protothread.specs.Places.{thread_place, remainder_of}
 use Rattle.protothread.proofs.Advance.{resumes_at_rest, cannot_resume, gives_up_now}
 use Rattle.protothread.proofs.thread.Thread.resume.Goals as goal
 
 pub returns-then-pay : goal.returns-then-pay
 returns-then-pay c =
     let t = c.args.self.now in
-    let enough : spawns t.frames ≤ c.args.fuel.now = omega (arith, c.spawns.ensures, c.pay.ensures.paid.0 c.if-pay.true) in
-    let left : c.args.fuel.now - spawns t.frames ≡ c.pay.new.self = omega (arith, c.spawns.ensures, c.pay.ensures.units) in
+    let enough : length t.calls ≤ c.args.fuel.now = omega (arith, c.len.ensures, c.pay.ensures.paid.0 c.if-pay.true) in
+    let left : c.args.fuel.now - length t.calls ≡ c.pay.new.self = omega (arith, c.len.ensures, c.pay.ensures.units) in
     record {
       same = refl;
       none_made = omega (arith, c.pay.ensures.units);
       goes_on_so =
           λ code event looks vars.
           resumes_at_rest code event looks t vars c.args.fuel.now c.in-AtRest.is enough
-          ∙ ap (λ u. continued code t.part event looks (thread_place code (whole_of code t.part) t) vars u) left;
+          ∙ ap (λ u. continued code t.part event looks (thread_place code t) vars u) left;
     }
 
 pub returns-else-pay : goal.returns-else-pay
 returns-else-pay c =
     let t = c.args.self.now in
-    let short : c.args.fuel.now < spawns t.frames = grind (arith, common_steps) in
-    let none : 0 ≡ c.pay.new.self = omega (arith, c.spawns.ensures, c.pay.ensures.units) in
+    let short : c.args.fuel.now < length t.calls = grind (arith, common_steps) in
+    let none : 0 ≡ c.pay.new.self = omega (arith, c.len.ensures, c.pay.ensures.units) in
     record {
       pays = omega (arith, c.pay.ensures.units);
       stops_so =

@@ -1,0 +1,48 @@
+-- What the flattener adds to the code.
+use Rattle.std.specs.Prelude.{◌≡◌, ℕ, ◌+◌, List, [], ◌∷◌, ◌++◌, length}
+use Rattle.program_tree.specs.declared.instruction.Instruction.{Instruction}
+use Rattle.program_tree.specs.Tree.{Statement, Body, Otherwise, end, next, nothing, otherwise, size, statement_size, other_size}
+use Rattle.program_tree.specs.Flat.{rests, statement_rests, other_rests, rest_in, Leads}
+
+-- where a block is entered whose first statement has this place, if it has one
+abbrev pub entry_of : Body ℕ → (place after : ℕ) → ℕ
+entry_of end place after = after
+entry_of (next s b) place after = place
+
+abbrev pub other_entry_of : Otherwise ℕ → (place after : ℕ) → ℕ
+other_entry_of nothing place after = after
+other_entry_of (otherwise b) place after = entry_of b place after
+
+-- the instructions from a place on have the local property
+abbrev pub LeadFrom : (all : List (List (Statement ℕ))) → (place : ℕ) → List Instruction → Type 0
+LeadFrom all place [] = Unit {0}
+LeadFrom all place (i ∷ is) = Leads (rest_in all) i (rest_in all place) × LeadFrom all (place + 1) is
+
+-- Code to which instructions are added: wherever their rests stand among all rests, they have the local property, provided
+-- that the rest at `after` is what follows.
+pub record Adds (added : (rest : List (Statement ℕ)) → List (List (Statement ℕ))) (count after : ℕ) (old new : List Instruction) : Type 0 where
+  pub more : List Instruction
+  pub extends : new ≡ old ++ more
+  pub counts : length more ≡ count
+  pub leads : (all left right : List (List (Statement ℕ))) (rest : List (Statement ℕ)) → all ≡ left ++ added rest ++ right → length left ≡ length old
+      → rest_in all after ≡ rest → LeadFrom all (length old) more
+
+abbrev pub Emits : Body ℕ → (after : ℕ) → (old new : List Instruction) → Type 0
+Emits b after old new = Adds (λ rest. rests b rest) (size b) after old new
+
+abbrev pub EmitsStatement : Statement ℕ → (after : ℕ) → (old new : List Instruction) → Type 0
+EmitsStatement s after old new = Adds (λ rest. statement_rests s rest) (statement_size s) after old new
+
+abbrev pub EmitsOther : Otherwise ℕ → (after : ℕ) → (old new : List Instruction) → Type 0
+EmitsOther o after old new = Adds (λ rest. other_rests o rest) (other_size o) after old new
+
+-- the same for the first statements of a block, which these follow
+pub record EmitsFirst (b later : Body ℕ) (after : ℕ) (old new : List Instruction) : Type 0 where
+  pub more : List Instruction
+  pub extends : new ≡ old ++ more
+  pub counts : length more + size later ≡ size b
+  pub added : (rest : List (Statement ℕ)) → List (List (Statement ℕ))
+  pub long : (rest : List (Statement ℕ)) → length (added rest) ≡ length more
+  pub splits : (rest : List (Statement ℕ)) → rests b rest ≡ added rest ++ rests later rest
+  pub leads : (all left right : List (List (Statement ℕ))) (rest : List (Statement ℕ)) → all ≡ left ++ rests b rest ++ right → length left ≡ length old
+      → rest_in all after ≡ rest → LeadFrom all (length old) more

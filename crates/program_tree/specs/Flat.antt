@@ -1,0 +1,51 @@
+-- What follows at each place of a block's flat code.
+use Rattle.std.specs.Prelude.{◌≡◌, ℕ, ◌≤◌, List, [], ◌∷◌, ◌++◌, length, Some, slice_get, slice_index_or}
+use Rattle.program_tree.specs.declared.instruction.Instruction.{Instruction}
+use Rattle.program_tree.specs.declared.instruction.Instruction.TheVariants.{Act, Branch, Loop}
+use Rattle.program_tree.specs.Tree.{Expression, Statement, Body, Otherwise, does, branch, while, end, next, nothing, otherwise, listed, other_block, expression_of, action_of}
+
+-- Each statement has a place, in the order of the text: the statements of an inner block stand after the one that it belongs
+-- to. The rest at a place is what is left to do there: its statement, those after it in its block, and what follows that block.
+abbrev mutual
+  pub rests : Body ℕ → (after : List (Statement ℕ)) → List (List (Statement ℕ))
+  rests end after = []
+  rests (next s b) after = statement_rests s (listed b ++ after) ++ rests b after
+
+  pub statement_rests : Statement ℕ → (after : List (Statement ℕ)) → List (List (Statement ℕ))
+  statement_rests (does a) after = (does a ∷ after) ∷ []
+  statement_rests (branch c a o) after = (branch c a o ∷ after) ∷ (rests a after ++ other_rests o after)
+  statement_rests (while c a) after = (while c a ∷ after) ∷ rests a (while c a ∷ after)
+
+  pub other_rests : Otherwise ℕ → (after : List (Statement ℕ)) → List (List (Statement ℕ))
+  other_rests nothing after = []
+  other_rests (otherwise b) after = rests b after
+
+-- the rest at a place, of all rests; nothing is left at any other place
+abbrev pub rest_in : List (List (Statement ℕ)) → (place : ℕ) → List (Statement ℕ)
+rest_in all place = slice_index_or all place []
+
+-- the rest at a place of a block's flat code
+unfoldable pub rest_at : Body ℕ → (place : ℕ) → List (Statement ℕ)
+rest_at b place = rest_in (rests b []) place
+
+-- an `if` stands here, and leads to the rests that its two outcomes leave
+abbrev pub Branches : (at : ℕ → List (Statement ℕ)) → Expression ℕ → (then other : ℕ) → (here : List (Statement ℕ)) → Type 0
+Branches at c then other (branch d inner else ∷ after) = (d ≡ c) × (at then ≡ listed inner ++ after) × (at other ≡ other_block else ++ after)
+Branches at c then other here = ⊥
+
+-- and a `while`
+abbrev pub Loops : (at : ℕ → List (Statement ℕ)) → Expression ℕ → (body after : ℕ) → (here : List (Statement ℕ)) → Type 0
+Loops at c body after (while d inner ∷ rest) = (d ≡ c) × (at after ≡ rest) × (at body ≡ listed inner ++ while d inner ∷ rest)
+Loops at c body after here = ⊥
+
+-- The local property of an instruction: it is that of the first statement of the rest here, and it leads to the rests
+-- that this statement leaves.
+abbrev pub Leads : (at : ℕ → List (Statement ℕ)) → Instruction → (here : List (Statement ℕ)) → Type 0
+Leads at (Act a after) here = here ≡ does (action_of a) ∷ at after
+Leads at (Branch c then other) here = Branches at (expression_of c) then other here
+Leads at (Loop c body after) here = Loops at (expression_of c) body after here
+
+-- Flat code of a block: each of its instructions has the local property, and there is one for each rest.
+pub record IsFlat (b : Body ℕ) (code : List Instruction) : Type 0 where
+  pub each : (k : ℕ) (i : Instruction) → slice_get code k ≡ Some i → Leads (rest_at b) i (rest_at b k)
+  pub outside : (k : ℕ) → length code ≤ k → rest_at b k ≡ []

@@ -1,0 +1,45 @@
+//! A block of a process: as a tree, and beside it as flat code.
+ghost use Rattle.std.specs.Prelude.{◌≡◌, ◌<◌, ◌^◌, IfOk};
+ghost use Rattle.program_tree.specs.Tree.{block_of, size};
+ghost use Rattle.program_tree.specs.Flat.{IsFlat};
+ghost use Rattle.program_tree.specs.Props.{IsFlat-prop};
+
+use crate::flattening::flatten;
+use crate::instruction::Instruction;
+use crate::tree::Block;
+use std::alloc::{AllocError, Global};
+
+/// A block with its flat code. The crates that read and print programs speak of the tree, and a thread follows the code.
+#[derive(Drop)]
+pub struct FlatBlock {
+    block: Block,
+    code: Vec<Instruction>,
+    ghost flat: { IsFlat (block_of block) code.items } by { IsFlat-prop (block_of block) code.items },
+}
+
+impl FlatBlock {
+    ghost use Rattle.program_tree.specs.FlatBlock.{tree_in};
+
+    /// A block and its code, which is made here. It fails only where an allocation does.
+    pub fn new(alloc: Global, block: Block) -> Result<FlatBlock, AllocError>
+        requires { size (block_of block) < 2 ^ 16 }
+        ensures { IfOk result (λ b. tree_in b ≡ block_of block) }
+    {
+        let code = flatten(alloc, &block)?;
+        Ok(FlatBlock { block, code })
+    }
+
+    /// The tree of the block.
+    pub fn block(&self) -> &Block
+        ensures { block_of result.now ≡ tree_in self.now }
+    {
+        &self.block
+    }
+
+    /// Its flat code, which is entered at place 0.
+    pub fn code(&self) -> &[Instruction]
+        ensures { IsFlat (tree_in self.now) result.now }
+    {
+        &self.code
+    }
+}

@@ -1,0 +1,151 @@
+//! Flat code made of a block's tree.
+ghost use Rattle.std.specs.Prelude.{◌≡◌, ◌+◌, ◌<◌, ◌^◌, length, IfOk, OnOk, option_map};
+ghost use Rattle.program_tree.specs.Tree.{block_of, statement_of, otherwise_of, size, statement_size, other_size};
+ghost use Rattle.program_tree.specs.Flat.{IsFlat};
+ghost use Rattle.program_tree.specs.Emits.{Emits, EmitsStatement, EmitsOther, entry_of, other_entry_of};
+
+use crate::instruction::{END, Instruction};
+use crate::tree::{Block, Stmt};
+use std::alloc::{AllocError, Global};
+
+/// How many statements stand in a block, those of inner blocks counted too.
+#[cycle(count)]
+fn count(block: &Block) -> u16
+    requires { size (block_of block.now) < 2 ^ 16 }
+    ensures { result ≡ size (block_of block.now) }
+{
+    let mut total = 0;
+    for i in 0..block.statements.len() {
+        total += count_statement(&block.statements[i]);
+    }
+    total
+}
+
+/// How many stand in the other block of an `if`.
+#[cycle(count)]
+fn count_other(other: &Option<Block>) -> u16
+    requires { other_size (otherwise_of (option_map block_of other.now)) < 2 ^ 16 }
+    ensures { result ≡ other_size (otherwise_of (option_map block_of other.now)) }
+{
+    match other {
+        None => 0,
+        Some(block) => count(block),
+    }
+}
+
+/// How many a statement is, with those of its blocks.
+#[cycle(count)]
+fn count_statement(statement: &Stmt) -> u16
+    requires { statement_size (statement_of statement.now) < 2 ^ 16 }
+    ensures { result ≡ statement_size (statement_of statement.now) }
+{
+    match statement {
+        Stmt::Do(_) => 1,
+        Stmt::If(_, then, other) => 1 + count(then) + count_other(other),
+        Stmt::While(_, body) => 1 + count(body),
+    }
+}
+
+/// Where a block is entered whose first statement, if it has one, has this place.
+fn entry(block: &Block, place: u16, after: u16) -> u16
+    ensures { result ≡ entry_of (block_of block.now) place after }
+{
+    if block.statements.is_empty() {
+        after
+    } else {
+        place
+    }
+}
+
+/// The same of the other block of an `if`.
+fn other_entry(other: &Option<Block>, place: u16, after: u16) -> u16
+    ensures { result ≡ other_entry_of (otherwise_of (option_map block_of other.now)) place after }
+{
+    match other {
+        None => after,
+        Some(block) => entry(block, place, after),
+    }
+}
+
+/// Adds the statements of a block, after which a thread goes on at `after`.
+#[cycle(flatten)]
+fn add_block(
+    block: &Block,
+    after: u16,
+    code: &mut Vec<Instruction>,
+    alloc: Global,
+) -> Result<(), AllocError>
+    requires { length code.old.items + size (block_of block.now) < 2 ^ 16 }
+    ensures { OnOk result (Emits (block_of block.now) after code.old.items code.new.items) }
+{
+    let statements = block.statements.len();
+    for i in 0..statements {
+        let statement = &block.statements[i];
+        let next = if i + 1 < statements {
+            code.len() as u16 + count_statement(statement)
+        } else {
+            after
+        };
+        add_statement(statement, next, code, alloc)?;
+    }
+    Ok(())
+}
+
+/// Adds the other block of an `if`.
+#[cycle(flatten)]
+fn add_other(
+    other: &Option<Block>,
+    after: u16,
+    code: &mut Vec<Instruction>,
+    alloc: Global,
+) -> Result<(), AllocError>
+    requires { length code.old.items + other_size (otherwise_of (option_map block_of other.now)) < 2 ^ 16 }
+    ensures { OnOk result (EmitsOther (otherwise_of (option_map block_of other.now)) after code.old.items code.new.items) }
+{
+    match other {
+        None => Ok(()),
+        Some(block) => add_block(block, after, code, alloc),
+    }
+}
+
+/// Adds a statement with its blocks.
+#[cycle(flatten)]
+fn add_statement(
+    statement: &Stmt,
+    after: u16,
+    code: &mut Vec<Instruction>,
+    alloc: Global,
+) -> Result<(), AllocError>
+    requires { length code.old.items + statement_size (statement_of statement.now) < 2 ^ 16 }
+    ensures { OnOk result (EmitsStatement (statement_of statement.now) after code.old.items code.new.items) }
+{
+    let place = code.len() as u16;
+    match statement {
+        Stmt::Do(action) => {
+            code.push(Instruction::Act(action.clone_in(alloc)?, after))?;
+            Ok(())
+        }
+        Stmt::If(test, then, other) => {
+            let holds = entry(then, place + 1, after);
+            let fails = other_entry(other, place + 1 + count(then), after);
+            code.push(Instruction::Branch(test.clone_in(alloc)?, holds, fails))?;
+            add_block(then, after, code, alloc)?;
+            add_other(other, after, code, alloc)
+        }
+        Stmt::While(test, body) => {
+            let holds = entry(body, place + 1, place);
+            code.push(Instruction::Loop(test.clone_in(alloc)?, holds, after))?;
+            add_block(body, place, code, alloc)
+        }
+    }
+}
+
+/// The flat code of a block. It is entered at place 0.
+pub fn flatten(alloc: Global, block: &Block) -> Result<Vec<Instruction>, AllocError>
+    requires { size (block_of block.now) < 2 ^ 16 }
+    ensures { IfOk result (λ code. IsFlat (block_of block.now) code.items) }
+{
+    let mut code = Vec::new(alloc);
+    add_block(block, END, &mut code, alloc)?;
+    Ok(code)
+}

@@ -1,0 +1,10 @@
+use Rattle.program_tree.specs.Program.{code_of}
+use Rattle.protothread.proofs.CallLaws.{stands_in_part, stands_in_last}
+use Rattle.protothread.proofs.thread.Thread.innermost.Goals as goal
+
+pub returns-in-None : goal.returns-in-None
+returns-in-None c = stands_in_part (code_of c.args.text.now) c.args.self.now c.code.result.now c.in-None.ensures c.code.ensures
+
+pub returns-in-Some : goal.returns-in-Some
+returns-in-Some c =
+    stands_in_last (code_of c.args.text.now) c.args.self.now c.thread_code.result.now c.in-Some.ensures.0 c.in-Some.call c.in-Some.ensures.1 c.thread_code.ensures.flat c.thread_code.ensures.earlier

@@ -1,0 +1,37 @@
+-- The threads that are spawned in one another.
+use Rattle.std.specs.Prelude.{◌≡◌, ℕ, ◌<◌, min, true, List, [], ◌∷◌, ◌++◌, Option, None, Some}
+use Rattle.program_tree.specs.Scope.{block_fits, earlier_threads}
+use Rattle.program_tree.specs.Tree.{Body}
+use Rattle.protothread.specs.declared.calls.Call.{Call}
+
+-- A process has at most 7 threads, and each spawns only threads before itself, those below this number.
+abbrev pub before_number : (thread : ℕ) → ℕ
+before_number t = min 7 t
+
+-- each is one that the one around it can spawn
+abbrev pub Fall : (n : ℕ) → List Call → Type 0
+Fall n [] = Unit {0}
+Fall n (c ∷ cs) = (c.thread < n) × Fall (before_number c.thread) cs
+
+-- a part spawns any thread
+abbrev pub AreNested : List Call → Type 0
+AreNested [] = Unit {0}
+AreNested (c ∷ cs) = Fall (before_number c.thread) cs
+
+-- the threads that the innermost one can spawn are those below this number
+abbrev pub below_last : (n : ℕ) → List Call → ℕ
+below_last n [] = n
+below_last n (c ∷ cs) = below_last (before_number c.thread) cs
+
+abbrev pub CanSpawn : List Call → (thread : ℕ) → Type 0
+CanSpawn [] t = Unit {0}
+CanSpawn (c ∷ cs) t = t < below_last (before_number c.thread) cs
+
+-- and its block spawns no others
+abbrev pub SpawnsSo : List Call → Body ℕ → Type 0
+SpawnsSo [] b = Unit {0}
+SpawnsSo (c ∷ cs) b = block_fits (earlier_threads (below_last (before_number c.thread) cs)) b ≡ true
+
+abbrev pub IsLast : List Call → Option Call → Type 0
+IsLast cs None = cs ≡ []
+IsLast cs (Some c) = (before : List Call) × (cs ≡ before ++ c ∷ [])

@@ -1,0 +1,72 @@
+-- What the places of a thread mean.
+use Rattle.std.specs.Prelude.{ℕ, zero, suc, if◌then◌else◌, List, [], ◌∷◌, Option, None, Some, slice_get}
+use Rattle.program_tree.specs.declared.event.Event.{Event}
+use Rattle.program_tree.specs.Tree.{Expression, Statement, Body, end}
+use Rattle.program_tree.specs.Code.{Code, callback_at}
+use Rattle.program_tree.specs.Flat.{rest_at}
+use Rattle.protothread.specs.declared.calls.Call.{Call}
+use Rattle.protothread.specs.declared.part.Part.{Part}
+use Rattle.protothread.specs.declared.part.Part.TheVariants as part
+use Rattle.protothread.specs.declared.state.PtState.{PtState}
+use Rattle.protothread.specs.declared.state.PtState.TheVariants.{Waiting, Yielded}
+use Rattle.protothread.specs.declared.thread.Thread.{Thread}
+use Rattle.protothread.specs.Looks.{Looks}
+use Rattle.protothread.specs.Value.{value, holds}
+use Rattle.protothread.specs.Remainder.{Place, within, before, Remainder}
+
+-- a block that a code lacks is empty
+abbrev pub body_or_end : Option (Body ℕ) → Body ℕ
+body_or_end None = end
+body_or_end (Some b) = b
+
+abbrev pub part_body : Code → Part → Body ℕ
+part_body code part.Body = code.body
+part_body code part.OnPoll = body_or_end code.on_poll
+part_body code part.OnExit = body_or_end code.on_exit
+part_body code (part.Callback timer) = body_or_end (callback_at code timer)
+
+abbrev pub thread_body : Code → (thread : ℕ) → Body ℕ
+thread_body code thread = body_or_end (slice_get code.thread_bodies thread)
+
+-- the block of the innermost thread, where that of the outermost is this
+abbrev pub innermost : Code → Body ℕ → List Call → Body ℕ
+innermost code b [] = b
+innermost code b (c ∷ cs) = innermost code (thread_body code c.thread) cs
+
+-- a thread that is spawned, and what is left after its spawn
+pub record Caller : Type 0 where
+  pub thread : ℕ
+  pub rest : List (Statement ℕ)
+
+-- the threads that are spawned, from the outermost on
+abbrev pub callers_in : Code → Body ℕ → List Call → List Caller
+callers_in code b [] = []
+callers_in code b (c ∷ cs) = record { thread = c.thread; rest = rest_at b c.next } ∷ callers_in code (thread_body code c.thread) cs
+
+-- where a thread stands by where the innermost of its spawned threads stands
+abbrev pub nested : List Caller → Place → Place
+nested [] p = p
+nested (c ∷ cs) p = within c.thread (nested cs p) c.rest
+
+-- what a thread answers that yields, where so many threads are spawned in one another
+abbrev pub yielding : (spawns : ℕ) → PtState
+yielding zero = Yielded
+yielding (suc n) = Waiting
+
+abbrev pub body_of_thread : Code → Thread → Body ℕ
+body_of_thread code t = innermost code (part_body code t.part) t.calls
+
+abbrev pub callers_of : Code → Thread → List Caller
+callers_of code t = callers_in code (part_body code t.part) t.calls
+
+-- where a thread stands: before the rest at its position in the block of the innermost thread
+abbrev pub thread_place : Code → Thread → Place
+thread_place code t = nested (callers_of code t) (before t.is_yielded (rest_at (body_of_thread code t) t.position))
+
+-- the remainder of a thread over a code
+abbrev pub remainder_of : Code → Thread → Remainder
+remainder_of code t = record { part = t.part; mark = t.mark; place = thread_place code t }
+
+-- the place where a test leads
+abbrev pub place_by : (variables : List ℕ) → Event → Looks → Expression ℕ → (held failed : ℕ) → ℕ
+place_by vars event looks c held failed = if holds (value vars event looks c) then held else failed

@@ -1,0 +1,78 @@
+//! The threads that a thread has spawned in one another.
+ghost use Rattle.std.specs.Prelude.{◌≡◌, ◌+◌, ◌<◌, [], ◌∷◌, ◌++◌, length, IfNone, OnSome, IsSome, ◌↔◌, option_to_list};
+ghost use Rattle.protothread.specs.Calls.{CanSpawn, IsLast};
+
+use arrayvec::ArrayVec;
+use std::marker::Model;
+
+/// How many threads can stand in one another: the one that a part spawns, and those that spawn one another in it, each of
+/// them one of the process's 7 and before the one around it.
+const DEPTH: usize = 8;
+
+/// A thread that was spawned, and the place where its spawner goes on after the spawn.
+#[derive(Clone, Copy, Default)]
+pub(crate) struct Call {
+    pub(crate) thread: u8,
+    pub(crate) next: u16,
+}
+
+/// The threads that a thread has spawned, from the outermost on.
+#[derive(Drop)]
+pub(crate) struct Calls {
+    calls: ArrayVec<Call, DEPTH>,
+}
+
+impl Model for Calls {
+    ghost use Rattle.std.specs.Prelude.{List};
+    ghost use Rattle.protothread.specs.declared.calls.Call.{Call};
+    ghost use Rattle.protothread.specs.Calls.{AreNested};
+
+    ghost Value = { List Call };
+
+    ghost view = { λ c. c.calls.items };
+
+    ghost invariant = { λ c. AreNested c.calls.items };
+}
+
+impl Calls {
+    /// No threads.
+    pub(crate) fn new() -> Calls
+        ensures { result ≡ [] }
+    {
+        Calls {
+            calls: ArrayVec::new(),
+        }
+    }
+
+    /// How many there are.
+    pub(crate) fn len(&self) -> usize
+        ensures { result ≡ length self.now }
+    {
+        self.calls.len()
+    }
+
+    /// The innermost one.
+    pub(crate) fn last(&self) -> Option<Call>
+        ensures { IsLast self.now result }
+    {
+        self.calls.as_slice().last().copied()
+    }
+
+    /// Adds one that the innermost one spawns.
+    pub(crate) fn push(&mut self, call: Call)
+        requires { CanSpawn self.old call.thread }
+        ensures { self.new ≡ self.old ++ call ∷ [] }
+    {
+        self.calls.push(call);
+    }
+
+    /// Takes the innermost one away, if there is one.
+    pub(crate) fn pop(&mut self) -> Option<Call>
+        ensures items { self.old ≡ self.new ++ option_to_list result }
+        ensures variant { IsSome result ↔ (0 < length self.old) }
+        ensures len { OnSome result (length self.new + 1 ≡ length self.old) }
+        ensures empty { IfNone result (self.new ≡ self.old) }
+    {
+        self.calls.pop()
+    }
+}
