@@ -1,5 +1,6 @@
 pub mod Bounds
 pub mod Crew
+pub mod Refusals
 pub mod Run
 pub mod Senders
 pub mod Story
