@@ -1,3 +1,4 @@
+pub mod All
 pub mod Bounds
 pub mod Crew
 pub mod Refusals

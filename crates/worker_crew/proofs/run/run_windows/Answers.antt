@@ -26,33 +26,30 @@ windows-smaller g c =
     let there = c.windows-test.true in
     omega arith
 
--- the window that was run is the next one
-next : (g : _) (c : goal.In_ok-crew g) → RunsNext (net_of c.args.net.now) c.args.of.now (length_of_window (system_of (net_of c.args.net.now)).lookahead c.args.longest) c.windows.crew c.in_ok-crew.crew
-next g c =
-    let n = net_of c.args.net.now in
-    let length = length_of_window (system_of n).lookahead c.args.longest in
-    let is : c.window_end-until.result ≡ end_of_window n.end length c.windows.from =
-    c.window_end-until.ensures.value
-    ∙ (ap (λ e. end_of_window e c.window_length-length.result c.windows.from) c.end-end.ensures.value
-    ∙ ap (λ l. end_of_window n.end l c.windows.from) (c.window_length-length.ensures.value ∙ ap (λ l. length_of_window l c.args.longest) c.lookahead_of.ensures.value)) in
-    record {
-      from = c.windows.from;
-      begins = c.windows.invariant.begins;
-      there = (let end = c.end-end.ensures.value in let before = c.windows-test.true in omega arith);
-      runs = subst (λ until. RunsAll n c.args.of.now until c.windows.crew c.in_ok-crew.crew) is c.in_ok-crew.ensures.runs;
-    }
-
 pub windows-preserved : goal.windows-preserved
 windows-preserved g c =
     let up = c.window_end-until.ensures.later in
     let short = short_enough c.windows.from c.window_length-length.result c.lookahead_of.result _ c.window_end-until.result c.window_end-until.ensures.short c.window_length-length.ensures.within c.lookahead_of.ensures.value in
     let moved = c.in_ok-crew.ensures.moves c.lookahead_of.ensures.forward c.windows.from c.windows.invariant.at up short in
+    let n = net_of c.args.net.now in
+    let length = length_of_window (system_of n).lookahead c.args.longest in
+    let is : c.window_end-until.result ≡ end_of_window n.end length c.windows.from =
+        c.window_end-until.ensures.value
+        ∙ (ap (λ e. end_of_window e c.window_length-length.result c.windows.from) c.end-end.ensures.value
+        ∙ ap (λ l. end_of_window n.end l c.windows.from) (c.window_length-length.ensures.value ∙ ap (λ l. length_of_window l c.args.longest) c.lookahead_of.ensures.value)) in
+    -- the window that was run is the next one
+    let next : RunsNext n c.args.of.now length c.windows.crew c.in_ok-crew.crew = record {
+      from = c.windows.from;
+      begins = c.windows.invariant.begins;
+      there = (let end = c.end-end.ensures.value in let before = c.windows-test.true in omega arith);
+      runs = subst (λ (until : ℕ). RunsAll n c.args.of.now until c.windows.crew c.in_ok-crew.crew) is c.in_ok-crew.ensures.runs;
+    } in
     record {
       at = stands_there (net_of c.args.net.now) c.args.of.now c.window_end-until.result c.end-end.result c.in_ok-crew.crew _ moved c.window_end-until.ensures.within c.window_start-from-in-windows.ensures.value c.lookahead_of.ensures.forward;
       plain = c.in_ok-crew.ensures.plain;
       early = c.window_start-from-in-windows.ensures.within;
       inboxes = c.in_ok-crew.ensures.inboxes ∙ c.windows.invariant.inboxes;
-      windows = (suc c.windows.invariant.windows.0, c.windows.crew, c.windows.invariant.windows.1, next g c);
+      windows = (suc c.windows.invariant.windows.0, (c.windows.crew, c.windows.invariant.windows.1, next));
       begins = subst (λ (e : ℕ). BeginsAt e c.in_ok-crew.crew c.window_start-from-in-windows.result) c.end-end.ensures.value c.window_start-from-in-windows.ensures.value;
     }
 
