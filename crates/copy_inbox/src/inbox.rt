@@ -25,7 +25,7 @@ const MOST: u64 = 1 << 62;
 /// Why a call gave up.
 #[derive(Clone, Copy, Debug, PartialEq, Eq)]
 pub enum InboxError {
-    /// Memory was refused.
+    /// Out of memory: an allocation failed.
     Memory = 1,
 }
 
@@ -263,13 +263,16 @@ impl Inbox {
     }
 
     /// Takes the copy or mark at the front, without memory, with the number of its sender. There is none only where
-    /// nothing is known and the queue was empty at some moment of the call.
+    /// nothing is known and the queue was empty at some moment of the call. What was taken of a gathered sender stays a
+    /// prefix of what it pushed.
     pub fn take_next<R: Wait>(&self, rt: &R, taker: &mut Taker) -> Option<Item>
         requires { taker.old.inbox ≡ self.now }
         ensures inbox { taker.new.inbox ≡ taker.old.inbox }
         ensures still { (taker.new.desk.made ≡ taker.old.desk.made) × (taker.new.desk.gathered ≡ taker.old.desk.gathered) }
         ensures taken { IfSome result (λ x. taker.new ≡ after_taking taker.old (x ∷ [])) }
         ensures next { IfSome result (λ x. IsNextTaken taker.old.desk x) }
+        ensures begun { TookFronts taker.new.desk.gathered taker.new.desk.taken }
+        ensures made { OfMade taker.new.desk.made taker.new.desk.taken }
         ensures same { IfNone result (taker.new ≡ taker.old) }
         ensures none { IfNone result (known_of taker.old.desk.gathered taker.old.desk.taken ≡ 0) }
     {

@@ -32,7 +32,7 @@ use Rattle.mark_crew.specs.Crew.{EndsMarked, EndAllMarked}
 use Rattle.copy_exchange.specs.Couriers.{pushed_list}
 use Rattle.mark_crew.specs.Senders.{AreSenders}
 use Rattle.mark_crew.specs.Story.{Story, RunsWindows}
-use Rattle.mark_crew.proofs.All.{AllRan}
+use Rattle.mark_crew.specs.All.{AllRan}
 use Rattle.mark_crew.proofs.Bounds.{at_the_end}
 use Rattle.mark_crew.proofs.Pairs.{not_other, pair, copies_from, copies_none}
 use Rattle.mark_crew.proofs.Seen.{nobodys, sent_so_far, of_worker, of_nobody}
@@ -106,6 +106,10 @@ module _ (n : NetTold) (of : List ℕ) (width windows : ℕ) (crew : Crew) (h : 
     are_senders = λ u low. (parts.1 u low).are_senders;
     begun = λ u low. (parts.1 u low).begun;
   }
+
+  -- what all workers did
+  pub all_ran : (a : AllRan n of width windows (length crew.inboxes.items)) × (a.sender ≡ h.sender)
+  all_ran = (all, refl)
 
   module _ (fine : RunsForward (system_of n)) (short : width ≤ (system_of n).lookahead) (are : AreWindows width n.end windows) where
     abbrev motes : Motes

@@ -1,4 +1,3 @@
-pub mod All
 pub mod Bounds
 pub mod Crossing
 pub mod Ends

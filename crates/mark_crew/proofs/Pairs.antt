@@ -17,12 +17,12 @@ use Rattle.mark_exchange.proofs.Early.{packets_append, packets_pushes}
 use Rattle.worker_share.specs.Window.{GoesOut}
 use Rattle.worker_crew.proofs.Lookups.{there, inside, read, mapped, same_found, each_at}
 use Rattle.copy_exchange.specs.Couriers.{pushed_list}
-use Rattle.mark_crew.proofs.All.{AllRan}
+use Rattle.mark_crew.specs.All.{AllRan}
 use Rattle.mark_crew.proofs.Fronts.{part_begins}
 use Rattle.mark_crew.proofs.Lists.{first_none, none_before}
 
 -- each sender has the number of its place
-numbered_at : (senders : List SenderView) → map (λ (s : SenderView). s.post.number) senders ≡ range_with_len 0 (length senders) → (j : ℕ) (s : SenderView) → slice_get senders j ≡ Some s → s.post.number ≡ j
+pub numbered_at : (senders : List SenderView) → map (λ (s : SenderView). s.post.number) senders ≡ range_with_len 0 (length senders) → (j : ℕ) (s : SenderView) → slice_get senders j ≡ Some s → s.post.number ≡ j
 numbered_at senders numbered j s e =
     sym (read (map (λ (x : SenderView). x.post.number) senders) j s.post.number 0 (mapped (λ (x : SenderView). x.post.number) senders j s e))
     ∙ (ap (λ l. get_or l j 0) numbered ∙ (get_or-range_with_len 0 (length senders) j 0 (inside senders j s e) ∙ omega arith))

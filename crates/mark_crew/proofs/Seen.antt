@@ -16,7 +16,7 @@ use Rattle.worker_crew.specs.Worker.{IsCut}
 use Rattle.worker_crew.proofs.Lookups.{each_at}
 use Rattle.worker_crew.proofs.Step.{own_by}
 use Rattle.mark_crew.specs.Bounds.{bound, AreWindows}
-use Rattle.mark_crew.proofs.All.{AllRan}
+use Rattle.mark_crew.specs.All.{AllRan}
 use Rattle.mark_crew.proofs.Bounds.{no_sooner}
 use Rattle.mark_crew.proofs.Lists.{none_before, only_before}
 use Rattle.mark_crew.proofs.Pairs.{sent_to, none_sent, not_other, pair, front, copies_from, copies_none}

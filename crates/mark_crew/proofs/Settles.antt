@@ -23,7 +23,7 @@ use Rattle.mark_exchange.proofs.Whole.{all_is_taken}
 use Rattle.worker_crew.specs.Worker.{IsCut}
 use Rattle.worker_crew.proofs.Lookups.{each_at, each_from}
 use Rattle.mark_crew.specs.Senders.{AreSenders, after_all}
-use Rattle.mark_crew.proofs.All.{AllRan}
+use Rattle.mark_crew.specs.All.{AllRan}
 use Rattle.mark_crew.proofs.Lists.{none_before}
 use Rattle.mark_crew.proofs.Pairs.{sent_to, none_sent, not_other, Pair, pair}
 use Rattle.mark_crew.proofs.Seen.{nobodys}

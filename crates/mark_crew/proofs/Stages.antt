@@ -21,7 +21,7 @@ use Rattle.worker_crew.proofs.Same.{own_copies_same}
 use Rattle.worker_crew.proofs.Starts.{none_crossed}
 use Rattle.worker_crew.proofs.Step.{own_of, led_next, told_next}
 use Rattle.mark_crew.specs.Bounds.{bound, AreWindows}
-use Rattle.mark_crew.proofs.All.{AllRan}
+use Rattle.mark_crew.specs.All.{AllRan}
 use Rattle.mark_crew.proofs.Bounds.{at_first, begins_before, no_wider}
 use Rattle.mark_crew.proofs.Lists.{none_before}
 use Rattle.mark_crew.proofs.Pairs.{sent_to}

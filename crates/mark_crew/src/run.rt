@@ -1,12 +1,16 @@
 //! The run of all workers, each in one thread from its first window to its last.
 
-ghost use Rattle.std.specs.Prelude.{◌≡◌, ◌<◌, ◌≤◌, suc, true, length, map, IfOk};
-ghost use Rattle.std.specs.List.{AllByRecursion as Each, AllZip, zip};
+ghost use Rattle.std.specs.Prelude.{◌≡◌, ◌<◌, ◌≤◌, suc, true, length, map, IfErr, IfOk};
+ghost use Rattle.std.specs.List.{AllByRecursion as Each, AllZip, range_with_len, zip};
+ghost use Rattle.fork_join.specs.declared.work.Refused.TheVariants.{Memory};
 ghost use Rattle.mote_net.specs.Net.{net_of};
 ghost use Rattle.net_agenda.specs.NetSystem.{system_of};
 ghost use Rattle.copy_inbox.specs.Gathered.{Whole};
+ghost use Rattle.copy_exchange.specs.Couriers.{IsSeated};
 ghost use Rattle.copy_exchange.specs.Inboxes.{IsFresh};
+ghost use Rattle.copy_exchange.specs.Steps.{GathersBack};
 ghost use Rattle.worker_crew.specs.Crew.{IsAt};
+ghost use Rattle.worker_crew.specs.Run.{length_of_window};
 ghost use Rattle.worker_crew.specs.Start.{AreFirst};
 ghost use Rattle.worker_crew.specs.Worker.{IsCut};
 ghost use Rattle.mark_crew.specs.Bounds.{windows_of};
@@ -15,7 +19,8 @@ ghost use Rattle.mark_crew.specs.Thread.{IsManned, HasRun};
 
 use crate::thread::MarkRunner;
 use crate::worker::{CrewRun, MarkWorker};
-use copy_exchange::{Courier, couriers, gather_back};
+use copy_exchange::{Courier, gather_back};
+use copy_inbox::{Inbox, Taker};
 use fork_join::{Refused, fork_join};
 use mark_exchange::MarkCourier;
 use mote_net::Net;
@@ -25,7 +30,7 @@ use std::sync::Wait;
 use std::sync::atomic::AtomicBool;
 use std::thread::Threads;
 use window_run::Gate;
-use worker_crew::{Crew, lookahead_of, window_length};
+use worker_crew::{Crew, lookahead_of, set_out, window_length};
 use worker_share::Share;
 
 /// What each worker carries: its courier, with a count of marks for each sender on its inbox.
@@ -35,7 +40,8 @@ fn carriers(
     senders: usize,
 ) -> Result<Vec<MarkCourier>, Refused>
     requires { Each (CanCarry senders) couriers.items }
-    ensures { IfOk result (λ carriers. AllZip CarriesFor couriers.items carriers.items) }
+    ensures carriers { IfOk result (λ carriers. AllZip CarriesFor couriers.items carriers.items) }
+    ensures refused { IfErr result (λ reason. reason ≡ Memory) }
 {
     let mut carriers = Vec::new(alloc);
     for courier in couriers {
@@ -53,7 +59,8 @@ fn manned(
     shares: Vec<Share>,
     carriers: Vec<MarkCourier>,
 ) -> Result<Vec<MarkWorker>, Refused>
-    ensures { IfOk result (λ workers. workers.items ≡ map manned_by (zip shares.items carriers.items)) }
+    ensures workers { IfOk result (λ workers. workers.items ≡ map manned_by (zip shares.items carriers.items)) }
+    ensures refused { IfErr result (λ reason. reason ≡ Memory) }
 {
     let mut workers = Vec::new(alloc);
     for (share, carries) in shares.into_iter().zip(carriers) {
@@ -66,6 +73,7 @@ fn manned(
 fn parted(alloc: Global, workers: Vec<MarkWorker>) -> Result<(Vec<Share>, Vec<Courier>), Refused>
     ensures shares { IfOk result (λ r. r.0.items ≡ map (λ worker. worker.share) workers.items) }
     ensures couriers { IfOk result (λ r. r.1.items ≡ map courier_of workers.items) }
+    ensures refused { IfErr result (λ reason. reason ≡ Memory) }
 {
     let mut shares = Vec::new(alloc);
     let mut couriers = Vec::new(alloc);
@@ -76,6 +84,24 @@ fn parted(alloc: Global, workers: Vec<MarkWorker>) -> Result<(Vec<Share>, Vec<Co
         couriers.push(courier)?;
     }
     Ok((shares, couriers))
+}
+
+/// At the end: each worker's taker, which has gathered the senders on its inbox. Out of memory is the one error.
+fn come_home<R: Wait>(
+    rt: &R,
+    alloc: Global,
+    inboxes: &[Inbox],
+    couriers: Vec<Courier>,
+) -> Result<Vec<Taker>, Refused>
+    requires workers { map (λ courier. courier.worker) couriers.items ≡ range_with_len 0 (length inboxes.now) }
+    requires seated { Each (IsSeated inboxes.now) couriers.items }
+    ensures back { IfOk result (λ takers. GathersBack couriers.items takers.items) }
+    ensures refused { IfErr result (λ reason. reason ≡ Memory) }
+{
+    match gather_back(rt, alloc, inboxes, couriers) {
+        Ok(takers) => Ok(takers),
+        Err(_) => Err(Refused::Memory),
+    }
 }
 
 /// Has each worker run all its windows in a thread of its own.
@@ -97,7 +123,7 @@ where
     fork_join(rt, alloc, workers, &MarkRunner { rt, gate, run })
 }
 
-/// The workers set out, each runs all its windows in its thread, and their senders are gathered.
+/// Senders are created, each worker runs all its windows in its thread, and the senders are collected.
 fn run_threads<R, G>(
     rt: &R,
     alloc: Global,
@@ -125,9 +151,7 @@ where
         takers,
         first_out: _,
     } = crew;
-    let Ok(couriers) = couriers(alloc, &inboxes, takers) else {
-        return Err(Refused::Memory);
-    };
+    let couriers = set_out(alloc, &inboxes, takers)?;
     let others = inboxes.len().saturating_sub(1);
     let carriers = carriers(alloc, couriers, others)?;
     let workers = manned(alloc, shares, carriers)?;
@@ -141,9 +165,7 @@ where
     };
     let done = run_together(rt, alloc, workers, run, gate)?;
     let (shares, couriers) = parted(alloc, done)?;
-    let Ok(takers) = gather_back(rt, alloc, &inboxes, couriers) else {
-        return Err(Refused::Memory);
-    };
+    let takers = come_home(rt, alloc, &inboxes, couriers)?;
     Ok(Crew {
         shares,
         inboxes,
@@ -158,7 +180,7 @@ where
 ///
 /// # Errors
 /// `Memory`, or `Thread` where a thread couldn't be started, the gate refused a start, or the executor answered an
-/// error: that of the lowest worker that has one; else `Stopped`, where a worker stopped for another.
+/// error: that of the lowest worker that has one; else `Stopped`, where a worker stopped because another one failed.
 pub fn run_marked<R, G>(
     rt: &R,
     alloc: Global,
@@ -178,6 +200,8 @@ where
     requires first { AreFirst (net_of net.now) of.now (length crew.inboxes.items) crew.shares.items }
     ensures at { let n = net_of net.now in IfOk result (λ done. IsAt n of.now (suc n.end) done) }
     ensures inboxes { IfOk result (λ done. done.inboxes.items ≡ crew.inboxes.items) }
+    // Each worker ran all windows of this length.
+    ensures windows { let n = net_of net.now in IfOk result (RunsAllMarked n of.now (length_of_window (system_of n).lookahead longest) crew) }
     ensures all_taken { IfOk result (λ done. Each (λ taker. Whole taker.desk.gathered taker.desk.taken) done.takers.items) }
 {
     let width = window_length(lookahead_of(net), longest);

@@ -1,6 +1,7 @@
 //! A worker in its thread: all windows of the run, one after another.
 
-ghost use Rattle.std.specs.Prelude.{◌≡◌, ℕ, ◌^◌, ◌<◌, ◌≤◌, suc, [], length, IfOk, OnOk};
+ghost use Rattle.std.specs.Prelude.{◌≡◌, ◌≢◌, ℕ, ◌^◌, ◌<◌, ◌≤◌, suc, [], length, IfErr, IfOk, OnOk};
+ghost use Rattle.fork_join.specs.declared.work.Refused.TheVariants.{Stopped, Thread};
 ghost use Rattle.mote_net.specs.Net.{net_of};
 ghost use Rattle.net_agenda.specs.NetSystem.{system_of};
 ghost use Rattle.copy_exchange.specs.Couriers.{HasMarks, IsSeated};
@@ -8,6 +9,7 @@ ghost use Rattle.mark_exchange.specs.Marks.{Counts};
 ghost use Rattle.worker_share.specs.Window.{CanRun};
 ghost use Rattle.worker_crew.specs.Worker.{IsCut};
 ghost use Rattle.mark_crew.specs.Bounds.{bound, windows_of};
+ghost use Rattle.mark_crew.specs.Refusals.{refused_of};
 ghost use Rattle.mark_crew.specs.declared.worker.MarkWorker.{MarkWorker as MarkWorkerOfCode};
 ghost use Rattle.mark_crew.specs.Thread.{IsManned, SendsWindow, TakesWindow, HasRun};
 
@@ -18,8 +20,8 @@ use std::alloc::AllocGlobal;
 use std::random::RandomSource;
 use std::sync::Wait;
 use std::sync::atomic::Ordering;
-use window_run::{Gate, ShareError};
-use worker_crew::window_end;
+use window_run::Gate;
+use worker_crew::{refused, window_end};
 
 /// What each worker's thread needs besides: the runtime, the gate into its turns, and the run.
 pub struct MarkRunner<'a, R, G> {
@@ -54,6 +56,7 @@ fn send_window<R: Wait + RandomSource + AllocGlobal, G: Gate>(
     requires marked { HasMarks worker.old.carries.courier }
     ensures sends { OnOk result (SendsWindow (net_of run.now.net.now) run.now.of.now (length run.now.inboxes.now) window until worker.old worker.new) }
     ensures seated { OnOk result (IsSeated run.now.inboxes.now worker.new.carries.courier) }
+    ensures refused { IfErr result (λ reason. reason ≢ Stopped) }
 {
     let none = Vec::new(rt.alloc());
     let ran = worker
@@ -61,8 +64,7 @@ fn send_window<R: Wait + RandomSource + AllocGlobal, G: Gate>(
         .run_window(rt, run.net, run.of, none, until, gate);
     let sent = match ran {
         Ok(sent) => sent,
-        Err(ShareError::Memory) => return Err(Refused::Memory),
-        Err(ShareError::Thread) => return Err(Refused::Thread),
+        Err(error) => return Err(refused(error)),
     };
     let Ok(()) = worker
         .carries
@@ -71,6 +73,17 @@ fn send_window<R: Wait + RandomSource + AllocGlobal, G: Gate>(
         return Err(Refused::Memory);
     };
     Ok(())
+}
+
+/// Why a worker gave up that took no further. A copy that isn't due comes only where another worker has broken the
+/// protocol, which none does.
+fn gave_up(error: MarkError) -> Refused
+    ensures { result ≡ refused_of error }
+{
+    match error {
+        MarkError::Memory => Refused::Memory,
+        MarkError::Stopped | MarkError::Undue => Refused::Stopped,
+    }
 }
 
 /// The worker takes items until each other worker's mark of the window has come, and takes in the copies among them.
@@ -83,7 +96,8 @@ fn take_window<R: Wait + AllocGlobal>(
 ) -> Result<(), Refused>
     requires seated { IsSeated run.now.inboxes.now worker.old.carries.courier }
     requires counts { Counts worker.old.carries.marks.items worker.old.carries.courier.taker.desk }
-    ensures { OnOk result (TakesWindow run.now.of.now window until worker.old worker.new) }
+    ensures takes { OnOk result (TakesWindow run.now.of.now window until worker.old worker.new) }
+    ensures refused { IfErr result (λ reason. reason ≢ Thread) }
 {
     let number = worker.carries.courier.worker;
     let inbox = &run.inboxes[usize::from(number)];
@@ -97,8 +111,7 @@ fn take_window<R: Wait + AllocGlobal>(
         .take_window(rt, rt.alloc(), inbox, run.stop, &standing, window);
     let arrived = match took {
         Ok(arrived) => arrived,
-        Err(MarkError::Memory) => return Err(Refused::Memory),
-        Err(MarkError::Stopped) => return Err(Refused::Stopped),
+        Err(error) => return Err(gave_up(error)),
     };
     worker.share.take_in(&arrived)?;
     Ok(())
@@ -129,8 +142,7 @@ fn run_one<R: Wait + RandomSource + AllocGlobal, G: Gate>(
 /// All windows of a worker, to the end of the net.
 ///
 /// # Errors
-/// `Memory`, `Thread` where the executor answered an error, or `Stopped` where another worker failed, or a copy came
-/// that wasn't due.
+/// `Memory`; `Thread` where the executor answered an error; `Stopped` where it stopped because another worker failed.
 fn run_through<R: Wait + RandomSource + AllocGlobal, G: Gate>(
     rt: &R,
     gate: &G,

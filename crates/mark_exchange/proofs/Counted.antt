@@ -13,7 +13,7 @@ use Rattle.copy_inbox.specs.Handles.{TakerView, after_taking, IsNextTaken, desk_
 use Rattle.copy_inbox.proofs.Parts.{part-append, part-here, part-else}
 use Rattle.copy_exchange.proofs.Lists.{each_join}
 use Rattle.copy_exchange.proofs.Parts.{copies-append}
-use Rattle.mark_exchange.specs.Due.{IsDue, AddsCopy, TakesDue}
+use Rattle.mark_exchange.specs.Due.{IsDue, IsUndue, AddsCopy, TakesDue, TakesUndue}
 use Rattle.mark_exchange.specs.Marks.{marks_of, Counts, AreNone}
 use Rattle.mark_exchange.specs.Pushes.{marks_in}
 use Rattle.mark_exchange.proofs.Whole.{marks_append}
@@ -111,3 +111,14 @@ none_more [] h zero none lt = refl
 none_more [] h (suc s) none lt = absurd (omega arith)
 none_more (x ∷ xs) h zero none lt = h 0 none (omega arith)
 none_more (x ∷ xs) h (suc s) none lt = none_more xs (λ t d less. h (suc t) d (omega arith)) s none (omega arith)
+
+-- ---- the last item carries a copy that isn't due
+pub takes_undue : (of : List ℕ) (worker from : ℕ) (old mid new : TakerView) (x : Item) (copies : List RadioCopy) → TakesDue of worker from old mid copies → new ≡ after_taking mid (x ∷ []) → IsUndue of worker from x
+    → TakesUndue of worker from old new
+takes_undue of worker from old mid new x copies h e undue = record {
+  items = h.items;
+  last = x;
+  taker = e ∙ (ap (λ t. after_taking t (x ∷ [])) h.taker
+      ∙ (λ i. record { inbox = old.inbox; desk = record { marked = old.desk.marked; made = old.desk.made; taken = append_assoc old.desk.taken h.items (x ∷ []) i; gathered = old.desk.gathered } }));
+  undue = undue;
+}

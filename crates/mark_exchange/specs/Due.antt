@@ -3,15 +3,28 @@ use Rattle.std.specs.Prelude.{◌≡◌, ℕ, ◌<◌, ◌≤◌, true, false, L
 use Rattle.std.specs.List.{AllByRecursion as Each}
 use Rattle.radio_packet.specs.declared.copy.RadioCopy.{RadioCopy}
 use Rattle.worker_cut.specs.Crossed.{is_own}
+use Rattle.copy_inbox.specs.declared.items.Carried.TheVariants.{Packet}
 use Rattle.copy_inbox.specs.declared.items.Item.{Item}
 use Rattle.copy_inbox.specs.Items.{copies_of}
 use Rattle.copy_inbox.specs.Handles.{TakerView, after_taking}
+use Rattle.mark_exchange.specs.declared.take.MarkError.{MarkError}
+use Rattle.mark_exchange.specs.declared.take.MarkError.TheVariants.{Memory, Stopped, Undue}
 
 -- the copy is for a mote of this worker, from a mote of another, and comes at this moment or later
 pub record IsDue (of : List ℕ) (worker from : ℕ) (copy : RadioCopy) : Type 0 where
   pub to : is_own of worker copy.to ≡ true
   pub sender : is_own of worker copy.sender ≡ false
   pub later : from ≤ copy.at
+
+-- the item carries a copy that isn't due
+abbrev pub IsUndue : (of : List ℕ) → (worker from : ℕ) → Item → Type 0
+IsUndue of worker from x = (copy : RadioCopy) × (x.what ≡ Packet copy) × (IsDue of worker from copy → ⊥)
+
+-- why an item wasn't taken in: memory was refused for a copy that is due, or the copy isn't due
+abbrev pub Refuses : (of : List ℕ) → (worker from : ℕ) → Item → MarkError → Type 0
+Refuses of worker from x Memory = Each (IsDue of worker from) (copies_of (x ∷ []))
+Refuses of worker from x Stopped = ⊥
+Refuses of worker from x Undue = IsUndue of worker from x
 
 -- the copy that the item carries, if any, is behind the others, and is due
 pub record AddsCopy (of : List ℕ) (worker from : ℕ) (x : Item) (old new : List RadioCopy) : Type 0 where
@@ -25,3 +38,10 @@ pub record TakesDue (of : List ℕ) (worker from : ℕ) (old new : TakerView) (c
   pub taker : new ≡ after_taking old items
   pub arrived : copies ≡ copies_of items
   pub due : Each (IsDue of worker from) copies
+
+-- the last of the items that were taken carries a copy that isn't due
+pub record TakesUndue (of : List ℕ) (worker from : ℕ) (old new : TakerView) : Type 0 where
+  pub items : List Item
+  pub last : Item
+  pub taker : new ≡ after_taking old (items ++ last ∷ [])
+  pub undue : IsUndue of worker from last

@@ -1,10 +1,11 @@
 //! What a worker with marks carries for the whole run.
 
-ghost use Rattle.std.specs.Prelude.{◌≡◌, [], length, IfOk, OnOk};
+ghost use Rattle.std.specs.Prelude.{◌≡◌, [], length, IfErr, IfOk, OnOk};
 ghost use Rattle.std.specs.List.{AllByRecursion as Each};
 ghost use Rattle.copy_exchange.specs.Couriers.{HasMarks, IsSeated, Reaches};
 ghost use Rattle.mark_exchange.specs.Delivers.{PushesWindow};
-ghost use Rattle.mark_exchange.specs.Due.{TakesDue};
+ghost use Rattle.mark_exchange.specs.declared.take.MarkError.TheVariants.{Undue};
+ghost use Rattle.mark_exchange.specs.Due.{TakesDue, TakesUndue};
 ghost use Rattle.mark_exchange.specs.Marks.{Counts, AllPast};
 
 use crate::heard::no_marks;
@@ -62,8 +63,8 @@ impl MarkCourier {
     /// before, and gives the copies. `stop` is the flag that a worker sets which fails.
     ///
     /// # Errors
-    /// `Memory`; or `Stopped`, where the flag was set while a mark was missing, or where a copy came that isn't for a
-    /// mote of this worker from a mote of another, or that comes before this worker's next window.
+    /// `Memory`; `Stopped` where the flag was seen set while a mark was missing; `Undue` where a copy came that isn't for
+    /// a mote of this worker from a mote of another, or that arrives before this worker's next window.
     pub fn take_window<R: Wait>(
         &mut self,
         rt: &R,
@@ -80,6 +81,7 @@ impl MarkCourier {
         ensures marked { OnOk result (AllPast window self.new.marks.items) }
         ensures worker { self.new.courier.worker ≡ self.old.courier.worker }
         ensures senders { self.new.courier.senders ≡ self.old.courier.senders }
+        ensures undue { IfErr result (λ error. error ≡ Undue → TakesUndue standing.now.of.now standing.now.worker standing.now.from self.old.courier.taker self.new.courier.taker) }
     {
         let MarkCourier { courier, marks } = self;
         take_marks(

@@ -1,6 +1,6 @@
 //! How many marks came of each sender.
 
-ghost use Rattle.std.specs.Prelude.{◌≡◌, ℕ, ◌+◌, ◌<◌, ◌≤◌, ◌^◌, true, length, slice_index_or, slice_set, IfOk};
+ghost use Rattle.std.specs.Prelude.{◌≡◌, ℕ, ◌+◌, ◌<◌, ◌≤◌, ◌^◌, ◌↔◌, length, slice_index_or, slice_set, IfOk, IsTrue};
 ghost use Rattle.mark_exchange.specs.Marks.{AllPast, AreNone};
 
 use std::alloc::{AllocError, Global};
@@ -19,7 +19,7 @@ pub fn no_marks(alloc: Global, senders: usize) -> Result<Vec<u64>, AllocError>
 
 /// Whether of each sender more marks came than this.
 pub fn all_past(marks: &[u64], window: u64) -> bool
-    ensures { result ≡ true → AllPast window marks.now }
+    ensures { IsTrue result ↔ AllPast window marks.now }
 {
     for sender in 0..marks.len() {
         if marks[sender] <= window {

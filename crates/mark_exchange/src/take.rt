@@ -1,10 +1,11 @@
 //! Taking until the marks of a window have come.
 
-ghost use Rattle.std.specs.Prelude.{◌≡◌, true, IfOk, OnOk};
+ghost use Rattle.std.specs.Prelude.{◌≡◌, ◌↔◌, IfOk, IfErr, OnOk, OnErr, IsTrue};
 ghost use Rattle.copy_inbox.specs.declared.rule.Desk.{Desk};
 ghost use Rattle.copy_inbox.specs.Handles.{IsNextTaken, desk_with};
 ghost use Rattle.worker_cut.specs.Crossed.{is_own};
-ghost use Rattle.mark_exchange.specs.Due.{IsDue, AddsCopy, TakesDue};
+ghost use Rattle.mark_exchange.specs.declared.take.MarkError.TheVariants.{Stopped, Undue};
+ghost use Rattle.mark_exchange.specs.Due.{IsDue, AddsCopy, Refuses, TakesDue, TakesUndue};
 ghost use Rattle.mark_exchange.specs.Marks.{Counts, AllPast};
 
 use crate::heard::all_past;
@@ -15,25 +16,35 @@ use std::sync::Wait;
 use std::sync::atomic::{AtomicBool, Ordering};
 use std::thread;
 
-// How often a worker that finds nothing looks again before it gives way.
+// How often a worker that finds nothing looks again before it yields the processor.
 const LOOKS: u32 = 100;
 
 /// Why a worker took no further.
 #[derive(Clone, Copy, Debug, PartialEq, Eq)]
 pub enum MarkError {
-    /// Memory was refused.
+    /// Out of memory: an allocation failed.
     Memory = 1,
-    /// Another worker has stopped, or a copy came that isn't due.
+    /// The flag was set: another worker failed, or wasn't started.
     Stopped = 2,
+    /// A copy came that isn't due. In a run in which all workers keep to the protocol none comes.
+    Undue = 3,
 }
 
 impl From<AllocError> for MarkError {
+    ghost use Rattle.mark_exchange.specs.declared.take.MarkError.{MarkError};
+
+    ghost from_gives = { λ _ e. e ≡ MarkError.Memory };
+
     fn from(_error: AllocError) -> Self {
         MarkError::Memory
     }
 }
 
 impl<T: Drop> From<AllocFailed<T>> for MarkError {
+    ghost use Rattle.mark_exchange.specs.declared.take.MarkError.{MarkError};
+
+    ghost from_gives = { λ _ e. e ≡ MarkError.Memory };
+
     fn from(_error: AllocFailed<T>) -> Self {
         MarkError::Memory
     }
@@ -61,7 +72,7 @@ fn is_own(of: &[u16], worker: u16, mote: u16) -> bool
 
 /// Whether the copy is for a mote of the worker, from a mote of another, and comes no sooner than it stands.
 fn is_due(standing: &Standing<'_>, copy: RadioCopy) -> bool
-    ensures { result ≡ true → IsDue standing.now.of.now standing.now.worker standing.now.from copy }
+    ensures { IsTrue result ↔ IsDue standing.now.of.now standing.now.worker standing.now.from copy }
 {
     if !is_own(standing.of, standing.worker, copy.to) {
         return false;
@@ -82,11 +93,12 @@ fn hear(
     requires { (d : Desk) × Counts marks.old.items d × IsNextTaken d item }
     ensures counts { OnOk result ((d : Desk) → Counts marks.old.items d → IsNextTaken d item → Counts marks.new.items (desk_with d item)) }
     ensures arrived { OnOk result (AddsCopy standing.now.of.now standing.now.worker standing.now.from item arrived.old.items arrived.new.items) }
+    ensures refused { IfErr result (Refuses standing.now.of.now standing.now.worker standing.now.from item) }
 {
     match item.what {
         Carried::Packet(copy) => {
             if !is_due(standing, copy) {
-                return Err(MarkError::Stopped);
+                return Err(MarkError::Undue);
             }
             arrived.push(copy)?;
         }
@@ -95,23 +107,73 @@ fn hear(
     Ok(())
 }
 
-// A worker that found nothing so often looks whether the others go on, and gives way after a while.
-fn wait(stop: &AtomicBool, looks: u32) -> Result<u32, MarkError> {
-    if stop.load(Ordering::SeqCst) {
+/// A worker's wait for its next item.
+#[derive(Drop)]
+struct Waiting {
+    /// Whether it saw the flag set.
+    stopped: bool,
+    /// How often it has found nothing.
+    looks: u32,
+}
+
+/// After a look that found nothing: gives up where the flag is set, and else lets some time pass.
+fn wait(stop: &AtomicBool, waiting: &mut Waiting) -> Result<(), MarkError>
+    ensures seen { OnErr result (IsTrue waiting.new.stopped) }
+    ensures stopped { IfErr result (λ error. error ≡ Stopped) }
+{
+    waiting.stopped = stop.load(Ordering::SeqCst);
+    if waiting.stopped {
         return Err(MarkError::Stopped);
     }
-    if looks < LOOKS {
+    if waiting.looks < LOOKS {
+        waiting.looks += 1;
         std::hint::spin_loop();
-        return Ok(looks + 1);
+    } else {
+        thread::yield_now();
     }
-    thread::yield_now();
-    Ok(looks)
+    Ok(())
+}
+
+/// As [`take_marks`]; it notes whether it saw the flag set.
+fn take_waiting<R: Wait>(
+    rt: &R,
+    alloc: Global,
+    inbox: &Inbox,
+    stop: &AtomicBool,
+    standing: &Standing<'_>,
+    taker: &mut Taker,
+    marks: &mut Vec<u64>,
+    window: u64,
+    waiting: &mut Waiting,
+) -> Result<Vec<RadioCopy>, MarkError>
+    requires inbox { taker.old.inbox ≡ inbox.now }
+    requires counts { Counts marks.old.items taker.old.desk }
+    ensures took { IfOk result (λ copies. TakesDue standing.now.of.now standing.now.worker standing.now.from taker.old taker.new copies.items) }
+    ensures counts { OnOk result (Counts marks.new.items taker.new.desk) }
+    ensures marked { OnOk result (AllPast window marks.new.items) }
+    ensures stopped { IfErr result (λ error. error ≡ Stopped → IsTrue waiting.new.stopped) }
+    ensures undue { IfErr result (λ error. error ≡ Undue → TakesUndue standing.now.of.now standing.now.worker standing.now.from taker.old taker.new) }
+{
+    let mut arrived = Vec::new(alloc);
+    for _ in rt.forever() {
+        if all_past(marks, window) {
+            return Ok(arrived);
+        }
+        match inbox.take_next(rt, taker) {
+            Some(item) => {
+                hear(standing, marks, &mut arrived, item)?;
+                waiting.looks = 0;
+            }
+            None => wait(stop, waiting)?,
+        }
+    }
+    unreachable!()
 }
 
 /// Takes items until of each sender more marks have come than `window`, and gives their copies.
 ///
 /// # Errors
-/// `Stopped` where the flag was set while a mark was missing, or a copy came that isn't due.
+/// `Memory`; `Stopped` where the flag was seen set while a mark was missing; `Undue` where a copy came that isn't due.
 pub fn take_marks<R: Wait>(
     rt: &R,
     alloc: Global,
@@ -127,20 +189,21 @@ pub fn take_marks<R: Wait>(
     ensures took { IfOk result (λ copies. TakesDue standing.now.of.now standing.now.worker standing.now.from taker.old taker.new copies.items) }
     ensures counts { OnOk result (Counts marks.new.items taker.new.desk) }
     ensures marked { OnOk result (AllPast window marks.new.items) }
+    ensures undue { IfErr result (λ error. error ≡ Undue → TakesUndue standing.now.of.now standing.now.worker standing.now.from taker.old taker.new) }
 {
-    let mut arrived = Vec::new(alloc);
-    let mut looks: u32 = 0;
-    for _ in rt.forever() {
-        if all_past(marks, window) {
-            return Ok(arrived);
-        }
-        match inbox.take_next(rt, taker) {
-            Some(item) => {
-                hear(standing, marks, &mut arrived, item)?;
-                looks = 0;
-            }
-            None => looks = wait(stop, looks)?,
-        }
-    }
-    unreachable!()
+    let mut waiting = Waiting {
+        stopped: false,
+        looks: 0,
+    };
+    take_waiting(
+        rt,
+        alloc,
+        inbox,
+        stop,
+        standing,
+        taker,
+        marks,
+        window,
+        &mut waiting,
+    )
 }

@@ -10,4 +10,5 @@ mod worker;
 
 pub use crew::{Crew, first_of_all};
 pub use run::{lookahead_of, run_windows, window_end, window_length};
-pub use worker::{CrewWindow, Runner, Worker};
+pub use window::set_out;
+pub use worker::{CrewWindow, Runner, Worker, refused};

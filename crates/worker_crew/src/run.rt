@@ -8,7 +8,7 @@ ghost use Rattle.window_law.specs.System.{RunsForward};
 ghost use Rattle.std.specs.List.{AllByRecursion as Each};
 ghost use Rattle.copy_exchange.specs.Inboxes.{IsPlain};
 ghost use Rattle.worker_crew.specs.Crew.{IsAt};
-ghost use Rattle.worker_crew.specs.Run.{BeginsAt, end_of_window, length_of_window};
+ghost use Rattle.worker_crew.specs.Run.{BeginsAt, RunsToEnd, end_of_window, length_of_window};
 
 use crate::crew::Crew;
 use fork_join::Refused;
@@ -92,6 +92,7 @@ where
     requires plain { Each IsPlain crew.takers.items }
     ensures at { let n = net_of net.now in IfOk result (λ done. IsAt n of.now (suc n.end) done) }
     ensures inboxes { IfOk result (λ done. done.inboxes.items ≡ crew.inboxes.items) }
+    ensures windows { let n = net_of net.now in IfOk result (RunsToEnd n of.now (length_of_window (system_of n).lookahead longest) crew) }
 {
     let end = net.end();
     let length = window_length(lookahead_of(net), longest);

@@ -1,11 +1,13 @@
 //! One window of all workers, each in a thread of its own.
 
-ghost use Rattle.std.specs.Prelude.{◌≡◌, ℕ, ◌+◌, ◌^◌, ◌<◌, ◌≤◌, length, map, IfOk};
+ghost use Rattle.std.specs.Prelude.{◌≡◌, ◌≢◌, ℕ, ◌+◌, ◌^◌, ◌<◌, ◌≤◌, true, length, map, IfErr, IfOk};
 ghost use Rattle.std.specs.List.{AllByRecursion as Each, AllZip, zip};
+ghost use Rattle.fork_join.specs.declared.work.Refused.TheVariants.{Memory};
 ghost use Rattle.mote_net.specs.Net.{net_of};
 ghost use Rattle.net_agenda.specs.NetSystem.{system_of};
 ghost use Rattle.window_law.specs.System.{RunsForward};
-ghost use Rattle.copy_exchange.specs.Inboxes.{IsPlain};
+ghost use Rattle.copy_exchange.specs.Couriers.{AllReturn, ComesHome, HasMarks, HasPushedNothing, SetsOut, Together};
+ghost use Rattle.copy_exchange.specs.Inboxes.{IsPlain, Settled};
 ghost use Rattle.worker_crew.specs.Crew.{IsAt};
 ghost use Rattle.worker_crew.specs.Laws.{RunsAll, manned_by};
 ghost use Rattle.worker_crew.specs.Worker.{IsReady, RunsWorker};
@@ -13,6 +15,7 @@ ghost use Rattle.worker_crew.specs.Worker.{IsReady, RunsWorker};
 use crate::crew::{Crew, first_of_all};
 use crate::worker::{CrewWindow, Runner, Worker};
 use copy_exchange::{Courier, couriers, gathered};
+use copy_inbox::{Inbox, Taker};
 use fork_join::{Refused, fork_join};
 use mote_net::Net;
 use std::alloc::{AllocGlobal, Global};
@@ -22,9 +25,49 @@ use std::thread::Threads;
 use window_run::Gate;
 use worker_share::Share;
 
+/// Before a window: a courier for each worker. Out of memory is the one error.
+pub fn set_out(
+    alloc: Global,
+    inboxes: &[Inbox],
+    takers: Vec<Taker>,
+) -> Result<Vec<Courier>, Refused>
+    requires few { length inboxes.now ≤ 2 ^ 16 }
+    requires settled { Settled inboxes.now takers.items }
+    ensures together { IfOk result (λ couriers. Together inboxes.now couriers.items) }
+    ensures set_out { IfOk result (λ couriers. AllZip SetsOut takers.items couriers.items) }
+    ensures nothing { IfOk result (λ couriers. Each HasPushedNothing couriers.items) }
+    ensures marked { IfOk result (λ couriers. Each (λ taker. taker.desk.marked ≡ true) takers.items → Each HasMarks couriers.items) }
+    ensures refused { IfErr result (λ reason. reason ≡ Memory) }
+{
+    match couriers(alloc, inboxes, takers) {
+        Ok(couriers) => Ok(couriers),
+        Err(_) => Err(Refused::Memory),
+    }
+}
+
+/// After a window: each worker's taker, which has gathered what was delivered to it. Out of memory is the one error.
+fn come_home<R: Wait>(
+    rt: &R,
+    alloc: Global,
+    inboxes: &[Inbox],
+    couriers: Vec<Courier>,
+) -> Result<Vec<Taker>, Refused>
+    requires { AllReturn inboxes.now couriers.items }
+    ensures settled { IfOk result (λ takers. Settled inboxes.now takers.items) }
+    ensures plain { IfOk result (λ takers. Each IsPlain takers.items) }
+    ensures came_home { IfOk result (λ takers. AllZip (ComesHome couriers.items) couriers.items takers.items) }
+    ensures refused { IfErr result (λ reason. reason ≡ Memory) }
+{
+    match gathered(rt, alloc, inboxes, couriers) {
+        Ok(takers) => Ok(takers),
+        Err(_) => Err(Refused::Memory),
+    }
+}
+
 /// Each worker with its share and its courier.
 fn manned(alloc: Global, shares: Vec<Share>, couriers: Vec<Courier>) -> Result<Vec<Worker>, Refused>
-    ensures { IfOk result (λ workers. workers.items ≡ map manned_by (zip shares.items couriers.items)) }
+    ensures workers { IfOk result (λ workers. workers.items ≡ map manned_by (zip shares.items couriers.items)) }
+    ensures refused { IfErr result (λ reason. reason ≡ Memory) }
 {
     let mut workers = Vec::new(alloc);
     for (share, courier) in shares.into_iter().zip(couriers) {
@@ -41,6 +84,7 @@ fn manned(alloc: Global, shares: Vec<Share>, couriers: Vec<Courier>) -> Result<V
 fn parted(alloc: Global, workers: Vec<Worker>) -> Result<(Vec<Share>, Vec<Courier>), Refused>
     ensures shares { IfOk result (λ r. r.0.items ≡ map (λ worker. worker.share) workers.items) }
     ensures couriers { IfOk result (λ r. r.1.items ≡ map (λ worker. worker.courier) workers.items) }
+    ensures refused { IfErr result (λ reason. reason ≡ Memory) }
 {
     let mut shares = Vec::new(alloc);
     let mut couriers = Vec::new(alloc);
@@ -100,9 +144,7 @@ impl Crew {
             takers,
             first_out: _,
         } = self;
-        let Ok(couriers) = couriers(alloc, &inboxes, takers) else {
-            return Err(Refused::Memory);
-        };
+        let couriers = set_out(alloc, &inboxes, takers)?;
         let workers = manned(alloc, shares, couriers)?;
         let window = CrewWindow {
             net,
@@ -113,9 +155,7 @@ impl Crew {
         let done = run_together(rt, alloc, workers, window, gate)?;
         let first_out = first_of_all(&done);
         let (shares, couriers) = parted(alloc, done)?;
-        let Ok(takers) = gathered(rt, alloc, &inboxes, couriers) else {
-            return Err(Refused::Memory);
-        };
+        let takers = come_home(rt, alloc, &inboxes, couriers)?;
         Ok(Crew {
             shares,
             inboxes,
@@ -129,7 +169,7 @@ impl Crew {
     /// here what the workers did becomes a step of the run, by the law of windows.
     ///
     /// # Errors
-    /// That of the first worker that has one; `Thread` where a thread couldn't be started, or the gate didn't let it; and `Memory`.
+    /// That of the first worker that has one; `Thread` where a thread couldn't be started, or the gate refused it; and `Memory`.
     pub(crate) fn run_window<R, G>(
         self,
         rt: &R,
@@ -146,6 +186,7 @@ impl Crew {
         requires few { length self.inboxes.items ≤ 16 }
         requires stands { (from : ℕ) × IsAt (net_of net.now) of.now from self × (from ≤ until) }
         requires plain { Each IsPlain self.takers.items }
+        ensures runs { IfOk result (RunsAll (net_of net.now) of.now until self) }
         ensures moves { let n = net_of net.now in RunsForward (system_of n) → IfOk result (λ done. (from : ℕ) → IsAt n of.now from self → from < until → until ≤ from + (system_of n).lookahead → IsAt n of.now until done) }
         ensures inboxes { IfOk result (λ done. done.inboxes.items ≡ self.inboxes.items) }
         ensures plain { IfOk result (λ done. Each IsPlain done.takers.items) }

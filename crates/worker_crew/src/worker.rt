@@ -1,10 +1,11 @@
 //! One worker in one window.
 
-ghost use Rattle.std.specs.Prelude.{ℕ, IfOk};
-ghost use Rattle.std.specs.Prelude.{◌≤◌, IfSome};
+ghost use Rattle.std.specs.Prelude.{◌≡◌, ◌≢◌, ℕ, ◌≤◌, IfErr, IfOk, IfSome};
+ghost use Rattle.fork_join.specs.declared.work.Refused.TheVariants.{Stopped};
 ghost use Rattle.mote_net.specs.Net.{net_of};
 ghost use Rattle.radio_packet.specs.declared.copy.RadioCopy.{RadioCopy};
 ghost use Rattle.window_law.specs.Windows.{WakesFrom};
+ghost use Rattle.worker_crew.specs.Refusals.{refused_of};
 ghost use Rattle.worker_crew.specs.Worker.{IsReady, RunsWorker, IsFirstOf, IsNotBefore};
 
 use copy_exchange::Courier;
@@ -82,6 +83,16 @@ fn first_of(copies: &[RadioCopy]) -> Option<u64>
     first
 }
 
+/// Why a worker gave up whose motes gave up in a window.
+pub fn refused(error: ShareError) -> Refused
+    ensures { result ≡ refused_of error }
+{
+    match error {
+        ShareError::Memory => Refused::Memory,
+        ShareError::Thread => Refused::Thread,
+    }
+}
+
 /// Has a worker take in what other workers sent in earlier windows, while they may already send more; run its motes through the
 /// window; and deliver what they sent to the motes of others.
 fn run_worker<R: Wait + RandomSource + AllocGlobal, G: Gate>(
@@ -91,7 +102,9 @@ fn run_worker<R: Wait + RandomSource + AllocGlobal, G: Gate>(
     worker: Worker,
 ) -> Result<Worker, Refused>
     requires { IsReady (net_of window.now.net.now) window.now.of.now window.now.inboxes.now window.now.until worker }
-    ensures { IfOk result (RunsWorker (net_of window.now.net.now) window.now.of.now window.now.inboxes.now window.now.until worker) }
+    ensures runs { IfOk result (RunsWorker (net_of window.now.net.now) window.now.of.now window.now.inboxes.now window.now.until worker) }
+    // No worker waits for another within a window.
+    ensures refused { IfErr result (λ reason. reason ≢ Stopped) }
 {
     let Worker {
         mut share,
@@ -104,8 +117,7 @@ fn run_worker<R: Wait + RandomSource + AllocGlobal, G: Gate>(
     let ran = share.run_window(rt, window.net, window.of, arrived, window.until, gate);
     let sent = match ran {
         Ok(sent) => sent,
-        Err(ShareError::Memory) => return Err(Refused::Memory),
-        Err(ShareError::Thread) => return Err(Refused::Thread),
+        Err(error) => return Err(refused(error)),
     };
     let first_out = first_of(&sent);
     let Ok(()) = courier.deliver(rt, window.inboxes, window.of, sent) else {

@@ -5,8 +5,8 @@ use Rattle.std.proofs.lemmas.Iterator.Consumers.{YieldsList-end}
 use Rattle.mark_crew.specs.Run.{manned_by}
 use Rattle.mark_crew.proofs.run.manned.Goals as goal
 
-pub returns : goal.returns
-returns c =
+pub returns-clause-workers : goal.returns-clause-workers
+returns-clause-workers c =
     let d = c.into_iter-share-iterator.ensures.into_iter_gives in
     let z = c.zip-share-items.ensures in
     let shares_len : vec_len c.args.shares ≡ length c.args.shares.items = search rules in

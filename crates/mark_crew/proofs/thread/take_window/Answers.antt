@@ -1,7 +1,7 @@
 use Rattle.mark_crew.proofs.thread.take_window.Goals as goal
 
-pub returns : goal.returns
-returns g c = record {
+pub returns-clause-takes : goal.returns-clause-takes
+returns-clause-takes g c = record {
   arrived = c.in-Ok.arrived.items;
   took = c.in-Ok.ensures.took;
   counts = c.in-Ok.ensures.counts;

@@ -22,8 +22,8 @@ deliver-requires-clause-leaves g c =
     leaves_sent (net_of c.args.window.now.net.now) c.args.window.now.of.now (length c.args.window.now.inboxes.now) c.collect.new.self.worker c.in-Ok-ran.sent.items c.requires.cut
     (subst (λ w. Each (GoesOut (net_of c.args.window.now.net.now) c.args.window.now.of.now w) c.in-Ok-ran.sent.items) (c.requires.same ∙ sym c.in-Ok.ensures.collects.stays.worker) c.in-Ok-ran.ensures.out)
 
-pub returns : goal.returns
-returns g c = record {
+pub returns-clause-runs : goal.returns-clause-runs
+returns-clause-runs g c = record {
   arrived = c.in-Ok.arrived.items;
   sent = c.in-Ok-ran.sent.items;
   between = c.collect.new.self;

@@ -51,3 +51,13 @@ returns-clause-next g c =
     let next = next_known c.taker.inside.pass.me.view.client c.in_ok-item.item told.0.1.0 c.taker.invariant.0.is told.0.1.1 in
     let P : Desk → Type 0 = λ d. IsNextTaken d c.in_ok-item.item in
     subst P (ap (λ t. t.desk) c.taker.view_is) next
+
+pub returns-clause-begun : goal.returns-clause-begun
+returns-clause-begun g c =
+    let told = c.in_ok-item.ensures.rule in
+    (next_leaves c.taker.inside.pass.me.view.client _ _ _ _ told.0.1.0 _ _ c.taker.invariant.0 told.0.1.1 told.0.0 c.index-count.ensures c.from.ensures).begun
+
+pub returns-clause-made : goal.returns-clause-made
+returns-clause-made g c =
+    let told = c.in_ok-item.ensures.rule in
+    (next_leaves c.taker.inside.pass.me.view.client _ _ _ _ told.0.1.0 _ _ c.taker.invariant.0 told.0.1.1 told.0.0 c.index-count.ensures c.from.ensures).of_made

@@ -2,7 +2,7 @@ use Rattle.std.proofs.Common.{sym, subst}
 use Rattle.copy_inbox.specs.Handles.{TakerView}
 use Rattle.mark_exchange.specs.Marks.{Counts}
 use Rattle.mark_exchange.proofs.Counted.{takes_more}
-use Rattle.mark_exchange.proofs.take.take_marks.Goals as goal
+use Rattle.mark_exchange.proofs.take.take_waiting.Goals as goal
 
 pub loop-preserved-in-Some-take_next : goal.loop-preserved-in-Some-take_next
 loop-preserved-in-Some-take_next g c =

@@ -1,6 +1,6 @@
 use Rattle.mark_exchange.specs.Due.{TakesDue}
 use Rattle.mark_exchange.specs.Marks.{Counts}
-use Rattle.mark_exchange.proofs.take.take_marks.Given as goal
+use Rattle.mark_exchange.proofs.take.take_waiting.Given as goal
 
 abbrev pub invariant-loop : goal.invariant-loop
 invariant-loop g l = record {

@@ -1,5 +1,5 @@
--- What all workers did, worker by worker.
-use Rattle.std.proofs.Common.{ℕ, ◌<◌, List, Option}
+-- What all workers did in a run with marks, worker by worker.
+use Rattle.std.specs.Prelude.{ℕ, ◌<◌, List, Option}
 use Rattle.std.specs.List.{AllByRecursion as Each}
 use Rattle.mote_net.specs.Net.{NetTold}
 use Rattle.copy_inbox.specs.declared.items.Item.{Item}
@@ -9,6 +9,8 @@ use Rattle.copy_exchange.specs.Couriers.{pushed_list}
 use Rattle.mark_crew.specs.Senders.{AreSenders}
 use Rattle.mark_crew.specs.Story.{Story, RunsWindows}
 
+-- Each worker ran its windows by its story, and has taken of each sender on its inbox a beginning of what was pushed.
+-- `sender inbox worker` is the sender of a worker on an inbox.
 pub record AllRan (n : NetTold) (of : List ℕ) (width windows workers : ℕ) : Type 0 where
   pub made : ℕ → ℕ
   pub taken : ℕ → List Item

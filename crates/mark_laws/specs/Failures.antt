@@ -1,0 +1,65 @@
+-- The same where a worker may fail, or never start: it sets a flag, and a worker that waits leaves where it sees
+-- that and
+-- finds its queue empty.
+use Rattle.std.specs.Prelude.{◌≡◌, ℕ, ◌<◌, Bool, true, false, List, [], ◌∷◌}
+use Rattle.mark_laws.specs.Queues.{Senders, Queued, start_queued, MayHappenQueued, after_queued}
+use Rattle.mark_laws.specs.Steps.{Event, worker_of, Waits}
+use Rattle.mark_laws.specs.State.{Plan, set_at}
+
+pub record Flagged : Type 0 where
+  pub queued : Queued
+  -- who has failed or left
+  pub gone : ℕ → Bool
+  pub stop : Bool
+
+abbrev pub start_flagged : Flagged
+start_flagged = record { queued = start_queued; gone = λ v. false; stop = false }
+
+-- one of the steps above, of a worker that isn't gone; a worker fails, or will never start; a worker leaves
+pub data Turn : Type 0 where
+  Does : Event → Turn
+  Fails : (worker : ℕ) → Turn
+  Leaves : (worker : ℕ) → Turn
+
+pub record MayDo (p : Plan) (senders : Senders p) (c : Flagged) (e : Event) : Type 0 where
+  pub still : c.gone (worker_of e) ≡ false
+  pub may : MayHappenQueued p senders c.queued e
+
+pub record MayFail (p : Plan) (c : Flagged) (worker : ℕ) : Type 0 where
+  pub there : worker < p.workers
+  pub still : c.gone worker ≡ false
+  pub runs : c.queued.state.behind worker < p.windows
+
+pub record MayLeave (p : Plan) (c : Flagged) (worker : ℕ) : Type 0 where
+  pub there : worker < p.workers
+  pub still : c.gone worker ≡ false
+  pub waits : Waits p c.queued.state worker
+  pub empty : c.queued.queue worker ≡ []
+  pub stopped : c.stop ≡ true
+
+abbrev pub MayTurn : (p : Plan) → Senders p → Flagged → Turn → Type 0
+MayTurn p senders c (Does e) = MayDo p senders c e
+MayTurn p senders c (Fails v) = MayFail p c v
+MayTurn p senders c (Leaves v) = MayLeave p c v
+
+abbrev pub after_turn : {p : Plan} → Senders p → Flagged → Turn → Flagged
+after_turn senders c (Does e) = record { queued = after_queued senders c.queued e; gone = c.gone; stop = c.stop }
+after_turn senders c (Fails v) = record { queued = c.queued; gone = set_at c.gone v true; stop = true }
+after_turn senders c (Leaves v) = record { queued = c.queued; gone = set_at c.gone v true; stop = c.stop }
+
+abbrev pub RunTurns : (p : Plan) → Senders p → Flagged → List Turn → Flagged → Type 0
+RunTurns p senders old [] new = new ≡ old
+RunTurns p senders old (t ∷ turns) new = MayTurn p senders old t
+    × RunTurns p senders (after_turn senders old t) turns new
+
+-- the steps among them
+abbrev pub steps_in : List Turn → List Event
+steps_in [] = []
+steps_in (Does e ∷ turns) = e ∷ steps_in turns
+steps_in (Fails v ∷ turns) = steps_in turns
+steps_in (Leaves v ∷ turns) = steps_in turns
+
+-- nobody has a step, and nobody may leave; that a worker may fail goes on nothing
+pub record IsStuckFlagged (p : Plan) (senders : Senders p) (c : Flagged) : Type 0 where
+  pub steps : (e : Event) → MayDo p senders c e → ⊥
+  pub leaves : (v : ℕ) → MayLeave p c v → ⊥

@@ -1,0 +1,25 @@
+-- Where all workers stand, whatever turns they took.
+use Rattle.std.specs.Prelude.{◌≡◌, ℕ, suc, ◌<◌, ◌≤◌, min, List, []}
+use Rattle.radio_packet.specs.declared.copy.RadioCopy.{RadioCopy}
+use Rattle.copy_inbox.specs.declared.items.Carried.{Carried}
+use Rattle.copy_inbox.specs.Items.{BeginsWith}
+use Rattle.mark_exchange.specs.Pushes.{marks_in, pushes}
+use Rattle.mark_laws.specs.State.{Plan, State, IsPair}
+
+-- From one worker to another: `behind` windows lie behind the first, `begun` behind the other. The first has
+-- pushed the
+-- whole of the windows behind it, and nothing of a window that it hasn't begun. The other has taken a beginning of
+-- that,
+-- with the marks of the windows behind itself.
+pub record IsLine (windows behind begun : ℕ) (sent : ℕ → List RadioCopy) (pushed taken : List Carried) : Type 0 where
+  pub whole : BeginsWith pushed (pushes behind sent)
+  pub front : BeginsWith (pushes (min (suc behind) windows) sent) pushed
+  pub took : BeginsWith pushed taken
+  pub heard : begun ≤ marks_in taken
+
+pub record Stand (p : Plan) (w : State) : Type 0 where
+  pub within : (v : ℕ) → v < p.workers → w.behind v ≤ p.windows
+  pub lines : (v u : ℕ) → IsPair p v u
+      → IsLine p.windows (w.behind v) (w.behind u) (p.sent v u) (w.pushed v u) (w.taken v u)
+  -- nobody pushes to itself
+  pub own : (v : ℕ) → w.pushed v v ≡ [] × (w.taken v v ≡ [])

@@ -1,0 +1,85 @@
+-- What may happen next, and whole runs.
+use Rattle.std.specs.Prelude.{◌≡◌, ℕ, suc, ◌+◌, ◌==◌, ◌<◌, ◌≤◌, List, [], ◌∷◌, ◌++◌, length, if◌then◌else◌}
+use Rattle.copy_inbox.specs.declared.items.Carried.{Carried}
+use Rattle.copy_inbox.specs.Items.{BeginsWith}
+use Rattle.mark_exchange.specs.Pushes.{marks_in, pushes}
+use Rattle.mark_laws.specs.State.{Plan, State, IsPair, set_at, set_pair, sum_below}
+
+-- one step of one worker, which is named first: it pushes an item to another, it takes an item of another, or it is
+-- done with its window and goes on to the next, or behind them all
+pub data Event : Type 0 where
+  Push : (worker to : ℕ) → Carried → Event
+  Take : (worker of : ℕ) → Carried → Event
+  GoOn : (worker : ℕ) → Event
+
+abbrev pub worker_of : Event → ℕ
+worker_of (Push v u x) = v
+worker_of (Take v u x) = v
+worker_of (GoOn v) = v
+
+-- the worker has pushed all of the windows behind it and of the one that it is in
+abbrev pub HasPushed : Plan → State → ℕ → Type 0
+HasPushed p w v = (u : ℕ) → IsPair p v u → w.pushed v u ≡ pushes (suc (w.behind v)) (p.sent v u)
+
+-- a worker that is in a window pushes the next of what the windows up to this one have for the other
+pub record MayPush (p : Plan) (w : State) (worker to : ℕ) (x : Carried) : Type 0 where
+  pub pair : IsPair p worker to
+  pub runs : w.behind worker < p.windows
+  pub next : BeginsWith (pushes (suc (w.behind worker)) (p.sent worker to)) (w.pushed worker to ++ x ∷ [])
+
+-- a worker has pushed all, and has no mark of its window from some other
+pub record Waits (p : Plan) (w : State) (worker : ℕ) : Type 0 where
+  pub runs : w.behind worker < p.windows
+  pub has_pushed : HasPushed p w worker
+  pub missing : (other : ℕ) × IsPair p other worker × (marks_in (w.taken other worker) ≤ w.behind worker)
+
+-- a worker that waits takes the next of what one of the others has pushed to it
+pub record MayTake (p : Plan) (w : State) (worker of : ℕ) (x : Carried) : Type 0 where
+  pub pair : IsPair p of worker
+  pub waits : Waits p w worker
+  pub next : BeginsWith (w.pushed of worker) (w.taken of worker ++ x ∷ [])
+
+-- a worker that has pushed all, and has the marks of its window from all others, goes on
+pub record MayGoOn (p : Plan) (w : State) (worker : ℕ) : Type 0 where
+  pub there : worker < p.workers
+  pub runs : w.behind worker < p.windows
+  pub has_pushed : HasPushed p w worker
+  pub heard : (other : ℕ) → IsPair p other worker → w.behind worker < marks_in (w.taken other worker)
+
+abbrev pub MayHappen : Plan → State → Event → Type 0
+MayHappen p w (Push v u x) = MayPush p w v u x
+MayHappen p w (Take v u x) = MayTake p w v u x
+MayHappen p w (GoOn v) = MayGoOn p w v
+
+-- the state once it has happened
+abbrev pub after : State → Event → State
+after w (Push v u x) = record w { pushed = set_pair w.pushed v u (w.pushed v u ++ x ∷ []) }
+after w (Take v u x) = record w { taken = set_pair w.taken u v (w.taken u v ++ x ∷ []) }
+after w (GoOn v) = record w { behind = set_at w.behind v (suc (w.behind v)) }
+
+-- a run: each of these steps could happen when it did
+abbrev pub Run : Plan → State → List Event → State → Type 0
+Run p old [] new = new ≡ old
+Run p old (e ∷ events) new = MayHappen p old e × Run p (after old e) events new
+
+-- nobody can go on
+abbrev pub IsStuck : Plan → State → Type 0
+IsStuck p w = (e : Event) → MayHappen p w e → ⊥
+
+-- all windows lie behind all workers, and all that they were to push was pushed and taken
+pub record IsAtEnd (p : Plan) (w : State) : Type 0 where
+  pub behind : (v : ℕ) → v < p.workers → w.behind v ≡ p.windows
+  pub pushed : (v u : ℕ) → IsPair p v u → w.pushed v u ≡ pushes p.windows (p.sent v u)
+  pub taken : (v u : ℕ) → IsPair p v u → w.taken v u ≡ pushes p.windows (p.sent v u)
+
+-- how many items one has for another in all windows
+abbrev pub items_for : Plan → (from to : ℕ) → ℕ
+items_for p v u = if v == u then 0 else length (pushes p.windows (p.sent v u))
+
+-- how many items all have for all others in all windows
+abbrev pub items_of : Plan → ℕ
+items_of p = sum_below p.workers (λ v. sum_below p.workers (items_for p v))
+
+-- a step for each window of each worker, and two for each item: it is pushed and it is taken
+abbrev pub steps_of : Plan → ℕ
+steps_of p = sum_below p.workers (λ v. p.windows) + (items_of p + items_of p)

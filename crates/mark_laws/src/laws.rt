@@ -1,0 +1,97 @@
+//! The laws. Each is the contract of a function that does nothing.
+
+ghost use Rattle.mark_laws.specs.Laws.{AllStand, OneWindowAhead, SomeoneGoesOn, StuckIsAtEnd, EndIsStuck};
+ghost use Rattle.mark_laws.specs.Laws.{RunsAreBounded, FullRunsAreOfOneLength, EveryRunCanEnd, NobodyIsHeldUp};
+ghost use Rattle.mark_laws.specs.Laws.{NobodyQueuedIsHeldUp, SendersAreThere, TakenIsOfWindow, NoCopyIsUndue};
+ghost use Rattle.mark_laws.specs.Laws.{EachTakenPasses, TwoWindowsLieThere, QueuedRunsAreRuns, QueuedSomeoneGoesOn};
+ghost use Rattle.mark_laws.specs.Laws.{QueuedStuckIsAtEnd, EveryQueuedRunCanEnd, OwnOrderDoesNotStick};
+ghost use Rattle.mark_laws.specs.Laws.{TurnsAreRuns, FlaggedStuckIsOver, UnlessOneFails, TurnsAreBounded};
+
+/// Whatever turns the workers take, each has pushed the whole of the windows behind it and nothing of a window
+/// that it
+/// hasn't begun, and each other has taken a beginning of that, with the marks of the windows behind itself.
+pub fn all_stand()
+    ensures { AllStand }
+{}
+
+/// No worker is more than one window ahead of another.
+pub fn one_window_ahead()
+    ensures { OneWindowAhead }
+{}
+
+/// While a window is left to any worker, some worker can push, take or go on.
+pub fn someone_goes_on()
+    ensures { SomeoneGoesOn }
+{}
+
+/// A run that can't go on is at the end, all pushed and all taken; and the end can't go on.
+pub fn stuck_is_at_end()
+    ensures stuck { StuckIsAtEnd }
+    ensures end { EndIsStuck }
+{}
+
+/// No run has more steps than a step for each window of each worker and two for each item, and each run that can't go
+/// on has just so many.
+pub fn runs_are_bounded()
+    ensures bounded { RunsAreBounded }
+    ensures full { FullRunsAreOfOneLength }
+{}
+
+/// Wherever a run has led, it can go on to the end.
+pub fn every_run_can_end()
+    ensures { EveryRunCanEnd }
+{}
+
+/// What one worker can do next it can still do after a step of another.
+pub fn nobody_is_held_up()
+    ensures pairs { NobodyIsHeldUp }
+    ensures queued { NobodyQueuedIsHeldUp }
+{}
+
+/// What a worker takes was sent in the window that the worker is in, or in the next one; and a mark has the number of
+/// its window.
+pub fn taken_is_of_window()
+    ensures { TakenIsOfWindow }
+{}
+
+/// Where each copy comes when the window in which it was sent has ended, or later, a worker takes none that comes
+/// before the end of the window that the worker is in.
+pub fn no_copy_is_undue()
+    ensures { NoCopyIsUndue }
+{}
+
+/// The same for any test of copies that passes none for a window which it doesn't pass for the window before.
+pub fn each_taken_passes()
+    ensures { EachTakenPasses }
+{}
+
+/// What one worker has pushed to another and the other hasn't taken is no more than two windows have.
+pub fn two_windows_lie_there()
+    ensures { TwoWindowsLieThere }
+{}
+
+/// The same where the items of all others lie in one queue, of which a worker takes the oldest: each run is one of
+/// the
+/// runs of the laws above; somebody can go on while a window is left; a run that can't go on has made all its
+/// steps, and
+/// every queue is empty; and every run can go on to the end.
+pub fn queues_do_not_stick()
+    ensures senders { SendersAreThere }
+    ensures runs { QueuedRunsAreRuns }
+    ensures someone { QueuedSomeoneGoesOn }
+    ensures stuck { QueuedStuckIsAtEnd }
+    ensures can_end { EveryQueuedRunCanEnd }
+    ensures own_order { OwnOrderDoesNotStick }
+{}
+
+/// The same where a worker may fail or never start, which the others see by a flag once they wait in vain: when no
+/// turn
+/// is left but a failure, each worker is gone or behind all its windows; nobody goes unless one has failed; and
+/// there are
+/// only so many turns.
+pub fn failures_do_not_stick()
+    ensures runs { TurnsAreRuns }
+    ensures over { FlaggedStuckIsOver }
+    ensures unless { UnlessOneFails }
+    ensures bounded { TurnsAreBounded }
+{}

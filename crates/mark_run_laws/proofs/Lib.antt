@@ -1,0 +1,3 @@
+pub mod Apart
+pub mod Binds
+pub mod Due

@@ -1,0 +1,50 @@
+-- The laws that bind the threads of a run with marks to the protocol.
+use Rattle.std.specs.Prelude.{◌≡◌, ℕ, suc, ◌<◌, ◌≤◌, List, length}
+use Rattle.radio_packet.specs.declared.copy.RadioCopy.{RadioCopy}
+use Rattle.mote_net.specs.Net.{NetTold}
+use Rattle.copy_inbox.specs.declared.items.Carried.TheVariants.{Packet}
+use Rattle.copy_inbox.specs.Items.{part}
+use Rattle.mark_exchange.specs.Due.{IsDue}
+use Rattle.mark_exchange.specs.Pushes.{marks_in}
+use Rattle.mark_laws.specs.State.{State, IsPair}
+use Rattle.mark_laws.specs.Steps.{MayTake, IsAtEnd}
+use Rattle.mark_laws.specs.Laws.{IsReached}
+use Rattle.worker_crew.specs.declared.crew.Crew.{Crew}
+use Rattle.worker_crew.specs.Worker.{IsCut}
+use Rattle.mark_crew.specs.All.{AllRan}
+use Rattle.mark_crew.specs.Bounds.{bound, windows_of}
+use Rattle.mark_crew.specs.Run.{RunsAllMarked}
+use Rattle.mark_crew.specs.Story.{Story}
+use Rattle.mark_run_laws.specs.Plan.{plan_of, number_of, state_of, RanWindow}
+
+-- what the contract of `run_marked` says of a run is enough
+abbrev pub EachRunHasAll : Type 0
+EachRunHasAll = (n : NetTold) (of : List ℕ) (width : ℕ) (old new : Crew)
+    → IsCut (length n.motes) (length old.inboxes.items) of → RunsAllMarked n of width old new
+    → AllRan n of width (windows_of width n.end) (length new.inboxes.items)
+
+-- the threads end at the end of the protocol
+abbrev pub RunsEndAtEnd : Type 0
+RunsEndAtEnd = (n : NetTold) (of : List ℕ) (width windows workers : ℕ) (all : AllRan n of width windows workers)
+    → IsAtEnd (plan_of of windows workers all.story) (state_of n of width windows workers all)
+
+-- when a worker began the window after this one, it had taken the marks of this one from each other
+abbrev pub MarksLeadOn : Type 0
+MarksLeadOn = (n : NetTold) (of : List ℕ) (width windows workers : ℕ) (all : AllRan n of width windows workers)
+    → (window other worker : ℕ) → window < windows → IsPair (plan_of of windows workers all.story) other worker
+    → window < marks_in (part (number_of (all.sender worker other)) ((all.story worker).taken (suc window)))
+
+-- no two senders on an inbox have one number
+abbrev pub SendersAreApart : Type 0
+SendersAreApart = (n : NetTold) (of : List ℕ) (width windows workers : ℕ) (all : AllRan n of width windows workers)
+    → (v w u : ℕ)
+    → IsPair (plan_of of windows workers all.story) v u → IsPair (plan_of of windows workers all.story) w u
+    → number_of (all.sender u v) ≡ number_of (all.sender u w) → v ≡ w
+
+-- where each other worker ran its motes in each window that it has begun, each copy that a worker may take is due
+abbrev pub NoCopyIsUndue : Type 0
+NoCopyIsUndue = (n : NetTold) (of : List ℕ) (width windows workers : ℕ) (story : ℕ → Story) (w : State)
+    → IsReached (plan_of of windows workers story) w → (worker other : ℕ)
+    → ((k : ℕ) → k ≤ w.behind other → k < windows → RanWindow n of width other (story other) k)
+    → (copy : RadioCopy) → MayTake (plan_of of windows workers story) w worker other (Packet copy)
+    → IsDue of worker (bound width n.end (suc (w.behind worker))) copy

@@ -1,0 +1,182 @@
+//! Three workers with marks, by hand and in one thread: workers 0 and 1 push, and worker 2 takes. Mote 0 is worker 0's,
+//! mote 1 worker 1's, and mote 2 worker 2's.
+
+ghost use Rattle.std.specs.Prelude.{◌≡◌, true, [], IfOk, IsTrue, OnOk};
+ghost use Rattle.copy_inbox.specs.Views.{make_desk};
+ghost use Rattle.mark_exchange.specs.Marks.{Counts};
+
+use copy_exchange::Courier;
+use copy_inbox::{Inbox, InboxError, Sender, Taker};
+use mark_exchange::{MarkCourier, Standing};
+use radio_packet::RadioCopy;
+use std::alloc::{AllocError, Global};
+use std::sync::Wait;
+use std::sync::atomic::AtomicBool;
+use std::test::Fail;
+
+/// The worker of each mote.
+const OF: [u16; 3] = [0, 1, 2];
+
+/// A copy of mote 0's packet for mote 2.
+fn copy(at: u64, number: u64) -> RadioCopy {
+    RadioCopy {
+        at,
+        to: 2,
+        sender: 0,
+        number,
+        value: 9,
+    }
+}
+
+/// A new inbox with marks, its taker, and the senders of workers 0 and 1.
+fn make(alloc: Global) -> Result<(Inbox, Taker, Sender, Sender), InboxError>
+    ensures inbox { IfOk result (λ made. (made.1.inbox ≡ made.0) × (made.2.inbox ≡ made.0) × (made.3.inbox ≡ made.0)) }
+    ensures taker { IfOk result (λ made. made.1.desk ≡ make_desk true 2 [] []) }
+    ensures senders { IfOk result (λ made. (made.2.post.marked ≡ true) × (made.3.post.marked ≡ true)) }
+{
+    let (inbox, mut taker) = Inbox::make_marked(alloc)?;
+    let first = inbox.sender(&mut taker)?;
+    let second = inbox.sender(&mut taker)?;
+    Ok((inbox, taker, first, second))
+}
+
+/// What worker 2 carries.
+fn carrier(alloc: Global, taker: Taker) -> Result<MarkCourier, InboxError>
+    requires { taker.desk ≡ make_desk true 2 [] [] }
+    ensures taker { IfOk result (λ carrier. carrier.courier.taker ≡ taker) }
+    ensures counts { IfOk result (λ carrier. Counts carrier.marks.items carrier.courier.taker.desk) }
+{
+    let courier = Courier {
+        worker: 2,
+        taker,
+        senders: Vec::new(alloc),
+    };
+    MarkCourier::new(alloc, courier, 2)
+}
+
+/// Pushes a copy, if there is one, and then the mark of a window.
+fn push_window<R: Wait>(
+    rt: &R,
+    inbox: &Inbox,
+    sender: &mut Sender,
+    out: Option<RadioCopy>,
+    window: u64,
+) -> Result<(), InboxError>
+    requires inbox { sender.old.inbox ≡ inbox.now }
+    requires marked { sender.old.post.marked ≡ true }
+    ensures inbox { OnOk result (sender.new.inbox ≡ inbox.now) }
+    ensures marked { OnOk result (sender.new.post.marked ≡ true) }
+{
+    if let Some(out) = out {
+        if inbox.push_copy(rt, sender, out).is_err() {
+            return Err(InboxError::Memory);
+        }
+    }
+    if inbox.push_mark(rt, sender, window).is_err() {
+        return Err(InboxError::Memory);
+    }
+    Ok(())
+}
+
+/// Takes a window, and writes down what comes of it: the copies, or why there are none. Whether it was taken.
+fn write_window<R: Wait>(
+    rt: &R,
+    alloc: Global,
+    text: &mut String,
+    inbox: &Inbox,
+    carrier: &mut MarkCourier,
+    from: u64,
+    window: u64,
+) -> Result<bool, AllocError>
+    requires inbox { carrier.old.courier.taker.inbox ≡ inbox.now }
+    requires counts { Counts carrier.old.marks.items carrier.old.courier.taker.desk }
+    ensures inbox { IfOk result (λ took. IsTrue took → carrier.new.courier.taker.inbox ≡ inbox.now) }
+    ensures counts { IfOk result (λ took. IsTrue took → Counts carrier.new.marks.items carrier.new.courier.taker.desk) }
+{
+    // It is looked at only where a mark is missing.
+    let stop = AtomicBool::new(true);
+    let standing = Standing {
+        worker: 2,
+        of: &OF,
+        from,
+    };
+    match carrier.take_window(rt, alloc, inbox, &stop, &standing, window) {
+        Ok(copies) => {
+            for copy in copies.as_slice() {
+                write!(text, "{} {}, ", copy.at, copy.number)?;
+            }
+            text.push_str("marks|")?;
+            Ok(true)
+        }
+        Err(error) => {
+            write!(text, "{error:?}|")?;
+            Ok(false)
+        }
+    }
+}
+
+/// Worker 0 pushes windows 0 and 1, worker 1 window 0. Taking window 0 gives what worker 0 sent in both; once worker 1
+/// has pushed its next mark, taking window 1 gives nothing more. Then a copy comes too soon.
+fn write_windows<R: Wait>(
+    rt: &R,
+    alloc: Global,
+    text: &mut String,
+    inbox: &Inbox,
+    carrier: &mut MarkCourier,
+    first: &mut Sender,
+    second: &mut Sender,
+) -> Result<(), InboxError>
+    requires inbox { (carrier.old.courier.taker.inbox ≡ inbox.now) × (first.old.inbox ≡ inbox.now) × (second.old.inbox ≡ inbox.now) }
+    requires marked { (first.old.post.marked ≡ true) × (second.old.post.marked ≡ true) }
+    requires counts { Counts carrier.old.marks.items carrier.old.courier.taker.desk }
+{
+    push_window(rt, inbox, first, Some(copy(5, 0)), 0)?;
+    push_window(rt, inbox, first, Some(copy(9, 1)), 1)?;
+    push_window(rt, inbox, second, None, 0)?;
+    if !write_window(rt, alloc, text, inbox, carrier, 5, 0)? {
+        return Ok(());
+    }
+    push_window(rt, inbox, second, None, 1)?;
+    if !write_window(rt, alloc, text, inbox, carrier, 9, 1)? {
+        return Ok(());
+    }
+    push_window(rt, inbox, first, Some(copy(9, 2)), 2)?;
+    write_window(rt, alloc, text, inbox, carrier, 10, 2)?;
+    Ok(())
+}
+
+/// What is written of these windows.
+fn write_taken<R: Wait>(rt: &R, alloc: Global, text: &mut String) -> Result<(), InboxError> {
+    let (inbox, taker, mut first, mut second) = make(alloc)?;
+    let mut carrier = carrier(alloc, taker)?;
+    write_windows(
+        rt,
+        alloc,
+        text,
+        &inbox,
+        &mut carrier,
+        &mut first,
+        &mut second,
+    )
+}
+
+/// What is written where the mark of worker 1 is missing, and the flag is set.
+fn write_stopped<R: Wait>(rt: &R, alloc: Global, text: &mut String) -> Result<(), InboxError> {
+    let (inbox, taker, mut first, _second) = make(alloc)?;
+    let mut carrier = carrier(alloc, taker)?;
+    push_window(rt, &inbox, &mut first, None, 0)?;
+    write_window(rt, alloc, text, &inbox, &mut carrier, 5, 0)?;
+    Ok(())
+}
+
+#[test]
+fn windows_by_hand(rt: HostRuntime) -> Result<(), Fail> {
+    let mut text = String::new(rt.alloc());
+    write_taken(&rt, rt.alloc(), &mut text)?;
+    write_stopped(&rt, rt.alloc(), &mut text)?;
+    let want = "5 0, 9 1, marks|marks|Undue|Stopped|";
+    if text.as_str() == want {
+        return Ok(());
+    }
+    Err(Fail::new(format_args!("{text} in place of {want}")))
+}

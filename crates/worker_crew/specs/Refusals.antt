@@ -1,0 +1,10 @@
+-- Why a worker gave up.
+use Rattle.fork_join.specs.declared.work.Refused.{Refused}
+use Rattle.fork_join.specs.declared.work.Refused.TheVariants as why
+use Rattle.window_run.specs.declared.share.ShareError.{ShareError}
+use Rattle.window_run.specs.declared.share.ShareError.TheVariants.{Memory, Thread}
+
+-- where its motes gave up in a window
+abbrev pub refused_of : ShareError → Refused
+refused_of Memory = why.Memory
+refused_of Thread = why.Thread
