@@ -33,7 +33,7 @@ use Rattle.net_report.specs.Report.{lines_in}
 use Rattle.window_workers.specs.Carried.{Pair}
 use Rattle.window_workers.specs.Over.{TellsWhatItKept, logs_of, HasFates, AreTracesOf}
 use Rattle.window_workers.proofs.Pairs.{beyond, each_permutes, same_found}
-use Rattle.window_workers.proofs.Reports.{family}
+use Rattle.serial_run.proofs.Reports.{family}
 use Rattle.window_workers.proofs.Sums.{two_sums}
 use Rattle.window_workers.proofs.Waiting.{left_here}
 

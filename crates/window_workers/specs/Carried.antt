@@ -8,7 +8,7 @@ use Rattle.copy_inbox.specs.Handles.{InboxId, TakerView}
 use Rattle.copy_exchange.specs.Desks.{taken_by, gathered_by}
 use Rattle.worker_cut.specs.Carried.{AreThoseTo}
 use Rattle.net_report.specs.Report.{ReportTold}
-use Rattle.window_workers.specs.Counted.{is_by}
+use Rattle.serial_run.specs.Counted.{is_by}
 
 -- an inbox with its taker, as contracts see them
 abbrev pub Pair : Type 0

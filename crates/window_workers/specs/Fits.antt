@@ -1,8 +1,8 @@
 -- Whether a cut fits a net, and what is told of one that doesn't.
 use Rattle.std.specs.Prelude.{ℕ, ◌≡◌, ◌==◌, ◌||◌, nat_lt, not, if◌then◌else◌, List, length, Option, Some, None}
 use Rattle.std.specs.List.{list_all}
-use Rattle.window_workers.specs.declared.error.RunError.{RunError}
-use Rattle.window_workers.specs.declared.error.RunError.TheVariants.{Workers, CutLength, CutWorker, Memory, Thread, Stopped}
+use Rattle.serial_run.specs.declared.error.RunError.{RunError}
+use Rattle.serial_run.specs.declared.error.RunError.TheVariants.{Workers, CutLength, CutWorker, Memory, Thread, Stopped}
 use Rattle.window_workers.specs.declared.sync.SyncKind.{SyncKind}
 use Rattle.window_workers.specs.declared.sync.SyncKind.TheVariants.{Joins, Marks}
 use Rattle.fork_join.specs.declared.work.Refused.{Refused}

@@ -13,7 +13,7 @@ use Rattle.worker_share.specs.declared.share.Ended.{Ended}
 use Rattle.worker_share.specs.Share.{Motes, Keeps}
 use Rattle.worker_share.specs.Ended.{TellsAtEnd}
 use Rattle.net_report.specs.Report.{Packet}
-use Rattle.window_workers.specs.NetRun.{packet_with_fates}
+use Rattle.serial_run.specs.NetRun.{packet_with_fates}
 
 -- a share that is taken apart tells what it kept
 abbrev pub TellsWhatItKept : Share → Ended → Type 0

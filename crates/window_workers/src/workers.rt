@@ -12,14 +12,14 @@ ghost use Rattle.worker_crew.specs.Worker.{IsCut};
 ghost use Rattle.net_report.specs.Report.{report_of};
 ghost use Rattle.window_workers.specs.Carried.{AllCarried};
 ghost use Rattle.window_workers.specs.Fits.{cut_fault, IsAnswerTo};
-ghost use Rattle.window_workers.specs.NetRun.{IsReportOf};
+ghost use Rattle.serial_run.specs.NetRun.{IsReportOf};
 ghost use Rattle.window_workers.specs.Sync.{IsFor};
 ghost use Rattle.window_workers.specs.declared.sync.SyncKind.TheVariants.{Marks};
 
 use crate::ended::{end_all, left_of_all};
-use crate::error::{RunError, of_refused};
 use crate::fits::fault_of;
 use crate::medium_log::medium_log;
+use crate::refusal::of_refused;
 use crate::sync::SyncKind;
 use crate::traces::joined_traces;
 use copy_exchange::{make_inboxes, paired, parted};
@@ -27,6 +27,7 @@ use copy_inbox::{Inbox, Taker};
 use mark_crew::run_marked;
 use mote_net::Net;
 use net_report::Report;
+use serial_run::RunError;
 use std::alloc::{AllocGlobal, Global};
 use std::random::RandomSource;
 use std::sync::Wait;
@@ -59,7 +60,9 @@ fn told(
         takers,
         first_out: _,
     } = crew;
-    let pairs = paired(alloc, inboxes, takers)?;
+    let Ok(pairs) = paired(alloc, inboxes, takers) else {
+        return Err(RunError::Memory);
+    };
     let ended = end_all(alloc, shares)?;
     let left = left_of_all(&ended, &pairs)?;
     let medium = medium_log(alloc, net, &ended)?;
@@ -149,7 +152,9 @@ where
     if let Some(fault) = fault_of(net.motes(), pairs.len(), of) {
         return Err(fault);
     }
-    let (inboxes, takers) = parted(alloc, pairs)?;
+    let Ok((inboxes, takers)) = parted(alloc, pairs) else {
+        return Err(RunError::Memory);
+    };
     let Ok(crew) = Crew::start(alloc, net, of, inboxes, takers) else {
         return Err(RunError::Memory);
     };
@@ -187,7 +192,9 @@ where
     if let Some(fault) = fault_of(net.motes(), usize::from(workers), &cut.of) {
         return Err(fault);
     }
-    let pairs = make_inboxes(alloc, usize::from(workers), sync.has_marks())?;
+    let Ok(pairs) = make_inboxes(alloc, usize::from(workers), sync.has_marks()) else {
+        return Err(RunError::Memory);
+    };
     let (report, _pairs) = run_inboxes(rt, alloc, net, cut, sync, gate, pairs)?;
     Ok(report)
 }
