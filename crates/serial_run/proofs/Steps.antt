@@ -25,7 +25,8 @@ use Rattle.net_agenda.specs.Buckets.{Holds, arrivals_at, wake_but_at}
 use Rattle.net_agenda.specs.NetSystem.{system_of, tree_at}
 use Rattle.serial_run.specs.NetRun.{packet_with_fates}
 use Rattle.window_law.specs.NetStep.{NetState, stamped, turn_at}
-use Rattle.serial_run.specs.Stands.{StandsAt, KeepsWakes, OneTakesTurn, AddsLines}
+use Rattle.serial_run.specs.Stands.{StandsAt, KeepsWakes, OneTakesTurn}
+use Rattle.net_agenda.specs.Traces.{AddsLines}
 use Rattle.window_law.proofs.Lists.{filter_filter, filter_both}
 use Rattle.serial_run.proofs.Kept.{wake_later}
 

@@ -16,7 +16,8 @@ pub record HasReached (n : NetTold) (engine : Engine) : Type 0 where
   pub kept : KeepsWakes n state
   pub at : ℕ
   pub on_time : IsOnTime at state
-  pub led : (last : NetState Node Line) → Run (system_of n) n.end state last → Run (system_of n) n.end (boot (system_of n)) last
+  pub led : (last : NetState Node Line) → Run (system_of n) n.end state last
+      → Run (system_of n) n.end (boot (system_of n)) last
 
 -- the engine is where the run ends
 pub record HasEnded (n : NetTold) (engine : Engine) : Type 0 where

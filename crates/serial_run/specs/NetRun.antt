@@ -13,8 +13,8 @@ use Rattle.net_report.specs.Report.{Packet, ReportTold}
 abbrev pub packet_with_fates : Radio → Sent → Packet
 packet_with_fates radio sent = record { sent = sent; fates = fates radio sent }
 
--- what is told of a net whose run has ended: each mote's trace, each packet with the fates of its copies, and how many copies
--- are still on their way
+-- what is told of a net whose run has ended: each mote's trace, each packet with the fates of its copies, and how many
+-- copies are still on their way
 abbrev pub told_at : NetTold → NetState Node Line → ReportTold
 told_at n last = record {
   traces = map last.traces (up_to (length n.motes));

@@ -1,4 +1,4 @@
--- No turn comes too late: what is to come to a mote comes after its last turn.
+-- No turn comes too late: the pending events of a mote come after its last turn.
 use Rattle.std.specs.Prelude.{ℕ, ◌≡◌, ◌≤◌, false, Option, Some, None, IsSomeAnd}
 use Rattle.std.specs.List.{AllByRecursion}
 use Rattle.process_kernel.specs.declared.line.Line.{Line}
@@ -15,8 +15,8 @@ abbrev pub IsNotAfter : (moment : ℕ) → (last : Option ℕ) → Type 0
 IsNotAfter moment None = Unit {0}
 IsNotAfter moment (Some last) = last ≤ moment
 
--- The net has come to a moment: nothing is to come before it, and no turn was after it. What is to come to a mote comes after the last
--- turn of that mote.
+-- The net has come to a moment: no event is pending before it, and no turn was after it. The pending events of a mote
+-- come after the last turn of that mote.
 pub record IsOnTime (at : ℕ) (net : NetState Node Line) : Type 0 where
   pub coming : AllByRecursion (λ item. at ≤ moment_of item) net.agenda
   pub turned : (k : ℕ) → IsNotAfter at (net.states k).last

@@ -20,10 +20,12 @@ sent_by mote sends = filter (λ x. x.sender == mote) sends
 
 -- in the medium's log the packets of each mote are numbered 0, 1, 2 and so on, in order
 abbrev pub LogCountsUp : Type 0
-LogCountsUp = (n : NetTold) (r : ReportTold) → IsReportOf n r → (mote : ℕ) → AreNumberedFrom 0 (sent_by mote (map (λ p. p.sent) r.log))
+LogCountsUp = (n : NetTold) (r : ReportTold) → IsReportOf n r → (mote : ℕ)
+    → AreNumberedFrom 0 (sent_by mote (map (λ p. p.sent) r.log))
 
--- in each turn of a run the packets bear the moment and the mote before they are stamped
-abbrev pub AreStamped : {S L : Type 0} {system : System S L} {end : ℕ} {net last : NetState S L} → Run system end net last → Type 0
+-- in each turn of a run the packets have the moment and the mote before they are stamped
+abbrev pub AreStamped : {S L : Type 0} {system : System S L} {end : ℕ} {net last : NetState S L}
+    → Run system end net last → Type 0
 AreStamped (Done late) = Unit {0}
 AreStamped {system = system} {net = net} (Turn moment mote least le rest) =
     let turned = turned_at system moment mote net in (sends_of moment mote turned ≡ turned.sends) × AreStamped rest

@@ -44,13 +44,9 @@ pub record KeepsWakes (n : NetTold) (net : NetState Node Line) : Type 0 where
   pub inside : AllByRecursion (λ item. mote_of item < length n.motes) net.agenda
 
 -- one mote took a turn, which told this
-pub record OneTakesTurn (tree : code.Tree) (moment : ℕ) (packets : List Arrival) (k : ℕ) (old new : List Mote) (out : TurnOut) : Type 0 where
+pub record OneTakesTurn (tree : code.Tree) (moment : ℕ) (packets : List Arrival) (k : ℕ) (old new : List Mote)
+    (out : TurnOut) : Type 0 where
   pub after : Mote
   pub put : new ≡ slice_set old k after
-  pub turned : (d : Mote) → option_map (turn_told out) (node_in tree after) ≡ option_map (turn_of moment packets) (node_in tree (slice_index_or old k d))
-
--- one trace has lines more
-pub record AddsLines (k : ℕ) (lines : List Line) (old new : List (Vec Line Global)) : Type 0 where
-  pub after : Vec Line Global
-  pub put : new ≡ slice_set old k after
-  pub added : (d : Vec Line Global) → after.items ≡ (slice_index_or old k d).items ++ lines
+  pub turned : (d : Mote) → option_map (turn_told out) (node_in tree after)
+      ≡ option_map (turn_of moment packets) (node_in tree (slice_index_or old k d))

@@ -1,4 +1,4 @@
-//! A net as it runs: its motes, their traces, the medium's log, and what is to come.
+//! A net as it runs: its motes, their traces, the medium's log, and the pending events.
 
 ghost use Rattle.std.specs.Prelude.{◌≡◌, ◌<◌, ◌≤◌, ◌^◌, length, slice_index_or, Some, OnOk, IfOk};
 ghost use Rattle.program_tree.specs.Program.{tree_of};
@@ -12,26 +12,19 @@ ghost use Rattle.net_agenda.specs.Buckets.{wake_but_at};
 ghost use Rattle.net_agenda.specs.NetSystem.{system_of, first_node_in, tree_at};
 ghost use Rattle.window_law.specs.NetStep.{NetState, turn_at, boot};
 ghost use Rattle.serial_run.specs.OnTime.{CanTurn};
-ghost use Rattle.serial_run.specs.Stands.{StandsAt, IsWhole, KeepsWakes, OneTakesTurn, AddsLines};
+ghost use Rattle.serial_run.specs.Stands.{StandsAt, IsWhole, KeepsWakes, OneTakesTurn};
 
 use crate::sends::send_all;
 use mote_net::Net;
 use mote_node::{Mote, MoteError};
-use net_agenda::{Agenda, new_mote};
+use net_agenda::{Agenda, add_lines, new_mote};
 use net_report::LogLine;
 use process_kernel::{Line, Out};
 use program_tree::Program;
 use radio_packet::Arrival;
 use std::alloc::{AllocError, Global};
 
-/// How many lines a short trace has at most.
-const SHORT: usize = 64;
-
-/// How many lines a long trace has room for. So much memory (128 KiB) comes from the system as whole pages: those that no line is
-/// written to cost nothing, and a trace that grows keeps its pages, so that its lines aren't copied.
-const LONG: usize = 4_096;
-
-/// The motes, each with its trace; the packets that were sent; and what is to come.
+/// The motes, each with its trace; the packets that were sent; and the pending events.
 #[derive(Drop)]
 pub struct Engine {
     pub motes: Vec<Mote>,
@@ -59,7 +52,8 @@ fn wake_but_at(moment: u64, wake: Option<u64>) -> Option<u64>
     }
 }
 
-/// The turn of one of the motes, which has not failed, and whose last turn was before this moment. Says when it wakes next.
+/// The turn of one of the motes, which has not failed, and whose last turn was before this moment. Returns when it
+/// wakes next.
 fn turn_mote(
     motes: &mut Vec<Mote>,
     program: &Program,
@@ -70,8 +64,10 @@ fn turn_mote(
 ) -> Result<Option<u64>, AllocError>
     requires there { number < length motes.old.items }
     requires early { moment ≤ 2 ^ 40 }
-    requires ready { (d : MoteOfCode) → CanTurn moment (node_in (tree_of program.now) (slice_index_or motes.old.items number d)) }
-    ensures { IfOk result (λ wake. OneTakesTurn (tree_of program.now) moment packets.now number motes.old.items motes.new.items (told_with out.new wake)) }
+    requires ready { (d : MoteOfCode) → CanTurn moment
+        (node_in (tree_of program.now) (slice_index_or motes.old.items number d)) }
+    ensures { IfOk result (λ wake. OneTakesTurn
+        (tree_of program.now) moment packets.now number motes.old.items motes.new.items (told_with out.new wake)) }
 {
     match motes[usize::from(number)].turn_into(program, moment, packets, out) {
         Ok(wake) => Ok(wake),
@@ -86,34 +82,6 @@ fn wake_at(motes: &[Mote], number: u16) -> Option<u64>
     ensures { (t : Tree) (d : MoteOfCode) → result ≡ wake_in (node_in t (slice_index_or motes.now number d)) }
 {
     motes[usize::from(number)].wake()
-}
-
-/// Makes room for lines more, where there is none. A short trace gets room for four times its lines, since they are copied then;
-/// one that isn't short gets all the room of a long one at once, and a long one grows as a list does.
-fn make_room(trace: &mut Vec<Line>, more: usize) -> Result<(), AllocError>
-    ensures { trace.new.items ≡ trace.old.items }
-{
-    let len = trace.len();
-    if trace.capacity() - len < more && len < LONG {
-        let room = if len < SHORT { len * 4 } else { LONG };
-        trace.reserve(more.max(room - len))?;
-    }
-    Ok(())
-}
-
-/// Moves lines to the end of a mote's trace.
-fn add_lines(
-    traces: &mut Vec<Vec<Line>>,
-    number: u16,
-    lines: &mut Vec<Line>,
-) -> Result<(), AllocError>
-    requires { number < length traces.old.items }
-    ensures { OnOk result (AddsLines number lines.old.items traces.old.items traces.new.items) }
-{
-    let trace = &mut traces[usize::from(number)];
-    make_room(trace, lines.len())?;
-    trace.append(lines)?;
-    Ok(())
 }
 
 impl Engine {
@@ -144,8 +112,11 @@ impl Engine {
         requires there { number < length (net_of net.now).motes }
         requires early { moment ≤ 2 ^ 40 }
         requires whole { IsWhole (net_of net.now) self.old }
-        requires ready { (d : MoteOfCode) → CanTurn moment (node_in (tree_at (net_of net.now) number) (slice_index_or self.old.motes.items number d)) }
-        ensures stands { let n = net_of net.now in OnOk result ((state : NetState Node Line) → StandsAt n self.old state → KeepsWakes n state → StandsAt n self.new (turn_at (system_of n) moment number state)) }
+        requires ready { (d : MoteOfCode) → CanTurn moment
+            (node_in (tree_at (net_of net.now) number) (slice_index_or self.old.motes.items number d)) }
+        ensures stands { let n = net_of net.now in
+            OnOk result ((state : NetState Node Line) → StandsAt n self.old state → KeepsWakes n state
+            → StandsAt n self.new (turn_at (system_of n) moment number state)) }
         ensures whole { OnOk result (IsWhole (net_of net.now) self.new) }
     {
         self.agenda

@@ -12,15 +12,15 @@ use std::fmt;
 pub enum RunError {
     /// The number of workers is none of 1 to 16.
     Workers = 1,
-    /// The cut doesn't tell a worker for each mote of the net, or tells one for more.
+    /// The cut doesn't name a worker for each mote of the net, or names one for more.
     CutLength = 2,
     /// The cut gives a mote to a worker that isn't there.
     CutWorker = 3,
-    /// No memory was found.
+    /// Out of memory; an allocation failed.
     Memory = 4,
     /// A thread couldn't be started, the gate refused a start, or the executor in a thread answered an error.
     Thread = 5,
-    /// With marks: a worker ended since another failed, and none of them found `Memory` or `Thread`.
+    /// With marks: a worker stopped because another worker failed, and none reported `Memory` or `Thread`.
     Stopped = 6,
 }
 

@@ -1,10 +1,10 @@
 //! Packets that are sent: their copies are on their way, and the medium logs their fates.
 
-ghost use Rattle.std.specs.Prelude.{◌≡◌, ◌<◌, ◌≤◌, ◌^◌, List, [], ◌∷◌, ◌++◌, length, map, OnOk};
+ghost use Rattle.std.specs.Prelude.{◌≡◌, ◌<◌, ◌≤◌, ◌^◌, [], ◌∷◌, ◌++◌, length, map, OnOk};
 ghost use Rattle.std.specs.List.{flat_map};
 ghost use Rattle.radio_medium.specs.Medium.{copies};
-ghost use Rattle.window_law.specs.Agenda.{Item, Packet};
-ghost use Rattle.net_agenda.specs.Buckets.{Holds};
+ghost use Rattle.window_law.specs.Agenda.{Packet};
+ghost use Rattle.net_agenda.specs.Changes.{Adds};
 ghost use Rattle.net_report.specs.Report.{told_line};
 ghost use Rattle.serial_run.specs.NetRun.{packet_with_fates};
 ghost use Rattle.window_law.specs.NetStep.{stamped};
@@ -24,8 +24,10 @@ fn send(
 ) -> Result<(), AllocError>
     requires sender { sent.now.sender < length medium.now.places }
     requires moment { sent.now.at ≤ 2 ^ 40 }
-    ensures agenda { OnOk result ((items : List Item) → Holds agenda.old.buckets items → Holds agenda.new.buckets (items ++ map Packet (copies medium.now sent.now))) }
-    ensures log { OnOk result (map told_line log.new.items ≡ map told_line log.old.items ++ packet_with_fates medium.now sent.now ∷ []) }
+    ensures agenda { OnOk result (Adds agenda.old.buckets agenda.new.buckets
+        (map Packet (copies medium.now sent.now))) }
+    ensures log { OnOk result (map told_line log.new.items ≡ map told_line log.old.items
+        ++ packet_with_fates medium.now sent.now ∷ []) }
 {
     let fates = medium.fates(sent)?;
     agenda.put_fates(sent, &fates)?;
@@ -44,8 +46,10 @@ pub fn send_all(
 ) -> Result<(), AllocError>
     requires sender { mote < length medium.now.places }
     requires moment { moment ≤ 2 ^ 40 }
-    ensures agenda { OnOk result ((items : List Item) → Holds agenda.old.buckets items → Holds agenda.new.buckets (items ++ map Packet (flat_map (copies medium.now) (map (stamped moment mote) sends.now)))) }
-    ensures log { OnOk result (map told_line log.new.items ≡ map told_line log.old.items ++ map (packet_with_fates medium.now) (map (stamped moment mote) sends.now)) }
+    ensures agenda { OnOk result (Adds agenda.old.buckets agenda.new.buckets
+        (map Packet (flat_map (copies medium.now) (map (stamped moment mote) sends.now)))) }
+    ensures log { OnOk result (map told_line log.new.items ≡ map told_line log.old.items
+        ++ map (packet_with_fates medium.now) (map (stamped moment mote) sends.now)) }
 {
     for sent in sends {
         let stamped = Sent {

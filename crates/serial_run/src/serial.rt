@@ -16,7 +16,7 @@ use mote_net::Net;
 use net_report::Report;
 use std::alloc::{AllocError, Global};
 
-/// Takes turns until nothing is to come at or before the end.
+/// Takes turns until no event is pending at or before the end.
 fn run_to_end(engine: &mut Engine, net: &Net) -> Result<(), AllocError>
     requires whole { IsWhole (net_of net.now) engine.old }
     requires boot { let n = net_of net.now in StandsAt n engine.old (boot (system_of n)) }
@@ -24,8 +24,8 @@ fn run_to_end(engine: &mut Engine, net: &Net) -> Result<(), AllocError>
     ensures ended { OnOk result (HasEnded (net_of net.now) engine.new) }
 {
     let end = net.end();
-    // Each wake and each copy comes later than the turn that makes it, so the run comes to its end. The call is there for the prover
-    // alone, which learns from its clauses that the medium is without fault.
+    // Each wake and each copy comes later than the turn that makes it, so the run comes to its end. The call's clauses
+    // say that the medium is without fault; what it returns isn't used.
     let _ahead = net.medium().lookahead(end);
     'turns: while let Some((moment, number)) = engine.agenda.first() {
         if moment > end {
@@ -36,8 +36,8 @@ fn run_to_end(engine: &mut Engine, net: &Net) -> Result<(), AllocError>
     Ok(())
 }
 
-/// The report of a net, by one thread that takes all turns in the order of moment, then mote number, with the packets of a
-/// turn in the order of sender and number.
+/// The report of a net, by one thread that takes all turns in the order of moment, then mote number, with the packets
+/// of a turn in the order of sender and number.
 ///
 /// # Errors
 /// `Memory` alone.
@@ -45,7 +45,8 @@ pub fn run_serial(alloc: Global, net: &Net) -> Result<Report, RunError>
     ensures report { IfOk result (λ r. IsReportOf (net_of net.now) (report_of r)) }
     // There is a trace for each mote.
     ensures traces { IfOk result (λ r. vec_len r.traces ≡ length (net_of net.now).motes) }
-    // Each trace hands its events on, nothing follows a halt in it, and only a process that is not listed starts.
+    // Each trace delivers each accepted event, in order, nothing follows a halt in it, and only a process that is not
+    // listed starts.
     ensures handed_on { IfOk result (λ r. All (λ trace. IsInOrder trace.items) r.traces.items) }
     ensures err { IfErr result (λ e. e ≡ RunError.Memory) }
 {

@@ -7,8 +7,8 @@ use crate::sync::SyncKind;
 use fork_join::Refused;
 use serial_run::RunError;
 
-/// Why a worker gave up, as an error of the run. With joins all workers are joined between two windows, so none stops because
-/// another failed.
+/// Why a worker gave up, as an error of the run. With joins all workers are joined between two windows, so none stops
+/// because another failed.
 pub fn of_refused(sync: SyncKind, refused: Refused) -> RunError
     ensures { result ≡ of_refused sync refused }
 {

@@ -1,6 +1,6 @@
 use Rattle.std.proofs.Common.{◌∙◌, ◌++◌, ap, sym, get_or, slice_set}
 use Rattle.std.proofs.lemmas.List.{get_or_default}
-use Rattle.serial_run.proofs.engine.add_lines.Goals as goal
+use Rattle.net_agenda.proofs.traces.add_lines.Goals as goal
 
 pub returns : goal.returns
 returns c =
