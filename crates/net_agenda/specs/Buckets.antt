@@ -1,5 +1,6 @@
 -- What an agenda has for the motes at each moment, gathered in a bucket.
-use Rattle.std.specs.Prelude.{ℕ, suc, ◌≡◌, ◌≤◌, ◌-◌, Bool, true, false, not, ◌&&◌, ◌==◌, nat_lt, if◌then◌else◌, List, [], ◌∷◌, ◌++◌, length, map, Option, Some, None, option_map, is_some, slice_get}
+use Rattle.std.specs.Prelude.{ℕ, suc, ◌≡◌, ◌≤◌, ◌-◌, Bool, true, false, not, ◌&&◌, ◌==◌, nat_lt, if◌then◌else◌, List}
+use Rattle.std.specs.Prelude.{[], ◌∷◌, ◌++◌, length, map, Option, Some, None, option_map, is_some, slice_get}
 use Rattle.std.specs.List.{filter, filter_map, AllByRecursion}
 use Rattle.std.specs.Ordering.{nat_cmp}
 use Rattle.std.specs.BTreeMap.{BTreeMap, get}
@@ -39,7 +40,7 @@ gathered (item ∷ items) = Some (due_all (item ∷ items))
 abbrev pub due_of : (moment mote : ℕ) → List Item → Option Due
 due_of moment mote items = gathered (filter (comes_at moment mote) items)
 
--- one bucket: what is to come at a moment
+-- one bucket: the pending events of a moment
 
 -- the mote to which it comes
 abbrev pub goes_to : Coming → ℕ
@@ -91,11 +92,14 @@ least_mote all = least_from None all
 
 -- the least mote, which is that of the last where the motes fall
 abbrev pub first_mote : Bucket → Option ℕ
-first_mote bucket = if bucket.falls then option_map goes_to (slice_get bucket.coming.items (length bucket.coming.items - 1)) else least_mote bucket.coming.items
+first_mote bucket =
+    let all = bucket.coming.items in
+    if bucket.falls then option_map goes_to (slice_get all (length all - 1)) else least_mote all
 
 -- all of this mote was taken out; the others keep theirs
 pub record IsTaken (mote : ℕ) (old new : Bucket) : Type 0 where
-  pub others : (other : ℕ) → of_mote other new.coming.items ≡ (if mote == other then [] else of_mote other old.coming.items)
+  pub others : (other : ℕ) → of_mote other new.coming.items
+      ≡ (if mote == other then [] else of_mote other old.coming.items)
   pub falls : FallsIfSaid new
 
 pub record IsReady (bucket : Bucket) : Type 0 where
@@ -107,10 +111,11 @@ pub record IsReady (bucket : Bucket) : Type 0 where
 abbrev pub Buckets : Type 0
 Buckets = BTreeMap ℕ Bucket
 
--- the item that is to come at a moment
+-- the item of an event that is pending at a moment
 abbrev pub item_of : (moment mote : ℕ) → Option Arrival → Item
 item_of moment mote None = Wake moment mote
-item_of moment mote (Some a) = Packet (record { at = moment; to = mote; sender = a.sender; number = a.number; value = a.value })
+item_of moment mote (Some a) =
+    Packet (record { at = moment; to = mote; sender = a.sender; number = a.number; value = a.value })
 
 abbrev pub item_at : (moment : ℕ) → Coming → Item
 item_at moment one = item_of moment (goes_to one) (packet_in one)
@@ -129,7 +134,8 @@ due_in buckets moment mote = due_of moment mote (items_at buckets moment)
 abbrev pub is_here : (moment mote t k : ℕ) → Bool
 is_here moment mote t k = (moment == t) && (mote == k)
 
--- the buckets hold the items of this agenda: each has all that is due there, no bucket is empty, and the motes of one that says so fall
+-- the buckets hold the items of this agenda: each has all that is due there, no bucket is empty, and the motes of one
+-- that says so fall
 pub record Holds (buckets : Buckets) (items : List Item) : Type 0 where
   pub due : (moment mote : ℕ) → due_in buckets moment mote ≡ due_of moment mote items
   pub ready : (moment : ℕ) (bucket : Bucket) → get nat_cmp buckets moment ≡ Some bucket → IsReady bucket

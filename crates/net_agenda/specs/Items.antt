@@ -28,8 +28,8 @@ is_wake_at moment mote item = comes_at moment mote item && is_wake item
 abbrev pub WakesDiffer : List Item → Type 0
 WakesDiffer items = (moment mote : ℕ) → length (filter (is_wake_at moment mote) items) ≤ 1
 
--- The same items: each packet as often, and a wake of a mote at a moment in the one list where there is one in the other. Where no
--- mote has two wakes at one moment, ys is a permutation of xs.
+-- The same items: each packet as often, and a wake of a mote at a moment in the one list where there is one in the
+-- other. Where no mote has two wakes at one moment, ys is a permutation of xs.
 pub record AreSameItems (xs ys : List Item) : Type 0 where
   pub same_packets : IsPermutation (packets xs) (packets ys)
   pub same_wakes : (moment mote : ℕ) → list_any (is_wake_at moment mote) xs ≡ list_any (is_wake_at moment mote) ys

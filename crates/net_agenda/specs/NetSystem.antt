@@ -16,7 +16,16 @@ use Rattle.net_agenda.specs.Arrivals.{arrival_of}
 abbrev pub no_mote : MoteTold
 no_mote = record {
   program = [];
-  tree = record { events = []; semaphores = []; counts = []; processes = []; autostart = []; receiver = None; codes = []; timers = [] };
+  tree = record {
+    events = [];
+    semaphores = [];
+    counts = [];
+    processes = [];
+    autostart = [];
+    receiver = None;
+    codes = [];
+    timers = [];
+  };
   queue = 1;
 }
 

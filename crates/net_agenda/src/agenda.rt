@@ -1,10 +1,11 @@
-//! What is to come in a net, in a bucket for each moment.
+//! The pending events of a net, in a bucket for each moment.
 
-ghost use Rattle.std.specs.Prelude.{◌≡◌, ℕ, ◌≤◌, length, take, not, List, [], ◌∷◌, ◌++◌, map, OnOk, IfOk, MatchOption};
-ghost use Rattle.std.specs.List.{filter, filter_map};
+ghost use Rattle.std.specs.Prelude.{◌≡◌, ◌≤◌, length, take, List, [], ◌∷◌, map, OnOk, IfOk, MatchOption};
+ghost use Rattle.std.specs.List.{filter_map};
 ghost use Rattle.radio_medium.specs.Medium.{copy_of};
-ghost use Rattle.window_law.specs.Agenda.{Item, Wake, Packet, IsLeast, comes_at, is_wake_of, packets, wake_items};
-ghost use Rattle.net_agenda.specs.Buckets.{Holds, arrivals_at, first_key, item_at};
+ghost use Rattle.window_law.specs.Agenda.{Item, Wake, Packet, IsLeast, packets, wake_items};
+ghost use Rattle.net_agenda.specs.Buckets.{Holds, first_key, item_at};
+ghost use Rattle.net_agenda.specs.Changes.{Adds, AreDue, DropsWake, MovesWake, TakesDue};
 
 use crate::bucket::{Bucket, Coming};
 use crate::spread::Lists;
@@ -12,7 +13,7 @@ use radio_packet::{Arrival, Fate, RadioCopy, Sent};
 use std::alloc::{AllocError, Global};
 use std::collections::BTreeMap;
 
-/// The motes' wakes and the copies of packets on their way: all that is to come, by moment.
+/// The pending events of a net, by moment: the motes' wakes, and the copies of packets on their way.
 #[derive(Drop)]
 pub struct Agenda {
     alloc: Global,
@@ -21,7 +22,7 @@ pub struct Agenda {
 }
 
 impl Agenda {
-    /// Nothing is to come.
+    /// No event is pending.
     pub fn new(alloc: Global) -> Agenda
         ensures { Holds result.buckets [] }
     {
@@ -32,9 +33,9 @@ impl Agenda {
         }
     }
 
-    /// Adds what is to come to a mote at a moment.
+    /// Adds a pending event of a mote at a moment.
     fn put(&mut self, moment: u64, coming: Coming) -> Result<(), AllocError>
-        ensures { OnOk result ((items : List Item) → Holds self.old.buckets items → Holds self.new.buckets (items ++ item_at moment coming ∷ [])) }
+        ensures { OnOk result (Adds self.old.buckets self.new.buckets (item_at moment coming ∷ [])) }
     {
         if let Some(bucket) = self.buckets.get_mut(&moment) {
             return bucket.put(coming);
@@ -47,14 +48,14 @@ impl Agenda {
 
     /// Adds a wake of a mote.
     pub fn put_wake(&mut self, moment: u64, mote: u16) -> Result<(), AllocError>
-        ensures { OnOk result ((items : List Item) → Holds self.old.buckets items → Holds self.new.buckets (items ++ Wake moment mote ∷ [])) }
+        ensures { OnOk result (Adds self.old.buckets self.new.buckets (Wake moment mote ∷ [])) }
     {
         self.put(moment, Coming::Wake(mote))
     }
 
     /// Adds the next wake of a mote, if it has one.
     pub fn put_next_wake(&mut self, wake: Option<u64>, mote: u16) -> Result<(), AllocError>
-        ensures { OnOk result ((items : List Item) → Holds self.old.buckets items → Holds self.new.buckets (items ++ wake_items mote wake)) }
+        ensures { OnOk result (Adds self.old.buckets self.new.buckets (wake_items mote wake)) }
     {
         if let Some(moment) = wake {
             self.put_wake(moment, mote)?;
@@ -62,14 +63,15 @@ impl Agenda {
         Ok(())
     }
 
-    /// Adds a packet on its way, and those after it that come at the same moment, up to the first one that doesn't. Says how many of
-    /// these there were.
+    /// Adds a packet on its way, and those after it that come at the same moment, up to the first one that doesn't.
+    /// Returns how many of these there were.
     fn put_same_copies(
         &mut self,
         copy: &RadioCopy,
         later: &[RadioCopy],
     ) -> Result<usize, AllocError>
-        ensures held { IfOk result (λ count. (items : List Item) → Holds self.old.buckets items → Holds self.new.buckets (items ++ map Packet (copy.now ∷ take count later.now))) }
+        ensures held { IfOk result (λ count. Adds self.old.buckets self.new.buckets
+            (map Packet (copy.now ∷ take count later.now))) }
         ensures inside { IfOk result (λ count. count ≤ length later.now) }
     {
         if let Some(bucket) = self.buckets.get_mut(&copy.at) {
@@ -83,7 +85,7 @@ impl Agenda {
 
     /// Adds packets on their way.
     pub fn put_copies(&mut self, copies: &[RadioCopy]) -> Result<(), AllocError>
-        ensures { OnOk result ((items : List Item) → Holds self.old.buckets items → Holds self.new.buckets (items ++ map Packet copies.now)) }
+        ensures { OnOk result (Adds self.old.buckets self.new.buckets (map Packet copies.now)) }
     {
         let mut next = 0;
         while next < copies.len() {
@@ -92,15 +94,16 @@ impl Agenda {
         Ok(())
     }
 
-    /// Adds the copy of a packet that has this fate, where it isn't lost, and then those with the fates after it, up to the first one
-    /// that comes at another moment. Says how many fates after it it went through.
+    /// Adds the copy of a packet that has this fate, where it isn't lost, and then those with the fates after it, up to
+    /// the first one that comes at another moment. Returns how many fates after it it went through.
     fn put_same_fates(
         &mut self,
         sent: &Sent,
         fate: &Fate,
         later: &[Fate],
     ) -> Result<usize, AllocError>
-        ensures held { IfOk result (λ count. (items : List Item) → Holds self.old.buckets items → Holds self.new.buckets (items ++ map Packet (filter_map (copy_of sent.now) (fate.now ∷ take count later.now)))) }
+        ensures held { IfOk result (λ count. Adds self.old.buckets self.new.buckets
+            (map Packet (filter_map (copy_of sent.now) (fate.now ∷ take count later.now)))) }
         ensures inside { IfOk result (λ count. count ≤ length later.now) }
     {
         let Some(moment) = fate.at else {
@@ -117,7 +120,8 @@ impl Agenda {
 
     /// Adds the copies of a packet whose fates these are: those that aren't lost.
     pub fn put_fates(&mut self, sent: &Sent, fates: &[Fate]) -> Result<(), AllocError>
-        ensures { OnOk result ((items : List Item) → Holds self.old.buckets items → Holds self.new.buckets (items ++ map Packet (filter_map (copy_of sent.now) fates.now))) }
+        ensures { OnOk result (Adds self.old.buckets self.new.buckets
+            (map Packet (filter_map (copy_of sent.now) fates.now))) }
     {
         let mut next = 0;
         while next < fates.len() {
@@ -128,7 +132,7 @@ impl Agenda {
 
     /// Takes out the one wake of a mote, if it has one.
     pub fn drop_wake(&mut self, wake: Option<u64>, mote: u16) -> Result<(), AllocError>
-        ensures { OnOk result ((items : List Item) → Holds self.old.buckets items → filter (is_wake_of mote) items ≡ wake_items mote wake → Holds self.new.buckets (filter (λ item. not (is_wake_of mote item)) items)) }
+        ensures { OnOk result (DropsWake mote wake self.old.buckets self.new.buckets) }
     {
         let Some(moment) = wake else {
             return Ok(());
@@ -149,7 +153,7 @@ impl Agenda {
         next: Option<u64>,
         mote: u16,
     ) -> Result<(), AllocError>
-        ensures { OnOk result ((items : List Item) → Holds self.old.buckets items → filter (is_wake_of mote) items ≡ wake_items mote wake → Holds self.new.buckets (filter (λ item. not (is_wake_of mote item)) items ++ wake_items mote next)) }
+        ensures { OnOk result (MovesWake mote wake next self.old.buckets self.new.buckets) }
     {
         if wake == next {
             return Ok(());
@@ -159,15 +163,15 @@ impl Agenda {
         Ok(())
     }
 
-    /// Takes out all that is to come to a mote at a moment. Its packets take the place of what the list has, in order.
+    /// Takes out all pending events of a mote at a moment. Its packets take the place of what the list has, in order.
     pub fn take_due_into(
         &mut self,
         moment: u64,
         mote: u16,
         arrivals: &mut Vec<Arrival>,
     ) -> Result<(), AllocError>
-        ensures copies { OnOk result ((items : List Item) → Holds self.old.buckets items → arrivals.new.items ≡ arrivals_at moment mote items) }
-        ensures rest { (items : List Item) → Holds self.old.buckets items → Holds self.new.buckets (filter (λ item. not (comes_at moment mote item)) items) }
+        ensures copies { OnOk result (AreDue moment mote self.old.buckets arrivals.new.items) }
+        ensures rest { TakesDue moment mote self.old.buckets self.new.buckets }
     {
         let Some(bucket) = self.buckets.get_mut(&moment) else {
             arrivals.clear();
@@ -180,20 +184,21 @@ impl Agenda {
         taken
     }
 
-    /// Takes out all that is to come to a mote at a moment: its packets, in order.
+    /// Takes out all pending events of a mote at a moment, and returns its packets, in order.
     pub fn take_due(&mut self, moment: u64, mote: u16) -> Result<Vec<Arrival>, AllocError>
-        ensures copies { IfOk result (λ arrivals. (items : List Item) → Holds self.old.buckets items → arrivals.items ≡ arrivals_at moment mote items) }
-        ensures rest { (items : List Item) → Holds self.old.buckets items → Holds self.new.buckets (filter (λ item. not (comes_at moment mote item)) items) }
+        ensures copies { IfOk result (λ arrivals. AreDue moment mote self.old.buckets arrivals.items) }
+        ensures rest { TakesDue moment mote self.old.buckets self.new.buckets }
     {
         let mut arrivals = Vec::new(self.alloc);
         self.take_due_into(moment, mote, &mut arrivals)?;
         Ok(arrivals)
     }
 
-    /// The moment and the mote of what is to come first.
+    /// The moment and the mote of the first pending event.
     pub fn first(&self) -> Option<(u64, u16)>
         ensures first { result ≡ first_key self.now.buckets }
-        ensures least { (items : List Item) → Holds self.now.buckets items → MatchOption result (items ≡ []) (λ p. IsLeast p.0 p.1 items) }
+        ensures least { (items : List Item) → Holds self.now.buckets items
+            → MatchOption result (items ≡ []) (λ p. IsLeast p.0 p.1 items) }
     {
         match self.buckets.first_key_value() {
             Some((moment, bucket)) => match bucket.first() {

@@ -12,7 +12,8 @@ use std::alloc::{AllocError, Global};
 /// The mote with this number, before its first turn.
 pub fn new_mote(alloc: Global, net: &Net, number: u16) -> Result<Mote, AllocError>
     requires { number < length (net_of net.now).motes }
-    ensures { let n = net_of net.now in IfOk result (λ mote. node_in (tree_at n number) mote ≡ Some (first_node_in n number)) }
+    ensures { let n = net_of net.now in IfOk result
+        (λ mote. node_in (tree_at n number) mote ≡ Some (first_node_in n number)) }
 {
     let made = Mote::new(alloc, number, net.program(number), net.queue(number));
     let Ok(mut mote) = made else {

@@ -7,8 +7,8 @@ use Rattle.net_scenario.specs.declared.error.ScenarioError.{ScenarioError}
 use Rattle.net_scenario.specs.declared.error.ScenarioError.TheVariants as scenario
 use Rattle.net_report.specs.Report.{ReportTold}
 use Rattle.trace_printer.specs.ReportText.{report_text}
-use Rattle.window_workers.specs.Laws.{ReportIsOne}
-use Rattle.window_workers.specs.NetRun.{IsReportOf}
+use Rattle.serial_run.specs.Laws.{ReportIsOne}
+use Rattle.serial_run.specs.NetRun.{IsReportOf}
 use Rattle.simulation.specs.Input.{IsText}
 use Rattle.simulation.specs.Laws.{OneReport}
 use Rattle.simulation.specs.declared.simulate.SimError.{SimError}

@@ -4,7 +4,7 @@ use Rattle.std.proofs.lemmas.List.{length-map}
 use Rattle.radio_medium.specs.Medium.{medium_fault}
 use Rattle.net_scenario.specs.Document.{tables_at}
 use Rattle.mote_net.specs.Net.{NetTold}
-use Rattle.window_workers.specs.Laws.{ReportIsThere}
+use Rattle.serial_run.specs.Laws.{ReportIsThere}
 use Rattle.simulation.specs.Laws.{ScenarioHasReport}
 
 pub scenario_has_report : ReportIsThere → ScenarioHasReport

@@ -6,8 +6,8 @@ use Rattle.radio_medium.specs.declared.error.MediumError.TheVariants as medium
 use Rattle.net_scenario.specs.Errors.{scenario_fault_number}
 use Rattle.net_scenario.specs.declared.error.ScenarioError.{ScenarioError}
 use Rattle.net_scenario.specs.declared.error.ScenarioError.TheVariants as scenario
-use Rattle.window_workers.specs.declared.error.RunError.{RunError}
-use Rattle.window_workers.specs.declared.error.RunError.TheVariants as run
+use Rattle.serial_run.specs.declared.error.RunError.{RunError}
+use Rattle.serial_run.specs.declared.error.RunError.TheVariants as run
 use Rattle.trace_printer.specs.declared.error.PrintError.TheVariants as print
 use Rattle.simulation.specs.declared.simulate.SimError.{SimError}
 use Rattle.simulation.specs.declared.simulate.SimError.TheVariants as fault

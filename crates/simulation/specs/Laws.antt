@@ -3,7 +3,7 @@ use Rattle.std.specs.Prelude.{◌≡◌, ℕ, List, Some, Ok}
 use Rattle.net_report.specs.Report.{ReportTold}
 use Rattle.mote_net.specs.Net.{NetTold}
 use Rattle.net_scenario.specs.Reading.{TellsNet}
-use Rattle.window_workers.specs.NetRun.{IsReportOf}
+use Rattle.serial_run.specs.NetRun.{IsReportOf}
 use Rattle.simulation.specs.Simulation.{Way, SimulatedWith}
 
 -- The same scenario, the same bytes, on one thread or by any number of workers of either kind: of two runs that read the same

@@ -11,9 +11,9 @@ use Rattle.net_report.specs.Report.{ReportTold, report_of}
 use Rattle.net_report.specs.declared.Report.{Report}
 use Rattle.trace_printer.specs.Output.{AppendsFront}
 use Rattle.trace_printer.specs.ReportText.{report_text}
-use Rattle.window_workers.specs.NetRun.{IsReportOf}
-use Rattle.window_workers.specs.declared.error.RunError.{RunError}
-use Rattle.window_workers.specs.declared.error.RunError.TheVariants as run
+use Rattle.serial_run.specs.NetRun.{IsReportOf}
+use Rattle.serial_run.specs.declared.error.RunError.{RunError}
+use Rattle.serial_run.specs.declared.error.RunError.TheVariants as run
 use Rattle.window_workers.specs.declared.sync.SyncKind.{SyncKind}
 use Rattle.window_workers.specs.declared.sync.SyncKind.TheVariants.{Marks}
 use Rattle.simulation.specs.Input.{IsText}

@@ -17,11 +17,13 @@ with_earlier lines sends mote = record mote { lines = lines ++ mote.lines; sends
 -- what was written and sent before a window stays in front of what its run adds
 abbrev pub EarlierStaysInFront : Type 0
 EarlierStaysInFront = (window : Window) (last : LoneNode) → EndsAs window last → (lines : List Line) (sends : List Sent)
-    → WindowRun (number_of window.mote.state) window.until window.copies (with_earlier lines sends window.mote) (with_earlier lines sends last)
+    → WindowRun (number_of window.mote.state) window.until window.copies (with_earlier lines sends window.mote)
+    (with_earlier lines sends last)
 
 -- a window that begins with the wake of its mote ends with the wake of its mote
 abbrev pub EndsWithItsWake : Type 0
-EndsWithItsWake = (window : Window) (last : LoneNode) → window.mote.wake ≡ wake_of window.mote.state → EndsAs window last → last.wake ≡ wake_of last.state
+EndsWithItsWake = (window : Window) (last : LoneNode) → window.mote.wake ≡ wake_of window.mote.state
+    → EndsAs window last → last.wake ≡ wake_of last.state
 
 -- what comes next comes after the mote's last turn
 abbrev pub IsAhead : Window → Type 0

@@ -7,7 +7,9 @@ use Rattle.window_run.specs.Window.{LoneNode, Window, EndsAs}
 
 -- the mote that a window left, with what it wrote and sent there
 abbrev pub shown : Tree → WindowOut → Option LoneNode
-shown program out = option_map (λ n. record { state = n; wake = out.wake; lines = out.lines.items; sends = out.sends.items }) (node_in program out.mote)
+shown program out =
+    option_map (λ n. record { state = n; wake = out.wake; lines = out.lines.items; sends = out.sends.items })
+    (node_in program out.mote)
 
 -- this is what the window's run gives
 pub record Gives (window : Window) (out : WindowOut) : Type 0 where

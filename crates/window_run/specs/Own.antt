@@ -13,7 +13,8 @@ use Rattle.window_run.specs.declared.own.OwnWindow.{OwnWindow}
 use Rattle.window_run.specs.Window.{Window, IsNextOf}
 
 -- the window of a mote whose node is this
-abbrev pub window_over : Tree → (until : ℕ) → (copies : List RadioCopy) → (wake : Option ℕ) → (lines : List Line) → (sends : List Sent) → Node → Window
+abbrev pub window_over : Tree → (until : ℕ) → (copies : List RadioCopy) → (wake : Option ℕ) → (lines : List Line)
+    → (sends : List Sent) → Node → Window
 window_over program until copies wake lines sends n = record {
   program = program;
   until = until;
@@ -25,7 +26,8 @@ window_over program until copies wake lines sends n = record {
 unfoldable pub window_in : OwnWindow → Option Window
 window_in w =
     let program = tree_of w.program.now in
-    option_map (window_over program w.until (drop w.next w.copies.items) w.wake w.lines.items w.sends.items) (node_in program w.mote)
+    option_map (window_over program w.until (drop w.next w.copies.items) w.wake w.lines.items w.sends.items)
+    (node_in program w.mote)
 
 -- ---- of any mote, also of one that has failed
 -- what is still to come in a window, and what the mote wrote and sent there so far
@@ -49,7 +51,14 @@ course_in w = record {
 
 -- before the first turn; to a mote that has failed only copies come
 abbrev pub course_of : Tree → (until : ℕ) → (copies : List RadioCopy) → Option Node → Course
-course_of program until copies mote = record { program = program; until = until; copies = copies; wake = wake_in mote; lines = []; sends = [] }
+course_of program until copies mote = record {
+  program = program;
+  until = until;
+  copies = copies;
+  wake = wake_in mote;
+  lines = [];
+  sends = [];
+}
 
 -- nothing more comes before the bound
 abbrev pub IsSpent : Course → Type 0

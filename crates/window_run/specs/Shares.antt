@@ -25,7 +25,9 @@ pub record GivesNothing (program : Tree) (until : ℕ) (copies : List RadioCopy)
 
 -- a resident, which is this mote of the net, gives what its window's run says
 abbrev pub ResidentGives : NetTold → (until : ℕ) → Resident → WindowOut → Type 0
-ResidentGives n until resident out = IfSome (slice_get n.motes resident.number) (λ m. MatchOption (window_of until m resident) (GivesNothing m.tree until resident.copies.items out) (λ w. Gives w out))
+ResidentGives n until resident out = IfSome (slice_get n.motes resident.number)
+    (λ m. MatchOption (window_of until m resident) (GivesNothing m.tree until resident.copies.items out)
+    (λ w. Gives w out))
 
 -- so do all, place by place
 abbrev pub GivesList : NetTold → (until : ℕ) → List Resident → List WindowOut → Type 0

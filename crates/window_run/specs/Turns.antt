@@ -24,7 +24,7 @@ abbrev pub HasTurns : Option OwnWindow → Type 0
 HasTurns None = ⊥
 HasTurns (Some own) = CanGoOn (window_in own)
 
--- where there is no error, it is what the window gives; an error is want of memory, where the mote can go on
+-- where there is no error, it is what the window gives; an error is out of memory, where the mote can go on
 abbrev pub MayAnswer : Option OwnWindow → Result WindowOut MoteError → Type 0
 MayAnswer own (Ok out) = MayGive own out
 MayAnswer own (Err e) = HasTurns own → e ≡ Memory
@@ -60,7 +60,7 @@ pub record IsFirstError (course : Course) (window : Option Window) (e : MoteErro
   pub error : IfSome window (IsErrorAt moment e)
   pub refusal : window ≡ None → IsRefusal e
 
--- an error is that of the first turn, or tells that the window was given up
+-- an error is that of the first turn, or says that the window was given up
 abbrev pub ErrsAs : Option OwnWindow → MoteError → Type 0
 ErrsAs None e = e ≡ Failed
 ErrsAs (Some own) e = IsFirstError (course_in own) (window_in own) e

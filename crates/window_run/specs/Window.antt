@@ -23,10 +23,12 @@ lone_node n = record { state = n; wake = wake_of n; lines = []; sends = [] }
 abbrev pub number_of : Node → ℕ
 number_of n = n.mote.state.mote
 
--- One mote alone with its copies, up to a bound: while the lesser of its wake and the least moment of a copy is below the bound, a
--- turn there on all copies of that moment, in order of sender and number. It is the law's `Alone`, in whatever net the mote is.
+-- One mote alone with its copies, up to a bound: while the lesser of its wake and the least moment of a copy is below
+-- the bound, a turn there on all copies of that moment, in order of sender and number. It is the law's `Alone`, in
+-- whatever net the mote is.
 abbrev pub WindowRun : (number until : ℕ) → (copies : List RadioCopy) → (mote last : LoneNode) → Type 0
-WindowRun number until copies mote last = (system : System Node Line) → system.turn ≡ node_turn → Alone system number until copies mote last
+WindowRun number until copies mote last =
+    (system : System Node Line) → system.turn ≡ node_turn → Alone system number until copies mote last
 
 -- a mote in its window, and the copies that are still to come; its program is this
 pub record Window : Type 0 where
@@ -58,7 +60,8 @@ pub record HasTurn (moment : ℕ) (window : Window) : Type 0 where
 
 -- what a mote is after its turn on these copies
 abbrev pub lone_turn : (moment : ℕ) → LoneNode → (given : List RadioCopy) → LoneNode
-lone_turn moment mote given = let number = number_of mote.state in after_own moment number mote (node_turn number mote.state moment given)
+lone_turn moment mote given =
+    let number = number_of mote.state in after_own moment number mote (node_turn number mote.state moment given)
 
 -- the window after the turn at this moment
 abbrev pub window_after_turn : (moment : ℕ) → Window → Window
@@ -69,13 +72,15 @@ window_after_turn moment window = record window {
 
 -- by moment, then sender, then number; copies with the same of all three may stand in any order
 abbrev pub comes_before : RadioCopy → RadioCopy → Bool
-comes_before a b = nat_lt a.at b.at || ((a.at == b.at) && (nat_lt a.sender b.sender || ((a.sender == b.sender) && not (nat_lt b.number a.number))))
+comes_before a b = nat_lt a.at b.at
+    || ((a.at == b.at) && (nat_lt a.sender b.sender || ((a.sender == b.sender) && not (nat_lt b.number a.number))))
 
--- each copy comes before all behind it
+-- each copy comes before all after it
 abbrev pub is_rising : List RadioCopy → Bool
 is_rising [] = true
 is_rising (x ∷ xs) = list_all (comes_before x) xs && is_rising xs
 
 -- a window before its first turn; there is none for a mote that has failed
 abbrev pub opened : Tree → (until : ℕ) → (copies : List RadioCopy) → Option Node → Option Window
-opened program until copies mote = option_map (λ n. record { program = program; until = until; copies = copies; mote = lone_node n }) mote
+opened program until copies mote =
+    option_map (λ n. record { program = program; until = until; copies = copies; mote = lone_node n }) mote

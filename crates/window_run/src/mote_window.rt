@@ -21,8 +21,8 @@ use radio_packet::RadioCopy;
 use std::alloc::Global;
 use std::mem;
 
-/// A mote in its window, until it was ready. A poll with a turn left takes exactly that turn, at the lesser of the mote's wake and
-/// the next copy's moment, and yields; with no turn left below the bound it is ready.
+/// A mote in its window, until it was ready. A poll with a turn left takes exactly that turn, at the lesser of the
+/// mote's wake and the next copy's moment, and yields; with no turn left below the bound it is ready.
 pub struct MoteWindow<'a, G> {
     own: Option<OwnWindow<'a>>,
     worker: u16,
@@ -42,8 +42,8 @@ impl<G> Drop for MoteWindow<'_, G> {
 }
 
 impl<'a, G: Gate> MoteWindow<'a, G> {
-    /// The window of a mote with this program, up to `until`, which is at most 2^40. The copies are the mote's, each below
-    /// `until`, in the order of moment, sender and number. This takes no memory.
+    /// The window of a mote with this program, up to `until`, which is at most 2^40. The copies are the mote's, each
+    /// below `until`, in the order of moment, sender and number. This takes no memory.
     pub fn new(
         alloc: Global,
         mote: Mote,
@@ -56,15 +56,17 @@ impl<'a, G: Gate> MoteWindow<'a, G> {
         requires until { until ≤ 2 ^ 40 }
         requires rising { is_rising copies.items ≡ true }
         ensures worker { result.worker ≡ worker }
-        ensures window { let p = tree_of program.now in IsSomeAnd result.own (λ own. window_in own ≡ opened p until copies.items (node_in p mote)) }
-        ensures course { let p = tree_of program.now in IsSomeAnd result.own (λ own. course_in own ≡ course_of p until copies.items (node_in p mote)) }
+        ensures window { let p = tree_of program.now in
+            IsSomeAnd result.own (λ own. window_in own ≡ opened p until copies.items (node_in p mote)) }
+        ensures course { let p = tree_of program.now in
+            IsSomeAnd result.own (λ own. course_in own ≡ course_of p until copies.items (node_in p mote)) }
     {
         let room = WindowRoom::new(alloc);
         let own = OwnWindow::new(alloc, mote, program, copies, until, room);
         MoteWindow::over(own, worker, gate)
     }
 
-    /// The window of a mote, as it stands.
+    /// The window of a mote, as is.
     pub(crate) fn over(own: OwnWindow<'a>, worker: u16, gate: &'a G) -> MoteWindow<'a, G>
         ensures worker { result.worker ≡ worker }
         ensures own { result.own ≡ Some own.entry }
@@ -90,12 +92,12 @@ impl<G: Gate> Future for MoteWindow<'_, G> {
 
     ghost gives = { λ w r. MayAnswer w.own r };
 
-    /// Takes one turn and yields, or is ready. A mote that had failed takes none: it is ready with what it had, where nothing comes to
-    /// it in the window.
+    /// Takes one turn and yields, or is ready. A mote that had failed takes none: it is ready with what it had, where
+    /// nothing comes to it in the window.
     ///
     /// # Errors
-    /// That of the turn, and then the mote is given up; `Failed` at a poll after that, and where something comes to a mote that had
-    /// failed before.
+    /// That of the turn, and then the mote is given up; `Failed` at a poll after that, and where something comes to a
+    /// mote that had failed before.
     fn poll(&mut self, cx: &mut Context<'_>) -> Poll<Self::Output>
         ensures value { IfReady result (MayAnswer self.old.own) }
         ensures again { OnPending result ⊤ }

@@ -1,6 +1,7 @@
 //! The engine of one mote's window.
 
-ghost use Rattle.std.specs.Prelude.{◌≡◌, ◌≤◌, ◌^◌, true, Some, map, vec_len, IfErr, IfSome, MatchOption, OnOk, None, []};
+ghost use Rattle.std.specs.Prelude.{◌≡◌, ◌≤◌, ◌^◌, true, Some, map, vec_len};
+ghost use Rattle.std.specs.Prelude.{IfErr, IfSome, MatchOption, OnOk, None, []};
 ghost use Rattle.std.specs.List.{take_while};
 ghost use Rattle.program_tree.specs.Program.{tree_of};
 ghost use Rattle.mote_node.specs.Public.{node_in};
@@ -54,9 +55,9 @@ impl<'a> OwnWindow<'a> {
     ghost use Rattle.window_run.specs.Own.{window_in, course_in, course_of, IsSpent, ComesNext, StaysFailed};
     ghost use Rattle.window_run.specs.Turns.{TurnsTo, IsErrorAt, IsRefusal};
 
-    /// The mote, with this program, before its first turn in the window. The copies are the mote's, each below `until`, in the
-    /// order of moment, sender and number. `until` is at most 2^40. Lines and packets are written into this room. This takes no
-    /// memory.
+    /// The mote, with this program, before its first turn in the window. The copies are the mote's, each below `until`,
+    /// in the order of moment, sender and number. `until` is at most 2^40. Lines and packets are written into this
+    /// room. This takes no memory.
     #[tactic(auto, unfolding(crate::specs::Own::window_in, crate::specs::Own::course_in))]
     pub fn new(
         alloc: Global,
@@ -68,8 +69,10 @@ impl<'a> OwnWindow<'a> {
     ) -> OwnWindow<'a>
         requires until { until ≤ 2 ^ 40 }
         requires rising { is_rising copies.items ≡ true }
-        ensures window { let p = tree_of program.now in window_in result ≡ opened p until copies.items (node_in p mote) }
-        ensures course { let p = tree_of program.now in course_in result ≡ course_of p until copies.items (node_in p mote) }
+        ensures window { let p = tree_of program.now in
+            window_in result ≡ opened p until copies.items (node_in p mote) }
+        ensures course { let p = tree_of program.now in
+            course_in result ≡ course_of p until copies.items (node_in p mote) }
     {
         let wake = mote.wake();
         let WindowRoom {
@@ -106,11 +109,12 @@ impl<'a> OwnWindow<'a> {
         }
     }
 
-    /// Takes the turn at that moment, in the room that an earlier turn left, or in one that is made now. Once the copies for it are
-    /// there, the gate is called, and then the mote takes them.
+    /// Takes the turn at that moment, in the room that an earlier turn left, or in one that is made now. Once the
+    /// copies for it are there, the gate is called, and then the mote takes them.
     ///
     /// # Errors
-    /// That of `Mote::turn`, so `Failed` where the mote had failed; `Memory` also where the room, copies, lines or packets found none.
+    /// That of `Mote::turn`, so `Failed` where the mote had failed; `Memory` also where an allocation for buffers,
+    /// copies, lines or packets failed.
     #[tactic(auto, unfolding(crate::specs::Own::window_in))]
     pub fn turn<G: Gate>(
         &mut self,
@@ -149,7 +153,7 @@ impl<'a> OwnWindow<'a> {
             until: _,
             mote,
             wake,
-            copies,
+            copies: _,
             next: _,
             lines,
             sends,
@@ -159,7 +163,6 @@ impl<'a> OwnWindow<'a> {
             lines,
             sends,
             wake,
-            copies,
         }
     }
 }
@@ -188,7 +191,7 @@ fn arrival(copy: &RadioCopy) -> Arrival
     }
 }
 
-/// Takes the copies at the front that arrive at this moment.
+/// Takes the first copies, those that arrive at this moment.
 fn take_arrivals(
     copies: &[RadioCopy],
     moment: u64,

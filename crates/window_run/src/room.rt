@@ -4,8 +4,8 @@ use process_kernel::{Line, Out};
 use radio_packet::{Arrival, Sent};
 use std::alloc::{AllocError, Global};
 
-/// What comes to a mote in a turn, and what the turn tells. Each turn begins with both anew, so the room goes from turn to turn, and
-/// from mote to mote.
+/// Scratch buffers of a turn, for what comes to a mote and what it writes and sends. Each turn begins with both anew,
+/// so they go from turn to turn, and from mote to mote.
 #[derive(Drop)]
 pub struct TurnRoom {
     pub(crate) arrivals: Vec<Arrival>,

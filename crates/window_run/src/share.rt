@@ -10,8 +10,8 @@ use std::alloc::AllocError;
 use std::error::Error;
 use std::fmt;
 
-/// A mote with its number in the net, the copies that come to it in the window, in the order of moment, sender and number, and the
-/// room for what it writes and sends there.
+/// A mote with its number in the net, the copies that come to it in the window, in the order of moment, sender and
+/// number, and the room for what it writes and sends there.
 #[derive(Drop)]
 pub struct Resident {
     pub number: u16,
@@ -31,7 +31,7 @@ pub struct Residents {
 /// Why a worker gives nothing.
 #[derive(Clone, Copy, Debug, PartialEq, Eq)]
 pub enum ShareError {
-    /// No memory was found.
+    /// Out of memory; an allocation failed.
     Memory = 1,
     /// The executor answered an error.
     Thread = 2,

@@ -27,8 +27,8 @@ use std::mem;
 use std::random::RandomSource;
 use std::sync::Wait;
 
-/// Polls each unfinished window once in turn, and then yields. It is ready once all are, with what they gave, in the order of the
-/// residents; or once one gave an error.
+/// Polls each unfinished window once in turn, and then yields. It is ready once all are, with what they gave, in the
+/// order of the residents; or once one gave an error.
 pub struct ShareWindow<'a, G> {
     alloc: Global,
     slots: Vec<Slot<'a, G>>,
@@ -71,8 +71,8 @@ fn open<'a, G: Gate>(
 }
 
 impl<'a, G: Gate> ShareWindow<'a, G> {
-    /// The worker's motes, each before its first turn in the window up to `until`, which is at most 2^40. Each is a mote of the
-    /// net.
+    /// The worker's motes, each before its first turn in the window up to `until`, which is at most 2^40. Each is a
+    /// mote of the net.
     pub fn new(
         alloc: Global,
         net: &'a Net,
@@ -82,8 +82,10 @@ impl<'a, G: Gate> ShareWindow<'a, G> {
     ) -> Result<ShareWindow<'a, G>, AllocError>
         requires until { until ≤ 2 ^ 40 }
         requires there { AreInNet (net_of net.now) share.residents.items }
-        ensures gives { IfOk result (λ w. (outs : List OutOfCode) → SlotsGive w.slots.items outs → GivesList (net_of net.now) until share.residents.items outs) }
-        ensures go_on { IfOk result (λ w. AreGoingOn (net_of net.now) until share.residents.items → SlotsGoOn w.slots.items) }
+        ensures gives { IfOk result (λ w. (outs : List OutOfCode) → SlotsGive w.slots.items outs
+            → GivesList (net_of net.now) until share.residents.items outs) }
+        ensures go_on { IfOk result (λ w. AreGoingOn (net_of net.now) until share.residents.items
+            → SlotsGoOn w.slots.items) }
     {
         let Residents { worker, residents } = share;
         let mut slots = Vec::with_capacity(alloc, residents.len())?;
@@ -122,7 +124,8 @@ fn advance_each<G: Gate>(
     room: &mut Option<Box<TurnRoom>>,
     cx: &mut Context<'_>,
 ) -> Result<(), MoteError>
-    ensures same { OnOk result ((outs : List OutOfCode) → SlotsGive slots.new.items outs → SlotsGive slots.old.items outs) }
+    ensures same { OnOk result ((outs : List OutOfCode) → SlotsGive slots.new.items outs
+        → SlotsGive slots.old.items outs) }
     ensures go_on { OnOk result (SlotsGoOn slots.old.items → SlotsGoOn slots.new.items) }
     ensures err { IfErr result (λ e. SlotsGoOn slots.old.items → e ≡ Memory) }
     ensures kept { Keeps cx.old cx.new }
@@ -156,8 +159,9 @@ fn gathered<G: Gate>(alloc: Global, slots: Vec<Slot<'_, G>>) -> Result<Vec<Windo
     Ok(outs)
 }
 
-/// Runs a worker's motes, each of them a mote of the net, through the window up to `until`, which is at most 2^40, by the worker's
-/// future. What each gives stands in the order of the residents. No mote has failed, and what comes to each comes after its last turn.
+/// Runs a worker's motes, each of them a mote of the net, through the window up to `until`, which is at most 2^40, by
+/// the worker's future. What each gives stands in the order of the residents. No mote has failed, and what comes to
+/// each comes after its last turn.
 ///
 /// # Errors
 /// `Memory`, and `Thread` where the executor answered an error.

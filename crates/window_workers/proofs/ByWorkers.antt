@@ -29,13 +29,13 @@ use Rattle.worker_crew.proofs.Lookups.{there, read, zip_inside, zip_long}
 use Rattle.net_report.specs.declared.Report.{Report}
 use Rattle.net_report.specs.Report.{Packet, ReportTold, lines_in, told_line, report_of}
 use Rattle.window_workers.specs.Carried.{Pair, packets_told, HasCarried, AllCarried}
-use Rattle.window_workers.specs.NetRun.{packet_with_fates, IsReportOf}
+use Rattle.serial_run.specs.NetRun.{packet_with_fates, IsReportOf}
 use Rattle.window_workers.specs.Over.{TellsWhatItKept, logs_of, IsLogOf, AreTracesOf}
-use Rattle.window_workers.proofs.ByWindows.{windows_commute}
-use Rattle.window_workers.proofs.Handed.{traces_hand_on}
+use Rattle.serial_run.proofs.ByWindows.{windows_commute}
+use Rattle.serial_run.proofs.Handed.{traces_hand_on}
 use Rattle.window_workers.proofs.Joined.{is_joined, is_report, left_is, takers_long, traces_are}
 use Rattle.window_workers.proofs.Pairs.{each_mapped, second_at}
-use Rattle.window_workers.proofs.Stamps.{sent_packets}
+use Rattle.serial_run.proofs.Stamps.{sent_packets}
 use Rattle.window_workers.proofs.Waiting.{taken_by_end}
 
 abbrev told_of : List (List Line) → List Packet → ℕ → ReportTold

@@ -31,28 +31,12 @@ use Rattle.worker_crew.proofs.Lookups.{there, inside, read, beside, as_long, non
 use Rattle.worker_crew.proofs.Step.{own_by, some_worker}
 use Rattle.net_report.specs.Report.{lines_in}
 use Rattle.window_workers.specs.Carried.{Pair}
-use Rattle.window_workers.specs.Over.{TellsWhatItKept, logs_of, HasFates, AreTracesOf}
+use Rattle.worker_share.specs.Log.{HaveFates, packets_in}
+use Rattle.window_workers.specs.Over.{TellsWhatItKept, lines_of, logs_of, AreTracesOf}
 use Rattle.window_workers.proofs.Pairs.{beyond, each_permutes, same_found}
-use Rattle.window_workers.proofs.Reports.{family}
+use Rattle.serial_run.proofs.Reports.{family}
 use Rattle.window_workers.proofs.Sums.{two_sums}
 use Rattle.window_workers.proofs.Waiting.{left_here}
-
--- no packet of a run is sent after the end
-each_stamped : (end t m : ℕ) → t ≤ end → (sends : List Sent) → Each (λ (sent : Sent). sent.at ≤ end) (map (stamped t m) sends)
-each_stamped end t m le [] = tt
-each_stamped end t m le (x ∷ sends) = (le, each_stamped end t m le sends)
-
-run_early : {S L : Type 0} {system : System S L} {end : ℕ} {net last : NetState S L} → Run system end net last → Each (λ (sent : Sent). sent.at ≤ end) net.log → Each (λ (sent : Sent). sent.at ≤ end) last.log
-run_early (Done h) early = early
-run_early {system = system} {end = end} {net = net} (Turn t m least le run) early = run_early run (every_append (λ (sent : Sent). sent.at ≤ end) net.log _ early (each_stamped end t m le (turned_at system t m net).sends))
-
--- what holds of each sender's packets
-of_each_sender : (P : Sent → Type 0) (xs : List Sent) → ((s : ℕ) → Each P (filter (is_sent_by s) xs)) → Each P xs
-of_each_sender P [] h = tt
-of_each_sender P (x ∷ xs) h =
-    let e : eqb x.sender x.sender ≡ true = grind (arith) in
-    let g = rw e at (h x.sender) in
-    (g.0, of_each_sender P xs (λ s. elim (cases_Bool (eqb x.sender s)) [ inl t ↦ (let k = rw t at (h s) in k.1) | inr t ↦ (let k = rw t at (h s) in k) ]))
 
 -- a mote past the last is nobody's
 nobody : (of : List ℕ) (s i : ℕ) → length of ≤ s → is_own of i s ≡ false
@@ -102,10 +86,10 @@ module _ (n : NetTold) (fine : RunsForward (system_of n)) (of : List ℕ) (crew 
   unfolding system_of
   is_joined s = of_case (cases_Bool (ltb s (length n.motes)))
     where
-      of_one : (i : ℕ) (x : Ended) → slice_get ended i ≡ Some x → filter (is_sent_by s) x.log.items ≡ cond (is_own of i s) (at.motes s).sends []
+      of_one : (i : ℕ) (x : Ended) → slice_get ended i ≡ Some x → filter (is_sent_by s) (packets_in x.log.items) ≡ cond (is_own of i s) (at.motes s).sends []
       of_one i x e = (piece i x e).tells.log s
 
-      foreign : (i : ℕ) (x : Ended) → slice_get ended i ≡ Some x → is_own of i s ≡ false → filter (is_sent_by s) x.log.items ≡ []
+      foreign : (i : ℕ) (x : Ended) → slice_get ended i ≡ Some x → is_own of i s ≡ false → filter (is_sent_by s) (packets_in x.log.items) ≡ []
       foreign i x e f = of_one i x e ∙ (rw f refl)
 
       of_case : (ltb s (length n.motes) ≡ true) ⊎ (ltb s (length n.motes) ≡ false) → filter (is_sent_by s) (logs_of ended) ≡ sends_by (system_of n) at.motes s
@@ -114,36 +98,19 @@ module _ (n : NetTold) (fine : RunsForward (system_of n)) (of : List ℕ) (crew 
           let o = there ended w.0 (subst (λ l. w.0 < l) (sym ended_long) w.2) in
           let mine = own_by of w.0 s w.1 in
           rw t (
-          one_of (is_sent_by s) (λ (x : Ended). x.log.items) ended w.0 o.0 o.1 (λ i x e ne. foreign i x e (not_mine of s w.0 i w.1 ne))
+          one_of (is_sent_by s) (λ (x : Ended). packets_in x.log.items) ended w.0 o.0 o.1 (λ i x e ne. foreign i x e (not_mine of s w.0 i w.1 ne))
           ∙ (of_one w.0 o.0 o.1 ∙ (rw mine refl)))
-      of_case (inr t) = rw t (none_of (is_sent_by s) (λ (x : Ended). x.log.items) ended (λ i x e. foreign i x e (nobody of s i (subst (λ l. l ≤ s) (sym at.cut.len) (ltb-false s (length n.motes) t)))))
+      of_case (inr t) = rw t (none_of (is_sent_by s) (λ (x : Ended). packets_in x.log.items) ended (λ i x e. foreign i x e (nobody of s i (subst (λ l. l ≤ s) (sym at.cut.len) (ltb-false s (length n.motes) t)))))
 
   pub is_report : IsReport (system_of n) n.end (map (λ number. (at.motes number).lines) (up_to (system_of n).motes)) (as_log (logs_of ended)) (length (coming (system_of n) fine (suc n.end) at.motes))
   is_report = at_the_end (system_of n) fine n.end at.motes at.led (logs_of ended) is_joined
 
-  early : Each (λ (sent : Sent). sent.at ≤ n.end) (logs_of ended)
-  early =
-      let log = logs_of ended in
-      let of_run = subst (Each (λ (sent : Sent). sent.at ≤ n.end)) (sym is_report.log_is) (run_early is_report.run tt) in
-      each_permutes (λ (sent : Sent). sent.at ≤ n.end) (as_log log) log (IsPermutation-sym _ _ (sorted_permutes (λ sent. sent.at) (λ sent. sent.sender) log)) of_run
-
-  senders_there : Each (λ (sent : Sent). sent.sender < length n.motes) (logs_of ended)
-  unfolding system_of
-  senders_there = of_each_sender (λ (sent : Sent). sent.sender < length n.motes) (logs_of ended) one
+  pub all_fates : HaveFates n.radio (lines_of ended)
+  all_fates = every_flat_map _ (λ (one : Ended). one.log.items) ended (each_from ended (λ v one e. (piece v one e).tells.fates))
     where
-      one : (s : ℕ) → Each (λ (sent : Sent). sent.sender < length n.motes) (filter (is_sent_by s) (logs_of ended))
-      one s = elim (cases_Bool (ltb s (length n.motes))) [
-        | inl t ↦ (let low = ltb-true s (length n.motes) t in every_weaker (λ (sent : Sent). is_sent_by s sent ≡ true) (λ (sent : Sent). sent.sender < length n.motes) (λ x e. let q = eqb-true x.sender s e in omega arith) _ (every_passes (is_sent_by s) (logs_of ended)))
-        | inr t ↦ (let none : filter (is_sent_by s) (logs_of ended) ≡ [] = is_joined s ∙ (rw t refl) in subst (Each (λ (sent : Sent). sent.sender < length n.motes)) (sym none) tt)
-      ]
-
-  pub have_fates : n.end ≤ 2 ^ 40 → Each (HasFates (length n.motes)) (logs_of ended)
-  have_fates soon =
-      every_weaker (λ (sent : Sent). (sent.sender < length n.motes) × (sent.at ≤ n.end)) (HasFates (length n.motes)) (λ x h. (h.0, low x.at h.1)) (logs_of ended)
-      (every_both (λ (sent : Sent). sent.sender < length n.motes) (λ (sent : Sent). sent.at ≤ n.end) (logs_of ended) senders_there early)
-    where
-      low : (moment : ℕ) → moment ≤ n.end → moment ≤ 2 ^ 40
-      low moment h = omega arith
+      each_from : (xs : List Ended) → ((i : ℕ) (x : Ended) → slice_get xs i ≡ Some x → HaveFates n.radio x.log.items) → Each (λ (one : Ended). HaveFates n.radio one.log.items) xs
+      each_from [] h = tt
+      each_from (x ∷ xs) h = (h 0 x refl, each_from xs (λ i y e. h (suc i) y e))
 
   -- ---- traces
   pub all_places : Each (λ (one : Ended). length one.traces.items ≡ length of) ended

@@ -19,7 +19,7 @@ use Rattle.worker_share.specs.declared.share.Share.{Share}
 use Rattle.worker_share.specs.Share.{Motes, is_to_come}
 use Rattle.worker_crew.specs.Crew.{IsWorkerAt}
 use Rattle.worker_crew.proofs.Waiting.{same_copies, rest_later, waiting, gathered_is, to_come_is}
-use Rattle.window_workers.specs.Counted.{is_by}
+use Rattle.serial_run.specs.Counted.{is_by}
 
 is_late : (end at : ℕ) → suc end ≤ at → not (ltb end at) ≡ false
 is_late end at h = grind (arith, nat_tests)

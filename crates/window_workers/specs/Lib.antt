@@ -1,12 +1,4 @@
 pub mod Carried
-pub mod Counted
-pub mod Ended
 pub mod Fits
-pub mod Laws
-pub mod NetRun
-pub mod OnTime
 pub mod Over
-pub mod RunErrors
-pub mod Stamps
-pub mod Stands
 pub mod Sync

@@ -1,5 +1,5 @@
 -- What the workers leave at the end.
-use Rattle.std.specs.Prelude.{ℕ, ◌≡◌, ◌<◌, ◌≤◌, ◌^◌, List, length, map, slice_index, slice_index_or, Vec, IsPermutation}
+use Rattle.std.specs.Prelude.{ℕ, ◌≡◌, ◌<◌, Bool, List, length, map, slice_index, slice_index_or, Vec, IsPermutation}
 use Rattle.std.specs.List.{flat_map}
 use Rattle.std.specs.List.Sorted.{IsSortedBy}
 use Rattle.std.specs.declared.alloc.Global.{Global}
@@ -12,20 +12,30 @@ use Rattle.worker_share.specs.declared.share.Share.{Share}
 use Rattle.worker_share.specs.declared.share.Ended.{Ended}
 use Rattle.worker_share.specs.Share.{Motes, Keeps}
 use Rattle.worker_share.specs.Ended.{TellsAtEnd}
+use Rattle.worker_share.specs.Log.{packets_in}
+use Rattle.net_report.specs.declared.LogLine.{LogLine}
 use Rattle.net_report.specs.Report.{Packet}
-use Rattle.window_workers.specs.NetRun.{packet_with_fates}
+use Rattle.serial_run.specs.NetRun.{packet_with_fates}
 
 -- a share that is taken apart tells what it kept
 abbrev pub TellsWhatItKept : Share → Ended → Type 0
-TellsWhatItKept share ended = (n : NetTold) (of : List ℕ) (worker from : ℕ) (motes : Motes) (taken : List RadioCopy) → Keeps n of worker from motes taken share → TellsAtEnd n of worker from motes taken ended
+TellsWhatItKept share ended = (n : NetTold) (of : List ℕ) (worker from : ℕ) (motes : Motes) (taken : List RadioCopy)
+    → Keeps n of worker from motes taken share → TellsAtEnd n of worker from motes taken ended
 
--- the packets of all workers, one worker's after another's
+-- the packets of all workers with their fates, one worker's after another's
+abbrev pub lines_of : List Ended → List LogLine
+lines_of ended = flat_map (λ one. one.log.items) ended
+
 abbrev pub logs_of : List Ended → List Sent
-logs_of ended = flat_map (λ one. one.log.items) ended
+logs_of ended = flat_map (λ one. packets_in one.log.items) ended
 
--- the medium can tell the fates of such a packet: its sender is there, and its moment early enough
-abbrev pub HasFates : (motes : ℕ) → Sent → Type 0
-HasFates motes sent = (sent.sender < motes) × (sent.at ≤ 2 ^ 40)
+-- by moment, then sender, then number of their packets
+abbrev pub is_sooner_line : LogLine → LogLine → Bool
+is_sooner_line a b = is_sooner a.sent b.sent
+
+-- its traces are the other's
+abbrev pub KeepsTraces : Ended → Ended → Type 0
+KeepsTraces old new = new.traces ≡ old.traces
 
 -- these packets in the order of moment, sender and number, each with the fates of its copies
 pub record IsLogOf (n : NetTold) (sends : List Sent) (log : List Packet) : Type 0 where
@@ -42,10 +52,13 @@ trace_at ended worker mote d e = slice_index_or (slice_index_or ended worker d).
 pub record TakesTrace (worker mote : ℕ) (old new : List Ended) (trace : Vec Line Global) : Type 0 where
   pub taken : (d : Ended) (e : Vec Line Global) → trace ≡ trace_at old worker mote d e
   pub count : length new ≡ length old
-  pub places : (w : ℕ) (d : Ended) → length (slice_index_or new w d).traces.items ≡ length (slice_index_or old w d).traces.items
-  pub others : (w k : ℕ) (d : Ended) (e : Vec Line Global) → (k ≡ mote → ⊥) → trace_at new w k d e ≡ trace_at old w k d e
+  pub places : (w : ℕ) (d : Ended) → length (slice_index_or new w d).traces.items
+      ≡ length (slice_index_or old w d).traces.items
+  pub others : (w k : ℕ) (d : Ended) (e : Vec Line Global) → (k ≡ mote → ⊥) → trace_at new w k d e
+      ≡ trace_at old w k d e
 
 -- of each mote the trace that its worker told
 pub record AreTracesOf (of : List ℕ) (ended : List Ended) (traces : List (Vec Line Global)) : Type 0 where
   pub count : length traces ≡ length of
-  pub each : (k : ℕ) (d : Ended) (e : Vec Line Global) → k < length of → slice_index_or traces k e ≡ trace_at ended (slice_index of k) k d e
+  pub each : (k : ℕ) (d : Ended) (e : Vec Line Global) → k < length of → slice_index_or traces k e
+      ≡ trace_at ended (slice_index of k) k d e

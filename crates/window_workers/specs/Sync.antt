@@ -1,4 +1,4 @@
--- How workers wait for one another, and the inboxes for it.
+-- The kinds of synchronization between workers, and the inboxes for each.
 use Rattle.std.specs.Prelude.{◌≡◌, Bool, true, false}
 use Rattle.copy_inbox.specs.Handles.{TakerView}
 use Rattle.window_workers.specs.declared.sync.SyncKind.{SyncKind}

@@ -44,7 +44,8 @@ fn left_to_come(ended: &[Ended]) -> Result<u64, AllocError>
 /// How many copies lie in the inboxes.
 fn left_in_inboxes(pairs: &[(Inbox, Taker)]) -> Result<u64, AllocError>
     requires { Each (λ pair. IsSettled pair.0 pair.1) pairs.now }
-    ensures { IfOk result (λ left. sum_by (λ pair. length (gathered_by pair.1)) pairs.now ≡ sum_by (λ pair. length (taken_by pair.1)) pairs.now + left) }
+    ensures { IfOk result (λ left. sum_by (λ pair. length (gathered_by pair.1)) pairs.now
+        ≡ sum_by (λ pair. length (taken_by pair.1)) pairs.now + left) }
 {
     let mut left = 0;
     for (inbox, taker) in pairs {
@@ -56,7 +57,8 @@ fn left_in_inboxes(pairs: &[(Inbox, Taker)]) -> Result<u64, AllocError>
 /// How many copies are left, with the workers and in the inboxes.
 pub fn left_of_all(ended: &[Ended], pairs: &[(Inbox, Taker)]) -> Result<u64, AllocError>
     requires { Each (λ pair. IsSettled pair.0 pair.1) pairs.now }
-    ensures { IfOk result (λ left. sum_by (λ one. one.left) ended.now + sum_by (λ pair. length (gathered_by pair.1)) pairs.now
+    ensures { IfOk result (λ left. sum_by (λ one. one.left) ended.now
+        + sum_by (λ pair. length (gathered_by pair.1)) pairs.now
         ≡ left + sum_by (λ pair. length (taken_by pair.1)) pairs.now) }
 {
     plus(left_to_come(ended)?, left_in_inboxes(pairs)?)

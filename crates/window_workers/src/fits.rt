@@ -4,7 +4,7 @@ ghost use Rattle.std.specs.Prelude.{◌≡◌, nat_lt};
 ghost use Rattle.std.specs.List.{list_all};
 ghost use Rattle.window_workers.specs.Fits.{cut_fault};
 
-use crate::error::RunError;
+use serial_run::RunError;
 
 /// The most workers that a run may have.
 pub const MOST_WORKERS: u16 = 16;

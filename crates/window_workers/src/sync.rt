@@ -1,15 +1,16 @@
-//! How workers wait for one another.
+//! The kinds of synchronization between workers.
 
 ghost use Rattle.std.specs.Prelude.{◌≡◌};
 ghost use Rattle.window_workers.specs.Sync.{has_marks};
 
-/// How workers wait for one another. The report is the same.
+/// The kind of synchronization between workers. The report is the same.
 #[derive(Clone, Copy, Debug, Default, PartialEq, Eq)]
 pub enum SyncKind {
     /// Each window has threads of its own, which are joined at its end. The inboxes have no marks.
     #[default]
     Joins,
-    /// Each worker has one thread for the whole run, and waits in it for the marks of the others. The inboxes have marks.
+    /// Each worker has one thread for the whole run, and waits in it for the marks of the others. The inboxes have
+    /// marks.
     Marks,
 }
 

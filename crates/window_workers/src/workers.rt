@@ -12,14 +12,14 @@ ghost use Rattle.worker_crew.specs.Worker.{IsCut};
 ghost use Rattle.net_report.specs.Report.{report_of};
 ghost use Rattle.window_workers.specs.Carried.{AllCarried};
 ghost use Rattle.window_workers.specs.Fits.{cut_fault, IsAnswerTo};
-ghost use Rattle.window_workers.specs.NetRun.{IsReportOf};
+ghost use Rattle.serial_run.specs.NetRun.{IsReportOf};
 ghost use Rattle.window_workers.specs.Sync.{IsFor};
 ghost use Rattle.window_workers.specs.declared.sync.SyncKind.TheVariants.{Marks};
 
 use crate::ended::{end_all, left_of_all};
-use crate::error::{RunError, of_refused};
 use crate::fits::fault_of;
 use crate::medium_log::medium_log;
+use crate::refusal::of_refused;
 use crate::sync::SyncKind;
 use crate::traces::joined_traces;
 use copy_exchange::{make_inboxes, paired, parted};
@@ -27,6 +27,7 @@ use copy_inbox::{Inbox, Taker};
 use mark_crew::run_marked;
 use mote_net::Net;
 use net_report::Report;
+use serial_run::RunError;
 use std::alloc::{AllocGlobal, Global};
 use std::random::RandomSource;
 use std::sync::Wait;
@@ -50,8 +51,8 @@ fn told(
     ensures carried { IfOk result (λ r. AllCarried (net_of net.now) of.now (report_of r.0) r.1.items) }
     ensures err { IfErr result (λ e. e ≡ RunError.Memory) }
 {
-    // Each wake and each copy comes later than the turn that makes it, so the windows of all motes are those of one run. The call is
-    // there for the prover alone, which learns from its clauses that the medium is without fault.
+    // Each wake and each copy comes later than the turn that makes it, so the windows of all motes are those of one
+    // run. The call's clauses say that the medium is without fault; what it returns isn't used.
     let _ahead = net.medium().lookahead(net.end());
     let Crew {
         shares,
@@ -59,11 +60,13 @@ fn told(
         takers,
         first_out: _,
     } = crew;
-    let pairs = paired(alloc, inboxes, takers)?;
+    let Ok(pairs) = paired(alloc, inboxes, takers) else {
+        return Err(RunError::Memory);
+    };
     let ended = end_all(alloc, shares)?;
     let left = left_of_all(&ended, &pairs)?;
-    let medium = medium_log(alloc, net, &ended)?;
-    let traces = joined_traces(alloc, of, ended)?;
+    let (medium, rest) = medium_log(alloc, ended)?;
+    let traces = joined_traces(alloc, of, rest)?;
     let report = Report {
         traces,
         medium,
@@ -72,7 +75,7 @@ fn told(
     Ok((report, pairs))
 }
 
-/// All windows of the run, by workers that wait for one another in this way.
+/// All windows of the run, by workers with this kind of synchronization.
 fn run_crew<R, G>(
     rt: &R,
     alloc: Global,
@@ -94,7 +97,8 @@ where
     requires first { AreFirst (net_of net.now) of.now (length crew.inboxes.items) crew.shares.items }
     ensures at { let n = net_of net.now in IfOk result (λ done. IsAt n of.now (suc n.end) done) }
     ensures inboxes { IfOk result (λ done. done.inboxes.items ≡ crew.inboxes.items) }
-    ensures all_taken { IfOk result (λ done. sync ≡ Marks → Each (λ taker. Whole taker.desk.gathered taker.desk.taken) done.takers.items) }
+    ensures all_taken { IfOk result (λ done. sync ≡ Marks
+        → Each (λ taker. Whole taker.desk.gathered taker.desk.taken) done.takers.items) }
     ensures err { IfErr result (IsAnswerTo sync None) }
 {
     let ran = match sync {
@@ -107,14 +111,16 @@ where
     }
 }
 
-/// The report of a net, by one worker for each inbox: copies from a mote of one worker to a mote of another go through the inbox of
-/// the receiver's worker. It is the report of one thread, whatever the cut, and however workers wait for one another: with joins
-/// the inboxes have no marks, and with marks they have. At the end every sender is gathered.
+/// The report of a net, by one worker for each inbox: copies from a mote of one worker to a mote of another go through
+/// the inbox of the receiver's worker. It is the report of one thread, whatever the cut, and whatever the kind of
+/// synchronization: with joins the inboxes have no marks, and with marks they have. At the end every sender is
+/// gathered.
 ///
 /// # Errors
-/// `Workers`, `CutLength` and `CutWorker` exactly where the cut doesn't fit, the first of them that holds; else `Memory`, or `Thread`
-/// where a thread couldn't be started, the gate refused a start, or an executor answered an error; with marks also `Stopped`, where
-/// a worker stopped for another and none found one of these. The inboxes are then given up.
+/// `Workers`, `CutLength` and `CutWorker` exactly where the cut doesn't fit, the first of them that holds; else
+/// `Memory`, or `Thread` where a thread couldn't be started, the gate refused a start, or an executor answered an
+/// error; with marks also `Stopped`, where a worker stopped because another worker failed, and none reported one of
+/// these. The inboxes are then given up.
 pub fn run_inboxes<R, G>(
     rt: &R,
     alloc: Global,
@@ -132,24 +138,30 @@ where
     ensures report { IfOk result (λ r. IsReportOf (net_of net.now) (report_of r.0)) }
     // There is a trace for each mote.
     ensures traces { IfOk result (λ r. vec_len r.0.traces ≡ length (net_of net.now).motes) }
-    // Each trace hands its events on, nothing follows a halt in it, and only a process that is not listed starts.
+    // Each trace delivers each accepted event, in order, nothing follows a halt in it, and only a process that is not
+    // listed starts.
     ensures handed_on { IfOk result (λ r. All (λ trace. IsInOrder trace.items) r.0.traces.items) }
     // The inboxes come back, in order, each with its taker, which has gathered all senders.
     ensures inboxes { IfOk result (λ r. map (λ pair. pair.0) r.1.items ≡ map (λ pair. pair.0) pairs.items) }
     ensures settled { IfOk result (λ r. Each (λ pair. IsSettled pair.0 pair.1) r.1.items) }
     // With marks nothing is left in them.
-    ensures none_known { IfOk result (λ r. sync ≡ Marks → Each (λ pair. known_of pair.1.desk.gathered pair.1.desk.taken ≡ 0) r.1.items) }
+    ensures none_known { IfOk result (λ r. sync ≡ Marks
+        → Each (λ pair. known_of pair.1.desk.gathered pair.1.desk.taken ≡ 0) r.1.items) }
     // They carried the copies that went from worker to worker, each once and nothing else.
     ensures carried { IfOk result (λ r. AllCarried (net_of net.now) cut.now.of.items (report_of r.0) r.1.items) }
     // A fault of the cut is answered exactly where there is one.
-    ensures fits { IfOk result (λ r. cut_fault (length (net_of net.now).motes) (length pairs.items) cut.now.of.items ≡ None) }
-    ensures err { IfErr result (IsAnswerTo sync (cut_fault (length (net_of net.now).motes) (length pairs.items) cut.now.of.items)) }
+    ensures fits { IfOk result (λ r. cut_fault (length (net_of net.now).motes) (length pairs.items) cut.now.of.items
+        ≡ None) }
+    ensures err { IfErr result (IsAnswerTo sync
+        (cut_fault (length (net_of net.now).motes) (length pairs.items) cut.now.of.items)) }
 {
     let of = cut.of.as_slice();
     if let Some(fault) = fault_of(net.motes(), pairs.len(), of) {
         return Err(fault);
     }
-    let (inboxes, takers) = parted(alloc, pairs)?;
+    let Ok((inboxes, takers)) = parted(alloc, pairs) else {
+        return Err(RunError::Memory);
+    };
     let Ok(crew) = Crew::start(alloc, net, of, inboxes, takers) else {
         return Err(RunError::Memory);
     };
@@ -157,12 +169,14 @@ where
     told(alloc, net, of, crew)
 }
 
-/// The report of a net, by so many workers, each in threads of its own: that of one thread, whatever the cut, and however workers
-/// wait for one another. Its inboxes are new ones, and end with it: the copies that are left in them are given up.
+/// The report of a net, by so many workers, each in threads of its own: that of one thread, whatever the cut, and
+/// whatever the kind of synchronization. Its inboxes are new ones, and end with it: the copies that are left in them
+/// are given up.
 ///
 /// # Errors
-/// `Workers`, `CutLength` and `CutWorker` exactly where the cut doesn't fit, the first of them that holds; else `Memory`, or `Thread`
-/// where a thread couldn't be started, the gate refused a start, or an executor answered an error; with marks also `Stopped`.
+/// `Workers`, `CutLength` and `CutWorker` exactly where the cut doesn't fit, the first of them that holds; else
+/// `Memory`, or `Thread` where a thread couldn't be started, the gate refused a start, or an executor answered an
+/// error; with marks also `Stopped`.
 pub fn run_workers<R, G>(
     rt: &R,
     alloc: Global,
@@ -178,7 +192,8 @@ where
     ensures report { IfOk result (λ r. IsReportOf (net_of net.now) (report_of r)) }
     // There is a trace for each mote.
     ensures traces { IfOk result (λ r. vec_len r.traces ≡ length (net_of net.now).motes) }
-    // Each trace hands its events on, nothing follows a halt in it, and only a process that is not listed starts.
+    // Each trace delivers each accepted event, in order, nothing follows a halt in it, and only a process that is not
+    // listed starts.
     ensures handed_on { IfOk result (λ r. All (λ trace. IsInOrder trace.items) r.traces.items) }
     // A fault of the cut is answered exactly where there is one.
     ensures fits { IfOk result (λ r. cut_fault (length (net_of net.now).motes) workers cut.now.of.items ≡ None) }
@@ -187,7 +202,9 @@ where
     if let Some(fault) = fault_of(net.motes(), usize::from(workers), &cut.of) {
         return Err(fault);
     }
-    let pairs = make_inboxes(alloc, usize::from(workers), sync.has_marks())?;
+    let Ok(pairs) = make_inboxes(alloc, usize::from(workers), sync.has_marks()) else {
+        return Err(RunError::Memory);
+    };
     let (report, _pairs) = run_inboxes(rt, alloc, net, cut, sync, gate, pairs)?;
     Ok(report)
 }

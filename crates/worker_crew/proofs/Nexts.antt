@@ -8,7 +8,8 @@ use Rattle.window_law.proofs.Lists.{every_append, every_weaker}
 use Rattle.worker_share.specs.declared.share.Share.{Share}
 use Rattle.worker_crew.specs.declared.worker.Worker.{Worker}
 use Rattle.worker_crew.specs.Worker.{IsNotBefore}
-use Rattle.worker_crew.specs.Crew.{FirstOfAll, TellsNext, IsNextOfAll}
+use Rattle.worker_crew.specs.Crew.{FirstOfAll, IsNextOfAll}
+use Rattle.worker_share.specs.Next.{TellsNext}
 
 pub taken_all : {X : Type 0} (xs : List X) (i : ℕ) → length xs ≤ i → i ≤ length xs → take i xs ≡ xs
 taken_all xs i h k = let e : i ≡ length xs = omega arith in ap (λ j. take j xs) e ∙ take-length xs

@@ -40,6 +40,7 @@ module _ (n : NetTold) (of : List ℕ) (worker : ℕ) (a b : Motes) (same : (k :
     traces_kept = h.traces_kept;
     traces = λ k m d. h.traces k m d ∙ ap (λ x. x.lines) (same k m);
     log = λ s. h.log s ∙ own_sends s;
+    fates = h.fates;
     agenda = record {
       items = h.agenda.items;
       holds = h.agenda.holds;

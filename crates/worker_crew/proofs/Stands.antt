@@ -15,7 +15,8 @@ use Rattle.worker_cut.proofs.Windows.{idle, receivers}
 use Rattle.worker_share.specs.declared.share.Share.{Share}
 use Rattle.worker_share.specs.Share.{Keeps, is_to_come}
 use Rattle.worker_crew.specs.declared.crew.Crew.{Crew}
-use Rattle.worker_crew.specs.Crew.{IsAt, IsWorkerAt, IsNextOfAll, TellsNext}
+use Rattle.worker_crew.specs.Crew.{IsAt, IsWorkerAt, IsNextOfAll}
+use Rattle.worker_share.specs.Next.{TellsNext}
 use Rattle.worker_crew.specs.Worker.{IsNotBefore}
 use Rattle.worker_crew.proofs.Lookups.{there, read, inside, as_long, each_at, each_from}
 use Rattle.worker_crew.proofs.Step.{own_by, some_worker}
@@ -89,7 +90,7 @@ module _ (n : NetTold) (fine : RunsForward (system_of n)) (of : List ℕ) (from 
       }
 
   keeps_on : (v : ℕ) → (p : Piece v) → Keeps n of v moment at.motes (taken_by p.taker) p.share
-  keeps_on v p = p.tells.idle n of v from at.motes (taken_by p.taker) p.here.keeps moment le p.later
+  keeps_on v p = (p.tells n of v from at.motes (taken_by p.taker) p.here.keeps).idle moment le p.later
 
   no_wake : (k : ℕ) → k < length n.motes → WakesFrom moment (at.motes k).wake
   no_wake k h =
@@ -101,7 +102,7 @@ module _ (n : NetTold) (fine : RunsForward (system_of n)) (of : List ℕ) (from 
   no_copy_to s v p = of_case (cases_Bool (is_own of v s))
     where
       known : Each (λ (c : RadioCopy). moment ≤ c.at) (filter (is_to_come (is_own of v) from) (copies_known (system_of n) (is_own of v) at.motes (taken_by p.taker) s))
-      known = p.tells.no_copies n of v from at.motes (taken_by p.taker) p.here.keeps moment p.later s
+      known = (p.tells n of v from at.motes (taken_by p.taker) p.here.keeps).no_copies moment p.later s
 
       of_case : (is_own of v s ≡ true) ⊎ (is_own of v s ≡ false) → Each (λ (c : RadioCopy). is_own of v c.to ≡ true → (from ≤ c.at → moment ≤ c.at)) (copies_by (system_of n) at.motes s)
       of_case (inl e) =
@@ -153,4 +154,4 @@ module _ (n : NetTold) (of : List ℕ) (from : ℕ) (crew : Crew) (next : Option
           let t = there crew.takers.items v (subst (λ l. v < l) (sym takers_here) h) in
           let here : IsWorkerAt n of from at.motes crew.first_out v s t.0 = subst (λ x. IsWorkerAt n of from at.motes crew.first_out v x t.0) (read crew.shares.items v s s e)
           (subst (λ x. IsWorkerAt n of from at.motes crew.first_out v (get_or crew.shares.items v s) x) (read crew.takers.items v t.0 t.0 t.1) (at.each v h s t.0)) in
-          tells.from n of v from at.motes (taken_by t.0) here.keeps
+          (tells n of v from at.motes (taken_by t.0) here.keeps).wakes

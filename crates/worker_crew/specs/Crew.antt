@@ -10,8 +10,8 @@ use Rattle.copy_inbox.specs.Handles.{TakerView}
 use Rattle.copy_exchange.specs.Desks.{taken_by, gathered_by}
 use Rattle.copy_exchange.specs.Inboxes.{Settled}
 use Rattle.worker_share.specs.declared.share.Share.{Share}
-use Rattle.worker_cut.specs.Crossed.{is_own, copies_known}
-use Rattle.worker_share.specs.Share.{Motes, Keeps, is_to_come}
+use Rattle.worker_share.specs.Next.{TellsNext}
+use Rattle.worker_share.specs.Share.{Motes, Keeps}
 use Rattle.worker_crew.specs.declared.crew.Crew.{Crew}
 use Rattle.worker_crew.specs.declared.worker.Worker.{Worker}
 use Rattle.worker_crew.specs.Worker.{IsCut, IsNotBefore}
@@ -43,14 +43,6 @@ pub record IsAt (n : NetTold) (of : List ℕ) (from : ℕ) (crew : Crew) : Type 
 pub record FirstOfAll (workers : List Worker) (first : Option ℕ) : Type 0 where
   pub none_before : Each (λ (worker : Worker). (copy : RadioCopy) → IsNotBefore worker.first_out copy → IsNotBefore first copy) workers
   pub greatest : (moment : ℕ) → Each (λ (worker : Worker). WakesFrom moment worker.first_out) workers → WakesFrom moment first
-
--- what is to come first to the motes of a share, whosever it is
-pub record TellsNext (share : Share) (next : Option ℕ) : Type 0 where
-  pub from : (n : NetTold) (of : List ℕ) (worker from : ℕ) (motes : Motes) (taken : List RadioCopy) → Keeps n of worker from motes taken share → WakesFrom from next
-  pub idle : (n : NetTold) (of : List ℕ) (worker from : ℕ) (motes : Motes) (taken : List RadioCopy) → Keeps n of worker from motes taken share
-      → (moment : ℕ) → from ≤ moment → WakesFrom moment next → Keeps n of worker moment motes taken share
-  pub no_copies : (n : NetTold) (of : List ℕ) (worker from : ℕ) (motes : Motes) (taken : List RadioCopy) → Keeps n of worker from motes taken share
-      → (moment : ℕ) → WakesFrom moment next → (sender : ℕ) → Each (λ (copy : RadioCopy). moment ≤ copy.at) (filter (is_to_come (is_own of worker) from) (copies_known (system_of n) (is_own of worker) motes taken sender))
 
 -- nothing comes before this moment, neither what lies in the inboxes nor what is to come to the shares
 pub record IsNextOfAll (first_out : Option ℕ) (shares : List Share) (next : Option ℕ) : Type 0 where

@@ -1,7 +1,8 @@
 //! All workers between two windows.
 
 ghost use Rattle.std.specs.Prelude.{◌≡◌};
-ghost use Rattle.worker_crew.specs.Crew.{TellsNext, IsNextOfAll, FirstOfAll};
+ghost use Rattle.worker_share.specs.Next.{TellsNext};
+ghost use Rattle.worker_crew.specs.Crew.{IsNextOfAll, FirstOfAll};
 
 use crate::worker::{Worker, sooner};
 use copy_inbox::{Inbox, Taker};

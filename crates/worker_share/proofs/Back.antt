@@ -28,6 +28,7 @@ use Rattle.window_run.specs.Window.{number_of}
 use Rattle.worker_share.specs.Share.{Motes, IsShare, HasToCome, node_at, mote_here, is_to_come}
 use Rattle.worker_share.specs.Window.{copies_out}
 use Rattle.worker_share.specs.Leaving.{is_one_of, MoteReturns}
+use Rattle.worker_share.specs.Log.{packets_in}
 use Rattle.worker_share.proofs.Gives.{IsBack, ComesLate, come_late}
 use Rattle.worker_share.proofs.Left.{among_more}
 
@@ -227,11 +228,12 @@ module _ (n : NetTold) (of : List ℕ) (worker from until : ℕ) (before now : M
           (λ j ne mine d. ret.traces j d ∙ (ap (λ b. (get_or old.traces.items j d).items ++ cond b out.lines.items []) (ne_eqb j k ne)
           ∙ (append-nil (get_or old.traces.items j d).items ∙ (stands.traces j mine d ∙ ap (λ m. m.lines) (sym (elsewhere j ne))))));
       log =
-          by_mote (λ s. filter (is_sent_by s) share.log.items ≡ cond (own s) (next s).sends [])
+          by_mote (λ s. filter (is_sent_by s) (packets_in share.log.items) ≡ cond (own s) (next s).sends [])
           (log_split k ∙ (let e = back.mine in rw e (ap (λ l. (now k).sends ++ l) (filter_every (is_sent_by k) out.sends.items (every_weaker _ _ (λ x h. eq-eqb x.sender k h.sender) out.sends.items back.sent))
           ∙ (ap (λ m. m.sends ++ out.sends.items) waits ∙ (sym back.sends ∙ ap (λ m. m.sends) (sym at_k))))))
           (λ s ne. log_split s ∙ (ap (λ l. cond (own s) (now s).sends [] ++ l) (filter_none (is_sent_by s) out.sends.items (every_weaker _ _ (λ x h. ne_eqb x.sender s (λ f. ne (sym f ∙ h.sender))) out.sends.items back.sent))
           ∙ (append-nil (cond (own s) (now s).sends []) ∙ ap (λ m. cond (own s) m.sends []) (sym (elsewhere s ne)))));
+      fates = ret.fates stands.fates;
       agenda = record {
         items = items;
         holds = subst (λ l. Holds share.agenda.buckets ((has.items ++ wake_items k out.wake) ++ map Packet l)) worker_own (ret.agenda has.items has.holds);
@@ -240,7 +242,7 @@ module _ (n : NetTold) (of : List ℕ) (worker from until : ℕ) (before now : M
       };
     }
       where
-        log_split : (s : ℕ) → filter (is_sent_by s) share.log.items ≡ cond (own s) (now s).sends [] ++ filter (is_sent_by s) out.sends.items
+        log_split : (s : ℕ) → filter (is_sent_by s) (packets_in share.log.items) ≡ cond (own s) (now s).sends [] ++ filter (is_sent_by s) out.sends.items
         log_split s =
             ap (filter (is_sent_by s)) ret.log
-            ∙ (filter-append (is_sent_by s) old.log.items out.sends.items ∙ ap (λ l. l ++ filter (is_sent_by s) out.sends.items) (stands.log s))
+            ∙ (filter-append (is_sent_by s) (packets_in old.log.items) out.sends.items ∙ ap (λ l. l ++ filter (is_sent_by s) out.sends.items) (stands.log s))

@@ -1,5 +1,5 @@
 -- A share before the motes' first turns.
-use Rattle.std.proofs.Common.{◌≡◌, ℕ, ◌+◌, ◌<◌, Bool, true, cond, ltb, List, [], ◌∷◌, ◌++◌, length, map, get_or, refl, sym, ap, ◌∙◌, inl, inr, arith, add-one, zero-le, Option, Some, None}
+use Rattle.std.proofs.Common.{◌≡◌, ℕ, ◌+◌, ◌<◌, Bool, true, cond, ltb, List, [], ◌∷◌, ◌++◌, length, map, get_or, refl, sym, ap, ◌∙◌, subst, inl, inr, arith, add-one, zero-le, Option, Some, None}
 use Rattle.std.specs.Prelude.{Vec}
 use Rattle.std.specs.List.{filter}
 use Rattle.std.specs.declared.alloc.Global.{Global}
@@ -20,6 +20,7 @@ use Rattle.net_agenda.specs.NetSystem.{system_of, first_node_in, tree_at}
 use Rattle.net_agenda.proofs.NewWakes.{new_wakes, new_numbers}
 use Rattle.worker_share.specs.declared.share.Share.{Share}
 use Rattle.worker_cut.specs.Crossed.{is_own, copies_known}
+use Rattle.worker_share.specs.Log.{HaveFates, packets_in}
 use Rattle.worker_share.specs.Share.{node_at, mote_here, Keeps, is_to_come}
 use Rattle.worker_share.proofs.Behind.{not_begun}
 
@@ -87,6 +88,7 @@ module _ (n : NetTold) (of : List ℕ) (worker : ℕ) (long : length of ≡ leng
     behind = λ k mine. ap (λ s. is_past 0 s.last) (first_state k) ∙ not_begun n k 0;
     traces_kept = traced;
     traces = λ k mine d. (let h = own_there of worker k mine in traces k d (omega arith));
-    log = λ s. ap (filter (is_sent_by s)) log ∙ elim (cases_Bool (own s)) [ inl e ↦ rw e refl | inr e ↦ rw e refl ];
+    log = λ s. ap (λ lines. filter (is_sent_by s) (packets_in lines)) log ∙ elim (cases_Bool (own s)) [ inl e ↦ rw e refl | inr e ↦ rw e refl ];
+    fates = subst (HaveFates n.radio) (sym log) tt;
     agenda = record { items = map (λ k. Wake 0 k) (filter own (up_to (length n.motes))); holds = holds; wakes = wakes; copies = no_copies };
   }

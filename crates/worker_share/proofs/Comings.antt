@@ -218,6 +218,7 @@ module _ (n : NetTold) (of : List ℕ) (worker from until : ℕ) (motes : Motes)
       traces_kept = coming.stands.traces_kept;
       traces = coming.stands.traces;
       log = coming.stands.log;
+      fates = coming.stands.fates;
       agenda = record {
         items = coming.stands.agenda.items;
         holds = coming.stands.agenda.holds;

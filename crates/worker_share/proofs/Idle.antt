@@ -68,6 +68,7 @@ module _ (n : NetTold) (of : List ℕ) (worker from : ℕ) (motes : Motes) (take
     traces_kept = keeps.traces_kept;
     traces = keeps.traces;
     log = keeps.log;
+    fates = keeps.fates;
     agenda = record { items = items; holds = keeps.agenda.holds; wakes = keeps.agenda.wakes; copies = λ s. copies_then moment s le h };
   }
 

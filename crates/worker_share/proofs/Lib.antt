@@ -14,3 +14,4 @@ pub mod Rises
 pub mod Sends
 pub mod Starts
 pub mod TakesIn
+pub mod Traces

@@ -18,6 +18,7 @@ use Rattle.net_agenda.specs.NetSystem.{tree_at, system_of}
 use Rattle.worker_share.specs.declared.share.Share.{Share}
 use Rattle.worker_share.specs.Calls.{CalledMotes, copies_for, is_not_before, calls_for, Gathers}
 use Rattle.worker_cut.specs.Crossed.{is_own}
+use Rattle.worker_share.specs.Log.{HaveFates, packets_in}
 use Rattle.worker_share.specs.Share.{Motes, IsShare, Keeps, node_at, mote_here}
 use Rattle.worker_share.specs.Window.{ComesIn, copies_out}
 use Rattle.worker_share.specs.Leaving.{IsCalled, MotesLeave, wake_from, is_one_of, numbers_of}
@@ -91,7 +92,8 @@ module _ (n : NetTold) (of : List ℕ) (worker from until : ℕ) (motes : Motes)
     behind = λ k h. past_later from until le (motes k).state.last (keeps.behind k (parts k h).0);
     traces_kept = ap length same.1 ∙ keeps.traces_kept;
     traces = λ k h d. ap (λ l. (get_or l k d).items) same.1 ∙ keeps.traces k h d;
-    log = λ s. ap (filter (is_sent_by s)) same.2 ∙ keeps.log s;
+    log = λ s. ap (λ lines. filter (is_sent_by s) (packets_in lines)) same.2 ∙ keeps.log s;
+    fates = subst (HaveFates n.radio) (sym same.2) keeps.fates;
     agenda = record {
       items = left n of worker from until motes taken arrived old keeps le come (numbers_of residents) all;
       holds = leaves.agenda (tree_at n) (filter (is_not_before until) all_items) holds awake;

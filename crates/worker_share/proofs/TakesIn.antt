@@ -24,6 +24,7 @@ takes_in n of worker from motes taken arrived share agenda keeps come holds = re
   traces_kept = keeps.traces_kept;
   traces = keeps.traces;
   log = keeps.log;
+  fates = keeps.fates;
   agenda = record {
     items = items n of worker from from motes taken arrived share keeps (omega arith) come;
     holds = holds;

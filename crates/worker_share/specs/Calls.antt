@@ -1,5 +1,6 @@
 -- The motes that a window calls, and the copies that come to each.
-use Rattle.std.specs.Prelude.{ℕ, ◌≡◌, Bool, true, not, ◌&&◌, ◌==◌, nat_lt, if◌then◌else◌, List, [], Option, Some, is_some, option_map, Vec}
+use Rattle.std.specs.Prelude.{ℕ, ◌≡◌, Bool, true, not, ◌&&◌, ◌==◌, nat_lt, if◌then◌else◌}
+use Rattle.std.specs.Prelude.{List, [], Option, Some, is_some, option_map, Vec}
 use Rattle.std.specs.List.{filter, list_any}
 use Rattle.std.specs.Ordering.{nat_cmp}
 use Rattle.std.specs.BTreeMap.{BTreeMap, get}
@@ -29,12 +30,14 @@ calls_for until mote item = nat_lt (moment_of item) until && (mote_of item == mo
 -- the copies for a mote, rising, are those that the items have for it at each moment
 pub record GathersFor (until : ℕ) (items : List Item) (mote : ℕ) (copies : List RadioCopy) : Type 0 where
   pub rising : is_rising copies ≡ true
-  pub all : (moment : ℕ) → filter (is_at moment) copies ≡ (if nat_lt moment until then in_order (packets (filter (comes_at moment mote) items)) else [])
+  pub all : (moment : ℕ) → filter (is_at moment) copies
+      ≡ (if nat_lt moment until then in_order (packets (filter (comes_at moment mote) items)) else [])
 
 -- the calls are those that these items make before a moment
 pub record Gathers (until : ℕ) (items : List Item) (calls : CalledMotes) : Type 0 where
   pub called : (mote : ℕ) → is_some (copies_for calls mote) ≡ list_any (calls_for until mote) items
-  pub copies : (mote : ℕ) (copies : List RadioCopy) → copies_for calls mote ≡ Some copies → GathersFor until items mote copies
+  pub copies : (mote : ℕ) (copies : List RadioCopy) → copies_for calls mote ≡ Some copies
+      → GathersFor until items mote copies
 
 -- the buckets are those of some agenda
 pub record HasItems (buckets : Buckets) : Type 0 where

@@ -1,5 +1,8 @@
 pub mod Calls
 pub mod Ended
 pub mod Leaving
+pub mod Log
+pub mod Next
+pub mod Sending
 pub mod Share
 pub mod Window

@@ -1,5 +1,6 @@
--- What one worker of a net has: its motes, their traces and packets so far, and what is to come to them.
-use Rattle.std.specs.Prelude.{ℕ, ◌≡◌, Bool, true, not, ◌&&◌, nat_lt, if◌then◌else◌, false, List, [], length, Option, Some, None, slice_index_or, Vec}
+-- What one worker of a net has: its motes, their traces and packets so far, and their pending events.
+use Rattle.std.specs.Prelude.{ℕ, ◌≡◌, Bool, true, not, ◌&&◌, nat_lt, if◌then◌else◌, false}
+use Rattle.std.specs.Prelude.{List, [], length, Option, Some, None, slice_index_or, Vec}
 use Rattle.std.specs.List.{filter}
 use Rattle.std.specs.declared.alloc.Global.{Global}
 use Rattle.program_tree.specs.Code.{Tree}
@@ -17,6 +18,7 @@ use Rattle.net_agenda.specs.NetSystem.{tree_at, system_of}
 use Rattle.worker_cut.specs.Crossed.{is_own, copies_known}
 use Rattle.window_run.specs.Window.{number_of}
 use Rattle.worker_share.specs.declared.share.Share.{Share}
+use Rattle.worker_share.specs.Log.{packets_in, HaveFates}
 
 -- the motes of a net, by number
 abbrev pub Motes : Type 0
@@ -35,17 +37,21 @@ mote_here motes number = slice_index_or motes number None
 abbrev pub is_to_come : (own : ℕ → Bool) → (from : ℕ) → RadioCopy → Bool
 is_to_come own from copy = own copy.to && not (nat_lt copy.at from)
 
--- the agenda has the next wake of each mote that is at home, and of each sender all copies that are to come, in the order of sending
-pub record HasToCome (n : NetTold) (own home : ℕ → Bool) (from : ℕ) (motes : Motes) (taken : List RadioCopy) (buckets : Buckets) : Type 0 where
+-- the agenda has the next wake of each mote that is at home, and of each sender all copies that are to come, in the
+-- order of sending
+pub record HasToCome (n : NetTold) (own home : ℕ → Bool) (from : ℕ) (motes : Motes) (taken : List RadioCopy)
+    (buckets : Buckets) : Type 0 where
   pub items : List Item
   pub holds : Holds buckets items
   pub wakes : (k : ℕ) → filter (is_wake_of k) items ≡ (if home k then wake_items k (motes k).wake else [])
-  pub copies : (s : ℕ) → filter (is_from_sender s) (packets items) ≡ filter (is_to_come own from) (copies_known (system_of n) own motes taken s)
+  pub copies : (s : ℕ) → filter (is_from_sender s) (packets items)
+      ≡ filter (is_to_come own from) (copies_known (system_of n) own motes taken s)
 
--- The share of a worker at a moment, before which nothing is to come, while some of its motes are at home: their nodes and wakes,
--- the lines and packets of all its motes so far, and the agenda. No mote at home has failed, and the last turn of each was before that
--- moment. `taken` are all copies that ever came from other workers.
-pub record IsShare (n : NetTold) (of : List ℕ) (worker : ℕ) (home : ℕ → Bool) (from : ℕ) (motes : Motes) (taken : List RadioCopy) (share : Share) : Type 0 where
+-- The share of a worker at a moment, before which no event is pending, while some of its motes are at home: their nodes
+-- and wakes, the lines and packets of all its motes so far, and the agenda. No mote at home has failed, and the last
+-- turn of each was before that moment. `taken` are all copies that ever came from other workers.
+pub record IsShare (n : NetTold) (of : List ℕ) (worker : ℕ) (home : ℕ → Bool) (from : ℕ) (motes : Motes)
+    (taken : List RadioCopy) (share : Share) : Type 0 where
   pub is_worker : share.worker ≡ worker
   pub places : length share.motes.items ≡ length n.motes
   pub numbers : (k : ℕ) → home k ≡ true → number_of (motes k).state ≡ k
@@ -54,8 +60,11 @@ pub record IsShare (n : NetTold) (of : List ℕ) (worker : ℕ) (home : ℕ → 
   pub quiet : (k : ℕ) → home k ≡ true → WakesFrom from (motes k).wake
   pub behind : (k : ℕ) → home k ≡ true → is_past from (motes k).state.last ≡ false
   pub traces_kept : length share.traces.items ≡ length n.motes
-  pub traces : (k : ℕ) → is_own of worker k ≡ true → (d : Vec Line Global) → (slice_index_or share.traces.items k d).items ≡ (motes k).lines
-  pub log : (s : ℕ) → filter (is_sent_by s) share.log.items ≡ (if is_own of worker s then (motes s).sends else [])
+  pub traces : (k : ℕ) → is_own of worker k ≡ true → (d : Vec Line Global)
+      → (slice_index_or share.traces.items k d).items ≡ (motes k).lines
+  pub log : (s : ℕ) → filter (is_sent_by s) (packets_in share.log.items)
+      ≡ (if is_own of worker s then (motes s).sends else [])
+  pub fates : HaveFates n.radio share.log.items
   pub agenda : HasToCome n (is_own of worker) home from motes taken share.agenda.buckets
 
 -- with all of its motes at home, as between windows

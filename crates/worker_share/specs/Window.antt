@@ -11,10 +11,13 @@ use Rattle.worker_share.specs.Share.{Motes, Keeps}
 
 -- A mote runs alone on what the worker knows: at each moment of the window, of each sender, the copies for it, in the
 -- order of sending.
-pub record RunsOwn (n : NetTold) (own : ℕ → Bool) (from until : ℕ) (motes next : Motes) (taken : List RadioCopy) (number : ℕ) : Type 0 where
+pub record RunsOwn (n : NetTold) (own : ℕ → Bool) (from until : ℕ) (motes next : Motes) (taken : List RadioCopy)
+    (number : ℕ) : Type 0 where
   pub inbox : List RadioCopy
   pub is_inbox : (moment sender : ℕ)
-      → filter (is_from_sender sender) (filter (is_at moment) inbox) ≡ filter (is_at moment) (filter (is_within number from until) (copies_known (system_of n) own motes taken sender))
+      → filter (is_from_sender sender) (filter (is_at moment) inbox)
+      ≡ filter (is_at moment) (filter (is_within number from until)
+      (copies_known (system_of n) own motes taken sender))
   pub alone : Alone (system_of n) number until inbox (motes number) (next number)
 
 -- the copies of a mote's packets so far that go from this worker to others, in the order of sending
@@ -24,12 +27,14 @@ copies_out n own motes sender = if own sender then filter (leaves own) (copies_b
 -- The worker's motes after the window: each ran alone, and the others are as before. The new share keeps them at the
 -- window's end; what went out is, of each sender, what it sent to other workers in the window, and none of it comes
 -- before the window's end.
-pub record RunsWindow (n : NetTold) (of : List ℕ) (worker from until : ℕ) (motes : Motes) (taken : List RadioCopy) (new : Share) (sent : List RadioCopy) : Type 0 where
+pub record RunsWindow (n : NetTold) (of : List ℕ) (worker from until : ℕ) (motes : Motes) (taken : List RadioCopy)
+    (new : Share) (sent : List RadioCopy) : Type 0 where
   pub next : Motes
   pub runs : (k : ℕ) → is_own of worker k ≡ true → RunsOwn n (is_own of worker) from until motes next taken k
   pub others : (k : ℕ) → is_own of worker k ≡ false → next k ≡ motes k
   pub keeps : Keeps n of worker until next taken new
-  pub out : (s : ℕ) → copies_out n (is_own of worker) next s ≡ copies_out n (is_own of worker) motes s ++ filter (is_from_sender s) sent
+  pub out : (s : ℕ) → copies_out n (is_own of worker) next s ≡ copies_out n (is_own of worker) motes s
+      ++ filter (is_from_sender s) sent
   pub late : Each (λ (copy : RadioCopy). until ≤ copy.at) sent
 
 -- from a mote of this worker to one of another
@@ -44,8 +49,8 @@ pub record ComesIn (of : List ℕ) (worker from : ℕ) (copy : RadioCopy) : Type
   pub sender : is_own of worker copy.sender ≡ false
   pub later : from ≤ copy.at
 
--- The share can run through a window up to this bound: it is that of some worker at some moment, before which none of the copies
--- comes that arrived from other workers.
+-- The share can run through a window up to this bound: it is that of some worker at some moment, before which none of
+-- the copies comes that arrived from other workers.
 pub record CanRun (n : NetTold) (of : List ℕ) (until : ℕ) (share : Share) (arrived : List RadioCopy) : Type 0 where
   pub worker : ℕ
   pub from : ℕ

@@ -1,13 +1,13 @@
 //! Which motes have a turn in a window, and the copies that come to each.
 
-ghost use Rattle.std.specs.Prelude.{◌≡◌, ℕ, length, List, [], OnOk, IfOk, if◌then◌else◌, ◌==◌, ◌++◌, Some, None, map, unwrap_or};
+ghost use Rattle.std.specs.Prelude.{◌≡◌, ℕ, length, List, [], OnOk, IfOk, if◌then◌else◌};
+ghost use Rattle.std.specs.Prelude.{◌==◌, ◌++◌, Some, None, map, unwrap_or};
 ghost use Rattle.std.specs.List.{filter};
 ghost use Rattle.net_agenda.specs.Buckets.{Buckets, Holds};
 ghost use Rattle.window_law.specs.Agenda.{Item};
 ghost use Rattle.net_agenda.specs.Items.{copy_at};
 ghost use Rattle.worker_share.specs.Calls.{copies_for, is_not_before, Gathers, HasItems};
 
-use crate::rooms::Rooms;
 use net_agenda::Agenda;
 use radio_packet::{Arrival, RadioCopy};
 use std::alloc::{AllocError, Global};
@@ -32,16 +32,13 @@ impl CalledMotes {
     }
 
     /// A mote is called at a moment, with the copies that arrive.
-    fn add(
-        &mut self,
-        moment: u64,
-        mote: u16,
-        arrivals: &[Arrival],
-        rooms: &mut Rooms,
-    ) -> Result<(), AllocError>
-        ensures { OnOk result ((k : ℕ) → copies_for self.new.copies k ≡ (if mote == k then Some (unwrap_or (copies_for self.old.copies mote) [] ++ map (copy_at moment mote) arrivals.now) else copies_for self.old.copies k)) }
+    fn add(&mut self, moment: u64, mote: u16, arrivals: &[Arrival]) -> Result<(), AllocError>
+        ensures { OnOk result ((k : ℕ) → copies_for self.new.copies k
+            ≡ (if mote == k then Some (unwrap_or (copies_for self.old.copies mote) []
+            ++ map (copy_at moment mote) arrivals.now) else copies_for self.old.copies k)) }
     {
-        let copies = self.copies.entry(mote)?.or_insert_with(|| rooms.list());
+        let alloc = self.alloc;
+        let copies = self.copies.entry(mote)?.or_insert_with(|| Vec::new(alloc));
         add_copies(copies, moment, mote, arrivals)?;
         Ok(())
     }
@@ -60,7 +57,7 @@ fn copy_at(moment: u64, mote: u16, arrival: &Arrival) -> RadioCopy
     }
 }
 
-/// The copies of packets that arrive together, behind those that are there.
+/// Appends the copies of packets that arrive together.
 fn add_copies(
     copies: &mut Vec<RadioCopy>,
     moment: u64,
@@ -75,16 +72,13 @@ fn add_copies(
     Ok(())
 }
 
-/// Takes all that is to come before a moment out of the agenda, mote by mote.
-pub fn gather(
-    alloc: Global,
-    agenda: &mut Agenda,
-    until: u64,
-    rooms: &mut Rooms,
-) -> Result<CalledMotes, AllocError>
+/// Takes all pending events before a moment out of the agenda, mote by mote.
+pub fn gather(alloc: Global, agenda: &mut Agenda, until: u64) -> Result<CalledMotes, AllocError>
     requires { HasItems agenda.old.buckets }
-    ensures gathered { IfOk result (λ calls. (items : List Item) → Holds agenda.old.buckets items → Gathers until items calls.copies) }
-    ensures rest { OnOk result ((items : List Item) → Holds agenda.old.buckets items → Holds agenda.new.buckets (filter (is_not_before until) items)) }
+    ensures gathered { IfOk result (λ calls. (items : List Item) → Holds agenda.old.buckets items
+        → Gathers until items calls.copies) }
+    ensures rest { OnOk result ((items : List Item) → Holds agenda.old.buckets items
+        → Holds agenda.new.buckets (filter (is_not_before until) items)) }
 {
     let mut calls = CalledMotes::new(alloc);
     while let Some((moment, mote)) = agenda.first() {
@@ -92,7 +86,7 @@ pub fn gather(
             break;
         }
         let arrivals = agenda.take_due(moment, mote)?;
-        calls.add(moment, mote, &arrivals, rooms)?;
+        calls.add(moment, mote, &arrivals)?;
     }
     Ok(calls)
 }

@@ -1,34 +1,35 @@
-//! The share of one worker: its motes, their traces and packets, and what is to come to them.
+//! The share of one worker: its motes, their traces and packets, and their pending events.
 
-ghost use Rattle.std.specs.Prelude.{◌≡◌, ◌≤◌, ◌<◌, ◌++◌, ◌∷◌, ℕ, true, [], length, List, Some, IfOk, OnOk, if◌then◌else◌};
-ghost use Rattle.std.specs.List.{filter, AllByRecursion};
+ghost use Rattle.std.specs.Prelude.{◌≡◌, ◌≤◌, ◌<◌, ◌++◌, ◌∷◌, ℕ, true, [], length};
+ghost use Rattle.std.specs.Prelude.{List, Some, IfOk, OnOk, if◌then◌else◌};
 ghost use Rattle.radio_packet.specs.declared.copy.RadioCopy.{RadioCopy};
-ghost use Rattle.window_law.specs.Agenda.{Item, Wake};
-ghost use Rattle.window_law.specs.Windows.{WakesFrom, first_mote};
+ghost use Rattle.window_law.specs.Agenda.{Wake};
+ghost use Rattle.window_law.specs.Windows.{first_mote};
 ghost use Rattle.mote_net.specs.Net.{NetTold, net_of};
 ghost use Rattle.net_agenda.specs.NetSystem.{first_node_in, system_of, tree_at};
-ghost use Rattle.net_agenda.specs.Buckets.{Holds};
-ghost use Rattle.worker_cut.specs.Crossed.{is_own, copies_known};
-ghost use Rattle.worker_share.specs.Share.{Motes, Keeps, node_at, is_to_come};
+ghost use Rattle.net_agenda.specs.Changes.{Adds};
+ghost use Rattle.worker_cut.specs.Crossed.{is_own};
+ghost use Rattle.worker_share.specs.Next.{TellsNext};
+ghost use Rattle.worker_share.specs.Share.{Motes, Keeps, node_at};
 ghost use Rattle.worker_share.specs.Ended.{TellsAtEnd};
 
 use crate::rooms::Rooms;
 use mote_net::Net;
 use mote_node::Mote;
 use net_agenda::{Agenda, new_mote};
+use net_report::LogLine;
 use process_kernel::Line;
-use radio_packet::Sent;
 use std::alloc::{AllocError, Global};
 
-/// What one worker of a net has. Motes and traces stand by the number of the mote, with none and an empty one for the motes of
-/// other workers; the packets of the worker's motes, each mote's in order; what is to come to its motes; and the rooms that earlier
-/// windows left.
+/// What one worker of a net has. Motes and traces stand by the number of the mote, with none and an empty one for the
+/// motes of other workers; the packets of the worker's motes, each mote's in order; the pending events of its motes;
+/// and scratch buffers of windows.
 pub struct Share {
     pub(crate) alloc: Global,
     pub(crate) worker: u16,
     pub(crate) motes: Vec<Option<Mote>>,
     pub(crate) traces: Vec<Vec<Line>>,
-    pub(crate) log: Vec<Sent>,
+    pub(crate) log: Vec<LogLine>,
     pub(crate) agenda: Agenda,
     pub(crate) rooms: Rooms,
 }
@@ -48,12 +49,12 @@ impl Drop for Share {
     }
 }
 
-/// What a worker has to tell at the end: the traces of its motes, by number, the packets that they sent, each mote's in order, and
-/// how many copies of packets are still on their way to them.
+/// What a worker has to tell at the end: the traces of its motes, by number, the packets that they sent, each mote's in
+/// order, and how many copies of packets are still on their way to them.
 #[derive(Drop)]
 pub struct Ended {
     pub traces: Vec<Vec<Line>>,
-    pub log: Vec<Sent>,
+    pub log: Vec<LogLine>,
     pub left: u64,
 }
 
@@ -76,8 +77,9 @@ fn begin(
     agenda: &mut Agenda,
 ) -> Result<Option<Mote>, AllocError>
     requires { number < length (net_of net.now).motes }
-    ensures mote { let n = net_of net.now in IfOk result (λ mote. own ≡ true → node_at (tree_at n number) mote ≡ Some (first_node_in n number)) }
-    ensures wake { OnOk result ((items : List Item) → Holds agenda.old.buckets items → Holds agenda.new.buckets (items ++ (if own then Wake 0 number ∷ [] else []))) }
+    ensures mote { let n = net_of net.now in
+        IfOk result (λ mote. own ≡ true → node_at (tree_at n number) mote ≡ Some (first_node_in n number)) }
+    ensures wake { OnOk result (Adds agenda.old.buckets agenda.new.buckets (if own then Wake 0 number ∷ [] else [])) }
 {
     if !own {
         return Ok(None);
@@ -90,7 +92,8 @@ impl Share {
     /// The share of a worker before the motes' first turns: each mote wakes at 0. `of` tells the worker of each mote.
     pub fn new(alloc: Global, net: &Net, of: &[u16], worker: u16) -> Result<Share, AllocError>
         requires { length of.now ≡ length (net_of net.now).motes }
-        ensures { let n = net_of net.now in IfOk result (λ share. Keeps n of.now worker 0 (first_mote (system_of n)) [] share) }
+        ensures { let n = net_of net.now in IfOk result
+            (λ share. Keeps n of.now worker 0 (first_mote (system_of n)) [] share) }
     {
         let mut share = Share {
             alloc,
@@ -110,15 +113,9 @@ impl Share {
         Ok(share)
     }
 
-    /// The moment of what is to come first, if anything is.
+    /// The moment of the first pending event, if there is one.
     pub fn next(&self) -> Option<u64>
-        ensures from { (n : NetTold) (of : List ℕ) (worker from : ℕ) (motes : Motes) (taken : List RadioCopy) → Keeps n of worker from motes taken self.now → WakesFrom from result }
-        // Up to there nothing is to come, so the share stands at any moment from now to then.
-        ensures idle { (n : NetTold) (of : List ℕ) (worker from : ℕ) (motes : Motes) (taken : List RadioCopy) → Keeps n of worker from motes taken self.now
-            → (moment : ℕ) → from ≤ moment → WakesFrom moment result → Keeps n of worker moment motes taken self.now }
-        ensures no_copies { (n : NetTold) (of : List ℕ) (worker from : ℕ) (motes : Motes) (taken : List RadioCopy) → Keeps n of worker from motes taken self.now
-            → (moment : ℕ) → WakesFrom moment result → (sender : ℕ)
-            → AllByRecursion (λ copy. moment ≤ copy.at) (filter (is_to_come (is_own of worker) from) (copies_known (system_of n) (is_own of worker) motes taken sender)) }
+        ensures { TellsNext self.now result }
     {
         match self.agenda.first() {
             Some((moment, _)) => Some(moment),
@@ -128,7 +125,8 @@ impl Share {
 
     /// Takes the share apart at the end.
     pub fn end(self) -> Result<Ended, AllocError>
-        ensures { (n : NetTold) (of : List ℕ) (worker from : ℕ) (motes : Motes) (taken : List RadioCopy) → Keeps n of worker from motes taken self
+        ensures { (n : NetTold) (of : List ℕ) (worker from : ℕ) (motes : Motes) (taken : List RadioCopy)
+            → Keeps n of worker from motes taken self
             → IfOk result (TellsAtEnd n of worker from motes taken) }
     {
         let Share {

@@ -1,13 +1,12 @@
 //! A worker's motes in a window: those that have a turn leave the share, run, and come back.
 
-ghost use Rattle.std.specs.Prelude.{◌≡◌, ◌+◌, ◌<◌, ◌≤◌, ◌^◌, ◌++◌, ◌∷◌, ◌==◌, ℕ, true, [], length, map, List, Some, None, IfOk, OnOk, IsSome, slice_index_or, slice_set, if◌then◌else◌, Vec as VecOfCode};
-ghost use Rattle.std.specs.declared.alloc.Global.{Global as GlobalOfCode};
-ghost use Rattle.trace_lines.specs.declared.line.Line.{Line as LineOfCode};
+ghost use Rattle.std.specs.Prelude.{◌≡◌, ◌+◌, ◌<◌, ◌≤◌, ◌^◌, ◌++◌, ◌∷◌, ◌==◌, ℕ, true, [], length};
+ghost use Rattle.std.specs.Prelude.{map, List, Some, None, IfOk, OnOk, IsSome, slice_set};
 ghost use Rattle.std.specs.List.{filter, flat_map, AllByRecursion};
 ghost use Rattle.radio_medium.specs.Medium.{copies};
-ghost use Rattle.window_law.specs.Agenda.{Item, Packet};
+ghost use Rattle.window_law.specs.Agenda.{Packet};
 ghost use Rattle.window_run.specs.Window.{is_rising};
-ghost use Rattle.net_agenda.specs.Buckets.{Holds};
+ghost use Rattle.net_agenda.specs.Changes.{Adds};
 ghost use Rattle.worker_share.specs.Calls.{copies_for};
 ghost use Rattle.mote_net.specs.Net.{NetTold, net_of};
 ghost use Rattle.net_agenda.specs.NetSystem.{system_of};
@@ -15,6 +14,8 @@ ghost use Rattle.radio_packet.specs.declared.copy.RadioCopy.{RadioCopy as CopyOf
 ghost use Rattle.worker_cut.specs.Crossed.{is_own, leaves};
 ghost use Rattle.worker_share.specs.Share.{Motes, Keeps, mote_here};
 ghost use Rattle.worker_share.specs.Window.{CanRun, ComesIn, GoesOut, RunsWindow};
+ghost use Rattle.worker_share.specs.Log.{HaveFates, packets_in};
+ghost use Rattle.worker_share.specs.Sending.{copies_away, own_items};
 ghost use Rattle.worker_share.specs.Leaving.{wake_from, MotesLeave, HasNumber, IsOutOfNet, MoteReturns};
 
 use crate::calls::{CalledMotes, gather};
@@ -22,10 +23,10 @@ use crate::rooms::Rooms;
 use crate::share::{Share, is_own};
 use mote_net::Net;
 use mote_node::Mote;
-use net_agenda::Agenda;
-use process_kernel::Line;
+use net_agenda::{Agenda, add_lines};
+use net_report::LogLine;
 use radio_medium::Medium;
-use radio_packet::{RadioCopy, Sent};
+use radio_packet::{Fate, RadioCopy, Sent};
 use std::alloc::{AllocError, AllocGlobal, Global};
 use std::random::RandomSource;
 use std::slice::from_ref;
@@ -65,8 +66,11 @@ pub(crate) fn leave(
     rooms: &mut Rooms,
 ) -> Result<Vec<Resident>, AllocError>
     requires here { (k : ℕ) → IsSome (copies_for calls.copies k) → IsSome (mote_here motes.old.items k) }
-    requires rising { (k : ℕ) (copies : List RadioCopy) → copies_for calls.copies k ≡ Some copies → is_rising copies ≡ true }
-    ensures { IfOk result (λ residents. MotesLeave until calls.copies motes.old.items motes.new.items agenda.old.buckets agenda.new.buckets residents.items) }
+    requires rising { (k : ℕ) (copies : List RadioCopy) → copies_for calls.copies k ≡ Some copies
+        → is_rising copies ≡ true }
+    ensures { IfOk result
+        (λ residents. MotesLeave until calls.copies motes.old.items motes.new.items agenda.old.buckets
+        agenda.new.buckets residents.items) }
 {
     let mut residents = Vec::with_capacity(calls.alloc, calls.copies.len())?;
     let mut copies = calls.copies;
@@ -83,7 +87,7 @@ pub(crate) fn leave(
     Ok(residents)
 }
 
-/// A copy goes on its way: one for a mote of the worker is to come, another goes away.
+/// A copy goes on its way: one for a mote of the worker becomes a pending event, another goes away.
 fn send_copy(
     of: &[u16],
     worker: u16,
@@ -91,8 +95,10 @@ fn send_copy(
     agenda: &mut Agenda,
     away: &mut Vec<RadioCopy>,
 ) -> Result<(), AllocError>
-    ensures own { OnOk result ((items : List Item) → Holds agenda.old.buckets items → Holds agenda.new.buckets (items ++ map Packet (filter (λ copy. is_own of.now worker copy.to) (copy.now ∷ [])))) }
-    ensures away { OnOk result (away.new.items ≡ away.old.items ++ filter (leaves (is_own of.now worker)) (copy.now ∷ [])) }
+    ensures own { OnOk result (Adds agenda.old.buckets agenda.new.buckets
+        (map Packet (filter (λ copy. is_own of.now worker copy.to) (copy.now ∷ [])))) }
+    ensures away { OnOk result (away.new.items ≡ away.old.items
+        ++ filter (leaves (is_own of.now worker)) (copy.now ∷ [])) }
 {
     if is_own(of, worker, copy.to) {
         return agenda.put_copies(from_ref(copy));
@@ -101,24 +107,53 @@ fn send_copy(
     Ok(())
 }
 
-/// Copies go on their way, one after another.
-fn send_copies(
+/// The copy of a packet with this fate goes on its way, where it isn't lost.
+fn send_fate(
     of: &[u16],
     worker: u16,
-    copies: &[RadioCopy],
+    sent: &Sent,
+    fate: &Fate,
     agenda: &mut Agenda,
     away: &mut Vec<RadioCopy>,
 ) -> Result<(), AllocError>
-    ensures own { OnOk result ((items : List Item) → Holds agenda.old.buckets items → Holds agenda.new.buckets (items ++ map Packet (filter (λ copy. is_own of.now worker copy.to) copies.now))) }
-    ensures away { OnOk result (away.new.items ≡ away.old.items ++ filter (leaves (is_own of.now worker)) copies.now) }
+    ensures own { OnOk result (Adds agenda.old.buckets agenda.new.buckets
+        (own_items of.now worker sent.now (fate.now ∷ []))) }
+    ensures away { OnOk result (away.new.items ≡ away.old.items ++ copies_away of.now worker sent.now (fate.now ∷ [])) }
 {
-    for copy in copies {
-        send_copy(of, worker, copy, agenda, away)?;
+    let Some(at) = fate.at else {
+        return Ok(());
+    };
+    let copy = RadioCopy {
+        at,
+        to: fate.to,
+        sender: sent.sender,
+        number: sent.number,
+        value: sent.value,
+    };
+    send_copy(of, worker, &copy, agenda, away)
+}
+
+/// The copies of a packet with these fates go on their way.
+fn send_fates(
+    of: &[u16],
+    worker: u16,
+    sent: &Sent,
+    fates: &[Fate],
+    agenda: &mut Agenda,
+    away: &mut Vec<RadioCopy>,
+) -> Result<(), AllocError>
+    ensures own { OnOk result (Adds agenda.old.buckets agenda.new.buckets
+        (own_items of.now worker sent.now fates.now)) }
+    ensures away { OnOk result (away.new.items ≡ away.old.items ++ copies_away of.now worker sent.now fates.now) }
+{
+    for fate in fates {
+        send_fate(of, worker, sent, fate, agenda, away)?;
     }
     Ok(())
 }
 
-/// The packets of a mote go out: the copies for the worker's own motes are to come, the others go away.
+/// The packets of a mote go out, and are logged with the fates of their copies: the copies for the worker's own motes
+/// become pending events, the others go away.
 pub(crate) fn send_all(
     medium: &Medium,
     of: &[u16],
@@ -126,35 +161,27 @@ pub(crate) fn send_all(
     sends: &[Sent],
     agenda: &mut Agenda,
     away: &mut Vec<RadioCopy>,
+    log: &mut Vec<LogLine>,
 ) -> Result<(), AllocError>
     requires { AllByRecursion (λ sent. (sent.sender < length medium.now.places) × (sent.at ≤ 2 ^ 40)) sends.now }
-    ensures own { OnOk result ((items : List Item) → Holds agenda.old.buckets items → Holds agenda.new.buckets (items ++ map Packet (filter (λ copy. is_own of.now worker copy.to) (flat_map (copies medium.now) sends.now)))) }
-    ensures away { OnOk result (away.new.items ≡ away.old.items ++ filter (leaves (is_own of.now worker)) (flat_map (copies medium.now) sends.now)) }
+    ensures own { OnOk result (Adds agenda.old.buckets agenda.new.buckets
+        (map Packet (filter (λ copy. is_own of.now worker copy.to) (flat_map (copies medium.now) sends.now)))) }
+    ensures away { OnOk result (away.new.items ≡ away.old.items
+        ++ filter (leaves (is_own of.now worker)) (flat_map (copies medium.now) sends.now)) }
+    ensures log { OnOk result (packets_in log.new.items ≡ packets_in log.old.items ++ sends.now) }
+    ensures fates { OnOk result (HaveFates medium.now log.old.items → HaveFates medium.now log.new.items) }
 {
     for sent in sends {
-        let copies = medium.copies(sent)?;
-        send_copies(of, worker, &copies, agenda, away)?;
+        let fates = medium.fates(sent)?;
+        send_fates(of, worker, sent, &fates, agenda, away)?;
+        log.push(LogLine { sent: *sent, fates })?;
     }
     Ok(())
 }
 
-/// Moves lines to the end of a mote's trace.
-fn add_lines(
-    traces: &mut Vec<Vec<Line>>,
-    number: u16,
-    lines: &mut Vec<Line>,
-) -> Result<(), AllocError>
-    requires { number < length traces.old.items }
-    ensures length { OnOk result (length traces.new.items ≡ length traces.old.items) }
-    ensures lines { OnOk result ((k : ℕ) (d : VecOfCode LineOfCode GlobalOfCode) → (slice_index_or traces.new.items k d).items ≡ (slice_index_or traces.old.items k d).items ++ (if k == number then lines.old.items else [])) }
-{
-    traces[usize::from(number)].append(lines)?;
-    Ok(())
-}
-
 impl Share {
-    /// A mote comes back from its window: its next wake is to come, its packets go out, and its lines and packets are kept. The
-    /// copies for other workers' motes go away.
+    /// A mote comes back from its window: its next wake becomes pending, its packets go out, and its lines and packets
+    /// are kept. The copies for other workers' motes go away.
     fn take_back(
         &mut self,
         medium: &Medium,
@@ -165,7 +192,8 @@ impl Share {
         requires motes { IsOutOfNet (length self.old.motes.items) out }
         requires traces { IsOutOfNet (length self.old.traces.items) out }
         requires places { IsOutOfNet (length medium.now.places) out }
-        ensures { OnOk result ((number : ℕ) → HasNumber number out.mote → MoteReturns medium.now of.now number out self.old self.new away.old.items away.new.items) }
+        ensures { OnOk result ((number : ℕ) → HasNumber number out.mote
+            → MoteReturns medium.now of.now number out self.old self.new away.old.items away.new.items) }
     {
         let number = out.mote.number();
         let WindowOut {
@@ -173,14 +201,20 @@ impl Share {
             lines,
             sends,
             wake,
-            copies,
         } = out;
         let mut room = WindowRoom { lines, sends };
         self.agenda.put_next_wake(wake, number)?;
-        send_all(medium, of, self.worker, &room.sends, &mut self.agenda, away)?;
+        send_all(
+            medium,
+            of,
+            self.worker,
+            &room.sends,
+            &mut self.agenda,
+            away,
+            &mut self.log,
+        )?;
         add_lines(&mut self.traces, number, &mut room.lines)?;
-        self.log.append(&mut room.sends)?;
-        self.rooms.keep(copies, room)?;
+        self.rooms.keep(room)?;
         self.motes[usize::from(number)] = Some(mote);
         Ok(())
     }
@@ -190,17 +224,20 @@ impl Share {
     /// # Errors
     /// `Memory` alone.
     pub fn take_in(&mut self, arrived: &[RadioCopy]) -> Result<(), AllocError>
-        ensures { OnOk result ((n : NetTold) (of : List ℕ) (worker from : ℕ) (motes : Motes) (taken : List CopyOfCode) → Keeps n of worker from motes taken self.old
-            → AllByRecursion (ComesIn of worker from) arrived.now → Keeps n of worker from motes (taken ++ arrived.now) self.new) }
+        ensures { OnOk result ((n : NetTold) (of : List ℕ) (worker from : ℕ) (motes : Motes) (taken : List CopyOfCode)
+            → Keeps n of worker from motes taken self.old
+            → AllByRecursion (ComesIn of worker from) arrived.now
+            → Keeps n of worker from motes (taken ++ arrived.now) self.new) }
     {
         self.agenda.put_copies(arrived)?;
         Ok(())
     }
 
-    /// Runs the worker's motes through the window up to `until`, which is at most 2^40: takes in the copies that arrived from
-    /// other workers, runs each mote that has something before `until` by the worker's future, and keeps what is to come to its own
-    /// motes. The answer is the copies for other workers' motes, those of each mote in the order of sending. `of` tells the worker of
-    /// each mote. The time goes with the turns of the window and the copies that it takes and makes, and not with the motes.
+    /// Runs the worker's motes through the window up to `until`, which is at most 2^40: takes in the copies that
+    /// arrived from other workers, runs each mote that has something before `until` by the worker's future, and keeps
+    /// the pending events of its own motes. The answer is the copies for other workers' motes, those of each mote in
+    /// the order of sending. `of` tells the worker of each mote. The time goes with the turns of the window and the
+    /// copies that it takes and makes, and not with the motes.
     ///
     /// # Errors
     /// `Memory`, and `Thread` where the executor answered an error.
@@ -220,13 +257,17 @@ impl Share {
         requires of { length of.now ≡ length (net_of net.now).motes }
         requires ready { CanRun (net_of net.now) of.now until self.old arrived.items }
         requires to_own { AllByRecursion (λ copy. is_own of.now self.old.worker copy.to ≡ true) arrived.items }
-        ensures window { let n = net_of net.now in IfOk result (λ sent. (worker from : ℕ) (motes : Motes) (taken : List CopyOfCode) → Keeps n of.now worker from motes taken self.old
-            → from ≤ until → until ≤ from + (system_of n).lookahead → AllByRecursion (ComesIn of.now worker from) arrived.items
+        ensures window { let n = net_of net.now in
+            IfOk result (λ sent. (worker from : ℕ) (motes : Motes) (taken : List CopyOfCode)
+            → Keeps n of.now worker from motes taken self.old
+            → from ≤ until → until ≤ from + (system_of n).lookahead
+            → AllByRecursion (ComesIn of.now worker from) arrived.items
             → RunsWindow n of.now worker from until motes (taken ++ arrived.items) self.new sent.items) }
-        ensures out { let n = net_of net.now in IfOk result (λ sent. AllByRecursion (GoesOut n of.now self.old.worker) sent.items) }
+        ensures out { let n = net_of net.now in IfOk result
+            (λ sent. AllByRecursion (GoesOut n of.now self.old.worker) sent.items) }
     {
         self.agenda.put_copies(&arrived)?;
-        let calls = gather(self.alloc, &mut self.agenda, until, &mut self.rooms)?;
+        let calls = gather(self.alloc, &mut self.agenda, until)?;
         let residents = leave(
             &mut self.motes,
             &mut self.agenda,

@@ -15,7 +15,7 @@ use Rattle.net_report.specs.declared.Report.{Report}
 use Rattle.net_report.specs.Report.{report_of}
 use Rattle.window_workers.specs.Carried.{Pair, AllCarried}
 use Rattle.window_workers.specs.Fits.{cut_fault}
-use Rattle.window_workers.specs.NetRun.{IsReportOf}
+use Rattle.serial_run.specs.NetRun.{IsReportOf}
 use Rattle.window_workers.specs.Sync.{IsFor}
 use Rattle.window_workers.specs.declared.sync.SyncKind.TheVariants.{Marks}
 use Rattle.window_workers.proofs.ByWorkers.{one_trace_each, all_hand_on}
@@ -45,29 +45,29 @@ are_fresh pairs inboxes takers e f fresh =
 
 pub start-requires-clause-cut : goal.start-requires-clause-cut
 start-requires-clause-cut g c =
-    is_cut c.motes.result (length (net_of c.args.net.now).motes) c.len.result c.args.pairs.items c.in_ok-inboxes.inboxes.items c.as_slice-of.result.now
-    (sym c.fault_of.ensures ∙ c.in_default.is) c.motes.ensures.value (c.len.ensures ∙ pairs_long c.args.pairs) c.in_ok-inboxes.ensures.inboxes
+    is_cut c.motes.result (length (net_of c.args.net.now).motes) c.len.result c.args.pairs.items c.in-Ok.inboxes.items c.as_slice-of.result.now
+    (sym c.fault_of.ensures ∙ c.in_default.is) c.motes.ensures.value (c.len.ensures ∙ pairs_long c.args.pairs) c.in-Ok.ensures.inboxes
 
 pub start-requires-clause-fresh : goal.start-requires-clause-fresh
-start-requires-clause-fresh g c = are_fresh c.args.pairs.items c.in_ok-inboxes.inboxes.items c.in_ok-inboxes.takers.items c.in_ok-inboxes.ensures.inboxes c.in_ok-inboxes.ensures.takers c.requires.fresh
+start-requires-clause-fresh g c = are_fresh c.args.pairs.items c.in-Ok.inboxes.items c.in-Ok.takers.items c.in-Ok.ensures.inboxes c.in-Ok.ensures.takers c.requires.fresh
 
 pub run_crew-requires-clause-cut : goal.run_crew-requires-clause-cut
 run_crew-requires-clause-cut g c κs within =
-    is_cut c.motes.result (length (net_of c.args.net.now).motes) c.len.result c.args.pairs.items c.in-Ok.crew.inboxes.items c.as_slice-of.result.now
-    (sym c.fault_of.ensures ∙ c.in_default.is) c.motes.ensures.value (c.len.ensures ∙ pairs_long c.args.pairs) (c.in-Ok.ensures.inboxes ∙ c.in_ok-inboxes.ensures.inboxes)
+    is_cut c.motes.result (length (net_of c.args.net.now).motes) c.len.result c.args.pairs.items c.in-Ok-start.crew.inboxes.items c.as_slice-of.result.now
+    (sym c.fault_of.ensures ∙ c.in_default.is) c.motes.ensures.value (c.len.ensures ∙ pairs_long c.args.pairs) (c.in-Ok-start.ensures.inboxes ∙ c.in-Ok.ensures.inboxes)
 
 pub run_crew-requires-clause-fresh : goal.run_crew-requires-clause-fresh
 run_crew-requires-clause-fresh g c κs within =
-    are_fresh c.args.pairs.items c.in-Ok.crew.inboxes.items c.in-Ok.crew.takers.items
-    (c.in-Ok.ensures.inboxes ∙ c.in_ok-inboxes.ensures.inboxes) (c.in-Ok.ensures.takers ∙ c.in_ok-inboxes.ensures.takers) c.requires.fresh
+    are_fresh c.args.pairs.items c.in-Ok-start.crew.inboxes.items c.in-Ok-start.crew.takers.items
+    (c.in-Ok-start.ensures.inboxes ∙ c.in-Ok.ensures.inboxes) (c.in-Ok-start.ensures.takers ∙ c.in-Ok.ensures.takers) c.requires.fresh
 
 pub run_crew-requires-clause-kind : goal.run_crew-requires-clause-kind
 run_crew-requires-clause-kind g c κs within =
-    subst (Each (IsFor c.args.sync)) (sym (c.in-Ok.ensures.takers ∙ c.in_ok-inboxes.ensures.takers)) (seconds_have (IsFor c.args.sync) c.args.pairs.items c.requires.kind)
+    subst (Each (IsFor c.args.sync)) (sym (c.in-Ok-start.ensures.takers ∙ c.in-Ok.ensures.takers)) (seconds_have (IsFor c.args.sync) c.args.pairs.items c.requires.kind)
 
 pub run_crew-requires-clause-first : goal.run_crew-requires-clause-first
 run_crew-requires-clause-first g c κs within =
-    subst (λ l. AreFirst (net_of c.args.net.now) c.as_slice-of.result.now (length l) c.in-Ok.crew.shares.items) (sym c.in-Ok.ensures.inboxes) c.in-Ok.ensures.first
+    subst (λ l. AreFirst (net_of c.args.net.now) c.as_slice-of.result.now (length l) c.in-Ok-start.crew.shares.items) (sym c.in-Ok-start.ensures.inboxes) c.in-Ok-start.ensures.first
 
 pub returns-clause-traces : goal.returns-clause-traces
 returns-clause-traces g c =

@@ -1,0 +1,42 @@
+//! The traces of the motes of a net.
+
+ghost use Rattle.std.specs.Prelude.{◌≡◌, ◌<◌, length, OnOk};
+ghost use Rattle.net_agenda.specs.Traces.{AddsLines};
+
+use process_kernel::Line;
+use std::alloc::AllocError;
+
+/// How many lines a short trace has at most.
+const SHORT: usize = 64;
+
+/// How many lines a long trace has room for. So much memory (128 KiB) comes from the system as whole pages: those that
+/// no line is written to cost nothing, and a trace that grows keeps its pages, so that its lines aren't copied.
+const LONG: usize = 4_096;
+
+/// Makes room for more lines, where there is none. A short trace gets room for four times its lines, since they are
+/// copied then; one that isn't short gets all the room of a long one at once, and a long one grows as a list does.
+fn make_room(trace: &mut Vec<Line>, more: usize) -> Result<(), AllocError>
+    ensures { trace.new.items ≡ trace.old.items }
+{
+    let len = trace.len();
+    if trace.capacity() - len < more && len < LONG {
+        let room = if len < SHORT { len * 4 } else { LONG };
+        trace.reserve(more.max(room - len))?;
+    }
+    Ok(())
+}
+
+/// Moves lines to the end of the trace of the mote with this number.
+pub fn add_lines(
+    traces: &mut Vec<Vec<Line>>,
+    number: u16,
+    lines: &mut Vec<Line>,
+) -> Result<(), AllocError>
+    requires { number < length traces.old.items }
+    ensures { OnOk result (AddsLines number lines.old.items traces.old.items traces.new.items) }
+{
+    let trace = &mut traces[usize::from(number)];
+    make_room(trace, lines.len())?;
+    trace.append(lines)?;
+    Ok(())
+}

@@ -1,0 +1,35 @@
+-- Each mote's trace goes with the mote, turn by turn.
+use Rattle.std.proofs.Common.{ℕ, inl, inr}
+use Rattle.std.proofs.lemmas.Bool.{cases_eq, eq-eqb, ne_eqb}
+use Rattle.trace_lines.specs.declared.line.Line.{Line}
+use Rattle.kernel_laws.specs.Going.{GoesWith}
+use Rattle.kernel_laws.proofs.Motes.{in_order}
+use Rattle.mote_laws.proofs.Turns.{turn_keeps, new_goes}
+use Rattle.mote_node.specs.Node.{Node}
+use Rattle.mote_net.specs.Net.{NetTold}
+use Rattle.net_agenda.specs.NetSystem.{system_of, mote_at}
+use Rattle.window_law.specs.NetStep.{NetState, Run, Done, Turn, boot, turn_at}
+use Rattle.serial_run.specs.Laws.{TracesHandOn}
+
+module _ (n : NetTold) where
+  abbrev AllGo : NetState Node Line → Type 0
+  AllGo net = (k : ℕ) → GoesWith (net.traces k) (net.states k).mote
+
+  turn_goes : (t m : ℕ) (net : NetState Node Line) → AllGo net → AllGo (turn_at (system_of n) t m net)
+  unfolding system_of
+  turn_goes t m net go k =
+      elim (cases_eq k m) [
+        | inl e ↦ (let f = eq-eqb k m e in rw f (turn_keeps (net.traces m) t _ (net.states m) (go m)))
+        | inr ne ↦ (let f = ne_eqb k m ne in rw f (go k))
+      ]
+
+  run_goes : {net last : NetState Node Line} → Run (system_of n) n.end net last → AllGo net → AllGo last
+  run_goes (Done h) go = go
+  run_goes {net} (Turn t m least le r) go = run_goes r (turn_goes t m net go)
+
+  boot_goes : AllGo (boot (system_of n))
+  unfolding system_of
+  boot_goes k = let m = mote_at n.motes k in new_goes m.tree k m.queue
+
+pub traces_hand_on : TracesHandOn
+traces_hand_on n r report k h = in_order (report.last.traces k) (report.last.states k).mote (run_goes n report.run (boot_goes n) k)

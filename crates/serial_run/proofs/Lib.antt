@@ -1,0 +1,15 @@
+pub mod ByWindows
+pub mod Counted
+pub mod Given
+pub mod GivenAll
+pub mod Handed
+pub mod Kept
+pub mod OneWake
+pub mod OnTime
+pub mod Reached
+pub mod Reports
+pub mod SentOut
+pub mod Stamped
+pub mod Stamps
+pub mod Steps
+pub mod Unique

@@ -1,0 +1,60 @@
+-- What the engine tells at the end is the report.
+use Rattle.std.proofs.Common.{◌≡◌, ℕ, zero, suc, ◌<◌, ◌≤◌, List, [], ◌∷◌, ◌++◌, length, map, get_or, take, sym, ap, ◌∙◌, subst, refl, arith}
+use Rattle.std.specs.Prelude.{All, Vec}
+use Rattle.kernel_laws.specs.Going.{IsInOrder}
+use Rattle.std.specs.declared.alloc.Global.{Global}
+use Rattle.std.proofs.Math.Seq.{take-suc, take-length}
+use Rattle.std.proofs.lemmas.List.{map-append}
+use Rattle.trace_lines.specs.declared.line.Line.{Line}
+use Rattle.mote_net.specs.Net.{NetTold}
+use Rattle.net_report.specs.declared.Report.{Report}
+use Rattle.net_report.specs.Report.{Packet, ReportTold, lines_in, told_line, report_of}
+use Rattle.serial_run.specs.declared.engine.Engine.{Engine}
+use Rattle.window_law.specs.Agenda.{packets, up_to}
+use Rattle.serial_run.specs.NetRun.{packet_with_fates, told_at, IsReportOf}
+use Rattle.serial_run.specs.Stands.{IsWhole}
+use Rattle.serial_run.specs.Ended.{HasEnded}
+use Rattle.serial_run.proofs.Handed.{traces_hand_on}
+
+-- a list that is a family, place by place
+pub family : {X Y : Type 0} (g : X → Y) (f : ℕ → Y) (xs : List X) → ((k : ℕ) → k < length xs → (d : X) → g (get_or xs k d) ≡ f k) → map g xs ≡ map f (up_to (length xs))
+family {X} {Y} g f xs h = ap (map g) (sym (take-length xs)) ∙ upto xs h (length xs) (low (length xs))
+  where
+    low : (n : ℕ) → n ≤ n
+    low n = omega arith
+
+    upto : (xs : List X) → ((k : ℕ) → k < length xs → (d : X) → g (get_or xs k d) ≡ f k) → (n : ℕ) → n ≤ length xs → map g (take n xs) ≡ map f (up_to n)
+    upto xs h zero le = refl
+    upto [] h (suc n) le = absurd (omega arith)
+    upto (x ∷ xs) h (suc n) le =
+        let a : n < length (x ∷ xs) = omega arith in
+        let b : n ≤ length (x ∷ xs) = omega arith in
+        ap (map g) (take-suc (x ∷ xs) n x a)
+        ∙ (map-append g (take n (x ∷ xs)) (get_or (x ∷ xs) n x ∷ [])
+        ∙ (ap (λ l. l ++ g (get_or (x ∷ xs) n x) ∷ []) (upto (x ∷ xs) h n b)
+        ∙ (ap (λ y. map f (up_to n) ++ y ∷ []) (h n a x) ∙ sym (map-append f (up_to n) (n ∷ [])))))
+
+abbrev told_of : List (List Line) → List Packet → ℕ → ReportTold
+told_of traces log left = record { traces = traces; log = log; left = left }
+
+pub report_is : (n : NetTold) (engine : Engine) (report : Report) → IsWhole n engine → (at : HasEnded n engine)
+    → report.traces ≡ engine.traces → report.medium ≡ engine.log → report.left ≡ length (packets at.last.agenda) → IsReportOf n (report_of report)
+report_is n engine report whole at traces log left = record {
+  last = at.last;
+  run = at.run;
+  told =
+      ap (λ (v : Vec (Vec Line Global) Global). told_of (map lines_in v.items) (map told_line report.medium.items) report.left) traces
+      ∙ (ap (λ l. told_of l (map told_line report.medium.items) report.left) all
+      ∙ (ap (λ l. told_of (map at.last.traces (up_to (length n.motes))) l report.left) (ap (λ v. map told_line v.items) log ∙ at.stands.log)
+      ∙ ap (told_of (map at.last.traces (up_to (length n.motes))) (map (packet_with_fates n.radio) at.last.log)) left));
+}
+  where
+    all : map lines_in engine.traces.items ≡ map at.last.traces (up_to (length n.motes))
+    all =
+        family lines_in at.last.traces engine.traces.items (λ k h d. at.stands.traces k (let e = whole.traces in omega arith) d)
+        ∙ ap (λ j. map at.last.traces (up_to j)) whole.traces
+
+pub all_in_order : (n : NetTold) (engine : Engine) → IsWhole n engine → HasEnded n engine → All (λ (v : Vec Line Global). IsInOrder v.items) engine.traces.items
+all_in_order n engine whole at k d h =
+    let there : k < length n.motes = (let e = whole.traces in omega arith) in
+    subst IsInOrder (sym (at.stands.traces k there d)) (traces_hand_on n (told_at n at.last) (record { last = at.last; run = at.run; told = refl }) k there)

@@ -1,0 +1,136 @@
+-- The engine's turn is the net's.
+use Rattle.std.proofs.Common.{◌≡◌, ℕ, ◌<◌, Bool, true, false, not, ◌&&◌, ◌||◌, List, ◌++◌, length, map, get_or, set, refl, sym, ap, ◌∙◌, subst, inl, inr, arith, append_assoc, Option, Some, None, option_map, get_or-set_same, get_or-set_other}
+use Rattle.std.specs.Prelude.{Vec}
+use Rattle.std.specs.declared.alloc.Global.{Global}
+use Rattle.std.specs.List.{filter, flat_map}
+use Rattle.std.proofs.lemmas.Bool.{cases_eq, eq-eqb, ne_eqb}
+use Rattle.std.proofs.lemmas.List.{map-append}
+use Rattle.program_tree.specs.Code.{Tree}
+use Rattle.radio_packet.specs.declared.arrival.Arrival.{Arrival}
+use Rattle.trace_lines.specs.declared.line.Line.{Line}
+use Rattle.radio_packet.specs.declared.sent.Sent.{Sent}
+use Rattle.mote_node.specs.declared.mote.Mote.{Mote}
+use Rattle.mote_node.specs.declared.mote.TurnOut.{TurnOut}
+use Rattle.mote_node.specs.Node.{Node}
+use Rattle.mote_node.specs.Public.{node_in, turn_told, wake_in}
+use Rattle.mote_node.specs.Turn as node
+use Rattle.mote_node.specs.Turn.{turn_of}
+use Rattle.mote_node.specs.Wake.{wake_of}
+use Rattle.radio_medium.specs.Medium.{copies}
+use Rattle.mote_net.specs.Net.{NetTold}
+use Rattle.net_report.specs.Report.{told_line}
+use Rattle.serial_run.specs.declared.engine.Engine.{Engine}
+use Rattle.window_law.specs.Agenda.{Item, Packet, comes_at, is_wake_of, is_left, wake_items}
+use Rattle.net_agenda.specs.Buckets.{Holds, arrivals_at, wake_but_at}
+use Rattle.net_agenda.specs.NetSystem.{system_of, tree_at}
+use Rattle.serial_run.specs.NetRun.{packet_with_fates}
+use Rattle.window_law.specs.NetStep.{NetState, stamped, turn_at}
+use Rattle.serial_run.specs.Stands.{StandsAt, KeepsWakes, OneTakesTurn}
+use Rattle.net_agenda.specs.Traces.{AddsLines}
+use Rattle.window_law.proofs.Lists.{filter_filter, filter_both}
+use Rattle.serial_run.proofs.Kept.{wake_later}
+
+-- what a turn told, and where it led
+record Tells (o : Option Node) (out : TurnOut) (t : node.TurnGiven) : Type 0 where
+  node : o ≡ Some t.node
+  lines : out.lines.items ≡ t.lines
+  sends : out.sends.items ≡ t.sends
+  wake : out.wake ≡ t.wake
+
+tells : (o : Option Node) (out : TurnOut) (t : node.TurnGiven) → option_map (turn_told out) o ≡ Some t → Tells o out t
+tells None out t e = cc
+tells (Some x) out t e =
+    let f : turn_told out x ≡ t = cc in record {
+      node = ap (λ (u : node.TurnGiven). Some u.node) f;
+      lines = ap (λ (u : node.TurnGiven). u.lines) f;
+      sends = ap (λ (u : node.TurnGiven). u.sends) f;
+      wake = ap (λ (u : node.TurnGiven). u.wake) f;
+    }
+
+neither : (a b : Bool) → not (a || b) ≡ (not a && not b)
+neither true b = refl
+neither false b = refl
+
+module _ (n : NetTold) (t m : ℕ) (state : NetState Node Line) where
+  abbrev turned : node.TurnGiven
+  turned = turn_of t (arrivals_at t m state.agenda) (state.states m)
+
+  -- the agenda as the engine makes it
+  abbrev pub agenda_after : Option ℕ → List Sent → List Item
+  agenda_after wake sends =
+      (filter (λ item. not (is_wake_of m item)) (filter (λ item. not (comes_at t m item)) state.agenda) ++ wake_items m wake)
+      ++ map Packet (flat_map (copies n.radio) (map (stamped t m) sends))
+
+  pub stands_turn : (old new : Engine) (tree : Tree) (packets : List Arrival) (out : TurnOut)
+      → m < length n.motes → length old.motes.items ≡ length n.motes → length old.traces.items ≡ length n.motes → StandsAt n old state
+      → tree ≡ tree_at n m → packets ≡ arrivals_at t m state.agenda
+      → OneTakesTurn tree t packets m old.motes.items new.motes.items out
+      → AddsLines m out.lines.items old.traces.items new.traces.items
+      → Holds new.agenda.buckets (agenda_after out.wake out.sends.items)
+      → map told_line new.log.items ≡ map told_line old.log.items ++ map (packet_with_fates n.radio) (map (stamped t m) out.sends.items)
+      → StandsAt n new (turn_at (system_of n) t m state)
+  unfolding system_of
+  stands_turn old new tree packets out there motes traces at tree_is packets_are takes adds agenda log = record {
+    nodes = λ k h d.
+        elim (cases_eq k m) [
+          | inl e ↦ (let f = eq-eqb k m e in
+              rw f (ap (λ l. node_in (tree_at n k) (get_or l k d)) takes.put
+              ∙ (ap (λ j. node_in (tree_at n j) (get_or (set old.motes.items m takes.after) j d)) e
+              ∙ (ap (node_in (tree_at n m)) (get_or-set_same old.motes.items m takes.after d inside) ∙ is.node))))
+          | inr ne ↦ (let f = ne_eqb k m ne in
+              rw f (ap (λ l. node_in (tree_at n k) (get_or l k d)) takes.put
+              ∙ (ap (node_in (tree_at n k)) (get_or-set_other old.motes.items m k takes.after d ne) ∙ at.nodes k h d)))
+        ];
+    traces = λ k h d.
+        elim (cases_eq k m) [
+          | inl e ↦ (let f = eq-eqb k m e in
+              rw f (ap (λ l. (get_or l k d).items) adds.put
+              ∙ (ap (λ j. (get_or (set old.traces.items m adds.after) j d).items) e
+              ∙ (ap (λ (v : Vec Line Global). v.items) (get_or-set_same old.traces.items m adds.after d traced)
+              ∙ (adds.added d ∙ (ap (λ l. l ++ out.lines.items) (at.traces m there d) ∙ ap (λ l. state.traces m ++ l) is.lines))))))
+          | inr ne ↦ (let f = ne_eqb k m ne in
+              rw f (ap (λ l. (get_or l k d).items) adds.put
+              ∙ (ap (λ (v : Vec Line Global). v.items) (get_or-set_other old.traces.items m k adds.after d ne) ∙ at.traces k h d)))
+        ];
+    log =
+        log ∙ (ap (λ l. l ++ map (packet_with_fates n.radio) (map (stamped t m) out.sends.items)) at.log
+        ∙ (ap (λ l. map (packet_with_fates n.radio) state.log ++ map (packet_with_fates n.radio) (map (stamped t m) l)) is.sends
+        ∙ sym (map-append (packet_with_fates n.radio) state.log (map (stamped t m) turned.sends))));
+    agenda = subst (λ l. Holds new.agenda.buckets l) same agenda;
+  }
+    where
+      inside : m < length old.motes.items
+      inside = omega arith
+
+      traced : m < length old.traces.items
+      traced = omega arith
+
+      is : Tells (node_in (tree_at n m) takes.after) out turned
+      is = tells _ out turned (
+          ap (λ x. option_map (turn_told out) (node_in x takes.after)) (sym tree_is)
+          ∙ (takes.turned takes.after
+          ∙ (ap (λ x. option_map (turn_of t packets) (node_in x (get_or old.motes.items m takes.after))) tree_is
+          ∙ (ap (option_map (turn_of t packets)) (at.nodes m there takes.after) ∙ ap (λ p. Some (turn_of t p (state.states m))) packets_are))))
+
+      same : agenda_after out.wake out.sends.items ≡ filter (is_left t m) state.agenda ++ (wake_items m turned.wake ++ map Packet (flat_map (copies n.radio) (map (stamped t m) turned.sends)))
+      same =
+          append_assoc _ (wake_items m out.wake) _
+          ∙ (ap (λ l. l ++ (wake_items m out.wake ++ map Packet (flat_map (copies n.radio) (map (stamped t m) out.sends.items))))
+          (filter_both (λ item. not (is_wake_of m item)) (λ item. not (comes_at t m item)) (is_left t m) (λ item. neither (comes_at t m item) (is_wake_of m item)) state.agenda)
+          ∙ (ap (λ w. filter (is_left t m) state.agenda ++ (wake_items m w ++ map Packet (flat_map (copies n.radio) (map (stamped t m) out.sends.items)))) is.wake
+          ∙ ap (λ l. filter (is_left t m) state.agenda ++ (wake_items m turned.wake ++ map Packet (flat_map (copies n.radio) (map (stamped t m) l)))) is.sends))
+
+  -- the mote's wake, where it isn't due with the turn
+  pub wake_to_drop : (wake other : Option ℕ) (engine : Engine) → m < length n.motes → StandsAt n engine state → KeepsWakes n state
+      → ((x : Tree) (d : Mote) → wake ≡ wake_in (node_in x (get_or engine.motes.items m d))) → (d : Mote)
+      → other ≡ wake_but_at t wake
+      → filter (is_wake_of m) (filter (λ item. not (comes_at t m item)) state.agenda) ≡ wake_items m other
+  wake_to_drop wake other engine there at kept wakes d is =
+      filter_filter (is_wake_of m) (λ item. not (comes_at t m item)) state.agenda
+      ∙ (ap (filter (λ item. not (comes_at t m item))) (kept.wakes m there)
+      ∙ (wake_later t m (wake_of (state.states m))
+      ∙ ap (wake_items m) (ap (wake_but_at t) (sym (ap wake_in (at.nodes m there d)) ∙ sym (wakes (tree_at n m) d)) ∙ sym is)))
+
+-- what holds of equals
+pub sent_of : {R S : Type 0} (P : R → S → Type 0) {r r' : R} {s s' : S} → r ≡ r' → s ≡ s' → P r s → P r' s'
+sent_of P {r} {r'} {s} {s'} e f h = subst (λ x. P x s') e (subst (P r) f h)

@@ -1,0 +1,42 @@
+use Rattle.std.proofs.Common.{◌≡◌, ◌∙◌, ap, sym, subst, not, map, get_or, List, ◌++◌}
+use Rattle.std.specs.List.{filter, flat_map}
+use Rattle.program_tree.specs.Code.{Tree}
+use Rattle.program_tree.specs.Program.{tree_of}
+use Rattle.mote_node.specs.declared.mote.Mote.{Mote}
+use Rattle.mote_node.specs.Public.{node_in, told_with, wake_in}
+use Rattle.mote_net.specs.Net.{net_of}
+use Rattle.radio_medium.specs.Medium.{Radio, copies}
+use Rattle.radio_packet.specs.declared.sent.Sent.{Sent}
+use Rattle.window_law.specs.Agenda.{Item, Packet, comes_at, is_wake_of, wake_items}
+use Rattle.net_agenda.specs.Buckets.{Holds}
+use Rattle.net_report.specs.Report.{told_line}
+use Rattle.serial_run.specs.NetRun.{packet_with_fates}
+use Rattle.window_law.specs.NetStep.{stamped}
+use Rattle.net_agenda.proofs.Systems.{tree_is}
+use Rattle.serial_run.specs.OnTime.{CanTurn}
+use Rattle.serial_run.proofs.Steps.{stands_turn, wake_to_drop, sent_of}
+use Rattle.serial_run.proofs.engine.Engine.turn.Goals as goal
+
+pub turn_mote-requires-clause-ready : goal.turn_mote-requires-clause-ready
+turn_mote-requires-clause-ready c = λ d.
+    let n = net_of c.args.net.now in
+    let P : Tree → Type 0 = λ t. CanTurn c.args.moment (node_in t (get_or c.args.self.now.motes.items c.args.number d)) in
+    subst P (sym (tree_is n.motes c.args.number (tree_of c.program.result.now) c.program.ensures)) (c.requires.ready d)
+
+pub returns-clause-stands : goal.returns-clause-stands
+returns-clause-stands c = λ state at kept.
+    let n = net_of c.args.net.now in
+    let t = c.args.moment in
+    let m = c.args.number in
+    let takes = c.in_ok-next.ensures in
+    let taken = c.take_due_into.ensures.rest state.agenda at.agenda in
+    let wakes = λ (x : Tree) (d : Mote). c.wake_at.ensures x d ∙ ap (λ l. wake_in (node_in x (get_or l m d))) c.deref.ensures.value in
+    let woken = c.in_ok-move_wake.ensures _ taken (wake_to_drop n t m state c.wake_at.result c.wake_but_at-wake.result c.args.self.now c.requires.there at kept wakes takes.after c.wake_but_at-wake.ensures) in
+    let next = c.in_ok-next.next in
+    let base : List Item = filter (λ item. not (is_wake_of m item)) (filter (λ item. not (comes_at t m item)) state.agenda) ++ wake_items m next in
+    let sent = c.in_ok-send_all.ensures.agenda _ woken in
+    stands_turn n t m state c.args.self.now _ (tree_of c.program.result.now) c.deref-2.result.now (told_with c.turn_mote.new.out next) c.requires.there c.requires.whole.motes c.requires.whole.traces at
+    (tree_is n.motes m (tree_of c.program.result.now) c.program.ensures) (c.deref-2.ensures.value ∙ c.in_ok-take_due_into.ensures.copies state.agenda at.agenda)
+    takes c.in_ok-add_lines.ensures
+    (sent_of (λ (r : Radio) (s : List Sent). Holds c.send_all.new.agenda.buckets (base ++ map Packet (flat_map (copies r) (map (stamped t m) s)))) c.medium.ensures.value c.deref-3.ensures.value sent)
+    (sent_of (λ (r : Radio) (s : List Sent). map told_line c.send_all.new.log.items ≡ map told_line c.args.self.now.log.items ++ map (packet_with_fates r) (map (stamped t m) s)) c.medium.ensures.value c.deref-3.ensures.value c.in_ok-send_all.ensures.log)

@@ -1,0 +1,5 @@
+use Rattle.net_agenda.proofs.Items.{items_held}
+use Rattle.serial_run.proofs.laws.buckets_hold_items.Goals as goal
+
+pub returns : goal.returns
+returns c = items_held c.args.agenda.now.buckets c.len-length.ensures.ordered

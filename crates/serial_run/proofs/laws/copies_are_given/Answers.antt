@@ -1,0 +1,5 @@
+use Rattle.serial_run.proofs.Given.{copies_are_given}
+use Rattle.serial_run.proofs.laws.copies_are_given.Goals as goal
+
+pub returns : goal.returns
+returns c = copies_are_given

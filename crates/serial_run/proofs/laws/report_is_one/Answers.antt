@@ -1,0 +1,5 @@
+use Rattle.serial_run.proofs.Unique.{report_is_one}
+use Rattle.serial_run.proofs.laws.report_is_one.Goals as goal
+
+pub returns : goal.returns
+returns c = report_is_one

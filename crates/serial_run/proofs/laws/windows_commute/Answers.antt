@@ -1,0 +1,5 @@
+use Rattle.serial_run.proofs.ByWindows.{windows_commute}
+use Rattle.serial_run.proofs.laws.windows_commute.Goals as goal
+
+pub returns : goal.returns
+returns c = windows_commute

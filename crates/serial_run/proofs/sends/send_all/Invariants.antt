@@ -1,0 +1,15 @@
+use Rattle.std.proofs.Common.{◌≡◌, ◌++◌, List, map, take}
+use Rattle.std.specs.List.{flat_map}
+use Rattle.radio_medium.specs.Medium.{copies}
+use Rattle.window_law.specs.Agenda.{Item, Packet}
+use Rattle.net_agenda.specs.Buckets.{Holds}
+use Rattle.net_report.specs.Report.{told_line}
+use Rattle.serial_run.specs.NetRun.{packet_with_fates}
+use Rattle.window_law.specs.NetStep.{stamped}
+use Rattle.serial_run.proofs.sends.send_all.Given as goal
+
+abbrev pub invariant-loop-sent : goal.invariant-loop-sent
+invariant-loop-sent l = record {
+  agenda : (items : List Item) → Holds l.fn.agenda.buckets items → Holds l.agenda.buckets (items ++ map Packet (flat_map (copies l.medium) (map (stamped l.moment l.mote) (take l.sent-index l.sends))));
+  log : map told_line l.log.items ≡ map told_line l.fn.log.items ++ map (packet_with_fates l.medium) (map (stamped l.moment l.mote) (take l.sent-index l.sends));
+}

@@ -1,0 +1,83 @@
+-- What becomes of the copies that the medium doesn't lose: each is given in a turn at its moment, or left after the
+-- end.
+use Rattle.std.specs.Prelude.{◌≡◌, ℕ, nat_lt, ◌==◌, Bool, false, not, ◌&&◌, List}
+use Rattle.std.specs.Prelude.{[], ◌∷◌, length, count_by, None, IsPermutation}
+use Rattle.std.specs.List.{filter, flat_map, AllByRecursion}
+use Rattle.std.specs.Option.{option_map_or}
+use Rattle.radio_packet.specs.declared.copy.RadioCopy.{RadioCopy}
+use Rattle.radio_packet.specs.declared.fate.Fate.{Fate}
+use Rattle.radio_medium.specs.Medium.{copies, medium_fault}
+use Rattle.mote_net.specs.Net.{NetTold}
+use Rattle.window_law.specs.System.{System}
+use Rattle.window_law.specs.Order.{in_order}
+use Rattle.window_law.specs.Agenda.{comes_at, packets}
+use Rattle.window_law.specs.NetStep.{NetState, Run, Done, Turn}
+use Rattle.net_report.specs.Report.{ReportTold}
+use Rattle.serial_run.specs.NetRun.{IsReportOf}
+
+abbrev pub is_after : (end : ℕ) → RadioCopy → Bool
+is_after end copy = nat_lt end copy.at
+
+-- at or before the end
+abbrev pub is_by : (end : ℕ) → RadioCopy → Bool
+is_by end copy = not (is_after end copy)
+
+-- the copies on the agenda at the end are those, of all packets of the log, that arrive after the end
+abbrev pub LateCopiesStay : Type 0
+LateCopiesStay = (n : NetTold) (r : ReportTold) (report : IsReportOf n r) → packets report.last.agenda
+    ≡ filter (is_after n.end) (flat_map (copies n.radio) report.last.log)
+
+-- so many copies are left
+abbrev pub LeftIsCounted : Type 0
+LeftIsCounted = (n : NetTold) (r : ReportTold) (report : IsReportOf n r) → r.left
+    ≡ count_by (is_after n.end) (flat_map (copies n.radio) report.last.log)
+
+-- the copy isn't lost, and arrives after the end
+abbrev pub is_late : (end : ℕ) → Fate → Bool
+is_late end fate = option_map_or (nat_lt end) fate.at false
+
+-- and so many fates in the report have an arrival after the end
+abbrev pub FatesTellLeft : Type 0
+FatesTellLeft = (n : NetTold) (r : ReportTold) → IsReportOf n r → r.left
+    ≡ count_by (is_late n.end) (flat_map (λ packet. packet.fates) r.log)
+
+-- a turn of a run: its moment, its mote, and the copies it is given
+pub record TurnTaken : Type 0 where
+  pub moment : ℕ
+  pub mote : ℕ
+  pub given : List RadioCopy
+
+abbrev pub turns : {S L : Type 0} {system : System S L} {end : ℕ} {net last : NetState S L} → Run system end net last
+    → List TurnTaken
+turns (Done late) = []
+turns {net = net} (Turn moment mote least le rest) =
+    record { moment = moment; mote = mote; given = in_order (packets (filter (comes_at moment mote) net.agenda)) }
+    ∷ turns rest
+
+-- the turns of the run are given the copies of the log that arrive at or before the end, each once
+abbrev pub CopiesAreGiven : Type 0
+CopiesAreGiven = (n : NetTold) (r : ReportTold) (report : IsReportOf n r)
+    → IsPermutation (filter (is_by n.end) (flat_map (copies n.radio) report.last.log))
+    (flat_map (λ turn. turn.given) (turns report.run))
+
+abbrev pub IsGivenInTime : TurnTaken → Type 0
+IsGivenInTime turn = AllByRecursion (λ (copy : RadioCopy). (copy.at ≡ turn.moment) × (copy.to ≡ turn.mote)) turn.given
+
+-- each in a turn of its receiver, at its moment
+abbrev pub CopiesComeInTime : Type 0
+CopiesComeInTime = (n : NetTold) (r : ReportTold) (report : IsReportOf n r)
+    → AllByRecursion IsGivenInTime (turns report.run)
+
+-- a copy for this mote that arrives at this moment
+abbrev pub is_for : (moment mote : ℕ) → RadioCopy → Bool
+is_for moment mote copy = (copy.at == moment) && (copy.to == mote)
+
+abbrev pub IsGivenAll : List RadioCopy → TurnTaken → Type 0
+IsGivenAll sent turn = turn.given ≡ in_order (filter (is_for turn.moment turn.mote) sent)
+
+-- where the medium is without fault and has a place for each mote, a turn is given all copies of the log for its mote
+-- at its moment
+abbrev pub TurnsAreGivenAll : Type 0
+TurnsAreGivenAll = (n : NetTold) (r : ReportTold) (report : IsReportOf n r) → medium_fault n.radio ≡ None
+    → length n.radio.places ≡ length n.motes
+    → AllByRecursion (IsGivenAll (flat_map (copies n.radio) report.last.log)) (turns report.run)

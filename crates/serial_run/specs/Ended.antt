@@ -1,0 +1,26 @@
+-- How far a run has come.
+use Rattle.std.specs.Prelude.{ℕ}
+use Rattle.trace_lines.specs.declared.line.Line.{Line}
+use Rattle.mote_node.specs.Node.{Node}
+use Rattle.mote_net.specs.Net.{NetTold}
+use Rattle.serial_run.specs.declared.engine.Engine.{Engine}
+use Rattle.net_agenda.specs.NetSystem.{system_of}
+use Rattle.window_law.specs.NetStep.{NetState, Run, boot}
+use Rattle.serial_run.specs.OnTime.{IsOnTime}
+use Rattle.serial_run.specs.Stands.{StandsAt, KeepsWakes}
+
+-- The engine is where a beginning of the run leads: how the run goes on from there, it goes from boot.
+pub record HasReached (n : NetTold) (engine : Engine) : Type 0 where
+  pub state : NetState Node Line
+  pub stands : StandsAt n engine state
+  pub kept : KeepsWakes n state
+  pub at : ℕ
+  pub on_time : IsOnTime at state
+  pub led : (last : NetState Node Line) → Run (system_of n) n.end state last
+      → Run (system_of n) n.end (boot (system_of n)) last
+
+-- the engine is where the run ends
+pub record HasEnded (n : NetTold) (engine : Engine) : Type 0 where
+  pub last : NetState Node Line
+  pub stands : StandsAt n engine last
+  pub run : Run (system_of n) n.end (boot (system_of n)) last

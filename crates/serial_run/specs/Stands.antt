@@ -1,0 +1,52 @@
+-- Where a run of the engine stands.
+use Rattle.std.specs.Prelude.{ℕ, ◌≡◌, ◌<◌, ◌++◌, List, length, map, Vec, Some, option_map, slice_index_or, slice_set}
+use Rattle.std.specs.List.{filter, AllByRecursion}
+use Rattle.std.specs.declared.alloc.Global.{Global}
+use Rattle.radio_packet.specs.declared.arrival.Arrival.{Arrival}
+use Rattle.trace_lines.specs.declared.line.Line.{Line}
+use Rattle.mote_node.specs.declared.mote.Mote.{Mote}
+use Rattle.mote_node.specs.declared.mote.TurnOut.{TurnOut}
+use Rattle.mote_node.specs.Node.{Node}
+use Rattle.mote_node.specs.Public.{node_in, turn_told}
+use Rattle.mote_node.specs.Turn.{turn_of}
+use Rattle.mote_node.specs.Wake.{wake_of}
+use Rattle.mote_net.specs.Net.{NetTold}
+use Rattle.net_report.specs.Report.{told_line}
+use Rattle.serial_run.specs.declared.engine.Engine.{Engine}
+use Rattle.window_law.specs.Agenda.{mote_of, is_wake_of, wake_items}
+use Rattle.net_agenda.specs.Buckets.{Holds}
+use Rattle.net_agenda.specs.NetSystem.{tree_at}
+use Rattle.serial_run.specs.NetRun.{packet_with_fates}
+use Rattle.window_law.specs.NetStep.{NetState}
+use Rattle.program_tree.specs.Code as code
+
+abbrev pub OneNode : NetTold → List Mote → NetState Node Line → (mote : ℕ) → Type 0
+OneNode n motes net k = (d : Mote) → node_in (tree_at n k) (slice_index_or motes k d) ≡ Some (net.states k)
+
+abbrev pub OneTrace : List (Vec Line Global) → NetState Node Line → (mote : ℕ) → Type 0
+OneTrace traces net k = (d : Vec Line Global) → (slice_index_or traces k d).items ≡ net.traces k
+
+-- the engine's motes, traces, log and agenda are those of this net
+pub record StandsAt (n : NetTold) (engine : Engine) (net : NetState Node Line) : Type 0 where
+  pub nodes : (k : ℕ) → k < length n.motes → OneNode n engine.motes.items net k
+  pub traces : (k : ℕ) → k < length n.motes → OneTrace engine.traces.items net k
+  pub log : map told_line engine.log.items ≡ map (packet_with_fates n.radio) net.log
+  pub agenda : Holds engine.agenda.buckets net.agenda
+
+-- each mote has a node and a trace
+pub record IsWhole (n : NetTold) (engine : Engine) : Type 0 where
+  pub motes : length engine.motes.items ≡ length n.motes
+  pub traces : length engine.traces.items ≡ length n.motes
+
+-- the agenda has each mote's own next wake, and nothing for a mote that isn't there
+pub record KeepsWakes (n : NetTold) (net : NetState Node Line) : Type 0 where
+  pub wakes : (k : ℕ) → k < length n.motes → filter (is_wake_of k) net.agenda ≡ wake_items k (wake_of (net.states k))
+  pub inside : AllByRecursion (λ item. mote_of item < length n.motes) net.agenda
+
+-- one mote took a turn, which told this
+pub record OneTakesTurn (tree : code.Tree) (moment : ℕ) (packets : List Arrival) (k : ℕ) (old new : List Mote)
+    (out : TurnOut) : Type 0 where
+  pub after : Mote
+  pub put : new ≡ slice_set old k after
+  pub turned : (d : Mote) → option_map (turn_told out) (node_in tree after)
+      ≡ option_map (turn_of moment packets) (node_in tree (slice_index_or old k d))

@@ -1,0 +1,145 @@
+//! A net as it runs: its motes, their traces, the medium's log, and the pending events.
+
+ghost use Rattle.std.specs.Prelude.{◌≡◌, ◌<◌, ◌≤◌, ◌^◌, length, slice_index_or, Some, OnOk, IfOk};
+ghost use Rattle.program_tree.specs.Program.{tree_of};
+ghost use Rattle.mote_node.specs.Node.{Node};
+ghost use Rattle.mote_node.specs.Public.{node_in, told_with, wake_in};
+ghost use Rattle.mote_node.specs.declared.mote.Mote.{Mote as MoteOfCode};
+ghost use Rattle.program_tree.specs.Code.{Tree};
+ghost use Rattle.trace_lines.specs.declared.line.Line.{Line};
+ghost use Rattle.mote_net.specs.Net.{net_of};
+ghost use Rattle.net_agenda.specs.Buckets.{wake_but_at};
+ghost use Rattle.net_agenda.specs.NetSystem.{system_of, first_node_in, tree_at};
+ghost use Rattle.window_law.specs.NetStep.{NetState, turn_at, boot};
+ghost use Rattle.serial_run.specs.OnTime.{CanTurn};
+ghost use Rattle.serial_run.specs.Stands.{StandsAt, IsWhole, KeepsWakes, OneTakesTurn};
+
+use crate::sends::send_all;
+use mote_net::Net;
+use mote_node::{Mote, MoteError};
+use net_agenda::{Agenda, add_lines, new_mote};
+use net_report::LogLine;
+use process_kernel::{Line, Out};
+use program_tree::Program;
+use radio_packet::Arrival;
+use std::alloc::{AllocError, Global};
+
+/// The motes, each with its trace; the packets that were sent; and the pending events.
+#[derive(Drop)]
+pub struct Engine {
+    pub motes: Vec<Mote>,
+    pub traces: Vec<Vec<Line>>,
+    pub log: Vec<LogLine>,
+    pub agenda: Agenda,
+    /// The packets of the last turn; the next turn's take their room.
+    pub arrivals: Vec<Arrival>,
+    /// What the last turn told; the next turn writes into its room.
+    pub out: Out,
+}
+
+/// A wake at another moment than this.
+fn wake_but_at(moment: u64, wake: Option<u64>) -> Option<u64>
+    ensures { result ≡ wake_but_at moment wake }
+{
+    match wake {
+        Some(wake) => {
+            if wake == moment {
+                return None;
+            }
+            Some(wake)
+        }
+        None => None,
+    }
+}
+
+/// The turn of one of the motes, which has not failed, and whose last turn was before this moment. Returns when it
+/// wakes next.
+fn turn_mote(
+    motes: &mut Vec<Mote>,
+    program: &Program,
+    number: u16,
+    moment: u64,
+    packets: &[Arrival],
+    out: &mut Out,
+) -> Result<Option<u64>, AllocError>
+    requires there { number < length motes.old.items }
+    requires early { moment ≤ 2 ^ 40 }
+    requires ready { (d : MoteOfCode) → CanTurn moment
+        (node_in (tree_of program.now) (slice_index_or motes.old.items number d)) }
+    ensures { IfOk result (λ wake. OneTakesTurn
+        (tree_of program.now) moment packets.now number motes.old.items motes.new.items (told_with out.new wake)) }
+{
+    match motes[usize::from(number)].turn_into(program, moment, packets, out) {
+        Ok(wake) => Ok(wake),
+        Err(MoteError::Memory) => Err(AllocError),
+        Err(MoteError::Failed | MoteError::Past) => unreachable!(),
+    }
+}
+
+/// When one of the motes wakes next.
+fn wake_at(motes: &[Mote], number: u16) -> Option<u64>
+    requires { number < length motes.now }
+    ensures { (t : Tree) (d : MoteOfCode) → result ≡ wake_in (node_in t (slice_index_or motes.now number d)) }
+{
+    motes[usize::from(number)].wake()
+}
+
+impl Engine {
+    /// The net before its first turn: each mote wakes at 0.
+    pub fn boot(alloc: Global, net: &Net) -> Result<Engine, AllocError>
+        ensures stands { let n = net_of net.now in IfOk result (λ engine. StandsAt n engine (boot (system_of n))) }
+        ensures whole { let n = net_of net.now in IfOk result (λ engine. IsWhole n engine) }
+    {
+        let mut engine = Engine {
+            motes: Vec::new(alloc),
+            traces: Vec::new(alloc),
+            log: Vec::new(alloc),
+            agenda: Agenda::new(alloc),
+            arrivals: Vec::new(alloc),
+            out: Out::new(alloc),
+        };
+        for number in 0..net.motes() {
+            let mote = new_mote(alloc, net, number)?;
+            engine.motes.push(mote)?;
+            engine.traces.push(Vec::new(alloc))?;
+            engine.agenda.put_wake(0, number)?;
+        }
+        Ok(engine)
+    }
+
+    /// The turn of a mote on all that is due for it. It has not failed, and its last turn was before this moment.
+    pub fn turn(&mut self, net: &Net, moment: u64, number: u16) -> Result<(), AllocError>
+        requires there { number < length (net_of net.now).motes }
+        requires early { moment ≤ 2 ^ 40 }
+        requires whole { IsWhole (net_of net.now) self.old }
+        requires ready { (d : MoteOfCode) → CanTurn moment
+            (node_in (tree_at (net_of net.now) number) (slice_index_or self.old.motes.items number d)) }
+        ensures stands { let n = net_of net.now in
+            OnOk result ((state : NetState Node Line) → StandsAt n self.old state → KeepsWakes n state
+            → StandsAt n self.new (turn_at (system_of n) moment number state)) }
+        ensures whole { OnOk result (IsWhole (net_of net.now) self.new) }
+    {
+        self.agenda
+            .take_due_into(moment, number, &mut self.arrivals)?;
+        let wake = wake_but_at(moment, wake_at(&self.motes, number));
+        let next = turn_mote(
+            &mut self.motes,
+            net.program(number),
+            number,
+            moment,
+            &self.arrivals,
+            &mut self.out,
+        )?;
+        self.agenda.move_wake(wake, next, number)?;
+        send_all(
+            net.medium(),
+            moment,
+            number,
+            &self.out.sends,
+            &mut self.agenda,
+            &mut self.log,
+        )?;
+        add_lines(&mut self.traces, number, &mut self.out.lines)?;
+        Ok(())
+    }
+}

@@ -1,0 +1,52 @@
+//! Why there is no report.
+
+ghost use Rattle.std.specs.Prelude.{◌≡◌, Some};
+ghost use Rattle.serial_run.specs.declared.error.RunError.TheVariants.{Memory};
+
+use std::alloc::AllocError;
+use std::error::Error;
+use std::fmt;
+
+/// Why a run gives no report.
+#[derive(Clone, Copy, Debug, PartialEq, Eq)]
+pub enum RunError {
+    /// The number of workers is none of 1 to 16.
+    Workers = 1,
+    /// The cut doesn't name a worker for each mote of the net, or names one for more.
+    CutLength = 2,
+    /// The cut gives a mote to a worker that isn't there.
+    CutWorker = 3,
+    /// Out of memory; an allocation failed.
+    Memory = 4,
+    /// A thread couldn't be started, the gate refused a start, or the executor in a thread answered an error.
+    Thread = 5,
+    /// With marks: a worker stopped because another worker failed, and none reported `Memory` or `Thread`.
+    Stopped = 6,
+}
+
+impl fmt::Display for RunError {
+    ghost use Rattle.serial_run.specs.RunErrors.{text_of_error};
+
+    ghost output = { λ e. Some (text_of_error e) };
+
+    fn fmt<W: fmt::Write>(&self, f: &mut fmt::Formatter<W>) -> fmt::Result {
+        match self {
+            RunError::Workers => f.write_str("run fault 1"),
+            RunError::CutLength => f.write_str("run fault 2"),
+            RunError::CutWorker => f.write_str("run fault 3"),
+            RunError::Memory => f.write_str("out of memory"),
+            RunError::Thread => f.write_str("run fault 5"),
+            RunError::Stopped => f.write_str("run fault 6"),
+        }
+    }
+}
+
+impl Error for RunError {}
+
+impl From<AllocError> for RunError {
+    ghost from_gives = { λ _ e. e ≡ Memory };
+
+    fn from(_: AllocError) -> RunError {
+        RunError::Memory
+    }
+}

@@ -1,0 +1,98 @@
+//! Laws of the run of a net. Each is a theorem, stated as the contract of an empty function, or of one that asks for a
+//! length and no more.
+
+ghost use Rattle.serial_run.specs.Counted.{CopiesAreGiven, CopiesComeInTime, FatesTellLeft};
+ghost use Rattle.serial_run.specs.Counted.{LateCopiesStay, LeftIsCounted, TurnsAreGivenAll};
+ghost use Rattle.serial_run.specs.Laws.{AlwaysOneWake, BucketsHoldItems, NetsRunForward, ReportIsOne};
+ghost use Rattle.serial_run.specs.Laws.{ReportIsThere, TracesHandOn, WakesAlwaysDiffer, WindowsCommuteInNets};
+ghost use Rattle.serial_run.specs.Stamps.{LogCountsUp, SendsAreStamped, TracesNeverGoBack};
+
+use net_agenda::Agenda;
+
+/// A net has at most one report.
+pub fn report_is_one()
+    ensures { ReportIsOne }
+{}
+
+/// A net whose medium is without fault and has a place for each mote, as in every `Net`, has a report: its wakes and
+/// copies come later than the turns that make them.
+pub fn report_is_there()
+    ensures forward { NetsRunForward }
+    ensures there { ReportIsThere }
+{}
+
+/// Windows commute. Cut 0 to end + 1 at any rising bounds whose steps are at most the lookahead, and run each mote
+/// alone through each window, the motes of a window in any order, on the copies that earlier windows sent to it. The
+/// lines of each mote, the medium's log sorted by moment, sender and number, and the copies left are those of the net's
+/// run.
+pub fn windows_commute()
+    ensures { WindowsCommuteInNets }
+{}
+
+/// The lines of each mote of a net deliver each accepted event, in order, nothing follows a halt, and only a process
+/// that is not listed starts.
+pub fn traces_hand_on()
+    ensures { TracesHandOn }
+{}
+
+/// The items that are in the buckets of an agenda, read back from one bucket after another, are those of the net's one
+/// list: the same packets, each as often, and a wake of a mote at a moment where the list has one; so they are a
+/// permutation of the list where no mote has two wakes at one moment. The map is asked for its length since it then
+/// says that its keys rise: no two buckets are of one moment.
+pub fn buckets_hold_items(agenda: &Agenda)
+    ensures { BucketsHoldItems agenda.now.buckets }
+{
+    let _length = agenda.buckets.len();
+}
+
+/// Before each turn of a net's run, and at its end, each mote has at most one wake; so none has two at one moment.
+pub fn at_most_one_wake()
+    ensures one { AlwaysOneWake }
+    ensures differ { WakesAlwaysDiffer }
+{}
+
+/// At the end the agenda has those copies, of all packets of the log, that arrive after the end: none else, and in the
+/// order of the log. So a copy that the medium didn't lose arrives at or before the end, or is on its way when the run
+/// ends.
+pub fn late_copies_stay()
+    ensures { LateCopiesStay }
+{}
+
+/// A report counts the copies, of all packets of its log, that arrive after the end.
+pub fn left_is_counted()
+    ensures { LeftIsCounted }
+{}
+
+/// A report counts as many copies left as its log has fates with an arrival after the end.
+pub fn fates_tell_left()
+    ensures { FatesTellLeft }
+{}
+
+/// The turns of a run are given the copies, of all packets of the log, that arrive at or before the end, each once.
+pub fn copies_are_given()
+    ensures { CopiesAreGiven }
+{}
+
+/// What a turn is given are copies for its mote that arrive at its moment.
+pub fn copies_come_in_time()
+    ensures { CopiesComeInTime }
+{}
+
+/// Where the medium is without fault and has a place for each mote, as in every `Net`, a turn is given all copies of
+/// the log for its mote at its moment, in the order of sender, then number.
+pub fn turns_are_given_all()
+    ensures { TurnsAreGivenAll }
+{}
+
+/// The lines of each mote of a net never go back in moment, and in the medium's log the packets of each mote are
+/// numbered from 0 on, in order.
+pub fn moments_and_numbers_rise()
+    ensures traces { TracesNeverGoBack }
+    ensures log { LogCountsUp }
+{}
+
+/// The packets that a mote sends in a turn of a net's run are stamped with the turn's moment and the mote already: to
+/// stamp them changes nothing.
+pub fn sends_are_stamped()
+    ensures { SendsAreStamped }
+{}

@@ -1,0 +1,12 @@
+//! The run of a net on one thread, turn by turn in the order of moment, then mote number, and the laws of such a run.
+#![tactic(auto)]
+
+mod engine;
+mod error;
+pub mod laws;
+mod sends;
+mod serial;
+
+pub use error::RunError;
+pub use net_report::{LogLine, Report};
+pub use serial::run_serial;

@@ -1,0 +1,69 @@
+//! The run of a net in one thread: all turns, in the order of moment, then mote number.
+
+ghost use Rattle.std.specs.Prelude.{◌≡◌, ◌<◌, length, vec_len, All, IfOk, OnOk, IfErr};
+ghost use Rattle.kernel_laws.specs.Going.{IsInOrder};
+ghost use Rattle.mote_net.specs.Net.{net_of};
+ghost use Rattle.net_agenda.specs.NetSystem.{system_of};
+ghost use Rattle.net_report.specs.Report.{report_of};
+ghost use Rattle.serial_run.specs.NetRun.{IsReportOf};
+ghost use Rattle.window_law.specs.NetStep.{boot};
+ghost use Rattle.serial_run.specs.Stands.{StandsAt, IsWhole};
+ghost use Rattle.serial_run.specs.Ended.{HasEnded};
+
+use crate::engine::Engine;
+use crate::error::RunError;
+use mote_net::Net;
+use net_report::Report;
+use std::alloc::{AllocError, Global};
+
+/// Takes turns until no event is pending at or before the end.
+fn run_to_end(engine: &mut Engine, net: &Net) -> Result<(), AllocError>
+    requires whole { IsWhole (net_of net.now) engine.old }
+    requires boot { let n = net_of net.now in StandsAt n engine.old (boot (system_of n)) }
+    ensures whole { OnOk result (IsWhole (net_of net.now) engine.new) }
+    ensures ended { OnOk result (HasEnded (net_of net.now) engine.new) }
+{
+    let end = net.end();
+    // Each wake and each copy comes later than the turn that makes it, so the run comes to its end. The call's clauses
+    // say that the medium is without fault; what it returns isn't used.
+    let _ahead = net.medium().lookahead(end);
+    'turns: while let Some((moment, number)) = engine.agenda.first() {
+        if moment > end {
+            break;
+        }
+        engine.turn(net, moment, number)?;
+    }
+    Ok(())
+}
+
+/// The report of a net, by one thread that takes all turns in the order of moment, then mote number, with the packets
+/// of a turn in the order of sender and number.
+///
+/// # Errors
+/// `Memory` alone.
+pub fn run_serial(alloc: Global, net: &Net) -> Result<Report, RunError>
+    ensures report { IfOk result (λ r. IsReportOf (net_of net.now) (report_of r)) }
+    // There is a trace for each mote.
+    ensures traces { IfOk result (λ r. vec_len r.traces ≡ length (net_of net.now).motes) }
+    // Each trace delivers each accepted event, in order, nothing follows a halt in it, and only a process that is not
+    // listed starts.
+    ensures handed_on { IfOk result (λ r. All (λ trace. IsInOrder trace.items) r.traces.items) }
+    ensures err { IfErr result (λ e. e ≡ RunError.Memory) }
+{
+    let mut engine = Engine::boot(alloc, net)?;
+    run_to_end(&mut engine, net)?;
+    let Engine {
+        motes: _,
+        traces,
+        log,
+        agenda,
+        arrivals: _,
+        out: _,
+    } = engine;
+    let left = agenda.left()?;
+    Ok(Report {
+        traces,
+        medium: log,
+        left,
+    })
+}

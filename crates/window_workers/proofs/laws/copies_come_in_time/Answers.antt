@@ -1,5 +1,0 @@
-use Rattle.window_workers.proofs.Given.{copies_come_in_time}
-use Rattle.window_workers.proofs.laws.copies_come_in_time.Goals as goal
-
-pub returns : goal.returns
-returns c = copies_come_in_time

@@ -1,8 +1,0 @@
-use Rattle.window_workers.proofs.ByWindows.{nets_run_forward, report_is_there}
-use Rattle.window_workers.proofs.laws.report_is_there.Goals as goal
-
-pub returns-clause-forward : goal.returns-clause-forward
-returns-clause-forward c = nets_run_forward
-
-pub returns-clause-there : goal.returns-clause-there
-returns-clause-there c = report_is_there
