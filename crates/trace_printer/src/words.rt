@@ -1,4 +1,4 @@
-//! Words put into room that is there, from a place on. Each call gives the place behind its word.
+//! Words put into room that is there, from a place on. Each call gives the place after its word.
 ghost use Rattle.std.specs.Prelude.{◌≡◌, ◌<◌, ◌≤◌, ◌+◌, ◌/◌, ◌%◌, [], ◌∷◌, ◌++◌, length, take, decimal};
 ghost use Rattle.trace_printer.specs.Words.{arrival_word};
 

@@ -1,47 +1,162 @@
-//! The values of nets, and runs by workers with gates, lengths of windows, cuts and inboxes that no command line names. Most tests
-//! write what they see into one text and compare it once, in a function that they share: so a test owns little where it can end
-//! early, which is what its proof costs most.
+//! Most tests write what they see into one text and compare it once, in a function that they share: so a test owns
+//! little where it can end early, which is what its proof costs most.
 
+mod again;
 mod cuts;
+mod held_back;
 mod inboxes;
-mod nets;
 mod overlaps;
-mod shares;
 mod starts;
 
-use net_report::Report;
 use net_scenario::Net;
 use std::alloc::{AllocError, AllocGlobal, Global};
 use std::random::RandomSource;
 use std::sync::Wait;
+use std::test::Fail;
 use std::thread::Threads;
-use window_run::Gate;
-use window_workers::{RunError, SyncKind, run_serial, run_workers};
-use worker_cut::Cut;
+use window_workers::{Cut, Gate, Report, RunError, SyncKind, run_serial, run_workers};
 
 /// A receiver between two senders.
-const TWO_SENDERS: &str =
-    "version = 1\nend = 9\n[medium]\nrange = 5\nbase = 2\nper = 100\n[programs]\ns = \"process a; autostart a; code a { body { send (self + 5); } }\"\nr = \"process r; autostart r; receiver r; code r { body { while 1 { yield; if is(packet) { print from; print data; } } } }\"\n[[mote]]\nx = 0\ny = 0\nprogram = \"s\"\n[[mote]]\nx = 5\ny = 0\nprogram = \"r\"\n[[mote]]\nx = 10\ny = 0\nprogram = \"s\"\n";
+const TWO_SENDERS: &str = "\
+    version = 1\n\
+    end = 9\n\
+    [medium]\n\
+    range = 5\n\
+    base = 2\n\
+    per = 100\n\
+    [programs]\n\
+    s = \"process a; autostart a; code a { body { send (self + 5); } }\"\n\
+    r = \"process r; autostart r; receiver r; code r { body { while 1 { yield; if is(packet) { print from; \
+    print data; } } } }\"\n\
+    [[mote]]\n\
+    x = 0\n\
+    y = 0\n\
+    program = \"s\"\n\
+    [[mote]]\n\
+    x = 5\n\
+    y = 0\n\
+    program = \"r\"\n\
+    [[mote]]\n\
+    x = 10\n\
+    y = 0\n\
+    program = \"s\"\n";
 
 /// A mote that sends at 2 to one beside it, which gets the packet at 5.
-const PACKET_AFTER_TIMER: &str =
-    "version = 1\nend = 5\n[medium]\nrange = 1\nbase = 3\nper = 100\n[programs]\ns = \"process a; autostart a; code a { etimer t; body { set t 2; yield_until fired(t); send 9; } }\"\nr = \"process r; autostart r; receiver r; code r { body { while 1 { yield; if is(packet) { print from; print data; } } } }\"\n[[mote]]\nx = 0\ny = 0\nprogram = \"s\"\n[[mote]]\nx = 0\ny = 1\nprogram = \"r\"\n";
+const PACKET_AFTER_TIMER: &str = "\
+    version = 1\n\
+    end = 5\n\
+    [medium]\n\
+    range = 1\n\
+    base = 3\n\
+    per = 100\n\
+    [programs]\n\
+    s = \"process a; autostart a; code a { etimer t; body { set t 2; yield_until fired(t); send 9; } }\"\n\
+    r = \"process r; autostart r; receiver r; code r { body { while 1 { yield; if is(packet) { print from; \
+    print data; } } } }\"\n\
+    [[mote]]\n\
+    x = 0\n\
+    y = 0\n\
+    program = \"s\"\n\
+    [[mote]]\n\
+    x = 0\n\
+    y = 1\n\
+    program = \"r\"\n";
 
 /// The same, and the end comes before the packet.
-const COPY_PAST_THE_END: &str =
-    "version = 1\nend = 4\n[medium]\nrange = 1\nbase = 3\nper = 100\n[programs]\ns = \"process a; autostart a; code a { etimer t; body { set t 2; yield_until fired(t); send 9; } }\"\nr = \"process r; autostart r; receiver r; code r { body { while 1 { yield; if is(packet) { print from; print data; } } } }\"\n[[mote]]\nx = 0\ny = 0\nprogram = \"s\"\n[[mote]]\nx = 0\ny = 1\nprogram = \"r\"\n";
+const COPY_PAST_THE_END: &str = "\
+    version = 1\n\
+    end = 4\n\
+    [medium]\n\
+    range = 1\n\
+    base = 3\n\
+    per = 100\n\
+    [programs]\n\
+    s = \"process a; autostart a; code a { etimer t; body { set t 2; yield_until fired(t); send 9; } }\"\n\
+    r = \"process r; autostart r; receiver r; code r { body { while 1 { yield; if is(packet) { print from; \
+    print data; } } } }\"\n\
+    [[mote]]\n\
+    x = 0\n\
+    y = 0\n\
+    program = \"s\"\n\
+    [[mote]]\n\
+    x = 0\n\
+    y = 1\n\
+    program = \"r\"\n";
 
 /// Three motes that don't hear one another.
-const THREE_APART: &str =
-    "version = 1\nend = 9\n[medium]\nrange = 10\nbase = 1\nper = 100\n[programs]\np = \"process a; autostart a; code a { body { print 1; yield; print 2; } }\"\n[[mote]]\nx = 0\ny = 0\nprogram = \"p\"\n[[mote]]\nx = 20\ny = 0\nprogram = \"p\"\n[[mote]]\nx = 40\ny = 0\nprogram = \"p\"\n";
+const THREE_APART: &str = "\
+    version = 1\n\
+    end = 9\n\
+    [medium]\n\
+    range = 10\n\
+    base = 1\n\
+    per = 100\n\
+    [programs]\n\
+    p = \"process a; autostart a; code a { body { print 1; yield; print 2; } }\"\n\
+    [[mote]]\n\
+    x = 0\n\
+    y = 0\n\
+    program = \"p\"\n\
+    [[mote]]\n\
+    x = 20\n\
+    y = 0\n\
+    program = \"p\"\n\
+    [[mote]]\n\
+    x = 40\n\
+    y = 0\n\
+    program = \"p\"\n";
 
 /// Two motes that don't hear one another, each with a turn at the moments 0, 1 and 2.
-const BUSY_PAIR: &str =
-    "version = 1\nend = 2\n[medium]\nrange = 10\nbase = 1\nper = 100\n[programs]\np = \"process a; autostart a; code a { var n = 0; body { poll a; while 1 { yield; n = (n + 1); poll a; if (n == 192) { print n; } } } }\"\n[[mote]]\nx = 0\ny = 0\nprogram = \"p\"\n[[mote]]\nx = 20\ny = 0\nprogram = \"p\"\n";
+const BUSY_PAIR: &str = "\
+    version = 1\n\
+    end = 2\n\
+    [medium]\n\
+    range = 10\n\
+    base = 1\n\
+    per = 100\n\
+    [programs]\n\
+    p = \"process a; autostart a; code a { var n = 0; body { poll a; while 1 { yield; n = (n + 1); poll a; \
+    if (n == 192) { print n; } } } }\"\n\
+    [[mote]]\n\
+    x = 0\n\
+    y = 0\n\
+    program = \"p\"\n\
+    [[mote]]\n\
+    x = 20\n\
+    y = 0\n\
+    program = \"p\"\n";
 
 /// Three such motes.
-const BUSY_TRIO: &str =
-    "version = 1\nend = 2\n[medium]\nrange = 10\nbase = 1\nper = 100\n[programs]\np = \"process a; autostart a; code a { var n = 0; body { poll a; while 1 { yield; n = (n + 1); poll a; if (n == 192) { print n; } } } }\"\n[[mote]]\nx = 0\ny = 0\nprogram = \"p\"\n[[mote]]\nx = 20\ny = 0\nprogram = \"p\"\n[[mote]]\nx = 40\ny = 0\nprogram = \"p\"\n";
+const BUSY_TRIO: &str = "\
+    version = 1\n\
+    end = 2\n\
+    [medium]\n\
+    range = 10\n\
+    base = 1\n\
+    per = 100\n\
+    [programs]\n\
+    p = \"process a; autostart a; code a { var n = 0; body { poll a; while 1 { yield; n = (n + 1); poll a; \
+    if (n == 192) { print n; } } } }\"\n\
+    [[mote]]\n\
+    x = 0\n\
+    y = 0\n\
+    program = \"p\"\n\
+    [[mote]]\n\
+    x = 20\n\
+    y = 0\n\
+    program = \"p\"\n\
+    [[mote]]\n\
+    x = 40\n\
+    y = 0\n\
+    program = \"p\"\n";
+
+/// Fails where two texts differ, and shows both.
+fn same_text(told: &str, want: &str) -> Result<(), Fail> {
+    if told == want {
+        return Ok(());
+    }
+    Err(Fail::new(format_args!("{told} in place of {want}")))
+}
 
 /// A run: how many workers there are, the worker of each mote, and how long windows are at most.
 #[derive(Clone, Copy)]
@@ -51,7 +166,8 @@ struct Run<'a> {
     longest: u32,
 }
 
-/// The run by so many workers, with the worker of each mote, and windows of so many moments at most, or as many as may be.
+/// The run by so many workers, with the worker of each mote, and windows of so many moments at most, or as many as may
+/// be.
 fn by(workers: u16, of: &[u16], longest: u32) -> Run<'_> {
     Run {
         workers,
@@ -103,7 +219,7 @@ fn told(alloc: Global, net: &Net, report: &Report) -> Outcome {
     }
 }
 
-/// What comes of a run by workers that wait for one another in this way, with this gate.
+/// What comes of a run by workers with this kind of synchronization and this gate.
 fn told_by_workers<R, G>(
     rt: &R,
     net: &Net,

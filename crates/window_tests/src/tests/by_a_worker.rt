@@ -5,8 +5,7 @@ ghost use Rattle.mote_net.specs.Net.{net_of};
 ghost use Rattle.window_run.specs.Shares.{AreGoingOn, AreInNet, ResidentGoesOn};
 ghost use Rattle.window_run.specs.Window.{is_rising};
 
-use super::{write_lines, write_sends};
-use crate::tests::same_text;
+use super::{same_text, write_lines, write_sends};
 use mote_node::Mote;
 use net_scenario::{Net, read_scenario};
 use radio_packet::RadioCopy;
@@ -19,12 +18,44 @@ use std::test::Fail;
 use window_run::{Gate, NoGate, Resident, Residents, ShareError, WindowOut, WindowRoom, run_share};
 
 /// A mote that sends one packet, and one that hears it 2 moments later.
-const SENDER_AND_RECEIVER: &str =
-    "version = 1\nend = 9\n[medium]\nrange = 5\nbase = 2\nper = 100\n[programs]\ns = \"process a; autostart a; code a { body { send (self + 5); } }\"\nr = \"process r; autostart r; receiver r; code r { body { while 1 { yield; if is(packet) { print from; print data; } } } }\"\n[[mote]]\nx = 0\ny = 0\nprogram = \"s\"\n[[mote]]\nx = 5\ny = 0\nprogram = \"r\"\n";
+const SENDER_AND_RECEIVER: &str = "\
+    version = 1\n\
+    end = 9\n\
+    [medium]\n\
+    range = 5\n\
+    base = 2\n\
+    per = 100\n\
+    [programs]\n\
+    s = \"process a; autostart a; code a { body { send (self + 5); } }\"\n\
+    r = \"process r; autostart r; receiver r; code r { body { while 1 { yield; if is(packet) { print from; \
+    print data; } } } }\"\n\
+    [[mote]]\n\
+    x = 0\n\
+    y = 0\n\
+    program = \"s\"\n\
+    [[mote]]\n\
+    x = 5\n\
+    y = 0\n\
+    program = \"r\"\n";
 
 /// Two motes with a turn at every moment.
-const BUSY_PAIR: &str =
-    "version = 1\nend = 9\n[medium]\nrange = 10\nbase = 1\nper = 100\n[programs]\np = \"process a; autostart a; code a { body { poll a; while 1 { yield; poll a; } } }\"\n[[mote]]\nx = 0\ny = 0\nprogram = \"p\"\n[[mote]]\nx = 20\ny = 0\nprogram = \"p\"\n";
+const BUSY_PAIR: &str = "\
+    version = 1\n\
+    end = 9\n\
+    [medium]\n\
+    range = 10\n\
+    base = 1\n\
+    per = 100\n\
+    [programs]\n\
+    p = \"process a; autostart a; code a { body { poll a; while 1 { yield; poll a; } } }\"\n\
+    [[mote]]\n\
+    x = 0\n\
+    y = 0\n\
+    program = \"p\"\n\
+    [[mote]]\n\
+    x = 20\n\
+    y = 0\n\
+    program = \"p\"\n";
 
 /// A new mote of a net, with the copies that come to it.
 fn resident(
@@ -124,7 +155,10 @@ fn a_share_of_two_motes(rt: HostRuntime) -> Result<(), Fail> {
     give(
         &rt,
         &net,
-        "mote|0 Start(Etimer)|0 Start(Ctimer)|0 Start(Radio)|0 Start(Own(0))|0 Send(0, 5)|0 Leave(Own(0))|sent 0 0 0 5|mote|0 Start(Etimer)|0 Start(Ctimer)|0 Start(Radio)|0 Start(Own(0))|2 Recv(0, 0, 5)|2 Post(0, One(Own(0)), 138, 5)|2 Take(0, Own(0))|2 Print(Own(0), 0)|2 Print(Own(0), 5)|",
+        "\
+            mote|0 Start(Etimer)|0 Start(Ctimer)|0 Start(Radio)|0 Start(Own(0))|0 Send(0, 5)|0 Leave(Own(0))|\
+            sent 0 0 0 5|mote|0 Start(Etimer)|0 Start(Ctimer)|0 Start(Radio)|0 Start(Own(0))|2 Recv(0, 0, 5)|\
+            2 Post(0, One(Own(0)), 138, 5)|2 Take(0, Own(0))|2 Print(Own(0), 0)|2 Print(Own(0), 5)|",
     )
 }
 

@@ -3,13 +3,12 @@
 ghost use Rattle.std.specs.Prelude.{◌≡◌, ◌≤◌, ◌^◌, true, IfOk};
 ghost use Rattle.window_run.specs.Window.{is_rising};
 
-use super::write_lines;
-use crate::tests::same_text;
+use super::{same_text, write_lines};
 use futures::Future;
 use futures::task::Poll;
 use futures::test::MockTask;
 use mote_node::{Mote, MoteError};
-use mote_program::read;
+use program_reader::read;
 use program_tree::Program;
 use radio_packet::RadioCopy;
 use std::alloc::{AllocError, Global};
@@ -22,16 +21,21 @@ const PRINT_THEN_YIELD: &str =
     "process a; autostart a; code a { body { print 1; yield; print 2; } }";
 
 /// Three timers that are due at 4.
-const THREE_TIMERS: &str =
-    "process a; autostart a; code a { etimer s; etimer t; etimer u; body { set s 2; set t 4; set u 4; reset s; while 1 { yield; if is(timer) { print data; } } } }";
+const THREE_TIMERS: &str = "\
+    process a; autostart a; code a { etimer s; etimer t; etimer u; body { set s 2; set t 4; set u 4; reset \
+    s; while 1 { yield; if is(timer) { print data; } } } }";
 
 /// What three polls of its window up to 5 give.
-const THREE_TIMERS_TOLD: &str =
-    "pending|pending|0 Start(Etimer)|0 Start(Ctimer)|0 Start(Radio)|0 Start(Own(0))|4 Post(0, One(Own(0)), 136, 2)|4 Post(1, One(Own(0)), 136, 1)|4 Post(2, One(Own(0)), 136, 0)|4 Take(0, Own(0))|4 Print(Own(0), 2)|4 Take(1, Own(0))|4 Print(Own(0), 1)|4 Take(2, Own(0))|4 Print(Own(0), 0)|";
+const THREE_TIMERS_TOLD: &str = "\
+    pending|pending|0 Start(Etimer)|0 Start(Ctimer)|0 Start(Radio)|0 Start(Own(0))|\
+    4 Post(0, One(Own(0)), 136, 2)|4 Post(1, One(Own(0)), 136, 1)|4 Post(2, One(Own(0)), 136, 0)|\
+    4 Take(0, Own(0))|4 Print(Own(0), 2)|4 Take(1, Own(0))|4 Print(Own(0), 1)|4 Take(2, Own(0))|\
+    4 Print(Own(0), 0)|";
 
 /// Polls itself for ever: 64 times in each turn.
-const POLLS: &str =
-    "process a; autostart a; code a { var n = 0; body { poll a; while 1 { yield; n = (n + 1); poll a; if (n == 192) { print n; } } } }";
+const POLLS: &str = "\
+    process a; autostart a; code a { var n = 0; body { poll a; while 1 { yield; n = (n + 1); poll a; if (n \
+    == 192) { print n; } } } }";
 
 /// What four polls of its window up to 3 give.
 const POLLS_TOLD: &str =
@@ -114,7 +118,7 @@ fn new_mote_gives(alloc: Global, bench: &Bench, want: &str) -> Result<(), Fail> 
     same_text(told.as_str(), want)
 }
 
-/// Fails where this isn't told of a window that goes on, or is given up for want of memory.
+/// Fails where this isn't told of a window that goes on, or is given up as an allocation failed.
 fn goes_on_or_fails(told: &str) -> Result<(), Fail> {
     if told.starts_with("pending|") || told == "Memory|Failed|Failed|" {
         return Ok(());

@@ -3,16 +3,54 @@
 ghost use Rattle.std.specs.Prelude.{◌<◌, length};
 ghost use Rattle.mote_net.specs.Net.{net_of};
 
-use crate::tests::same_text;
+use super::same_text;
 use net_scenario::{Net, read_scenario};
 use std::alloc::{AllocError, Global};
 use std::test::Fail;
 
-const PRINT_THEN_YIELD: &str =
-    "version = 1\nend = 5\n[medium]\nrange = 10\nbase = 1\nper = 100\n[programs]\np = \"process a; autostart a; code a { body { print 1; yield; print 2; } }\"\n[[mote]]\nx = 0\ny = 0\nprogram = \"p\"\n";
+const PRINT_THEN_YIELD: &str = "\
+    version = 1\n\
+    end = 5\n\
+    [medium]\n\
+    range = 10\n\
+    base = 1\n\
+    per = 100\n\
+    [programs]\n\
+    p = \"process a; autostart a; code a { body { print 1; yield; print 2; } }\"\n\
+    [[mote]]\n\
+    x = 0\n\
+    y = 0\n\
+    program = \"p\"\n";
 
-const THREE_MOTES: &str =
-    "version = 2\nend = 7\n[medium]\nrange = 5\nbase = 2\nper = 10\ncollide = true\n[programs]\np = \"process a; code a { body { } }\"\nq = \"process b, c; code b { body { } } code c { body { } }\"\n[queue]\nq = 3\n[[mote]]\nx = 0\ny = 0\nprogram = \"q\"\n[[mote]]\nx = 3\ny = 4\nprogram = \"p\"\n[[mote]]\nx = -30000\ny = 4\nprogram = \"q\"\n[[loss]]\nfrom = 0\nto = 1\nevery = 2\n";
+const THREE_MOTES: &str = "\
+    version = 2\n\
+    end = 7\n\
+    [medium]\n\
+    range = 5\n\
+    base = 2\n\
+    per = 10\n\
+    collide = true\n\
+    [programs]\n\
+    p = \"process a; code a { body { } }\"\n\
+    q = \"process b, c; code b { body { } } code c { body { } }\"\n\
+    [queue]\n\
+    q = 3\n\
+    [[mote]]\n\
+    x = 0\n\
+    y = 0\n\
+    program = \"q\"\n\
+    [[mote]]\n\
+    x = 3\n\
+    y = 4\n\
+    program = \"p\"\n\
+    [[mote]]\n\
+    x = -30000\n\
+    y = 4\n\
+    program = \"q\"\n\
+    [[loss]]\n\
+    from = 0\n\
+    to = 1\n\
+    every = 2\n";
 
 /// Writes down the program of each mote, how many processes it has, and how long the mote's queue is.
 fn write_motes(text: &mut String, net: &Net) -> Result<(), AllocError> {

@@ -1,18 +1,16 @@
 //! Cuts: who runs which mote, how long windows are, and what doesn't fit.
 
 use super::{
-    COPY_PAST_THE_END, PACKET_AFTER_TIMER, Run, THREE_APART, TWO_SENDERS, by, told_by_workers,
+    COPY_PAST_THE_END, PACKET_AFTER_TIMER, Run, THREE_APART, TWO_SENDERS, by, same_text,
+    told_by_workers,
 };
-use crate::tests::same_text;
 use net_scenario::{Net, read_scenario};
 use std::alloc::{AllocError, AllocGlobal, Global};
 use std::random::RandomSource;
 use std::sync::Wait;
 use std::test::Fail;
 use std::thread::Threads;
-use window_run::NoGate;
-use window_workers::SyncKind;
-use worker_cut::Cut;
+use window_workers::{Cut, NoGate, SyncKind};
 
 /// What is told of both cuts of five motes among two workers, and of three motes among 16, most of which have none.
 fn cuts_told(alloc: Global) -> Result<String, AllocError> {
@@ -37,7 +35,7 @@ fn cuts_of_few_motes(rt: HostRuntime) -> Result<(), Fail> {
     )
 }
 
-/// Writes down what comes of each of these runs, by workers that wait for one another in this way.
+/// Writes down what comes of each of these runs, by workers with this kind of synchronization.
 fn write_runs<R>(
     rt: &R,
     net: &Net,
@@ -78,8 +76,8 @@ where
     Ok(())
 }
 
-/// Each of these cuts gives the report of one thread: in blocks and in stripes, with workers that have no mote, and with the
-/// motes the other way round.
+/// Each of these cuts gives the report of one thread: in blocks and in stripes, with workers that have no mote, and
+/// with the motes the other way round.
 #[test]
 fn cuts_of_two_senders(rt: HostRuntime) -> Result<(), Fail> {
     let runs = [
@@ -96,7 +94,8 @@ fn cuts_of_two_senders(rt: HostRuntime) -> Result<(), Fail> {
     tells(&rt, TWO_SENDERS, &runs, want)
 }
 
-/// Windows may be shorter than they could be, and no window is longer than is wished: the reports are those of one thread.
+/// Windows may be shorter than they could be, and no window is longer than is wished: the reports are those of one
+/// thread.
 #[test]
 fn longest_windows(rt: HostRuntime) -> Result<(), Fail> {
     let runs = [
@@ -133,7 +132,8 @@ fn refused_workers_and_cuts(rt: HostRuntime) -> Result<(), Fail> {
         by(2, &[0, 2], 0),
         by(16, &[0, 15, 0], 0),
     ];
-    let want =
-        "Fault(Workers)|Fault(CutLength)|Fault(CutWorker)|Fault(Workers)|Fault(CutLength)|Fault(Workers)|Fault(CutLength)|Same(0)|";
+    let want = "\
+            Fault(Workers)|Fault(CutLength)|Fault(CutWorker)|Fault(Workers)|Fault(CutLength)|Fault(Workers)|\
+            Fault(CutLength)|Same(0)|";
     tells(&rt, THREE_APART, &runs, want)
 }

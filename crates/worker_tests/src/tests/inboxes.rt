@@ -3,8 +3,7 @@ ghost use Rattle.std.specs.Prelude.{IfOk};
 ghost use Rattle.std.specs.List.{AllByRecursion as Each};
 ghost use Rattle.copy_exchange.specs.Inboxes.{IsSettled};
 
-use super::{COPY_PAST_THE_END, Outcome, Run, THREE_APART, by, cut_of, told};
-use crate::tests::same_text;
+use super::{COPY_PAST_THE_END, Outcome, Run, THREE_APART, by, cut_of, same_text, told};
 use copy_exchange::make_inboxes;
 use copy_inbox::{Inbox, Taker};
 use net_scenario::{Net, read_scenario};
@@ -13,8 +12,7 @@ use std::random::RandomSource;
 use std::sync::Wait;
 use std::test::Fail;
 use std::thread::Threads;
-use window_run::{Gate, NoGate};
-use window_workers::{SyncKind, run_inboxes};
+use window_workers::{Gate, NoGate, SyncKind, run_inboxes};
 
 /// What comes of a run over new inboxes, one for each worker, and these at its end; none where there is no report.
 fn over_inboxes<R, G>(
@@ -92,7 +90,8 @@ where
     Ok(())
 }
 
-/// The copy that would arrive after the end lies in the inbox of its receiver's worker; with marks that worker took it out of there.
+/// The copy that would arrive after the end lies in the inbox of its receiver's worker; with marks that worker took it
+/// out of there.
 #[test]
 fn a_copy_left_in_its_inbox(rt: HostRuntime) -> Result<(), Fail> {
     let joins = "Same(1)|0 []|1 [RadioCopy { at: 5, to: 1, sender: 0, number: 0, value: 9 }]|";

@@ -1,9 +1,8 @@
-//! That turns of workers overlap in time, shown by gates at which they wait for one another. The gate is called inside a turn, so
-//! a lock that is held round each turn lets none of them meet.
+//! That turns of workers overlap in time, shown by gates at which they wait for one another. The gate is called inside
+//! a turn, so a lock that is held round each turn lets none of them meet.
 
 use super::inboxes::write_inboxes;
-use super::{BUSY_PAIR, BUSY_TRIO, Run, by, told_by_workers};
-use crate::tests::same_text;
+use super::{BUSY_PAIR, BUSY_TRIO, Run, by, same_text, told_by_workers};
 use net_scenario::{Net, read_scenario};
 use std::alloc::{AllocError, AllocGlobal};
 use std::random::RandomSource;
@@ -12,8 +11,7 @@ use std::sync::atomic::AtomicU64;
 use std::sync::atomic::Ordering::SeqCst;
 use std::test::Fail;
 use std::thread::Threads;
-use window_run::Gate;
-use window_workers::SyncKind;
+use window_workers::{Gate, SyncKind};
 
 /// Each worker waits inside its turn of a moment, for a while, until all came to theirs.
 #[derive(Drop)]

@@ -4,7 +4,7 @@ use Rattle.mote_net.specs.Net.{net_of}
 use Rattle.net_report.specs.Report.{report_of}
 use Rattle.trace_printer.specs.Output.{AppendsFront}
 use Rattle.simulation.proofs.Printed.{scenario_of, reported, refused}
-use Rattle.simulation.proofs.simulate.simulate_text_by.Goals as goal
+use Rattle.simulation.proofs.end_to_end.simulate_text_by.Goals as goal
 
 pub returns-in_err-net-clause-answer : goal.returns-in_err-net-clause-answer
 returns-in_err-net-clause-answer g c =

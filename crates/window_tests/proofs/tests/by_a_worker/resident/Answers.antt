@@ -1,8 +1,8 @@
 use Rattle.std.specs.List.{slice_get}
 use Rattle.program_tree.specs.Program.{tree_of}
 use Rattle.mote_net.specs.Net.{net_of}
-use Rattle.simulation_tests.proofs.NewMotes.{new_goes_on}
-use Rattle.simulation_tests.proofs.tests.windows.by_a_worker.resident.Goals as goal
+use Rattle.window_tests.proofs.NewMotes.{new_goes_on}
+use Rattle.window_tests.proofs.tests.by_a_worker.resident.Goals as goal
 
 pub returns-clause-goes_on : goal.returns-clause-goes_on
 returns-clause-goes_on c = λ until.
