@@ -1,8 +1,7 @@
 //! The program: it gives the command the words and the streams of its process.
 #![tactic(auto)]
 
-use simulation::command::{run_command, status_of};
-use simulation::simulate::SimError;
+use simulation::{SimError, run_command, status_of};
 use std::alloc::{AllocError, Global};
 use std::io::{Read, Write};
 use std::process::ExitCode;

@@ -1,5 +1,6 @@
 -- A document: its tables in the order in which they are told about, and what they hold.
-use Rattle.std.specs.Prelude.{◌≡◌, ℕ, ℤ, pos, negsuc, ◌≤ℤ◌, List, [], ◌∷◌, ◌++◌, map, codes, Option, Some, None, String, option_map, Bool, false, is_none, option_and_then, unwrap_or, if◌then◌else◌}
+use Rattle.std.specs.Prelude.{◌≡◌, ℕ, ℤ, pos, negsuc, ◌≤ℤ◌, List, [], ◌∷◌, ◌++◌, map, codes, Option, Some, None, String}
+use Rattle.std.specs.Prelude.{option_map, Bool, false, is_none, option_and_then, unwrap_or, if◌then◌else◌}
 use Rattle.std.specs.BTreeMap.{BTreeMap}
 use Rattle.std.specs.Borrow.{Bor}
 use Rattle.std.specs.Ordering.{int_eq}
@@ -7,12 +8,14 @@ use Rattle.std.specs.Option.{option_or, option_map_or}
 use Rattle.std.specs.declared.alloc.Global.{Global}
 use Rattle.toml.specs.View.{table_view}
 use Rattle.toml.specs.declared.value.Value.{Value}
-use Rattle.toml.specs.Data.{integer, table, Items, no_items, item, Members, no_members, get_member, as_integer, as_bool, as_str, as_table, as_array}
+use Rattle.toml.specs.Data.{integer, table, Items, no_items, item, Members, no_members, get_member, as_integer, as_bool}
+use Rattle.toml.specs.Data.{as_str, as_table, as_array}
 use Rattle.net_scenario.specs.declared.error.TableFault.{TableFault}
 use Rattle.net_scenario.specs.declared.error.TableFault.TheVariants.{UnknownProgram}
 use Rattle.net_scenario.specs.declared.version.Version.{Version}
 use Rattle.net_scenario.specs.declared.version.Version.TheVariants.{First, Second}
-use Rattle.net_scenario.specs.Rules.{Rule, keys_fault, known_in, members_any, top_rules, medium_rules, loss_rules, mote_rules}
+use Rattle.net_scenario.specs.Rules.{Rule, keys_fault, known_in, members_any, top_rules, medium_rules, loss_rules}
+use Rattle.net_scenario.specs.Rules.{mote_rules}
 use Rattle.net_scenario.specs.Names.{names_fault, lengths_fault}
 
 abbrev pub integer_at : List ℕ → Members → Option ℤ
@@ -78,11 +81,13 @@ tables_of top =
 
 -- each length of a queue is for one of the programs
 abbrev pub queue_fault : (programs queue : Members) → Option TableFault
-queue_fault programs queue = if members_any (λ k. is_none (get_member k programs)) queue then Some UnknownProgram else None
+queue_fault programs queue =
+    if members_any (λ k. is_none (get_member k programs)) queue then Some UnknownProgram else None
 
 -- a mote's program has to be among the programs
 abbrev pub program_fault : (programs mote : Members) → Option TableFault
-program_fault programs mote = if is_none (get_member (text_at (codes "program") mote) programs) then Some UnknownProgram else None
+program_fault programs mote =
+    if is_none (get_member (text_at (codes "program") mote) programs) then Some UnknownProgram else None
 
 -- the first fault: table by table, and then of names that no program has
 unfoldable pub document_fault : Members → Option TableFault

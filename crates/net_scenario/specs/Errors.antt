@@ -5,7 +5,9 @@ use Rattle.net_scenario.specs.declared.error.TableFault.TheVariants as table
 use Rattle.radio_medium.specs.declared.error.MediumError.{MediumError}
 use Rattle.radio_medium.specs.declared.error.MediumError.TheVariants as medium
 use Rattle.net_scenario.specs.declared.error.ScenarioError.{ScenarioError}
-use Rattle.net_scenario.specs.declared.error.ScenarioError.TheVariants.{Toml, MissingKey, UnknownKey, WrongKind, OutOfRange, UnknownProgram, Program, Medium, Memory}
+use Rattle.net_scenario.specs.declared.error.ScenarioError.TheVariants.{Toml, MissingKey, UnknownKey, WrongKind}
+use Rattle.net_scenario.specs.declared.error.ScenarioError.TheVariants.{OutOfRange, UnknownProgram, Program, Medium}
+use Rattle.net_scenario.specs.declared.error.ScenarioError.TheVariants.{Memory}
 
 abbrev pub scenario_fault_number : ScenarioError → ℕ
 scenario_fault_number Toml = 1
@@ -26,7 +28,7 @@ of_table table.WrongKind = WrongKind
 of_table table.OutOfRange = OutOfRange
 of_table table.UnknownProgram = UnknownProgram
 
--- a fault of the medium is carried, and its want of memory is the scenario's
+-- a fault of the medium is carried; where it is out of memory, so is the scenario
 abbrev pub of_medium : MediumError → ScenarioError
 of_medium medium.Memory = Memory
 of_medium e = Medium e

@@ -10,7 +10,8 @@ use Rattle.net_scenario.specs.Reading.{TellsNet, TellsFault}
 -- the same of the texts of programs
 pub record ProgramLaws : Type 0 where
   pub one_tree : (text : List ℕ) (t u : Tree) → IsTreeOf text t → IsTreeOf text u → t ≡ u
-  pub one_fault : (text : List ℕ) (k l : ReadErrorKind) (m n : ℕ) → IsToldOf text k m → IsToldOf text l n → (k ≡ l) × (m ≡ n)
+  pub one_fault : (text : List ℕ) (k l : ReadErrorKind) (m n : ℕ) → IsToldOf text k m → IsToldOf text l n
+      → (k ≡ l) × (m ≡ n)
   pub never_both : (text : List ℕ) (t : Tree) (k : ReadErrorKind) (m : ℕ) → IsTreeOf text t → IsToldOf text k m → ⊥
 
 abbrev pub OneNet : Type 0

@@ -1,5 +1,6 @@
 -- The tables whose keys are names of programs: the programs, each with a text, and the lengths of their queues.
-use Rattle.std.specs.Prelude.{◌==◌, ◌+◌, ◌&&◌, ◌||◌, ℕ, pos, Bool, false, not, nat_le, List, length, Option, Some, None, is_some, if◌then◌else◌}
+use Rattle.std.specs.Prelude.{◌==◌, ◌+◌, ◌&&◌, ◌||◌, ℕ, pos, Bool, false, not, nat_le, List, length, Option, Some, None}
+use Rattle.std.specs.Prelude.{is_some, if◌then◌else◌}
 use Rattle.std.specs.List.{list_all}
 use Rattle.toml.specs.Data.{Data, Members, no_members, member, as_str}
 use Rattle.net_scenario.specs.declared.error.TableFault.{TableFault}

@@ -10,7 +10,8 @@ use Rattle.net_scenario.specs.declared.error.TableFault.{TableFault}
 use Rattle.net_scenario.specs.declared.error.TableFault.TheVariants.{UnknownProgram}
 use Rattle.mote_net.specs.Net.{MoteTold, NetTold, no_program}
 use Rattle.net_scenario.specs.Limits.{usual_queue}
-use Rattle.net_scenario.specs.Document.{natural, number_at, natural_at, integer_at, boolean_at, text_at, table_at, tables_at}
+use Rattle.net_scenario.specs.Document.{natural, number_at, natural_at, integer_at, boolean_at, text_at, table_at}
+use Rattle.net_scenario.specs.Document.{tables_at}
 use Rattle.mote_net.specs.Programs.{NamedTree}
 
 -- the program of a name
@@ -32,7 +33,11 @@ abbrev pub place_told : Members → Place
 place_told ms = record { x = number_at (codes "x") ms; y = number_at (codes "y") ms }
 
 abbrev pub loss_of : Members → Loss
-loss_of ms = record { sender = natural_at (codes "from") ms; to = natural_at (codes "to") ms; every = natural_at (codes "every") ms }
+loss_of ms = record {
+  sender = natural_at (codes "from") ms;
+  to = natural_at (codes "to") ms;
+  every = natural_at (codes "every") ms;
+}
 
 -- the medium of a document: its numbers, the places of its motes, and its losses
 abbrev pub radio_told : Members → Radio
@@ -55,4 +60,5 @@ net_told top trees = record {
 
 -- a mote's program has to be among those read
 abbrev pub unread_fault : List NamedTree → Members → Option TableFault
-unread_fault trees mote = if is_none (find (λ t. bytes_eq t.name (text_at (codes "program") mote)) trees) then Some UnknownProgram else None
+unread_fault trees mote =
+    if is_none (find (λ t. bytes_eq t.name (text_at (codes "program") mote)) trees) then Some UnknownProgram else None

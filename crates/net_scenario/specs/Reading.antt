@@ -1,5 +1,6 @@
 -- What a text tells: a net, or its first fault.
-use Rattle.std.specs.Prelude.{◌≡◌, ℕ, nat_lt, List, length, codes, Option, Some, None, if◌then◌else◌, Result, Ok, Err, String}
+use Rattle.std.specs.Prelude.{◌≡◌, ℕ, nat_lt, List, length, codes, Option, Some, None, if◌then◌else◌, Result, Ok, Err}
+use Rattle.std.specs.Prelude.{String}
 use Rattle.std.specs.BTreeMap.{BTreeMap}
 use Rattle.std.specs.Option.{option_map_or}
 use Rattle.std.specs.declared.alloc.Global.{Global}
@@ -89,7 +90,7 @@ MakesNet top (Err (Medium e)) = IsMediumFaultOf top e
 MakesNet top (Err Memory) = Unit {0}
 MakesNet top (Err e) = ⊥
 
--- what may be answered to a text: the net that it tells, its first fault, or want of memory
+-- what may be answered to a text: the net that it tells, its first fault, or out of memory
 abbrev pub Answers : List ℕ → Result Net ScenarioError → Type 0
 Answers text (Ok net) = TellsNet text (net_of net)
 Answers text (Err Memory) = Unit {0}

@@ -1,10 +1,12 @@
 -- The keys of each table, and the first fault of a table against them.
-use Rattle.std.specs.Prelude.{◌≡◌, ◌+◌, ℕ, pos, neg_ℤ, Bool, true, false, not, ◌&&◌, ◌||◌, nat_le, List, [], ◌∷◌, codes, Option, Some, None, is_none, is_some, if◌then◌else◌, Result, Ok, Err}
+use Rattle.std.specs.Prelude.{◌≡◌, ◌+◌, ℕ, pos, neg_ℤ, Bool, true, false, not, ◌&&◌, ◌||◌, nat_le, List, [], ◌∷◌, codes}
+use Rattle.std.specs.Prelude.{Option, Some, None, is_none, is_some, if◌then◌else◌, Result, Ok, Err}
 use Rattle.std.specs.List.{filter, list_any}
 use Rattle.std.specs.Option.{option_map_or}
 use Rattle.std.specs.Int.Signed.{le_z}
 use Rattle.std.specs.Str.{bytes_eq}
-use Rattle.toml.specs.Data.{Data, Items, no_items, item, Members, no_members, member, get_member, as_integer, as_bool, as_str, as_table, as_array}
+use Rattle.toml.specs.Data.{Data, Items, no_items, item, Members, no_members, member, get_member, as_integer, as_bool}
+use Rattle.toml.specs.Data.{as_str, as_table, as_array}
 use Rattle.net_scenario.specs.declared.version.Version.{Version}
 use Rattle.net_scenario.specs.declared.version.Version.TheVariants.{First, Second}
 use Rattle.net_scenario.specs.declared.rules.Kind.{Kind}
@@ -100,7 +102,8 @@ is_in_range (Number low high) d = option_map_or (λ z. le_z low z && le_z z high
 is_in_range Boolean d = true
 is_in_range Text d = true
 is_in_range Table d = true
-is_in_range (Tables low high) d = option_map_or (λ ds. nat_le low (items_len ds) && nat_le (items_len ds) high) (as_array d) true
+is_in_range (Tables low high) d =
+    option_map_or (λ ds. nat_le low (items_len ds) && nat_le (items_len ds) high) (as_array d) true
 
 -- a key of the members passes the test
 abbrev pub members_any : (List ℕ → Bool) → Members → Bool

@@ -25,7 +25,8 @@ pub fn version_of(top: &Table) -> Version
 /// The first fault of the tables among the items.
 #[tactic(auto, using(crate::proofs::Each::after_item))]
 fn check_each(version: Version, items: &[Value], keys: &[Key]) -> Result<(), TableFault>
-    ensures { Checks result (first_some (keys_fault (known_in version (map rule_of keys.now))) (tables_in (items_view items.now))) }
+    ensures { Checks result (first_some (keys_fault (known_in version (map rule_of keys.now)))
+        (tables_in (items_view items.now))) }
 {
     for item in items {
         if let Some(table) = item.as_table() {

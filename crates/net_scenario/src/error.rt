@@ -16,7 +16,7 @@ pub enum TableFault {
     UnknownProgram,
 }
 
-/// Why a text tells no net: its first fault, or want of memory in any part of the reading.
+/// Why a text tells no net: its first fault, or out of memory in any part of the reading.
 #[derive(Debug, PartialEq, Eq, Drop)]
 pub enum ScenarioError {
     /// The text is no TOML.
@@ -35,6 +35,7 @@ pub enum ScenarioError {
     Program(ProgramName, ReadError),
     /// The numbers and losses of the medium make none.
     Medium(MediumError),
+    /// An allocation failed.
     Memory,
 }
 

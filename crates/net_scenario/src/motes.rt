@@ -33,7 +33,8 @@ fn mote_of_table(programs: &[NamedProgram], queue: Option<&Table>, table: &Table
     requires in_order { AreInOrder programs.now }
     requires queue { lengths_fault (members_of queue) ≡ None }
     requires read { unread_fault (map named_tree programs.now) (table_view table.now) ≡ None }
-    ensures value { mote_told programs.now result ≡ mote_of_table (members_of queue.entry) (map named_tree programs.now) (table_view table.now) }
+    ensures value { mote_told programs.now result
+        ≡ mote_of_table (members_of queue.entry) (map named_tree programs.now) (table_view table.now) }
     ensures fits { IsTrue (is_mote_of (length programs.now) result) }
 {
     let name = text_at(table, "program");
@@ -54,7 +55,9 @@ pub fn motes_of(
     requires in_order { AreInOrder programs.now }
     requires queue { lengths_fault (members_of queue) ≡ None }
     requires read { first_some (unread_fault (map named_tree programs.now)) (tables_in (items_view items.now)) ≡ None }
-    ensures value { IfOk result (λ v. map (mote_told programs.now) v.items ≡ map (mote_of_table (members_of queue.entry) (map named_tree programs.now)) (tables_in (items_view items.now))) }
+    ensures value { IfOk result (λ v. map (mote_told programs.now) v.items
+        ≡ map (mote_of_table (members_of queue.entry) (map named_tree programs.now))
+        (tables_in (items_view items.now))) }
     ensures fits { IfOk result (λ v. IsTrue (list_all (is_mote_of (length programs.now)) v.items)) }
 {
     let mut motes = Vec::new(alloc);

@@ -6,7 +6,7 @@ ghost use Rattle.net_scenario.specs.Programs.{texts_of, AreInOrder, ReadsProgram
 use crate::error::ScenarioError;
 use crate::values::text_of;
 use mote_net::{NamedProgram, ProgramName};
-use mote_program::read;
+use program_reader::read;
 use program_tree::ReadErrorKind;
 use std::alloc::Global;
 use toml::Table;

@@ -56,7 +56,8 @@ pub fn check_lengths(queue: Option<&Table>) -> Result<(), TableFault>
 }
 
 fn any_without_program(programs: &Table, table: &Table) -> bool
-    ensures { result ≡ list_any (λ k. is_none (get_member (string_bytes k) (table_view programs.now))) (keys_of table.now.entries) }
+    ensures { result ≡ list_any (λ k. is_none (get_member (string_bytes k) (table_view programs.now)))
+        (keys_of table.now.entries) }
 {
     table
         .keys()

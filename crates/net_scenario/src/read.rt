@@ -58,8 +58,8 @@ fn net_from(alloc: Global, top: &Table) -> Result<Net, ScenarioError>
 }
 
 /// The net that a scenario's text tells, or the first fault of the text: its length, its TOML, its tables in order, the
-/// motes' programs, the programs' texts in byte order of their names, and the numbers of the medium. Want of memory may be
-/// answered in place of any of these.
+/// motes' programs, the programs' texts in byte order of their names, and the numbers of the medium. `Memory` may be
+/// answered in place of any of these, only where an allocation failed.
 pub fn read_scenario(alloc: Global, text: &str) -> Result<Net, ScenarioError>
     ensures { Answers text.now result }
 {

@@ -5,7 +5,9 @@ ghost use Rattle.std.specs.Map.{keys_of};
 ghost use Rattle.std.specs.Str.{bytes_eq};
 ghost use Rattle.toml.specs.Data.{get_member, as_table};
 ghost use Rattle.toml.specs.View.{view, table_view};
-ghost use Rattle.net_scenario.specs.Rules.{rule_of, has_come, known_in, has_kind, is_in_range, misses, holds_other_kind, holds_out_of_range, keys_fault, Checks, top_rules, medium_rules, loss_rules, mote_rules};
+ghost use Rattle.net_scenario.specs.Rules.{rule_of, has_come, known_in, has_kind, is_in_range, misses};
+ghost use Rattle.net_scenario.specs.Rules.{holds_other_kind, holds_out_of_range, keys_fault, Checks, top_rules};
+ghost use Rattle.net_scenario.specs.Rules.{medium_rules, loss_rules, mote_rules};
 
 use crate::error::TableFault;
 use crate::limits::{
@@ -185,7 +187,9 @@ fn is_out_of_range(table: &Table, key: Key) -> bool
 }
 
 fn has_unknown(version: Version, table: &Table, keys: &[Key]) -> bool
-    ensures { result ≡ list_any (λ n. not (list_any (λ k. has_come k.since version && bytes_eq k.name.now (string_bytes n)) keys.now)) (keys_of table.now.entries) }
+    ensures { result ≡ list_any (λ n. not
+        (list_any (λ k. has_come k.since version && bytes_eq k.name.now (string_bytes n)) keys.now))
+        (keys_of table.now.entries) }
 {
     table
         .keys()
@@ -200,14 +204,16 @@ fn any_missing(version: Version, table: &Table, keys: &[Key]) -> bool
 }
 
 fn any_other_kind(version: Version, table: &Table, keys: &[Key]) -> bool
-    ensures { result ≡ list_any (λ k. has_come k.since version && holds_other_kind (table_view table.now) (rule_of k)) keys.now }
+    ensures { result ≡ list_any (λ k. has_come k.since version
+        && holds_other_kind (table_view table.now) (rule_of k)) keys.now }
 {
     keys.iter()
         .any(|key| version.has(key.since) && is_other_kind(table, *key))
 }
 
 fn any_out_of_range(version: Version, table: &Table, keys: &[Key]) -> bool
-    ensures { result ≡ list_any (λ k. has_come k.since version && holds_out_of_range (table_view table.now) (rule_of k)) keys.now }
+    ensures { result ≡ list_any (λ k. has_come k.since version
+        && holds_out_of_range (table_view table.now) (rule_of k)) keys.now }
 {
     keys.iter().any(|key| version.has(key.since) && is_out_of_range(table, *key))
 }

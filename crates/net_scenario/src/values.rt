@@ -2,7 +2,8 @@
 ghost use Rattle.std.specs.Prelude.{◌≡◌, [], Some, pos, negsuc, unwrap_or};
 ghost use Rattle.toml.specs.Data.{as_str};
 ghost use Rattle.toml.specs.View.{view, items_view, table_view};
-ghost use Rattle.net_scenario.specs.Document.{integer_at, boolean_at, text_at, table_at, members_of, items_at, HoldsNumber, HoldsTable};
+ghost use Rattle.net_scenario.specs.Document.{integer_at, boolean_at, text_at, table_at, members_of, items_at};
+ghost use Rattle.net_scenario.specs.Document.{HoldsNumber, HoldsTable};
 
 use crate::rules::value_at;
 use toml::{Table, Value};

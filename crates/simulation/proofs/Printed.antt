@@ -11,8 +11,8 @@ use Rattle.serial_run.specs.Laws.{ReportIsOne}
 use Rattle.serial_run.specs.NetRun.{IsReportOf}
 use Rattle.simulation.specs.Input.{IsText}
 use Rattle.simulation.specs.Laws.{OneReport}
-use Rattle.simulation.specs.declared.simulate.SimError.{SimError}
-use Rattle.simulation.specs.declared.simulate.SimError.TheVariants as fault
+use Rattle.simulation.specs.declared.error.SimError.{SimError}
+use Rattle.simulation.specs.declared.error.SimError.TheVariants as fault
 use Rattle.simulation.specs.Simulation.{IsScenario, Reported, RefusesText, Way, SimulatedWith, SimulatedSome}
 
 -- the text tells this net
@@ -23,7 +23,7 @@ scenario_of bytes n short told = record { is_text = short; net = n; told = told 
 pub reported : (written : List ℕ → Type 0) (bytes : List ℕ) (n : NetTold) (r : ReportTold) → IsText bytes → TellsNet bytes n → IsReportOf n r → written (report_text n r) → Reported bytes written
 reported written bytes n r short told ran h = record { from = scenario_of bytes n short told; report = r; run = ran; got = h }
 
--- a fault that is answered to a text is its first, or want of memory
+-- a fault that is answered to a text is its first, or out of memory
 pub refused : (bytes : List ℕ) (e : ScenarioError) → Answers bytes (Err e) → RefusesText bytes e
 refused bytes scenario.Memory h = tt
 refused bytes scenario.Toml h = h

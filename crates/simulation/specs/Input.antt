@@ -11,11 +11,19 @@ pub record IsText (bytes : List ℕ) : Type 0 where
   pub short : length bytes ≤ longest_text
   pub utf8 : IsUtf8 bytes
 
--- the cause of each fault: a failing reader and want of memory may come at any input
+-- more bytes than a scenario may have
+abbrev pub IsTooLong : List ℕ → Type 0
+IsTooLong bytes = longest_text < length bytes
+
+-- no more bytes than a scenario may have, but they aren't UTF-8
+abbrev pub IsNoText : List ℕ → Type 0
+IsNoText bytes = (length bytes ≤ longest_text) × (¬ IsUtf8 bytes)
+
+-- the cause of each fault: the reader or an allocation may fail at any input
 abbrev pub IsRefused : (input : List ℕ) → InputError → Type 0
 IsRefused input fault.Read = Unit {0}
-IsRefused input fault.TooLong = longest_text < length input
-IsRefused input fault.NotText = (length input ≤ longest_text) × (¬ IsUtf8 input)
+IsRefused input fault.TooLong = IsTooLong input
+IsRefused input fault.NotText = IsNoText input
 IsRefused input fault.Memory = Unit {0}
 
 -- the answer to reading all bytes of an input, be they a text or not

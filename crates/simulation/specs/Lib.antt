@@ -1,3 +1,4 @@
+pub mod Command
 pub mod Cuts
 pub mod FaultLines
 pub mod Input

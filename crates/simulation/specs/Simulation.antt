@@ -1,8 +1,6 @@
 -- What a simulation of some bytes answers.
-use Rattle.std.specs.Prelude.{◌≡◌, ◌<◌, ◌≤◌, ℕ, List, length, Option, Some, None, IsSome, Result, Ok, Err}
-use Rattle.std.specs.Str.{IsUtf8}
+use Rattle.std.specs.Prelude.{◌≡◌, ◌≤◌, ℕ, List, Option, Some, None, IsSome, Result, Ok, Err}
 use Rattle.std.specs.Io.KnownBytes.{Keeps, Appends}
-use Rattle.net_scenario.specs.Limits.{longest_text}
 use Rattle.mote_net.specs.Net.{NetTold}
 use Rattle.net_scenario.specs.Reading.{TellsNet, TellsFault}
 use Rattle.net_scenario.specs.declared.error.ScenarioError.{ScenarioError}
@@ -16,12 +14,12 @@ use Rattle.serial_run.specs.declared.error.RunError.{RunError}
 use Rattle.serial_run.specs.declared.error.RunError.TheVariants as run
 use Rattle.window_workers.specs.declared.sync.SyncKind.{SyncKind}
 use Rattle.window_workers.specs.declared.sync.SyncKind.TheVariants.{Marks}
-use Rattle.simulation.specs.Input.{IsText}
+use Rattle.simulation.specs.Input.{IsText, IsTooLong, IsNoText}
 use Rattle.simulation.specs.declared.input.InputError.{InputError}
 use Rattle.simulation.specs.declared.input.InputError.TheVariants as input
 use Rattle.simulation.specs.declared.options.Options.{Options}
-use Rattle.simulation.specs.declared.simulate.SimError.{SimError}
-use Rattle.simulation.specs.declared.simulate.SimError.TheVariants as fault
+use Rattle.simulation.specs.declared.error.SimError.{SimError}
+use Rattle.simulation.specs.declared.error.SimError.TheVariants as fault
 
 abbrev pub sim_fault : InputError → SimError
 sim_fault input.Read = fault.Read
@@ -42,12 +40,12 @@ pub record Reported (bytes : List ℕ) (written : List ℕ → Type 0) : Type 0 
   pub run : IsReportOf from.net report
   pub got : written (report_text from.net report)
 
--- the text has this first fault; want of memory may come at any text
+-- the text has this first fault; an allocation may fail at any text
 abbrev pub RefusesText : List ℕ → ScenarioError → Type 0
 RefusesText bytes scenario.Memory = Unit {0}
 RefusesText bytes e = TellsFault bytes e
 
--- how a net is run: on one thread, or by so many workers that wait for one another in this way
+-- how a net is run: on one thread, or by so many workers with this kind of synchronization
 abbrev pub Way : Type 0
 Way = Option (ℕ × SyncKind)
 
@@ -73,8 +71,8 @@ abbrev pub HasMarks : Way → Type 0
 HasMarks None = ⊥
 HasMarks (Some way) = way.1 ≡ Marks
 
--- the cause of a run's fault: another number of workers; else want of memory or, with workers, of a thread; with marks also
--- that a worker stopped for another
+-- the cause of a run's fault: another number of workers; else a failed allocation or, with workers, a thread. With
+-- marks the contract leaves room for `Stopped`, with which a worker gives up where another failed; no run answers it.
 abbrev pub RefusesRun : Way → RunError → Type 0
 RefusesRun way run.Workers = ¬ MayRun way
 RefusesRun way run.CutLength = ⊥
@@ -88,13 +86,13 @@ abbrev pub RunsWith : Way → NetTold → Result Report RunError → Type 0
 RunsWith way net (Ok report) = MayRun way × IsReportOf net (report_of report)
 RunsWith way net (Err e) = RefusesRun way e
 
--- Each answer where its cause is, on one thread or by workers of either kind. A failing reader and want of memory may come at any
--- bytes, and a run's want of memory or of a thread at any scenario.
+-- Each answer where its cause is, on one thread or by workers of either kind. The reader or an allocation may fail at
+-- any bytes, and an allocation of the run, or a thread, at any scenario.
 abbrev pub SimulatedWith : Way → List ℕ → (old new : Option (List ℕ)) → Result (Unit {0}) SimError → Type 0
 SimulatedWith way bytes old new (Ok u) = MayRun way × Reported bytes (Appends old new)
 SimulatedWith way bytes old new (Err fault.Read) = Unit {0}
-SimulatedWith way bytes old new (Err fault.TooLong) = longest_text < length bytes
-SimulatedWith way bytes old new (Err fault.NotText) = (length bytes ≤ longest_text) × (¬ IsUtf8 bytes)
+SimulatedWith way bytes old new (Err fault.TooLong) = IsTooLong bytes
+SimulatedWith way bytes old new (Err fault.NotText) = IsNoText bytes
 SimulatedWith way bytes old new (Err (fault.Scenario e)) = IsText bytes × RefusesText bytes e
 SimulatedWith way bytes old new (Err (fault.Run e)) = IsScenario bytes × RefusesRun way e
 SimulatedWith way bytes old new (Err (fault.Print e)) = MayRun way × Reported bytes (AppendsFront old new)
@@ -103,9 +101,11 @@ SimulatedWith way bytes old new (Err fault.Memory) = Unit {0}
 -- what an answer that doesn't stand for the reader says of some bytes, whichever the reader gave
 abbrev pub SimulatedSome : Way → (old new : Option (List ℕ)) → Result (Unit {0}) SimError → Type 0
 SimulatedSome way old new (Ok u) = (bytes : List ℕ) × SimulatedWith way bytes old new (Ok u)
-SimulatedSome way old new (Err (fault.Scenario e)) = (bytes : List ℕ) × SimulatedWith way bytes old new (Err (fault.Scenario e))
+SimulatedSome way old new (Err (fault.Scenario e)) =
+    (bytes : List ℕ) × SimulatedWith way bytes old new (Err (fault.Scenario e))
 SimulatedSome way old new (Err (fault.Run e)) = (bytes : List ℕ) × SimulatedWith way bytes old new (Err (fault.Run e))
-SimulatedSome way old new (Err (fault.Print e)) = (bytes : List ℕ) × SimulatedWith way bytes old new (Err (fault.Print e))
+SimulatedSome way old new (Err (fault.Print e)) =
+    (bytes : List ℕ) × SimulatedWith way bytes old new (Err (fault.Print e))
 SimulatedSome way old new (Err e) = Unit {0}
 
 -- a fault that has written nothing, unless it came in printing

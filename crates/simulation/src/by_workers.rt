@@ -12,8 +12,7 @@ use std::alloc::{AllocError, Global};
 use std::random::RandomSource;
 use std::sync::Wait;
 use std::thread::Threads;
-use window_run::Gate;
-use window_workers::{MOST_WORKERS, RunError, SyncKind, run_workers};
+use window_workers::{Gate, MOST_WORKERS, RunError, SyncKind, run_workers};
 use worker_cut::Cut;
 
 /// The cut of this kind, which fits.
@@ -29,7 +28,7 @@ fn cut_of(alloc: Global, kind: CutKind, motes: u16, workers: u16) -> Result<Cut,
     }
 }
 
-/// So many workers, among whom the motes are cut in this way, and who wait for one another in this way.
+/// So many workers, how the motes are cut among them, and how they are synchronized.
 #[derive(Clone, Copy)]
 pub struct Team {
     pub workers: u16,
@@ -40,7 +39,7 @@ pub struct Team {
 /// The report of a net, by these workers. Their number is looked at before the cut is made.
 ///
 /// # Errors
-/// `Workers` where they aren't 1 to 16, else `Memory` or `Thread`, with marks also `Stopped`.
+/// `Workers` where they aren't 1 to 16, else `Memory` or `Thread`.
 pub fn run_by<T, G>(
     rt: &T,
     alloc: Global,

@@ -1,73 +1,32 @@
-//! The program: a scenario in a file or on standard input, its report on standard output, a fault's line on standard error.
+//! The command: a scenario in a file or on standard input, its report on standard output, a fault's line on standard
+//! error.
 
-ghost use Rattle.std.specs.Prelude.{◌≡◌, Some, None, IfErr, IfSome};
-ghost use Rattle.simulation.specs.FaultLines.{fault_line, run_fault_number};
+ghost use Rattle.std.specs.Prelude.{◌≡◌, ◌≢◌, None, IsSome, IfSome, Ok, IfErr};
+ghost use Rattle.std.specs.Io.KnownBytes.{Keeps};
+ghost use Rattle.clap.specs.Words.{kind_of};
+ghost use Rattle.simulation.specs.Command.{Commands, Simulates, status_of, status_of_words, streams};
 ghost use Rattle.simulation.specs.Simulation.{SimulatedWith, SimulatedSome, Unwritten, way_of};
+ghost use Rattle.simulation.specs.declared.error.SimError.TheVariants as fault;
 
 use crate::command_line::{Asked, asked_by};
+use crate::end_to_end::simulate;
+use crate::error::SimError;
 use crate::options::Options;
-use crate::simulate::{SimError, simulate};
 use clap::error::ErrorKind;
-use net_scenario::ScenarioError;
-use radio_medium::MediumError;
+use std::fs;
 use std::io::{Read, Write};
 use std::random::RandomSource;
 use std::rt::Files;
 use std::sync::Wait;
 use std::thread::Threads;
-use std::{fmt, fs};
-use trace_printer::PrintError;
-use window_run::{Gate, NoGate};
-use window_workers::RunError;
+use window_workers::{Gate, NoGate};
 
-/// The number of a run's fault, as it is printed.
-fn run_fault_number(error: RunError) -> u8
-    ensures { result ≡ run_fault_number error }
+/// The exit status of a simulation: 0, or 1 where it has a fault, whose line then goes to `errors`. A line that can't
+/// be written changes nothing.
+pub fn status_of<E: Write>(answer: Result<(), SimError>, errors: &mut E) -> u8
+    ensures status { result ≡ status_of answer }
+    ensures quiet { answer ≡ Ok tt → Keeps (E.contents errors.old) (E.contents errors.new) }
 {
-    error as u8
-}
-
-impl fmt::Display for SimError {
-    ghost output = { λ fault. Some (fault_line fault) };
-
-    fn fmt<W: fmt::Write>(&self, f: &mut fmt::Formatter<W>) -> fmt::Result {
-        match self {
-            SimError::Read => write!(f, "read fault"),
-            SimError::TooLong => write!(f, "scenario too long"),
-            SimError::NotText => write!(f, "scenario is not UTF-8"),
-            SimError::Scenario(ScenarioError::Program(name, error)) => {
-                let name = name.as_str();
-                let kind = error.kind.number();
-                let line = error.line;
-                write!(f, "program {name} fault {kind} line {line}")
-            }
-            SimError::Scenario(ScenarioError::Medium(MediumError::Memory)) => write!(
-                f,
-                "out of memory"
-            ),
-            SimError::Scenario(ScenarioError::Medium(error)) => {
-                let kind = error.number();
-                write!(f, "medium fault {kind}")
-            }
-            SimError::Scenario(ScenarioError::Memory) => write!(f, "out of memory"),
-            SimError::Scenario(error) => {
-                let kind = error.number();
-                write!(f, "scenario fault {kind}")
-            }
-            SimError::Run(RunError::Memory) => write!(f, "out of memory"),
-            SimError::Run(error) => {
-                let kind = run_fault_number(*error);
-                write!(f, "run fault {kind}")
-            }
-            SimError::Print(PrintError::Write) => write!(f, "write fault"),
-            SimError::Print(PrintError::Memory) => write!(f, "out of memory"),
-            SimError::Memory => write!(f, "out of memory"),
-        }
-    }
-}
-
-/// The exit status of a simulation, whose fault, if it has one, is written as a line.
-pub fn status_of<E: Write>(answer: Result<(), SimError>, errors: &mut E) -> u8 {
     match answer {
         Ok(()) => 0,
         Err(fault) => {
@@ -77,18 +36,36 @@ pub fn status_of<E: Write>(answer: Result<(), SimError>, errors: &mut E) -> u8 {
     }
 }
 
-/// The exit status where the words of the command line ask for help, which is written to `output`, or have a fault, which
-/// is written to `errors`.
-fn status_of_words<W: Write, E: Write>(error: &clap::Error, output: &mut W, errors: &mut E) -> u8 {
-    if error.kind() == ErrorKind::OutOfMemory {
-        return status_of(Err(SimError::Memory), errors);
+/// The exit status where the words of the command line ask for help, which is written to `output`, or have a fault,
+/// which is written to `errors`. Where an allocation failed it is that of a simulation that ran out of memory.
+fn status_of_words<W: Write, E: Write>(error: &clap::Error, output: &mut W, errors: &mut E) -> u8
+    ensures status { result ≡ status_of_words (kind_of error.now) }
+    ensures fault { result ≢ 0 → Keeps (W.contents output.old) (W.contents output.new) }
+    ensures help { result ≡ 0 → Keeps (E.contents errors.old) (E.contents errors.new) }
+{
+    match error.kind() {
+        ErrorKind::OutOfMemory => status_of(Err(SimError::Memory), errors),
+        ErrorKind::DisplayHelp | ErrorKind::DisplayVersion => {
+            let _ = write!(output, "{error}");
+            0
+        }
+        _ => {
+            let _ = write!(errors, "{error}");
+            2
+        }
     }
-    if error.use_stderr() {
-        let _ = write!(errors, "{error}");
-        2
-    } else {
-        let _ = write!(output, "{error}");
-        0
+}
+
+/// A file that can be read.
+///
+/// # Errors
+/// `Read` where it can't be opened.
+fn opened<T: Files>(rt: &T, file: &str) -> Result<T::File, SimError>
+    ensures { IfErr result (λ e. e ≡ fault.Read) }
+{
+    match fs::open(rt, file) {
+        Ok(input) => Ok(input),
+        Err(_) => Err(SimError::Read),
     }
 }
 
@@ -110,10 +87,8 @@ where
     ensures some { SimulatedSome (way_of options.now) (W.contents output.old) (W.contents output.new) result }
     ensures unwritten { IfErr result (Unwritten (W.contents output.old) (W.contents output.new)) }
 {
-    match fs::open(rt, file) {
-        Ok(mut input) => simulate(rt, rt.alloc(), &mut input, output, options, gate),
-        Err(_) => Err(SimError::Read),
-    }
+    let mut input = opened(rt, file)?;
+    simulate(rt, rt.alloc(), &mut input, output, options, gate)
 }
 
 /// Simulates what is asked for: the scenario in the file, or else the one that `input` gives, by the options.
@@ -133,7 +108,10 @@ where
     W: Write,
     G: Gate + Sync,
     // Without a file it is the simulation of what `input` gives.
-    ensures answer { asked.now.file ≡ None → IfSome (R.remaining input.old) (λ bytes. SimulatedWith (way_of asked.now.options) bytes (W.contents output.old) (W.contents output.new) result) }
+    ensures answer { asked.now.file ≡ None → IfSome (R.remaining input.old) (λ bytes.
+        SimulatedWith (way_of asked.now.options) bytes (W.contents output.old) (W.contents output.new) result) }
+    // With one, `input` isn't read.
+    ensures unread { IsSome asked.now.file → R.remaining input.new ≡ R.remaining input.old }
     // A report is that of some bytes, by so many workers of the kind that is asked for.
     ensures some { SimulatedSome (way_of asked.now.options) (W.contents output.old) (W.contents output.new) result }
     ensures unwritten { IfErr result (Unwritten (W.contents output.old) (W.contents output.new)) }
@@ -144,12 +122,34 @@ where
     }
 }
 
+/// Does what the words ask for, and answers the exit status.
+fn run_asked<T, R, W, E>(
+    rt: &T,
+    asked: &Asked<'_>,
+    input: &mut R,
+    output: &mut W,
+    errors: &mut E,
+) -> u8
+where
+    T: AllocGlobal + Files + Threads + Wait + RandomSource + Sync,
+    R: Read,
+    W: Write,
+    E: Write,
+    ensures { let old = streams (R.remaining input.old) (W.contents output.old) (E.contents errors.old)
+        in let new = streams (R.remaining input.new) (W.contents output.new) (E.contents errors.new)
+        in Simulates asked.now old new result }
+{
+    let answer = simulate_asked(rt, asked, input, output, &NoGate);
+    status_of(answer, errors)
+}
+
 /// Does what the program does with these words of the command line, the program's name first: simulates the scenario in
-/// the file that they name, or else the one that `input` gives, on one thread or by workers, and writes its report to `output`, or
-/// the line of its fault to `errors`. Help that is asked for goes to `output`, and what is wrong with the words to `errors`.
+/// the file that they name, or else the one that `input` gives, on one thread or by workers, and writes its report to
+/// `output`, or the line of its fault to `errors`. Help that is asked for goes to `output`, and what is wrong with the
+/// words to `errors`.
 ///
-/// It answers the exit status: 0 where the report or the help was due, 1 where there was a fault, and 2 where the fault was in
-/// the words. A help text or a fault's line that can't be written changes nothing.
+/// It answers the exit status: 0 where the report or the help was due, 1 where there was a fault, and 2 where the fault
+/// was in the words. A help text or a fault's line that can't be written changes nothing.
 pub fn run_command<T, R, W, E>(
     rt: &T,
     words: &[&str],
@@ -162,10 +162,12 @@ where
     R: Read,
     W: Write,
     E: Write,
+    ensures { let old = streams (R.remaining input.old) (W.contents output.old) (E.contents errors.old)
+        in let new = streams (R.remaining input.new) (W.contents output.new) (E.contents errors.new)
+        in Commands old new result }
 {
-    let asked = match asked_by(rt.alloc(), words) {
-        Ok(asked) => asked,
-        Err(error) => return status_of_words(&error, output, errors),
-    };
-    status_of(simulate_asked(rt, &asked, input, output, &NoGate), errors)
+    match asked_by(rt.alloc(), words) {
+        Ok(asked) => run_asked(rt, &asked, input, output, errors),
+        Err(error) => status_of_words(&error, output, errors),
+    }
 }

@@ -1,10 +1,12 @@
 //! The words of the command line, as `clap` reads them.
-ghost use Rattle.std.specs.Prelude.{◌≡◌, codes, None, IfSome};
+ghost use Rattle.std.specs.Prelude.{◌≡◌, ℕ, List, codes, Some, None, IfSome, option_map};
+ghost use Rattle.clap.specs.Words.{first_value, found_of, one_text};
+ghost use Rattle.simulation.specs.Command.{ReadsCount};
 ghost use Rattle.simulation.specs.declared.options.CutKind.TheVariants as kind;
 ghost use Rattle.window_workers.specs.declared.sync.SyncKind.TheVariants as wait;
 
 use crate::options::{CutKind, Options};
-use clap::{Arg, Command, Error};
+use clap::{Arg, ArgMatches, Command, Error};
 use std::alloc::{AllocError, Global};
 use window_workers::{MOST_WORKERS, SyncKind};
 
@@ -30,10 +32,21 @@ fn cut_named(name: &str) -> CutKind
     }
 }
 
-/// The names of the ways in which workers wait for one another.
+/// The name of this cut.
+fn name_of_cut(cut: CutKind) -> &'static str
+    ensures block { cut ≡ kind.Block → result.now ≡ codes "block" }
+    ensures stripe { cut ≡ kind.Stripe → result.now ≡ codes "stripe" }
+{
+    match cut {
+        CutKind::Block => "block",
+        CutKind::Stripe => "stripe",
+    }
+}
+
+/// The names of the kinds of synchronization.
 static SYNCS: [&str; 2] = ["joins", "marks"];
 
-/// The way of this name in which workers wait for one another.
+/// The kind of synchronization of this name.
 fn sync_named(name: &str) -> SyncKind
     ensures joins { name.now ≡ codes "joins" → result ≡ wait.Joins }
     ensures marks { name.now ≡ codes "marks" → result ≡ wait.Marks }
@@ -44,8 +57,19 @@ fn sync_named(name: &str) -> SyncKind
     }
 }
 
-/// The options for so many workers, the cut of this name, and the way of this name in which they wait for one another. Without a
-/// name it is the cut in blocks, and they are joined.
+/// The name of this kind of synchronization.
+fn name_of_sync(sync: SyncKind) -> &'static str
+    ensures joins { sync ≡ wait.Joins → result.now ≡ codes "joins" }
+    ensures marks { sync ≡ wait.Marks → result.now ≡ codes "marks" }
+{
+    match sync {
+        SyncKind::Joins => "joins",
+        SyncKind::Marks => "marks",
+    }
+}
+
+/// The options for so many workers, the cut of this name and the kind of synchronization of this name. Without a name
+/// it is that of the default options.
 fn options_for(workers: Option<u16>, cut: Option<&str>, sync: Option<&str>) -> Options
     ensures workers { result.workers ≡ workers }
     ensures unnamed { cut.entry ≡ None → result.cut ≡ kind.Block }
@@ -55,15 +79,37 @@ fn options_for(workers: Option<u16>, cut: Option<&str>, sync: Option<&str>) -> O
     ensures joins { IfSome sync.entry (λ name. name.now ≡ codes "joins" → result.sync ≡ wait.Joins) }
     ensures marks { IfSome sync.entry (λ name. name.now ≡ codes "marks" → result.sync ≡ wait.Marks) }
 {
+    let usual = Options::default();
     let cut = match cut {
         Some(name) => cut_named(name),
-        None => CutKind::Block,
+        None => usual.cut,
     };
     let sync = match sync {
         Some(name) => sync_named(name),
-        None => SyncKind::Joins,
+        None => usual.sync,
     };
     Options { workers, cut, sync }
+}
+
+/// What the values of the arguments ask for.
+fn asked_of<'a>(matches: &ArgMatches<'a>) -> Asked<'a>
+    ensures file { option_map (λ s. s.now) result.file ≡ first_value (found_of matches.now) (codes "FILE") }
+    ensures one_thread { one_text (found_of matches.now) (codes "workers") ≡ None → result.options.workers ≡ None }
+    ensures workers { (text : List ℕ) → one_text (found_of matches.now) (codes "workers") ≡ Some text
+        → ReadsCount text result.options.workers }
+    ensures block { first_value (found_of matches.now) (codes "cut") ≡ Some (codes "block")
+        → result.options.cut ≡ kind.Block }
+    ensures stripe { first_value (found_of matches.now) (codes "cut") ≡ Some (codes "stripe")
+        → result.options.cut ≡ kind.Stripe }
+    ensures joins { first_value (found_of matches.now) (codes "sync") ≡ Some (codes "joins")
+        → result.options.sync ≡ wait.Joins }
+    ensures marks { first_value (found_of matches.now) (codes "sync") ≡ Some (codes "marks")
+        → result.options.sync ≡ wait.Marks }
+{
+    let workers = matches.get_one::<u16>("workers");
+    let options = options_for(workers, matches.get_str("cut"), matches.get_str("sync"));
+    let file = matches.get_str("FILE");
+    Asked { file, options }
 }
 
 fn workers_arg<'a>(alloc: Global) -> Arg<'a> {
@@ -81,7 +127,7 @@ fn cut_arg<'a>(alloc: Global) -> Arg<'a> {
         .long("cut")
         .value_name("CUT")
         .value_parser(CUTS.as_slice())
-        .default_value("block")
+        .default_value(name_of_cut(Options::default().cut))
         .help(
             "How the motes are cut among the workers: in blocks of motes that follow one another, or dealt in turn",
         )
@@ -92,9 +138,10 @@ fn sync_arg<'a>(alloc: Global) -> Arg<'a> {
         .long("sync")
         .value_name("SYNC")
         .value_parser(SYNCS.as_slice())
-        .default_value("joins")
+        .default_value(name_of_sync(Options::default().sync))
         .help(
-            "How workers wait for one another: their threads are joined after each window, or each has one thread for the whole run and waits for marks of the others",
+            "How workers wait for one another: their threads are joined after each window, \
+             or each has one thread for the whole run and waits for marks of the others",
         )
 }
 
@@ -102,7 +149,8 @@ fn file_arg<'a>(alloc: Global) -> Arg<'a> {
     Arg::new(alloc, "FILE").help("The scenario; without it, standard input is read")
 }
 
-/// The program's one command. No argument is made before those before it have gone into it, so none is owned where that can fail.
+/// The program's one command. No argument is made before those before it have gone into it, so none is owned where that
+/// can fail.
 fn command<'a>(alloc: Global) -> Result<Command<'a>, AllocError> {
     Command::new(alloc, "motesim")
         .about(
@@ -115,15 +163,12 @@ fn command<'a>(alloc: Global) -> Result<Command<'a>, AllocError> {
 }
 
 /// What the words of the command line ask for, of which the first is the program's name. Without workers, neither
-/// the cut nor the way in which they wait has an effect.
+/// the cut nor the kind of synchronization has an effect.
 ///
 /// # Errors
-/// Of the kind `DisplayHelp` where help is asked for, `OutOfMemory` where a growth was refused, and else of the fault of the
-/// words.
+/// Of the kind `DisplayHelp` where help is asked for, `OutOfMemory` where an allocation failed, and else of the fault
+/// of the words.
 pub fn asked_by<'a>(alloc: Global, words: &'a [&'a str]) -> Result<Asked<'a>, Error> {
     let matches = command(alloc)?.try_get_matches_from(words)?;
-    let workers = matches.get_one::<u16>("workers");
-    let options = options_for(workers, matches.get_str("cut"), matches.get_str("sync"));
-    let file = matches.get_str("FILE");
-    Ok(Asked { file, options })
+    Ok(asked_of(&matches))
 }

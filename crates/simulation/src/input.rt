@@ -20,7 +20,7 @@ pub enum InputError {
     TooLong,
     /// The bytes aren't UTF-8.
     NotText,
-    /// A growth was refused.
+    /// An allocation failed.
     Memory,
 }
 
@@ -32,8 +32,8 @@ impl From<AllocError> for InputError {
     }
 }
 
-/// All bytes of a reader, where they are at most `LONGEST_TEXT`. It stops at the first read that goes past that limit, so it
-/// ends at a reader that never does.
+/// All bytes of a reader, where they are at most `LONGEST_TEXT`. It stops at the first read that goes past that limit,
+/// so it ends at a reader that never does.
 fn read_all<R: Read>(alloc: Global, reader: &mut R) -> Result<Vec<u8>, InputError>
     ensures told { IfSome (R.remaining reader.old) (λ input. ReadsBytes input result) }
     ensures bounded { IfOk result (λ bytes. vec_len bytes ≤ longest_text) }
@@ -54,9 +54,9 @@ fn read_all<R: Read>(alloc: Global, reader: &mut R) -> Result<Vec<u8>, InputErro
 ///
 /// # Errors
 /// In this order: `Read` where a call of the reader failed before the limit was passed, `TooLong` where more than
-/// `LONGEST_TEXT` bytes came, `NotText` where they aren't UTF-8. `Memory` only where a growth was refused.
+/// `LONGEST_TEXT` bytes came, `NotText` where they aren't UTF-8. `Memory` only where an allocation failed.
 pub fn read_text<R: Read>(alloc: Global, reader: &mut R) -> Result<String, InputError>
-    // Where the reader tells its bytes, the answer is that of those bytes.
+    // Where the reader's contents are known, the answer is that of these bytes.
     ensures told { IfSome (R.remaining reader.old) (λ input. ReadsText input result) }
     ensures bounded { IfOk result (λ text. string_len text ≤ longest_text) }
 {

@@ -1,10 +1,11 @@
-//! Laws of the definitions. Nothing runs here: each function's contract is a law.
+//! Laws of the definitions, each a theorem, stated as the contract of an empty function or of one that only calls such.
 ghost use Rattle.simulation.specs.Laws.{OneReport, ScenarioHasReport};
 
 use net_scenario::laws::at_most_one_net;
 use window_workers::laws::{report_is_one, report_is_there};
 
-/// The same scenario, the same bytes, on one thread or by any number of workers of either kind: a text has at most one report.
+/// The same scenario, the same bytes, on one thread or by any number of workers of either kind: a text has at most one
+/// report.
 pub fn at_most_one_report()
     ensures { OneReport }
 {

@@ -2,9 +2,20 @@
 #![tactic(auto)]
 
 mod by_workers;
-pub mod command;
-pub mod command_line;
-pub mod input;
+mod command;
+mod command_line;
+mod end_to_end;
+mod error;
+mod input;
 pub mod laws;
-pub mod options;
-pub mod simulate;
+mod options;
+
+pub use command::{run_command, simulate_asked, status_of};
+pub use command_line::{Asked, asked_by};
+pub use end_to_end::{simulate, simulate_serial};
+pub use error::SimError;
+pub use input::{InputError, read_text};
+pub use net_scenario::ScenarioError;
+pub use options::{CutKind, Options};
+pub use trace_printer::PrintError;
+pub use window_workers::{Gate, NoGate, RunError, SyncKind};

@@ -1,5 +1,5 @@
-//! Tests of `simulation`, and of `window_run`, `net_scenario` and `window_workers` below it: what no report shows. They stand in one
-//! crate above these, since a crate with tests is proved twice, and each crate of tests compiles the whole program.
+//! Tests of `simulation`, from a scenario's bytes to the report's: what no report shows. They stand in a crate above
+//! it, since a crate with tests is proved twice.
 #![tactic(auto)]
 
 #[cfg(test)]

@@ -1,17 +1,15 @@
-//! What no scenario and no command line shows: streams that fail, gates, and calls with options that the words can't ask for.
-//! Most tests have a text written of what came of some runs, and compare it in a function that they share. Those of `simulate` have one reader,
-//! one writer and one gate, so that what they call is compiled for these alone.
+//! What no scenario and no command line shows: streams that fail, gates, and calls with options that the words can't
+//! ask for. Most tests have a text written of what came of some runs, and compare it in a function that they share.
+//! Those of
+//! `simulate` have one reader, one writer and one gate, so that what they call is compiled for these alone.
 
 mod fault_lines;
 mod input;
-mod runs;
 mod streams;
-mod windows;
 mod words;
 mod workers;
 
-use simulation::options::Options;
-use simulation::simulate::{SimError, simulate};
+use simulation::{Gate, Options, SimError, simulate};
 use std::alloc::{AllocError, Global};
 use std::io;
 use std::io::{Read, Write};
@@ -21,7 +19,6 @@ use std::sync::atomic::AtomicU64;
 use std::sync::atomic::Ordering::SeqCst;
 use std::test::Fail;
 use std::thread::Threads;
-use window_run::Gate;
 
 /// A scenario and its report.
 #[derive(Clone, Copy)]
@@ -32,14 +29,53 @@ struct Told<'a> {
 
 /// A process prints, and yields for ever.
 const PRINT_THEN_YIELD: Told = Told {
-    scenario: b"version = 1\nend = 5\n[medium]\nrange = 10\nbase = 1\nper = 100\n[programs]\np = \"process a; autostart a; code a { body { print 1; yield; print 2; } }\"\n[[mote]]\nx = 0\ny = 0\nprogram = \"p\"\n",
+    scenario: b"\
+        version = 1\n\
+        end = 5\n\
+        [medium]\n\
+        range = 10\n\
+        base = 1\n\
+        per = 100\n\
+        [programs]\n\
+        p = \"process a; autostart a; code a { body { print 1; yield; print 2; } }\"\n\
+        [[mote]]\n\
+        x = 0\n\
+        y = 0\n\
+        program = \"p\"\n",
     report: b"mote 0 p\n0 start etimer\n0 start ctimer\n0 start radio\n0 start a\n0 print a 1\nmedium\nleft 0\n",
 };
 
 /// A receiver between two senders. There are two windows: the packets are sent at 0, and come at 2.
 const TWO_SENDERS: Told = Told {
-    scenario: b"version = 1\nend = 9\n[medium]\nrange = 5\nbase = 2\nper = 100\n[programs]\ns = \"process a; autostart a; code a { body { send (self + 5); } }\"\nr = \"process r; autostart r; receiver r; code r { body { while 1 { yield; if is(packet) { print from; print data; } } } }\"\n[[mote]]\nx = 0\ny = 0\nprogram = \"s\"\n[[mote]]\nx = 5\ny = 0\nprogram = \"r\"\n[[mote]]\nx = 10\ny = 0\nprogram = \"s\"\n",
-    report: b"mote 0 s\n0 start etimer\n0 start ctimer\n0 start radio\n0 start a\n0 send 0 5\n0 leave a\nmote 1 r\n0 start etimer\n0 start ctimer\n0 start radio\n0 start r\n2 recv 0 0 5\n2 recv 2 0 7\n2 post 0 r packet 5\n2 post 1 r packet 7\n2 take 0 r\n2 print r 0\n2 print r 5\n2 take 1 r\n2 print r 2\n2 print r 7\nmote 2 s\n0 start etimer\n0 start ctimer\n0 start radio\n0 start a\n0 send 0 7\n0 leave a\nmedium\n0 0 0 5 1@2\n0 2 0 7 1@2\nleft 0\n",
+    scenario: b"\
+        version = 1\n\
+        end = 9\n\
+        [medium]\n\
+        range = 5\n\
+        base = 2\n\
+        per = 100\n\
+        [programs]\n\
+        s = \"process a; autostart a; code a { body { send (self + 5); } }\"\n\
+        r = \"process r; autostart r; receiver r; code r { body { while 1 { yield; if is(packet) { \
+        print from; print data; } } } }\"\n\
+        [[mote]]\n\
+        x = 0\n\
+        y = 0\n\
+        program = \"s\"\n\
+        [[mote]]\n\
+        x = 5\n\
+        y = 0\n\
+        program = \"r\"\n\
+        [[mote]]\n\
+        x = 10\n\
+        y = 0\n\
+        program = \"s\"\n",
+    report: b"\
+        mote 0 s\n0 start etimer\n0 start ctimer\n0 start radio\n0 start a\n0 send 0 5\n0 leave a\n\
+        mote 1 r\n0 start etimer\n0 start ctimer\n0 start radio\n0 start r\n2 recv 0 0 5\n\
+        2 recv 2 0 7\n2 post 0 r packet 5\n2 post 1 r packet 7\n2 take 0 r\n2 print r 0\n2 print r 5\n\
+        2 take 1 r\n2 print r 2\n2 print r 7\nmote 2 s\n0 start etimer\n0 start ctimer\n0 start radio\n\
+        0 start a\n0 send 0 7\n0 leave a\nmedium\n0 0 0 5 1@2\n0 2 0 7 1@2\nleft 0\n",
 };
 
 /// A reader that gives at most so many bytes a call, and fails after so many calls.
@@ -114,8 +150,8 @@ impl Write for Sink {
     }
 }
 
-/// A gate that lets no thread of one worker start. It counts the starts that it is asked for, the turns that a mote's own worker
-/// takes, and those that another one takes.
+/// A gate that lets no thread of one worker start. It counts the starts that it is asked for, the turns that a mote's
+/// own worker takes, and those that another one takes.
 #[derive(Drop)]
 struct Watch<'a> {
     /// The worker of each mote.
@@ -191,8 +227,8 @@ fn front_of(report: &[u8], bytes: &[u8]) -> Option<usize> {
     }
 }
 
-/// Writes down what a simulation answered, how many bytes of the report are out, and how many starts were asked for. Where it was
-/// done, the turns by each mote's own worker and those by others come behind that.
+/// Writes down what a simulation answered, how many bytes of the report are out, and how many starts were asked for;
+/// where it was done, also the turns by each mote's own worker and those by others.
 fn write_answer(
     text: &mut String,
     answer: &Result<(), SimError>,

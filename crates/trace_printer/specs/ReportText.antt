@@ -1,5 +1,5 @@
--- The text of a report. For each mote it has the line `mote N PROGRAM` and the lines of its trace; the line `medium` and
--- a line for each packet follow, and at the end `left K`.
+-- The text of a report. For each mote it has the line `mote N PROGRAM` and the lines of its trace; the line `medium`
+-- and a line for each packet follow, and at the end `left K`.
 use Rattle.std.specs.Prelude.{ℕ, ◌+◌, List, [], ◌∷◌, ◌++◌, codes, decimal, map}
 use Rattle.std.specs.List.{flat_map}
 use Rattle.program_tree.specs.Code.{Tree}
@@ -24,7 +24,9 @@ motes_text mote (m ∷ ms) [] = []
 
 -- a line of the medium: when a packet was sent, by whom, its number and its value, and the fate of each copy
 abbrev pub packet_text : Packet → List ℕ
-packet_text p = line_of (decimal p.sent.at) (decimal p.sent.sender ∷ decimal p.sent.number ∷ decimal p.sent.value ∷ map fate_word p.fates)
+packet_text p =
+    line_of (decimal p.sent.at)
+    (decimal p.sent.sender ∷ decimal p.sent.number ∷ decimal p.sent.value ∷ map fate_word p.fates)
 
 abbrev pub medium_text : List Packet → List ℕ
 medium_text log = line_of (codes "medium") [] ++ flat_map packet_text log

@@ -1,5 +1,6 @@
 -- The words of a report's lines.
-use Rattle.std.specs.Prelude.{ℕ, ◌==◌, List, [], ◌∷◌, ◌++◌, if◌then◌else◌, Option, Some, None, codes, decimal, slice_get, unwrap_or}
+use Rattle.std.specs.Prelude.{ℕ, ◌==◌, List, [], ◌∷◌, ◌++◌, if◌then◌else◌, Option, Some, None, codes, decimal}
+use Rattle.std.specs.Prelude.{slice_get, unwrap_or}
 use Rattle.std.specs.List.{flat_map}
 use Rattle.program_tree.specs.Code.{Tree, declared_name}
 use Rattle.program_tree.specs.declared.event.Proc.{Proc}
@@ -9,10 +10,11 @@ use Rattle.program_tree.specs.declared.event.Target.TheVariants.{One, All}
 use Rattle.program_tree.specs.declared.event.SystemEvent.TheVariants as event
 use Rattle.program_tree.specs.Events.{system_number, system_word}
 use Rattle.trace_lines.specs.declared.line.What.{What}
-use Rattle.trace_lines.specs.declared.line.What.TheVariants.{Start, Leave, Post, Full, Take, Drop, Print, Busy, Halt, Send, Recv, Lost, Deaf, Collide}
+use Rattle.trace_lines.specs.declared.line.What.TheVariants.{Start, Leave, Post, Full, Take, Drop, Print, Busy, Halt}
+use Rattle.trace_lines.specs.declared.line.What.TheVariants.{Send, Recv, Lost, Deaf, Collide}
 use Rattle.radio_packet.specs.declared.fate.Fate.{Fate}
 
--- a line: its first word, each other word behind a space, and a line feed
+-- a line: its first word, a space and each other word, and a line feed
 abbrev pub line_of : (first : List ℕ) → (others : List (List ℕ)) → List ℕ
 line_of first others = first ++ flat_map (λ w. 32 ∷ w) others ++ 10 ∷ []
 
@@ -28,8 +30,8 @@ abbrev pub target_word : Tree → Target → List ℕ
 target_word t (One p) = process_word t p
 target_word t All = codes "all"
 
--- The word of an event by its number, or the name under which the program declares it. An event that is none of these, which
--- no trace shows, has the empty word.
+-- The word of an event by its number, or the name under which the program declares it. An event that is none of these,
+-- which no trace shows, has the empty word.
 abbrev pub event_word : Tree → ℕ → List ℕ
 event_word t e =
     if e == system_number event.Init then system_word event.Init
@@ -43,7 +45,7 @@ event_word t e =
     else if e == system_number event.Packet then system_word event.Packet
     else unwrap_or (declared_name t e) []
 
--- the words of a trace's line behind its moment
+-- the words of a trace's line after its moment
 abbrev pub words_of : Tree → What → List (List ℕ)
 words_of t (Start p) = codes "start" ∷ process_word t p ∷ []
 words_of t (Leave p) = codes "leave" ∷ process_word t p ∷ []

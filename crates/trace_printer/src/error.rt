@@ -10,7 +10,7 @@ use std::alloc::AllocError;
 pub enum PrintError {
     /// The writer failed, or took no byte.
     Write = 1,
-    /// A growth was refused.
+    /// An allocation failed.
     Memory = 2,
 }
 

@@ -100,7 +100,8 @@ fn put_numbers(
     first: u64,
     second: u64,
 ) -> Result<(), AllocError>
-    ensures { OnOk result (page.new ≡ page.old ++ line_of (decimal at) (keyword.now ∷ decimal first ∷ decimal second ∷ [])) }
+    ensures { OnOk result (page.new ≡ page.old
+        ++ line_of (decimal at) (keyword.now ∷ decimal first ∷ decimal second ∷ [])) }
 {
     make_room(
         &mut page.bytes,
@@ -124,7 +125,8 @@ fn put_post(
     event: &str,
     word: u16,
 ) -> Result<(), AllocError>
-    ensures { OnOk result (page.new ≡ page.old ++ line_of (decimal at) (codes "post" ∷ decimal serial ∷ target.now ∷ event.now ∷ decimal word ∷ [])) }
+    ensures { OnOk result (page.new ≡ page.old
+        ++ line_of (decimal at) (codes "post" ∷ decimal serial ∷ target.now ∷ event.now ∷ decimal word ∷ [])) }
 {
     let names = target.len().saturating_add(event.len());
     make_room(&mut page.bytes, page.len, LINE.saturating_add(names))?;
@@ -146,7 +148,8 @@ fn put_full(
     event: &str,
     word: u16,
 ) -> Result<(), AllocError>
-    ensures { OnOk result (page.new ≡ page.old ++ line_of (decimal at) (codes "full" ∷ target.now ∷ event.now ∷ decimal word ∷ [])) }
+    ensures { OnOk result (page.new ≡ page.old
+        ++ line_of (decimal at) (codes "full" ∷ target.now ∷ event.now ∷ decimal word ∷ [])) }
 {
     let names = target.len().saturating_add(event.len());
     make_room(&mut page.bytes, page.len, LINE.saturating_add(names))?;
@@ -161,7 +164,8 @@ fn put_full(
 }
 
 fn put_print(page: &mut Page, at: u64, process: &str, value: u16) -> Result<(), AllocError>
-    ensures { OnOk result (page.new ≡ page.old ++ line_of (decimal at) (codes "print" ∷ process.now ∷ decimal value ∷ [])) }
+    ensures { OnOk result (page.new ≡ page.old
+        ++ line_of (decimal at) (codes "print" ∷ process.now ∷ decimal value ∷ [])) }
 {
     make_room(
         &mut page.bytes,
@@ -189,7 +193,8 @@ fn put_halt(page: &mut Page, at: u64) -> Result<(), AllocError>
 }
 
 fn put_recv(page: &mut Page, at: u64, from: u16, number: u64, value: u16) -> Result<(), AllocError>
-    ensures { OnOk result (page.new ≡ page.old ++ line_of (decimal at) (codes "recv" ∷ decimal from ∷ decimal number ∷ decimal value ∷ [])) }
+    ensures { OnOk result (page.new ≡ page.old
+        ++ line_of (decimal at) (codes "recv" ∷ decimal from ∷ decimal number ∷ decimal value ∷ [])) }
 {
     make_room(&mut page.bytes, page.len, LINE)?;
     let room = page.bytes.as_mut_slice();
@@ -237,7 +242,7 @@ pub fn put_trace_line(page: &mut Page, program: &Program, line: &Line) -> Result
     }
 }
 
-/// Puts the receiver of a copy and when the copy arrives, behind a space.
+/// Puts a space, the receiver of a copy, and when the copy arrives.
 fn put_fate(page: &mut Page, fate: Fate) -> Result<(), AllocError>
     ensures { OnOk result (page.new ≡ page.old ++ 32 ∷ fate_word fate) }
 {
@@ -260,7 +265,8 @@ fn put_fates(page: &mut Page, fates: &[Fate]) -> Result<(), AllocError>
 
 /// Puts the words of a packet before the fates of its copies: when it was sent, by whom, its number and its value.
 fn put_sent(page: &mut Page, sent: Sent) -> Result<(), AllocError>
-    ensures { OnOk result (page.new ≡ page.old ++ decimal sent.at ++ flat_map (λ w. 32 ∷ w) (decimal sent.sender ∷ decimal sent.number ∷ decimal sent.value ∷ [])) }
+    ensures { OnOk result (page.new ≡ page.old ++ decimal sent.at
+        ++ flat_map (λ w. 32 ∷ w) (decimal sent.sender ∷ decimal sent.number ∷ decimal sent.value ∷ [])) }
 {
     make_room(&mut page.bytes, page.len, LINE)?;
     let room = page.bytes.as_mut_slice();

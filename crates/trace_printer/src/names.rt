@@ -1,5 +1,5 @@
-//! The words for processes, targets and events: those of the system, and the names in a mote's program. Each is found by its
-//! number.
+//! The words for processes, targets and events: those of the system, and the names in a mote's program. Each is found
+//! by its number.
 ghost use Rattle.std.specs.Prelude.{◌≡◌, [], slice_get, unwrap_or};
 ghost use Rattle.program_tree.specs.Program.{tree_of};
 ghost use Rattle.trace_printer.specs.Words.{process_word, target_word, event_word};

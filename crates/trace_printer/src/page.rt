@@ -10,10 +10,12 @@ use std::marker::Model;
 /// How many bytes a page has room for without growing.
 const ROOM: usize = 65_536;
 
-/// From how many bytes on a page is written. Behind it a line fits that is half as long as the page, with some room to spare.
+/// From how many bytes on a page is written. After them a line fits that is half as long as the page, with some room to
+/// spare.
 const FULL: usize = 32_640;
 
-/// Lines that wait to be written, so that the writer is called once for many of them: so many bytes, behind which there is room.
+/// Lines that wait to be written, so that the writer is called once for many of them: so many bytes, and room after
+/// them.
 #[derive(Drop)]
 pub struct Page {
     pub(crate) bytes: Vec<u8>,
@@ -29,7 +31,7 @@ impl Model for Page {
     ghost view = { λ p. take p.len p.bytes.items };
 }
 
-/// Makes so much room behind the first `len` bytes, which stay.
+/// Makes so much room after the first `len` bytes, which stay.
 #[inline(always)]
 pub fn make_room(bytes: &mut Vec<u8>, len: usize, room: usize) -> Result<(), AllocError>
     requires { len ≤ length bytes.old.items }
@@ -57,7 +59,7 @@ impl Page {
         self.len >= FULL
     }
 
-    /// Writes the page, and empties it. After a fault a front of it has been written, which lacks at least a byte.
+    /// Writes the page, and empties it. After a fault a prefix of it has been written, which lacks at least a byte.
     pub fn write_to<W: Write>(&mut self, writer: &mut W) -> Result<(), WriteFault>
         ensures written { Writes (W.contents writer.old) (W.contents writer.new) result self.old }
         ensures emptied { OnOk result (self.new ≡ []) }

@@ -6,7 +6,8 @@ ghost use Rattle.mote_net.specs.Net.{net_of};
 ghost use Rattle.net_report.specs.Report.{lines_in, told_line, report_of};
 ghost use Rattle.trace_printer.specs.Output.{Writes};
 ghost use Rattle.trace_printer.specs.Page.{Prints};
-ghost use Rattle.trace_printer.specs.ReportText.{line_text, motes_text, packet_text, medium_text, left_text, report_text};
+ghost use Rattle.trace_printer.specs.ReportText.{line_text, motes_text, packet_text, medium_text, left_text};
+ghost use Rattle.trace_printer.specs.ReportText.{report_text};
 ghost use Rattle.trace_printer.specs.Words.{line_of};
 
 use crate::error::PrintError;
@@ -36,7 +37,8 @@ fn print_head<W: Write>(
     mote: u16,
     name: &str,
 ) -> Result<(), PrintError>
-    ensures { Prints (W.contents writer.old) (W.contents writer.new) page.old page.new result (line_of (codes "mote") (decimal mote ∷ name.now ∷ [])) }
+    ensures { let text = line_of (codes "mote") (decimal mote ∷ name.now ∷ [])
+        in Prints (W.contents writer.old) (W.contents writer.new) page.old page.new result text }
 {
     put_head(page, mote, name)?;
     Ok(write_if_full(writer, page)?)
@@ -48,7 +50,8 @@ fn print_lines<W: Write>(
     program: &Program,
     trace: &[Line],
 ) -> Result<(), PrintError>
-    ensures { Prints (W.contents writer.old) (W.contents writer.new) page.old page.new result (flat_map (line_text (tree_of program.now)) trace.now) }
+    ensures { let text = flat_map (line_text (tree_of program.now)) trace.now
+        in Prints (W.contents writer.old) (W.contents writer.new) page.old page.new result text }
 {
     for line in trace {
         put_trace_line(page, program, line)?;
@@ -65,7 +68,9 @@ fn print_mote<W: Write>(
     program: &Program,
     trace: &[Line],
 ) -> Result<(), PrintError>
-    ensures { Prints (W.contents writer.old) (W.contents writer.new) page.old page.new result (line_of (codes "mote") (decimal mote ∷ name.now ∷ []) ++ flat_map (line_text (tree_of program.now)) trace.now) }
+    ensures { let head = line_of (codes "mote") (decimal mote ∷ name.now ∷ [])
+        in let text = head ++ flat_map (line_text (tree_of program.now)) trace.now
+        in Prints (W.contents writer.old) (W.contents writer.new) page.old page.new result text }
 {
     print_head(writer, page, mote, name)?;
     print_lines(writer, page, program, trace)
@@ -78,7 +83,8 @@ fn print_motes<W: Write>(
     traces: &[Vec<Line>],
 ) -> Result<(), PrintError>
     requires { length traces.now ≡ length (net_of net.now).motes }
-    ensures { Prints (W.contents writer.old) (W.contents writer.new) page.old page.new result (motes_text 0 (net_of net.now).motes (map lines_in traces.now)) }
+    ensures { let text = motes_text 0 (net_of net.now).motes (map lines_in traces.now)
+        in Prints (W.contents writer.old) (W.contents writer.new) page.old page.new result text }
 {
     for mote in 0..net.motes() {
         let trace = &traces[usize::from(mote)];
@@ -99,7 +105,8 @@ fn print_packets<W: Write>(
     page: &mut Page,
     log: &[LogLine],
 ) -> Result<(), PrintError>
-    ensures { Prints (W.contents writer.old) (W.contents writer.new) page.old page.new result (flat_map packet_text (map told_line log.now)) }
+    ensures { let text = flat_map packet_text (map told_line log.now)
+        in Prints (W.contents writer.old) (W.contents writer.new) page.old page.new result text }
 {
     for line in log {
         put_packet(page, line)?;
@@ -113,7 +120,8 @@ fn print_medium<W: Write>(
     page: &mut Page,
     log: &[LogLine],
 ) -> Result<(), PrintError>
-    ensures { Prints (W.contents writer.old) (W.contents writer.new) page.old page.new result (medium_text (map told_line log.now)) }
+    ensures { let text = medium_text (map told_line log.now)
+        in Prints (W.contents writer.old) (W.contents writer.new) page.old page.new result text }
 {
     put_medium(page)?;
     print_packets(writer, page, log)
@@ -132,7 +140,7 @@ fn write_end<W: Write>(writer: &mut W, page: &mut Page, left: u64) -> Result<(),
 ///
 /// # Errors
 /// `Write` where the writer failed or took no byte, `Memory` where there was no room for the page, or for a line longer
-/// than half of it. A front of the text is then written, which lacks at least its last byte.
+/// than half of it. A prefix of the text is then written, which lacks at least its last byte.
 pub fn write_report<W: Write>(
     alloc: Global,
     net: &Net,
@@ -141,7 +149,8 @@ pub fn write_report<W: Write>(
 ) -> Result<(), PrintError>
     // There is one trace for each mote.
     requires { vec_len report.now.traces ≡ length (net_of net.now).motes }
-    ensures { Writes (W.contents writer.old) (W.contents writer.new) result (report_text (net_of net.now) (report_of report.now)) }
+    ensures { let text = report_text (net_of net.now) (report_of report.now)
+        in Writes (W.contents writer.old) (W.contents writer.new) result text }
 {
     let mut page = Page::new(alloc)?;
     print_motes(writer, &mut page, net, &report.traces)?;

@@ -1,4 +1,4 @@
-//! Words put into room that is there, from a place on. Each call gives the place behind its word.
+//! Words put into room that is there, from a place on. Each call gives the place after its word.
 ghost use Rattle.std.specs.Prelude.{◌≡◌, ◌<◌, ◌≤◌, ◌+◌, ◌/◌, ◌%◌, [], ◌∷◌, ◌++◌, length, take, decimal};
 ghost use Rattle.trace_printer.specs.Words.{arrival_word};
 
@@ -77,7 +77,7 @@ fn put_digits(room: &mut [u8], at: usize, number: u64, count: usize) -> usize
     end
 }
 
-/// Puts a number below a thousand: its four bytes of the table at once, of which those behind its digits don't count.
+/// Puts a number below a thousand: its four bytes of the table at once, of which those after its digits don't count.
 #[inline(always)]
 fn put_short_number(room: &mut [u8], at: usize, number: u64) -> usize
     requires { (number < 1000) × (at + 4 ≤ length room.old) }
@@ -85,9 +85,9 @@ fn put_short_number(room: &mut [u8], at: usize, number: u64) -> usize
     ensures end { result ≡ at + length (decimal number) }
     ensures few { result ≤ at + 3 }
 {
-    let row = number as usize * 4;
-    let (first, second, third) = (SHORT[row], SHORT[row + 1], SHORT[row + 2]);
-    let count = SHORT[row + 3];
+    let place = number as usize * 4;
+    let (first, second, third) = (SHORT[place], SHORT[place + 1], SHORT[place + 2]);
+    let count = SHORT[place + 3];
     room[at] = first;
     room[at + 1] = second;
     room[at + 2] = third;
@@ -103,7 +103,7 @@ fn last_digit(number: u64) -> u8
     b'0' + (number % 10) as u8
 }
 
-/// Puts a number of four digits: the first three by the table, and the last behind them. As there are always three, it
+/// Puts a number of four digits: the first three by the table, and the last after them. As there are always three, it
 /// needn't wait for the table to say how many.
 #[inline(always)]
 fn put_four_digits(room: &mut [u8], at: usize, number: u64) -> usize
@@ -116,12 +116,13 @@ fn put_four_digits(room: &mut [u8], at: usize, number: u64) -> usize
     put_byte(room, at + 3, last_digit(number))
 }
 
-/// Puts the last three digits of a number, zeros in front too. The table has no zeros in front, so it gives the last two
-/// digits behind a 1, as those of a hundred more; the first of the three is then put in place of the 1.
+/// Puts the last three digits of a number, zeros in front too. The table has no zeros in front, so it gives the last
+/// two digits after a 1, as those of a hundred more; the first of the three is then put in place of the 1.
 #[inline(always)]
 fn put_last_three(room: &mut [u8], at: usize, number: u64) -> usize
     requires { at + 4 ≤ length room.old }
-    ensures put { take result room.new ≡ take at room.old ++ (48 + number / 100 % 10) ∷ (48 + number / 10 % 10) ∷ (48 + number % 10) ∷ [] }
+    ensures put { take result room.new ≡ take at room.old
+        ++ (48 + number / 100 % 10) ∷ (48 + number / 10 % 10) ∷ (48 + number % 10) ∷ [] }
     ensures end { result ≡ at + 3 }
 {
     let _ = put_short_number(room, at, 100 + number % 100);
@@ -129,7 +130,7 @@ fn put_last_three(room: &mut [u8], at: usize, number: u64) -> usize
     at + 3
 }
 
-/// Puts a number of four to six digits: its thousands by the table, and the last three digits behind them.
+/// Puts a number of four to six digits: its thousands by the table, and the last three digits after them.
 #[inline(always)]
 fn put_thousands(room: &mut [u8], at: usize, number: u64) -> usize
     requires size { (1000 ≤ number) × (number < 1000000) }
@@ -157,8 +158,8 @@ fn put_long_number(room: &mut [u8], at: usize, number: u64) -> usize
     }
 }
 
-/// Puts a number. Most are below a thousand, and take no call. (With more than those put in place here, a line of a trace would be
-/// too long to be put without a call itself.)
+/// Puts a number. Most are below a thousand, and take no call. (With more than those put in place here, a line of a
+/// trace would be too long to be put without a call itself.)
 #[inline(always)]
 pub fn put_number(room: &mut [u8], at: usize, number: u64) -> usize
     requires { at + 20 ≤ length room.old }
@@ -184,7 +185,7 @@ pub fn put_arrival(room: &mut [u8], at: usize, arrival: Option<u64>) -> usize
     }
 }
 
-/// A text behind a space.
+/// A space, and a text.
 #[inline(always)]
 pub fn put_spaced(room: &mut [u8], at: usize, text: &str) -> usize
     requires { at + 1 + length text.now ≤ length room.old }
@@ -195,7 +196,7 @@ pub fn put_spaced(room: &mut [u8], at: usize, text: &str) -> usize
     put_text(room, at, text)
 }
 
-/// A number behind a space.
+/// A space, and a number.
 #[inline(always)]
 pub fn put_spaced_number(room: &mut [u8], at: usize, number: u64) -> usize
     requires { at + 21 ≤ length room.old }

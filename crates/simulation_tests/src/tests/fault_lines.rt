@@ -1,15 +1,13 @@
 //! What the program writes and answers where a stream fails, and for the faults of a run.
 
 use super::{PRINT_THEN_YIELD, Sink, Source, front_of, same_text};
-use simulation::command::{run_command, status_of};
-use simulation::simulate::SimError;
+use simulation::{RunError, SimError, run_command, status_of};
 use std::alloc::{AllocError, Global};
 use std::random::RandomSource;
 use std::rt::Files;
 use std::sync::Wait;
 use std::test::Fail;
 use std::thread::Threads;
-use window_workers::RunError;
 
 /// Writes down ASCII bytes.
 fn write_bytes(text: &mut String, bytes: &[u8]) -> Result<(), AllocError> {
@@ -48,12 +46,14 @@ fn faults_of_the_run(rt: HostRuntime) -> Result<(), Fail> {
     let told = faults_told(rt.alloc())?;
     same_text(
         told.as_str(),
-        "1 motesim: run fault 1\n1 motesim: run fault 2\n1 motesim: run fault 3\n1 motesim: out of memory\n1 motesim: run fault 5\n1 motesim: run fault 6\n",
+        "\
+            1 motesim: run fault 1\n1 motesim: run fault 2\n1 motesim: run fault 3\n1 motesim: out of memory\n\
+            1 motesim: run fault 5\n1 motesim: run fault 6\n",
     )
 }
 
-/// The scenario, after how many calls the reader, the writer of the report and that of the faults fail, and whether these two fail
-/// or take nothing then.
+/// The scenario, after how many calls the reader, the writer of the report and that of the faults fail, and whether
+/// these two fail or take nothing then.
 #[derive(Clone, Copy)]
 struct Streams<'a> {
     scenario: &'a [u8],
@@ -94,7 +94,8 @@ where
     Ok(text)
 }
 
-/// The input fails; the output fails, or takes nothing; a fault's line can't be written, as a whole or from some place on.
+/// The input fails; the output fails, or takes nothing; a fault's line can't be written, as a whole or from some place
+/// on.
 #[test]
 fn failing_streams(rt: HostRuntime) -> Result<(), Fail> {
     let whole = Streams {
@@ -128,6 +129,8 @@ fn failing_streams(rt: HostRuntime) -> Result<(), Fail> {
     )?;
     same_text(
         told.as_str(),
-        "0 Some(89) |1 Some(0) motesim: read fault\n|1 Some(7) motesim: write fault\n|1 Some(7) motesim: write fault\n|1 Some(0) |1 Some(0) motesim|",
+        "\
+            0 Some(89) |1 Some(0) motesim: read fault\n|1 Some(7) motesim: write fault\n\
+            |1 Some(7) motesim: write fault\n|1 Some(0) |1 Some(0) motesim|",
     )
 }

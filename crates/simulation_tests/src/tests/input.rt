@@ -1,7 +1,7 @@
 //! Texts that come in pieces, and readers that fail.
 
 use super::Source;
-use simulation::input::{InputError, read_text};
+use simulation::{InputError, read_text};
 use std::alloc::{AllocError, Global};
 use std::test::Fail;
 

@@ -1,12 +1,9 @@
 //! Failing readers and writers.
 
 use super::{PRINT_THEN_YIELD, Sink, Source, Trial, front_of, tells};
-use simulation::options::{CutKind, Options};
-use simulation::simulate::{SimError, simulate_serial};
+use simulation::{CutKind, Options, PrintError, SimError, SyncKind, simulate_serial};
 use std::alloc::Global;
 use std::test::Fail;
-use trace_printer::PrintError;
-use window_workers::SyncKind;
 
 /// How a simulation ended.
 #[derive(Clone, Copy, Debug, PartialEq, Eq)]
@@ -17,8 +14,8 @@ enum Ended {
     AnotherFault,
 }
 
-/// How a simulation on one thread ends, and how many bytes of the report are out, where the reader fails after so many calls,
-/// which gives 16 bytes a call, and the writer after so many, which takes a byte a call.
+/// How a simulation on one thread ends, and how many bytes of the report are out, where the reader fails after so many
+/// calls, which gives 16 bytes a call, and the writer after so many, which takes a byte a call.
 fn outcome(alloc: Global, reads: usize, writes: usize, fails: bool) -> (Ended, Option<usize>) {
     let mut reader = Source {
         rest: PRINT_THEN_YIELD.scenario,

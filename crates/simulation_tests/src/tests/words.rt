@@ -1,8 +1,7 @@
 //! What the words of the command line ask for.
 
 use super::{Sink, Source, TWO_SENDERS, Watch, front_of, same_text, write_answer};
-use simulation::command::simulate_asked;
-use simulation::command_line::asked_by;
+use simulation::{asked_by, simulate_asked};
 use std::alloc::{AllocError, Global};
 use std::random::RandomSource;
 use std::rt::Files;
@@ -10,7 +9,8 @@ use std::sync::Wait;
 use std::test::Fail;
 use std::thread::Threads;
 
-/// Writes down what these words ask for: the file, the number of workers, the cut, and how workers wait for one another.
+/// Writes down what these words ask for: the file, the number of workers, the cut, and how workers wait for one
+/// another.
 fn write_asked(alloc: Global, text: &mut String, words: &[&str]) -> Result<(), AllocError> {
     let Some(asked) = asked_by(alloc, words).ok() else {
         return text.push_str("a fault|");
@@ -51,7 +51,10 @@ fn what_the_words_ask_for(rt: HostRuntime) -> Result<(), Fail> {
     )?;
     same_text(
         told.as_str(),
-        "None None Block Joins|None Some(2) Block Joins|None None Block Joins|None None Stripe Joins|Some(\"a.toml\") None Block Joins|Some(\"a.toml\") Some(16) Stripe Joins|None None Block Joins|None None Block Marks|Some(\"a.toml\") Some(4) Block Marks|a fault|",
+        "\
+            None None Block Joins|None Some(2) Block Joins|None None Block Joins|None None Stripe Joins|\
+            Some(\"a.toml\") None Block Joins|Some(\"a.toml\") Some(16) Stripe Joins|None None Block Joins|\
+            None None Block Marks|Some(\"a.toml\") Some(4) Block Marks|a fault|",
     )
 }
 
@@ -97,8 +100,8 @@ where
     same_text(told.as_str(), want)
 }
 
-/// By joins each worker is started in each of two windows, by marks once. Of sixteen workers, blocks give the motes to 0, 5 and 10,
-/// and stripes to 0, 1 and 2, as of three or four.
+/// By joins each worker is started in each of two windows, by marks once. Of sixteen workers, blocks give the motes to
+/// 0, 5 and 10, and stripes to 0, 1 and 2, as of three or four.
 #[test]
 fn runs_by_the_words(rt: HostRuntime) -> Result<(), Fail> {
     tells_runs(
@@ -118,7 +121,9 @@ fn runs_by_the_words(rt: HostRuntime) -> Result<(), Fail> {
             &["motesim", "--cut=block", "--workers", "16", "--sync=joins"],
             &["motesim", "--workers", "04"],
         ],
-        "Some(1) Ok(()) Some(405) 2 1 3|Some(3) Ok(()) Some(405) 6 4 0|Some(16) Ok(()) Some(405) 32 1 3|Some(4) Ok(()) Some(405) 8 4 0|",
+        "\
+            Some(1) Ok(()) Some(405) 2 1 3|Some(3) Ok(()) Some(405) 6 4 0|Some(16) Ok(()) Some(405) 32 1 3|\
+            Some(4) Ok(()) Some(405) 8 4 0|",
     )?;
     tells_runs(
         &rt,

@@ -1,12 +1,11 @@
 //! Simulations by workers: who takes which turn, how many threads there are, and what comes where there are none.
 
 use super::{PRINT_THEN_YIELD, TWO_SENDERS, Told, Trial, tells};
-use simulation::options::{CutKind, Options};
+use simulation::{CutKind, Options, SyncKind};
 use std::random::RandomSource;
 use std::sync::Wait;
 use std::test::Fail;
 use std::thread::Threads;
-use window_workers::SyncKind;
 
 const CUTS: [CutKind; 2] = [CutKind::Block, CutKind::Stripe];
 
@@ -32,8 +31,36 @@ fn default_options(rt: HostRuntime) {
 
 /// Four motes that hear no other, with one turn each.
 const FOUR_MOTES: Told = Told {
-    scenario: b"version = 1\nend = 5\n[medium]\nrange = 10\nbase = 1\nper = 100\n[programs]\np = \"process a; autostart a; code a { body { print 1; yield; print 2; } }\"\n[[mote]]\nx = 0\ny = 0\nprogram = \"p\"\n[[mote]]\nx = 20\ny = 0\nprogram = \"p\"\n[[mote]]\nx = 40\ny = 0\nprogram = \"p\"\n[[mote]]\nx = 60\ny = 0\nprogram = \"p\"\n",
-    report: b"mote 0 p\n0 start etimer\n0 start ctimer\n0 start radio\n0 start a\n0 print a 1\nmote 1 p\n0 start etimer\n0 start ctimer\n0 start radio\n0 start a\n0 print a 1\nmote 2 p\n0 start etimer\n0 start ctimer\n0 start radio\n0 start a\n0 print a 1\nmote 3 p\n0 start etimer\n0 start ctimer\n0 start radio\n0 start a\n0 print a 1\nmedium\nleft 0\n",
+    scenario: b"\
+        version = 1\n\
+        end = 5\n\
+        [medium]\n\
+        range = 10\n\
+        base = 1\n\
+        per = 100\n\
+        [programs]\n\
+        p = \"process a; autostart a; code a { body { print 1; yield; print 2; } }\"\n\
+        [[mote]]\n\
+        x = 0\n\
+        y = 0\n\
+        program = \"p\"\n\
+        [[mote]]\n\
+        x = 20\n\
+        y = 0\n\
+        program = \"p\"\n\
+        [[mote]]\n\
+        x = 40\n\
+        y = 0\n\
+        program = \"p\"\n\
+        [[mote]]\n\
+        x = 60\n\
+        y = 0\n\
+        program = \"p\"\n",
+    report: b"\
+        mote 0 p\n0 start etimer\n0 start ctimer\n0 start radio\n0 start a\n0 print a 1\nmote 1 p\n\
+        0 start etimer\n0 start ctimer\n0 start radio\n0 start a\n0 print a 1\nmote 2 p\n\
+        0 start etimer\n0 start ctimer\n0 start radio\n0 start a\n0 print a 1\nmote 3 p\n\
+        0 start etimer\n0 start ctimer\n0 start radio\n0 start a\n0 print a 1\nmedium\nleft 0\n",
 };
 
 /// Each turn is taken by the worker of its mote, in one window with a start for each of two workers.
@@ -116,7 +143,7 @@ fn starts_in_two_windows(rt: HostRuntime) -> Result<(), Fail> {
     Ok(())
 }
 
-/// Fails where so many workers, of which one isn't let start, answer something else. None behind it is asked for.
+/// Fails where so many workers, of which one isn't let start, answer something else. None after it is asked for.
 fn tells_shut<T>(rt: &T, workers: u16, shut: u16, want: &str) -> Result<(), Fail>
 where
     T: AllocGlobal + Threads + Wait + RandomSource + Sync,

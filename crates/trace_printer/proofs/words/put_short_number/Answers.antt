@@ -1,12 +1,12 @@
 use Rattle.std.proofs.Common.{arith}
-use Rattle.trace_printer.proofs.ShortNumbers.{short_is, short_count, put_row}
+use Rattle.trace_printer.proofs.ShortNumbers.{short_is, short_count, put_entry}
 use Rattle.trace_printer.proofs.words.put_short_number.Goals as goal
 
 pub overflow_sub-result : goal.overflow_sub-result
 overflow_sub-result c = omega (arith, short_count c.args.number c.requires.0)
 
 pub returns-clause-put : goal.returns-clause-put
-returns-clause-put c = put_row c.args.number c.args.at _ c.args.room.now c.requires.0 c.requires.1 (omega (arith, short_count c.args.number c.requires.0, c.from.ensures))
+returns-clause-put c = put_entry c.args.number c.args.at _ c.args.room.now c.requires.0 c.requires.1 (omega (arith, short_count c.args.number c.requires.0, c.from.ensures))
 
 pub returns-clause-end : goal.returns-clause-end
 returns-clause-end c = omega (arith, short_count c.args.number c.requires.0, c.from.ensures)

@@ -1,0 +1,33 @@
+use Rattle.std.proofs.lemmas.Result.{err_from_is_err_and}
+use Rattle.std.specs.Io.KnownBytes.{Appends}
+use Rattle.mote_net.specs.Net.{net_of}
+use Rattle.net_report.specs.Report.{report_of}
+use Rattle.trace_printer.specs.Output.{AppendsFront}
+use Rattle.simulation.proofs.Printed.{scenario_of, reported, refused}
+use Rattle.simulation.proofs.end_to_end.simulate_text.Goals as goal
+
+pub returns-in_err-net-clause-answer : goal.returns-in_err-net-clause-answer
+returns-in_err-net-clause-answer g c =
+    let p = err_from_is_err_and c.from_residual.result c.from_residual.ensures.1 in
+    rw (p.1, p.2) (c.requires, refused c.args.text.now c.in_err-net.field-0.0 c.in_err-net.ensures)
+
+pub returns-in_err-report-clause-answer : goal.returns-in_err-report-clause-answer
+returns-in_err-report-clause-answer g c =
+    let p = err_from_is_err_and c.from_residual-in_err-report.result c.from_residual-in_err-report.ensures.1 in
+    rw (p.1, p.2) (scenario_of c.args.text.now (net_of c.in_ok-net.net) c.requires c.in_ok-net.ensures, rw c.in_err-report.ensures.err tt)
+
+pub returns-in_err-write_report-clause-answer : goal.returns-in_err-write_report-clause-answer
+returns-in_err-write_report-clause-answer g c =
+    let p = err_from_is_err_and c.from_residual-in_err-write_report.result c.from_residual-in_err-write_report.ensures.1 in
+    rw (p.1, p.2) (
+      tt,
+      reported (AppendsFront (g.W.Write.contents c.args.writer.now) (g.W.Write.contents c.write_report.new.writer)) c.args.text.now (net_of c.in_ok-net.net) (report_of c.in_ok-report.report)
+          c.requires c.in_ok-net.ensures c.in_ok-report.ensures.report c.in_err-write_report.ensures,
+    )
+
+pub returns-clause-answer : goal.returns-clause-answer
+returns-clause-answer g c = (
+  tt,
+  reported (Appends (g.W.Write.contents c.args.writer.now) (g.W.Write.contents c.write_report.new.writer)) c.args.text.now (net_of c.in_ok-net.net) (report_of c.in_ok-report.report)
+      c.requires c.in_ok-net.ensures c.in_ok-report.ensures.report c.in_ok-write_report.ensures,
+)

@@ -1,0 +1,63 @@
+-- What the command does with its words, and the status that it answers.
+use Rattle.std.specs.Prelude.{◌≡◌, ◌≢◌, ◌⊎◌, ℕ, List, Option, None, IsSome, IfSome, IfErr, Result, Ok, Err}
+use Rattle.std.specs.Io.KnownBytes.{Keeps}
+use Rattle.std.specs.Str.Parse.{ParsesUnsigned, ExplainsUnsignedError, HasUnsignedDigitsIfOk}
+use Rattle.clap.specs.Words.{ReadsOne}
+use Rattle.clap.specs.declared.error.kind.ErrorKind.{ErrorKind}
+use Rattle.clap.specs.declared.error.kind.ErrorKind.TheVariants as kind
+use Rattle.simulation.specs.Simulation.{SimulatedWith, SimulatedSome, Unwritten, way_of}
+use Rattle.simulation.specs.declared.command_line.Asked.{Asked}
+use Rattle.simulation.specs.declared.error.SimError.{SimError}
+
+-- the text of a number of workers reads as this one, or as none
+abbrev pub ReadsCount : (text : List ℕ) → Option ℕ → Type 0
+ReadsCount text count =
+    ReadsOne (λ bytes r. ParsesUnsigned 16 10 bytes r × ExplainsUnsignedError 10 bytes r × HasUnsignedDigitsIfOk bytes r)
+    text count
+
+-- the exit status of a simulation
+abbrev pub status_of : Result (Unit {0}) SimError → ℕ
+status_of (Ok u) = 0
+status_of (Err e) = 1
+
+-- the contents of the command's streams, where they are known
+pub record Streams : Type 0 where
+  pub input : Option (List ℕ)
+  pub output : Option (List ℕ)
+  pub errors : Option (List ℕ)
+
+abbrev pub streams : (input output errors : Option (List ℕ)) → Streams
+streams input output errors = record { input = input; output = output; errors = errors }
+
+-- the words ask for a simulation: its answer decides the status, and without a fault nothing is written to `errors`
+pub record Simulates (asked : Asked) (old new : Streams) (status : ℕ) : Type 0 where
+  pub answer : Result (Unit {0}) SimError
+  -- without a file it is the simulation of the input
+  pub of_input : asked.file ≡ None
+      → IfSome old.input (λ bytes. SimulatedWith (way_of asked.options) bytes old.output new.output answer)
+  -- with a file the input isn't read
+  pub unread : IsSome asked.file → new.input ≡ old.input
+  -- a report is that of some bytes, by so many workers of the kind that is asked for
+  pub of_some : SimulatedSome (way_of asked.options) old.output new.output answer
+  pub unwritten : IfErr answer (Unwritten old.output new.output)
+  pub status_is : status ≡ status_of answer
+  pub quiet : answer ≡ Ok tt → Keeps old.errors new.errors
+
+-- the exit status where the words are refused, or ask for help
+abbrev pub status_of_words : ErrorKind → ℕ
+status_of_words kind.OutOfMemory = 1
+status_of_words kind.DisplayHelp = 0
+status_of_words kind.DisplayVersion = 0
+status_of_words k = 2
+
+-- the words are refused, or ask for help: nothing is read, the output gets help alone, and `errors` then nothing
+pub record RefusesWords (k : ErrorKind) (old new : Streams) (status : ℕ) : Type 0 where
+  pub status_is : status ≡ status_of_words k
+  pub unread : new.input ≡ old.input
+  pub fault : status ≢ 0 → Keeps old.output new.output
+  pub help : status ≡ 0 → Keeps old.errors new.errors
+
+-- what the command leaves on its streams, and the status that it answers
+abbrev pub Commands : (old new : Streams) → (status : ℕ) → Type 0
+Commands old new status =
+    ((asked : Asked) × Simulates asked old new status) ⊎ ((k : ErrorKind) × RefusesWords k old new status)

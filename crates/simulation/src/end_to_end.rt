@@ -1,0 +1,124 @@
+//! A simulation, from the bytes of a scenario to the bytes of its report.
+ghost use Rattle.std.specs.Prelude.{Some, None, IfErr, IfSome};
+ghost use Rattle.simulation.specs.Simulation.{SimulatedWith, SimulatedSome, Unwritten, way_of};
+ghost use Rattle.simulation.specs.Input.{IsText};
+
+use crate::by_workers::{Team, run_by};
+use crate::error::SimError;
+use crate::input::read_text;
+use crate::options::Options;
+use net_scenario::read_scenario;
+use std::alloc::Global;
+use std::io::{Read, Write};
+use std::random::RandomSource;
+use std::sync::Wait;
+use std::thread::Threads;
+use trace_printer::write_report;
+use window_workers::{Gate, run_serial};
+
+/// Simulates the scenario that the text tells on one thread, and writes the report.
+fn simulate_text<W: Write>(alloc: Global, text: &str, writer: &mut W) -> Result<(), SimError>
+    requires { IsText text.now }
+    ensures answer { SimulatedWith None text.now (W.contents writer.old) (W.contents writer.new) result }
+    ensures unwritten { IfErr result (Unwritten (W.contents writer.old) (W.contents writer.new)) }
+{
+    let net = read_scenario(alloc, text)?;
+    let report = run_serial(alloc, &net)?;
+    write_report(alloc, &net, &report, writer)?;
+    Ok(())
+}
+
+/// Simulates the scenario that the text tells by these workers, and writes the report.
+fn simulate_text_by<T, W, G>(
+    rt: &T,
+    alloc: Global,
+    text: &str,
+    writer: &mut W,
+    team: Team,
+    gate: &G,
+) -> Result<(), SimError>
+where
+    T: Threads + Wait + RandomSource + AllocGlobal + Sync,
+    W: Write,
+    G: Gate + Sync,
+    requires { IsText text.now }
+    ensures answer { let way = Some (team.workers, team.sync)
+        in SimulatedWith way text.now (W.contents writer.old) (W.contents writer.new) result }
+    ensures unwritten { IfErr result (Unwritten (W.contents writer.old) (W.contents writer.new)) }
+{
+    let net = read_scenario(alloc, text)?;
+    let report = run_by(rt, alloc, &net, team, gate)?;
+    write_report(alloc, &net, &report, writer)?;
+    Ok(())
+}
+
+/// Reads a scenario to its end, simulates it on one thread, and writes its report.
+///
+/// # Errors
+/// In this order: `Read` where a call of the reader failed before the limit was passed, an interrupted one included;
+/// `TooLong` where more than 1,048,576 bytes came, also from a reader that never ends; `NotText` where they aren't
+/// UTF-8; `Scenario` with the scenario's first fault; `Run` where an allocation of the run failed; `Print` where the
+/// writer failed or took no byte, and then a prefix of the report is written. `Memory`, and `Memory` of a part, only
+/// where an allocation failed. An error other than `Print` has written nothing.
+#[tactic(auto, using(crate::proofs::Printed::some_bytes))]
+pub fn simulate_serial<R: Read, W: Write>(
+    alloc: Global,
+    reader: &mut R,
+    writer: &mut W,
+) -> Result<(), SimError>
+    // Where the reader's contents are known, the answer is that of these bytes; where the writer's contents are known,
+    // what is written is the report's text.
+    ensures answer { IfSome (R.remaining reader.old)
+        (λ input. SimulatedWith None input (W.contents writer.old) (W.contents writer.new) result) }
+    // Whatever the reader, a report is that of some bytes, and a scenario's fault is that of some bytes.
+    ensures some { SimulatedSome None (W.contents writer.old) (W.contents writer.new) result }
+    // Only a print has written anything.
+    ensures unwritten { IfErr result (Unwritten (W.contents writer.old) (W.contents writer.new)) }
+{
+    let text = read_text(alloc, reader)?;
+    simulate_text(alloc, text.as_str(), writer)
+}
+
+/// Reads a scenario to its end, simulates it as the options say, and writes its report: on one thread where they name
+/// no workers, else by so many workers, window by window, each in a thread of its own for each window, or with marks
+/// in one for the whole run. The bytes of the report are the same. Workers wait for one another, so the promise holds
+/// if the run returns.
+///
+/// # Errors
+/// As `simulate_serial`; `Run` with `Workers` where there aren't 1 to 16 of them, which is looked at once the scenario
+/// is read, and with `Memory` or `Thread` where an allocation of a worker failed, or its thread couldn't be started or
+/// run. The contract leaves room for `Stopped` with marks: a worker that waits for marks gives up where another failed.
+/// No run answers it, since that other worker's error is told.
+#[tactic(auto, using(crate::proofs::Printed::some_bytes))]
+pub fn simulate<T, R, W, G>(
+    rt: &T,
+    alloc: Global,
+    reader: &mut R,
+    writer: &mut W,
+    options: &Options,
+    gate: &G,
+) -> Result<(), SimError>
+where
+    T: Threads + Wait + RandomSource + AllocGlobal + Sync,
+    R: Read,
+    W: Write,
+    G: Gate + Sync,
+    // As those of `simulate_serial`, for any number of workers of either kind and any cut.
+    ensures answer { let way = way_of options.now
+        in IfSome (R.remaining reader.old)
+        (λ input. SimulatedWith way input (W.contents writer.old) (W.contents writer.new) result) }
+    ensures some { SimulatedSome (way_of options.now) (W.contents writer.old) (W.contents writer.new) result }
+    ensures unwritten { IfErr result (Unwritten (W.contents writer.old) (W.contents writer.new)) }
+{
+    let Some(workers) = options.workers else {
+        return simulate_serial(alloc, reader, writer);
+    };
+    let team = Team {
+        workers,
+        cut: options.cut,
+        sync: options.sync,
+    };
+    let scenario = read_text(alloc, reader)?;
+    let text = scenario.as_str();
+    simulate_text_by(rt, alloc, text, writer, team, gate)
+}

@@ -1,9 +1,0 @@
-use Rattle.std.specs.List.{slice_get}
-use Rattle.program_tree.specs.Program.{tree_of}
-use Rattle.mote_net.specs.Net.{net_of}
-use Rattle.simulation_tests.proofs.NewMotes.{new_goes_on}
-use Rattle.simulation_tests.proofs.tests.windows.by_a_worker.resident.Goals as goal
-
-pub returns-clause-goes_on : goal.returns-clause-goes_on
-returns-clause-goes_on c = λ until.
-    new_goes_on (slice_get (net_of c.args.net.now).motes c.args.number) (tree_of c.program.result.now) until c.args.number 32 c.args.copies.items c.in-Ok.mote c.program.ensures c.in-Ok.ensures.new

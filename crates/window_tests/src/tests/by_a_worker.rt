@@ -1,0 +1,207 @@
+//! The windows of two motes of one worker.
+
+ghost use Rattle.std.specs.Prelude.{◌≡◌, ◌≤◌, ◌<◌, ℕ, true, length, IfOk};
+ghost use Rattle.mote_net.specs.Net.{net_of};
+ghost use Rattle.window_run.specs.Shares.{AreGoingOn, AreInNet, ResidentGoesOn};
+ghost use Rattle.window_run.specs.Window.{is_rising};
+
+use super::{same_text, write_lines, write_sends};
+use mote_node::Mote;
+use net_scenario::{Net, read_scenario};
+use radio_packet::RadioCopy;
+use std::alloc::{AllocError, Global};
+use std::random::RandomSource;
+use std::sync::Wait;
+use std::sync::atomic::AtomicU64;
+use std::sync::atomic::Ordering::SeqCst;
+use std::test::Fail;
+use window_run::{Gate, NoGate, Resident, Residents, ShareError, WindowOut, WindowRoom, run_share};
+
+/// A mote that sends one packet, and one that hears it 2 moments later.
+const SENDER_AND_RECEIVER: &str = "\
+    version = 1\n\
+    end = 9\n\
+    [medium]\n\
+    range = 5\n\
+    base = 2\n\
+    per = 100\n\
+    [programs]\n\
+    s = \"process a; autostart a; code a { body { send (self + 5); } }\"\n\
+    r = \"process r; autostart r; receiver r; code r { body { while 1 { yield; if is(packet) { print from; \
+    print data; } } } }\"\n\
+    [[mote]]\n\
+    x = 0\n\
+    y = 0\n\
+    program = \"s\"\n\
+    [[mote]]\n\
+    x = 5\n\
+    y = 0\n\
+    program = \"r\"\n";
+
+/// Two motes with a turn at every moment.
+const BUSY_PAIR: &str = "\
+    version = 1\n\
+    end = 9\n\
+    [medium]\n\
+    range = 10\n\
+    base = 1\n\
+    per = 100\n\
+    [programs]\n\
+    p = \"process a; autostart a; code a { body { poll a; while 1 { yield; poll a; } } }\"\n\
+    [[mote]]\n\
+    x = 0\n\
+    y = 0\n\
+    program = \"p\"\n\
+    [[mote]]\n\
+    x = 20\n\
+    y = 0\n\
+    program = \"p\"\n";
+
+/// A new mote of a net, with the copies that come to it.
+fn resident(
+    alloc: Global,
+    net: &Net,
+    number: u16,
+    copies: Vec<RadioCopy>,
+) -> Result<Resident, ShareError>
+    requires there { number < length (net_of net.now).motes }
+    requires rising { is_rising copies.items ≡ true }
+    ensures number { IfOk result (λ resident. resident.number ≡ number) }
+    ensures goes_on { IfOk result (λ resident. (until : ℕ) → ResidentGoesOn (net_of net.now) until resident) }
+{
+    let Ok(mote) = Mote::new(alloc, number, net.program(number), 32) else {
+        return Err(ShareError::Memory);
+    };
+    Ok(Resident {
+        number,
+        mote,
+        copies,
+        room: WindowRoom::new(alloc),
+    })
+}
+
+/// One worker with motes 0 and 1 of a net, and the copies that come to mote 1.
+fn share_of_two(alloc: Global, net: &Net, copies: Vec<RadioCopy>) -> Result<Residents, ShareError>
+    requires there { 2 ≤ length (net_of net.now).motes }
+    requires rising { is_rising copies.items ≡ true }
+    ensures there { IfOk result (λ share. AreInNet (net_of net.now) share.residents.items) }
+    ensures go_on { IfOk result (λ share. (until : ℕ) → AreGoingOn (net_of net.now) until share.residents.items) }
+{
+    let mut residents = Vec::with_capacity(alloc, 2)?;
+    residents.push_reserved(resident(alloc, net, 0, Vec::new(alloc))?);
+    residents.push_reserved(resident(alloc, net, 1, copies)?);
+    Ok(Residents {
+        worker: 0,
+        residents,
+    })
+}
+
+/// The copy that comes to mote 1.
+fn one_copy(alloc: Global) -> Result<Vec<RadioCopy>, AllocError>
+    ensures { IfOk result (λ copies. is_rising copies.items ≡ true) }
+{
+    let copy = RadioCopy {
+        at: 2,
+        to: 1,
+        sender: 0,
+        number: 0,
+        value: 5,
+    };
+    Ok(vec![in alloc; copy]?)
+}
+
+/// What the two motes give, to one of which a copy comes.
+fn outs_with_a_copy<R: Wait + RandomSource + AllocGlobal>(
+    rt: &R,
+    net: &Net,
+) -> Result<Vec<WindowOut>, ShareError>
+    requires { 2 ≤ length (net_of net.now).motes }
+{
+    let copies = one_copy(rt.alloc())?;
+    let share = share_of_two(rt.alloc(), net, copies)?;
+    run_share(rt, rt.alloc(), net, share, 5, &NoGate)
+}
+
+/// Writes down the lines and packets of each mote.
+fn write_outs(text: &mut String, outs: &[WindowOut]) -> Result<(), AllocError> {
+    for out in outs {
+        text.push_str("mote|")?;
+        write_lines(text, &out.lines)?;
+        write_sends(text, &out.sends)?;
+    }
+    Ok(())
+}
+
+/// What is written of them.
+fn told(alloc: Global, outs: &[WindowOut]) -> Result<String, AllocError> {
+    let mut text = String::new(alloc);
+    write_outs(&mut text, outs)?;
+    Ok(text)
+}
+
+/// Fails where the two motes of a net give something else.
+fn give<R: Wait + RandomSource + AllocGlobal>(rt: &R, net: &Net, want: &str) -> Result<(), Fail> {
+    if net.motes() != 2 {
+        return Err(Fail::new(format_args!("not two motes")));
+    }
+    let outs = outs_with_a_copy(rt, net)?;
+    let told = told(rt.alloc(), outs.as_slice())?;
+    same_text(told.as_str(), want)
+}
+
+#[test]
+fn a_share_of_two_motes(rt: HostRuntime) -> Result<(), Fail> {
+    let net = read_scenario(rt.alloc(), SENDER_AND_RECEIVER)?;
+    give(
+        &rt,
+        &net,
+        "\
+            mote|0 Start(Etimer)|0 Start(Ctimer)|0 Start(Radio)|0 Start(Own(0))|0 Send(0, 5)|0 Leave(Own(0))|\
+            sent 0 0 0 5|mote|0 Start(Etimer)|0 Start(Ctimer)|0 Start(Radio)|0 Start(Own(0))|2 Recv(0, 0, 5)|\
+            2 Post(0, One(Own(0)), 138, 5)|2 Take(0, Own(0))|2 Print(Own(0), 0)|2 Print(Own(0), 5)|",
+    )
+}
+
+/// Writes down the motes in the order of their turns, each as a digit.
+#[derive(Drop)]
+struct Diary {
+    motes: AtomicU64,
+}
+
+impl Gate for Diary {
+    fn inside(&self, _worker: u16, _moment: u64, mote: u16) {
+        let before = self.motes.load(SeqCst);
+        let after = before.wrapping_mul(10).wrapping_add(u64::from(mote) + 1);
+        self.motes.store(after, SeqCst);
+    }
+}
+
+/// The motes in the order of their turns at 0, 1 and 2, and how many give something.
+fn order_of_turns<R: Wait + RandomSource + AllocGlobal>(
+    rt: &R,
+    net: &Net,
+) -> Result<(u64, usize), ShareError>
+    requires { 2 ≤ length (net_of net.now).motes }
+{
+    let share = share_of_two(rt.alloc(), net, Vec::new(rt.alloc()))?;
+    let diary = Diary {
+        motes: AtomicU64::new(0),
+    };
+    let outs = run_share(rt, rt.alloc(), net, share, 3, &diary)?;
+    Ok((diary.motes.load(SeqCst), outs.len()))
+}
+
+/// Fails where the two motes of a net don't take their turns alternately, or one gives nothing.
+fn alternate<R: Wait + RandomSource + AllocGlobal>(rt: &R, net: &Net) -> Result<(), Fail> {
+    if net.motes() == 2 && order_of_turns(rt, net)? == (121212, 2) {
+        return Ok(());
+    }
+    Err(Fail::new(format_args!("otherwise")))
+}
+
+/// The motes of one worker take their turns alternately.
+#[test]
+fn motes_alternate(rt: HostRuntime) -> Result<(), Fail> {
+    let net = read_scenario(rt.alloc(), BUSY_PAIR)?;
+    alternate(&rt, &net)
+}
