@@ -2,7 +2,7 @@
 
 Runs the command as it is, ends with its status, and changes nothing of it: four times a second it looks at the processes below it
 and notes the processor time of each `rattle`: of which crate, and whether it is a proof, a check of tests or one of a wrong body.
-(What a process used after the last look isn't seen: a few hundredths.) Before, with nothing beside it, it proves handed_on from
+(What a process used after the last look isn't seen: a few hundredths.) Before, with nothing beside it, it proves delivery_laws from
 nothing, as the measure of the machine. The figures go to out/gate_times.json, and one line of them to standard error.
 
 tools/gate_times --show    prints the last run's table by crate, and its line for the table by landing
@@ -30,7 +30,7 @@ from project.shares import HEAD, PAGE, keep, table_of
 from project.tree import TOP
 
 KEPT = TOP / 'out/gate_times.json'
-UNIT = 'handed_on'
+UNIT = 'delivery_laws'
 # A crate and a kind of check.
 Task = tuple[str, str]
 # The figures of a run, as they are kept.

@@ -47,9 +47,9 @@ class Tables(unittest.TestCase):
         self.assertEqual(gate_times.landing({**RUN, 'unit': None}), '| 2026-01-02 | 2 | 1,000, 20, 3 | 10 | 4 | 30 | ? | ? |')
 
     def test_the_measure_is_told_alone_and_among_the_others(self):
-        told = '10 minutes on 4 cores, 30 processor minutes: 150 times those of handed_on, which takes 12.0 processor seconds here'
+        told = '10 minutes on 4 cores, 30 processor minutes: 150 times those of delivery_laws, which takes 12.0 processor seconds here'
         self.assertEqual(gate_times.summary(RUN), told)
-        run = {**RUN, 'crates': {**RUN['crates'], 'handed_on': {'proof': 18.0, 'tests': 0, 'wrong bodies': 0}}}
+        run = {**RUN, 'crates': {**RUN['crates'], 'delivery_laws': {'proof': 18.0, 'tests': 0, 'wrong bodies': 0}}}
         self.assertEqual(gate_times.summary(run), told + ', and 100 times those in the run itself, 18.0')
 
 

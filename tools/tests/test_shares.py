@@ -30,7 +30,7 @@ class Shares(unittest.TestCase):
             self.assertEqual([shares.minutes_from_nothing(it) for it in (1, 2, 4, 16)], [40, 40, 25, 25])
 
     def test_each_crate_has_a_share(self):
-        crates = ['handed_on', 'motesim', 'no_such_crate']
+        crates = ['delivery_laws', 'motesim', 'no_such_crate']
         self.assertTrue(all(shares.shares(crates)[it] > 0 for it in crates))
 
 

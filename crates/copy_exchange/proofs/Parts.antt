@@ -8,7 +8,7 @@ use Rattle.copy_inbox.specs.declared.items.Carried.{Carried}
 use Rattle.copy_inbox.specs.declared.items.Item.{Item}
 use Rattle.copy_inbox.specs.Items.{copies_of, carried_copy, part}
 use Rattle.copy_inbox.proofs.Parts.{part-here, part-else}
-use Rattle.window_law.specs.Windows.{is_from_sender}
+use Rattle.window_laws.specs.Windows.{is_from_sender}
 use Rattle.copy_exchange.specs.Desks.{copies_pushed}
 
 -- the copies of mote s

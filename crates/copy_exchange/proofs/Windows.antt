@@ -11,7 +11,7 @@ use Rattle.copy_inbox.specs.Views.{make_desk}
 use Rattle.copy_inbox.specs.Handles.{InboxId, TakerView, PacketsLeft}
 use Rattle.copy_inbox.proofs.Parts.{part-not_nil}
 use Rattle.copy_exchange.specs.declared.courier.Courier.{Courier}
-use Rattle.window_law.specs.Windows.{is_from_sender}
+use Rattle.window_laws.specs.Windows.{is_from_sender}
 use Rattle.copy_exchange.specs.Desks.{IsOrderly}
 use Rattle.worker_cut.specs.Crossed.{is_to}
 use Rattle.copy_exchange.specs.Couriers.{IsCourier, DeliversOwn, Stays, Collects, Delivers, SetsOut, Returns, AllReturn, delivered, delivered_to}

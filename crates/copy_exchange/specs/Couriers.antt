@@ -10,7 +10,7 @@ use Rattle.copy_inbox.specs.declared.rule.Desk.{Desk}
 use Rattle.copy_inbox.specs.Gathered.{is_gathered, Whole}
 use Rattle.copy_inbox.specs.Handles.{InboxId, TakerView, SenderView}
 use Rattle.copy_exchange.specs.declared.courier.Courier.{Courier}
-use Rattle.window_law.specs.Windows.{is_from_sender}
+use Rattle.window_laws.specs.Windows.{is_from_sender}
 use Rattle.copy_exchange.specs.Desks.{SameOfEach, copies_pushed, taken_by, gathered_by, IsOrderly}
 use Rattle.copy_exchange.specs.Inboxes.{IsPlain}
 

@@ -1,10 +1,10 @@
 -- What each call of a kernel adds to its lines keeps them going with its mote.
 use Rattle.std.proofs.Common.{ℕ, ◌≡◌, ◌+◌, Bool, true, false, if◌then◌else◌, List, [], ◌∷◌, ◌++◌, refl, sym, ◌∙◌, subst, append-nil}
 use Rattle.std.proofs.lemmas.List.{map-append}
-use Rattle.handed_on.specs.HandedOn as handed
-use Rattle.handed_on.specs.View as view
-use Rattle.handed_on.specs.View.{HasHalted}
-use Rattle.handed_on.proofs.Views.{goes_further, goes_to_halt, other_moves, goes_with_hands_on, halted_hands_on, goes_with_halts_last, halted_halts_last, goes_with_starts, halted_starts}
+use Rattle.delivery_laws.specs.HandedOn as handed
+use Rattle.delivery_laws.specs.View as view
+use Rattle.delivery_laws.specs.View.{HasHalted}
+use Rattle.delivery_laws.proofs.Views.{goes_further, goes_to_halt, other_moves, goes_with_hands_on, halted_hands_on, goes_with_halts_last, halted_halts_last, goes_with_starts, halted_starts}
 use Rattle.program_tree.specs.declared.event.Proc.{Proc}
 use Rattle.trace_lines.specs.declared.line.Line.{Line}
 use Rattle.trace_lines.specs.declared.line.What.{What}

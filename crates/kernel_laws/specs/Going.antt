@@ -1,10 +1,10 @@
 -- Whether the lines of a mote so far go with the current mote.
 use Rattle.std.specs.Prelude.{Bool, true, false, ◌≡◌, List, [], ◌++◌}
 use Rattle.std.specs.List.{All}
-use Rattle.handed_on.specs.HandedOn.{HandedOn}
-use Rattle.handed_on.specs.StartsAndHalts.{HaltIsLast, StartsTheUnlisted}
-use Rattle.handed_on.specs.View as view
-use Rattle.handed_on.specs.View.{HasHalted}
+use Rattle.delivery_laws.specs.HandedOn.{HandedOn}
+use Rattle.delivery_laws.specs.StartsAndHalts.{HaltIsLast, StartsTheUnlisted}
+use Rattle.delivery_laws.specs.View as view
+use Rattle.delivery_laws.specs.View.{HasHalted}
 use Rattle.program_tree.specs.declared.event.Proc.TheVariants.{Etimer}
 use Rattle.trace_lines.specs.declared.line.Line.{Line}
 use Rattle.trace_lines.specs.declared.line.What.{What}

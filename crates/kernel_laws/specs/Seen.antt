@@ -1,9 +1,9 @@
 -- What the delivery of events sees of a kernel: its lines, and where it stands as a delivery machine.
 use Rattle.std.specs.Prelude.{List, map}
-use Rattle.handed_on.specs.HandedOn as handed
-use Rattle.handed_on.specs.HandedOn.{Incarnation, ToOne, ToAll}
-use Rattle.handed_on.specs.Delivery.{Waiting}
-use Rattle.handed_on.specs.View.{View}
+use Rattle.delivery_laws.specs.HandedOn as handed
+use Rattle.delivery_laws.specs.HandedOn.{Incarnation, ToOne, ToAll}
+use Rattle.delivery_laws.specs.Delivery.{Waiting}
+use Rattle.delivery_laws.specs.View.{View}
 use Rattle.program_tree.specs.declared.event.Target.{Target}
 use Rattle.program_tree.specs.declared.event.Target.TheVariants.{One, All}
 use Rattle.event_queue.specs.declared.queue.Posted.{Posted}

@@ -6,9 +6,9 @@ use Rattle.std.proofs.lemmas.Option.{slice_get_within}
 use Rattle.std.proofs.lemmas.Bool.Decides.{eqb_tells}
 use Rattle.std.proofs.lemmas.Map.Steps.{length-le_from_distinct_below}
 use Rattle.mote_net.specs.Net.{NetTold}
-use Rattle.worker_crew.proofs.Lookups.{there}
-use Rattle.mark_crew.specs.All.{AllRan}
-use Rattle.mark_crew.proofs.Pairs.{numbered_at}
+use Rattle.joined_workers.proofs.Lookups.{there}
+use Rattle.marked_workers.specs.All.{AllRan}
+use Rattle.marked_workers.proofs.Pairs.{numbered_at}
 use Rattle.mark_run_laws.specs.Plan.{number_of}
 use Rattle.mark_run_laws.specs.Laws.{SendersAreApart}
 

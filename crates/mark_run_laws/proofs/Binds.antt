@@ -4,13 +4,13 @@ use Rattle.mote_net.specs.Net.{NetTold}
 use Rattle.copy_inbox.specs.Items.{part}
 use Rattle.copy_inbox.specs.Handles.{InboxId}
 use Rattle.mark_exchange.specs.Pushes.{marks_in}
-use Rattle.worker_crew.specs.Worker.{IsCut}
-use Rattle.mark_crew.specs.All.{AllRan}
-use Rattle.mark_crew.specs.Bounds.{windows_of}
-use Rattle.mark_crew.proofs.Ends.{all_ran}
-use Rattle.mark_crew.proofs.Pairs.{pair}
-use Rattle.mark_crew.proofs.Runs.{ends_marked}
-use Rattle.mark_crew.proofs.Settles.{pair_taken}
+use Rattle.joined_workers.specs.Worker.{IsCut}
+use Rattle.marked_workers.specs.All.{AllRan}
+use Rattle.marked_workers.specs.Bounds.{windows_of}
+use Rattle.marked_workers.proofs.Ends.{all_ran}
+use Rattle.marked_workers.proofs.Pairs.{pair}
+use Rattle.marked_workers.proofs.Runs.{ends_marked}
+use Rattle.marked_workers.proofs.Settles.{pair_taken}
 use Rattle.mark_run_laws.specs.Plan.{number_of}
 use Rattle.mark_run_laws.specs.Laws.{EachRunHasAll, RunsEndAtEnd, MarksLeadOn}
 

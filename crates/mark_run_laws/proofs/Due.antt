@@ -2,18 +2,18 @@
 use Rattle.std.proofs.Common.{◌≡◌, ℕ, suc, ◌<◌, ◌≤◌, Bool, true, false, not, List, refl, ap, arith, suc-mul}
 use Rattle.radio_packet.specs.declared.copy.RadioCopy.{RadioCopy}
 use Rattle.mote_net.specs.Net.{NetTold}
-use Rattle.window_law.proofs.Lists.{every_filter, every_passes}
+use Rattle.window_laws.proofs.Lists.{every_filter, every_passes}
 use Rattle.worker_cut.specs.Crossed.{is_own, is_to}
 use Rattle.copy_inbox.specs.declared.items.Carried.TheVariants.{Packet}
-use Rattle.worker_share.specs.Window.{GoesOut}
-use Rattle.worker_crew.proofs.Step.{own_of}
+use Rattle.worker_window.specs.Window.{GoesOut}
+use Rattle.joined_workers.proofs.Step.{own_of}
 use Rattle.mark_laws.specs.State.{State}
 use Rattle.mark_laws.specs.Steps.{MayTake}
 use Rattle.mark_laws.specs.Laws.{IsReached}
 use Rattle.mark_laws.proofs.Late.{no_copy_is_undue as comes_later, each_taken_passes}
-use Rattle.mark_crew.specs.Bounds.{bound}
-use Rattle.mark_crew.specs.Story.{Story}
-use Rattle.mark_crew.proofs.Pairs.{not_other}
+use Rattle.marked_workers.specs.Bounds.{bound}
+use Rattle.marked_workers.specs.Story.{Story}
+use Rattle.marked_workers.proofs.Pairs.{not_other}
 use Rattle.mark_run_laws.specs.Plan.{plan_of, RanWindow}
 use Rattle.mark_run_laws.specs.Laws.{NoCopyIsUndue}
 

@@ -9,12 +9,12 @@ use Rattle.mark_exchange.specs.Pushes.{marks_in}
 use Rattle.mark_laws.specs.State.{State, IsPair}
 use Rattle.mark_laws.specs.Steps.{MayTake, IsAtEnd}
 use Rattle.mark_laws.specs.Laws.{IsReached}
-use Rattle.worker_crew.specs.declared.crew.Crew.{Crew}
-use Rattle.worker_crew.specs.Worker.{IsCut}
-use Rattle.mark_crew.specs.All.{AllRan}
-use Rattle.mark_crew.specs.Bounds.{bound, windows_of}
-use Rattle.mark_crew.specs.Run.{RunsAllMarked}
-use Rattle.mark_crew.specs.Story.{Story}
+use Rattle.joined_workers.specs.declared.crew.Crew.{Crew}
+use Rattle.joined_workers.specs.Worker.{IsCut}
+use Rattle.marked_workers.specs.All.{AllRan}
+use Rattle.marked_workers.specs.Bounds.{bound, windows_of}
+use Rattle.marked_workers.specs.Run.{RunsAllMarked}
+use Rattle.marked_workers.specs.Story.{Story}
 use Rattle.mark_run_laws.specs.Plan.{plan_of, number_of, state_of, RanWindow}
 
 -- what the contract of `run_marked` says of a run is enough

@@ -7,9 +7,9 @@ use Rattle.copy_inbox.specs.Items.{copies_of, part}
 use Rattle.copy_inbox.specs.Handles.{SenderView}
 use Rattle.copy_exchange.specs.Couriers.{pushed_list}
 use Rattle.mark_laws.specs.State.{Plan, State}
-use Rattle.mark_crew.specs.All.{AllRan}
-use Rattle.mark_crew.specs.Bounds.{bound}
-use Rattle.mark_crew.specs.Story.{Story, RunsMotes}
+use Rattle.marked_workers.specs.All.{AllRan}
+use Rattle.marked_workers.specs.Bounds.{bound}
+use Rattle.marked_workers.specs.Story.{Story, RunsMotes}
 
 -- what the motes of each worker sent to those of each other, window by window
 abbrev pub plan_of : (of : List ℕ) → (windows workers : ℕ) → (story : ℕ → Story) → Plan

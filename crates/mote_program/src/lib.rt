@@ -9,4 +9,4 @@ pub use program_tree::{
     ProcessText, Program, ReadError, ReadErrorKind, SentEvent, Stmt, SystemEvent, Target, Timer,
     error, event, event_name, flat_block, names, process_text, program, timer, tree,
 };
-pub use text_laws::laws;
+pub use program_text_laws::laws;

@@ -13,9 +13,9 @@ use Rattle.radio_packet.specs.declared.sent.Sent.{Sent}
 use Rattle.radio_packet.specs.declared.copy.RadioCopy.{RadioCopy}
 use Rattle.radio_packet.specs.declared.fate.Fate.{Fate}
 use Rattle.radio_medium.specs.Medium.{copy_of}
-use Rattle.window_law.specs.Agenda.{Item, Wake, Packet, comes_at, is_wake_of, moment_of, mote_of, packets}
-use Rattle.window_law.proofs.Agenda.{packets_append, packets_map}
-use Rattle.window_law.proofs.Lists.{is_filled, filter_filter, filter_stronger, filter_none, filter_not, every_weaker, every_passes, filled_any}
+use Rattle.window_laws.specs.Agenda.{Item, Wake, Packet, comes_at, is_wake_of, moment_of, mote_of, packets}
+use Rattle.window_laws.proofs.Agenda.{packets_append, packets_map}
+use Rattle.window_laws.proofs.Lists.{is_filled, filter_filter, filter_stronger, filter_none, filter_not, every_weaker, every_passes, filled_any}
 use Rattle.net_agenda.specs.Buckets.{arrival_of, Due, nothing_due, is_wake, due_all, gathered, due_of, is_here, with_copy, with_wake, without_wake, is_none_left, Buckets, Holds, IsReady, items_in}
 use Rattle.net_agenda.specs.declared.bucket.Bucket.{Bucket}
 use Rattle.net_agenda.proofs.Keys.{same_number}

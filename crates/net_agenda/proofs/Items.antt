@@ -12,9 +12,9 @@ use Rattle.std.proofs.lemmas.List.Elements.{filter-append}
 use Rattle.std.proofs.lemmas.List.Filters.{length-filter_both}
 use Rattle.std.proofs.lemmas.List.Sorted.{IsPermutation-refl, IsPermutation-sym, IsPermutation-trans, IsPermutation-append, IsPermutation-filter_both}
 use Rattle.std.proofs.lemmas.Map.Keys.{sorted_head, sorted_tail}
-use Rattle.window_law.specs.Agenda.{Item, Wake, Packet, comes_at, moment_of, mote_of, packets}
-use Rattle.window_law.proofs.Agenda.{packets_filter}
-use Rattle.window_law.proofs.Lists.{every_passes}
+use Rattle.window_laws.specs.Agenda.{Item, Wake, Packet, comes_at, moment_of, mote_of, packets}
+use Rattle.window_laws.proofs.Agenda.{packets_filter}
+use Rattle.window_laws.proofs.Lists.{every_passes}
 use Rattle.net_agenda.specs.declared.bucket.Bucket.{Bucket}
 use Rattle.net_agenda.specs.declared.bucket.Coming.{Coming}
 use Rattle.net_agenda.specs.Buckets.{arrival_of, Due, nothing_due, is_wake, due_all, gathered, due_of, is_here, item_at, items_in, Buckets, Holds}

@@ -5,8 +5,8 @@ use Rattle.std.specs.BTreeMap.{IsOrdered}
 use Rattle.std.specs.Ordering.{nat_cmp}
 use Rattle.std.proofs.lemmas.List.Sorted.{length_permutation}
 use Rattle.radio_packet.specs.declared.arrival.Arrival.{Arrival}
-use Rattle.window_law.specs.Agenda.{Item, packets}
-use Rattle.window_law.proofs.Agenda.{packets_append}
+use Rattle.window_laws.specs.Agenda.{Item, packets}
+use Rattle.window_laws.proofs.Agenda.{packets_append}
 use Rattle.net_agenda.specs.declared.bucket.Bucket.{Bucket}
 use Rattle.net_agenda.specs.declared.bucket.Coming.{Coming}
 use Rattle.net_agenda.specs.Buckets.{packet_in, Buckets, Holds, is_packet, item_at}

@@ -8,8 +8,8 @@ use Rattle.std.proofs.lemmas.Bool.{cases_Bool, cases_order, eq-eqb, eqb-true, fa
 use Rattle.std.proofs.lemmas.Bool.Decides.{nat_tests}
 use Rattle.std.proofs.lemmas.List.{map-append}
 use Rattle.radio_packet.specs.declared.arrival.Arrival.{Arrival}
-use Rattle.window_law.specs.Agenda.{Item, Wake, IsLeast, comes_at, is_wake_of, moment_of, mote_of, packets}
-use Rattle.window_law.proofs.Lists.{any_every}
+use Rattle.window_laws.specs.Agenda.{Item, Wake, IsLeast, comes_at, is_wake_of, moment_of, mote_of, packets}
+use Rattle.window_laws.proofs.Lists.{any_every}
 use Rattle.net_agenda.specs.declared.bucket.Bucket.{Bucket}
 use Rattle.net_agenda.specs.declared.bucket.Coming.{Coming}
 use Rattle.net_agenda.specs.Buckets.{goes_to, packet_in, arrival_of, arrivals_in_order, arrivals_at, nothing_due, gathered, due_of, is_here, is_for, of_mote, is_wake_for, packets_of, FallsIfSaid, is_nothing, first_mote, IsTaken, IsReady, Buckets, Holds, item_of, item_at, items_in, items_at, without_wake}

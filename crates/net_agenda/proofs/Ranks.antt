@@ -8,9 +8,9 @@ use Rattle.std.proofs.Math.Nat.{mul-le-mul_right}
 use Rattle.std.proofs.lemmas.Bool.{and_parts, eqb-true, eq-eqb}
 use Rattle.std.proofs.lemmas.Bool.Decides.{nat_tests}
 use Rattle.net_agenda.specs.declared.bucket.Bucket.{Bucket}
-use Rattle.window_law.specs.Agenda.{Item, moment_of, mote_of, comes_at, is_from}
+use Rattle.window_laws.specs.Agenda.{Item, moment_of, mote_of, comes_at, is_from}
 use Rattle.net_agenda.specs.Buckets.{Buckets, Holds, first_key, first_of, first_mote}
-use Rattle.window_law.proofs.Lists.{any_every}
+use Rattle.window_laws.proofs.Lists.{any_every}
 use Rattle.net_agenda.proofs.Keys.{same_number}
 use Rattle.net_agenda.proofs.Moments.{there_of}
 

@@ -10,7 +10,7 @@ use Rattle.radio_packet.specs.declared.sent.Sent.{Sent}
 use Rattle.radio_packet.specs.declared.copy.RadioCopy.{RadioCopy}
 use Rattle.radio_packet.specs.declared.fate.Fate.{Fate}
 use Rattle.radio_medium.specs.Medium.{copy_of}
-use Rattle.window_law.specs.Agenda.{Item, Packet, moment_of}
+use Rattle.window_laws.specs.Agenda.{Item, Packet, moment_of}
 use Rattle.net_agenda.specs.declared.bucket.Bucket.{Bucket}
 use Rattle.net_agenda.specs.declared.bucket.Coming.{Coming}
 use Rattle.net_agenda.specs.Buckets.{due_of, is_nothing, Buckets, FallsIfSaid, Holds, IsReady, item_at, items_at}

@@ -10,8 +10,8 @@ use Rattle.radio_medium.specs.Medium.{medium_fault}
 use Rattle.radio_medium.proofs.Copies.{copies_later}
 use Rattle.radio_medium.proofs.Delays.{lookahead-above}
 use Rattle.mote_net.specs.Net.{MoteTold, NetTold}
-use Rattle.window_law.specs.System.{RunsForward}
-use Rattle.window_law.proofs.Lists.{every_weaker}
+use Rattle.window_laws.specs.System.{RunsForward}
+use Rattle.window_laws.proofs.Lists.{every_weaker}
 use Rattle.net_agenda.specs.Buckets.{arrival_of}
 use Rattle.net_agenda.specs.NetSystem.{no_mote, node_turn, system_of}
 

@@ -4,9 +4,9 @@ use Rattle.std.specs.List.{filter, AllByRecursion}
 use Rattle.std.specs.Option.{option_eq}
 use Rattle.std.proofs.lemmas.Bool.{cases_Bool, eqb-true, eq-eqb, and_parts, false≢true}
 use Rattle.radio_packet.specs.declared.arrival.Arrival.{Arrival}
-use Rattle.window_law.specs.Agenda.{Item, Wake, Packet, comes_at, is_wake_of, mote_of, wake_items}
+use Rattle.window_laws.specs.Agenda.{Item, Wake, Packet, comes_at, is_wake_of, mote_of, wake_items}
 use Rattle.net_agenda.specs.Buckets.{Due, nothing_due, is_wake, gathered, due_of, is_here, with_wake, without_wake, is_none_left, Buckets, Holds}
-use Rattle.window_law.proofs.Lists.{filter_not, filter_filter}
+use Rattle.window_laws.proofs.Lists.{filter_not, filter_filter}
 use Rattle.net_agenda.proofs.Gathered.{due_with, due_wake, due_unwoken, due_at_mote}
 
 -- the wake is the only one where it wakes

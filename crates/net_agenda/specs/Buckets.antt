@@ -9,8 +9,8 @@ use Rattle.net_agenda.specs.declared.bucket.Bucket.{Bucket}
 use Rattle.net_agenda.specs.declared.bucket.Coming.{Coming}
 use Rattle.net_agenda.specs.declared.bucket.Coming.TheVariants as coming
 pub use Rattle.net_agenda.specs.Arrivals.{arrival_of}
-use Rattle.window_law.specs.Order.{sorted_by, in_order}
-use Rattle.window_law.specs.Agenda.{Item, Wake, Packet, comes_at, packets}
+use Rattle.window_laws.specs.Order.{sorted_by, in_order}
+use Rattle.window_laws.specs.Agenda.{Item, Wake, Packet, comes_at, packets}
 
 -- by sender, then by number; those with the same of both keep their order
 abbrev pub arrivals_in_order : List Arrival → List Arrival

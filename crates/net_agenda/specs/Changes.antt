@@ -2,7 +2,7 @@
 use Rattle.std.specs.Prelude.{ℕ, ◌≡◌, not, List, ◌++◌, Option}
 use Rattle.std.specs.List.{filter}
 use Rattle.radio_packet.specs.declared.arrival.Arrival.{Arrival}
-use Rattle.window_law.specs.Agenda.{Item, comes_at, is_wake_of, wake_items}
+use Rattle.window_laws.specs.Agenda.{Item, comes_at, is_wake_of, wake_items}
 use Rattle.net_agenda.specs.Buckets.{Buckets, Holds, arrivals_at}
 
 -- these items were added

@@ -5,7 +5,7 @@ use Rattle.std.specs.List.Sorted.{IsPermutation}
 use Rattle.radio_packet.specs.declared.arrival.Arrival.{Arrival}
 use Rattle.radio_packet.specs.declared.copy.RadioCopy.{RadioCopy}
 use Rattle.net_agenda.specs.declared.bucket.Bucket.{Bucket}
-use Rattle.window_law.specs.Agenda.{Item, comes_at, packets}
+use Rattle.window_laws.specs.Agenda.{Item, comes_at, packets}
 use Rattle.net_agenda.specs.Buckets.{Buckets, is_wake, item_at}
 
 -- the copy of which a mote is given this at a moment

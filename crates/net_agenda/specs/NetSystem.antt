@@ -9,7 +9,7 @@ use Rattle.mote_node.specs.Turn as node
 use Rattle.radio_packet.specs.declared.copy.RadioCopy.{RadioCopy}
 use Rattle.radio_medium.specs.Medium.{copies, lookahead}
 use Rattle.mote_net.specs.Net.{MoteTold, NetTold}
-use Rattle.window_law.specs.System.{System, Turned}
+use Rattle.window_laws.specs.System.{System, Turned}
 use Rattle.net_agenda.specs.Arrivals.{arrival_of}
 
 -- stands for a mote past the last one, which never turns

@@ -1,7 +1,7 @@
 -- The traces of the motes of a net.
 use Rattle.std.specs.Prelude.{ℕ, ◌≡◌, ◌++◌, List, Vec, slice_index_or, slice_set}
 use Rattle.std.specs.declared.alloc.Global.{Global}
-use Rattle.process_kernel.specs.declared.line.Line.{Line}
+use Rattle.trace_lines.specs.declared.line.Line.{Line}
 
 -- one trace has these lines more, at its end
 pub record AddsLines (k : ℕ) (lines : List Line) (old new : List (Vec Line Global)) : Type 0 where

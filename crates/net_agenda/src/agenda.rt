@@ -3,7 +3,7 @@
 ghost use Rattle.std.specs.Prelude.{◌≡◌, ◌≤◌, length, take, List, [], ◌∷◌, map, OnOk, IfOk, MatchOption};
 ghost use Rattle.std.specs.List.{filter_map};
 ghost use Rattle.radio_medium.specs.Medium.{copy_of};
-ghost use Rattle.window_law.specs.Agenda.{Item, Wake, Packet, IsLeast, packets, wake_items};
+ghost use Rattle.window_laws.specs.Agenda.{Item, Wake, Packet, IsLeast, packets, wake_items};
 ghost use Rattle.net_agenda.specs.Buckets.{Holds, first_key, item_at};
 ghost use Rattle.net_agenda.specs.Changes.{Adds, AreDue, DropsWake, MovesWake, TakesDue};
 

@@ -18,7 +18,7 @@ use Rattle.program_tree.specs.declared.keyword.Keyword.{Keyword}
 use Rattle.program_tree.specs.declared.keyword.Keyword.TheVariants as word
 use Rattle.program_tree.specs.declared.tree.Operator.{Operator}
 use Rattle.program_tree.specs.declared.tree.Operator.TheVariants as operator
-use Rattle.text_laws.proofs.WordLaws.{number_token}
+use Rattle.program_text_laws.proofs.WordLaws.{number_token}
 
 -- a token that a text may have in a program
 abbrev pub IsOwn : Token → Type 0

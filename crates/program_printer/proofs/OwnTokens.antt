@@ -14,8 +14,8 @@ use Rattle.program_tree.specs.Tokens.{Token}
 use Rattle.program_tree.specs.Words.{is_word_byte, is_number, is_name, lookup, keywords, word_token}
 use Rattle.program_tree.specs.declared.error.ReadErrorKind.TheVariants.{BadToken, NumberTooLarge}
 use Rattle.program_printer.proofs.LexedAgain.{IsOwn, NoEquals, AreOwn}
-use Rattle.text_laws.proofs.PieceLaws.{found_among}
-use Rattle.text_laws.proofs.WordLaws.{number_token, table_token, other_token}
+use Rattle.program_text_laws.proofs.PieceLaws.{found_among}
+use Rattle.program_text_laws.proofs.WordLaws.{number_token, table_token, other_token}
 
 -- ---- names, as they are lexed
 

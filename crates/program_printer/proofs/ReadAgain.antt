@@ -13,7 +13,7 @@ use Rattle.program_tree.specs.declared.tree.Operator.{Operator}
 use Rattle.program_printer.proofs.FairMarks.{program_fair}
 use Rattle.program_printer.proofs.LexedAgain.{AreOwn, lexed_again}
 use Rattle.program_printer.proofs.OwnTokens.{AreLexedNames, names_lexed, own_tokens}
-use Rattle.text_laws.proofs.Texts.{one_tree, never_both, tree_or_told}
+use Rattle.program_text_laws.proofs.Texts.{one_tree, never_both, tree_or_told}
 
 again : (t : Tree) → IsOfText t → IsTreeOf (text_of_tree t) t
 again t w =

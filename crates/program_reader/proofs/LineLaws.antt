@@ -5,7 +5,7 @@ use Rattle.program_tree.specs.Faults.{Scope}
 use Rattle.program_tree.specs.Grammar.{tokens}
 use Rattle.program_reader.specs.Head.{with_names, IsNew, line_marks, HasProcesses, ReadsProcesses}
 use Rattle.program_tree.specs.InScope.{with_new}
-use Rattle.text_laws.specs.Machine.{Pending, Verdict, tell, fault, fault_or, first, unfit_at, new_name, from_semaphores, first_process, from_comma, more_process, from_autostart, semicolon}
+use Rattle.program_text_laws.specs.Machine.{Pending, Verdict, tell, fault, fault_or, first, unfit_at, new_name, from_semaphores, first_process, from_comma, more_process, from_autostart, semicolon}
 use Rattle.program_tree.specs.Shapes.{Name}
 use Rattle.program_reader.specs.Steps.{ReadsSign}
 use Rattle.program_tree.specs.Tokens as token

@@ -5,8 +5,8 @@ use Rattle.program_tree.specs.Faults.{Scope}
 use Rattle.program_tree.specs.Grammar.{Mark, tokens, event_marks, semaphore_marks, variable_marks, etimer_marks}
 use Rattle.program_reader.specs.Head.{with_all, HasDeclared, Declares, itself, HasNames, ReadsNames, HasValues, ReadsValues, IsListed, IsValued}
 use Rattle.program_tree.specs.InScope.{Names, with_new}
-use Rattle.text_laws.specs.Machine as machine
-use Rattle.text_laws.specs.Machine.{Symbol, Pending, Verdict, tell, first, new_name, from_events, from_semaphores, from_variables, from_etimers, from_ctimers}
+use Rattle.program_text_laws.specs.Machine as machine
+use Rattle.program_text_laws.specs.Machine.{Symbol, Pending, Verdict, tell, first, new_name, from_events, from_semaphores, from_variables, from_etimers, from_ctimers}
 use Rattle.program_tree.specs.Shapes.{Name}
 use Rattle.program_tree.specs.Tokens as token
 use Rattle.program_tree.specs.Tokens.{Token}

@@ -11,7 +11,7 @@ use Rattle.program_tree.specs.Grammar as role
 use Rattle.program_tree.specs.Grammar.{Mark, tokens, key, named, event_marks, semaphore_marks, process_marks, autostart_marks, receiver_marks, codes_marks, program_marks}
 use Rattle.program_reader.specs.Head.{with_all, line_marks, itself}
 use Rattle.program_tree.specs.InScope.{Names, no_names, with_new, number_in, name_in}
-use Rattle.text_laws.specs.Machine.{whole, tell, from_events, codes_form}
+use Rattle.program_text_laws.specs.Machine.{whole, tell, from_events, codes_form}
 use Rattle.program_tree.specs.Numbers.{named_of, values_of, codes_in, timers_from, timer_of, program_names, tree_of_shape}
 use Rattle.program_tree.specs.Reading.{AreLexed, IsTreeOfTokens, WasRead, IsMade}
 use Rattle.program_tree.specs.ShapeOf.{code_shape, no_code, shape_of}
@@ -24,7 +24,7 @@ use Rattle.program_tree.specs.declared.timer.Timer.{Timer}
 use Rattle.program_reader.proofs.CodesLaws.{behind_processes, behind_events, behind_semaphores, behind_first_timer, timers_of_all}
 use Rattle.program_tree.proofs.CountLaws.{length-codes_in}
 use Rattle.program_reader.proofs.MadeLaws.{zipped}
-use Rattle.text_laws.proofs.Told.{Judged, judged}
+use Rattle.program_text_laws.proofs.Told.{Judged, judged}
 
 -- The names that the head declares.
 

@@ -2,8 +2,8 @@
 ghost use Rattle.std.specs.Prelude.{List, ◌≡◌, ◌≤◌, Some, None, ◌∷◌, ◌++◌, [], length, IfOk, OnOk, IfErr};
 ghost use Rattle.program_tree.specs.Grammar.{named, starts};
 ghost use Rattle.program_reader.specs.Head.{FailsIn, ReadsProcesses, CanStart, IsStarting, ReadsAutostart, ReadsReceiver, with_starting};
-ghost use Rattle.text_laws.specs.Machine as machine;
-ghost use Rattle.text_laws.specs.Machine.{first, first_broken};
+ghost use Rattle.program_text_laws.specs.Machine as machine;
+ghost use Rattle.program_text_laws.specs.Machine.{first, first_broken};
 ghost use Rattle.program_tree.specs.Names.{place_of};
 ghost use Rattle.program_tree.specs.Shapes.{Name};
 ghost use Rattle.program_reader.specs.Steps.{scope_of};

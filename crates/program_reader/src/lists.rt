@@ -2,7 +2,7 @@
 ghost use Rattle.std.specs.Prelude.{◌≡◌, ◌≤◌, Some, ◌∷◌, [], length, IfOk, OnOk};
 ghost use Rattle.program_tree.specs.Grammar.{event_marks, semaphore_marks, variable_marks, etimer_marks};
 ghost use Rattle.program_reader.specs.Head.{FailsIn, ReadsNames, ReadsValues};
-ghost use Rattle.text_laws.specs.Machine.{first, from_events, from_semaphores, from_variables, from_etimers, from_ctimers};
+ghost use Rattle.program_text_laws.specs.Machine.{first, from_events, from_semaphores, from_variables, from_etimers, from_ctimers};
 ghost use Rattle.program_reader.specs.Steps.{scope_of};
 ghost use Rattle.program_tree.specs.Tokens as token;
 ghost use Rattle.program_tree.specs.Tree.{an_event, a_semaphore, a_variable, a_timer};

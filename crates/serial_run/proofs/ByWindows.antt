@@ -7,14 +7,14 @@ use Rattle.std.proofs.lemmas.List.Sorted.{IsPermutation-sym, IsPermutation-trans
 use Rattle.trace_lines.specs.declared.line.Line.{Line}
 use Rattle.radio_packet.specs.declared.sent.Sent.{Sent}
 use Rattle.kernel_laws.specs.Stamps.{AreNumberedFrom}
-use Rattle.window_law.specs.Agenda.{up_to}
-use Rattle.window_law.specs.NetStep.{put}
-use Rattle.window_law.specs.Order.{NumbersRise}
-use Rattle.window_law.specs.Report.{IsReport}
-use Rattle.window_law.specs.Windows.{as_log}
-use Rattle.window_law.proofs.Commute.{log_is_in_order, run_is_there, windows_report}
-use Rattle.window_law.proofs.Lists.{every_weaker}
-use Rattle.window_law.proofs.Order.{sorted_permutes}
+use Rattle.window_laws.specs.Agenda.{up_to}
+use Rattle.window_laws.specs.NetStep.{put}
+use Rattle.window_laws.specs.Order.{NumbersRise}
+use Rattle.window_laws.specs.Report.{IsReport}
+use Rattle.window_laws.specs.Windows.{as_log}
+use Rattle.window_laws.proofs.Commute.{log_is_in_order, run_is_there, windows_report}
+use Rattle.window_laws.proofs.Lists.{every_weaker}
+use Rattle.window_laws.proofs.Order.{sorted_permutes}
 use Rattle.net_agenda.specs.NetSystem.{system_of}
 use Rattle.net_report.specs.Report.{Packet, ReportTold}
 use Rattle.serial_run.specs.NetRun.{packet_with_fates, told_at}

@@ -8,13 +8,13 @@ use Rattle.std.proofs.lemmas.List.Elements.{filter-append, All-from_recursion, r
 use Rattle.std.proofs.lemmas.List.Sorted.{IsPermutation-refl, IsPermutation-sym, IsPermutation-trans, IsPermutation-cons, IsPermutation-middle, IsPermutation-append_left, IsPermutation-append_right, All-permutation}
 use Rattle.radio_packet.specs.declared.copy.RadioCopy.{RadioCopy}
 use Rattle.mote_net.specs.Net.{NetTold}
-use Rattle.window_law.specs.System.{System}
-use Rattle.window_law.specs.Agenda.{Item, Wake, Packet, moment_of, comes_at, is_left, packets, up_to}
-use Rattle.window_law.specs.Order.{in_order}
-use Rattle.window_law.proofs.Agenda.{packets_wakes}
-use Rattle.window_law.proofs.Order.{sorted_permutes}
+use Rattle.window_laws.specs.System.{System}
+use Rattle.window_laws.specs.Agenda.{Item, Wake, Packet, moment_of, comes_at, is_left, packets, up_to}
+use Rattle.window_laws.specs.Order.{in_order}
+use Rattle.window_laws.proofs.Agenda.{packets_wakes}
+use Rattle.window_laws.proofs.Order.{sorted_permutes}
 use Rattle.net_agenda.specs.NetSystem.{system_of}
-use Rattle.window_law.specs.NetStep.{NetState, Run, Done, Turn, boot, turn_at}
+use Rattle.window_laws.specs.NetStep.{NetState, Run, Done, Turn, boot, turn_at}
 use Rattle.serial_run.specs.Counted.{is_by, turns, IsGivenInTime, CopiesAreGiven, CopiesComeInTime}
 use Rattle.serial_run.proofs.Counted.{more, packets-turn, log-turn}
 

@@ -4,15 +4,15 @@ use Rattle.std.specs.List.{filter, flat_map, AllByRecursion}
 use Rattle.std.proofs.lemmas.Bool.Decides.{nat_tests}
 use Rattle.std.proofs.lemmas.List.Elements.{filter-append}
 use Rattle.radio_packet.specs.declared.copy.RadioCopy.{RadioCopy}
-use Rattle.window_law.specs.System.{System, RunsForward}
-use Rattle.window_law.specs.Agenda.{Item, Wake, Packet, moment_of, mote_of, comes_at, is_left, is_from, packets, IsLeast, up_to}
-use Rattle.window_law.specs.Order.{in_order}
+use Rattle.window_laws.specs.System.{System, RunsForward}
+use Rattle.window_laws.specs.Agenda.{Item, Wake, Packet, moment_of, mote_of, comes_at, is_left, is_from, packets, IsLeast, up_to}
+use Rattle.window_laws.specs.Order.{in_order}
 use Rattle.net_agenda.specs.NetSystem.{system_of}
-use Rattle.window_law.specs.NetStep.{NetState, Run, Done, Turn, turn_at}
+use Rattle.window_laws.specs.NetStep.{NetState, Run, Done, Turn, turn_at}
 use Rattle.serial_run.specs.Counted.{turns, is_for, IsGivenAll, TurnsAreGivenAll}
-use Rattle.window_law.proofs.Lists.{any_every, every_weaker}
-use Rattle.window_law.proofs.Ahead.{turn_ahead}
-use Rattle.window_law.proofs.Agenda.{packets_filter}
+use Rattle.window_laws.proofs.Lists.{any_every, every_weaker}
+use Rattle.window_laws.proofs.Ahead.{turn_ahead}
+use Rattle.window_laws.proofs.Agenda.{packets_filter}
 use Rattle.net_agenda.proofs.Systems.{system_is}
 use Rattle.serial_run.proofs.Counted.{HasAll, more, packets-turn, log-turn, all_turn, all_boot}
 

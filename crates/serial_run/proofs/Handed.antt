@@ -8,7 +8,7 @@ use Rattle.mote_laws.proofs.Turns.{turn_keeps, new_goes}
 use Rattle.mote_node.specs.Node.{Node}
 use Rattle.mote_net.specs.Net.{NetTold}
 use Rattle.net_agenda.specs.NetSystem.{system_of, mote_at}
-use Rattle.window_law.specs.NetStep.{NetState, Run, Done, Turn, boot, turn_at}
+use Rattle.window_laws.specs.NetStep.{NetState, Run, Done, Turn, boot, turn_at}
 use Rattle.serial_run.specs.Laws.{TracesHandOn}
 
 module _ (n : NetTold) where

@@ -11,14 +11,14 @@ use Rattle.mote_node.specs.Node.{Node}
 use Rattle.mote_node.specs.Turn.{turn_of}
 use Rattle.mote_node.specs.Wake.{wake_of}
 use Rattle.mote_net.specs.Net.{NetTold}
-use Rattle.window_law.specs.System.{Turned, RunsForward}
-use Rattle.window_law.specs.Agenda.{Item, Packet, mote_of, comes_at, is_wake_of, is_left, wake_items}
-use Rattle.window_law.proofs.Agenda.{no_wake_in_packets, own_wake, other_wake}
+use Rattle.window_laws.specs.System.{Turned, RunsForward}
+use Rattle.window_laws.specs.Agenda.{Item, Packet, mote_of, comes_at, is_wake_of, is_left, wake_items}
+use Rattle.window_laws.proofs.Agenda.{no_wake_in_packets, own_wake, other_wake}
 use Rattle.net_agenda.specs.Buckets.{wake_but_at}
-use Rattle.window_law.specs.NetStep.{NetState, stamped, sends_of, turned_at, turn_at}
+use Rattle.window_laws.specs.NetStep.{NetState, stamped, sends_of, turned_at, turn_at}
 use Rattle.net_agenda.specs.NetSystem.{system_of}
 use Rattle.serial_run.specs.Stands.{KeepsWakes}
-use Rattle.window_law.proofs.Lists.{filter_filter, every_append, every_filter, every_map, every_weaker}
+use Rattle.window_laws.proofs.Lists.{filter_filter, every_append, every_filter, every_map, every_weaker}
 
 -- the mote's wake goes with its turn, another's stays
 wake_gone : (t m : ℕ) (wake : Option ℕ) → filter (is_left t m) (wake_items m wake) ≡ []

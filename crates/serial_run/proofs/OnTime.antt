@@ -11,11 +11,11 @@ use Rattle.mote_node.specs.Node.{Node, new_node, is_past}
 use Rattle.mote_node.specs.Public.{node_in}
 use Rattle.mote_node.specs.Turn.{turn_of}
 use Rattle.mote_net.specs.Net.{NetTold}
-use Rattle.window_law.specs.System.{Turned, IsCopyOf, RunsForward}
-use Rattle.window_law.specs.Agenda.{Item, Packet, moment_of, mote_of, comes_at, is_left, is_from, wake_items, IsLeast}
-use Rattle.window_law.specs.NetStep.{NetState, boot, put, stamped, turned_at, turn_at}
-use Rattle.window_law.proofs.Ahead.{turn_ahead}
-use Rattle.window_law.proofs.Lists.{every_append, every_both, every_filter, every_map, every_weaker, any_every}
+use Rattle.window_laws.specs.System.{Turned, IsCopyOf, RunsForward}
+use Rattle.window_laws.specs.Agenda.{Item, Packet, moment_of, mote_of, comes_at, is_left, is_from, wake_items, IsLeast}
+use Rattle.window_laws.specs.NetStep.{NetState, boot, put, stamped, turned_at, turn_at}
+use Rattle.window_laws.proofs.Ahead.{turn_ahead}
+use Rattle.window_laws.proofs.Lists.{every_append, every_both, every_filter, every_map, every_weaker, any_every}
 use Rattle.net_agenda.specs.NetSystem.{system_of, tree_at}
 use Rattle.serial_run.specs.declared.engine.Engine.{Engine}
 use Rattle.serial_run.specs.OnTime.{CanTurn, IsNotAfter, IsOnTime}

@@ -5,11 +5,11 @@ use Rattle.std.proofs.lemmas.Bool.{cases_eq, and_parts}
 use Rattle.std.proofs.lemmas.List.Elements.{filter-append}
 use Rattle.std.proofs.lemmas.List.Filters.{length-filter_both}
 use Rattle.radio_packet.specs.declared.copy.RadioCopy.{RadioCopy}
-use Rattle.window_law.specs.Agenda.{Item, Wake, Packet, comes_at, is_left, is_wake_of, wake_items}
-use Rattle.window_law.specs.NetStep.{NetState, Run, Done, Turn, boot, turned_at, sends_of}
-use Rattle.window_law.specs.System.{System}
-use Rattle.window_law.proofs.Agenda.{first_wakes, no_wake_in_packets, other_wake}
-use Rattle.window_law.proofs.Lists.{filter_both, filter_filter, filter_never, filter_stronger, every_weaker}
+use Rattle.window_laws.specs.Agenda.{Item, Wake, Packet, comes_at, is_left, is_wake_of, wake_items}
+use Rattle.window_laws.specs.NetStep.{NetState, Run, Done, Turn, boot, turned_at, sends_of}
+use Rattle.window_laws.specs.System.{System}
+use Rattle.window_laws.proofs.Agenda.{first_wakes, no_wake_in_packets, other_wake}
+use Rattle.window_laws.proofs.Lists.{filter_both, filter_filter, filter_never, filter_stronger, every_weaker}
 use Rattle.net_agenda.specs.NetSystem.{system_of}
 use Rattle.net_agenda.specs.Items.{is_wake_at, WakesDiffer}
 use Rattle.serial_run.specs.Laws.{agendas, OneWake, AlwaysOneWake, WakesAlwaysDiffer}

@@ -7,14 +7,14 @@ use Rattle.trace_lines.specs.declared.line.Line.{Line}
 use Rattle.mote_node.specs.Node.{Node}
 use Rattle.mote_net.specs.Net.{NetTold}
 use Rattle.serial_run.specs.declared.engine.Engine.{Engine}
-use Rattle.window_law.specs.System.{RunsForward}
-use Rattle.window_law.specs.Agenda.{Wake, moment_of, mote_of, comes_at, wake_items, IsLeast, up_to}
-use Rattle.window_law.proofs.Agenda.{first_wakes, below_all}
+use Rattle.window_laws.specs.System.{RunsForward}
+use Rattle.window_laws.specs.Agenda.{Wake, moment_of, mote_of, comes_at, wake_items, IsLeast, up_to}
+use Rattle.window_laws.proofs.Agenda.{first_wakes, below_all}
 use Rattle.net_agenda.specs.NetSystem.{system_of}
-use Rattle.window_law.specs.NetStep.{NetState, Done, Turn, boot, turn_at}
+use Rattle.window_laws.specs.NetStep.{NetState, Done, Turn, boot, turn_at}
 use Rattle.serial_run.specs.Stands.{StandsAt, KeepsWakes}
 use Rattle.serial_run.specs.Ended.{HasReached, HasEnded}
-use Rattle.window_law.proofs.Lists.{any_every, every_weaker, every_map}
+use Rattle.window_laws.proofs.Lists.{any_every, every_weaker, every_map}
 use Rattle.serial_run.proofs.Kept.{kept_turn}
 use Rattle.serial_run.proofs.OnTime.{boot_on_time, turn_on_time}
 use Rattle.net_agenda.proofs.NewWakes.{new_wakes}

@@ -10,7 +10,7 @@ use Rattle.mote_net.specs.Net.{NetTold}
 use Rattle.net_report.specs.declared.Report.{Report}
 use Rattle.net_report.specs.Report.{Packet, ReportTold, lines_in, told_line, report_of}
 use Rattle.serial_run.specs.declared.engine.Engine.{Engine}
-use Rattle.window_law.specs.Agenda.{packets, up_to}
+use Rattle.window_laws.specs.Agenda.{packets, up_to}
 use Rattle.serial_run.specs.NetRun.{packet_with_fates, told_at, IsReportOf}
 use Rattle.serial_run.specs.Stands.{IsWhole}
 use Rattle.serial_run.specs.Ended.{HasEnded}

@@ -20,14 +20,14 @@ use Rattle.radio_medium.specs.Medium.{copies}
 use Rattle.mote_net.specs.Net.{NetTold}
 use Rattle.net_report.specs.Report.{told_line}
 use Rattle.serial_run.specs.declared.engine.Engine.{Engine}
-use Rattle.window_law.specs.Agenda.{Item, Packet, comes_at, is_wake_of, is_left, wake_items}
+use Rattle.window_laws.specs.Agenda.{Item, Packet, comes_at, is_wake_of, is_left, wake_items}
 use Rattle.net_agenda.specs.Buckets.{Holds, arrivals_at, wake_but_at}
 use Rattle.net_agenda.specs.NetSystem.{system_of, tree_at}
 use Rattle.serial_run.specs.NetRun.{packet_with_fates}
-use Rattle.window_law.specs.NetStep.{NetState, stamped, turn_at}
+use Rattle.window_laws.specs.NetStep.{NetState, stamped, turn_at}
 use Rattle.serial_run.specs.Stands.{StandsAt, KeepsWakes, OneTakesTurn}
 use Rattle.net_agenda.specs.Traces.{AddsLines}
-use Rattle.window_law.proofs.Lists.{filter_filter, filter_both}
+use Rattle.window_laws.proofs.Lists.{filter_filter, filter_both}
 use Rattle.serial_run.proofs.Kept.{wake_later}
 
 -- what a turn told, and where it led

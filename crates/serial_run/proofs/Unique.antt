@@ -1,6 +1,6 @@
 -- A net has at most one report, since it has at most one run.
 use Rattle.std.proofs.Common.{sym, ap, ◌∙◌}
-use Rattle.window_law.proofs.Unique.{run_is_one}
+use Rattle.window_laws.proofs.Unique.{run_is_one}
 use Rattle.serial_run.specs.NetRun.{told_at}
 use Rattle.serial_run.specs.Laws.{ReportIsOne}
 

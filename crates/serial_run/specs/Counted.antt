@@ -8,10 +8,10 @@ use Rattle.radio_packet.specs.declared.copy.RadioCopy.{RadioCopy}
 use Rattle.radio_packet.specs.declared.fate.Fate.{Fate}
 use Rattle.radio_medium.specs.Medium.{copies, medium_fault}
 use Rattle.mote_net.specs.Net.{NetTold}
-use Rattle.window_law.specs.System.{System}
-use Rattle.window_law.specs.Order.{in_order}
-use Rattle.window_law.specs.Agenda.{comes_at, packets}
-use Rattle.window_law.specs.NetStep.{NetState, Run, Done, Turn}
+use Rattle.window_laws.specs.System.{System}
+use Rattle.window_laws.specs.Order.{in_order}
+use Rattle.window_laws.specs.Agenda.{comes_at, packets}
+use Rattle.window_laws.specs.NetStep.{NetState, Run, Done, Turn}
 use Rattle.net_report.specs.Report.{ReportTold}
 use Rattle.serial_run.specs.NetRun.{IsReportOf}
 

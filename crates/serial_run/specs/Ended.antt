@@ -5,7 +5,7 @@ use Rattle.mote_node.specs.Node.{Node}
 use Rattle.mote_net.specs.Net.{NetTold}
 use Rattle.serial_run.specs.declared.engine.Engine.{Engine}
 use Rattle.net_agenda.specs.NetSystem.{system_of}
-use Rattle.window_law.specs.NetStep.{NetState, Run, boot}
+use Rattle.window_laws.specs.NetStep.{NetState, Run, boot}
 use Rattle.serial_run.specs.OnTime.{IsOnTime}
 use Rattle.serial_run.specs.Stands.{StandsAt, KeepsWakes}
 

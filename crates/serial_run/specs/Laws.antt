@@ -9,11 +9,11 @@ use Rattle.mote_node.specs.Node.{Node}
 use Rattle.radio_packet.specs.declared.copy.RadioCopy.{RadioCopy}
 use Rattle.radio_medium.specs.Medium.{medium_fault}
 use Rattle.mote_net.specs.Net.{NetTold}
-use Rattle.window_law.specs.System.{System, RunsForward}
-use Rattle.window_law.specs.Order.{is_sooner}
-use Rattle.window_law.specs.Agenda.{Item, is_wake_of, up_to}
-use Rattle.window_law.specs.NetStep.{NetState, Run, Done, Turn}
-use Rattle.window_law.specs.Windows.{LoneMote, first_mote, IsJoined, IsLeft, Windows}
+use Rattle.window_laws.specs.System.{System, RunsForward}
+use Rattle.window_laws.specs.Order.{is_sooner}
+use Rattle.window_laws.specs.Agenda.{Item, is_wake_of, up_to}
+use Rattle.window_laws.specs.NetStep.{NetState, Run, Done, Turn}
+use Rattle.window_laws.specs.Windows.{LoneMote, first_mote, IsJoined, IsLeft, Windows}
 use Rattle.net_agenda.specs.Buckets.{Buckets, Holds}
 use Rattle.net_agenda.specs.Items.{AreSameItems, WakesDiffer, items_of}
 use Rattle.net_agenda.specs.NetSystem.{system_of}

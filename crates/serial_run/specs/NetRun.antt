@@ -5,8 +5,8 @@ use Rattle.radio_packet.specs.declared.sent.Sent.{Sent}
 use Rattle.mote_node.specs.Node.{Node}
 use Rattle.radio_medium.specs.Medium.{Radio, fates}
 use Rattle.mote_net.specs.Net.{NetTold}
-use Rattle.window_law.specs.Agenda.{packets, up_to}
-use Rattle.window_law.specs.NetStep.{NetState, Run, boot}
+use Rattle.window_laws.specs.Agenda.{packets, up_to}
+use Rattle.window_laws.specs.NetStep.{NetState, Run, boot}
 use Rattle.net_agenda.specs.NetSystem.{system_of}
 use Rattle.net_report.specs.Report.{Packet, ReportTold}
 

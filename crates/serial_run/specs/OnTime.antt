@@ -3,8 +3,8 @@ use Rattle.std.specs.Prelude.{ℕ, ◌≡◌, ◌≤◌, false, Option, Some, No
 use Rattle.std.specs.List.{AllByRecursion}
 use Rattle.trace_lines.specs.declared.line.Line.{Line}
 use Rattle.mote_node.specs.Node.{Node, is_past}
-use Rattle.window_law.specs.Agenda.{moment_of, mote_of}
-use Rattle.window_law.specs.NetStep.{NetState}
+use Rattle.window_laws.specs.Agenda.{moment_of, mote_of}
+use Rattle.window_laws.specs.NetStep.{NetState}
 
 -- the mote has not failed, and its last turn was before this moment
 abbrev pub CanTurn : (moment : ℕ) → Option Node → Type 0

@@ -6,8 +6,8 @@ use Rattle.kernel_laws.specs.Stamps.{AreNumberedFrom}
 use Rattle.mote_laws.specs.Stamps.{NeverGoBack}
 use Rattle.mote_net.specs.Net.{NetTold}
 use Rattle.net_report.specs.Report.{ReportTold}
-use Rattle.window_law.specs.System.{System}
-use Rattle.window_law.specs.NetStep.{NetState, Run, Done, Turn, sends_of, turned_at}
+use Rattle.window_laws.specs.System.{System}
+use Rattle.window_laws.specs.NetStep.{NetState, Run, Done, Turn, sends_of, turned_at}
 use Rattle.serial_run.specs.NetRun.{IsReportOf}
 
 -- no line of a trace is of an earlier moment than one before it

@@ -13,11 +13,11 @@ use Rattle.mote_node.specs.Wake.{wake_of}
 use Rattle.mote_net.specs.Net.{NetTold}
 use Rattle.net_report.specs.Report.{told_line}
 use Rattle.serial_run.specs.declared.engine.Engine.{Engine}
-use Rattle.window_law.specs.Agenda.{mote_of, is_wake_of, wake_items}
+use Rattle.window_laws.specs.Agenda.{mote_of, is_wake_of, wake_items}
 use Rattle.net_agenda.specs.Buckets.{Holds}
 use Rattle.net_agenda.specs.NetSystem.{tree_at}
 use Rattle.serial_run.specs.NetRun.{packet_with_fates}
-use Rattle.window_law.specs.NetStep.{NetState}
+use Rattle.window_laws.specs.NetStep.{NetState}
 use Rattle.program_tree.specs.Code as code
 
 abbrev pub OneNode : NetTold → List Mote → NetState Node Line → (mote : ℕ) → Type 0

@@ -10,7 +10,7 @@ ghost use Rattle.trace_lines.specs.declared.line.Line.{Line};
 ghost use Rattle.mote_net.specs.Net.{net_of};
 ghost use Rattle.net_agenda.specs.Buckets.{wake_but_at};
 ghost use Rattle.net_agenda.specs.NetSystem.{system_of, first_node_in, tree_at};
-ghost use Rattle.window_law.specs.NetStep.{NetState, turn_at, boot};
+ghost use Rattle.window_laws.specs.NetStep.{NetState, turn_at, boot};
 ghost use Rattle.serial_run.specs.OnTime.{CanTurn};
 ghost use Rattle.serial_run.specs.Stands.{StandsAt, IsWhole, KeepsWakes, OneTakesTurn};
 

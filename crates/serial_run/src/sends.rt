@@ -3,11 +3,11 @@
 ghost use Rattle.std.specs.Prelude.{◌≡◌, ◌<◌, ◌≤◌, ◌^◌, [], ◌∷◌, ◌++◌, length, map, OnOk};
 ghost use Rattle.std.specs.List.{flat_map};
 ghost use Rattle.radio_medium.specs.Medium.{copies};
-ghost use Rattle.window_law.specs.Agenda.{Packet};
+ghost use Rattle.window_laws.specs.Agenda.{Packet};
 ghost use Rattle.net_agenda.specs.Changes.{Adds};
 ghost use Rattle.net_report.specs.Report.{told_line};
 ghost use Rattle.serial_run.specs.NetRun.{packet_with_fates};
-ghost use Rattle.window_law.specs.NetStep.{stamped};
+ghost use Rattle.window_laws.specs.NetStep.{stamped};
 
 use net_agenda::Agenda;
 use net_report::LogLine;

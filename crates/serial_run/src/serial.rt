@@ -6,7 +6,7 @@ ghost use Rattle.mote_net.specs.Net.{net_of};
 ghost use Rattle.net_agenda.specs.NetSystem.{system_of};
 ghost use Rattle.net_report.specs.Report.{report_of};
 ghost use Rattle.serial_run.specs.NetRun.{IsReportOf};
-ghost use Rattle.window_law.specs.NetStep.{boot};
+ghost use Rattle.window_laws.specs.NetStep.{boot};
 ghost use Rattle.serial_run.specs.Stands.{StandsAt, IsWhole};
 ghost use Rattle.serial_run.specs.Ended.{HasEnded};
 

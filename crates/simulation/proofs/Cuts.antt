@@ -6,9 +6,9 @@ use Rattle.std.proofs.Math.Nat.{div-lt_iff_lt-mul, mul-lt-mul_of_pos_right, mul_
 use Rattle.std.proofs.lemmas.Bool.{lt-ltb, le-ltb, eq-eqb, ne_eqb}
 use Rattle.std.proofs.lemmas.List.{length-map, length-append}
 use Rattle.std.proofs.lemmas.Nat.{mod_below}
-use Rattle.window_law.specs.Agenda.{up_to}
-use Rattle.window_law.proofs.Agenda.{below_all}
-use Rattle.window_law.proofs.Lists.{every_map, every_weaker}
+use Rattle.window_laws.specs.Agenda.{up_to}
+use Rattle.window_laws.proofs.Agenda.{below_all}
+use Rattle.window_laws.proofs.Lists.{every_map, every_weaker}
 use Rattle.worker_cut.specs.Cut.{block_cut, stripe_cut}
 use Rattle.window_workers.specs.Fits.{cut_fault}
 use Rattle.simulation.specs.Simulation.{MayWork}

@@ -6,9 +6,9 @@ use Rattle.std.proofs.lemmas.Bool.Decides.{nat_tests}
 use Rattle.mote_node.specs.Turn.{turn_of}
 use Rattle.mote_node.proofs.WakeLaws.{wakes_later}
 use Rattle.radio_packet.specs.declared.copy.RadioCopy.{RadioCopy}
-use Rattle.window_law.specs.Order.{in_order}
-use Rattle.window_law.specs.System.{IsLater}
-use Rattle.window_law.specs.Windows.{is_at, WakesFrom, IsQuiet}
+use Rattle.window_laws.specs.Order.{in_order}
+use Rattle.window_laws.specs.System.{IsLater}
+use Rattle.window_laws.specs.Windows.{is_at, WakesFrom, IsQuiet}
 use Rattle.net_agenda.specs.Buckets.{arrival_of}
 use Rattle.window_run.specs.Laws.{NoTurnIsPast}
 use Rattle.window_run.proofs.Ends.{not_before}

@@ -8,11 +8,11 @@ use Rattle.mote_node.specs.Node.{Node}
 use Rattle.mote_node.specs.Wake.{wake_of}
 use Rattle.mote_node.specs.Turn.{turn_of}
 use Rattle.radio_packet.specs.declared.copy.RadioCopy.{RadioCopy}
-use Rattle.window_law.specs.NetStep.{sends_of}
-use Rattle.window_law.specs.Order.{in_order}
-use Rattle.window_law.specs.System.{System, Turned}
-use Rattle.window_law.specs.Windows.{is_at, Alone}
-use Rattle.window_law.specs.Windows.Alone.{Rests, Turns}
+use Rattle.window_laws.specs.NetStep.{sends_of}
+use Rattle.window_laws.specs.Order.{in_order}
+use Rattle.window_laws.specs.System.{System, Turned}
+use Rattle.window_laws.specs.Windows.{is_at, Alone}
+use Rattle.window_laws.specs.Windows.Alone.{Rests, Turns}
 use Rattle.net_agenda.specs.Buckets.{arrival_of}
 use Rattle.net_agenda.specs.NetSystem.{node_turn}
 use Rattle.window_run.specs.Laws.{with_earlier, EarlierStaysInFront, EndsWithItsWake}

@@ -5,10 +5,10 @@ use Rattle.std.proofs.lemmas.Bool.{cases_Bool, eqb-true, false≢true}
 use Rattle.trace_lines.specs.declared.line.Line.{Line}
 use Rattle.mote_node.specs.Node.{Node}
 use Rattle.radio_packet.specs.declared.copy.RadioCopy.{RadioCopy}
-use Rattle.window_law.specs.Order.{in_order}
-use Rattle.window_law.specs.System.{System}
-use Rattle.window_law.specs.Windows.{LoneMote, own_turn, is_at, wakes_at, IsQuiet, Alone}
-use Rattle.window_law.specs.Windows.Alone.{Rests, Turns}
+use Rattle.window_laws.specs.Order.{in_order}
+use Rattle.window_laws.specs.System.{System}
+use Rattle.window_laws.specs.Windows.{LoneMote, own_turn, is_at, wakes_at, IsQuiet, Alone}
+use Rattle.window_laws.specs.Windows.Alone.{Rests, Turns}
 use Rattle.net_agenda.specs.NetSystem.{node_turn}
 use Rattle.window_run.specs.Laws.{EndIsOne}
 

@@ -3,7 +3,7 @@ use Rattle.std.proofs.Common.{◌≡◌, ℕ, zero, suc, ◌+◌, ◌<◌, Bool,
 use Rattle.std.specs.List.{take_while, AllByRecursion}
 use Rattle.std.proofs.lemmas.List.{take_more}
 use Rattle.std.proofs.lemmas.List.Sums.{take_while-cons}
-use Rattle.window_law.proofs.Lists.{every_append}
+use Rattle.window_laws.proofs.Lists.{every_append}
 
 module _ {X : Type 0} (p : X → Bool) where
   abbrev pub Pass : List X → Type 0

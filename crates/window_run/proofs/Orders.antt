@@ -7,9 +7,9 @@ use Rattle.std.proofs.lemmas.Bool.Decides.{nat_tests}
 use Rattle.std.proofs.lemmas.List.Sums.{take_while-cons}
 use Rattle.radio_packet.specs.declared.arrival.Arrival.{Arrival}
 use Rattle.radio_packet.specs.declared.copy.RadioCopy.{RadioCopy}
-use Rattle.window_law.proofs.Lists.{filter_none, filter_every, every_weaker, every_filter}
-use Rattle.window_law.specs.Order.{is_before, insert_by, sorted_by, in_order}
-use Rattle.window_law.specs.Windows.{is_at, WakesFrom, IsQuiet}
+use Rattle.window_laws.proofs.Lists.{filter_none, filter_every, every_weaker, every_filter}
+use Rattle.window_laws.specs.Order.{is_before, insert_by, sorted_by, in_order}
+use Rattle.window_laws.specs.Windows.{is_at, WakesFrom, IsQuiet}
 use Rattle.net_agenda.specs.Buckets.{arrival_of}
 use Rattle.window_run.specs.Window.{IsNextOf, comes_before, is_rising}
 

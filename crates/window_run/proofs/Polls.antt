@@ -9,10 +9,10 @@ use Rattle.mote_node.specs.declared.mote.MoteError.TheVariants.{Memory}
 use Rattle.mote_node.specs.Node.{Node}
 use Rattle.mote_laws.proofs.Stamps.{turns_stamp}
 use Rattle.radio_packet.specs.declared.copy.RadioCopy.{RadioCopy}
-use Rattle.window_law.specs.Order.{in_order}
-use Rattle.window_law.specs.System.{Turned}
-use Rattle.window_law.specs.Windows.{after_own, is_at, Alone}
-use Rattle.window_law.specs.Windows.Alone.{Rests, Turns}
+use Rattle.window_laws.specs.Order.{in_order}
+use Rattle.window_laws.specs.System.{Turned}
+use Rattle.window_laws.specs.Windows.{after_own, is_at, Alone}
+use Rattle.window_laws.specs.Windows.Alone.{Rests, Turns}
 use Rattle.net_agenda.specs.Buckets.{arrival_of}
 use Rattle.window_run.specs.declared.out.WindowOut.{WindowOut}
 use Rattle.window_run.specs.Window.{Window, LoneNode, HasTurn, IsOver, window_after_turn, EndsAs, number_of}

@@ -13,9 +13,9 @@ use Rattle.mote_node.specs.Public.{turn_told}
 use Rattle.mote_node.specs.Turn.{turn_of}
 use Rattle.mote_laws.proofs.Stamps.{turns_stamp}
 use Rattle.radio_packet.specs.declared.copy.RadioCopy.{RadioCopy}
-use Rattle.window_law.specs.Order.{in_order}
-use Rattle.window_law.specs.NetStep.{stamped}
-use Rattle.window_law.specs.Windows.{is_at}
+use Rattle.window_laws.specs.Order.{in_order}
+use Rattle.window_laws.specs.NetStep.{stamped}
+use Rattle.window_laws.specs.Windows.{is_at}
 use Rattle.program_tree.specs.Program.{tree_of}
 use Rattle.mote_node.specs.Public.{node_in}
 use Rattle.net_agenda.specs.Buckets.{arrival_of}

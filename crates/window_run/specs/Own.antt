@@ -7,7 +7,7 @@ use Rattle.radio_packet.specs.declared.sent.Sent.{Sent}
 use Rattle.mote_node.specs.Node.{Node}
 use Rattle.mote_node.specs.Public.{node_in, wake_in}
 use Rattle.radio_packet.specs.declared.copy.RadioCopy.{RadioCopy}
-use Rattle.window_law.specs.Windows.{IsQuiet}
+use Rattle.window_laws.specs.Windows.{IsQuiet}
 use Rattle.window_run.specs.declared.out.WindowOut.{WindowOut}
 use Rattle.window_run.specs.declared.own.OwnWindow.{OwnWindow}
 use Rattle.window_run.specs.Window.{Window, IsNextOf}

@@ -6,9 +6,9 @@ use Rattle.trace_lines.specs.declared.line.Line.{Line}
 use Rattle.mote_node.specs.Node.{Node}
 use Rattle.mote_node.specs.Wake.{wake_of}
 use Rattle.radio_packet.specs.declared.copy.RadioCopy.{RadioCopy}
-use Rattle.window_law.specs.System.{System}
-use Rattle.window_law.specs.Order.{in_order}
-use Rattle.window_law.specs.Windows.{LoneMote, after_own, is_at, wakes_at, IsQuiet, Alone}
+use Rattle.window_laws.specs.System.{System}
+use Rattle.window_laws.specs.Order.{in_order}
+use Rattle.window_laws.specs.Windows.{LoneMote, after_own, is_at, wakes_at, IsQuiet, Alone}
 use Rattle.net_agenda.specs.NetSystem.{node_turn}
 
 -- a mote in its window: its node and its wake, with the lines and packets of the window so far

@@ -5,7 +5,7 @@ ghost use Rattle.std.specs.Prelude.{IfErr, IfSome, MatchOption, OnOk, None, []};
 ghost use Rattle.std.specs.List.{take_while};
 ghost use Rattle.program_tree.specs.Program.{tree_of};
 ghost use Rattle.mote_node.specs.Public.{node_in};
-ghost use Rattle.window_law.specs.Windows.{is_at};
+ghost use Rattle.window_laws.specs.Windows.{is_at};
 ghost use Rattle.net_agenda.specs.Buckets.{arrival_of};
 ghost use Rattle.window_run.specs.Window.{Window, HasTurn, IsOver, IsNextOf, is_rising, opened};
 

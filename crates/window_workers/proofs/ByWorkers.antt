@@ -11,21 +11,21 @@ use Rattle.radio_medium.specs.Medium.{medium_fault}
 use Rattle.mote_net.specs.Net.{NetTold}
 use Rattle.net_agenda.specs.NetSystem.{system_of}
 use Rattle.net_agenda.proofs.Systems.{system_is}
-use Rattle.window_law.specs.Agenda.{up_to}
-use Rattle.window_law.specs.System.{RunsForward}
-use Rattle.window_law.specs.Windows.{as_log}
-use Rattle.window_law.proofs.Agenda.{below_all}
-use Rattle.window_law.proofs.Lists.{every_map, every_weaker}
-use Rattle.window_law.proofs.Pending.{pending_left}
-use Rattle.window_law.proofs.Unique.{run_is_one}
+use Rattle.window_laws.specs.Agenda.{up_to}
+use Rattle.window_laws.specs.System.{RunsForward}
+use Rattle.window_laws.specs.Windows.{as_log}
+use Rattle.window_laws.proofs.Agenda.{below_all}
+use Rattle.window_laws.proofs.Lists.{every_map, every_weaker}
+use Rattle.window_laws.proofs.Pending.{pending_left}
+use Rattle.window_laws.proofs.Unique.{run_is_one}
 use Rattle.copy_inbox.specs.Handles.{TakerView}
 use Rattle.copy_exchange.specs.Desks.{taken_by, gathered_by}
 use Rattle.worker_cut.proofs.Carried.{carried}
 use Rattle.worker_cut.proofs.Windows.{coming, coming_pending, senders}
-use Rattle.worker_share.specs.declared.share.Ended.{Ended}
-use Rattle.worker_crew.specs.declared.crew.Crew.{Crew}
-use Rattle.worker_crew.specs.Crew.{IsAt, IsWorkerAt}
-use Rattle.worker_crew.proofs.Lookups.{there, read, zip_inside, zip_long}
+use Rattle.worker_window.specs.declared.share.Ended.{Ended}
+use Rattle.joined_workers.specs.declared.crew.Crew.{Crew}
+use Rattle.joined_workers.specs.Crew.{IsAt, IsWorkerAt}
+use Rattle.joined_workers.proofs.Lookups.{there, read, zip_inside, zip_long}
 use Rattle.net_report.specs.declared.Report.{Report}
 use Rattle.net_report.specs.Report.{Packet, ReportTold, lines_in, told_line, report_of}
 use Rattle.window_workers.specs.Carried.{Pair, packets_told, HasCarried, AllCarried}

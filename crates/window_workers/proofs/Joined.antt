@@ -10,28 +10,28 @@ use Rattle.radio_packet.specs.declared.sent.Sent.{Sent}
 use Rattle.radio_packet.specs.declared.copy.RadioCopy.{RadioCopy}
 use Rattle.mote_net.specs.Net.{NetTold}
 use Rattle.net_agenda.specs.NetSystem.{system_of}
-use Rattle.window_law.specs.Agenda.{up_to}
-use Rattle.window_law.specs.NetStep.{NetState, Run, Done, Turn, stamped, turned_at}
-use Rattle.window_law.specs.Report.{IsReport}
-use Rattle.window_law.specs.System.{System, RunsForward}
-use Rattle.window_law.specs.Windows.{is_sent_by, IsJoined, as_log, sends_by, copies_by}
-use Rattle.window_law.proofs.Lists.{every_append, every_both, every_filter, every_flat_map, every_passes, every_weaker}
-use Rattle.window_law.proofs.Order.{sorted_permutes}
+use Rattle.window_laws.specs.Agenda.{up_to}
+use Rattle.window_laws.specs.NetStep.{NetState, Run, Done, Turn, stamped, turned_at}
+use Rattle.window_laws.specs.Report.{IsReport}
+use Rattle.window_laws.specs.System.{System, RunsForward}
+use Rattle.window_laws.specs.Windows.{is_sent_by, IsJoined, as_log, sends_by, copies_by}
+use Rattle.window_laws.proofs.Lists.{every_append, every_both, every_filter, every_flat_map, every_passes, every_weaker}
+use Rattle.window_laws.proofs.Order.{sorted_permutes}
 use Rattle.copy_inbox.specs.Handles.{TakerView}
 use Rattle.copy_exchange.specs.Desks.{taken_by, gathered_by}
 use Rattle.worker_cut.specs.Crossed.{is_own, is_to}
 use Rattle.worker_cut.proofs.Counts.{IsHad, by_worker, total}
 use Rattle.worker_cut.proofs.Windows.{at_the_end, coming, receivers}
-use Rattle.worker_share.specs.declared.share.Share.{Share}
-use Rattle.worker_share.specs.declared.share.Ended.{Ended}
-use Rattle.worker_share.specs.Ended.{TellsAtEnd}
-use Rattle.worker_crew.specs.declared.crew.Crew.{Crew}
-use Rattle.worker_crew.specs.Crew.{IsAt, IsWorkerAt}
-use Rattle.worker_crew.proofs.Lookups.{there, inside, read, beside, as_long, none_of, one_of}
-use Rattle.worker_crew.proofs.Step.{own_by, some_worker}
+use Rattle.worker_window.specs.declared.share.Share.{Share}
+use Rattle.worker_window.specs.declared.share.Ended.{Ended}
+use Rattle.worker_window.specs.Ended.{TellsAtEnd}
+use Rattle.joined_workers.specs.declared.crew.Crew.{Crew}
+use Rattle.joined_workers.specs.Crew.{IsAt, IsWorkerAt}
+use Rattle.joined_workers.proofs.Lookups.{there, inside, read, beside, as_long, none_of, one_of}
+use Rattle.joined_workers.proofs.Step.{own_by, some_worker}
 use Rattle.net_report.specs.Report.{lines_in}
 use Rattle.window_workers.specs.Carried.{Pair}
-use Rattle.worker_share.specs.Log.{HaveFates, packets_in}
+use Rattle.worker_window.specs.Log.{HaveFates, packets_in}
 use Rattle.window_workers.specs.Over.{TellsWhatItKept, lines_of, logs_of, AreTracesOf}
 use Rattle.window_workers.proofs.Pairs.{beyond, each_permutes, same_found}
 use Rattle.serial_run.proofs.Reports.{family}

@@ -7,18 +7,18 @@ use Rattle.std.proofs.lemmas.List.Elements.{filter-append}
 use Rattle.std.proofs.lemmas.List.Sorted.{length_permutation}
 use Rattle.radio_packet.specs.declared.copy.RadioCopy.{RadioCopy}
 use Rattle.mote_net.specs.Net.{NetTold}
-use Rattle.window_law.specs.System.{RunsForward}
-use Rattle.window_law.specs.Windows.{first_mote, Windows, WakesFrom, is_from_sender}
-use Rattle.window_law.proofs.Lists.{filter_filter, filter_none, every_weaker}
+use Rattle.window_laws.specs.System.{RunsForward}
+use Rattle.window_laws.specs.Windows.{first_mote, Windows, WakesFrom, is_from_sender}
+use Rattle.window_laws.proofs.Lists.{filter_filter, filter_none, every_weaker}
 use Rattle.net_agenda.specs.NetSystem.{system_of}
 use Rattle.copy_inbox.specs.Handles.{TakerView}
 use Rattle.copy_exchange.specs.Desks.{taken_by, gathered_by}
 use Rattle.worker_cut.specs.Crossed.{is_own, is_to, copies_known}
 use Rattle.worker_cut.proofs.Windows.{coming}
-use Rattle.worker_share.specs.declared.share.Share.{Share}
-use Rattle.worker_share.specs.Share.{Motes, is_to_come}
-use Rattle.worker_crew.specs.Crew.{IsWorkerAt}
-use Rattle.worker_crew.proofs.Waiting.{same_copies, rest_later, waiting, gathered_is, to_come_is}
+use Rattle.worker_window.specs.declared.share.Share.{Share}
+use Rattle.worker_window.specs.Share.{Motes, is_to_come}
+use Rattle.joined_workers.specs.Crew.{IsWorkerAt}
+use Rattle.joined_workers.proofs.Waiting.{same_copies, rest_later, waiting, gathered_is, to_come_is}
 use Rattle.serial_run.specs.Counted.{is_by}
 
 is_late : (end at : ℕ) → suc end ≤ at → not (ltb end at) ≡ false

@@ -7,12 +7,12 @@ use Rattle.trace_lines.specs.declared.line.Line.{Line}
 use Rattle.radio_packet.specs.declared.sent.Sent.{Sent}
 use Rattle.radio_packet.specs.declared.copy.RadioCopy.{RadioCopy}
 use Rattle.mote_net.specs.Net.{NetTold}
-use Rattle.window_law.specs.Order.{is_sooner}
-use Rattle.worker_share.specs.declared.share.Share.{Share}
-use Rattle.worker_share.specs.declared.share.Ended.{Ended}
-use Rattle.worker_share.specs.Share.{Motes, Keeps}
-use Rattle.worker_share.specs.Ended.{TellsAtEnd}
-use Rattle.worker_share.specs.Log.{packets_in}
+use Rattle.window_laws.specs.Order.{is_sooner}
+use Rattle.worker_window.specs.declared.share.Share.{Share}
+use Rattle.worker_window.specs.declared.share.Ended.{Ended}
+use Rattle.worker_window.specs.Share.{Motes, Keeps}
+use Rattle.worker_window.specs.Ended.{TellsAtEnd}
+use Rattle.worker_window.specs.Log.{packets_in}
 use Rattle.net_report.specs.declared.LogLine.{LogLine}
 use Rattle.net_report.specs.Report.{Packet}
 use Rattle.serial_run.specs.NetRun.{packet_with_fates}

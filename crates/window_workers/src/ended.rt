@@ -9,7 +9,7 @@ ghost use Rattle.window_workers.specs.Over.{TellsWhatItKept};
 use copy_exchange::known;
 use copy_inbox::{Inbox, Taker};
 use std::alloc::{AllocError, Global};
-use worker_share::{Ended, Share};
+use worker_window::{Ended, Share};
 
 /// Takes the shares of all workers apart.
 pub fn end_all(alloc: Global, shares: Vec<Share>) -> Result<Vec<Ended>, AllocError>

@@ -2,13 +2,13 @@
 
 ghost use Rattle.std.specs.Prelude.{ℕ, ◌≡◌, ◌<◌, length, slice_index_or, IfOk};
 ghost use Rattle.std.specs.List.{AllByRecursion as Each};
-ghost use Rattle.worker_share.specs.declared.share.Ended.{Ended as EndedOfCode};
+ghost use Rattle.worker_window.specs.declared.share.Ended.{Ended as EndedOfCode};
 ghost use Rattle.window_workers.specs.Over.{TakesTrace, AreTracesOf};
 
 use process_kernel::Line;
 use std::alloc::{AllocError, Global};
 use std::mem;
-use worker_share::Ended;
+use worker_window::Ended;
 
 /// Takes the trace of a mote from its worker.
 fn take_trace(alloc: Global, ended: &mut Vec<Ended>, worker: usize, mote: usize) -> Vec<Line>

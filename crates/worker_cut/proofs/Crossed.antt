@@ -6,9 +6,9 @@ use Rattle.std.proofs.lemmas.Bool.{cases_Bool, false≢true, eqb-true}
 use Rattle.std.proofs.lemmas.Bool.Decides.{nat_tests}
 use Rattle.std.proofs.lemmas.List.Elements.{filter-append}
 use Rattle.radio_packet.specs.declared.copy.RadioCopy.{RadioCopy}
-use Rattle.window_law.specs.System.{System}
-use Rattle.window_law.specs.Windows.{LoneMote, copies_by, is_at, is_from_sender, is_within, IsInbox}
-use Rattle.window_law.proofs.Lists.{filter_stronger}
+use Rattle.window_laws.specs.System.{System}
+use Rattle.window_laws.specs.Windows.{LoneMote, copies_by, is_at, is_from_sender, is_within, IsInbox}
+use Rattle.window_laws.proofs.Lists.{filter_stronger}
 use Rattle.worker_cut.specs.Crossed.{is_own, is_to, leaves, crossed, copies_known}
 
 and_left : (a b : Bool) → (a && b) ≡ true → a ≡ true

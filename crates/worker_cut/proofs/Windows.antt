@@ -4,16 +4,16 @@ use Rattle.std.specs.List.{filter, flat_map, AllByRecursion}
 use Rattle.std.proofs.lemmas.Bool.{cases_Bool, ltb-true, ltb-false, not-true}
 use Rattle.radio_packet.specs.declared.copy.RadioCopy.{RadioCopy}
 use Rattle.radio_packet.specs.declared.sent.Sent.{Sent}
-use Rattle.window_law.specs.System.{System, RunsForward}
-use Rattle.window_law.specs.Agenda.{up_to}
-use Rattle.window_law.specs.Pending.{comes_from, IsPending}
-use Rattle.window_law.specs.Report.{IsReport}
-use Rattle.window_law.specs.Windows.{LoneMote, first_mote, Windows, Last, Window, RunsAlone, WakesFrom, copies_by, is_from_sender, IsJoined, as_log}
-use Rattle.window_law.proofs.Lists.{filter_filter, every_weaker, every_flat_map, every_filter}
-use Rattle.window_law.proofs.Pending.{gap, pending_left}
-use Rattle.window_law.proofs.History.{history}
-use Rattle.window_law.proofs.Alone.{by_windows, own_copies, from_pieces}
-use Rattle.window_law.proofs.Commute.{windows_report}
+use Rattle.window_laws.specs.System.{System, RunsForward}
+use Rattle.window_laws.specs.Agenda.{up_to}
+use Rattle.window_laws.specs.Pending.{comes_from, IsPending}
+use Rattle.window_laws.specs.Report.{IsReport}
+use Rattle.window_laws.specs.Windows.{LoneMote, first_mote, Windows, Last, Window, RunsAlone, WakesFrom, copies_by, is_from_sender, IsJoined, as_log}
+use Rattle.window_laws.proofs.Lists.{filter_filter, every_weaker, every_flat_map, every_filter}
+use Rattle.window_laws.proofs.Pending.{gap, pending_left}
+use Rattle.window_laws.proofs.History.{history}
+use Rattle.window_laws.proofs.Alone.{by_windows, own_copies, from_pieces}
+use Rattle.window_laws.proofs.Commute.{windows_report}
 
 pub windows_then : {S L : Type 0} {system : System S L} (from bound end : ℕ) (motes next last : ℕ → LoneMote S L)
     → Windows system from bound motes next → Windows system bound end next last → Windows system from end motes last

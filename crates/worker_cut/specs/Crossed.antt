@@ -3,8 +3,8 @@ use Rattle.std.specs.Prelude.{ℕ, Bool, false, not, ◌==◌, if◌then◌else�
 use Rattle.std.specs.List.{filter, slice_get}
 use Rattle.std.specs.Option.{option_map_or}
 use Rattle.radio_packet.specs.declared.copy.RadioCopy.{RadioCopy}
-use Rattle.window_law.specs.System.{System}
-use Rattle.window_law.specs.Windows.{LoneMote, copies_by, is_from_sender}
+use Rattle.window_laws.specs.System.{System}
+use Rattle.window_laws.specs.Windows.{LoneMote, copies_by, is_from_sender}
 
 -- this worker has this mote
 abbrev pub is_own : (of : List ℕ) → (worker mote : ℕ) → Bool

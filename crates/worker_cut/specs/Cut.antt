@@ -1,6 +1,6 @@
 -- Cuts of the motes among the workers.
 use Rattle.std.specs.Prelude.{ℕ, ◌*◌, ◌/◌, ◌%◌, List, map}
-use Rattle.window_law.specs.Agenda.{up_to}
+use Rattle.window_laws.specs.Agenda.{up_to}
 
 -- blocks of motes that follow one another
 abbrev pub block_cut : (motes workers : ℕ) → List ℕ

@@ -1,6 +1,6 @@
 //! Laws of what crosses between workers. Each is the contract of a function that does nothing.
 
-ghost use Rattle.window_law.specs.System.{System};
+ghost use Rattle.window_laws.specs.System.{System};
 ghost use Rattle.worker_cut.specs.Laws.{InboxIsWhole, CrossedOnce};
 
 /// A mote's inbox for a window, made of what its worker's own motes sent and of what the worker took of all that crossed to it,

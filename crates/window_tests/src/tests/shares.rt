@@ -8,7 +8,7 @@ use net_scenario::{Net, read_scenario};
 use radio_packet::RadioCopy;
 use std::alloc::{AllocError, Global};
 use std::test::Fail;
-use worker_share::Share;
+use worker_window::Share;
 
 /// Two motes.
 const TWO_MOTES: &str = "\

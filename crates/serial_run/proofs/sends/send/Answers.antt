@@ -2,7 +2,7 @@ use Rattle.std.proofs.Common.{◌∙◌, subst, ◌++◌, List, map}
 use Rattle.std.specs.List.{filter_map}
 use Rattle.radio_medium.specs.Medium.{copies, copy_of}
 use Rattle.radio_packet.specs.declared.fate.Fate.{Fate}
-use Rattle.window_law.specs.Agenda.{Packet}
+use Rattle.window_laws.specs.Agenda.{Packet}
 use Rattle.net_agenda.specs.Buckets.{Holds}
 use Rattle.serial_run.proofs.sends.send.Goals as goal
 

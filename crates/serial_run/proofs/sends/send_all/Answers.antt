@@ -1,10 +1,10 @@
 use Rattle.std.proofs.Common.{subst, map}
 use Rattle.radio_medium.specs.Medium.{copies}
-use Rattle.window_law.specs.Agenda.{Packet}
+use Rattle.window_laws.specs.Agenda.{Packet}
 use Rattle.net_agenda.specs.Buckets.{Holds}
 use Rattle.net_report.specs.Report.{told_line}
 use Rattle.serial_run.specs.NetRun.{packet_with_fates}
-use Rattle.window_law.specs.NetStep.{stamped}
+use Rattle.window_laws.specs.NetStep.{stamped}
 use Rattle.serial_run.proofs.SentOut.{sends_more, log_step}
 use Rattle.serial_run.proofs.sends.send_all.Goals as goal
 

@@ -1,11 +1,11 @@
 use Rattle.std.proofs.Common.{◌≡◌, ◌++◌, List, map, take}
 use Rattle.std.specs.List.{flat_map}
 use Rattle.radio_medium.specs.Medium.{copies}
-use Rattle.window_law.specs.Agenda.{Item, Packet}
+use Rattle.window_laws.specs.Agenda.{Item, Packet}
 use Rattle.net_agenda.specs.Buckets.{Holds}
 use Rattle.net_report.specs.Report.{told_line}
 use Rattle.serial_run.specs.NetRun.{packet_with_fates}
-use Rattle.window_law.specs.NetStep.{stamped}
+use Rattle.window_laws.specs.NetStep.{stamped}
 use Rattle.serial_run.proofs.sends.send_all.Given as goal
 
 abbrev pub invariant-loop-sent : goal.invariant-loop-sent

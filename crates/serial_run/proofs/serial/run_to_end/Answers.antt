@@ -3,8 +3,8 @@ use Rattle.mote_net.specs.Net.{net_of}
 use Rattle.radio_medium.specs.Medium.{Radio, medium_fault}
 use Rattle.net_agenda.specs.Buckets.{first_key}
 use Rattle.net_agenda.specs.NetSystem.{system_of}
-use Rattle.window_law.specs.NetStep.{turn_at}
-use Rattle.window_law.proofs.Ahead.{turn_ahead}
+use Rattle.window_laws.specs.NetStep.{turn_at}
+use Rattle.window_laws.proofs.Ahead.{turn_ahead}
 use Rattle.net_agenda.proofs.Ranks.{left_falls}
 use Rattle.net_agenda.proofs.Systems.{system_is}
 use Rattle.serial_run.proofs.OnTime.{least_can_turn}

@@ -1,5 +1,5 @@
 use Rattle.std.proofs.Common.{◌≡◌, map, take}
-use Rattle.window_law.specs.Windows.{is_at}
+use Rattle.window_laws.specs.Windows.{is_at}
 use Rattle.net_agenda.specs.Buckets.{arrival_of}
 use Rattle.window_run.proofs.Fronts.{Pass}
 use Rattle.window_run.proofs.own.take_arrivals.Given as goal

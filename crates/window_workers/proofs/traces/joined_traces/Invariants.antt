@@ -1,7 +1,7 @@
 use Rattle.std.proofs.Common.{◌≡◌, ℕ, ◌<◌, ◌≤◌, length, slice_index, slice_index_or, Vec}
 use Rattle.std.specs.declared.alloc.Global.{Global}
 use Rattle.trace_lines.specs.declared.line.Line.{Line}
-use Rattle.worker_share.specs.declared.share.Ended.{Ended}
+use Rattle.worker_window.specs.declared.share.Ended.{Ended}
 use Rattle.window_workers.specs.Over.{trace_at}
 use Rattle.window_workers.proofs.traces.joined_traces.Given as goal
 

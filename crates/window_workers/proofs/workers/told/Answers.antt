@@ -5,7 +5,7 @@ use Rattle.net_agenda.proofs.Systems.{system_is}
 use Rattle.radio_medium.specs.Medium.{Radio, medium_fault}
 use Rattle.copy_exchange.specs.Desks.{taken_by, gathered_by}
 use Rattle.copy_exchange.specs.Inboxes.{IsSettled}
-use Rattle.worker_share.specs.declared.share.Ended.{Ended}
+use Rattle.worker_window.specs.declared.share.Ended.{Ended}
 use Rattle.net_report.specs.declared.Report.{Report}
 use Rattle.net_report.specs.Report.{report_of}
 use Rattle.window_workers.specs.Carried.{Pair, AllCarried}

@@ -2,8 +2,8 @@ use Rattle.std.proofs.Common.{rules, ◌≡◌, ap, ◌∙◌, subst, sym, refl,
 use Rattle.std.specs.List.{filter}
 use Rattle.std.specs.Ordering.{nat_cmp}
 use Rattle.std.specs.BTreeMap.{get}
-use Rattle.window_law.specs.Agenda.{is_wake_of, wake_items}
-use Rattle.window_law.proofs.Lists.{filter_not}
+use Rattle.window_laws.specs.Agenda.{is_wake_of, wake_items}
+use Rattle.window_laws.proofs.Lists.{filter_not}
 use Rattle.net_agenda.specs.Buckets.{Buckets, Holds}
 use Rattle.net_agenda.proofs.Moments.{unwoken, none_unwoken, changed_left, changed_gone}
 use Rattle.net_agenda.proofs.agenda.Agenda.drop_wake.Goals as goal

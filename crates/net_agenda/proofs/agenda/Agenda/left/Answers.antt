@@ -1,5 +1,5 @@
 use Rattle.std.proofs.Common.{◌≡◌, ◌+◌, subst, sym, ap, ◌∙◌, length, length-append}
-use Rattle.window_law.specs.Agenda.{packets}
+use Rattle.window_laws.specs.Agenda.{packets}
 use Rattle.net_agenda.proofs.Items.{items_among}
 use Rattle.net_agenda.proofs.Left.{all_left, next_left}
 use Rattle.net_agenda.proofs.agenda.Agenda.left.Goals as goal

@@ -1,5 +1,5 @@
 use Rattle.std.proofs.Common.{◌≡◌, ◌+◌, List, length}
-use Rattle.window_law.specs.Agenda.{Item, packets}
+use Rattle.window_laws.specs.Agenda.{Item, packets}
 use Rattle.net_agenda.specs.Buckets.{Holds}
 use Rattle.net_agenda.proofs.Items.{items_among}
 use Rattle.net_agenda.proofs.agenda.Agenda.left.Given as goal

@@ -1,6 +1,6 @@
 use Rattle.std.proofs.Common.{◌++◌, ◌∙◌, sym, subst, not}
 use Rattle.std.specs.List.{filter}
-use Rattle.window_law.specs.Agenda.{is_wake_of, wake_items}
+use Rattle.window_laws.specs.Agenda.{is_wake_of, wake_items}
 use Rattle.net_agenda.specs.Buckets.{Holds}
 use Rattle.net_agenda.proofs.Woken.{rewoken, same_wake}
 use Rattle.net_agenda.proofs.agenda.Agenda.move_wake.Goals as goal

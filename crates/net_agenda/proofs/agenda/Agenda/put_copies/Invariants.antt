@@ -1,5 +1,5 @@
 use Rattle.std.proofs.Common.{◌++◌, ◌-◌, ◌≤◌, List, length, map, take}
-use Rattle.window_law.specs.Agenda.{Item, Packet}
+use Rattle.window_laws.specs.Agenda.{Item, Packet}
 use Rattle.net_agenda.specs.Buckets.{Holds}
 use Rattle.net_agenda.proofs.agenda.Agenda.put_copies.Given as goal
 

@@ -1,7 +1,7 @@
 use Rattle.std.proofs.Common.{◌++◌, ◌-◌, ◌≤◌, List, length, map, take}
 use Rattle.std.specs.List.{filter_map}
 use Rattle.radio_medium.specs.Medium.{copy_of}
-use Rattle.window_law.specs.Agenda.{Item, Packet}
+use Rattle.window_laws.specs.Agenda.{Item, Packet}
 use Rattle.net_agenda.specs.Buckets.{Holds}
 use Rattle.net_agenda.proofs.agenda.Agenda.put_fates.Given as goal
 

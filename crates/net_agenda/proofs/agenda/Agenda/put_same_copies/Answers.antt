@@ -1,7 +1,7 @@
 use Rattle.std.proofs.Common.{rules, ◌≡◌, cond, ◌∷◌, ◌++◌, map, take, ap, ◌∙◌, subst, sym, refl, IsSome, Some, None}
 use Rattle.std.specs.Ordering.{nat_cmp, is_eq}
 use Rattle.std.specs.BTreeMap.{get}
-use Rattle.window_law.specs.Agenda.{Packet}
+use Rattle.window_laws.specs.Agenda.{Packet}
 use Rattle.net_agenda.specs.Buckets.{items_in, item_at}
 use Rattle.net_agenda.proofs.Runs.{if_all, put_many}
 use Rattle.net_agenda.proofs.agenda.Agenda.put_same_copies.Goals as goal

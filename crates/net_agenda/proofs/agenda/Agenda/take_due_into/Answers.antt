@@ -3,7 +3,7 @@ use Rattle.std.specs.List.{filter}
 use Rattle.std.specs.Ordering.{nat_cmp}
 use Rattle.std.specs.BTreeMap.{get}
 use Rattle.std.proofs.lemmas.Result.{on_ok_weaker}
-use Rattle.window_law.specs.Agenda.{comes_at}
+use Rattle.window_laws.specs.Agenda.{comes_at}
 use Rattle.net_agenda.specs.Buckets.{Buckets, Holds}
 use Rattle.net_agenda.proofs.Moments.{taken, none_taken, arrivals_found, none_found, changed_left, changed_gone}
 use Rattle.net_agenda.proofs.agenda.Agenda.take_due_into.Goals as goal

@@ -2,7 +2,7 @@ use Rattle.std.proofs.Common.{◌≡◌, ◌≢◌, ℕ, zero, suc, ◌+◌, ◌
 use Rattle.std.proofs.lemmas.Bool.Decides.{eqb_tells}
 use Rattle.std.specs.List.{AllByRecursion as Each}
 use Rattle.radio_packet.specs.declared.copy.RadioCopy.{RadioCopy}
-use Rattle.window_law.specs.Windows.{is_from_sender}
+use Rattle.window_laws.specs.Windows.{is_from_sender}
 use Rattle.worker_cut.specs.Crossed.{is_own}
 use Rattle.copy_exchange.specs.Couriers.{Leaves}
 use Rattle.copy_exchange.proofs.Lists.{each_map}

@@ -5,7 +5,7 @@ use Rattle.mote_node.specs.declared.mote.Mote.{Mote}
 use Rattle.mote_node.specs.Public.{node_in}
 use Rattle.trace_lines.specs.declared.line.Line.{Line}
 use Rattle.mote_net.specs.Net.{net_of}
-use Rattle.window_law.specs.Agenda.{Wake, up_to}
+use Rattle.window_laws.specs.Agenda.{Wake, up_to}
 use Rattle.net_agenda.specs.Buckets.{Holds}
 use Rattle.net_agenda.specs.NetSystem.{first_node_in, tree_at}
 use Rattle.serial_run.proofs.engine.Engine.boot.Given as goal

@@ -7,11 +7,11 @@ use Rattle.mote_node.specs.Public.{node_in, told_with, wake_in}
 use Rattle.mote_net.specs.Net.{net_of}
 use Rattle.radio_medium.specs.Medium.{Radio, copies}
 use Rattle.radio_packet.specs.declared.sent.Sent.{Sent}
-use Rattle.window_law.specs.Agenda.{Item, Packet, comes_at, is_wake_of, wake_items}
+use Rattle.window_laws.specs.Agenda.{Item, Packet, comes_at, is_wake_of, wake_items}
 use Rattle.net_agenda.specs.Buckets.{Holds}
 use Rattle.net_report.specs.Report.{told_line}
 use Rattle.serial_run.specs.NetRun.{packet_with_fates}
-use Rattle.window_law.specs.NetStep.{stamped}
+use Rattle.window_laws.specs.NetStep.{stamped}
 use Rattle.net_agenda.proofs.Systems.{tree_is}
 use Rattle.serial_run.specs.OnTime.{CanTurn}
 use Rattle.serial_run.proofs.Steps.{stands_turn, wake_to_drop, sent_of}

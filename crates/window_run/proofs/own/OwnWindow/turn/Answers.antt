@@ -4,7 +4,7 @@ use Rattle.std.proofs.lemmas.List.{drop-drop}
 use Rattle.program_tree.specs.Program.{tree_of}
 use Rattle.mote_node.specs.Public.{node_in, turn_told, told_with}
 use Rattle.mote_node.specs.Turn.{turn_of}
-use Rattle.window_law.specs.Windows.{is_at}
+use Rattle.window_laws.specs.Windows.{is_at}
 use Rattle.net_agenda.specs.Buckets.{arrival_of}
 use Rattle.window_run.specs.Own.{window_in}
 use Rattle.window_run.proofs.Orders.{is_rising-drop, rest_of}

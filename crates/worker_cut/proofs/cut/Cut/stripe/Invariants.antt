@@ -1,5 +1,5 @@
 use Rattle.std.proofs.Common.{◌≡◌}
-use Rattle.window_law.specs.Agenda.{up_to}
+use Rattle.window_laws.specs.Agenda.{up_to}
 use Rattle.std.specs.Prelude.{map, ◌%◌}
 use Rattle.worker_cut.proofs.cut.Cut.stripe.Given as goal
 

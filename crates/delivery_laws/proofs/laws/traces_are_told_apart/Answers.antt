@@ -1,0 +1,16 @@
+use Rattle.delivery_laws.proofs.StartsAndHalts.{others_broken}
+use Rattle.delivery_laws.proofs.Broken.{broken}
+use Rattle.delivery_laws.proofs.Whole.{pass, whole}
+use Rattle.delivery_laws.proofs.laws.traces_are_told_apart.Goals as goal
+
+pub returns-clause-whole : goal.returns-clause-whole
+returns-clause-whole c = whole
+
+pub returns-clause-broken : goal.returns-clause-broken
+returns-clause-broken c = broken
+
+pub returns-clause-unseen : goal.returns-clause-unseen
+returns-clause-unseen c = pass
+
+pub returns-clause-others : goal.returns-clause-others
+returns-clause-others c = others_broken

@@ -1,0 +1,14 @@
+use Rattle.std.specs.Prelude.{List}
+use Rattle.delivery_laws.specs.HandedOn.{Line, HandedOn}
+use Rattle.delivery_laws.specs.StartsAndHalts.{HaltIsLast, StartsTheUnlisted}
+use Rattle.delivery_laws.specs.Delivery.{IsTrace}
+
+-- whatever is started, posted, left and halted, and when
+abbrev pub DeliveryHandsOn : Type 0
+DeliveryHandsOn = (lines : List Line) → IsTrace lines → HandedOn lines
+
+abbrev pub DeliveryHaltsLast : Type 0
+DeliveryHaltsLast = (lines : List Line) → IsTrace lines → HaltIsLast lines
+
+abbrev pub DeliveryStartsTheUnlisted : Type 0
+DeliveryStartsTheUnlisted = (lines : List Line) → IsTrace lines → StartsTheUnlisted lines

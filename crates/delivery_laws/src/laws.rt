@@ -1,0 +1,28 @@
+//! Laws of the delivery of events. Each is a theorem, stated as the contract of an empty function.
+
+ghost use Rattle.delivery_laws.specs.Laws.{DeliveryHandsOn, DeliveryHaltsLast, DeliveryStartsTheUnlisted};
+ghost use Rattle.delivery_laws.specs.Traces.{TracesThatDoNot, TracesThatHandOn, TracesThatPass, TracesThatBreakTheOthers};
+
+/// Each trace of the delivery machine has handed its events on.
+pub fn delivery_hands_on()
+    ensures { DeliveryHandsOn }
+{}
+
+/// Nothing follows a halt in a trace of the machine.
+pub fn nothing_follows_a_halt()
+    ensures { DeliveryHaltsLast }
+{}
+
+/// No process of the machine starts while it is listed.
+pub fn only_the_unlisted_start()
+    ensures { DeliveryStartsTheUnlisted }
+{}
+
+/// The property holds of small traces that are as they should be, and fails at small traces that break one thing each.
+/// There are faults that it does not see; the two laws beside it see two of them.
+pub fn traces_are_told_apart()
+    ensures whole { TracesThatHandOn }
+    ensures broken { TracesThatDoNot }
+    ensures unseen { TracesThatPass }
+    ensures others { TracesThatBreakTheOthers }
+{}

@@ -1,0 +1,15 @@
+-- The window may be shared by threads, and what each worker's thread needs besides.
+use denote.Param.Send.{IsSync, sendable}
+use denote.Param.SendFields.{declared_sync}
+use denote.Ref.{NamedLft}
+use denote.RattleType.{RattleType}
+use Rattle.copy_inbox.proofs.inbox.Inbox.TheSendSync as inbox
+use Rattle.joined_workers.proofs.NetCrossing.{net_sync}
+use Rattle.joined_workers.specs.contracts.worker.Runner as Runner
+use Rattle.joined_workers.specs.contracts.worker.CrewWindow as CrewWindow
+
+window_sync : (κ : NamedLft) → IsSync (CrewWindow.the_row κ)
+window_sync κ = declared_sync (CrewWindow.the_type κ) (search (net_sync, sendable), (search sendable, (search (inbox.the_sync, sendable), (search sendable, tt))))
+
+pub runner_sync : (κ : NamedLft) (R G : RattleType) → IsSync R → IsSync G → IsSync (Runner.the_row κ R G)
+runner_sync κ R G r g = let w = window_sync κ in declared_sync (Runner.the_type κ R G) (search sendable, (search sendable, (w, tt)))

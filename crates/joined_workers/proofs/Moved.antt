@@ -1,0 +1,230 @@
+-- Where a window of all workers leaves them.
+use Rattle.std.proofs.Common.{◌≡◌, ℕ, ◌+◌, ◌<◌, ◌≤◌, true, false, eqb, List, [], ◌∷◌, ◌++◌, length, map, get_or, refl, sym, ap, ◌∙◌, subst, arith, Option, Some, None}
+use Rattle.std.specs.List.{filter, flat_map, zip, slice_get, AllByRecursion as Each}
+use Rattle.std.specs.Option.{option_map_or}
+use Rattle.std.proofs.lemmas.Bool.{ne_eqb}
+use Rattle.std.proofs.lemmas.List.Elements.{filter-append}
+use Rattle.radio_packet.specs.declared.copy.RadioCopy.{RadioCopy}
+use Rattle.mote_net.specs.Net.{NetTold}
+use Rattle.window_laws.specs.System.{RunsForward}
+use Rattle.window_laws.specs.Windows.{is_from_sender}
+use Rattle.window_laws.proofs.Lists.{filter_filter, every_weaker}
+use Rattle.net_agenda.specs.NetSystem.{system_of}
+use Rattle.copy_inbox.specs.Handles.{TakerView}
+use Rattle.copy_exchange.specs.Couriers.{delivered, delivered_to}
+use Rattle.copy_exchange.specs.Desks.{copies_in, taken_by, gathered_by}
+use Rattle.copy_inbox.specs.Items.{copies_of}
+use Rattle.worker_cut.specs.Crossed.{is_own, is_to}
+use Rattle.worker_cut.specs.Laws.{HasGathered}
+use Rattle.worker_window.specs.declared.share.Share.{Share}
+use Rattle.worker_window.specs.Share.{Motes, Keeps}
+use Rattle.worker_window.specs.Window.{RunsOwn, GoesOut, copies_out}
+use Rattle.joined_workers.specs.declared.crew.Crew.{Crew}
+use Rattle.joined_workers.specs.declared.worker.Worker.{Worker}
+use Rattle.joined_workers.specs.Crew.{IsAt, IsWorkerAt}
+use Rattle.joined_workers.specs.Laws.{RunsAll, manned_by}
+use Rattle.joined_workers.specs.Worker.{IsCut, IsNotBefore, IsFirstOf}
+use Rattle.joined_workers.proofs.Choose.{choose}
+use Rattle.joined_workers.proofs.Lookups.{there, read, mapped, as_long, inside, each_from, each_at, zip_long, map_long, none_of, one_of, same_found}
+use Rattle.joined_workers.proofs.Moves.{Piece, piece, window}
+use Rattle.joined_workers.proofs.Same.{keeps_same}
+use Rattle.joined_workers.proofs.Step.{next, next_is, led_next, out_of, told_next, sent_late}
+use Rattle.joined_workers.proofs.Working.{each_of_every}
+
+-- what a window made of one worker's part
+record Told : Type 0 where
+  next : Motes
+  taken : List RadioCopy
+  gathered : List RadioCopy
+  sent : List RadioCopy
+
+module _ (n : NetTold) (fine : RunsForward (system_of n)) (of : List ℕ) (from until : ℕ) (old new : Crew) (at : IsAt n of from old) (up : from < until) (short : until ≤ from + (system_of n).lookahead) (all : RunsAll n of until old new) where
+  abbrev workers : ℕ
+  workers = length old.inboxes.items
+
+  record IsPart (v : ℕ) (z : Told) : Type 0 where
+    told : HasGathered (system_of n) of at.motes v z.gathered
+    took : (s : ℕ) → filter (is_from_sender s) z.taken ≡ filter (is_from_sender s) z.gathered
+    runs : (k : ℕ) → is_own of v k ≡ true → RunsOwn n (is_own of v) from until at.motes z.next z.taken k
+    out : (s : ℕ) → copies_out n (is_own of v) z.next s ≡ copies_out n (is_own of v) at.motes s ++ filter (is_from_sender s) z.sent
+    goes : Each (GoesOut n of v) z.sent
+    first : (d : Worker) → slice_get all.done v ≡ Some d → IsFirstOf z.sent d.first_out
+    to : (d : Worker) → slice_get all.done v ≡ Some d → (u : ℕ) → delivered d.courier u ≡ filter (is_to of u) z.sent
+    keeps : (d : Worker) → slice_get all.done v ≡ Some d → Keeps n of v until z.next z.taken d.share
+    taken_home : (t : TakerView) → slice_get new.takers.items v ≡ Some t → taken_by t ≡ z.taken
+    home : (t : TakerView) → slice_get new.takers.items v ≡ Some t → gathered_by t ≡ z.gathered ++ delivered_to (map (λ (w : Worker). w.courier) all.done) v
+
+  up_to : from ≤ until
+  up_to = omega arith
+
+  part : (v : ℕ) → v < workers → (z : Told) × IsPart v z
+  part v h = of_piece (piece n of from until old new at all v h)
+    where
+      of_piece : Piece n of from until old new at all v → (z : Told) × IsPart v z
+      of_piece p =
+          let w = window n of from until old new at all short up_to v p in
+          let gathered_is : gathered_by p.courier.taker ≡ gathered_by p.taker = ap copies_in p.set_out.same_gathered in (
+            record { next = w.next; taken = taken_by p.done.courier.taker; gathered = gathered_by p.taker; sent = p.ran.sent },
+            record {
+              told = p.here.gathered;
+              took = λ s.
+                  ap (λ t. filter (is_from_sender s) (taken_by t)) p.ran.delivers.taker ∙ (p.ran.collects.in_order s ∙ ap (filter (is_from_sender s)) gathered_is);
+              runs = w.runs;
+              out = w.out;
+              goes = subst (λ k. Each (GoesOut n of k) p.ran.sent) p.number p.ran.out;
+              first = λ d e. subst (λ x. IsFirstOf p.ran.sent x.first_out) (same_found _ p.done d p.done_at e) p.ran.first;
+              to = λ d e u.
+                  ap (λ x. delivered x.courier u) (sym (same_found _ p.done d p.done_at e))
+                  ∙ (p.ran.delivers.adds u ∙ ap (λ l. l ++ filter (is_to of u) p.ran.sent) (p.ran.collects.delivers_none u ∙ p.set_out.nothing u));
+              keeps = λ d e. subst (λ x. Keeps n of v until w.next (taken_by p.done.courier.taker) x.share) (same_found _ p.done d p.done_at e) w.keeps;
+              taken_home = λ t e. ap taken_by (sym (same_found _ p.home t p.home_at e)) ∙ ap copies_of p.came.same_taken;
+              home = λ t e.
+                  ap gathered_by (sym (same_found _ p.home t p.home_at e))
+                  ∙ (p.came.adds
+                  ∙ (ap (λ l. l ++ delivered_to (map (λ (x : Worker). x.courier) all.done) p.done.courier.worker)
+                  (ap (λ x. gathered_by x) p.ran.delivers.taker ∙ (ap copies_in p.ran.collects.stays.gathered ∙ gathered_is))
+                  ∙ ap (λ k. gathered_by p.taker ++ delivered_to (map (λ (x : Worker). x.courier) all.done) k) (p.ran.delivers.stays.worker ∙ (p.ran.collects.stays.worker ∙ p.number))));
+            },
+          )
+
+  nothing_told : Told
+  nothing_told = record { next = at.motes; taken = []; gathered = []; sent = [] }
+
+  parts : (f : ℕ → Told) × ((v : ℕ) → v < workers → IsPart v (f v))
+  parts = choose nothing_told IsPart workers part
+
+  taken : ℕ → List RadioCopy
+  taken v = (parts.0 v).taken
+
+  gathered : ℕ → List RadioCopy
+  gathered v = (parts.0 v).gathered
+
+  sent : ℕ → List RadioCopy
+  sent v = (parts.0 v).sent
+
+  nexts : ℕ → Motes
+  nexts v = (parts.0 v).next
+
+  is_part : (v : ℕ) → v < workers → IsPart v (parts.0 v)
+  is_part v h = parts.1 v h
+
+  told : (v : ℕ) → v < workers → HasGathered (system_of n) of at.motes v (gathered v)
+  unfolding gathered
+  told v h = (is_part v h).told
+
+  took : (v : ℕ) → v < workers → (s : ℕ) → filter (is_from_sender s) (taken v) ≡ filter (is_from_sender s) (gathered v)
+  unfolding taken gathered
+  took v h = (is_part v h).took
+
+  runs : (v : ℕ) → v < workers → (k : ℕ) → is_own of v k ≡ true → RunsOwn n (is_own of v) from until at.motes (nexts v) (taken v) k
+  unfolding nexts taken
+  runs v h = (is_part v h).runs
+
+  out : (v : ℕ) → v < workers → (s : ℕ) → copies_out n (is_own of v) (nexts v) s ≡ copies_out n (is_own of v) at.motes s ++ filter (is_from_sender s) (sent v)
+  unfolding nexts sent
+  out v h = (is_part v h).out
+
+  goes : (v : ℕ) → v < workers → Each (GoesOut n of v) (sent v)
+  unfolding sent
+  goes v h = (is_part v h).goes
+
+  abbrev after : Motes
+  after = next n fine of workers at.cut from until at.motes up short taken gathered sent nexts told took runs out goes
+
+  abbrev out_to : (v s : ℕ) → List RadioCopy
+  out_to = out_of n fine of workers at.cut from until at.motes up short taken gathered sent nexts told took runs out goes
+
+  late : (v : ℕ) → v < workers → Each (λ (copy : RadioCopy). until ≤ copy.at) (sent v)
+  late = sent_late n fine of workers at.cut from until at.motes up short taken gathered sent nexts told took runs out goes at.led
+
+  couriers_long : length all.couriers ≡ length old.shares.items
+  couriers_long =
+      as_long _ old.takers.items all.couriers all.set_out ∙ (as_long _ old.inboxes.items old.takers.items at.settled ∙ sym at.shares)
+
+  done_long : length all.done ≡ workers
+  done_long =
+      as_long _ (map manned_by (zip old.shares.items all.couriers)) all.done all.ran
+      ∙ (map_long manned_by (zip old.shares.items all.couriers) ∙ (zip_long old.shares.items all.couriers couriers_long ∙ at.shares))
+
+  -- of what went to a worker, what one mote sent
+  to_one : (v s : ℕ) → filter (is_from_sender s) (delivered_to (map (λ (w : Worker). w.courier) all.done) v) ≡ out_to v s
+  unfolding sent
+  to_one v s = by_courier ∙ of_worker (slice_get of s) refl
+    where
+      by_courier : filter (is_from_sender s) (delivered_to (map (λ (w : Worker). w.courier) all.done) v) ≡ filter (is_from_sender s) (flat_map (λ (w : Worker). delivered w.courier v) all.done)
+      by_courier = ap (filter (is_from_sender s)) (flat_mapped all.done)
+        where
+          flat_mapped : (ws : List Worker) → delivered_to (map (λ (w : Worker). w.courier) ws) v ≡ flat_map (λ (w : Worker). delivered w.courier v) ws
+          flat_mapped [] = refl
+          flat_mapped (w ∷ ws) = ap (λ l. delivered w.courier v ++ l) (flat_mapped ws)
+
+      there_is : (i : ℕ) (d : Worker) → slice_get all.done i ≡ Some d → i < workers
+      there_is i d e = subst (λ l. i < l) done_long (inside all.done i d e)
+
+      its_copies : (i : ℕ) (d : Worker) → slice_get all.done i ≡ Some d → filter (is_from_sender s) (delivered d.courier v) ≡ filter (is_from_sender s) (filter (is_to of v) (sent i))
+      its_copies i d e =
+          ap (filter (is_from_sender s)) ((is_part i (there_is i d e)).to d e v)
+
+      not_its : (i : ℕ) (d : Worker) → slice_get all.done i ≡ Some d → is_own of i s ≡ false → filter (is_from_sender s) (delivered d.courier v) ≡ []
+      not_its i d e f =
+          its_copies i d e
+          ∙ (filter_filter (is_from_sender s) (is_to of v) (sent i)
+          ∙ ap (filter (is_to of v)) (let o = out i (there_is i d e) s in let p = rw f at o in sym p))
+
+      of_worker : (o : Option ℕ) → slice_get of s ≡ o → filter (is_from_sender s) (flat_map (λ (w : Worker). delivered w.courier v) all.done) ≡ option_map_or (λ u. filter (is_from_sender s) (filter (is_to of v) (sent u))) o []
+      of_worker None e = none_of (is_from_sender s) (λ (w : Worker). delivered w.courier v) all.done (λ i d f. not_its i d f (ap (λ o. option_map_or (λ w. eqb w i) o false) e))
+      of_worker (Some u) e =
+          let inside_of : u < workers = each_at (λ w. w < workers) of s u at.cut.there e in
+          let d = there all.done u (subst (λ l. u < l) (sym done_long) inside_of) in
+          one_of (is_from_sender s) (λ (w : Worker). delivered w.courier v) all.done u d.0 d.1 (λ i x f ne.
+          not_its i x f (ap (λ o. option_map_or (λ w. eqb w i) o false) e ∙ ne_eqb u i (λ q. ne (sym q))))
+          ∙ its_copies u d.0 d.1
+
+  first_out : (v : ℕ) → v < workers → Each (IsNotBefore new.first_out) (sent v)
+  unfolding sent
+  first_out v h =
+      let d = there all.done v (subst (λ l. v < l) (sym done_long) h) in
+      every_weaker _ _ (λ c g. each_at _ all.done v d.0 all.first.none_before d.1 c g) (sent v) ((is_part v h).first d.0 d.1).none_before
+
+  worker_after : (v : ℕ) → v < workers → (share : Share) (taker : TakerView) → IsWorkerAt n of until after new.first_out v (get_or new.shares.items v share) (get_or new.takers.items v taker)
+  unfolding nexts taken gathered
+  worker_after v h share taker =
+      let d = there all.done v (subst (λ l. v < l) (sym done_long) h) in
+      let t = there new.takers.items v (subst (λ l. v < l) (sym takers_long) h) in
+      let p = is_part v h in
+      let is_share : get_or new.shares.items v share ≡ d.0.share = ap (λ l. get_or l v share) all.shares ∙ read _ v d.0.share share (mapped (λ (w : Worker). w.share) all.done v d.0 d.1) in
+      let is_taker : get_or new.takers.items v taker ≡ t.0 = read new.takers.items v t.0 taker t.1 in
+      let gathers : (s : ℕ) → filter (is_from_sender s) (gathered_by t.0) ≡ filter (is_from_sender s) (gathered v) ++ out_to v s = λ s. ap (filter (is_from_sender s)) (p.home t.0 t.1) ∙ (filter-append (is_from_sender s) (gathered v) _ ∙ ap (λ l. filter (is_from_sender s) (gathered v) ++ l) (to_one v s)) in
+      subst (λ x. IsWorkerAt n of until after new.first_out v x (get_or new.takers.items v taker)) (sym is_share)
+      (subst (λ x. IsWorkerAt n of until after new.first_out v d.0.share x) (sym is_taker) (record {
+        keeps = subst (λ x. Keeps n of v until after x d.0.share) (sym (p.taken_home t.0 t.1))
+            (keeps_same n of v (nexts v) after (λ k m. next_is n fine of workers at.cut from until at.motes up short taken gathered sent nexts told took runs out goes v k m) until (taken v) d.0.share (p.keeps d.0 d.1));
+        gathered = told_next n fine of workers at.cut from until at.motes up short taken gathered sent nexts told took runs out goes v h (gathered_by t.0) gathers;
+        waits = λ s. record {
+          rest = out_to v s;
+          all = gathers s ∙ ap (λ l. l ++ out_to v s) (sym (took v h s) ∙ ap (filter (is_from_sender s)) (sym (p.taken_home t.0 t.1)));
+          later = out_later v s (slice_get of s) refl;
+        };
+      }))
+    where
+      takers_long : length new.takers.items ≡ workers
+      takers_long = as_long _ new.inboxes.items new.takers.items all.settled ∙ ap length all.inboxes
+
+      out_later : (v s : ℕ) (o : Option ℕ) → slice_get of s ≡ o → Each (IsNotBefore new.first_out) (option_map_or (λ u. filter (is_from_sender s) (filter (is_to of v) (sent u))) o [])
+      out_later v s None e = tt
+      out_later v s (Some u) e =
+          each_of_every _ (filter (is_to of v) (sent u)) (is_from_sender s) (each_of_every _ (sent u) (is_to of v) (first_out u (each_at (λ w. w < workers) of s u at.cut.there e)))
+
+  pub moved : IsAt n of until new
+  unfolding sent
+  moved = record {
+    motes = after;
+    led = led_next n fine of workers at.cut from until at.motes up short taken gathered sent nexts told took runs out goes at.led;
+    cut = subst (λ l. IsCut (length n.motes) (length l) of) (sym all.inboxes) at.cut;
+    shares = ap length all.shares ∙ (map_long (λ (w : Worker). w.share) all.done ∙ (done_long ∙ sym (ap length all.inboxes)));
+    settled = all.settled;
+    first = all.first.greatest until (each_from _ all.done (λ i d e.
+        let h = subst (λ l. i < l) done_long (inside all.done i d e) in
+        ((is_part i h).first d e).greatest until (late i h)));
+    each = λ v h share taker. worker_after v (subst (λ l. v < length l) all.inboxes h) share taker;
+  }

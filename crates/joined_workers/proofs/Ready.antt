@@ -1,0 +1,106 @@
+-- Workers that stand somewhere are ready to run when their couriers set out.
+use Rattle.std.proofs.Common.{◌≡◌, ℕ, suc, ◌<◌, ◌≤◌, ◌^◌, true, false, List, [], ◌∷◌, ◌++◌, length, map, get_or, refl, sym, ap, ◌∙◌, subst, arith, Option, Some, None}
+use Rattle.std.specs.List.{filter, zip, slice_get, range_with_len, AllZip, AllByRecursion as Each}
+use Rattle.std.proofs.lemmas.List.Elements.{filter-append}
+use Rattle.std.proofs.lemmas.List.FromFn.{get_or-range_with_len}
+use Rattle.radio_packet.specs.declared.copy.RadioCopy.{RadioCopy}
+use Rattle.mote_net.specs.Net.{NetTold}
+use Rattle.window_laws.specs.Windows.{WakesFrom, is_from_sender}
+use Rattle.window_laws.proofs.Lists.{every_weaker, every_both}
+use Rattle.copy_inbox.specs.Items.{copies_of}
+use Rattle.copy_inbox.specs.Handles.{TakerView}
+use Rattle.copy_exchange.specs.declared.courier.Courier.{Courier}
+use Rattle.copy_exchange.specs.Couriers.{IsCourier, Collects, Together, SetsOut}
+use Rattle.copy_exchange.specs.Desks.{copies_in, taken_by, gathered_by}
+use Rattle.copy_exchange.specs.Inboxes.{IsPlain}
+use Rattle.worker_window.specs.declared.share.Share.{Share}
+use Rattle.worker_window.specs.Share.{Motes}
+use Rattle.worker_window.specs.Window.{ComesIn}
+use Rattle.worker_cut.specs.Crossed.{is_own}
+use Rattle.joined_workers.specs.declared.crew.Crew.{Crew}
+use Rattle.joined_workers.specs.Crew.{IsAt, IsWorkerAt}
+use Rattle.joined_workers.specs.Laws.{manned_by}
+use Rattle.joined_workers.specs.Worker.{IsReady, IsNotBefore}
+use Rattle.joined_workers.proofs.Lookups.{there, inside, read, mapped, beside, as_long, each_at, same_found}
+use Rattle.joined_workers.proofs.Working.{every_of_each, arrived_have, foreign}
+
+module _ {X Y Z : Type 0} (P : Z → Type 0) (f : X × Y → Z) where
+  each_zipped : (xs : List X) (ys : List Y) → ((i : ℕ) (x : X) (y : Y) → slice_get xs i ≡ Some x → slice_get ys i ≡ Some y → P (f (x, y))) → Each P (map f (zip xs ys))
+  each_zipped [] ys h = tt
+  each_zipped (x ∷ xs) [] h = tt
+  each_zipped (x ∷ xs) (y ∷ ys) h = (h 0 x y refl refl, each_zipped xs ys (λ i a b e g. h (suc i) a b e g))
+
+-- lists that begin alike go on alike
+goes_on : (xs ys zs : List RadioCopy) → xs ++ ys ≡ xs ++ zs → ys ≡ zs
+goes_on [] ys zs e = e
+goes_on (x ∷ xs) ys zs e = goes_on xs ys zs (cc)
+
+not_before : (from : ℕ) (first : Option ℕ) (c : RadioCopy) → WakesFrom from first → IsNotBefore first c → from ≤ c.at
+not_before from None c w h = absurd h
+not_before from (Some m) c w h = omega arith
+
+-- what a worker takes in at the start of a window is what waited in its inbox
+module _ (n : NetTold) (of : List ℕ) (from : ℕ) (motes : Motes) (first : Option ℕ) (v : ℕ) (share : Share) (taker : TakerView) (here : IsWorkerAt n of from motes first v share taker) (first_from : WakesFrom from first)
+    (courier : Courier) (set_out : SetsOut taker courier) (between : Courier) (arrived : List RadioCopy) (collects : Collects courier between arrived) where
+  gathered_same : gathered_by courier.taker ≡ gathered_by taker
+  gathered_same = ap copies_in set_out.same_gathered
+
+  taken_same : taken_by courier.taker ≡ taken_by taker
+  taken_same = ap copies_of set_out.same_taken
+
+  all_foreign : Each (λ (c : RadioCopy). (is_own of v c.to ≡ true) × (is_own of v c.sender ≡ false)) arrived
+  all_foreign = arrived_have (λ (c : RadioCopy). (is_own of v c.to ≡ true) × (is_own of v c.sender ≡ false)) courier between arrived collects (subst (Each (λ (c : RadioCopy). (is_own of v c.to ≡ true) × (is_own of v c.sender ≡ false))) (sym gathered_same) (foreign n of motes v (gathered_by taker) here.gathered))
+
+  waited : (s : ℕ) → filter (is_from_sender s) arrived ≡ (here.waits s).rest
+  waited s = goes_on (filter (is_from_sender s) (taken_by taker)) _ _ (
+      ap (λ l. filter (is_from_sender s) l ++ filter (is_from_sender s) arrived) (sym taken_same)
+      ∙ (sym (filter-append (is_from_sender s) (taken_by courier.taker) arrived)
+      ∙ (ap (filter (is_from_sender s)) (sym collects.adds)
+      ∙ (collects.in_order s
+      ∙ (ap (filter (is_from_sender s)) gathered_same ∙ (here.waits s).all)))))
+
+  all_later : Each (λ (c : RadioCopy). from ≤ c.at) arrived
+  all_later = every_of_each (λ (c : RadioCopy). from ≤ c.at) arrived (λ s. subst (Each (λ (c : RadioCopy). from ≤ c.at)) (sym (waited s)) (every_weaker _ _ (λ c g. not_before from first c first_from g) _ (here.waits s).later))
+
+  pub arrived_come : Each (ComesIn of v from) arrived
+  arrived_come = every_weaker _ _ (λ c g. record { to = g.0.0; sender = g.0.1; later = g.1 }) _ (every_both (λ (c : RadioCopy). (is_own of v c.to ≡ true) × (is_own of v c.sender ≡ false)) (λ (c : RadioCopy). from ≤ c.at) arrived all_foreign all_later)
+
+-- each courier is that of the worker at its place
+pub numbered : (workers : ℕ) (couriers : List Courier) → map (λ (c : Courier). c.worker) couriers ≡ range_with_len 0 workers → (v : ℕ) → v < workers → (c : Courier) → slice_get couriers v ≡ Some c → c.worker ≡ v
+numbered workers couriers e v h c f =
+    sym (read (map (λ (x : Courier). x.worker) couriers) v c.worker 0 (mapped (λ (x : Courier). x.worker) couriers v c f))
+    ∙ (ap (λ l. get_or l v 0) e ∙ (get_or-range_with_len 0 workers v 0 h ∙ omega arith))
+
+module _ (n : NetTold) (of : List ℕ) (from until : ℕ) (old : Crew) (at : IsAt n of from old) (up : from ≤ until) (early : until ≤ 2 ^ 40) (plain : Each IsPlain old.takers.items)
+    (couriers : List Courier) (together : Together old.inboxes.items couriers) (set_out : AllZip SetsOut old.takers.items couriers) where
+  one_ready : (v : ℕ) (s : Share) (c : Courier) → slice_get old.shares.items v ≡ Some s → slice_get couriers v ≡ Some c → IsReady n of old.inboxes.items until (manned_by (s, c))
+  one_ready v s c e f =
+      let h : v < length old.inboxes.items = subst (λ l. v < l) at.shares (inside old.shares.items v s e) in
+      let t = there old.takers.items v (subst (λ l. v < l) (sym (as_long _ old.inboxes.items old.takers.items at.settled)) h) in
+      let b = beside SetsOut old.takers.items couriers set_out v t.0 t.1 in
+      let set : SetsOut t.0 c = subst (SetsOut t.0) (same_found (slice_get couriers v) b.0 c b.1 f) b.2 in
+      let here : IsWorkerAt n of from at.motes old.first_out v s t.0 = subst (λ x. IsWorkerAt n of from at.motes old.first_out v x t.0) (read old.shares.items v s s e)
+      (subst (λ x. IsWorkerAt n of from at.motes old.first_out v (get_or old.shares.items v s) x) (read old.takers.items v t.0 t.0 t.1) (at.each v h s t.0)) in
+      let number : c.worker ≡ v = numbered (length old.inboxes.items) couriers together.workers v h c f in
+      let own : Each (λ (x : RadioCopy). is_own of v x.to ≡ true) (gathered_by t.0) = every_weaker (λ (x : RadioCopy). (is_own of v x.to ≡ true) × (is_own of v x.sender ≡ false)) (λ (x : RadioCopy). is_own of v x.to ≡ true) (λ x g. g.0) (gathered_by t.0) (foreign n of at.motes v (gathered_by t.0) here.gathered) in
+      record {
+        early = early;
+        cut = at.cut;
+        takes_in = λ between arrived collects. record {
+          worker = v;
+          from = from;
+          motes = at.motes;
+          taken = taken_by t.0;
+          keeps = here.keeps;
+          order = up;
+          come = arrived_come n of from at.motes old.first_out v s t.0 here at.first c set between arrived collects;
+        };
+        same = here.keeps.is_worker ∙ sym number;
+        plain = set.same_marked ∙ each_at IsPlain old.takers.items v t.0 plain t.1;
+        courier = each_at (IsCourier old.inboxes.items) couriers v c together.each f;
+        own = subst (λ w. Each (λ (x : RadioCopy). is_own of w x.to ≡ true) (gathered_by c.taker)) (sym number)
+            (subst (λ l. Each (λ (x : RadioCopy). is_own of v x.to ≡ true) l) (sym (ap copies_in set.same_gathered)) own);
+      }
+
+  pub ready : Each (IsReady n of old.inboxes.items until) (map manned_by (zip old.shares.items couriers))
+  ready = each_zipped (IsReady n of old.inboxes.items until) manned_by old.shares.items couriers one_ready

@@ -1,0 +1,68 @@
+-- The couriers of workers that ran are back.
+use Rattle.std.proofs.Common.{◌≡◌, ◌⊎◌, ℕ, ◌==◌, true, false, List, [], ◌∷◌, length, map, sym, ap, ◌∙◌, arith, inl, inr}
+use Rattle.std.specs.Prelude.{slice_index}
+use Rattle.std.specs.List.{filter, zip, AllZip, AllByRecursion as Each}
+use Rattle.std.proofs.lemmas.Bool.{cases_Bool, eqb-true, eq-eqb, false≢true}
+use Rattle.radio_packet.specs.declared.copy.RadioCopy.{RadioCopy}
+use Rattle.mote_net.specs.Net.{NetTold}
+use Rattle.window_laws.proofs.Lists.{filter_none, every_weaker}
+use Rattle.copy_inbox.specs.Handles.{InboxId, TakerView}
+use Rattle.copy_exchange.specs.declared.courier.Courier.{Courier}
+use Rattle.copy_exchange.specs.Couriers.{Together, SetsOut, Returns, AllReturn}
+use Rattle.window_laws.specs.Windows.{is_from_sender}
+use Rattle.copy_exchange.proofs.Windows.{returns_from}
+use Rattle.worker_window.specs.declared.share.Share.{Share}
+use Rattle.worker_cut.specs.Crossed.{is_own}
+use Rattle.worker_window.specs.Window.{GoesOut}
+use Rattle.joined_workers.specs.declared.crew.Crew.{Crew}
+use Rattle.joined_workers.specs.declared.worker.Worker.{Worker}
+use Rattle.joined_workers.specs.Crew.{IsAt}
+use Rattle.joined_workers.specs.Laws.{manned_by}
+use Rattle.joined_workers.specs.Worker.{RunsWorker}
+use Rattle.joined_workers.proofs.Lookups.{read, as_long}
+use Rattle.joined_workers.proofs.Step.{own_of}
+
+-- a mote that is another worker's sent nothing of what went out
+none_from : (n : NetTold) (of : List ℕ) (w s : ℕ) → (slice_index of s == w) ≡ false → (sent : List RadioCopy) → Each (GoesOut n of w) sent → filter (is_from_sender s) sent ≡ []
+none_from n of w s other sent out = filter_none (is_from_sender s) sent (every_weaker (GoesOut n of w) (λ (c : RadioCopy). is_from_sender s c ≡ false) one sent out)
+  where
+    one : (c : RadioCopy) → GoesOut n of w c → is_from_sender s c ≡ false
+    one c g = of_case (cases_Bool (is_from_sender s c))
+      where
+        of_case : (is_from_sender s c ≡ true) ⊎ (is_from_sender s c ≡ false) → is_from_sender s c ≡ false
+        of_case (inr e) = e
+        of_case (inl e) =
+            let own : is_own of w s ≡ true = ap (is_own of w) (sym (eqb-true c.sender s e)) ∙ g.sender in
+            let its : slice_index of s ≡ w = read of s w 0 (own_of of w s own) in
+            absurd (false≢true (sym other ∙ eq-eqb (slice_index of s) w its))
+
+module _ (n : NetTold) (of : List ℕ) (until : ℕ) (inboxes : List InboxId) where
+  one_back : (t : TakerView) (s : Share) (c : Courier) (d : Worker) → SetsOut t c → RunsWorker n of inboxes until (manned_by (s, c)) d → Returns inboxes (slice_index of) c d.courier
+  one_back t s c d set_out ran =
+      returns_from inboxes of (slice_index of) t c ran.between d.courier ran.arrived ran.sent set_out ran.collects ran.delivers ran.courier
+      (λ k other. none_from n of c.worker k other ran.sent ran.out)
+
+  all_back : (takers : List TakerView) (shares : List Share) (couriers : List Courier) (done : List Worker) → AllZip SetsOut takers couriers → length couriers ≡ length shares
+      → AllZip (RunsWorker n of inboxes until) (map manned_by (zip shares couriers)) done → AllZip (Returns inboxes (slice_index of)) couriers (map (λ (worker : Worker). worker.courier) done)
+  all_back [] [] [] [] set_out long ran = tt
+  all_back [] [] [] (d ∷ ds) set_out long ran = absurd ran
+  all_back [] (s ∷ ss) [] ds set_out long ran = absurd (omega arith)
+  all_back [] ss (c ∷ cs) ds set_out long ran = absurd set_out
+  all_back (t ∷ ts) ss [] ds set_out long ran = absurd set_out
+  all_back (t ∷ ts) [] (c ∷ cs) ds set_out long ran = absurd (omega arith)
+  all_back (t ∷ ts) (s ∷ ss) (c ∷ cs) [] set_out long ran = absurd ran
+  all_back (t ∷ ts) (s ∷ ss) (c ∷ cs) (d ∷ ds) set_out long ran = (one_back t s c d set_out.0 ran.0, all_back ts ss cs ds set_out.1 (omega arith) ran.1)
+
+module _ (n : NetTold) (of : List ℕ) (from until : ℕ) (old : Crew) (at : IsAt n of from old) (couriers : List Courier) (done : List Worker)
+    (together : Together old.inboxes.items couriers) (set_out : AllZip SetsOut old.takers.items couriers)
+    (ran : AllZip (RunsWorker n of old.inboxes.items until) (map manned_by (zip old.shares.items couriers)) done) where
+  couriers_long : length couriers ≡ length old.shares.items
+  couriers_long = as_long _ old.takers.items couriers set_out ∙ (as_long _ old.inboxes.items old.takers.items at.settled ∙ sym at.shares)
+
+  pub returned : AllReturn old.inboxes.items (map (λ (worker : Worker). worker.courier) done)
+  returned = record {
+    before = couriers;
+    together = together;
+    worker_of = slice_index of;
+    each = all_back n of until old.inboxes.items old.takers.items old.shares.items couriers done set_out couriers_long ran;
+  }

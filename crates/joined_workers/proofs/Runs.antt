@@ -1,0 +1,29 @@
+-- The workers stand until the next window begins, and no window is longer than the lookahead.
+use Rattle.std.proofs.Common.{ℕ, ◌≡◌, ◌+◌, ◌≤◌, List, Option, Some, None, sym, subst, arith}
+use Rattle.std.proofs.Math.Nat.{le-min, min-le_left}
+use Rattle.mote_net.specs.Net.{NetTold}
+use Rattle.window_laws.specs.System.{RunsForward}
+use Rattle.window_laws.specs.Windows.{WakesFrom}
+use Rattle.net_agenda.specs.NetSystem.{system_of}
+use Rattle.joined_workers.specs.declared.crew.Crew.{Crew}
+use Rattle.joined_workers.specs.Crew.{IsAt}
+use Rattle.joined_workers.specs.Run.{BeginsAt, start_of_window}
+use Rattle.joined_workers.proofs.Stands.{comes_no_sooner, stands}
+
+no_sooner : (reached end : ℕ) (next : Option ℕ) → WakesFrom reached next → reached ≤ end + 1 → reached ≤ start_of_window end next
+no_sooner reached end None wakes low = low
+no_sooner reached end (Some moment) wakes low = le-min wakes low
+
+quiet : (end : ℕ) (next : Option ℕ) → WakesFrom (start_of_window end next) next
+quiet end None = tt
+quiet end (Some moment) = min-le_left moment (end + 1)
+
+module _ (n : NetTold) (of : List ℕ) (reached end : ℕ) (crew : Crew) (from : ℕ) (at : IsAt n of reached crew) (low : reached ≤ end + 1) (begins : BeginsAt end crew from) where
+  pub begins_later : reached ≤ from
+  begins_later = subst (λ m. reached ≤ m) (sym begins.start) (no_sooner reached end begins.next (comes_no_sooner n of reached crew begins.next at begins.is) low)
+
+  pub stands_there : RunsForward (system_of n) → IsAt n of from crew
+  stands_there fine = stands n fine of reached from crew begins.next at begins.is begins_later (subst (λ m. WakesFrom m begins.next) (sym begins.start) (quiet end begins.next))
+
+pub short_enough : (from length lookahead told until : ℕ) → until ≤ from + length → length ≤ lookahead → lookahead ≡ told → until ≤ from + told
+short_enough from length lookahead told until short within value = omega arith

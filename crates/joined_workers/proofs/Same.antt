@@ -1,0 +1,50 @@
+-- What a share keeps is said of its worker's motes alone.
+use Rattle.std.proofs.Common.{◌≡◌, ℕ, true, false, cond, ltb, List, [], refl, ap, ◌∙◌, subst, inl, inr, Some}
+use Rattle.std.specs.List.{filter, flat_map}
+use Rattle.std.proofs.lemmas.Bool.{cases_Bool}
+use Rattle.radio_packet.specs.declared.sent.Sent.{Sent}
+use Rattle.mote_node.specs.Node.{is_past}
+use Rattle.mote_node.specs.Wake.{wake_of}
+use Rattle.radio_packet.specs.declared.copy.RadioCopy.{RadioCopy}
+use Rattle.mote_net.specs.Net.{NetTold}
+use Rattle.window_laws.specs.Agenda.{Item, wake_items}
+use Rattle.window_laws.specs.Windows.{WakesFrom, copies_by}
+use Rattle.net_agenda.specs.NetSystem.{system_of}
+use Rattle.worker_window.specs.declared.share.Share.{Share}
+use Rattle.worker_cut.specs.Crossed.{is_own, copies_known}
+use Rattle.window_run.specs.Window.{number_of}
+use Rattle.worker_window.specs.Share.{Motes, Keeps, is_to_come}
+
+module _ (n : NetTold) (of : List ℕ) (worker : ℕ) (a b : Motes) (same : (k : ℕ) → is_own of worker k ≡ true → a k ≡ b k) where
+  own_sends : (s : ℕ) → cond (is_own of worker s) (a s).sends [] ≡ cond {A = List Sent} (is_own of worker s) (b s).sends []
+  own_sends s = elim (cases_Bool (is_own of worker s)) [ inl e ↦ rw e (ap (λ x. x.sends) (same s e)) | inr e ↦ rw e refl ]
+
+  own_wakes : (k : ℕ) → cond (is_own of worker k) (wake_items k (a k).wake) [] ≡ cond {A = List Item} (is_own of worker k) (wake_items k (b k).wake) []
+  own_wakes k = elim (cases_Bool (is_own of worker k)) [ inl e ↦ rw e (ap (λ x. wake_items k x.wake) (same k e)) | inr e ↦ rw e refl ]
+
+  pub own_copies_same : (s : ℕ) → is_own of worker s ≡ true → copies_by (system_of n) a s ≡ copies_by (system_of n) b s
+  own_copies_same s e = ap (λ x. flat_map (system_of n).copies (cond (ltb s (system_of n).motes) x.sends [])) (same s e)
+
+  pub known_same : (taken : List RadioCopy) (s : ℕ) → copies_known (system_of n) (is_own of worker) a taken s ≡ copies_known (system_of n) (is_own of worker) b taken s
+  known_same taken s = elim (cases_Bool (is_own of worker s)) [ inl e ↦ rw e (own_copies_same s e) | inr e ↦ rw e refl ]
+
+  pub keeps_same : (from : ℕ) (taken : List RadioCopy) (share : Share) → Keeps n of worker from a taken share → Keeps n of worker from b taken share
+  keeps_same from taken share h = record {
+    is_worker = h.is_worker;
+    places = h.places;
+    numbers = λ k m. subst (λ x. number_of x.state ≡ k) (same k m) (h.numbers k m);
+    nodes = λ k m. h.nodes k m ∙ ap (λ x. Some x.state) (same k m);
+    wakes = λ k m. subst (λ x. x.wake ≡ wake_of x.state) (same k m) (h.wakes k m);
+    quiet = λ k m. subst (λ x. WakesFrom from x.wake) (same k m) (h.quiet k m);
+    behind = λ k m. subst (λ x. is_past from x.state.last ≡ false) (same k m) (h.behind k m);
+    traces_kept = h.traces_kept;
+    traces = λ k m d. h.traces k m d ∙ ap (λ x. x.lines) (same k m);
+    log = λ s. h.log s ∙ own_sends s;
+    fates = h.fates;
+    agenda = record {
+      items = h.agenda.items;
+      holds = h.agenda.holds;
+      wakes = λ k. h.agenda.wakes k ∙ own_wakes k;
+      copies = λ s. h.agenda.copies s ∙ ap (filter (is_to_come (is_own of worker) from)) (known_same taken s);
+    };
+  }

@@ -1,0 +1,63 @@
+use Rattle.std.proofs.Common.{◌≡◌, ◌∙◌, ℕ, suc, ◌<◌, ◌≤◌, ap, sym, refl, subst, arith}
+use Rattle.mote_net.specs.Net.{net_of}
+use Rattle.net_agenda.specs.NetSystem.{system_of}
+use Rattle.joined_workers.specs.declared.crew.Crew.{Crew}
+use Rattle.joined_workers.specs.Laws.{RunsAll}
+use Rattle.joined_workers.specs.Run.{BeginsAt, RunsNext, end_of_window, length_of_window}
+use Rattle.joined_workers.proofs.Runs.{begins_later, short_enough, stands_there}
+use Rattle.joined_workers.proofs.run.run_windows.Goals as goal
+
+pub windows-init : goal.windows-init
+windows-init g c = record {
+  at = stands_there (net_of c.args.net.now) c.args.of.now 0 c.end-end.result c.args.crew c.window_start-from.result c.requires.at (omega arith) c.window_start-from.ensures.value c.lookahead_of.ensures.forward;
+  plain = c.requires.plain;
+  early = c.window_start-from.ensures.within;
+  inboxes = refl;
+  windows = (0, refl);
+  begins = subst (λ (e : ℕ). BeginsAt e c.args.crew c.window_start-from.result) c.end-end.ensures.value c.window_start-from.ensures.value;
+}
+
+pub windows-smaller : goal.windows-smaller
+windows-smaller g c =
+    let up = c.window_end-until.ensures.later in
+    let short = short_enough c.windows.from c.window_length-length.result c.lookahead_of.result _ c.window_end-until.result c.window_end-until.ensures.short c.window_length-length.ensures.within c.lookahead_of.ensures.value in
+    let moved = c.in_ok-crew.ensures.moves c.lookahead_of.ensures.forward c.windows.from c.windows.invariant.at up short in
+    let on = begins_later (net_of c.args.net.now) c.args.of.now c.window_end-until.result c.end-end.result c.in_ok-crew.crew _ moved c.window_end-until.ensures.within c.window_start-from-in-windows.ensures.value in
+    let there = c.windows-test.true in
+    omega arith
+
+pub windows-preserved : goal.windows-preserved
+windows-preserved g c =
+    let up = c.window_end-until.ensures.later in
+    let short = short_enough c.windows.from c.window_length-length.result c.lookahead_of.result _ c.window_end-until.result c.window_end-until.ensures.short c.window_length-length.ensures.within c.lookahead_of.ensures.value in
+    let moved = c.in_ok-crew.ensures.moves c.lookahead_of.ensures.forward c.windows.from c.windows.invariant.at up short in
+    let n = net_of c.args.net.now in
+    let length = length_of_window (system_of n).lookahead c.args.longest in
+    let is : c.window_end-until.result ≡ end_of_window n.end length c.windows.from =
+        c.window_end-until.ensures.value
+        ∙ (ap (λ e. end_of_window e c.window_length-length.result c.windows.from) c.end-end.ensures.value
+        ∙ ap (λ l. end_of_window n.end l c.windows.from) (c.window_length-length.ensures.value ∙ ap (λ l. length_of_window l c.args.longest) c.lookahead_of.ensures.value)) in
+    -- the window that was run is the next one
+    let next : RunsNext n c.args.of.now length c.windows.crew c.in_ok-crew.crew = record {
+      from = c.windows.from;
+      begins = c.windows.invariant.begins;
+      there = (let end = c.end-end.ensures.value in let before = c.windows-test.true in omega arith);
+      runs = subst (λ (until : ℕ). RunsAll n c.args.of.now until c.windows.crew c.in_ok-crew.crew) is c.in_ok-crew.ensures.runs;
+    } in
+    record {
+      at = stands_there (net_of c.args.net.now) c.args.of.now c.window_end-until.result c.end-end.result c.in_ok-crew.crew _ moved c.window_end-until.ensures.within c.window_start-from-in-windows.ensures.value c.lookahead_of.ensures.forward;
+      plain = c.in_ok-crew.ensures.plain;
+      early = c.window_start-from-in-windows.ensures.within;
+      inboxes = c.in_ok-crew.ensures.inboxes ∙ c.windows.invariant.inboxes;
+      windows = (suc c.windows.invariant.windows.0, (c.windows.crew, c.windows.invariant.windows.1, next));
+      begins = subst (λ (e : ℕ). BeginsAt e c.in_ok-crew.crew c.window_start-from-in-windows.result) c.end-end.ensures.value c.window_start-from-in-windows.ensures.value;
+    }
+
+pub returns-clause-windows : goal.returns-clause-windows
+returns-clause-windows g c = record {
+  windows = c.windows.invariant.windows.0;
+  runs = c.windows.invariant.windows.1;
+  next = c.windows.from;
+  begins = c.windows.invariant.begins;
+  over = (let end = c.end-end.ensures.value in let after = c.windows-test.false in omega arith);
+}

@@ -1,0 +1,21 @@
+use Rattle.std.proofs.Common.{ℕ, ◌≡◌, ◌+◌, ◌-◌, ◌≤◌}
+use Rattle.mote_net.specs.Net.{net_of}
+use Rattle.std.specs.List.{AllByRecursion as Each}
+use Rattle.copy_exchange.specs.Inboxes.{IsPlain}
+use Rattle.net_agenda.specs.NetSystem.{system_of}
+use Rattle.joined_workers.specs.Crew.{IsAt}
+use Rattle.joined_workers.specs.Run.{BeginsAt, RunsWindows, length_of_window}
+use Rattle.joined_workers.proofs.run.run_windows.Given as goal
+
+abbrev pub invariant-windows : goal.invariant-windows
+invariant-windows g l = record {
+  at : IsAt (net_of l.net) l.of l.from l.crew;
+  plain : Each IsPlain l.crew.takers.items;
+  early : l.from ≤ l.end + 1;
+  inboxes : l.crew.inboxes.items ≡ l.fn.crew.inboxes.items;
+  windows : (k : ℕ) × RunsWindows (net_of l.net) l.of (length_of_window (system_of (net_of l.net)).lookahead l.longest) k l.fn.crew l.crew;
+  begins : BeginsAt (net_of l.net).end l.crew l.from;
+}
+
+abbrev pub decreases-windows : goal.decreases-windows
+decreases-windows g l = l.end + 1 - l.from

@@ -1,0 +1,148 @@
+//! One worker in one window.
+
+ghost use Rattle.std.specs.Prelude.{◌≡◌, ◌≢◌, ℕ, ◌≤◌, IfErr, IfOk, IfSome};
+ghost use Rattle.fork_join.specs.declared.work.Refused.TheVariants.{Stopped};
+ghost use Rattle.mote_net.specs.Net.{net_of};
+ghost use Rattle.radio_packet.specs.declared.copy.RadioCopy.{RadioCopy};
+ghost use Rattle.window_laws.specs.Windows.{WakesFrom};
+ghost use Rattle.joined_workers.specs.Refusals.{refused_of};
+ghost use Rattle.joined_workers.specs.Worker.{IsReady, RunsWorker, IsFirstOf, IsNotBefore};
+
+use copy_exchange::Courier;
+use copy_inbox::Inbox;
+use fork_join::{Refused, Work};
+use mote_net::Net;
+use radio_packet::RadioCopy;
+use std::random::RandomSource;
+use std::sync::Wait;
+use window_run::{Gate, ShareError};
+use worker_window::Share;
+
+/// A worker: its share of the net, and the courier of its copies.
+#[derive(Drop)]
+pub struct Worker {
+    pub share: Share,
+    pub courier: Courier,
+    /// When the first of the copies that it delivered in its window arrives.
+    pub first_out: Option<u64>,
+}
+
+/// What all workers of a window have in common.
+#[derive(Clone, Copy)]
+pub struct CrewWindow<'a> {
+    pub net: &'a Net,
+    /// The worker of each mote.
+    pub of: &'a [u16],
+    /// The inbox of each worker.
+    pub inboxes: &'a [Inbox],
+    /// The window ends before this moment.
+    pub until: u64,
+}
+
+/// What each worker's thread needs besides: the runtime, the gate into its turns, and the window.
+pub struct Runner<'a, R, G> {
+    pub rt: &'a R,
+    pub gate: &'a G,
+    pub window: CrewWindow<'a>,
+}
+
+impl<R, G> Drop for Runner<'_, R, G> {
+    fn drop(self) {
+        let Runner {
+            rt: _,
+            gate: _,
+            window: _,
+        } = self;
+    }
+}
+
+/// The sooner of two moments, or the one that there is.
+pub fn sooner(one: Option<u64>, other: Option<u64>) -> Option<u64>
+    ensures one { (copy : RadioCopy) → IsNotBefore one copy → IsNotBefore result copy }
+    ensures other { (copy : RadioCopy) → IsNotBefore other copy → IsNotBefore result copy }
+    ensures greatest { (moment : ℕ) → WakesFrom moment one → WakesFrom moment other → WakesFrom moment result }
+    ensures least { (moment : ℕ) → WakesFrom moment result → WakesFrom moment one × WakesFrom moment other }
+{
+    let Some(moment) = one else {
+        return other;
+    };
+    let Some(second) = other else {
+        return one;
+    };
+    Some(moment.min(second))
+}
+
+/// When the first of these copies arrives.
+fn first_of(copies: &[RadioCopy]) -> Option<u64>
+    ensures { IsFirstOf copies.now result }
+{
+    let mut first = None;
+    for copy in copies {
+        first = sooner(Some(copy.at), first);
+    }
+    first
+}
+
+/// Why a worker gave up whose motes gave up in a window.
+pub fn refused(error: ShareError) -> Refused
+    ensures { result ≡ refused_of error }
+{
+    match error {
+        ShareError::Memory => Refused::Memory,
+        ShareError::Thread => Refused::Thread,
+    }
+}
+
+/// Has a worker take in what other workers sent in earlier windows, while they may already send more; run its motes through the
+/// window; and deliver what they sent to the motes of others.
+fn run_worker<R: Wait + RandomSource + AllocGlobal, G: Gate>(
+    rt: &R,
+    gate: &G,
+    window: &CrewWindow<'_>,
+    worker: Worker,
+) -> Result<Worker, Refused>
+    requires { IsReady (net_of window.now.net.now) window.now.of.now window.now.inboxes.now window.now.until worker }
+    ensures runs { IfOk result (RunsWorker (net_of window.now.net.now) window.now.of.now window.now.inboxes.now window.now.until worker) }
+    // No worker waits for another within a window.
+    ensures refused { IfErr result (λ reason. reason ≢ Stopped) }
+{
+    let Worker {
+        mut share,
+        mut courier,
+        first_out: _,
+    } = worker;
+    let Ok(arrived) = courier.collect(rt, window.inboxes) else {
+        return Err(Refused::Memory);
+    };
+    let ran = share.run_window(rt, window.net, window.of, arrived, window.until, gate);
+    let sent = match ran {
+        Ok(sent) => sent,
+        Err(error) => return Err(refused(error)),
+    };
+    let first_out = first_of(&sent);
+    let Ok(()) = courier.deliver(rt, window.inboxes, window.of, sent) else {
+        return Err(Refused::Memory);
+    };
+    Ok(Worker {
+        share,
+        courier,
+        first_out,
+    })
+}
+
+impl<R: Wait + RandomSource + AllocGlobal, G: Gate> Work<Worker> for Runner<'_, R, G> {
+    ghost ready = { λ w worker. IsReady (net_of w.window.net.now) w.window.of.now w.window.inboxes.now w.window.until worker };
+
+    ghost makes = { λ w old new. RunsWorker (net_of w.window.net.now) w.window.of.now w.window.inboxes.now w.window.until old new };
+
+    fn work(&self, worker: Worker) -> Result<Worker, Refused> {
+        run_worker(self.rt, self.gate, &self.window, worker)
+    }
+
+    fn may_start(&self, worker: &Worker) -> bool {
+        self.gate.start(worker.courier.worker)
+    }
+
+    // No worker waits for another within a window.
+    fn give_up(&self) {}
+}

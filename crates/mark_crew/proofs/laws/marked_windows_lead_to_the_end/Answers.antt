@@ -1,5 +1,0 @@
-use Rattle.mark_crew.proofs.Ends.{ends}
-use Rattle.mark_crew.proofs.laws.marked_windows_lead_to_the_end.Goals as goal
-
-pub returns : goal.returns
-returns c = λ n fine of width windows short are crew all. ends n fine of width windows short are crew all

@@ -1,0 +1,115 @@
+-- All motes before each window: the windows of all workers are those of the law of windows.
+use Rattle.std.proofs.Common.{◌≡◌, ℕ, zero, suc, ◌+◌, ◌<◌, ◌≤◌, true, List, [], ◌++◌, length, refl, sym, ap, ◌∙◌, subst, inl, inr, arith, append-nil, Option, Some, None}
+use Rattle.std.specs.List.{filter, slice_get}
+use Rattle.std.specs.Option.{option_map_or}
+use Rattle.std.proofs.lemmas.Bool.{cases_Bool}
+use Rattle.radio_packet.specs.declared.copy.RadioCopy.{RadioCopy}
+use Rattle.mote_net.specs.Net.{NetTold}
+use Rattle.window_laws.specs.System.{RunsForward}
+use Rattle.window_laws.specs.Windows.{Alone, first_mote, Windows, is_at, Last}
+use Rattle.net_agenda.specs.NetSystem.{system_of}
+use Rattle.worker_cut.specs.Crossed.{is_own, is_to, copies_known, leaves}
+use Rattle.worker_cut.specs.Laws.{HasGathered}
+use Rattle.copy_inbox.specs.Items.{copies_of}
+use Rattle.copy_exchange.proofs.Parts.{from, from-append}
+use Rattle.mark_exchange.specs.Pushes.{sent_before}
+use Rattle.worker_window.specs.Share.{Motes}
+use Rattle.worker_window.specs.Window.{RunsOwn, copies_out}
+use Rattle.joined_workers.specs.Worker.{IsCut}
+use Rattle.joined_workers.proofs.Lookups.{each_at}
+use Rattle.joined_workers.proofs.Same.{own_copies_same}
+use Rattle.joined_workers.proofs.Starts.{none_crossed}
+use Rattle.joined_workers.proofs.Step.{own_of, led_next, told_next}
+use Rattle.marked_workers.specs.Bounds.{bound, AreWindows}
+use Rattle.marked_workers.specs.All.{AllRan}
+use Rattle.marked_workers.proofs.Bounds.{at_first, begins_before, no_wider}
+use Rattle.marked_workers.proofs.Lists.{none_before}
+use Rattle.marked_workers.proofs.Pairs.{sent_to}
+use Rattle.marked_workers.proofs.Seen.{sent_so_far, of_worker, of_nobody, sees, seen}
+
+module _ (n : NetTold) (fine : RunsForward (system_of n)) (of : List ℕ) (width windows workers : ℕ) (all : AllRan n of width windows workers) (cut : IsCut (length n.motes) workers of) (are : AreWindows width n.end windows)
+    (short : width ≤ (system_of n).lookahead) where
+  -- all motes before a window, each as its worker had it
+  abbrev pub stage : ℕ → Motes
+  stage zero = first_mote (system_of n)
+  stage (suc k) = λ m. option_map_or (λ w. (all.story w).motes (suc k) m) (slice_get of m) (stage k m)
+
+  pub own_stage : (v : ℕ) → v < workers → (k m : ℕ) → is_own of v m ≡ true → (all.story v).motes k m ≡ stage k m
+  own_stage v lv zero m mine = ap (λ f. f m) (all.ran v lv).first
+  own_stage v lv (suc k) m mine = sym (ap (λ o. option_map_or (λ w. (all.story w).motes (suc k) m) o (stage k m)) (own_of of v m mine))
+
+  abbrev so_far : (v k : ℕ) → List RadioCopy
+  so_far = sent_so_far n of width windows workers all cut are
+
+  pub record Reached (k : ℕ) : Type 0 where
+    pub led : Windows (system_of n) 0 (bound width n.end k) (first_mote (system_of n)) (stage k)
+    pub told : (v : ℕ) → v < workers → HasGathered (system_of n) of (stage k) v (so_far v k)
+
+  first_reached : Reached 0
+  first_reached = record {
+    led = subst (λ t. Windows (system_of n) 0 t (first_mote (system_of n)) (first_mote (system_of n))) (sym (at_first width n.end)) Last;
+    told = λ v lv s.
+        none_before s (λ w. sent_before 0 (sent_to n of width windows workers all w v)) workers (λ w lw. refl) ∙ sym (none_crossed (system_of n) of v s);
+  }
+
+  module _ (k : ℕ) (low : k < windows) where
+    abbrev start : ℕ
+    start = bound width n.end k
+
+    abbrev until : ℕ
+    until = bound width n.end (suc k)
+
+    -- of its own motes and of what it could see, the worker knew what all of them were and what was sent
+    same_known : (v : ℕ) → v < workers → (m s : ℕ)
+        → filter (sees n of width windows workers all cut are k m) (copies_known (system_of n) (is_own of v) ((all.story v).motes k) (copies_of ((all.story v).taken k)) s)
+        ≡ filter (sees n of width windows workers all cut are k m) (copies_known (system_of n) (is_own of v) (stage k) (so_far v k) s)
+    same_known v lv m s = elim (cases_Bool (is_own of v s)) [
+      | inl e ↦ rw e (ap (filter (sees n of width windows workers all cut are k m)) (own_copies_same n of v ((all.story v).motes k) (stage k) (own_stage v lv k) s e))
+      | inr e ↦ rw e (seen n of width windows workers all cut are v lv k low m s e)
+    ]
+
+    own_runs : (v : ℕ) → v < workers → (m : ℕ) → is_own of v m ≡ true → RunsOwn n (is_own of v) start until (stage k) ((all.story v).motes (suc k)) (so_far v k) m
+    own_runs v lv m mine =
+        let ran = ((all.ran v lv).runs k low).runs m mine in
+        record {
+          inbox = ran.inbox;
+          is_inbox = λ t s. ran.is_inbox t s ∙ ap (filter (is_at t)) (same_known v lv m s);
+          alone = subst (λ x. Alone (system_of n) m until ran.inbox x ((all.story v).motes (suc k) m)) (own_stage v lv k m mine) ran.alone;
+        }
+
+    same_out : (v : ℕ) → v < workers → (s : ℕ) → copies_out n (is_own of v) ((all.story v).motes k) s ≡ copies_out n (is_own of v) (stage k) s
+    same_out v lv s = elim (cases_Bool (is_own of v s)) [
+      | inl e ↦ rw e (ap (filter (leaves (is_own of v))) (own_copies_same n of v ((all.story v).motes k) (stage k) (own_stage v lv k) s e))
+      | inr e ↦ rw e refl
+    ]
+
+    own_out : (v : ℕ) → v < workers → (s : ℕ) → copies_out n (is_own of v) ((all.story v).motes (suc k)) s ≡ copies_out n (is_own of v) (stage k) s ++ from s ((all.story v).sent k)
+    own_out v lv s = ((all.ran v lv).runs k low).out s ∙ ap (λ l. l ++ from s ((all.story v).sent k)) (same_out v lv s)
+
+    -- one window more was sent
+    sent_more : (v s : ℕ) (o : Option ℕ) → slice_get of s ≡ o
+        → from s (so_far v (suc k)) ≡ from s (so_far v k) ++ option_map_or (λ u. from s (filter (is_to of v) ((all.story u).sent k))) o []
+    sent_more v s None e =
+        of_nobody n of width windows workers all cut are v (suc k) s (omega arith) e
+        ∙ sym (append-nil (from s (so_far v k)) ∙ of_nobody n of width windows workers all cut are v k s (omega arith) e)
+    sent_more v s (Some u) e =
+        let lu = each_at (λ w. w < workers) of s u cut.there e in
+        let to = sent_to n of width windows workers all u v in
+        of_worker n of width windows workers all cut are v (suc k) s u (omega arith) lu e
+        ∙ (from-append s (sent_before k to) (to k) ∙ ap (λ l. l ++ from s (to k)) (sym (of_worker n of width windows workers all cut are v k s u (omega arith) lu e)))
+
+    narrow : until ≤ start + (system_of n).lookahead
+    narrow = let w = no_wider width n.end windows are k low in omega arith
+
+    next_reached : Reached k → Reached (suc k)
+    next_reached at = record {
+      led = led_next n fine of workers cut start until (stage k) (begins_before width n.end windows are k low) narrow (λ v. so_far v k) (λ v. so_far v k) (λ v. (all.story v).sent k) (λ v. (all.story v).motes (suc k)) at.told
+          (λ v lv s. refl) own_runs own_out (λ v lv. ((all.ran v lv).runs k low).goes) at.led;
+      told = λ v lv.
+          told_next n fine of workers cut start until (stage k) (begins_before width n.end windows are k low) narrow (λ v. so_far v k) (λ v. so_far v k) (λ v. (all.story v).sent k) (λ v. (all.story v).motes (suc k)) at.told
+          (λ v lv s. refl) own_runs own_out (λ v lv. ((all.ran v lv).runs k low).goes) v lv (so_far v (suc k)) (λ s. sent_more v s (slice_get of s) refl);
+    }
+
+  pub reached : (k : ℕ) → k ≤ windows → Reached k
+  reached zero le = first_reached
+  reached (suc k) le = next_reached k (omega arith) (reached k (omega arith))

@@ -1,0 +1,156 @@
+-- A worker's windows, one after another: what each makes of what its thread promises.
+use Rattle.std.proofs.Common.{◌≡◌, ◌≢◌, ◌==◌, ℕ, suc, ◌<◌, ◌≤◌, List, [], ◌∷◌, ◌++◌, length, get_or, map, refl, sym, ap, ◌∙◌, subst, arith, None}
+use Rattle.std.specs.List.{filter, AllByRecursion as Each}
+use Rattle.std.proofs.lemmas.Bool.{ne_eqb}
+use Rattle.radio_packet.specs.declared.copy.RadioCopy.{RadioCopy}
+use Rattle.mote_net.specs.Net.{NetTold}
+use Rattle.window_laws.proofs.Lists.{every_weaker}
+use Rattle.net_agenda.specs.NetSystem.{system_of}
+use Rattle.worker_cut.specs.Crossed.{is_to}
+use Rattle.copy_inbox.specs.declared.items.Carried.{Carried}
+use Rattle.copy_inbox.specs.declared.items.Carried.TheVariants.{Packet, Mark}
+use Rattle.copy_inbox.specs.declared.items.Item.{Item}
+use Rattle.copy_inbox.specs.declared.rule.Desk.{Desk}
+use Rattle.copy_inbox.specs.Items.{copies_of, part, OfMade}
+use Rattle.copy_inbox.specs.Handles.{InboxId, TakerView, after_taking}
+use Rattle.copy_inbox.proofs.Parts.{part-append, part-else}
+use Rattle.copy_exchange.specs.Couriers.{IsSeated, Reaches, Stays, pushed_list, pushed_to}
+use Rattle.copy_exchange.proofs.Delivered.{stays_on}
+use Rattle.copy_exchange.proofs.Marked.{marks_stay, stays_same}
+use Rattle.mark_exchange.specs.Pushes.{marks_in}
+use Rattle.mark_exchange.specs.Due.{IsDue}
+use Rattle.mark_exchange.proofs.Delivered.{takes_stays, takes_seated}
+use Rattle.worker_window.specs.Share.{Keeps}
+use Rattle.worker_window.specs.Window.{CanRun, ComesIn, GoesOut, RunsWindow}
+use Rattle.joined_workers.specs.Worker.{IsCut}
+use Rattle.joined_workers.proofs.Working.{leaves_sent}
+use Rattle.marked_workers.specs.declared.worker.MarkWorker.{MarkWorker}
+use Rattle.marked_workers.specs.Bounds.{bound, windows_of, AreWindows}
+use Rattle.marked_workers.specs.Story.{RunsMarked}
+use Rattle.marked_workers.specs.Thread.{IsManned, SendsWindow, TakesWindow, HasRun}
+use Rattle.marked_workers.proofs.Bounds.{are_windows, begins_before, no_wider}
+use Rattle.marked_workers.proofs.Promise.{promise_first, promise_next}
+
+-- what goes out of a worker is for a mote of one of the workers
+pub reaches_sent : (n : NetTold) (of : List ℕ) (workers worker : ℕ) (sent : List RadioCopy) → IsCut (length n.motes) workers of → Each (GoesOut n of worker) sent → Each (Reaches of workers) sent
+reaches_sent n of workers worker sent cut out = every_weaker _ _ (λ c h. record { there = h.there; its_worker = h.its_worker }) sent (leaves_sent n of workers worker sent cut out)
+
+-- items of senders that were made have no part of another
+none_of_others : (made : ℕ) (xs : List Item) → Each (λ (x : Item). x.sender < made) xs → OfMade made xs
+none_of_others made [] h s le = refl
+none_of_others made (x ∷ xs) h s le =
+    let low = h.0 in
+    part-else s x xs (λ e. absurd (omega arith)) ∙ none_of_others made xs h.1 s le
+
+of_made_more : (made : ℕ) (xs ys : List Item) → OfMade made xs → Each (λ (x : Item). x.sender < made) ys → OfMade made (xs ++ ys)
+of_made_more made xs ys h more s le = part-append s xs ys ∙ (ap (λ l. l ++ part s ys) (h s le) ∙ none_of_others made ys more s le)
+
+due_comes : (of : List ℕ) (worker from : ℕ) (copies : List RadioCopy) → Each (IsDue of worker from) copies → Each (ComesIn of worker from) copies
+due_comes of worker from copies h = every_weaker _ _ (λ c d. record { to = d.to; sender = d.sender; later = d.later }) copies h
+
+-- before its first window
+pub no_window : (n : NetTold) (of : List ℕ) (width : ℕ) (inboxes : List InboxId) (w : MarkWorker) → IsManned n of inboxes w → HasRun n of width 0 inboxes w w
+no_window n of width inboxes w m = record {
+  stays = stays_same w.carries.courier;
+  promise = subst (λ (p : ℕ → List Carried). RunsMarked n of width 0 (length inboxes) w.carries.courier.worker w.share w.carries.courier.taker.desk p)
+      (λ i v. sym (m.none_pushed v) i)
+      (promise_first n of width (length inboxes) w.carries.courier.worker w.share w.carries.courier.taker.desk m.none_taken m.none_gathered m.keeps);
+  seated = m.seated;
+  marked = m.marked;
+  counts = m.counts;
+}
+
+-- a worker behind some windows
+module _ (n : NetTold) (of : List ℕ) (width k until : ℕ) (inboxes : List InboxId) (wide : 0 < width) (low : k < windows_of width n.end) (at : until ≡ bound width n.end (suc k)) (first old : MarkWorker)
+    (stands : HasRun n of width k inboxes first old) where
+  are : AreWindows width n.end (windows_of width n.end)
+  are = are_windows width n.end wide
+
+  up : bound width n.end k ≤ until
+  up = let b = begins_before width n.end (windows_of width n.end) are k low in let e = at in omega arith
+
+  -- can run through the next
+  pub can_run : CanRun n of until old.share []
+  can_run = record {
+    worker = first.carries.courier.worker;
+    from = bound width n.end k;
+    motes = stands.promise.story.motes k;
+    taken = copies_of old.carries.courier.taker.desk.taken;
+    keeps = stands.promise.keeps;
+    order = up;
+    come = tt;
+  }
+
+  -- and once it did, it is behind one more
+  module _ (short : width ≤ (system_of n).lookahead) (between new : MarkWorker) (sends : SendsWindow n of (length inboxes) k until old between) (seated : IsSeated inboxes between.carries.courier) (takes : TakesWindow of k until between new) where
+    abbrev worker : ℕ
+    worker = first.carries.courier.worker
+
+    abbrev desk : Desk
+    desk = old.carries.courier.taker.desk
+
+    abbrev more : List Item
+    more = takes.took.items
+
+    ran : RunsWindow n of worker (bound width n.end k) until (stands.promise.story.motes k) (copies_of desk.taken) between.share sends.sent
+    ran =
+        let b = no_wider width n.end (windows_of width n.end) are k low in
+        let e = at in
+        let s = short in
+        sends.runs worker (bound width n.end k) (stands.promise.story.motes k) (copies_of desk.taken) stands.promise.keeps up (omega arith)
+
+    goes : Each (GoesOut n of worker) sends.sent
+    goes = subst (λ w. Each (GoesOut n of w) sends.sent) stands.promise.keeps.is_worker sends.out
+
+    taker_is : new.carries.courier.taker ≡ after_taking old.carries.courier.taker more
+    taker_is = takes.took.taker ∙ ap (λ t. after_taking t more) sends.pushes.taker
+
+    between_made : between.carries.courier.taker.desk.made ≡ desk.made
+    between_made = ap (λ (t : TakerView). t.desk.made) sends.pushes.taker
+
+    of_made : OfMade desk.made (desk.taken ++ more)
+    of_made = of_made_more desk.made desk.taken more stands.promise.ran.of_made (subst (λ m. Each (λ (x : Item). x.sender < m) more) between_made takes.took.made)
+
+    lead : (s : ℕ) → s < desk.made → suc k ≤ marks_in (part s (desk.taken ++ more))
+    lead s there =
+        let made : new.carries.courier.taker.desk.made ≡ desk.made = ap (λ (t : TakerView). t.desk.made) taker_is in
+        let taken : new.carries.courier.taker.desk.taken ≡ desk.taken ++ more = ap (λ (t : TakerView). t.desk.taken) taker_is in
+        let all = takes.counts.all in
+        let counted = takes.counts.each s 0 (omega arith) ∙ ap (λ l. marks_in (part s l)) taken in
+        let past = takes.past s 0 (omega arith) in
+        omega arith
+
+    pushes_more : (v : ℕ) → v < length inboxes → v ≢ worker → pushed_to new.carries.courier v ≡ pushed_to old.carries.courier v ++ (map Packet (filter (is_to of v) sends.sent) ++ Mark k ∷ [])
+    pushes_more v there other =
+        ap (λ s. pushed_list (get_or s.items v None)) takes.senders
+        ∙ sends.pushes.pushes v there (ap (λ w. v == w) stands.stays.worker ∙ ne_eqb v worker other)
+
+    arrived_come : Each (ComesIn of worker until) takes.arrived
+    arrived_come = due_comes of worker until takes.arrived (subst (λ w. Each (IsDue of w until) takes.arrived) (sends.pushes.stays.worker ∙ stands.stays.worker) takes.took.due)
+
+    keeps : Keeps n of worker until ran.next (copies_of desk.taken ++ copies_of more) new.share
+    keeps = subst (λ l. Keeps n of worker until ran.next (copies_of desk.taken ++ l) new.share) takes.took.arrived
+        (takes.keeps n of worker until ran.next (copies_of desk.taken) ran.keeps arrived_come)
+
+    stays : Stays old.carries.courier new.carries.courier
+    stays = stays_on old.carries.courier between.carries.courier new.carries.courier sends.pushes.stays
+        (takes_stays of until between.carries.courier new.carries.courier takes.arrived takes.took takes.worker takes.senders)
+
+    pub one_more : HasRun n of width (suc k) inboxes first new
+    one_more = record {
+      stays = stays_on first.carries.courier old.carries.courier new.carries.courier stands.stays stays;
+      promise = subst (λ (t : TakerView). RunsMarked n of width (suc k) (length inboxes) worker new.share t.desk (pushed_to new.carries.courier)) (sym taker_is) promise;
+      seated = takes_seated inboxes of until between.carries.courier new.carries.courier takes.arrived takes.took takes.worker takes.senders seated;
+      marked = marks_stay old.carries.courier new.carries.courier stays stands.marked;
+      counts = takes.counts;
+    }
+      where
+        Ran : ℕ → Type 0
+        Ran t = (r : RunsWindow n of worker (bound width n.end k) t (stands.promise.story.motes k) (copies_of desk.taken) between.share sends.sent)
+            × Keeps n of worker t r.next (copies_of desk.taken ++ copies_of more) new.share
+
+        ran_to : Ran (bound width n.end (suc k))
+        ran_to = subst Ran at (ran, keeps)
+
+        promise : RunsMarked n of width (suc k) (length inboxes) worker new.share (after_taking old.carries.courier.taker more).desk (pushed_to new.carries.courier)
+        promise = promise_next n of width (length inboxes) worker k old.share between.share new.share desk (pushed_to old.carries.courier) (pushed_to new.carries.courier) more sends.sent stands.promise ran_to.0 goes lead of_made pushes_more ran_to.1

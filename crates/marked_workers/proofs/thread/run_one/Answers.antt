@@ -1,0 +1,19 @@
+use Rattle.std.proofs.Common.{suc, ◌≤◌}
+use Rattle.std.proofs.lemmas.Result.{IfOk-weaker}
+use Rattle.mote_net.specs.Net.{net_of}
+use Rattle.net_agenda.specs.NetSystem.{system_of}
+use Rattle.marked_workers.specs.declared.worker.MarkWorker.{MarkWorker}
+use Rattle.marked_workers.specs.Thread.{TakesWindow, HasRun}
+use Rattle.marked_workers.proofs.Windows.{one_more}
+use Rattle.marked_workers.proofs.thread.run_one.Goals as goal
+
+pub returns : goal.returns
+returns g c =
+    let n = net_of c.args.run.now.net.now in
+    let of = c.args.run.now.of.now in
+    let width = c.args.run.now.width in
+    let inboxes = c.args.run.now.inboxes.now in
+    IfOk-weaker c.take_window.result (λ _. TakesWindow of c.args.window c.args.until c.send_window.new.worker c.take_window.new.worker)
+    (λ _. width ≤ (system_of n).lookahead → (first : MarkWorker) → HasRun n of width c.args.window inboxes first c.args.worker.now → HasRun n of width (suc c.args.window) inboxes first c.take_window.new.worker)
+    (λ _ takes short first stands. one_more n of width c.args.window c.args.until inboxes c.requires.wide c.requires.there c.requires.until first c.args.worker.now stands short c.send_window.new.worker c.take_window.new.worker c.in_ok-send_window.ensures.sends c.in_ok-send_window.ensures.seated takes)
+    c.take_window.ensures.takes

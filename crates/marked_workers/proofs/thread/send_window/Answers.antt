@@ -1,0 +1,20 @@
+use Rattle.std.proofs.Common.{subst, append-nil, List}
+use Rattle.radio_packet.specs.declared.copy.RadioCopy.{RadioCopy}
+use Rattle.mote_net.specs.Net.{net_of}
+use Rattle.worker_window.specs.Window.{RunsWindow}
+use Rattle.marked_workers.proofs.thread.send_window.Goals as goal
+
+pub returns-clause-sends : goal.returns-clause-sends
+returns-clause-sends g c =
+    let n = net_of c.args.run.now.net.now in
+    let of = c.args.run.now.of.now in
+    let none = c.new-none.ensures.items in
+    let window = rw none at c.in-Ok.ensures.window in
+    record {
+      sent = c.in-Ok.sent.items;
+      runs = λ worker from motes taken keeps up short.
+          subst (λ (l : List RadioCopy). RunsWindow n of worker from c.args.until motes l c.run_window-ran.new.self c.in-Ok.sent.items) (append-nil taken) (window worker from motes taken keeps up short tt);
+      out = c.in-Ok.ensures.out;
+      pushes = rw c.deref.ensures.value at c.in-Ok-deliver_window.ensures.pushes;
+      marks = c.in-Ok-deliver_window.ensures.counts;
+    }

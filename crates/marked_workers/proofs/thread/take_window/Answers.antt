@@ -1,0 +1,12 @@
+use Rattle.marked_workers.proofs.thread.take_window.Goals as goal
+
+pub returns-clause-takes : goal.returns-clause-takes
+returns-clause-takes g c = record {
+  arrived = c.in-Ok.arrived.items;
+  took = c.in-Ok.ensures.took;
+  counts = c.in-Ok.ensures.counts;
+  past = c.in-Ok.ensures.marked;
+  worker = c.in-Ok.ensures.worker;
+  senders = c.in-Ok.ensures.senders;
+  keeps = rw c.deref.ensures.value at c.in_ok-take_in.ensures;
+}

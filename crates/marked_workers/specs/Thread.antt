@@ -1,0 +1,56 @@
+-- What a worker's thread makes of its worker: in each window, and in all of them.
+use Rattle.std.specs.Prelude.{ℕ, ◌≡◌, ◌+◌, ◌≤◌, List, [], ◌++◌, length}
+use Rattle.std.specs.List.{AllByRecursion as Each}
+use Rattle.radio_packet.specs.declared.copy.RadioCopy.{RadioCopy}
+use Rattle.mote_net.specs.Net.{NetTold}
+use Rattle.window_laws.specs.Windows.{first_mote}
+use Rattle.net_agenda.specs.NetSystem.{system_of}
+use Rattle.copy_inbox.specs.Handles.{InboxId}
+use Rattle.copy_exchange.specs.Couriers.{HasMarks, HasPushedNothing, IsSeated, Stays, pushed_to}
+use Rattle.mark_exchange.specs.Delivers.{PushesWindow}
+use Rattle.mark_exchange.specs.Due.{TakesDue}
+use Rattle.mark_exchange.specs.Marks.{AllPast, Counts}
+use Rattle.worker_window.specs.Share.{Keeps, Motes}
+use Rattle.worker_window.specs.Window.{ComesIn, GoesOut, RunsWindow}
+use Rattle.joined_workers.specs.Worker.{IsCut}
+use Rattle.marked_workers.specs.declared.worker.MarkWorker.{MarkWorker}
+use Rattle.marked_workers.specs.Story.{RunsMarked}
+
+-- a worker before its first window
+pub record IsManned (n : NetTold) (of : List ℕ) (inboxes : List InboxId) (w : MarkWorker) : Type 0 where
+  pub cut : IsCut (length n.motes) (length inboxes) of
+  pub keeps : Keeps n of w.carries.courier.worker 0 (first_mote (system_of n)) [] w.share
+  pub seated : IsSeated inboxes w.carries.courier
+  pub marked : HasMarks w.carries.courier
+  pub counts : Counts w.carries.marks.items w.carries.courier.taker.desk
+  pub none_taken : w.carries.courier.taker.desk.taken ≡ []
+  pub none_gathered : w.carries.courier.taker.desk.gathered ≡ []
+  pub none_pushed : HasPushedNothing w.carries.courier
+
+-- its motes ran through a window, and what they sent to others went out, with the window's mark behind it
+pub record SendsWindow (n : NetTold) (of : List ℕ) (workers window until : ℕ) (old new : MarkWorker) : Type 0 where
+  pub sent : List RadioCopy
+  pub runs : (worker from : ℕ) (motes : Motes) (taken : List RadioCopy) → Keeps n of worker from motes taken old.share
+      → from ≤ until → until ≤ from + (system_of n).lookahead → RunsWindow n of worker from until motes taken new.share sent
+  pub out : Each (GoesOut n of old.share.worker) sent
+  pub pushes : PushesWindow of workers window old.carries.courier new.carries.courier sent
+  pub marks : new.carries.marks ≡ old.carries.marks
+
+-- it took items until the window's mark of each other worker had come, and what they carry is in its share
+pub record TakesWindow (of : List ℕ) (window until : ℕ) (old new : MarkWorker) : Type 0 where
+  pub arrived : List RadioCopy
+  pub took : TakesDue of old.carries.courier.worker until old.carries.courier.taker new.carries.courier.taker arrived
+  pub counts : Counts new.carries.marks.items new.carries.courier.taker.desk
+  pub past : AllPast window new.carries.marks.items
+  pub worker : new.carries.courier.worker ≡ old.carries.courier.worker
+  pub senders : new.carries.courier.senders ≡ old.carries.courier.senders
+  pub keeps : (n : NetTold) (whose : List ℕ) (worker from : ℕ) (motes : Motes) (taken : List RadioCopy) → Keeps n whose worker from motes taken old.share
+      → Each (ComesIn whose worker from) arrived → Keeps n whose worker from motes (taken ++ arrived) new.share
+
+-- a worker, since its first window, behind so many windows
+pub record HasRun (n : NetTold) (of : List ℕ) (width windows : ℕ) (inboxes : List InboxId) (first now : MarkWorker) : Type 0 where
+  pub stays : Stays first.carries.courier now.carries.courier
+  pub promise : RunsMarked n of width windows (length inboxes) first.carries.courier.worker now.share now.carries.courier.taker.desk (pushed_to now.carries.courier)
+  pub seated : IsSeated inboxes now.carries.courier
+  pub marked : HasMarks now.carries.courier
+  pub counts : Counts now.carries.marks.items now.carries.courier.taker.desk

@@ -1,0 +1,209 @@
+//! The run of all workers, each in one thread from its first window to its last.
+
+ghost use Rattle.std.specs.Prelude.{◌≡◌, ◌<◌, ◌≤◌, suc, true, length, map, IfErr, IfOk};
+ghost use Rattle.std.specs.List.{AllByRecursion as Each, AllZip, range_with_len, zip};
+ghost use Rattle.fork_join.specs.declared.work.Refused.TheVariants.{Memory};
+ghost use Rattle.mote_net.specs.Net.{net_of};
+ghost use Rattle.net_agenda.specs.NetSystem.{system_of};
+ghost use Rattle.copy_inbox.specs.Gathered.{Whole};
+ghost use Rattle.copy_exchange.specs.Couriers.{IsSeated};
+ghost use Rattle.copy_exchange.specs.Inboxes.{IsFresh};
+ghost use Rattle.copy_exchange.specs.Steps.{GathersBack};
+ghost use Rattle.joined_workers.specs.Crew.{IsAt};
+ghost use Rattle.joined_workers.specs.Run.{length_of_window};
+ghost use Rattle.joined_workers.specs.Start.{AreFirst};
+ghost use Rattle.joined_workers.specs.Worker.{IsCut};
+ghost use Rattle.marked_workers.specs.Bounds.{windows_of};
+ghost use Rattle.marked_workers.specs.Run.{CanCarry, CarriesFor, RunsAllMarked, manned_by, courier_of};
+ghost use Rattle.marked_workers.specs.Thread.{IsManned, HasRun};
+
+use crate::thread::MarkRunner;
+use crate::worker::{CrewRun, MarkWorker};
+use copy_exchange::{Courier, gather_back};
+use copy_inbox::{Inbox, Taker};
+use fork_join::{Refused, fork_join};
+use mark_exchange::MarkCourier;
+use mote_net::Net;
+use std::alloc::{AllocGlobal, Global};
+use std::random::RandomSource;
+use std::sync::Wait;
+use std::sync::atomic::AtomicBool;
+use std::thread::Threads;
+use window_run::Gate;
+use joined_workers::{Crew, lookahead_of, set_out, window_length};
+use worker_window::Share;
+
+/// What each worker carries: its courier, with a count of marks for each sender on its inbox.
+fn carriers(
+    alloc: Global,
+    couriers: Vec<Courier>,
+    senders: usize,
+) -> Result<Vec<MarkCourier>, Refused>
+    requires { Each (CanCarry senders) couriers.items }
+    ensures carriers { IfOk result (λ carriers. AllZip CarriesFor couriers.items carriers.items) }
+    ensures refused { IfErr result (λ reason. reason ≡ Memory) }
+{
+    let mut carriers = Vec::new(alloc);
+    for courier in couriers {
+        let Ok(carrier) = MarkCourier::new(alloc, courier, senders) else {
+            return Err(Refused::Memory);
+        };
+        carriers.push(carrier)?;
+    }
+    Ok(carriers)
+}
+
+/// Each worker with its share and what it carries.
+fn manned(
+    alloc: Global,
+    shares: Vec<Share>,
+    carriers: Vec<MarkCourier>,
+) -> Result<Vec<MarkWorker>, Refused>
+    ensures workers { IfOk result (λ workers. workers.items ≡ map manned_by (zip shares.items carriers.items)) }
+    ensures refused { IfErr result (λ reason. reason ≡ Memory) }
+{
+    let mut workers = Vec::new(alloc);
+    for (share, carries) in shares.into_iter().zip(carriers) {
+        workers.push(MarkWorker { share, carries })?;
+    }
+    Ok(workers)
+}
+
+/// The workers' shares, and their couriers.
+fn parted(alloc: Global, workers: Vec<MarkWorker>) -> Result<(Vec<Share>, Vec<Courier>), Refused>
+    ensures shares { IfOk result (λ r. r.0.items ≡ map (λ worker. worker.share) workers.items) }
+    ensures couriers { IfOk result (λ r. r.1.items ≡ map courier_of workers.items) }
+    ensures refused { IfErr result (λ reason. reason ≡ Memory) }
+{
+    let mut shares = Vec::new(alloc);
+    let mut couriers = Vec::new(alloc);
+    for worker in workers {
+        let MarkWorker { share, carries } = worker;
+        let MarkCourier { courier, marks: _ } = carries;
+        shares.push(share)?;
+        couriers.push(courier)?;
+    }
+    Ok((shares, couriers))
+}
+
+/// At the end: each worker's taker, which has gathered the senders on its inbox. Out of memory is the one error.
+fn come_home<R: Wait>(
+    rt: &R,
+    alloc: Global,
+    inboxes: &[Inbox],
+    couriers: Vec<Courier>,
+) -> Result<Vec<Taker>, Refused>
+    requires workers { map (λ courier. courier.worker) couriers.items ≡ range_with_len 0 (length inboxes.now) }
+    requires seated { Each (IsSeated inboxes.now) couriers.items }
+    ensures back { IfOk result (λ takers. GathersBack couriers.items takers.items) }
+    ensures refused { IfErr result (λ reason. reason ≡ Memory) }
+{
+    match gather_back(rt, alloc, inboxes, couriers) {
+        Ok(takers) => Ok(takers),
+        Err(_) => Err(Refused::Memory),
+    }
+}
+
+/// Has each worker run all its windows in a thread of its own.
+fn run_together<R, G>(
+    rt: &R,
+    alloc: Global,
+    workers: Vec<MarkWorker>,
+    run: CrewRun<'_>,
+    gate: &G,
+) -> Result<Vec<MarkWorker>, Refused>
+where
+    R: Threads + Wait + RandomSource + AllocGlobal + Sync,
+    G: Gate + Sync,
+    requires wide { 0 < run.width }
+    requires short { run.width ≤ (system_of (net_of run.net.now)).lookahead }
+    requires manned { Each (IsManned (net_of run.net.now) run.of.now run.inboxes.now) workers.items }
+    ensures { let n = net_of run.entry.net.now in IfOk result (λ done. AllZip (HasRun n run.entry.of.now run.entry.width (windows_of run.entry.width n.end) run.entry.inboxes.now) workers.items done.items) }
+{
+    fork_join(rt, alloc, workers, &MarkRunner { rt, gate, run })
+}
+
+/// Senders are created, each worker runs all its windows in its thread, and the senders are collected.
+fn run_threads<R, G>(
+    rt: &R,
+    alloc: Global,
+    net: &Net,
+    of: &[u16],
+    width: u64,
+    gate: &G,
+    crew: Crew,
+) -> Result<Crew, Refused>
+where
+    R: Threads + Wait + RandomSource + AllocGlobal + Sync,
+    G: Gate + Sync,
+    requires wide { 0 < width }
+    requires short { width ≤ (system_of (net_of net.now)).lookahead }
+    requires few { length crew.inboxes.items ≤ 16 }
+    requires cut { IsCut (length (net_of net.now).motes) (length crew.inboxes.items) of.now }
+    requires fresh { AllZip IsFresh crew.inboxes.items crew.takers.items }
+    requires marked { Each (λ taker. taker.desk.marked ≡ true) crew.takers.items }
+    requires first { AreFirst (net_of net.now) of.now (length crew.inboxes.items) crew.shares.items }
+    ensures { IfOk result (RunsAllMarked (net_of net.now) of.now width crew) }
+{
+    let Crew {
+        shares,
+        inboxes,
+        takers,
+        first_out: _,
+    } = crew;
+    let couriers = set_out(alloc, &inboxes, takers)?;
+    let others = inboxes.len().saturating_sub(1);
+    let carriers = carriers(alloc, couriers, others)?;
+    let workers = manned(alloc, shares, carriers)?;
+    let stop = AtomicBool::new(false);
+    let run = CrewRun {
+        net,
+        of,
+        inboxes: &inboxes,
+        width,
+        stop: &stop,
+    };
+    let done = run_together(rt, alloc, workers, run, gate)?;
+    let (shares, couriers) = parted(alloc, done)?;
+    let takers = come_home(rt, alloc, &inboxes, couriers)?;
+    Ok(Crew {
+        shares,
+        inboxes,
+        takers,
+        first_out: None,
+    })
+}
+
+/// Runs the crew to the end of the net, each worker in one thread for the whole run. All windows but the last are of
+/// one length: the lookahead, or `longest`, where that is above 0 and less. `of` tells the worker of each mote. The
+/// inboxes have marks, and nothing is left in them.
+///
+/// # Errors
+/// `Memory`, or `Thread` where a thread couldn't be started, the gate refused a start, or the executor answered an
+/// error: that of the lowest worker that has one; else `Stopped`, where a worker stopped because another one failed.
+pub fn run_marked<R, G>(
+    rt: &R,
+    alloc: Global,
+    net: &Net,
+    of: &[u16],
+    longest: u32,
+    gate: &G,
+    crew: Crew,
+) -> Result<Crew, Refused>
+where
+    R: Threads + Wait + RandomSource + AllocGlobal + Sync,
+    G: Gate + Sync,
+    requires few { length crew.inboxes.items ≤ 16 }
+    requires cut { IsCut (length (net_of net.now).motes) (length crew.inboxes.items) of.now }
+    requires fresh { AllZip IsFresh crew.inboxes.items crew.takers.items }
+    requires marked { Each (λ taker. taker.desk.marked ≡ true) crew.takers.items }
+    requires first { AreFirst (net_of net.now) of.now (length crew.inboxes.items) crew.shares.items }
+    ensures at { let n = net_of net.now in IfOk result (λ done. IsAt n of.now (suc n.end) done) }
+    ensures inboxes { IfOk result (λ done. done.inboxes.items ≡ crew.inboxes.items) }
+    // Each worker ran all windows of this length.
+    ensures windows { let n = net_of net.now in IfOk result (RunsAllMarked n of.now (length_of_window (system_of n).lookahead longest) crew) }
+    ensures all_taken { IfOk result (λ done. Each (λ taker. Whole taker.desk.gathered taker.desk.taken) done.takers.items) }
+{
+    let width = window_length(lookahead_of(net), longest);
+    run_threads(rt, alloc, net, of, width, gate, crew)
+}

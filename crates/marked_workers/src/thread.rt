@@ -1,0 +1,191 @@
+//! A worker in its thread: all windows of the run, one after another.
+
+ghost use Rattle.std.specs.Prelude.{◌≡◌, ◌≢◌, ℕ, ◌^◌, ◌<◌, ◌≤◌, suc, [], length, IfErr, IfOk, OnOk};
+ghost use Rattle.fork_join.specs.declared.work.Refused.TheVariants.{Stopped, Thread};
+ghost use Rattle.mote_net.specs.Net.{net_of};
+ghost use Rattle.net_agenda.specs.NetSystem.{system_of};
+ghost use Rattle.copy_exchange.specs.Couriers.{HasMarks, IsSeated};
+ghost use Rattle.mark_exchange.specs.Marks.{Counts};
+ghost use Rattle.worker_window.specs.Window.{CanRun};
+ghost use Rattle.joined_workers.specs.Worker.{IsCut};
+ghost use Rattle.marked_workers.specs.Bounds.{bound, windows_of};
+ghost use Rattle.marked_workers.specs.Refusals.{refused_of};
+ghost use Rattle.marked_workers.specs.declared.worker.MarkWorker.{MarkWorker as MarkWorkerOfCode};
+ghost use Rattle.marked_workers.specs.Thread.{IsManned, SendsWindow, TakesWindow, HasRun};
+
+use crate::worker::{CrewRun, MarkWorker};
+use fork_join::{Refused, Work};
+use mark_exchange::{MarkError, Standing};
+use std::alloc::AllocGlobal;
+use std::random::RandomSource;
+use std::sync::Wait;
+use std::sync::atomic::Ordering;
+use window_run::Gate;
+use joined_workers::{refused, window_end};
+
+/// What each worker's thread needs besides: the runtime, the gate into its turns, and the run.
+pub struct MarkRunner<'a, R, G> {
+    pub rt: &'a R,
+    pub gate: &'a G,
+    pub run: CrewRun<'a>,
+}
+
+impl<R, G> Drop for MarkRunner<'_, R, G> {
+    fn drop(self) {
+        let MarkRunner {
+            rt: _,
+            gate: _,
+            run: _,
+        } = self;
+    }
+}
+
+/// The worker's motes run through a window, and what they send to others goes out, with the window's mark behind it.
+fn send_window<R: Wait + RandomSource + AllocGlobal, G: Gate>(
+    rt: &R,
+    gate: &G,
+    run: &CrewRun<'_>,
+    worker: &mut MarkWorker,
+    window: u64,
+    until: u64,
+) -> Result<(), Refused>
+    requires early { until ≤ 2 ^ 40 }
+    requires cut { IsCut (length (net_of run.now.net.now).motes) (length run.now.inboxes.now) run.now.of.now }
+    requires ready { CanRun (net_of run.now.net.now) run.now.of.now until worker.old.share [] }
+    requires seated { IsSeated run.now.inboxes.now worker.old.carries.courier }
+    requires marked { HasMarks worker.old.carries.courier }
+    ensures sends { OnOk result (SendsWindow (net_of run.now.net.now) run.now.of.now (length run.now.inboxes.now) window until worker.old worker.new) }
+    ensures seated { OnOk result (IsSeated run.now.inboxes.now worker.new.carries.courier) }
+    ensures refused { IfErr result (λ reason. reason ≢ Stopped) }
+{
+    let none = Vec::new(rt.alloc());
+    let ran = worker
+        .share
+        .run_window(rt, run.net, run.of, none, until, gate);
+    let sent = match ran {
+        Ok(sent) => sent,
+        Err(error) => return Err(refused(error)),
+    };
+    let Ok(()) = worker
+        .carries
+        .deliver_window(rt, run.inboxes, run.of, &sent, window)
+    else {
+        return Err(Refused::Memory);
+    };
+    Ok(())
+}
+
+/// Why a worker gave up that took no further. A copy that isn't due comes only where another worker has broken the
+/// protocol, which none does.
+fn gave_up(error: MarkError) -> Refused
+    ensures { result ≡ refused_of error }
+{
+    match error {
+        MarkError::Memory => Refused::Memory,
+        MarkError::Stopped | MarkError::Undue => Refused::Stopped,
+    }
+}
+
+/// The worker takes items until each other worker's mark of the window has come, and takes in the copies among them.
+fn take_window<R: Wait + AllocGlobal>(
+    rt: &R,
+    run: &CrewRun<'_>,
+    worker: &mut MarkWorker,
+    window: u64,
+    until: u64,
+) -> Result<(), Refused>
+    requires seated { IsSeated run.now.inboxes.now worker.old.carries.courier }
+    requires counts { Counts worker.old.carries.marks.items worker.old.carries.courier.taker.desk }
+    ensures takes { OnOk result (TakesWindow run.now.of.now window until worker.old worker.new) }
+    ensures refused { IfErr result (λ reason. reason ≢ Thread) }
+{
+    let number = worker.carries.courier.worker;
+    let inbox = &run.inboxes[usize::from(number)];
+    let standing = Standing {
+        worker: number,
+        of: run.of,
+        from: until,
+    };
+    let took = worker
+        .carries
+        .take_window(rt, rt.alloc(), inbox, run.stop, &standing, window);
+    let arrived = match took {
+        Ok(arrived) => arrived,
+        Err(error) => return Err(gave_up(error)),
+    };
+    worker.share.take_in(&arrived)?;
+    Ok(())
+}
+
+/// One window of a worker that has run so many.
+fn run_one<R: Wait + RandomSource + AllocGlobal, G: Gate>(
+    rt: &R,
+    gate: &G,
+    run: &CrewRun<'_>,
+    worker: &mut MarkWorker,
+    window: u64,
+    until: u64,
+) -> Result<(), Refused>
+    requires early { until ≤ 2 ^ 40 }
+    requires wide { 0 < run.now.width }
+    requires there { window < windows_of run.now.width (net_of run.now.net.now).end }
+    requires until { until ≡ bound run.now.width (net_of run.now.net.now).end (suc window) }
+    requires cut { IsCut (length (net_of run.now.net.now).motes) (length run.now.inboxes.now) run.now.of.now }
+    requires stands { (first : MarkWorkerOfCode) × HasRun (net_of run.now.net.now) run.now.of.now run.now.width window run.now.inboxes.now first worker.old }
+    ensures { let n = net_of run.now.net.now in OnOk result (run.now.width ≤ (system_of n).lookahead → (first : MarkWorkerOfCode) → HasRun n run.now.of.now run.now.width window run.now.inboxes.now first worker.old
+        → HasRun n run.now.of.now run.now.width (suc window) run.now.inboxes.now first worker.new) }
+{
+    send_window(rt, gate, run, worker, window, until)?;
+    take_window(rt, run, worker, window, until)
+}
+
+/// All windows of a worker, to the end of the net.
+///
+/// # Errors
+/// `Memory`; `Thread` where the executor answered an error; `Stopped` where it stopped because another worker failed.
+fn run_through<R: Wait + RandomSource + AllocGlobal, G: Gate>(
+    rt: &R,
+    gate: &G,
+    run: &CrewRun<'_>,
+    worker: MarkWorker,
+) -> Result<MarkWorker, Refused>
+    requires wide { 0 < run.now.width }
+    requires short { run.now.width ≤ (system_of (net_of run.now.net.now)).lookahead }
+    requires manned { IsManned (net_of run.now.net.now) run.now.of.now run.now.inboxes.now worker }
+    ensures { let n = net_of run.now.net.now in IfOk result (HasRun n run.now.of.now run.now.width (windows_of run.now.width n.end) run.now.inboxes.now worker) }
+{
+    let end = run.net.end();
+    let mut worker = worker;
+    let mut window: u64 = 0;
+    let mut from: u64 = 0;
+    'windows: while from <= end {
+        let until = window_end(from, run.width, end);
+        run_one(rt, gate, run, &mut worker, window, until)?;
+        window += 1;
+        from = until;
+    }
+    Ok(worker)
+}
+
+impl<R: Wait + RandomSource + AllocGlobal, G: Gate> Work<MarkWorker> for MarkRunner<'_, R, G> {
+    ghost ready = { λ w worker. (0 < w.run.width) × (w.run.width ≤ (system_of (net_of w.run.net.now)).lookahead) × IsManned (net_of w.run.net.now) w.run.of.now w.run.inboxes.now worker };
+
+    ghost makes = { λ w old new. let n = net_of w.run.net.now in HasRun n w.run.of.now w.run.width (windows_of w.run.width n.end) w.run.inboxes.now old new };
+
+    fn work(&self, worker: MarkWorker) -> Result<MarkWorker, Refused> {
+        let done = run_through(self.rt, self.gate, &self.run, worker);
+        // The other workers wait for marks that won't come.
+        if done.is_err() {
+            self.run.stop.store(true, Ordering::SeqCst);
+        }
+        done
+    }
+
+    fn may_start(&self, worker: &MarkWorker) -> bool {
+        self.gate.start(worker.carries.courier.worker)
+    }
+
+    fn give_up(&self) {
+        self.run.stop.store(true, Ordering::SeqCst);
+    }
+}

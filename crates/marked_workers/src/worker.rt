@@ -1,0 +1,28 @@
+//! A worker that lives for the whole run.
+
+use copy_inbox::Inbox;
+use mark_exchange::MarkCourier;
+use mote_net::Net;
+use std::sync::atomic::AtomicBool;
+use worker_window::Share;
+
+/// A worker for the whole run: its share of the net, and what it carries.
+#[derive(Drop)]
+pub struct MarkWorker {
+    pub share: Share,
+    pub carries: MarkCourier,
+}
+
+/// What all workers of a run have in common.
+#[derive(Clone, Copy)]
+pub struct CrewRun<'a> {
+    pub net: &'a Net,
+    /// The worker of each mote.
+    pub of: &'a [u16],
+    /// The inbox of each worker.
+    pub inboxes: &'a [Inbox],
+    /// How long a window is.
+    pub width: u64,
+    /// A worker that fails sets it, so that those that wait for its marks end too.
+    pub stop: &'a AtomicBool,
+}

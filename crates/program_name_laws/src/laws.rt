@@ -1,0 +1,36 @@
+//! Laws of programs. Each is the contract of a function that does nothing.
+
+ghost use Rattle.program_tree.specs.Program.{tree_of};
+ghost use Rattle.program_name_laws.specs.Complete.{IsComplete};
+ghost use Rattle.program_name_laws.specs.Declared.{IsDeclared};
+ghost use Rattle.program_name_laws.specs.Laws.{NamesAreDeclared, DeclarationsAreComplete, EachNameIsListed};
+ghost use Rattle.program_name_laws.specs.Trees.{TreesThatDeclare, TreesThatDoNot, TreesThatLack};
+
+use program_tree::Program;
+
+/// Whatever text has a tree: each variable, process, thread, timer, semaphore and event that the tree names, by its number, is one that is
+/// declared before the block in which it is named; the numbers in `autostart` and of the receiver are those of processes. And each declaration
+/// has what it declares: a variable its first value, a semaphore its first count, a process its code, a callback timer and a thread its
+/// block, and a timer its place among those of the program.
+pub fn what_a_text_names_is_declared()
+    ensures declared { NamesAreDeclared }
+    ensures complete { DeclarationsAreComplete }
+{}
+
+/// The same of a program, for a caller that goes by its numbers.
+pub fn names_are_declared(program: &Program)
+    ensures declared { IsDeclared (tree_of program.now) }
+    ensures complete { IsComplete (tree_of program.now) }
+{}
+
+/// The list of what a block names leaves out none of its names: where two ways to number names agree on the list, they make the same block.
+pub fn each_name_is_listed()
+    ensures { EachNameIsListed }
+{}
+
+/// Both properties hold of a small tree that names something of each class, and fail at small trees that break one thing each.
+pub fn trees_are_told_apart()
+    ensures whole { TreesThatDeclare }
+    ensures undeclared { TreesThatDoNot }
+    ensures lacking { TreesThatLack }
+{}

@@ -1,5 +1,0 @@
-use Rattle.window_law.proofs.Unique.{run_is_one}
-use Rattle.window_law.proofs.laws.run_is_one.Goals as goal
-
-pub returns : goal.returns
-returns g c = λ system end a b p q. run_is_one system end p q

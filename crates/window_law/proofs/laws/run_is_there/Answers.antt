@@ -1,5 +1,0 @@
-use Rattle.window_law.proofs.Commute.{run_is_there}
-use Rattle.window_law.proofs.laws.run_is_there.Goals as goal
-
-pub returns : goal.returns
-returns g c = run_is_there

@@ -1,5 +1,0 @@
-use Rattle.window_law.proofs.Exist.{windows_are_there}
-use Rattle.window_law.proofs.laws.windows_are_there.Goals as goal
-
-pub returns : goal.returns
-returns g c = windows_are_there

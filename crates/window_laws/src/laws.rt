@@ -1,0 +1,43 @@
+//! Laws of nets, whatever a mote is. Each is the contract of a function that does nothing.
+
+ghost use Rattle.window_laws.specs.Order.{InOrderSorts};
+ghost use Rattle.window_laws.specs.System.{System};
+ghost use Rattle.window_laws.specs.Report.{LogIsInOrder, RunIsOne, RunIsThere};
+ghost use Rattle.window_laws.specs.Windows.{WindowsAreThere, WindowsCommute, WindowsReport};
+
+/// A turn's copies in order are those copies, sorted by sender and number; those with the same of both stay as they stood.
+pub fn in_order_sorts()
+    ensures { InOrderSorts }
+{}
+
+/// A net has at most one run.
+pub fn run_is_one<S, L>()
+    ensures { (system : System S L) → RunIsOne system }
+{}
+
+/// A net whose wakes and copies come later than the turns that make them has a run.
+pub fn run_is_there<S, L>()
+    ensures { (system : System S L) → RunIsThere system }
+{}
+
+/// Where the numbers of each mote's packets rise, the packets of a run sorted by moment, sender and number are its log.
+pub fn log_is_in_order<S, L>()
+    ensures { (system : System S L) → LogIsInOrder system }
+{}
+
+/// Cut 0 to end + 1 at any rising bounds whose steps are at most the lookahead, and run each mote alone through each window, the
+/// motes of a window in any order, on the copies that earlier windows sent to it. The lines of each mote, the packets of all
+/// motes sorted by moment and sender, and the number of copies left are those of the net's run.
+pub fn windows_commute<S, L>()
+    ensures { (system : System S L) → WindowsCommute system }
+{}
+
+/// So what the windows leave is the report of the run, however packets and copies of different motes were joined.
+pub fn windows_report<S, L>()
+    ensures { (system : System S L) → WindowsReport system }
+{}
+
+/// A net whose wakes and copies come later than the turns that make them can be run through windows, up to any end.
+pub fn windows_are_there<S, L>()
+    ensures { (system : System S L) → WindowsAreThere system }
+{}

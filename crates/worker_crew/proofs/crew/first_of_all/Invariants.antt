@@ -1,6 +1,0 @@
-use Rattle.std.proofs.Common.{take}
-use Rattle.worker_crew.specs.Crew.{FirstOfAll}
-use Rattle.worker_crew.proofs.crew.first_of_all.Given as goal
-
-abbrev pub invariant-loop-worker : goal.invariant-loop-worker
-invariant-loop-worker l = FirstOfAll (take l.worker-index l.workers) l.first

@@ -1,5 +1,0 @@
-use Rattle.worker_crew.proofs.Moved.{moved}
-use Rattle.worker_crew.proofs.laws.a_window_moves_on.Goals as goal
-
-pub returns : goal.returns
-returns c = λ n fine of from until old new at up short all. moved n fine of from until old new at up short all

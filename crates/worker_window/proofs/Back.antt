@@ -1,0 +1,248 @@
+-- A mote comes back to its share.
+use Rattle.std.proofs.Common.{◌≡◌, ℕ, ◌+◌, ◌<◌, ◌≤◌, Bool, true, false, cond, not, ◌&&◌, ◌||◌, ltb, eqb, List, [], ◌∷◌, ◌++◌, length, map, get_or, refl, sym, ap, ◌∙◌, subst, inl, inr, arith, append-nil, Some, None, get_or-set_same, get_or-set_other}
+use Rattle.std.specs.Prelude.{Vec}
+use Rattle.std.specs.List.{filter, flat_map, AllByRecursion}
+use Rattle.std.specs.declared.alloc.Global.{Global}
+use Rattle.std.proofs.lemmas.Bool.{cases_eq, eq-eqb, ne_eqb, false≢true, lt-ltb}
+use Rattle.std.proofs.lemmas.Bool.Decides.{nat_tests}
+use Rattle.std.proofs.lemmas.List.{length-set}
+use Rattle.std.proofs.lemmas.List.Concat.{flat_map-append}
+use Rattle.std.proofs.lemmas.List.Elements.{filter-append}
+use Rattle.trace_lines.specs.declared.line.Line.{Line}
+use Rattle.mote_node.specs.Node.{Node, is_past}
+use Rattle.mote_node.specs.Wake.{wake_of}
+use Rattle.radio_packet.specs.declared.copy.RadioCopy.{RadioCopy}
+use Rattle.radio_medium.specs.Medium.{copies}
+use Rattle.mote_net.specs.Net.{NetTold}
+use Rattle.window_laws.specs.Agenda.{Item, Packet, is_wake_of, packets, wake_items}
+use Rattle.window_laws.specs.NetStep.{put}
+use Rattle.window_laws.specs.Windows.{LoneMote, WakesFrom, copies_by, is_from_sender, is_sent_by}
+use Rattle.window_laws.proofs.Agenda.{packets_append, packets_map, packets_wake, no_wake_in_packets, own_wake, other_wake}
+use Rattle.window_laws.proofs.Lists.{filter_none, filter_every, every_filter, every_weaker}
+use Rattle.window_run.specs.declared.out.WindowOut.{WindowOut}
+use Rattle.net_agenda.specs.Buckets.{Holds}
+use Rattle.net_agenda.specs.NetSystem.{tree_at, system_of}
+use Rattle.worker_window.specs.declared.share.Share.{Share}
+use Rattle.worker_cut.specs.Crossed.{is_own, copies_known, leaves}
+use Rattle.window_run.specs.Window.{number_of}
+use Rattle.worker_window.specs.Share.{Motes, IsShare, HasToCome, node_at, mote_here, is_to_come}
+use Rattle.worker_window.specs.Window.{copies_out}
+use Rattle.worker_window.specs.Leaving.{is_one_of, MoteReturns}
+use Rattle.worker_window.specs.Log.{packets_in}
+use Rattle.worker_window.proofs.Gives.{IsBack, ComesLate, come_late}
+use Rattle.worker_window.proofs.Left.{among_more}
+
+late : (at until : ℕ) → until ≤ at → not (ltb at until) ≡ true
+late at until h = grind (arith, nat_tests)
+
+and_true : (a b : Bool) → b ≡ true → a ≡ (a && b)
+and_true true true e = refl
+and_true true false e = absurd (false≢true e)
+and_true false b e = refl
+
+-- tests that agree on the elements
+filter_same : {X : Type 0} (p q : X → Bool) (xs : List X) → AllByRecursion (λ x. p x ≡ q x) xs → filter p xs ≡ filter q xs
+filter_same p q [] h = refl
+filter_same p q (x ∷ xs) h = let e = h.0 in rw e (ap (λ l. cond (q x) (x ∷ l) l) (filter_same p q xs h.1))
+
+or_none : (b : Bool) → (b || false) ≡ b
+or_none true = refl
+or_none false = refl
+
+or_yes : (b : Bool) → (b || true) ≡ true
+or_yes true = refl
+or_yes false = refl
+
+module _ (n : NetTold) (of : List ℕ) (worker from until : ℕ) (before now : Motes) (taken : List RadioCopy) (inbox : ℕ → List RadioCopy) (placed : length n.radio.places ≡ length n.motes)
+    (short : until ≤ from + (system_of n).lookahead) (others : List ℕ) (k : ℕ) (new : is_one_of k others ≡ false) (out : WindowOut) (back : IsBack n (is_own of worker) from until before inbox k out)
+    (waits : now k ≡ before k) where
+  abbrev own : ℕ → Bool
+  own = is_own of worker
+
+  abbrev away : ℕ → Bool
+  away j = own j && not (is_one_of j (others ++ k ∷ []))
+
+  abbrev home : ℕ → Bool
+  home j = own j && not (is_one_of j others)
+
+  abbrev pub next : Motes
+  next = put now k back.last
+
+  pub at_k : next k ≡ back.last
+  at_k = let e : eqb k k ≡ true = eq-eqb k k refl in rw e refl
+
+  pub elsewhere : (j : ℕ) → (j ≡ k → ⊥) → next j ≡ now j
+  elsewhere j ne = let e : eqb j k ≡ false = ne_eqb j k ne in rw e refl
+
+  home_k : home k ≡ true
+  home_k = ap (λ b. own k && not b) new ∙ (let e = back.mine in rw e refl)
+
+  away_k : away k ≡ false
+  away_k = ap (λ b. own k && not b) (among_more k others k ∙ (ap (λ b. is_one_of k others || b) (eq-eqb k k refl) ∙ or_yes (is_one_of k others))) ∙ (let e = back.mine in rw e refl)
+
+  same_home : (j : ℕ) → (j ≡ k → ⊥) → away j ≡ home j
+  same_home j ne = ap (λ b. own j && not b) (among_more j others k ∙ (ap (λ b. is_one_of j others || b) (ne_eqb k j (λ f. ne (sym f))) ∙ or_none (is_one_of j others)))
+
+  -- of the mote that is back, and of another
+  by_mote : (P : ℕ → Type 0) → P k → ((j : ℕ) → (j ≡ k → ⊥) → P j) → (j : ℕ) → P j
+  by_mote P one rest j = elim (cases_eq j k) [ inl e ↦ subst P (sym e) one | inr ne ↦ rest j ne ]
+
+  abbrev sent : List RadioCopy
+  sent = flat_map (copies n.radio) out.sends.items
+
+  abbrev sent_own : List RadioCopy
+  sent_own = filter (λ copy. own copy.to) sent
+
+  late_ones : AllByRecursion (ComesLate n from until k) sent
+  late_ones = come_late n from until placed short k out.sends.items back.sent
+
+  copies_put : (j : ℕ) → (j ≡ k → ⊥) → copies_by (system_of n) next j ≡ copies_by (system_of n) now j
+  copies_put j ne = ap (λ m. flat_map (system_of n).copies (cond (ltb j (system_of n).motes) m.sends [])) (elsewhere j ne)
+
+  copies_more : copies_by (system_of n) next k ≡ copies_by (system_of n) now k ++ sent
+  unfolding system_of
+  copies_more =
+      let e : ltb k (length n.motes) ≡ true = lt-ltb k (length n.motes) back.there in
+      ap (λ m. flat_map (copies n.radio) (cond (ltb k (length n.motes)) m.sends [])) at_k
+      ∙ (ap (λ b. flat_map (copies n.radio) (cond b back.last.sends [])) e
+      ∙ (ap (flat_map (copies n.radio)) (back.sends ∙ ap (λ m. m.sends ++ out.sends.items) (sym waits))
+      ∙ (flat_map-append (copies n.radio) (now k).sends out.sends.items
+      ∙ ap (λ b. flat_map (copies n.radio) (cond b (now k).sends []) ++ sent) (sym e))))
+
+  from_k : filter (is_from_sender k) sent_own ≡ sent_own
+  from_k = filter_every (is_from_sender k) sent_own (every_filter _ _ (λ copy. own copy.to) (λ c h e. eq-eqb c.sender k h.sender) sent late_ones)
+
+  from_others : (p : RadioCopy → Bool) (s : ℕ) → (s ≡ k → ⊥) → filter (is_from_sender s) (filter p sent) ≡ []
+  from_others p s ne = filter_none (is_from_sender s) (filter p sent) (every_filter _ _ p (λ c h e. ne_eqb c.sender s (λ f. ne (sym f ∙ h.sender))) sent late_ones)
+
+  come_own : sent_own ≡ filter (is_to_come own until) sent
+  come_own = filter_same (λ copy. own copy.to) (is_to_come own until) sent (every_weaker _ _ (λ c h. and_true (own c.to) (not (ltb c.at until)) (late c.at until h.late)) sent late_ones)
+
+  -- what leaves the worker
+  pub out_more : (s : ℕ) → copies_out n own next s ≡ copies_out n own now s ++ filter (is_from_sender s) (filter (leaves own) sent)
+  out_more = by_mote (λ s. copies_out n own next s ≡ copies_out n own now s ++ filter (is_from_sender s) (filter (leaves own) sent)) one other
+    where
+      one : copies_out n own next k ≡ copies_out n own now k ++ filter (is_from_sender k) (filter (leaves own) sent)
+      one =
+          let e = back.mine in
+          rw e (ap (filter (leaves own)) copies_more
+          ∙ (filter-append (leaves own) (copies_by (system_of n) now k) sent
+          ∙ ap (λ l. filter (leaves own) (copies_by (system_of n) now k) ++ l)
+          (sym (filter_every (is_from_sender k) (filter (leaves own) sent) (every_filter _ _ (leaves own) (λ c h e. eq-eqb c.sender k h.sender) sent late_ones)))))
+
+      other : (s : ℕ) → (s ≡ k → ⊥) → copies_out n own next s ≡ copies_out n own now s ++ filter (is_from_sender s) (filter (leaves own) sent)
+      other s ne =
+          ap (λ l. cond (own s) (filter (leaves own) l) []) (copies_put s ne)
+          ∙ sym (ap (λ l. copies_out n own now s ++ l) (from_others (leaves own) s ne) ∙ append-nil (copies_out n own now s))
+
+  module _ (old share : Share) (stands : IsShare n of worker away until now taken old) (gone later : List RadioCopy) (ret : MoteReturns n.radio of k out old share gone later) where
+    abbrev has : HasToCome n own away until now taken old.agenda.buckets
+    has = stands.agenda
+
+    abbrev items : List Item
+    items = (has.items ++ wake_items k out.wake) ++ map Packet sent_own
+
+    worker_own : filter (λ copy. is_own of old.worker copy.to) sent ≡ sent_own
+    worker_own = ap (λ w. filter (λ copy. is_own of w copy.to) sent) stands.is_worker
+
+    within : k < length old.motes.items
+    within = let a = back.there in let b = stands.places in omega arith
+
+    mote_k : mote_here share.motes.items k ≡ Some out.mote
+    mote_k = ap (λ l. mote_here l k) ret.motes ∙ get_or-set_same old.motes.items k (Some out.mote) None within
+
+    mote_else : (j : ℕ) → (j ≡ k → ⊥) → mote_here share.motes.items j ≡ mote_here old.motes.items j
+    mote_else j ne = ap (λ l. mote_here l j) ret.motes ∙ get_or-set_other old.motes.items k j (Some out.mote) None ne
+
+    wakes_are : (j : ℕ) → filter (is_wake_of j) items ≡ filter (is_wake_of j) has.items ++ filter (is_wake_of j) (wake_items k out.wake)
+    wakes_are j =
+        filter-append (is_wake_of j) (has.items ++ wake_items k out.wake) (map Packet sent_own)
+        ∙ (ap (λ l. filter (is_wake_of j) (has.items ++ wake_items k out.wake) ++ l) (no_wake_in_packets j sent_own)
+        ∙ (append-nil (filter (is_wake_of j) (has.items ++ wake_items k out.wake)) ∙ filter-append (is_wake_of j) has.items (wake_items k out.wake)))
+
+    new_wakes : (j : ℕ) → filter (is_wake_of j) items ≡ cond (home j) (wake_items j (next j).wake) []
+    new_wakes = by_mote (λ j. filter (is_wake_of j) items ≡ cond (home j) (wake_items j (next j).wake) []) one other
+      where
+        one : filter (is_wake_of k) items ≡ cond (home k) (wake_items k (next k).wake) []
+        one =
+            wakes_are k
+            ∙ (ap (λ l. l ++ filter (is_wake_of k) (wake_items k out.wake)) (has.wakes k ∙ ap (λ b. cond b (wake_items k (now k).wake) []) away_k)
+            ∙ (own_wake k out.wake ∙ (ap (wake_items k) (back.wake ∙ ap (λ m. m.wake) (sym at_k)) ∙ ap (λ b. cond b (wake_items k (next k).wake) []) (sym home_k))))
+
+        other : (j : ℕ) → (j ≡ k → ⊥) → filter (is_wake_of j) items ≡ cond (home j) (wake_items j (next j).wake) []
+        other j ne =
+            wakes_are j
+            ∙ (ap (λ l. filter (is_wake_of j) has.items ++ l) (other_wake j k out.wake ne)
+            ∙ (append-nil (filter (is_wake_of j) has.items)
+            ∙ (has.wakes j ∙ (ap (λ b. cond b (wake_items j (now j).wake) []) (same_home j ne) ∙ ap (λ m. cond (home j) (wake_items j m.wake) []) (sym (elsewhere j ne))))))
+
+    packets_are : packets items ≡ packets has.items ++ sent_own
+    packets_are =
+        packets_append (has.items ++ wake_items k out.wake) (map Packet sent_own)
+        ∙ (ap (λ l. l ++ packets (map Packet sent_own)) (packets_append has.items (wake_items k out.wake) ∙ (ap (λ l. packets has.items ++ l) (packets_wake k out.wake) ∙ append-nil (packets has.items)))
+        ∙ ap (λ l. packets has.items ++ l) (packets_map sent_own))
+
+    new_copies : (s : ℕ) → filter (is_from_sender s) (packets items) ≡ filter (is_to_come own until) (copies_known (system_of n) own next taken s)
+    new_copies = by_mote (λ s. filter (is_from_sender s) (packets items) ≡ filter (is_to_come own until) (copies_known (system_of n) own next taken s)) one other
+      where
+        split : (s : ℕ) → filter (is_from_sender s) (packets items) ≡ filter (is_to_come own until) (copies_known (system_of n) own now taken s) ++ filter (is_from_sender s) sent_own
+        split s = ap (filter (is_from_sender s)) packets_are ∙ (filter-append (is_from_sender s) (packets has.items) sent_own ∙ ap (λ l. l ++ filter (is_from_sender s) sent_own) (has.copies s))
+
+        one : filter (is_from_sender k) (packets items) ≡ filter (is_to_come own until) (copies_known (system_of n) own next taken k)
+        one =
+            let e = back.mine in
+            split k
+            ∙ (ap (λ l. filter (is_to_come own until) (copies_known (system_of n) own now taken k) ++ l) (from_k ∙ come_own)
+            ∙ rw e (sym (filter-append (is_to_come own until) (copies_by (system_of n) now k) sent) ∙ ap (filter (is_to_come own until)) (sym copies_more)))
+
+        other : (s : ℕ) → (s ≡ k → ⊥) → filter (is_from_sender s) (packets items) ≡ filter (is_to_come own until) (copies_known (system_of n) own next taken s)
+        other s ne =
+            split s
+            ∙ (ap (λ l. filter (is_to_come own until) (copies_known (system_of n) own now taken s) ++ l) (from_others (λ copy. own copy.to) s ne)
+            ∙ (append-nil (filter (is_to_come own until) (copies_known (system_of n) own now taken s))
+            ∙ ap (λ l. filter (is_to_come own until) (cond (own s) l (filter (is_from_sender s) taken))) (sym (copies_put s ne))))
+
+    -- what holds of the mote that is back, and of each that was at home
+    at_home : (P : (j : ℕ) → LoneMote Node Line → Type 0) → P k back.last → ((j : ℕ) → away j ≡ true → P j (now j)) → (j : ℕ) → home j ≡ true → P j (next j)
+    at_home P one rest =
+        by_mote (λ j. home j ≡ true → P j (next j)) (λ _. subst (P k) (sym at_k) one)
+        (λ j ne h. subst (P j) (sym (elsewhere j ne)) (rest j (same_home j ne ∙ h)))
+
+    pub is_back : IsShare n of worker home until next taken share
+    is_back = record {
+      is_worker = ret.worker ∙ stands.is_worker;
+      places = ap length ret.motes ∙ (length-set old.motes.items k (Some out.mote) ∙ stands.places);
+      numbers = at_home (λ j m. number_of m.state ≡ j) back.number_is stands.numbers;
+      nodes =
+          by_mote (λ j. home j ≡ true → node_at (tree_at n j) (mote_here share.motes.items j) ≡ Some (next j).state)
+          (λ _. ap (node_at (tree_at n k)) mote_k ∙ (back.node ∙ ap (λ m. Some m.state) (sym at_k)))
+          (λ j ne h. ap (node_at (tree_at n j)) (mote_else j ne) ∙ (stands.nodes j (same_home j ne ∙ h) ∙ ap (λ m. Some m.state) (sym (elsewhere j ne))));
+      wakes = at_home (λ j m. m.wake ≡ wake_of m.state) back.wakes stands.wakes;
+      quiet = at_home (λ j m. WakesFrom until m.wake) back.quiet stands.quiet;
+      behind = at_home (λ j m. is_past until m.state.last ≡ false) back.behind stands.behind;
+      traces_kept = ret.traces_kept ∙ stands.traces_kept;
+      traces =
+          by_mote (λ j. own j ≡ true → (d : Vec Line Global) → (get_or share.traces.items j d).items ≡ (next j).lines)
+          (λ mine d. ret.traces k d ∙ (ap (λ b. (get_or old.traces.items k d).items ++ cond b out.lines.items []) (eq-eqb k k refl)
+          ∙ (ap (λ l. l ++ out.lines.items) (stands.traces k mine d ∙ ap (λ m. m.lines) waits) ∙ (sym back.lines ∙ ap (λ m. m.lines) (sym at_k)))))
+          (λ j ne mine d. ret.traces j d ∙ (ap (λ b. (get_or old.traces.items j d).items ++ cond b out.lines.items []) (ne_eqb j k ne)
+          ∙ (append-nil (get_or old.traces.items j d).items ∙ (stands.traces j mine d ∙ ap (λ m. m.lines) (sym (elsewhere j ne))))));
+      log =
+          by_mote (λ s. filter (is_sent_by s) (packets_in share.log.items) ≡ cond (own s) (next s).sends [])
+          (log_split k ∙ (let e = back.mine in rw e (ap (λ l. (now k).sends ++ l) (filter_every (is_sent_by k) out.sends.items (every_weaker _ _ (λ x h. eq-eqb x.sender k h.sender) out.sends.items back.sent))
+          ∙ (ap (λ m. m.sends ++ out.sends.items) waits ∙ (sym back.sends ∙ ap (λ m. m.sends) (sym at_k))))))
+          (λ s ne. log_split s ∙ (ap (λ l. cond (own s) (now s).sends [] ++ l) (filter_none (is_sent_by s) out.sends.items (every_weaker _ _ (λ x h. ne_eqb x.sender s (λ f. ne (sym f ∙ h.sender))) out.sends.items back.sent))
+          ∙ (append-nil (cond (own s) (now s).sends []) ∙ ap (λ m. cond (own s) m.sends []) (sym (elsewhere s ne)))));
+      fates = ret.fates stands.fates;
+      agenda = record {
+        items = items;
+        holds = subst (λ l. Holds share.agenda.buckets ((has.items ++ wake_items k out.wake) ++ map Packet l)) worker_own (ret.agenda has.items has.holds);
+        wakes = new_wakes;
+        copies = new_copies;
+      };
+    }
+      where
+        log_split : (s : ℕ) → filter (is_sent_by s) (packets_in share.log.items) ≡ cond (own s) (now s).sends [] ++ filter (is_sent_by s) out.sends.items
+        log_split s =
+            ap (filter (is_sent_by s)) ret.log
+            ∙ (filter-append (is_sent_by s) (packets_in old.log.items) out.sends.items ∙ ap (λ l. l ++ filter (is_sent_by s) out.sends.items) (stands.log s))

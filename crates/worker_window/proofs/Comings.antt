@@ -1,0 +1,240 @@
+-- A worker's window: the motes that are called leave, run and come back one after another.
+use Rattle.std.proofs.Common.{◌≡◌, ℕ, ◌+◌, ◌<◌, ◌≤◌, ◌^◌, Bool, true, false, cond, not, ◌&&◌, ◌||◌, eqb, List, [], ◌∷◌, ◌++◌, length, refl, sym, ap, ◌∙◌, subst, inl, inr, arith, append_assoc}
+use Rattle.std.specs.List.{filter, flat_map, AllByRecursion, AllZip}
+use Rattle.std.proofs.lemmas.Bool.{cases_eq, eq-eqb, ne_eqb, false≢true}
+use Rattle.std.proofs.lemmas.List.Elements.{filter-append}
+use Rattle.radio_packet.specs.declared.copy.RadioCopy.{RadioCopy}
+use Rattle.radio_medium.specs.Medium.{copies}
+use Rattle.radio_medium.proofs.Copies.{copies_later}
+use Rattle.mote_net.specs.Net.{NetTold}
+use Rattle.window_laws.specs.Agenda.{wake_items}
+use Rattle.window_laws.specs.Windows.{Alone, is_at, is_within, is_from_sender}
+use Rattle.window_laws.proofs.Lists.{every_append, every_weaker, every_filter, every_flat_map}
+use Rattle.window_run.specs.declared.out.WindowOut.{WindowOut}
+use Rattle.window_run.specs.declared.share.Resident.{Resident}
+use Rattle.net_agenda.specs.NetSystem.{tree_at, system_of}
+use Rattle.worker_window.specs.declared.share.Share.{Share}
+use Rattle.worker_cut.specs.Crossed.{is_own, copies_known, leaves}
+use Rattle.worker_window.specs.Share.{Motes, IsShare}
+use Rattle.worker_window.specs.Window.{GoesOut, RunsWindow, copies_out}
+use Rattle.worker_window.specs.Leaving.{HasNumber, IsOutOfNet, MoteReturns, is_one_of, are_different, numbers_of}
+use Rattle.worker_window.proofs.Gives.{IsSentIn, IsBack, come_late}
+use Rattle.worker_window.proofs.Left.{among_more, different_less}
+use Rattle.worker_window.proofs.Back.{next, at_k, elsewhere, out_more, is_back}
+
+-- an answer of a mote of this worker
+pub record IsFitOwn (n : NetTold) (of : List ℕ) (worker until : ℕ) (out : WindowOut) : Type 0 where
+  pub number : ℕ
+  pub mine : is_own of worker number ≡ true
+  pub there : number < length n.motes
+  pub numbered : HasNumber number out.mote
+  pub sent : AllByRecursion (IsSentIn number 0 until) out.sends.items
+
+pub fits : (n : NetTold) (of : List ℕ) (worker until motes : ℕ) (out : WindowOut) → IsFitOwn n of worker until out → motes ≡ length n.motes → until ≤ 2 ^ 40 → IsOutOfNet motes out
+fits n of worker until motes out fit e early = record {
+  number = fit.number;
+  numbered = fit.numbered;
+  there = (let h = fit.there in omega arith);
+  sends = every_weaker _ _ (λ x g. (let a = g.sender in let b = fit.there in omega arith, let c = g.soon in le_chain x.at until (2 ^ 40) c early)) out.sends.items fit.sent;
+}
+  where
+    le_chain : (a b c : ℕ) → a < b → b ≤ c → a ≤ c
+    le_chain a b c h k = omega arith
+
+pub go_out : (n : NetTold) (of : List ℕ) (worker until : ℕ) (out : WindowOut) → length n.radio.places ≡ length n.motes → IsFitOwn n of worker until out
+    → AllByRecursion (GoesOut n of worker) (filter (leaves (is_own of worker)) (flat_map (copies n.radio) out.sends.items))
+go_out n of worker until out placed fit =
+    every_filter _ _ (leaves (is_own of worker)) (λ c h e. record { sender = ap (is_own of worker) h.0 ∙ fit.mine; to = not_true (is_own of worker c.to) e; there = h.1 }) (flat_map (copies n.radio) out.sends.items)
+    (every_flat_map (λ c. (c.sender ≡ fit.number) × (c.to < length n.motes)) (copies n.radio) out.sends.items
+    (every_weaker _ _ (λ x g. every_weaker _ _ (λ c i. (i.sender ∙ g.sender, let t = i.there in omega arith)) (copies n.radio x) (copies_later n.radio x)) out.sends.items fit.sent))
+  where
+    not_true : (b : Bool) → not b ≡ true → b ≡ false
+    not_true true e = absurd (cc)
+    not_true false e = refl
+
+-- the answers of residents
+pub zip_every : (P : Resident → Type 0) (R : Resident → WindowOut → Type 0) (Q : WindowOut → Type 0) → ((r : Resident) (o : WindowOut) → P r → R r o → Q o)
+    → (rs : List Resident) (os : List WindowOut) → AllByRecursion P rs → AllZip R rs os → AllByRecursion Q os
+zip_every P R Q f [] [] p z = tt
+zip_every P R Q f [] (o ∷ os) p z = absurd z
+zip_every P R Q f (r ∷ rs) [] p z = absurd z
+zip_every P R Q f (r ∷ rs) (o ∷ os) p z = (f r o p.0 z.0, zip_every P R Q f rs os p.1 z.1)
+
+pub zip_numbers : (P : Resident → Type 0) (R : Resident → WindowOut → Type 0) (Q : ℕ → WindowOut → Type 0) → ((r : Resident) (o : WindowOut) → P r → R r o → Q r.number o)
+    → (rs : List Resident) (os : List WindowOut) → AllByRecursion P rs → AllZip R rs os → AllZip Q (numbers_of rs) os
+zip_numbers P R Q f [] [] p z = tt
+zip_numbers P R Q f [] (o ∷ os) p z = absurd z
+zip_numbers P R Q f (r ∷ rs) [] p z = absurd z
+zip_numbers P R Q f (r ∷ rs) (o ∷ os) p z = (f r o p.0 z.0, zip_numbers P R Q f rs os p.1 z.1)
+
+-- the last of two lists
+pub record Last {X : Type 0} (R : ℕ → X → Type 0) (ks : List ℕ) (xs : List X) (x : X) : Type 0 where
+  pub front : List ℕ
+  pub number : ℕ
+  pub is : ks ≡ front ++ number ∷ []
+  pub zip : AllZip R front xs
+  pub last : R number x
+
+pub last_of : {X : Type 0} (R : ℕ → X → Type 0) (ks : List ℕ) (xs : List X) (x : X) → AllZip R ks (xs ++ x ∷ []) → Last R ks xs x
+last_of R [] [] x z = absurd z
+last_of R [] (y ∷ xs) x z = absurd z
+last_of R (k ∷ []) [] x z = record { front = []; number = k; is = refl; zip = tt; last = z.0 }
+last_of R (k ∷ j ∷ ks) [] x z = absurd z.1
+last_of R (k ∷ ks) (y ∷ xs) x z =
+    let l = last_of R ks xs x z.1 in
+    record { front = k ∷ l.front; number = l.number; is = ap (λ m. k ∷ m) l.is; zip = (z.0, l.zip); last = l.last }
+
+pub none_of : {X : Type 0} (R : ℕ → X → Type 0) (ks : List ℕ) → AllZip {B = X} R ks [] → ks ≡ []
+none_of R [] z = refl
+none_of R (k ∷ ks) z = absurd z
+
+-- some motes are still out
+pub record Coming (n : NetTold) (of : List ℕ) (worker from until : ℕ) (motes : Motes) (taken : List RadioCopy) (inbox : ℕ → List RadioCopy) (share : Share) (outs : List WindowOut) (away : List RadioCopy) : Type 0 where
+  pub rest : List ℕ
+  pub different : are_different rest ≡ true
+  pub now : Motes
+  pub backs : AllZip (IsBack n (is_own of worker) from until motes inbox) rest outs
+  pub stands : IsShare n of worker (λ j. is_own of worker j && not (is_one_of j rest)) until now taken share
+  pub waits : (k : ℕ) → is_one_of k rest ≡ true → now k ≡ motes k
+  pub others : (k : ℕ) → is_own of worker k ≡ false → now k ≡ motes k
+  pub alone : (k : ℕ) → is_own of worker k ≡ true → is_one_of k rest ≡ false → Alone (system_of n) k until (inbox k) (motes k) (now k)
+  pub sent : (s : ℕ) → copies_out n (is_own of worker) now s ≡ copies_out n (is_own of worker) motes s ++ filter (is_from_sender s) away
+  pub late : AllByRecursion (λ (copy : RadioCopy). until ≤ copy.at) away
+
+or_none : (b : Bool) → (b || false) ≡ b
+or_none true = refl
+or_none false = refl
+
+or_yes : (b : Bool) → (b || true) ≡ true
+or_yes true = refl
+or_yes false = refl
+
+module _ (n : NetTold) (of : List ℕ) (worker from until : ℕ) (motes : Motes) (taken : List RadioCopy) (inbox : ℕ → List RadioCopy) (placed : length n.radio.places ≡ length n.motes)
+    (short : until ≤ from + (system_of n).lookahead) where
+  abbrev mine : ℕ → Bool
+  mine = is_own of worker
+
+  module _ (old share : Share) (outs more : List WindowOut) (out : WindowOut) (popped : outs ≡ more ++ out ∷ []) (before after : List RadioCopy) (coming : Coming n of worker from until motes taken inbox old outs before)
+      (returns : (k : ℕ) → HasNumber k out.mote → MoteReturns n.radio of k out old share before after) where
+    l : Last (IsBack n mine from until motes inbox) coming.rest more out
+    l = last_of (IsBack n mine from until motes inbox) coming.rest more out (subst (AllZip (IsBack n mine from until motes inbox) coming.rest) popped coming.backs)
+
+    abbrev front : List ℕ
+    front = l.front
+
+    abbrev k : ℕ
+    k = l.number
+
+    ret : MoteReturns n.radio of k out old share before after
+    ret = returns k (record { tree = tree_at n k; node = l.last.last.state; is = l.last.node; number_is = l.last.number_is })
+
+    d : (are_different front ≡ true) × (is_one_of k front ≡ false)
+    d = different_less front k (ap are_different (sym l.is) ∙ coming.different)
+
+    among : (j : ℕ) → is_one_of j coming.rest ≡ (is_one_of j front || eqb k j)
+    among j = ap (is_one_of j) l.is ∙ among_more j front k
+
+    waited : coming.now k ≡ motes k
+    waited = coming.waits k (among k ∙ (ap (λ b. is_one_of k front || b) (eq-eqb k k refl) ∙ or_yes (is_one_of k front)))
+
+    abbrev after_it : Motes
+    after_it = next n of worker from until motes coming.now taken inbox placed short front k d.1 out l.last waited
+
+    else_same : (j : ℕ) → (j ≡ k → ⊥) → after_it j ≡ coming.now j
+    else_same j ne = elsewhere n of worker from until motes coming.now taken inbox placed short front k d.1 out l.last waited j ne
+
+    stands_then : IsShare n of worker (λ j. mine j && not (is_one_of j (front ++ k ∷ []))) until coming.now taken old
+    stands_then = subst (λ ks. IsShare n of worker (λ j. mine j && not (is_one_of j ks)) until coming.now taken old) l.is coming.stands
+
+    among_else : (j : ℕ) → (j ≡ k → ⊥) → is_one_of j coming.rest ≡ is_one_of j front
+    among_else j ne = among j ∙ (ap (λ b. is_one_of j front || b) (ne_eqb k j (λ f. ne (sym f))) ∙ or_none (is_one_of j front))
+
+    alone_then : (j : ℕ) → mine j ≡ true → is_one_of j front ≡ false → Alone (system_of n) j until (inbox j) (motes j) (after_it j)
+    alone_then j h e =
+        elim (cases_eq j k) [
+          | inl f ↦ subst (λ i. Alone (system_of n) i until (inbox i) (motes i) (after_it i)) (sym f)
+              (subst (λ m. Alone (system_of n) k until (inbox k) (motes k) m) (sym (at_k n of worker from until motes coming.now taken inbox placed short front k d.1 out l.last waited)) l.last.alone)
+          | inr ne ↦ subst (λ m. Alone (system_of n) j until (inbox j) (motes j) m) (sym (else_same j ne)) (coming.alone j h (among_else j ne ∙ e))
+        ]
+
+    away_is : after ≡ before ++ filter (leaves mine) (flat_map (copies n.radio) out.sends.items)
+    away_is = ret.away ∙ ap (λ w. before ++ filter (leaves (is_own of w)) (flat_map (copies n.radio) out.sends.items)) coming.stands.is_worker
+
+    sent_then : (s : ℕ) → copies_out n mine after_it s ≡ copies_out n mine motes s ++ filter (is_from_sender s) after
+    sent_then s =
+        out_more n of worker from until motes coming.now taken inbox placed short front k d.1 out l.last waited s
+        ∙ (ap (λ x. x ++ filter (is_from_sender s) (filter (leaves mine) (flat_map (copies n.radio) out.sends.items))) (coming.sent s)
+        ∙ (append_assoc (copies_out n mine motes s) (filter (is_from_sender s) before) (filter (is_from_sender s) (filter (leaves mine) (flat_map (copies n.radio) out.sends.items)))
+        ∙ ap (λ x. copies_out n mine motes s ++ x)
+        (sym (ap (filter (is_from_sender s)) away_is ∙ filter-append (is_from_sender s) before (filter (leaves mine) (flat_map (copies n.radio) out.sends.items))))))
+
+    late_then : AllByRecursion (λ (copy : RadioCopy). until ≤ copy.at) after
+    late_then =
+        subst (AllByRecursion (λ (copy : RadioCopy). until ≤ copy.at)) (sym away_is)
+        (every_append _ before _ coming.late
+        (every_filter _ _ (leaves mine) (λ copy h e. h.late) (flat_map (copies n.radio) out.sends.items) (come_late n from until placed short k out.sends.items l.last.sent)))
+
+    pub one_back : Coming n of worker from until motes taken inbox share more after
+    one_back = record {
+      rest = front;
+      different = d.0;
+      now = after_it;
+      backs = l.zip;
+      stands = is_back n of worker from until motes coming.now taken inbox placed short front k d.1 out l.last waited old share stands_then before after ret;
+      waits = λ j e. (
+          let ne : j ≡ k → ⊥ = λ f. false≢true (sym d.1 ∙ (ap (λ i. is_one_of i front) (sym f) ∙ e)) in
+          else_same j ne ∙ coming.waits j (among_else j ne ∙ e));
+      others = λ j e. (
+          let ne : j ≡ k → ⊥ = λ f. false≢true (sym e ∙ (ap mine f ∙ l.last.mine)) in
+          else_same j ne ∙ coming.others j e);
+      alone = alone_then;
+      sent = sent_then;
+      late = late_then;
+    }
+
+module _ (n : NetTold) (of : List ℕ) (worker from until : ℕ) (motes : Motes) (taken : List RadioCopy) (inbox : ℕ → List RadioCopy) where
+  abbrev all_mine : ℕ → Bool
+  all_mine = is_own of worker
+
+  and_yes : (b : Bool) → (b && true) ≡ b
+  and_yes true = refl
+  and_yes false = refl
+
+  pub all_back : (share : Share) (outs : List WindowOut) (away : List RadioCopy) → outs ≡ [] → Coming n of worker from until motes taken inbox share outs away
+      → ((k : ℕ) → all_mine k ≡ true → (t s : ℕ) → filter (is_from_sender s) (filter (is_at t) (inbox k)) ≡ filter (is_at t) (filter (is_within k from until) (copies_known (system_of n) all_mine motes taken s)))
+      → RunsWindow n of worker from until motes taken share away
+  all_back share outs away e coming inboxes = record {
+    next = coming.now;
+    runs = λ k h. record { inbox = inbox k; is_inbox = inboxes k h; alone = coming.alone k h (ap (is_one_of k) none) };
+    others = coming.others;
+    keeps = record {
+      is_worker = coming.stands.is_worker;
+      places = coming.stands.places;
+      numbers = λ k h. coming.stands.numbers k (home k h);
+      nodes = λ k h. coming.stands.nodes k (home k h);
+      wakes = λ k h. coming.stands.wakes k (home k h);
+      quiet = λ k h. coming.stands.quiet k (home k h);
+      behind = λ k h. coming.stands.behind k (home k h);
+      traces_kept = coming.stands.traces_kept;
+      traces = coming.stands.traces;
+      log = coming.stands.log;
+      fates = coming.stands.fates;
+      agenda = record {
+        items = coming.stands.agenda.items;
+        holds = coming.stands.agenda.holds;
+        wakes = λ k. coming.stands.agenda.wakes k ∙ ap (λ b. cond b (wake_items k (coming.now k).wake) []) (here k);
+        copies = coming.stands.agenda.copies;
+      };
+    };
+    out = coming.sent;
+    late = coming.late;
+  }
+    where
+      none : coming.rest ≡ []
+      none = none_of (IsBack n all_mine from until motes inbox) coming.rest (subst (AllZip (IsBack n all_mine from until motes inbox) coming.rest) e coming.backs)
+
+      here : (k : ℕ) → (all_mine k && not (is_one_of k coming.rest)) ≡ all_mine k
+      here k = ap (λ ks. all_mine k && not (is_one_of k ks)) none ∙ and_yes (all_mine k)
+
+      home : (k : ℕ) → all_mine k ≡ true → (all_mine k && not (is_one_of k coming.rest)) ≡ true
+      home k h = here k ∙ h

@@ -1,0 +1,301 @@
+-- What is gathered from an agenda, bucket by bucket.
+use Rattle.std.proofs.Common.{◌≡◌, ℕ, ◌<◌, ◌≤◌, Bool, true, false, cond, not, ◌&&◌, ◌||◌, ltb, eqb, if◌then◌else◌, List, [], ◌∷◌, ◌++◌, map, refl, sym, ap, ◌∙◌, subst, inl, inr, arith, append_assoc, append-nil, Some, None, unwrap_or, is_some}
+use Rattle.std.specs.List.{filter, list_any, AllByRecursion}
+use Rattle.std.proofs.lemmas.Bool.{cases_Bool, cases_eq, eq-eqb, ne_eqb, eqb-true, and_parts}
+use Rattle.std.proofs.lemmas.Bool.Decides.{nat_tests}
+use Rattle.std.proofs.lemmas.List.Elements.{filter-append}
+use Rattle.radio_packet.specs.declared.arrival.Arrival.{Arrival}
+use Rattle.radio_packet.specs.declared.copy.RadioCopy.{RadioCopy}
+use Rattle.window_laws.specs.Order.{sorted_by, in_order}
+use Rattle.window_laws.specs.Agenda.{Item, Wake, Packet, moment_of, mote_of, comes_at, packets, IsLeast}
+use Rattle.window_laws.specs.Windows.{is_at}
+use Rattle.window_laws.proofs.Lists.{filter_none, filter_every, filter_stronger, every_append, every_weaker, every_filter, every_both, any_every, filled_any, is_filled}
+use Rattle.window_laws.proofs.Ahead.{on_from}
+use Rattle.net_agenda.specs.Buckets.{Buckets, Holds, arrivals_at, first_key}
+use Rattle.net_agenda.proofs.Ranks.{turns_left, left_falls}
+use Rattle.net_agenda.specs.Items.{copy_at}
+use Rattle.worker_window.specs.Calls.{CalledMotes, copies_for, is_not_before, calls_for, Gathers}
+use Rattle.worker_window.proofs.Rises.{Rises, in_order_rises, rises_on, is_rising_from, copies_again, every_sorted}
+
+-- the copies gathered for a mote
+abbrev pub given : CalledMotes → ℕ → List RadioCopy
+given calls k = unwrap_or (copies_for calls k) []
+
+-- some items were gathered, and the buckets hold the rest
+pub record Part (until : ℕ) (items : List Item) (calls : CalledMotes) (buckets : Buckets) : Type 0 where
+  pub rest : List Item
+  pub holds : Holds buckets rest
+  pub late : filter (is_not_before until) rest ≡ filter (is_not_before until) items
+  pub called : (k : ℕ) → list_any (calls_for until k) items ≡ (is_some (copies_for calls k) || list_any (calls_for until k) rest)
+  pub parts : (t k : ℕ) → in_order (packets (filter (comes_at t k) items)) ≡ filter (is_at t) (given calls k) ++ in_order (packets (filter (comes_at t k) rest))
+  pub early : (k : ℕ) → AllByRecursion (λ c. c.at < until) (given calls k)
+  -- what is to come to a mote comes later than what was gathered for it
+  pub ahead : (k : ℕ) → AllByRecursion (λ item. mote_of item ≡ k → AllByRecursion (λ c. c.at < moment_of item) (given calls k)) rest
+  pub rises : (k : ℕ) → Rises (given calls k)
+
+-- tests over plain numbers
+late_not_due : (u k until t m : ℕ) → t < until → not (ltb u until) ≡ true → not (eqb u t && eqb k m) ≡ true
+late_not_due u k until t m h e = grind (arith, nat_tests)
+
+other_not_due : (u k j until t m : ℕ) → (j ≡ m → ⊥) → (ltb u until && eqb k j) ≡ true → not (eqb u t && eqb k m) ≡ true
+other_not_due u k j until t m ne e = grind (arith, nat_tests)
+
+due_elsewhere : (u k s j t m : ℕ) → ((s ≡ t) × (j ≡ m) → ⊥) → (eqb u s && eqb k j) ≡ true → not (eqb u t && eqb k m) ≡ true
+due_elsewhere u k s j t m ne e = grind (arith, nat_tests)
+
+due_calls : (u k until t m : ℕ) → t < until → (eqb u t && eqb k m) ≡ true → (ltb u until && eqb k m) ≡ true
+due_calls u k until t m h e = grind (arith, nat_tests)
+
+due_gone : (u k t m : ℕ) → (eqb u t && eqb k m) ≡ true → not (eqb u t && eqb k m) ≡ false
+due_gone u k t m e = rw e refl
+
+then_later : (u k t m : ℕ) → (ltb t u || (eqb u t && not (ltb k m))) ≡ true → not (eqb u t && eqb k m) ≡ true → k ≡ m → t < u
+then_later u k t m h e f = grind (arith, nat_tests)
+
+from_later : (until t m u k : ℕ) → until ≤ t → (ltb t u || (eqb u t && not (ltb k m))) ≡ true → until ≤ u
+from_later until t m u k h e = grind (arith, nat_tests)
+
+none_due : (until t k u m : ℕ) → t < until → until ≤ u → (eqb u t && eqb m k) ≡ false
+none_due until t k u m h e = grind (arith, nat_tests)
+
+none_calls : (until u m k : ℕ) → until ≤ u → (ltb u until && eqb m k) ≡ false
+none_calls until u m k h = grind (arith, nat_tests)
+
+is_late_from : (until u : ℕ) → until ≤ u → not (ltb u until) ≡ true
+is_late_from until u h = grind (arith, nat_tests)
+
+sooner_at : (c t until : ℕ) → c < until → until ≤ t → eqb c t ≡ false
+sooner_at c t until h k = ne_eqb c t (λ e. absurd (omega arith))
+
+or_true : (b : Bool) → (b || true) ≡ true
+or_true true = refl
+or_true false = refl
+
+or_false : (b : Bool) → (b || false) ≡ b
+or_false true = refl
+or_false false = refl
+
+in_order_nil : in_order [] ≡ []
+unfolding sorted_by
+in_order_nil = refl
+
+-- a test within another
+any_within : {X : Type 0} (q p : X → Bool) → ((x : X) → q x ≡ true → p x ≡ true) → (xs : List X) → list_any q (filter p xs) ≡ list_any q xs
+any_within q p h xs = sym (filled_any q (filter p xs)) ∙ (ap is_filled (filter_stronger q p h xs) ∙ filled_any q xs)
+
+any_none : {X : Type 0} (p : X → Bool) (xs : List X) → AllByRecursion (λ x. p x ≡ false) xs → list_any p xs ≡ false
+any_none p xs h = sym (filled_any p xs) ∙ ap is_filled (filter_none p xs h)
+
+any_weaker : {X : Type 0} (p q : X → Bool) → ((x : X) → p x ≡ true → q x ≡ true) → (xs : List X) → list_any p xs ≡ true → list_any q xs ≡ true
+any_weaker p q f [] h = h
+any_weaker p q f (x ∷ xs) h =
+    elim (cases_Bool (q x)) [
+      | inl e ↦ rw e refl
+      | inr e ↦ rw e (elim (cases_Bool (p x)) [ inl g ↦ absurd (let k = f x g in cc) | inr g ↦ (let k = rw g at h in any_weaker p q f xs k) ])
+    ]
+
+due_parts : (t m : ℕ) (items : List Item) → AllByRecursion (λ c. (c.at ≡ t) × (c.to ≡ m)) (packets (filter (comes_at t m) items))
+due_parts t m [] = tt
+due_parts t m (Wake u k ∷ items) = elim (cases_Bool (comes_at t m (Wake u k))) [ inl e ↦ rw e (due_parts t m items) | inr e ↦ rw e (due_parts t m items) ]
+due_parts t m (Packet c ∷ items) =
+    elim (cases_Bool (comes_at t m (Packet c))) [
+      | inl e ↦ (let p = and_parts (eqb c.at t) (eqb c.to m) e in rw e ((eqb-true c.at t p.0, eqb-true c.to m p.1), due_parts t m items))
+      | inr e ↦ rw e (due_parts t m items)
+    ]
+
+pub none_yet : (until : ℕ) (items : List Item) (calls : CalledMotes) (buckets : Buckets) → Holds buckets items → ((k : ℕ) → copies_for calls k ≡ None) → Part until items calls buckets
+none_yet until items calls buckets holds none = record {
+  rest = items;
+  holds = holds;
+  late = refl;
+  called = λ k. (let e = none k in rw e refl);
+  parts = λ t k. (let e = none k in rw e refl);
+  early = λ k. (let e = none k in rw e tt);
+  ahead = λ k. (let e = none k in rw e (nothing _ items));
+  rises = λ k. (let e = none k in rw e tt);
+}
+  where
+    nothing : (P : Item → Type 0) (items : List Item) → AllByRecursion (λ item. P item → Unit {0}) items
+    nothing P [] = tt
+    nothing P (x ∷ items) = (λ _. tt, nothing P items)
+
+module _ (until : ℕ) (items : List Item) (calls new : CalledMotes) (buckets after : Buckets) (part : Part until items calls buckets) (t m : ℕ) (least : IsLeast t m part.rest) (soon : t < until)
+    (arrivals : List Arrival) (are : arrivals ≡ arrivals_at t m part.rest) (holds : Holds after (filter (λ item. not (comes_at t m item)) part.rest))
+    (added : (k : ℕ) → copies_for new k ≡ (if eqb m k then Some (given calls m ++ map (copy_at t m) arrivals) else copies_for calls k)) where
+  abbrev rest : List Item
+  rest = filter (λ item. not (comes_at t m item)) part.rest
+
+  -- the copies that are gathered now
+  abbrev now : List RadioCopy
+  now = in_order (packets (filter (comes_at t m) part.rest))
+
+  now_parts : AllByRecursion (λ c. (c.at ≡ t) × (c.to ≡ m)) now
+  now_parts = every_sorted (λ (c : RadioCopy). c.sender) (λ c. c.number) (λ c. (c.at ≡ t) × (c.to ≡ m)) (packets (filter (comes_at t m) part.rest)) (due_parts t m part.rest)
+
+  now_at : AllByRecursion (λ c. c.at ≡ t) now
+  now_at = every_weaker _ _ (λ c h. h.0) now now_parts
+
+  now_is : map (copy_at t m) arrivals ≡ now
+  now_is = ap (map (copy_at t m)) are ∙ copies_again t m now now_parts
+
+  mine : copies_for new m ≡ Some (given calls m ++ now)
+  mine = let e : eqb m m ≡ true = eq-eqb m m refl in let h = rw e at (added m) in h ∙ ap (λ l. Some (given calls m ++ l)) now_is
+
+  other : (k : ℕ) → (k ≡ m → ⊥) → copies_for new k ≡ copies_for calls k
+  other k ne = let e : eqb m k ≡ false = ne_eqb m k (λ f. ne (sym f)) in let h = rw e at (added k) in h
+
+  given_mine : given new m ≡ given calls m ++ now
+  given_mine = ap (λ o. unwrap_or o []) mine
+
+  given_other : (k : ℕ) → (k ≡ m → ⊥) → given new k ≡ given calls k
+  given_other k ne = ap (λ o. unwrap_or o []) (other k ne)
+
+  -- of a mote that is this one or another
+  by_mote : (P : ℕ → Type 0) → P m → ((k : ℕ) → (k ≡ m → ⊥) → P k) → (k : ℕ) → P k
+  by_mote P one others k = elim (cases_eq k m) [ inl e ↦ subst P (sym e) one | inr ne ↦ others k ne ]
+
+  sooner : AllByRecursion (λ c. c.at < t) (given calls m)
+  sooner = any_every _ (comes_at t m) _ (λ item e h. let p = and_parts (eqb (moment_of item) t) (eqb (mote_of item) m) e in
+      subst (λ u. AllByRecursion (λ c. c.at < u) (given calls m)) (eqb-true (moment_of item) t p.0) (h (eqb-true (mote_of item) m p.1))) part.rest least.is_there (part.ahead m)
+
+  rest_elsewhere : (s k : ℕ) → ((s ≡ t) × (k ≡ m) → ⊥) → filter (comes_at s k) rest ≡ filter (comes_at s k) part.rest
+  rest_elsewhere s k ne = filter_stronger (comes_at s k) (λ item. not (comes_at t m item)) (λ item e. due_elsewhere (moment_of item) (mote_of item) s k t m ne e) part.rest
+
+  rest_here : filter (comes_at t m) rest ≡ []
+  rest_here = filter_none (comes_at t m) rest (every_filter (λ item. Unit {0}) _ (λ item. not (comes_at t m item)) (λ item _ e. not_true (comes_at t m item) e) part.rest (units part.rest))
+    where
+      not_true : (b : Bool) → not b ≡ true → b ≡ false
+      not_true true e = absurd (cc)
+      not_true false e = refl
+
+      units : (xs : List Item) → AllByRecursion (λ item. Unit {0}) xs
+      units [] = tt
+      units (x ∷ xs) = (tt, units xs)
+
+  parts_mine : (s : ℕ) → in_order (packets (filter (comes_at s m) items)) ≡ filter (is_at s) (given new m) ++ in_order (packets (filter (comes_at s m) rest))
+  parts_mine s =
+      part.parts s m
+      ∙ sym (ap (λ l. filter (is_at s) l ++ in_order (packets (filter (comes_at s m) rest))) given_mine
+      ∙ (ap (λ l. l ++ in_order (packets (filter (comes_at s m) rest))) (filter-append (is_at s) (given calls m) now)
+      ∙ (append_assoc (filter (is_at s) (given calls m)) (filter (is_at s) now) (in_order (packets (filter (comes_at s m) rest)))
+      ∙ ap (λ l. filter (is_at s) (given calls m) ++ l) (elim (cases_eq s t) [
+        | inl e ↦ subst (λ u. filter (is_at u) now ++ in_order (packets (filter (comes_at u m) rest)) ≡ in_order (packets (filter (comes_at u m) part.rest))) (sym e)
+            (ap (λ l. l ++ in_order (packets (filter (comes_at t m) rest))) (filter_every (is_at t) now (every_weaker _ _ (λ c h. eq-eqb c.at t h) now now_at))
+            ∙ (ap (λ l. now ++ in_order (packets l)) rest_here ∙ (ap (λ l. now ++ l) in_order_nil ∙ append-nil now)))
+        | inr ne ↦ ap (λ l. l ++ in_order (packets (filter (comes_at s m) rest))) (filter_none (is_at s) now (every_weaker _ _ (λ c h. ne_eqb c.at s (λ f. ne (sym f ∙ h))) now now_at))
+            ∙ ap (λ l. in_order (packets l)) (rest_elsewhere s m (λ f. ne f.0))
+      ]))))
+
+  parts_other : (k : ℕ) → (k ≡ m → ⊥) → (s : ℕ) → in_order (packets (filter (comes_at s k) items)) ≡ filter (is_at s) (given new k) ++ in_order (packets (filter (comes_at s k) rest))
+  parts_other k ne s =
+      part.parts s k
+      ∙ sym (ap (λ l. filter (is_at s) l ++ in_order (packets (filter (comes_at s k) rest))) (given_other k ne)
+      ∙ ap (λ l. filter (is_at s) (given calls k) ++ in_order (packets l)) (rest_elsewhere s k (λ f. ne f.1)))
+
+  called_mine : list_any (calls_for until m) items ≡ (is_some (copies_for new m) || list_any (calls_for until m) rest)
+  called_mine =
+      part.called m
+      ∙ (ap (λ b. is_some (copies_for calls m) || b) (any_weaker (comes_at t m) (calls_for until m) (λ item e. due_calls (moment_of item) (mote_of item) until t m soon e) part.rest least.is_there)
+      ∙ (or_true (is_some (copies_for calls m)) ∙ sym (ap (λ o. is_some o || list_any (calls_for until m) rest) mine)))
+
+  called_other : (k : ℕ) → (k ≡ m → ⊥) → list_any (calls_for until k) items ≡ (is_some (copies_for new k) || list_any (calls_for until k) rest)
+  called_other k ne =
+      part.called k
+      ∙ (ap (λ o. is_some o || list_any (calls_for until k) part.rest) (sym (other k ne))
+      ∙ ap (λ b. is_some (copies_for new k) || b)
+      (sym (any_within (calls_for until k) (λ item. not (comes_at t m item)) (λ item e. other_not_due (moment_of item) (mote_of item) k until t m ne e) part.rest)))
+
+  abbrev IsAhead : CalledMotes → ℕ → Item → Type 0
+  IsAhead calls k item = mote_of item ≡ k → AllByRecursion (λ c. c.at < moment_of item) (given calls k)
+
+  ahead_mine : AllByRecursion (IsAhead new m) rest
+  ahead_mine =
+      every_filter _ _ (λ item. not (comes_at t m item)) (λ item h e f.
+      subst (λ l. AllByRecursion (λ c. c.at < moment_of item) l) (sym given_mine)
+      (every_append _ (given calls m) now (h.1 f)
+      (every_weaker _ _ (λ c g. let lt = then_later (moment_of item) (mote_of item) t m h.0 e f in at_then c.at (moment_of item) g lt) now now_at)))
+      part.rest (every_both _ _ part.rest least.is_first (part.ahead m))
+    where
+      at_then : (a u : ℕ) → a ≡ t → t < u → a < u
+      at_then a u e h = omega arith
+
+  ahead_other : (k : ℕ) → (k ≡ m → ⊥) → AllByRecursion (IsAhead new k) rest
+  ahead_other k ne =
+      every_filter _ _ (λ item. not (comes_at t m item)) (λ item h e f. subst (λ l. AllByRecursion (λ c. c.at < moment_of item) l) (sym (given_other k ne)) (h f)) part.rest (part.ahead k)
+
+  early_mine : AllByRecursion (λ c. c.at < until) (given new m)
+  early_mine = subst (AllByRecursion (λ c. c.at < until)) (sym given_mine) (every_append _ (given calls m) now (part.early m) (every_weaker _ _ (λ c h. at_soon c.at h) now now_at))
+    where
+      at_soon : (a : ℕ) → a ≡ t → a < until
+      at_soon a e = omega arith
+
+  rises_mine : Rises (given new m)
+  rises_mine =
+      subst Rises (sym given_mine)
+      (rises_on t (given calls m) now (part.rises m) (in_order_rises t (packets (filter (comes_at t m) part.rest)) (every_weaker _ _ (λ c h. h.0) _ (due_parts t m part.rest))) sooner now_at)
+
+  pub one_bucket : Part until items new after
+  one_bucket = record {
+    rest = rest;
+    holds = holds;
+    late = filter_stronger (is_not_before until) (λ item. not (comes_at t m item)) (λ item e. late_not_due (moment_of item) (mote_of item) until t m soon e) part.rest ∙ part.late;
+    called = by_mote (λ k. list_any (calls_for until k) items ≡ (is_some (copies_for new k) || list_any (calls_for until k) rest)) called_mine called_other;
+    parts = λ s. by_mote (λ k. in_order (packets (filter (comes_at s k) items)) ≡ filter (is_at s) (given new k) ++ in_order (packets (filter (comes_at s k) rest))) (parts_mine s) (λ k ne. parts_other k ne s);
+    early = by_mote (λ k. AllByRecursion (λ c. c.at < until) (given new k)) early_mine (λ k ne. subst (AllByRecursion (λ c. c.at < until)) (sym (given_other k ne)) (part.early k));
+    ahead = by_mote (λ k. AllByRecursion (IsAhead new k) rest) ahead_mine ahead_other;
+    rises = by_mote (λ k. Rises (given new k)) rises_mine (λ k ne. subst Rises (sym (given_other k ne)) (part.rises k));
+  }
+
+-- nothing is left before the moment
+module _ (until : ℕ) (items : List Item) (calls : CalledMotes) (buckets : Buckets) (part : Part until items calls buckets) (over : AllByRecursion (λ item. until ≤ moment_of item) part.rest) where
+  pub rest_is : part.rest ≡ filter (is_not_before until) items
+  rest_is = sym (filter_every (is_not_before until) part.rest (every_weaker _ _ (λ item h. is_late_from until (moment_of item) h) part.rest over)) ∙ part.late
+
+  of_given : (k : ℕ) (copies : List RadioCopy) → copies_for calls k ≡ Some copies → given calls k ≡ copies
+  of_given k copies e = ap (λ o. unwrap_or o []) e
+
+  at_each : (k t : ℕ) → filter (is_at t) (given calls k) ≡ cond (ltb t until) (in_order (packets (filter (comes_at t k) items))) []
+  at_each k t =
+      elim (cases_Bool (ltb t until)) [
+        | inl e ↦ rw e (sym (part.parts t k
+            ∙ (ap (λ l. filter (is_at t) (given calls k) ++ in_order (packets l))
+            (filter_none (comes_at t k) part.rest (every_weaker _ _ (λ item h. none_due until t k (moment_of item) (mote_of item) (soon e) h) part.rest over))
+            ∙ (ap (λ l. filter (is_at t) (given calls k) ++ l) in_order_nil ∙ append-nil (filter (is_at t) (given calls k))))))
+        | inr e ↦ rw e (filter_none (is_at t) (given calls k) (every_weaker _ _ (λ c h. sooner_at c.at t until h (not_soon e)) (given calls k) (part.early k)))
+      ]
+    where
+      soon : ltb t until ≡ true → t < until
+      soon e = grind (arith, nat_tests)
+
+      not_soon : ltb t until ≡ false → until ≤ t
+      not_soon e = grind (arith, nat_tests)
+
+  pub gathers : Gathers until items calls
+  gathers = record {
+    called = λ k.
+        sym (part.called k
+        ∙ (ap (λ b. is_some (copies_for calls k) || b) (any_none (calls_for until k) part.rest (every_weaker _ _ (λ item h. none_calls until (moment_of item) (mote_of item) k h) part.rest over))
+        ∙ or_false (is_some (copies_for calls k))));
+    copies = λ k copies e. record {
+      rising = is_rising_from copies (subst Rises (of_given k copies e) (part.rises k));
+      all = λ t. ap (filter (is_at t)) (sym (of_given k copies e)) ∙ at_each k t;
+    };
+  }
+
+pub least_over : (until t m : ℕ) (items : List Item) → IsLeast t m items → until ≤ t → AllByRecursion (λ item. until ≤ moment_of item) items
+least_over until t m items least h = every_weaker _ _ (λ item e. from_later until t m (moment_of item) (mote_of item) h e) items least.is_first
+
+pub empty_over : (until : ℕ) (items : List Item) → items ≡ [] → AllByRecursion (λ item. until ≤ moment_of item) items
+empty_over until items e = subst (AllByRecursion (λ item. until ≤ moment_of item)) (sym e) tt
+
+-- what is to come first comes later and later
+pub bucket_later : (until : ℕ) (items : List Item) (calls : CalledMotes) (buckets after : Buckets) (part : Part until items calls buckets) (t m : ℕ) → IsLeast t m part.rest → t < until → m < 65536
+    → first_key buckets ≡ Some (t, m) → Holds after (filter (λ item. not (comes_at t m item)) part.rest) → turns_left 65536 until (first_key after) < turns_left 65536 until (first_key buckets)
+bucket_later until items calls buckets after part t m least soon low first holds =
+    let le : t ≤ until = omega arith in
+    left_falls 65536 until t m (filter (λ item. not (comes_at t m item)) part.rest) (first_key buckets) (first_key after) after first low le
+    (every_filter _ _ (λ item. not (comes_at t m item)) (λ item h e. on_from t m (moment_of item) (mote_of item) h (not_true (comes_at t m item) e)) part.rest least.is_first) holds refl
+  where
+    not_true : (b : Bool) → not b ≡ true → b ≡ false
+    not_true true e = absurd (cc)
+    not_true false e = refl

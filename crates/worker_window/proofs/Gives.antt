@@ -1,0 +1,177 @@
+-- What a mote gave in its window, as the net has it.
+use Rattle.std.proofs.Common.{◌≡◌, ◌⊎◌, ℕ, ◌+◌, ◌<◌, ◌≤◌, Bool, true, false, List, [], ◌∷◌, ◌++◌, length, map, refl, sym, ap, ◌∙◌, subst, inl, inr, arith, append-nil, Option, Some, None, option_map, unwrap_or, slice_get, get_or}
+use Rattle.std.specs.List.{flat_map, AllByRecursion}
+use Rattle.std.proofs.lemmas.Option.{slice_get_cases}
+use Rattle.trace_lines.specs.declared.line.Line.{Line}
+use Rattle.radio_packet.specs.declared.sent.Sent.{Sent}
+use Rattle.mote_node.specs.declared.mote.Mote.{Mote}
+use Rattle.mote_node.specs.Node.{Node, is_past}
+use Rattle.mote_node.specs.Public.{node_in}
+use Rattle.mote_node.specs.Wake.{wake_of}
+use Rattle.mote_node.proofs.WakeLaws.{wakes_later}
+use Rattle.mote_laws.proofs.Stamps.{turns_stamp}
+use Rattle.radio_packet.specs.declared.copy.RadioCopy.{RadioCopy}
+use Rattle.radio_medium.specs.Medium.{copies, lookahead}
+use Rattle.radio_medium.proofs.Copies.{copies_later}
+use Rattle.mote_net.specs.Net.{MoteTold, NetTold}
+use Rattle.window_laws.specs.System.{IsLater}
+use Rattle.window_laws.specs.NetStep.{stamped}
+use Rattle.window_laws.specs.Windows.{LoneMote, WakesFrom, own_turn, IsQuiet, Alone}
+use Rattle.window_laws.proofs.Lists.{every_append, every_weaker, every_flat_map}
+use Rattle.window_run.specs.declared.out.WindowOut.{WindowOut}
+use Rattle.window_run.specs.declared.share.Resident.{Resident}
+use Rattle.window_run.specs.Window.{lone_node, number_of}
+use Rattle.window_run.specs.Out.{Gives}
+use Rattle.window_run.specs.Laws.{IsAhead}
+use Rattle.window_run.specs.Shares.{ResidentGives, ResidentGoesOn}
+use Rattle.net_agenda.specs.Buckets.{arrival_of}
+use Rattle.net_agenda.specs.NetSystem.{mote_at, no_mote, tree_at, system_of, node_turn}
+use Rattle.net_agenda.proofs.Systems.{turn_wakes}
+use Rattle.worker_window.specs.Share.{Motes}
+use Rattle.worker_window.proofs.Behind.{turn_before}
+use Rattle.worker_window.proofs.Lone.{in_front, alone_in_front, alone_alike, alone_keeps, rests_quiet, IsAlike}
+
+-- a packet of this mote, sent in the window
+pub record IsSentIn (k from until : ℕ) (sent : Sent) : Type 0 where
+  pub sender : sent.sender ≡ k
+  pub later : from ≤ sent.at
+  pub soon : sent.at < until
+
+-- a mote back from its window, in which it ran alone
+pub record IsBack (n : NetTold) (own : ℕ → Bool) (from until : ℕ) (motes : Motes) (inbox : ℕ → List RadioCopy) (k : ℕ) (out : WindowOut) : Type 0 where
+  pub mine : own k ≡ true
+  pub there : k < length n.motes
+  pub last : LoneMote Node Line
+  pub alone : Alone (system_of n) k until (inbox k) (motes k) last
+  pub node : node_in (tree_at n k) out.mote ≡ Some last.state
+  pub wake : out.wake ≡ last.wake
+  pub lines : last.lines ≡ (motes k).lines ++ out.lines.items
+  pub sends : last.sends ≡ (motes k).sends ++ out.sends.items
+  pub number_is : number_of last.state ≡ k
+  pub wakes : last.wake ≡ wake_of last.state
+  pub quiet : WakesFrom until last.wake
+  pub behind : is_past until last.state.last ≡ false
+  pub sent : AllByRecursion (IsSentIn k from until) out.sends.items
+
+-- the mote that an answer tells
+pub record IsTold (o : Option Node) (out : WindowOut) (last : LoneMote Node Line) : Type 0 where
+  pub node : o ≡ Some last.state
+  pub wake : out.wake ≡ last.wake
+  pub lines : out.lines.items ≡ last.lines
+  pub sends : out.sends.items ≡ last.sends
+
+pub told_is : (o : Option Node) (out : WindowOut) (last : LoneMote Node Line)
+    → option_map (λ (x : Node). record { state = x; wake = out.wake; lines = out.lines.items; sends = out.sends.items }) o ≡ Some last → IsTold o out last
+told_is None out last e = cc
+told_is (Some x) out last e =
+    let f : record { state = x; wake = out.wake; lines = out.lines.items; sends = out.sends.items } ≡ last = cc in record {
+      node = ap (λ (m : LoneMote Node Line). Some m.state) f;
+      wake = ap (λ (m : LoneMote Node Line). m.wake) f;
+      lines = ap (λ (m : LoneMote Node Line). m.lines) f;
+      sends = ap (λ (m : LoneMote Node Line). m.sends) f;
+    }
+
+mote_there : (n : NetTold) (k : ℕ) → k < length n.motes → slice_get n.motes k ≡ Some (mote_at n.motes k)
+mote_there n k h = of (slice_get n.motes k) refl ((slice_get_cases n.motes k).1)
+  where
+    of : (o : Option MoteTold) → slice_get n.motes k ≡ o → ((x : MoteTold) × (k < length n.motes) × (slice_get n.motes k ≡ Some x) × (get_or n.motes k x ≡ x)) ⊎ ((length n.motes ≤ k) × (slice_get n.motes k ≡ None))
+        → slice_get n.motes k ≡ Some (mote_at n.motes k)
+    of None e (inl w) = absurd (none_is_not w.0 (sym e ∙ w.2))
+      where
+        none_is_not : {X : Type 0} (x : X) → None ≡ Some x → ⊥
+        none_is_not x e = cc
+    of None e (inr w) = absurd (let l = w.0 in omega arith)
+    of (Some x) e w = e ∙ ap Some (sym (ap (λ o. unwrap_or o no_mote) e))
+
+-- the window of a resident that is a mote of the net
+pub gives_open : (n : NetTold) (until : ℕ) (r : Resident) (out : WindowOut) (state : Node) → r.number < length n.motes → node_in (tree_at n r.number) r.mote ≡ Some state → ResidentGives n until r out
+    → Gives (record { program = tree_at n r.number; until = until; copies = r.copies.items; mote = lone_node state }) out
+gives_open n until r out state h f g =
+    let e = mote_there n r.number h in
+    let told = rw e at g in
+    let is = rw f at told in
+    is
+
+-- and what comes to it comes after its last turn
+pub goes_open : (n : NetTold) (until : ℕ) (r : Resident) (state : Node) → r.number < length n.motes → node_in (tree_at n r.number) r.mote ≡ Some state
+    → IsAhead (record { program = tree_at n r.number; until = until; copies = r.copies.items; mote = lone_node state }) → ResidentGoesOn n until r
+goes_open n until r state h f ahead = let e = mote_there n r.number h in rw (e, f) ahead
+
+module _ (n : NetTold) (from until : ℕ) where
+  later : (mote : ℕ) (state : Node) (moment : ℕ) (given : List RadioCopy) → IsLater moment ((system_of n).turn mote state moment given).wake
+  unfolding system_of
+  later mote state moment given = wakes_later moment (map arrival_of given) state
+
+  turn_is : (system_of n).turn ≡ node_turn
+  unfolding system_of
+  turn_is = refl
+
+  number_kept : (k t : ℕ) (mote : LoneMote Node Line) (given : List RadioCopy) → number_of mote.state ≡ k → number_of (own_turn (system_of n) t k mote given).state ≡ k
+  unfolding system_of
+  number_kept k t mote given e = (turns_stamp t (map arrival_of given) mote.state).mote ∙ e
+
+  wake_kept : (k t : ℕ) (mote : LoneMote Node Line) (given : List RadioCopy) → (own_turn (system_of n) t k mote given).wake ≡ wake_of (own_turn (system_of n) t k mote given).state
+  unfolding system_of
+  wake_kept k t mote given = turn_wakes k mote.state t given
+
+  stamps : (k t : ℕ) → from ≤ t → t < until → (sends : List Sent) → AllByRecursion (IsSentIn k from until) (map (stamped t k) sends)
+  stamps k t h l [] = tt
+  stamps k t h l (x ∷ sends) = (record { sender = refl; later = h; soon = l }, stamps k t h l sends)
+
+  -- where a resident's answer is told, the mote is back
+  module _ (own : ℕ → Bool) (motes : Motes) (inbox : ℕ → List RadioCopy) (k : ℕ) (mine : own k ≡ true) (there : k < length n.motes) (numbered : number_of (motes k).state ≡ k)
+      (wakes : (motes k).wake ≡ wake_of (motes k).state) (wakes_from : WakesFrom from (motes k).wake) (inbox_from : AllByRecursion (λ c. from ≤ c.at) (inbox k)) (before : is_past until (motes k).state.last ≡ false) where
+    front_is : in_front (motes k).lines (motes k).sends (lone_node (motes k).state) ≡ motes k
+    front_is =
+        ap (λ (l : List Line). record { state = (motes k).state; wake = wake_of (motes k).state; lines = l; sends = (motes k).sends ++ [] }) (append-nil (motes k).lines)
+        ∙ (ap (λ (l : List Sent). record { state = (motes k).state; wake = wake_of (motes k).state; lines = (motes k).lines; sends = l }) (append-nil (motes k).sends)
+        ∙ ap (λ (w : Option ℕ). record { state = (motes k).state; wake = w; lines = (motes k).lines; sends = (motes k).sends }) (sym wakes))
+
+    module _ (mote : Mote) (given : List RadioCopy) (alike : IsAlike (system_of n) k until given (inbox k)) (out : WindowOut) where
+      quiet : IsQuiet from (lone_node (motes k).state).wake (inbox k)
+      quiet = record { no_wake = subst (WakesFrom from) wakes wakes_from; no_copies = inbox_from }
+
+      pub back : Gives (record { program = tree_at n k; until = until; copies = given; mote = lone_node (motes k).state }) out → IsBack n own from until motes inbox k out
+      back gives = record {
+        mine = mine;
+        there = there;
+        last = in_front (motes k).lines (motes k).sends gives.last;
+        alone = subst (λ m. Alone (system_of n) k until (inbox k) m (in_front (motes k).lines (motes k).sends gives.last)) front_is (alone_in_front (system_of n) k until (motes k).lines (motes k).sends alone);
+        node = told.node;
+        wake = told.wake;
+        lines = ap (λ l. (motes k).lines ++ l) (sym told.lines);
+        sends = ap (λ l. (motes k).sends ++ l) (sym told.sends);
+        number_is = alone_keeps (system_of n) k until later from (λ m. number_of m.state ≡ k) (λ t m g h l e. number_kept k t m g e) quiet numbered alone;
+        wakes = alone_keeps (system_of n) k until later from (λ m. m.wake ≡ wake_of m.state) (λ t m g h l e. wake_kept k t m g) quiet refl alone;
+        quiet = rests_quiet (system_of n) k until alone;
+        behind = alone_keeps (system_of n) k until later from (λ m. is_past until m.state.last ≡ false) (λ t m g h l e. turn_before n k t until m g l) quiet before alone;
+        sent = subst (AllByRecursion (IsSentIn k from until)) (sym told.sends)
+            (alone_keeps (system_of n) k until later from (λ m. AllByRecursion (IsSentIn k from until) m.sends)
+            (λ t m g h l e. every_append (IsSentIn k from until) m.sends _ e (stamps k t h l _)) quiet tt alone);
+      }
+        where
+          told : IsTold (node_in (tree_at n k) out.mote) out gives.last
+          told = told_is (node_in (tree_at n k) out.mote) out gives.last gives.given
+
+          alone : Alone (system_of n) k until (inbox k) (lone_node (motes k).state) gives.last
+          alone = alone_alike (system_of n) k until (inbox k) alike (subst (λ j. Alone (system_of n) j until given (lone_node (motes k).state) gives.last) numbered (gives.run (system_of n) turn_is))
+
+  -- the copies of what a mote sent in the window come after it
+  pub record ComesLate (k : ℕ) (copy : RadioCopy) : Type 0 where
+    pub sender : copy.sender ≡ k
+    pub late : until ≤ copy.at
+    pub there : copy.to < length n.motes
+
+  lookahead_is : (system_of n).lookahead ≡ lookahead n.radio n.end
+  unfolding system_of
+  lookahead_is = refl
+
+  pub come_late : length n.radio.places ≡ length n.motes → until ≤ from + (system_of n).lookahead → (k : ℕ) (sends : List Sent) → AllByRecursion (IsSentIn k from until) sends
+      → AllByRecursion (ComesLate k) (flat_map (copies n.radio) sends)
+  come_late placed short k sends h =
+      every_flat_map (ComesLate k) (copies n.radio) sends
+      (every_weaker _ _ (λ sent g. every_weaker _ _ (λ copy i. record {
+        sender = i.sender ∙ g.sender;
+        late = (let a = i.later n.end in let b = g.later in let c = lookahead_is in omega arith);
+        there = (let t = i.there in omega arith);
+      }) (copies n.radio sent) (copies_later n.radio sent)) sends h)

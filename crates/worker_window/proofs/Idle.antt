@@ -1,0 +1,86 @@
+-- A share stands until something is to come.
+use Rattle.std.proofs.Common.{◌≡◌, ℕ, ◌≤◌, Bool, true, false, not, ◌&&◌, ◌||◌, ltb, eqb, List, [], refl, sym, ap, ◌∙◌, subst, arith, Option, Some, None}
+use Rattle.std.specs.List.{filter, AllByRecursion}
+use Rattle.std.proofs.lemmas.Bool.{and_parts, eqb-true}
+use Rattle.std.proofs.lemmas.Bool.Decides.{nat_tests}
+use Rattle.radio_packet.specs.declared.copy.RadioCopy.{RadioCopy}
+use Rattle.mote_net.specs.Net.{NetTold}
+use Rattle.window_laws.specs.Agenda.{Item, moment_of, mote_of, comes_at, packets, wake_items, IsLeast}
+use Rattle.window_laws.specs.Windows.{WakesFrom, is_from_sender}
+use Rattle.window_laws.proofs.Lists.{any_every, every_weaker, every_filter, filter_both, filter_every}
+use Rattle.net_agenda.specs.NetSystem.{system_of}
+use Rattle.worker_window.specs.declared.share.Share.{Share}
+use Rattle.worker_cut.specs.Crossed.{is_own, copies_known}
+use Rattle.worker_window.specs.Share.{Motes, Keeps, is_to_come}
+use Rattle.worker_window.proofs.Behind.{past_later}
+use Rattle.worker_window.proofs.Items.{inside, wake_of_all, packets_of_all}
+
+-- the tests over plain numbers
+still_later : (own : Bool) (at from moment : ℕ) → from ≤ moment → (own && not (ltb at moment)) ≡ ((own && not (ltb at from)) && not (ltb at moment))
+still_later true at from moment h = grind (arith, nat_tests)
+still_later false at from moment h = refl
+
+late : (at moment : ℕ) → moment ≤ at → not (ltb at moment) ≡ true
+late at moment h = grind (arith, nat_tests)
+
+later_or_now : (t m u k : ℕ) → (ltb t u || (eqb u t && not (ltb k m))) ≡ true → t ≤ u
+later_or_now t m u k h = grind (arith, nat_tests)
+
+wakes_later : (moment k : ℕ) (wake : Option ℕ) → AllByRecursion (λ item. moment ≤ moment_of item) (wake_items k wake) → WakesFrom moment wake
+wakes_later moment k None h = tt
+wakes_later moment k (Some t) h = h.0
+
+module _ (n : NetTold) (of : List ℕ) (worker from : ℕ) (motes : Motes) (taken : List RadioCopy) (share : Share) (keeps : Keeps n of worker from motes taken share) where
+  abbrev pub own : ℕ → Bool
+  own = is_own of worker
+
+  abbrev pub items : List Item
+  items = keeps.agenda.items
+
+  pub none_sooner : AllByRecursion (λ item. from ≤ moment_of item) items
+  none_sooner = every_weaker _ _ (λ item h. h.1) items (inside n own own from motes taken share.agenda.buckets keeps.agenda (λ k h. h) keeps.quiet)
+
+  pub first_from : (t m : ℕ) → IsLeast t m items → from ≤ t
+  first_from t m least = any_every _ (comes_at t m) _ (λ item e h. let f = eqb-true (moment_of item) t (and_parts (eqb (moment_of item) t) (eqb (mote_of item) m) e).0 in omega arith) items least.is_there none_sooner
+
+  wake_then : (moment k : ℕ) → own k ≡ true → AllByRecursion (λ item. moment ≤ moment_of item) items → WakesFrom moment (motes k).wake
+  wake_then moment k mine h =
+      wakes_later moment k (motes k).wake
+      (subst (AllByRecursion (λ item. moment ≤ moment_of item)) (keeps.agenda.wakes k ∙ rw mine refl) (wake_of_all (λ item. moment ≤ moment_of item) items k h))
+
+  copies_then : (moment s : ℕ) → from ≤ moment → AllByRecursion (λ item. moment ≤ moment_of item) items
+      → filter (is_from_sender s) (packets items) ≡ filter (is_to_come own moment) (copies_known (system_of n) own motes taken s)
+  copies_then moment s le h =
+      sym (filter_every (λ c. not (ltb c.at moment)) (filter (is_from_sender s) (packets items))
+      (every_filter _ _ (is_from_sender s) (λ c g e. late c.at moment g) (packets items) (packets_of_all (λ item. moment ≤ moment_of item) items h)))
+      ∙ (ap (filter (λ c. not (ltb c.at moment))) (keeps.agenda.copies s)
+      ∙ filter_both (λ c. not (ltb c.at moment)) (is_to_come own from) (is_to_come own moment) (λ c. still_later (own c.to) c.at from moment le) (copies_known (system_of n) own motes taken s))
+
+  pub moved_on : (moment : ℕ) → from ≤ moment → AllByRecursion (λ item. moment ≤ moment_of item) items → Keeps n of worker moment motes taken share
+  moved_on moment le h = record {
+    is_worker = keeps.is_worker;
+    places = keeps.places;
+    numbers = keeps.numbers;
+    nodes = keeps.nodes;
+    wakes = keeps.wakes;
+    quiet = λ k mine. wake_then moment k mine h;
+    behind = λ k mine. past_later from moment le (motes k).state.last (keeps.behind k mine);
+    traces_kept = keeps.traces_kept;
+    traces = keeps.traces;
+    log = keeps.log;
+    fates = keeps.fates;
+    agenda = record { items = items; holds = keeps.agenda.holds; wakes = keeps.agenda.wakes; copies = λ s. copies_then moment s le h };
+  }
+
+  pub least_later : (t m moment : ℕ) → IsLeast t m items → moment ≤ t → AllByRecursion (λ item. moment ≤ moment_of item) items
+  least_later t m moment least h = every_weaker _ _ (λ item e. let g = later_or_now t m (moment_of item) (mote_of item) e in omega arith) items least.is_first
+
+  pub empty_later : (moment : ℕ) → items ≡ [] → AllByRecursion (λ item. moment ≤ moment_of item) items
+  empty_later moment e = subst (AllByRecursion (λ item. moment ≤ moment_of item)) (sym e) tt
+
+  -- and no copy comes before
+  pub no_copies : (moment : ℕ) → AllByRecursion (λ item. moment ≤ moment_of item) items
+      → (s : ℕ) → AllByRecursion (λ copy. moment ≤ copy.at) (filter (is_to_come own from) (copies_known (system_of n) own motes taken s))
+  no_copies moment later s =
+      subst (AllByRecursion (λ copy. moment ≤ copy.at)) (keeps.agenda.copies s)
+      (every_filter _ _ (is_from_sender s) (λ c g e. g) (packets items) (packets_of_all (λ item. moment ≤ moment_of item) items later))

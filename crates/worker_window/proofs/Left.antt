@@ -1,0 +1,226 @@
+-- Motes leave a share one after another.
+use Rattle.std.proofs.Common.{◌⊎◌, ◌≡◌, ℕ, zero, suc, ◌<◌, Bool, true, false, cond, not, ◌&&◌, ◌||◌, eqb, List, [], ◌∷◌, ◌++◌, length, get_or, set, refl, sym, ap, ◌∙◌, subst, inl, inr, arith, Option, Some, None, is_some, get_or-set_same, get_or-set_other}
+use Rattle.std.specs.List.{filter, AllByRecursion}
+use Rattle.std.proofs.lemmas.Bool.{cases_Bool, cases_eq, eq-eqb, ne_eqb, eqb-true, false≢true, and_parts}
+use Rattle.std.proofs.lemmas.List.{map-append, length-set}
+use Rattle.program_tree.specs.Code.{Tree}
+use Rattle.mote_node.specs.declared.mote.Mote.{Mote}
+use Rattle.mote_node.specs.Public.{node_in, wake_in}
+use Rattle.window_laws.specs.Agenda.{Item, Wake, Packet, is_wake_of, wake_items}
+use Rattle.window_laws.proofs.Lists.{filter_stronger, filter_both, every_append}
+use Rattle.window_run.specs.declared.share.Resident.{Resident}
+use Rattle.net_agenda.specs.Buckets.{Buckets, Holds}
+use Rattle.worker_window.specs.Calls.{CalledMotes, copies_for}
+use Rattle.worker_window.specs.Share.{mote_here, node_at}
+use Rattle.worker_window.specs.Leaving.{wake_from, is_one_of, are_different, numbers_of, stays_without, IsCalled, AreAwake, MotesLeave}
+
+-- some of the motes that are called left, and the rest are still to leave
+pub record Left (until : ℕ) (calls rest : CalledMotes) (old now : List (Option Mote)) (before after : Buckets) (residents : List Resident) : Type 0 where
+  pub different : are_different (numbers_of residents) ≡ true
+  pub others : (k : ℕ) → copies_for rest k ≡ cond (is_one_of k (numbers_of residents)) None (copies_for calls k)
+  pub called : AllByRecursion (IsCalled calls old) residents
+  pub places : length now ≡ length old
+  pub gone : (k : ℕ) → mote_here now k ≡ cond (is_one_of k (numbers_of residents)) None (mote_here old k)
+  pub agenda : (trees : ℕ → Tree) (items : List Item) → Holds before items → AreAwake until calls old trees items → Holds after (filter (stays_without (numbers_of residents)) items)
+
+some_within : {X : Type 0} (xs : List (Option X)) (k : ℕ) (x : X) → get_or xs k None ≡ Some x → k < length xs
+some_within [] k x e = absurd (none_is_not x e)
+  where
+    none_is_not : {X : Type 0} (x : X) → None ≡ Some x → ⊥
+    none_is_not x e = cc
+some_within (y ∷ xs) zero x e = omega arith
+some_within (y ∷ xs) (suc k) x e = let h = some_within xs k x e in omega arith
+
+-- a number more
+pub among_more : (j : ℕ) (ks : List ℕ) (k : ℕ) → is_one_of j (ks ++ k ∷ []) ≡ (is_one_of j ks || eqb k j)
+among_more j [] k = or_false (eqb k j)
+  where
+    or_false : (b : Bool) → (b || false) ≡ b
+    or_false true = refl
+    or_false false = refl
+among_more j (i ∷ ks) k = elim (cases_Bool (eqb i j)) [ inl e ↦ rw e refl | inr e ↦ rw e (among_more j ks k) ]
+
+pub different_more : (ks : List ℕ) (k : ℕ) → are_different ks ≡ true → is_one_of k ks ≡ false → are_different (ks ++ k ∷ []) ≡ true
+different_more [] k d n = refl
+different_more (i ∷ ks) k d n =
+    let parts = and_parts (not (is_one_of i ks)) (are_different ks) d in
+    elim (cases_Bool (eqb i k)) [
+      | inl e ↦ absurd (let f = rw e at n in false≢true (sym f))
+      | inr e ↦ (let f = rw e at n in
+          let g : eqb k i ≡ false = ne_eqb k i (λ q. false≢true (sym e ∙ eq-eqb i k (sym q))) in
+          let h : is_one_of i (ks ++ k ∷ []) ≡ false = among_more i ks k ∙ (ap (λ b. is_one_of i ks || b) g ∙ (or_no (is_one_of i ks) ∙ not_true (is_one_of i ks) parts.0)) in
+          rw h (different_more ks k parts.1 f))
+    ]
+  where
+    or_no : (b : Bool) → (b || false) ≡ b
+    or_no true = refl
+    or_no false = refl
+
+    not_true : (b : Bool) → not b ≡ true → b ≡ false
+    not_true true e = absurd (cc)
+    not_true false e = refl
+
+-- and back
+pub different_less : (ks : List ℕ) (k : ℕ) → are_different (ks ++ k ∷ []) ≡ true → (are_different ks ≡ true) × (is_one_of k ks ≡ false)
+different_less [] k d = (refl, refl)
+different_less (i ∷ ks) k d =
+    let parts = and_parts (not (is_one_of i (ks ++ k ∷ []))) (are_different (ks ++ k ∷ [])) d in
+    let ih = different_less ks k parts.1 in
+    let h : (is_one_of i ks || eqb k i) ≡ false = sym (among_more i ks k) ∙ not_true (is_one_of i (ks ++ k ∷ [])) parts.0 in
+    let a : is_one_of i ks ≡ false = left_no (is_one_of i ks) (eqb k i) h in
+    let b : eqb k i ≡ false = right_no (is_one_of i ks) (eqb k i) h in
+    let c : eqb i k ≡ false = ne_eqb i k (λ q. false≢true (sym b ∙ eq-eqb k i (sym q))) in
+    (rw a ih.0, rw c ih.1)
+  where
+    not_true : (b : Bool) → not b ≡ true → b ≡ false
+    not_true true e = absurd (cc)
+    not_true false e = refl
+
+    left_no : (a b : Bool) → (a || b) ≡ false → a ≡ false
+    left_no true b e = absurd (cc)
+    left_no false b e = refl
+
+    right_no : (a b : Bool) → (a || b) ≡ false → b ≡ false
+    right_no true b e = absurd (cc)
+    right_no false b e = e
+
+pub none_left : (until : ℕ) (calls rest : CalledMotes) (motes : List (Option Mote)) (buckets : Buckets) (residents : List Resident) → residents ≡ [] → ((k : ℕ) → copies_for rest k ≡ copies_for calls k)
+    → Left until calls rest motes motes buckets buckets residents
+none_left until calls rest motes buckets residents e same =
+    subst (Left until calls rest motes motes buckets buckets) (sym e) (record {
+      different = refl;
+      others = same;
+      called = tt;
+      places = refl;
+      gone = λ k. refl;
+      agenda = λ trees items holds awake. subst (λ l. Holds buckets l) (sym (all_stay items)) holds;
+    })
+  where
+    all_stay : (items : List Item) → filter (stays_without []) items ≡ items
+    all_stay [] = refl
+    all_stay (Wake t m ∷ items) = ap (λ l. Wake t m ∷ l) (all_stay items)
+    all_stay (Packet c ∷ items) = ap (λ l. Packet c ∷ l) (all_stay items)
+
+module _ (until : ℕ) (calls rest rest' : CalledMotes) (old now now' : List (Option Mote)) (before after after' : Buckets) (residents residents' : List Resident) (left : Left until calls rest old now before after residents)
+    (r : Resident) (pushed : residents' ≡ residents ++ r ∷ []) (popped : copies_for rest r.number ≡ Some r.copies.items)
+    (updated : (k : ℕ) → copies_for rest' k ≡ cond (eqb r.number k) None (copies_for rest k)) where
+  abbrev ks : List ℕ
+  ks = numbers_of residents
+
+  abbrev k : ℕ
+  k = r.number
+
+  numbers : numbers_of residents' ≡ ks ++ k ∷ []
+  numbers = ap numbers_of pushed ∙ map-append (λ (x : Resident). x.number) residents (r ∷ [])
+
+  pub new : is_one_of k ks ≡ false
+  new = elim (cases_Bool (is_one_of k ks)) [
+    | inl e ↦ absurd (let h = rw e at (left.others k) in none_is_not r.copies.items (sym h ∙ popped))
+    | inr e ↦ e
+  ]
+    where
+      none_is_not : {X : Type 0} (x : X) → None ≡ Some x → ⊥
+      none_is_not x e = cc
+
+  pub is_called : copies_for calls k ≡ Some r.copies.items
+  is_called = let h = rw new at (left.others k) in sym h ∙ popped
+
+  pub still_here : mote_here now k ≡ mote_here old k
+  still_here = let h = rw new at (left.gone k) in h
+
+  among : (j : ℕ) → is_one_of j (numbers_of residents') ≡ (is_one_of j ks || eqb k j)
+  among j = ap (is_one_of j) numbers ∙ among_more j ks k
+
+  none_more : {X : Type 0} (a b : Bool) (x : Option X) → cond b None (cond a None x) ≡ cond (a || b) None x
+  none_more true true x = refl
+  none_more true false x = refl
+  none_more false true x = refl
+  none_more false false x = refl
+
+  others' : (j : ℕ) → copies_for rest' j ≡ cond (is_one_of j (numbers_of residents')) None (copies_for calls j)
+  others' j = updated j ∙ (ap (λ o. cond (eqb k j) None o) (left.others j) ∙ (none_more (is_one_of j ks) (eqb k j) (copies_for calls j) ∙ ap (λ b. cond b None (copies_for calls j)) (sym (among j))))
+
+  module _ (mote : mote_here now k ≡ Some r.mote) (put : now' ≡ set now k None) (wake : Option ℕ) (wakes : (t : Tree) → wake ≡ wake_from until (wake_in (node_in t r.mote)))
+      (dropped : (items : List Item) → Holds after items → filter (is_wake_of k) items ≡ wake_items k wake → Holds after' (filter (λ item. not (is_wake_of k item)) items)) where
+    within : k < length now
+    within = some_within now k r.mote mote
+
+    gone' : (j : ℕ) → mote_here now' j ≡ cond (is_one_of j (numbers_of residents')) None (mote_here old j)
+    gone' j =
+        ap (λ l. mote_here l j) put
+        ∙ elim (cases_eq j k) [
+          | inl e ↦ subst (λ i. get_or (set now k None) i None ≡ cond (is_one_of i (numbers_of residents')) None (mote_here old i)) (sym e)
+              (get_or-set_same now k None None within ∙ sym (ap (λ b. cond b None (mote_here old k)) yes))
+          | inr ne ↦ get_or-set_other now k j None None ne
+              ∙ (left.gone j ∙ ap (λ b. cond b None (mote_here old j)) (sym (no j ne)))
+        ]
+      where
+        or_yes : (b : Bool) → (b || true) ≡ true
+        or_yes true = refl
+        or_yes false = refl
+
+        or_none : (b : Bool) → (b || false) ≡ b
+        or_none true = refl
+        or_none false = refl
+
+        yes : is_one_of k (numbers_of residents') ≡ true
+        yes = among k ∙ (ap (λ b. is_one_of k ks || b) (eq-eqb k k refl) ∙ or_yes (is_one_of k ks))
+
+        no : (j : ℕ) → (j ≡ k → ⊥) → is_one_of j (numbers_of residents') ≡ is_one_of j ks
+        no j ne = among j ∙ (ap (λ b. is_one_of j ks || b) (ne_eqb k j (λ f. ne (sym f))) ∙ or_none (is_one_of j ks))
+
+    stays : (item : Item) → stays_without (numbers_of residents') item ≡ (stays_without ks item && not (is_wake_of k item))
+    stays (Wake t m) = ap not (among m) ∙ flip (is_one_of m ks) (eqb k m) (eqb m k) (turn (cases_eq m k))
+      where
+        flip : (a b c : Bool) → b ≡ c → not (a || b) ≡ (not a && not c)
+        flip true b c e = refl
+        flip false b c e = ap not e
+
+        turn : (m ≡ k) ⊎ (m ≡ k → ⊥) → eqb k m ≡ eqb m k
+        turn (inl e) = eq-eqb k m (sym e) ∙ sym (eq-eqb m k e)
+        turn (inr ne) = ne_eqb k m (λ f. ne (sym f)) ∙ sym (ne_eqb m k ne)
+    stays (Packet c) = refl
+
+    own_stays : (item : Item) → is_wake_of k item ≡ true → stays_without ks item ≡ true
+    own_stays (Wake t m) e = ap (λ j. not (is_one_of j ks)) (eqb-true m k e) ∙ ap not new
+    own_stays (Packet c) e = refl
+
+    agenda' : (trees : ℕ → Tree) (items : List Item) → Holds before items → AreAwake until calls old trees items → Holds after' (filter (stays_without (numbers_of residents')) items)
+    agenda' trees items holds awake =
+        subst (λ l. Holds after' l) (filter_both (λ item. not (is_wake_of k item)) (stays_without ks) (stays_without (numbers_of residents')) stays items)
+        (dropped (filter (stays_without ks) items) (left.agenda trees items holds awake)
+        (filter_stronger (is_wake_of k) (stays_without ks) own_stays items
+        ∙ (awake k (ap is_some is_called) ∙ ap (wake_items k) (ap (λ o. wake_from until (wake_in (node_at (trees k) o))) (sym still_here ∙ mote) ∙ sym (wakes (trees k))))))
+
+    pub one_left : Left until calls rest' old now' before after' residents'
+    one_left = record {
+      different = ap are_different numbers ∙ different_more ks k left.different new;
+      others = others';
+      called = subst (AllByRecursion (IsCalled calls old)) (sym pushed) (every_append _ residents (r ∷ []) left.called (record { mote = sym still_here ∙ mote; copies = is_called }, tt));
+      places = ap length put ∙ (length-set now k None ∙ left.places);
+      gone = gone';
+      agenda = agenda';
+    }
+
+pub all_left : (until : ℕ) (calls rest : CalledMotes) (old now : List (Option Mote)) (before after : Buckets) (residents : List Resident) → Left until calls rest old now before after residents
+    → ((k : ℕ) → copies_for rest k ≡ None) → MotesLeave until calls old now before after residents
+all_left until calls rest old now before after residents left none = record {
+  different = left.different;
+  all = λ k. each k (is_one_of k (numbers_of residents)) refl;
+  called = left.called;
+  places = left.places;
+  gone = left.gone;
+  agenda = left.agenda;
+}
+  where
+    called_one : (k : ℕ) (rs : List Resident) → AllByRecursion (IsCalled calls old) rs → is_one_of k (numbers_of rs) ≡ true → is_some (copies_for calls k) ≡ true
+    called_one k [] all e = absurd (false≢true e)
+    called_one k (r ∷ rs) all e =
+        elim (cases_Bool (eqb r.number k)) [
+          | inl f ↦ ap (λ j. is_some (copies_for calls j)) (sym (eqb-true r.number k f)) ∙ ap is_some all.0.copies
+          | inr f ↦ (let g = rw f at e in called_one k rs all.1 g)
+        ]
+
+    each : (k : ℕ) (b : Bool) → is_one_of k (numbers_of residents) ≡ b → is_one_of k (numbers_of residents) ≡ is_some (copies_for calls k)
+    each k true e = e ∙ sym (called_one k residents left.called e)
+    each k false e = let h = rw e at (left.others k) in e ∙ ap is_some (sym (none k) ∙ h)

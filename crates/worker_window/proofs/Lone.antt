@@ -1,0 +1,123 @@
+-- A mote alone: what it wrote and sent before, and which inbox it was given, make no difference to its run.
+use Rattle.std.proofs.Common.{◌≡◌, ℕ, ◌<◌, ◌≤◌, ◌⊎◌, Bool, true, false, not, ◌||◌, eqb, List, [], ◌∷◌, ◌++◌, refl, sym, ap, ◌∙◌, subst, inl, inr, arith, append_assoc, Option, Some, None}
+use Rattle.std.specs.List.{filter, list_any, AllByRecursion}
+use Rattle.std.proofs.lemmas.Bool.{cases_Bool, cases_eq, cases_lt, eq-eqb, ne_eqb, eqb-true, or_parts, false≢true}
+use Rattle.std.proofs.lemmas.Bool.Decides.{nat_tests}
+use Rattle.radio_packet.specs.declared.sent.Sent.{Sent}
+use Rattle.radio_packet.specs.declared.copy.RadioCopy.{RadioCopy}
+use Rattle.window_laws.specs.System.{System, Turned, IsLater}
+use Rattle.window_laws.specs.Order.{in_order}
+use Rattle.window_laws.specs.NetStep.{sends_of}
+use Rattle.window_laws.specs.Windows.{LoneMote, after_own, own_turn, is_at, wakes_at, WakesFrom, IsQuiet, Alone, Rests, Turns}
+use Rattle.window_laws.proofs.Lists.{filter_stronger, every_filter, any_every, is_filled}
+use Rattle.window_laws.proofs.Alone.{filled_given}
+
+-- with lines and packets of before in front
+abbrev pub in_front : {S L : Type 0} → List L → List Sent → LoneMote S L → LoneMote S L
+in_front lines sends mote = record mote { lines = lines ++ mote.lines; sends = sends ++ mote.sends }
+
+-- tests over plain numbers
+other_at : (t u c : ℕ) → (u ≡ t → ⊥) → eqb c u ≡ true → not (eqb c t) ≡ true
+other_at t u c ne e = grind (arith, nat_tests)
+
+module _ {S L : Type 0} (system : System S L) (k bound : ℕ) where
+  turn_in_front : (lines : List L) (sends : List Sent) (t : ℕ) (mote : LoneMote S L) (turned : Turned S L) → after_own t k (in_front lines sends mote) turned ≡ in_front lines sends (after_own t k mote turned)
+  turn_in_front lines sends t mote turned =
+      ap (λ (l : List L). record { state = turned.state; wake = turned.wake; lines = l; sends = (sends ++ mote.sends) ++ sends_of t k turned }) (append_assoc lines mote.lines turned.lines)
+      ∙ ap (λ (l : List Sent). record { state = turned.state; wake = turned.wake; lines = lines ++ (mote.lines ++ turned.lines); sends = l }) (append_assoc sends mote.sends (sends_of t k turned))
+
+  pub alone_in_front : (lines : List L) (sends : List Sent) {inbox : List RadioCopy} {mote last : LoneMote S L} → Alone system k bound inbox mote last
+      → Alone system k bound inbox (in_front lines sends mote) (in_front lines sends last)
+  alone_in_front lines sends (Rests quiet) = Rests quiet
+  alone_in_front lines sends {inbox} {mote} {last} (Turns t quiet comes low rest) =
+      Turns t quiet comes low
+      (subst (λ m. Alone system k bound (filter (λ copy. not (is_at t copy)) inbox) m (in_front lines sends last))
+      (sym (turn_in_front lines sends t mote (system.turn k mote.state t (in_order (filter (is_at t) inbox)))))
+      (alone_in_front lines sends rest))
+
+  -- the copies of each moment are the same, once they are in order
+  abbrev pub IsAlike : (a b : List RadioCopy) → Type 0
+  IsAlike a b = (t : ℕ) → in_order (filter (is_at t) a) ≡ in_order (filter (is_at t) b)
+
+  any_alike : (a b : List RadioCopy) → IsAlike a b → (t : ℕ) → list_any (is_at t) a ≡ list_any (is_at t) b
+  any_alike a b alike t = sym (filled_given (is_at t) a) ∙ (ap is_filled (alike t) ∙ filled_given (is_at t) b)
+
+  none_sooner : (t : ℕ) (b : List RadioCopy) → ((u : ℕ) → u < t → list_any (is_at u) b ≡ false) → AllByRecursion (λ c. t ≤ c.at) b
+  none_sooner t [] h = tt
+  none_sooner t (c ∷ b) h = (not_sooner (cases_lt c.at t), none_sooner t b (λ u g. (or_parts _ _ (h u g)).1))
+    where
+      not_sooner : (c.at < t) ⊎ (t ≤ c.at) → t ≤ c.at
+      not_sooner (inl g) = absurd (let e : eqb c.at c.at ≡ true = eq-eqb c.at c.at refl in false≢true (sym (or_parts _ _ (h c.at g)).0 ∙ e))
+      not_sooner (inr g) = g
+
+  any_sooner : (t : ℕ) (a : List RadioCopy) → AllByRecursion (λ c. t ≤ c.at) a → (u : ℕ) → u < t → list_any (is_at u) a ≡ false
+  any_sooner t [] h u g = refl
+  any_sooner t (c ∷ a) h u g = let le = h.0 in let e : eqb c.at u ≡ false = ne_eqb c.at u (λ f. absurd (omega arith)) in rw e (any_sooner t a h.1 u g)
+
+  pub quiet_alike : (t : ℕ) (wake : Option ℕ) (a b : List RadioCopy) → IsAlike a b → IsQuiet t wake a → IsQuiet t wake b
+  quiet_alike t wake a b alike quiet = record {
+    no_wake = quiet.no_wake;
+    no_copies = none_sooner t b (λ u h. sym (any_alike a b alike u) ∙ any_sooner t a quiet.no_copies u h);
+  }
+
+  not_at : (t : ℕ) (b : Bool) → not b ≡ true → b ≡ false
+  not_at t true e = absurd (cc)
+  not_at t false e = refl
+
+  none_at : (t : ℕ) (a : List RadioCopy) → filter (is_at t) (filter (λ copy. not (is_at t copy)) a) ≡ []
+  none_at t [] = refl
+  none_at t (c ∷ a) = elim (cases_Bool (eqb c.at t)) [ inl e ↦ rw e (none_at t a) | inr e ↦ rw (e, e) (none_at t a) ]
+
+  rest_alike : (t : ℕ) (a b : List RadioCopy) → IsAlike a b → IsAlike (filter (λ copy. not (is_at t copy)) a) (filter (λ copy. not (is_at t copy)) b)
+  rest_alike t a b alike u =
+      elim (cases_eq u t) [
+        | inl e ↦ subst (λ v. in_order (filter (is_at v) (filter (λ copy. not (is_at t copy)) a)) ≡ in_order (filter (is_at v) (filter (λ copy. not (is_at t copy)) b))) (sym e)
+            (ap in_order (none_at t a ∙ sym (none_at t b)))
+        | inr ne ↦ ap in_order (filter_stronger (is_at u) (λ copy. not (is_at t copy)) (λ c e. other_at t u c.at ne e) a)
+            ∙ (alike u ∙ sym (ap in_order (filter_stronger (is_at u) (λ copy. not (is_at t copy)) (λ c e. other_at t u c.at ne e) b)))
+      ]
+
+  alike_from : {a : List RadioCopy} (b : List RadioCopy) {mote last : LoneMote S L} (other : LoneMote S L) → mote ≡ other → IsAlike a b → Alone system k bound a mote last → Alone system k bound b other last
+  alike_from {a} b {mote} other e alike (Rests quiet) = subst (λ m. Alone system k bound b m mote) e (Rests (quiet_alike bound mote.wake a b alike quiet))
+  alike_from {a} b {mote} {last} other e alike (Turns t quiet comes low rest) =
+      Turns t (subst (λ m. IsQuiet t m.wake b) e (quiet_alike t mote.wake a b alike quiet))
+      (subst (λ m. (wakes_at t m.wake || list_any (is_at t) b) ≡ true) e (ap (λ x. wakes_at t mote.wake || x) (sym (any_alike a b alike t)) ∙ comes)) low
+      (alike_from (filter (λ copy. not (is_at t copy)) b) (own_turn system t k other (in_order (filter (is_at t) b)))
+      (ap (λ m. own_turn system t k m (in_order (filter (is_at t) a))) e ∙ ap (own_turn system t k other) (alike t)) (rest_alike t a b alike) rest)
+
+  pub alone_alike : {a : List RadioCopy} (b : List RadioCopy) {mote last : LoneMote S L} → IsAlike a b → Alone system k bound a mote last → Alone system k bound b mote last
+  alone_alike b {mote} alike run = alike_from b mote refl alike run
+
+  pub rests_quiet : {inbox : List RadioCopy} {mote last : LoneMote S L} → Alone system k bound inbox mote last → WakesFrom bound last.wake
+  rests_quiet (Rests quiet) = quiet.no_wake
+  rests_quiet (Turns t quiet comes low rest) = rests_quiet rest
+
+  -- what each turn of the window keeps holds at its end
+  module _ (wakes_later : (mote : ℕ) (state : S) (moment : ℕ) (given : List RadioCopy) → IsLater moment (system.turn mote state moment given).wake) (from : ℕ) where
+    wake_at : (t : ℕ) (wake : Option ℕ) → WakesFrom from wake → wakes_at t wake ≡ true → from ≤ t
+    wake_at t None h e = absurd (false≢true e)
+    wake_at t (Some u) h e = let g = eqb-true u t e in omega arith
+
+    turn_from : (t : ℕ) (wake : Option ℕ) (inbox : List RadioCopy) → IsQuiet from wake inbox → (wakes_at t wake || list_any (is_at t) inbox) ≡ true → from ≤ t
+    turn_from t wake inbox quiet e =
+        elim (cases_Bool (wakes_at t wake)) [
+          | inl g ↦ wake_at t wake quiet.no_wake g
+          | inr g ↦ (let h = rw g at e in any_every _ (is_at t) _ (λ c f le. (let q = eqb-true c.at t f in omega arith)) inbox h quiet.no_copies)
+        ]
+
+    later_from : (t : ℕ) (wake : Option ℕ) → from ≤ t → IsLater t wake → WakesFrom from wake
+    later_from t None h g = tt
+    later_from t (Some u) h g = omega arith
+
+    pub alone_keeps : (P : LoneMote S L → Type 0) → ((t : ℕ) (mote : LoneMote S L) (given : List RadioCopy) → from ≤ t → t < bound → P mote → P (own_turn system t k mote given))
+        → {inbox : List RadioCopy} {mote last : LoneMote S L} → IsQuiet from mote.wake inbox → P mote → Alone system k bound inbox mote last → P last
+    alone_keeps P step quiet p (Rests rests) = p
+    alone_keeps P step {inbox} {mote} quiet p (Turns t now comes low rest) =
+        let le = turn_from t mote.wake inbox quiet comes in
+        let given : List RadioCopy = in_order (filter (is_at t) inbox) in
+        alone_keeps P step
+        (record {
+          no_wake = later_from t (system.turn k mote.state t given).wake le (wakes_later k mote.state t given);
+          no_copies = every_filter _ _ (λ copy. not (is_at t copy)) (λ c h e. h) inbox quiet.no_copies;
+        })
+        (step t mote given le low p) rest

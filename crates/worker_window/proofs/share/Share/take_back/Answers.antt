@@ -1,0 +1,34 @@
+use Rattle.std.proofs.Common.{◌≡◌, ◌∙◌, ◌++◌, ◌<◌, cond, eqb, length, List, map, [], Some, ap, refl, subst, sym, slice_set, get_or}
+use Rattle.std.specs.List.{filter, flat_map}
+use Rattle.radio_packet.specs.declared.sent.Sent.{Sent}
+use Rattle.radio_medium.specs.Medium.{copies}
+use Rattle.window_laws.specs.Agenda.{Packet, wake_items}
+use Rattle.net_agenda.specs.Buckets.{Holds}
+use Rattle.worker_cut.specs.Crossed.{is_own, leaves}
+use Rattle.worker_window.specs.Log.{packets_in}
+use Rattle.worker_window.proofs.Traces.{as_many, lines_added}
+use Rattle.worker_window.proofs.share.Share.take_back.Goals as goal
+
+pub returns : goal.returns
+returns c = λ number numbered.
+    let old = c.args.self.now in
+    let out = c.args.out in
+    let told = rw numbered.is at (c.number-number.ensures.node numbered.tree) in
+    let same : c.number-number.result ≡ number = told ∙ numbered.number_is in
+    let fit = c.requires.traces in
+    let told_too = rw fit.numbered.is at (c.number-number.ensures.node fit.numbered.tree) in
+    let low : c.number-number.result < length old.traces.items = subst (λ k. k < length old.traces.items) (sym (told_too ∙ fit.numbered.number_is)) fit.there in
+    record {
+      worker = refl;
+      motes = ap (λ i. slice_set old.motes.items i (Some out.mote)) (c.from.ensures ∙ same);
+      traces_kept = as_many c.number-number.result out.lines.items old.traces.items c.add_lines.new.traces.items c.in_ok-add_lines.ensures;
+      traces = λ k d.
+          lines_added c.number-number.result out.lines.items old.traces.items c.add_lines.new.traces.items c.in_ok-add_lines.ensures low k d
+          ∙ ap (λ m. (get_or old.traces.items k d).items ++ cond (eqb k m) out.lines.items []) same;
+      log = c.in_ok-send_all.ensures.log ∙ ap (λ (l : List Sent). packets_in old.log.items ++ l) c.deref.ensures.value;
+      fates = c.in_ok-send_all.ensures.fates;
+      agenda = λ items holds.
+          subst (λ (l : List Sent). Holds c.send_all.new.agenda.buckets ((items ++ wake_items number out.wake) ++ map Packet (filter (λ copy. is_own c.args.of.now old.worker copy.to) (flat_map (copies c.args.medium.now) l)))) c.deref.ensures.value
+          (c.in_ok-send_all.ensures.own _ (subst (λ m. Holds c.put_next_wake.new.self.buckets (items ++ wake_items m out.wake)) same (c.in_ok-put_next_wake.ensures items holds)));
+      away = c.in_ok-send_all.ensures.away ∙ ap (λ (l : List Sent). c.args.away.now.items ++ filter (leaves (is_own c.args.of.now old.worker)) (flat_map (copies c.args.medium.now) l)) c.deref.ensures.value;
+    }

@@ -1,0 +1,34 @@
+use Rattle.std.proofs.Common.{◌∙◌, ◌++◌, ◌∷◌, [], ap, get_or, subst, take, None}
+use Rattle.std.proofs.lemmas.List.{take_all}
+use Rattle.radio_packet.specs.declared.copy.RadioCopy.{RadioCopy}
+use Rattle.radio_packet.specs.declared.fate.Fate.{Fate}
+use Rattle.radio_medium.specs.Medium.{copy_of}
+use Rattle.net_agenda.specs.Buckets.{Holds}
+use Rattle.worker_cut.specs.Crossed.{is_own, leaves}
+use Rattle.worker_window.specs.Sending.{copies_away, own_items}
+use Rattle.worker_window.proofs.Sends.{more_own, more_away}
+use Rattle.worker_window.proofs.window.send_fates.Goals as goal
+
+abbrev none : Fate
+none = record { to = 0; at = None }
+
+pub loop-fate-preserved : goal.loop-fate-preserved
+loop-fate-preserved c =
+    let of = c.args.of.now in
+    let worker = c.args.worker in
+    let sent = c.args.sent.now in
+    let fates = c.args.fates.now in
+    let i = c.loop-fate.fate-index in
+    let inv = c.loop-fate.invariant in
+    record {
+      own = λ items holds.
+          subst (λ l. Holds c.send_fate.new.agenda.buckets l) (more_own (λ (copy : RadioCopy). is_own of worker copy.to) (copy_of sent) items fates i none c.loop-fate-test.true)
+          (c.in_ok-send_fate.ensures.own (items ++ own_items of worker sent (take i fates)) (inv.own items holds));
+      away = c.in_ok-send_fate.ensures.away
+          ∙ (ap (λ l. l ++ copies_away of worker sent (get_or fates i none ∷ [])) inv.away ∙ more_away (leaves (is_own of worker)) (copy_of sent) c.args.away.now.items fates i none c.loop-fate-test.true);
+    }
+
+pub returns-clause-own : goal.returns-clause-own
+returns-clause-own c = λ items holds.
+    subst (λ l. Holds c.loop-fate.agenda.buckets (items ++ own_items c.args.of.now c.args.worker c.args.sent.now l)) (take_all c.loop-fate.fate-index c.args.fates.now c.loop-fate-test.false)
+    (c.loop-fate.invariant.own items holds)

@@ -1,0 +1,45 @@
+-- The motes that a window calls, and the copies that come to each.
+use Rattle.std.specs.Prelude.{ℕ, ◌≡◌, Bool, true, not, ◌&&◌, ◌==◌, nat_lt, if◌then◌else◌}
+use Rattle.std.specs.Prelude.{List, [], Option, Some, is_some, option_map, Vec}
+use Rattle.std.specs.List.{filter, list_any}
+use Rattle.std.specs.Ordering.{nat_cmp}
+use Rattle.std.specs.BTreeMap.{BTreeMap, get}
+use Rattle.std.specs.declared.alloc.Global.{Global}
+use Rattle.radio_packet.specs.declared.copy.RadioCopy.{RadioCopy}
+use Rattle.window_laws.specs.Order.{in_order}
+use Rattle.window_laws.specs.Agenda.{Item, moment_of, mote_of, comes_at, packets}
+use Rattle.window_laws.specs.Windows.{is_at}
+use Rattle.window_run.specs.Window.{is_rising}
+use Rattle.net_agenda.specs.Buckets.{Buckets, Holds}
+
+abbrev pub CalledMotes : Type 0
+CalledMotes = BTreeMap ℕ (Vec RadioCopy Global)
+
+-- the copies for a mote, if it is called
+abbrev pub copies_for : CalledMotes → (mote : ℕ) → Option (List RadioCopy)
+copies_for calls mote = option_map (λ copies. copies.items) (get nat_cmp calls mote)
+
+-- not before this moment
+abbrev pub is_not_before : (until : ℕ) → Item → Bool
+is_not_before until item = not (nat_lt (moment_of item) until)
+
+-- something comes to this mote before this moment
+abbrev pub calls_for : (until mote : ℕ) → Item → Bool
+calls_for until mote item = nat_lt (moment_of item) until && (mote_of item == mote)
+
+-- the copies for a mote, rising, are those that the items have for it at each moment
+pub record GathersFor (until : ℕ) (items : List Item) (mote : ℕ) (copies : List RadioCopy) : Type 0 where
+  pub rising : is_rising copies ≡ true
+  pub all : (moment : ℕ) → filter (is_at moment) copies
+      ≡ (if nat_lt moment until then in_order (packets (filter (comes_at moment mote) items)) else [])
+
+-- the calls are those that these items make before a moment
+pub record Gathers (until : ℕ) (items : List Item) (calls : CalledMotes) : Type 0 where
+  pub called : (mote : ℕ) → is_some (copies_for calls mote) ≡ list_any (calls_for until mote) items
+  pub copies : (mote : ℕ) (copies : List RadioCopy) → copies_for calls mote ≡ Some copies
+      → GathersFor until items mote copies
+
+-- the buckets are those of some agenda
+pub record HasItems (buckets : Buckets) : Type 0 where
+  pub items : List Item
+  pub holds : Holds buckets items

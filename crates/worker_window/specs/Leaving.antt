@@ -1,0 +1,92 @@
+-- Motes leave a share for a window, and come back.
+use Rattle.std.specs.Prelude.{ℕ, ◌≡◌, ◌<◌, ◌≤◌, ◌^◌, Bool, true, not, ◌&&◌, ◌==◌, nat_lt, if◌then◌else◌, List, []}
+use Rattle.std.specs.Prelude.{◌∷◌, ◌++◌, length, map, Option, Some, None, is_some, slice_index_or, slice_set, Vec}
+use Rattle.std.specs.List.{filter, flat_map, list_any, AllByRecursion}
+use Rattle.std.specs.declared.alloc.Global.{Global}
+use Rattle.program_tree.specs.Code.{Tree}
+use Rattle.trace_lines.specs.declared.line.Line.{Line}
+use Rattle.mote_node.specs.declared.mote.Mote.{Mote}
+use Rattle.mote_node.specs.Node.{Node}
+use Rattle.mote_node.specs.Public.{node_in, wake_in}
+use Rattle.radio_packet.specs.declared.copy.RadioCopy.{RadioCopy}
+use Rattle.radio_medium.specs.Medium.{Radio, copies}
+use Rattle.window_laws.specs.Agenda.{Item, Wake, Packet, is_wake_of, wake_items}
+use Rattle.window_run.specs.declared.out.WindowOut.{WindowOut}
+use Rattle.window_run.specs.declared.share.Resident.{Resident}
+use Rattle.net_agenda.specs.Buckets.{Buckets, Holds}
+use Rattle.worker_window.specs.declared.share.Share.{Share}
+use Rattle.worker_window.specs.Calls.{CalledMotes, copies_for}
+use Rattle.worker_window.specs.Log.{packets_in, HaveFates}
+use Rattle.worker_cut.specs.Crossed.{is_own, leaves}
+use Rattle.window_run.specs.Window.{number_of}
+use Rattle.worker_window.specs.Share.{mote_here, node_at}
+
+abbrev pub wake_from : (until : ℕ) → Option ℕ → Option ℕ
+wake_from until None = None
+wake_from until (Some wake) = if nat_lt wake until then None else Some wake
+
+abbrev pub is_one_of : (number : ℕ) → List ℕ → Bool
+is_one_of number numbers = list_any (λ other. other == number) numbers
+
+abbrev pub are_different : List ℕ → Bool
+are_different [] = true
+are_different (k ∷ ks) = not (is_one_of k ks) && are_different ks
+
+abbrev pub numbers_of : List Resident → List ℕ
+numbers_of residents = map (λ resident. resident.number) residents
+
+-- all but the wakes of these motes
+abbrev pub stays_without : List ℕ → Item → Bool
+stays_without numbers (Wake moment mote) = not (is_one_of mote numbers)
+stays_without numbers (Packet copy) = true
+
+-- a mote that was here, with the copies for it
+pub record IsCalled (calls : CalledMotes) (motes : List (Option Mote)) (resident : Resident) : Type 0 where
+  pub mote : mote_here motes resident.number ≡ Some resident.mote
+  pub copies : copies_for calls resident.number ≡ Some resident.copies.items
+
+-- in the agenda these motes have the wakes that they tell, from a moment on
+abbrev pub AreAwake : (until : ℕ) → CalledMotes → List (Option Mote) → (trees : ℕ → Tree) → List Item → Type 0
+AreAwake until calls motes trees items =
+    (k : ℕ) → is_some (copies_for calls k) ≡ true → filter (is_wake_of k) items
+    ≡ wake_items k (wake_from until (wake_in (node_at (trees k) (mote_here motes k))))
+
+-- the motes that are called left, with their wakes
+pub record MotesLeave (until : ℕ) (calls : CalledMotes) (old new : List (Option Mote)) (before after : Buckets)
+    (residents : List Resident) : Type 0 where
+  pub different : are_different (numbers_of residents) ≡ true
+  pub all : (k : ℕ) → is_one_of k (numbers_of residents) ≡ is_some (copies_for calls k)
+  pub called : AllByRecursion (IsCalled calls old) residents
+  pub places : length new ≡ length old
+  pub gone : (k : ℕ) → mote_here new k ≡ (if is_one_of k (numbers_of residents) then None else mote_here old k)
+  pub agenda : (trees : ℕ → Tree) (items : List Item) → Holds before items → AreAwake until calls old trees items
+      → Holds after (filter (stays_without (numbers_of residents)) items)
+
+-- the mote has this number
+pub record HasNumber (number : ℕ) (mote : Mote) : Type 0 where
+  pub tree : Tree
+  pub node : Node
+  pub is : node_in tree mote ≡ Some node
+  pub number_is : number_of node ≡ number
+
+-- what a mote of a net gave in a window
+pub record IsOutOfNet (motes : ℕ) (out : WindowOut) : Type 0 where
+  pub number : ℕ
+  pub numbered : HasNumber number out.mote
+  pub there : number < motes
+  pub sends : AllByRecursion (λ sent. (sent.sender < motes) × (sent.at ≤ 2 ^ 40)) out.sends.items
+
+-- a mote is back in its share
+pub record MoteReturns (radio : Radio) (of : List ℕ) (number : ℕ) (out : WindowOut) (old new : Share)
+    (before after : List RadioCopy) : Type 0 where
+  pub worker : new.worker ≡ old.worker
+  pub motes : new.motes.items ≡ slice_set old.motes.items number (Some out.mote)
+  pub traces_kept : length new.traces.items ≡ length old.traces.items
+  pub traces : (k : ℕ) (d : Vec Line Global) → (slice_index_or new.traces.items k d).items
+      ≡ (slice_index_or old.traces.items k d).items ++ (if k == number then out.lines.items else [])
+  pub log : packets_in new.log.items ≡ packets_in old.log.items ++ out.sends.items
+  pub fates : HaveFates radio old.log.items → HaveFates radio new.log.items
+  pub agenda : (items : List Item) → Holds old.agenda.buckets items
+      → Holds new.agenda.buckets ((items ++ wake_items number out.wake)
+      ++ map Packet (filter (λ copy. is_own of old.worker copy.to) (flat_map (copies radio) out.sends.items)))
+  pub away : after ≡ before ++ filter (leaves (is_own of old.worker)) (flat_map (copies radio) out.sends.items)

@@ -1,0 +1,30 @@
+-- The first pending event of a share.
+use Rattle.std.specs.Prelude.{ℕ, ◌≤◌, List, Option}
+use Rattle.std.specs.List.{filter, AllByRecursion as Each}
+use Rattle.radio_packet.specs.declared.copy.RadioCopy.{RadioCopy}
+use Rattle.mote_net.specs.Net.{NetTold}
+use Rattle.window_laws.specs.Windows.{WakesFrom}
+use Rattle.net_agenda.specs.NetSystem.{system_of}
+use Rattle.worker_cut.specs.Crossed.{is_own, copies_known}
+use Rattle.worker_window.specs.declared.share.Share.{Share}
+use Rattle.worker_window.specs.Share.{Motes, Keeps, is_to_come}
+
+-- the copies from this sender that are still to come to the worker's motes
+abbrev pub copies_to_come : NetTold → (of : List ℕ) → (worker from : ℕ) → Motes → (taken : List RadioCopy)
+    → (sender : ℕ) → List RadioCopy
+copies_to_come n of worker from motes taken sender =
+    let own = is_own of worker in filter (is_to_come own from) (copies_known (system_of n) own motes taken sender)
+
+-- A share that stands at a moment: nothing comes to it before the next moment. So it stands at each moment up to that
+-- one, and no copy comes before it.
+pub record IsNextFrom (n : NetTold) (of : List ℕ) (worker from : ℕ) (motes : Motes) (taken : List RadioCopy)
+    (share : Share) (next : Option ℕ) : Type 0 where
+  pub wakes : WakesFrom from next
+  pub idle : (moment : ℕ) → from ≤ moment → WakesFrom moment next → Keeps n of worker moment motes taken share
+  pub no_copies : (moment : ℕ) → WakesFrom moment next → (sender : ℕ)
+      → Each (λ copy. moment ≤ copy.at) (copies_to_come n of worker from motes taken sender)
+
+-- so it is, whosever share it is and wherever it stands
+abbrev pub TellsNext : Share → (next : Option ℕ) → Type 0
+TellsNext share next = (n : NetTold) (of : List ℕ) (worker from : ℕ) (motes : Motes) (taken : List RadioCopy)
+    → Keeps n of worker from motes taken share → IsNextFrom n of worker from motes taken share next

@@ -1,0 +1,18 @@
+-- What goes on its way of a packet whose copies have these fates.
+use Rattle.std.specs.Prelude.{ℕ, List, map}
+use Rattle.std.specs.List.{filter, filter_map}
+use Rattle.radio_packet.specs.declared.sent.Sent.{Sent}
+use Rattle.radio_packet.specs.declared.fate.Fate.{Fate}
+use Rattle.radio_packet.specs.declared.copy.RadioCopy.{RadioCopy}
+use Rattle.radio_medium.specs.Medium.{copy_of}
+use Rattle.window_laws.specs.Agenda.{Item, Packet}
+use Rattle.worker_cut.specs.Crossed.{is_own, leaves}
+
+-- the copies for the worker's own motes
+abbrev pub own_items : (of : List ℕ) → (worker : ℕ) → Sent → List Fate → List Item
+own_items of worker sent fates = map Packet
+    (filter (λ copy. is_own of worker copy.to) (filter_map (copy_of sent) fates))
+
+-- the copies for motes of other workers
+abbrev pub copies_away : (of : List ℕ) → (worker : ℕ) → Sent → List Fate → List RadioCopy
+copies_away of worker sent fates = filter (leaves (is_own of worker)) (filter_map (copy_of sent) fates)

@@ -1,0 +1,80 @@
+-- What one worker of a net has: its motes, their traces and packets so far, and their pending events.
+use Rattle.std.specs.Prelude.{ℕ, ◌≡◌, Bool, true, not, ◌&&◌, nat_lt, if◌then◌else◌, false}
+use Rattle.std.specs.Prelude.{List, [], length, Option, Some, None, slice_index_or, Vec}
+use Rattle.std.specs.List.{filter}
+use Rattle.std.specs.declared.alloc.Global.{Global}
+use Rattle.program_tree.specs.Code.{Tree}
+use Rattle.trace_lines.specs.declared.line.Line.{Line}
+use Rattle.mote_node.specs.declared.mote.Mote.{Mote}
+use Rattle.mote_node.specs.Node.{Node, is_past}
+use Rattle.mote_node.specs.Public.{node_in}
+use Rattle.mote_node.specs.Wake.{wake_of}
+use Rattle.radio_packet.specs.declared.copy.RadioCopy.{RadioCopy}
+use Rattle.mote_net.specs.Net.{NetTold}
+use Rattle.window_laws.specs.Agenda.{Item, is_wake_of, packets, wake_items}
+use Rattle.window_laws.specs.Windows.{LoneMote, WakesFrom, is_from_sender, is_sent_by}
+use Rattle.net_agenda.specs.Buckets.{Buckets, Holds}
+use Rattle.net_agenda.specs.NetSystem.{tree_at, system_of}
+use Rattle.worker_cut.specs.Crossed.{is_own, copies_known}
+use Rattle.window_run.specs.Window.{number_of}
+use Rattle.worker_window.specs.declared.share.Share.{Share}
+use Rattle.worker_window.specs.Log.{packets_in, HaveFates}
+
+-- the motes of a net, by number
+abbrev pub Motes : Type 0
+Motes = (number : ℕ) → LoneMote Node Line
+
+-- the node of a mote that is here
+abbrev pub node_at : Tree → Option Mote → Option Node
+node_at tree None = None
+node_at tree (Some mote) = node_in tree mote
+
+-- the mote with this number, if it is here
+abbrev pub mote_here : List (Option Mote) → (number : ℕ) → Option Mote
+mote_here motes number = slice_index_or motes number None
+
+-- a copy for one of the worker's motes that arrives at this moment or later
+abbrev pub is_to_come : (own : ℕ → Bool) → (from : ℕ) → RadioCopy → Bool
+is_to_come own from copy = own copy.to && not (nat_lt copy.at from)
+
+-- the agenda has the next wake of each mote that is at home, and of each sender all copies that are to come, in the
+-- order of sending
+pub record HasToCome (n : NetTold) (own home : ℕ → Bool) (from : ℕ) (motes : Motes) (taken : List RadioCopy)
+    (buckets : Buckets) : Type 0 where
+  pub items : List Item
+  pub holds : Holds buckets items
+  pub wakes : (k : ℕ) → filter (is_wake_of k) items ≡ (if home k then wake_items k (motes k).wake else [])
+  pub copies : (s : ℕ) → filter (is_from_sender s) (packets items)
+      ≡ filter (is_to_come own from) (copies_known (system_of n) own motes taken s)
+
+-- The share of a worker at a moment, before which no event is pending, while some of its motes are at home: their nodes
+-- and wakes, the lines and packets of all its motes so far, and the agenda. No mote at home has failed, and the last
+-- turn of each was before that moment. `taken` are all copies that ever came from other workers.
+pub record IsShare (n : NetTold) (of : List ℕ) (worker : ℕ) (home : ℕ → Bool) (from : ℕ) (motes : Motes)
+    (taken : List RadioCopy) (share : Share) : Type 0 where
+  pub is_worker : share.worker ≡ worker
+  pub places : length share.motes.items ≡ length n.motes
+  pub numbers : (k : ℕ) → home k ≡ true → number_of (motes k).state ≡ k
+  pub nodes : (k : ℕ) → home k ≡ true → node_at (tree_at n k) (mote_here share.motes.items k) ≡ Some (motes k).state
+  pub wakes : (k : ℕ) → home k ≡ true → (motes k).wake ≡ wake_of (motes k).state
+  pub quiet : (k : ℕ) → home k ≡ true → WakesFrom from (motes k).wake
+  pub behind : (k : ℕ) → home k ≡ true → is_past from (motes k).state.last ≡ false
+  pub traces_kept : length share.traces.items ≡ length n.motes
+  pub traces : (k : ℕ) → is_own of worker k ≡ true → (d : Vec Line Global)
+      → (slice_index_or share.traces.items k d).items ≡ (motes k).lines
+  pub log : (s : ℕ) → filter (is_sent_by s) (packets_in share.log.items)
+      ≡ (if is_own of worker s then (motes s).sends else [])
+  pub fates : HaveFates n.radio share.log.items
+  pub agenda : HasToCome n (is_own of worker) home from motes taken share.agenda.buckets
+
+-- with all of its motes at home, as between windows
+abbrev pub Keeps : NetTold → (of : List ℕ) → (worker from : ℕ) → Motes → (taken : List RadioCopy) → Share → Type 0
+Keeps n of worker from motes taken share = IsShare n of worker (is_own of worker) from motes taken share
+
+-- the share of some worker at some moment
+pub record IsKept (n : NetTold) (of : List ℕ) (share : Share) : Type 0 where
+  pub worker : ℕ
+  pub from : ℕ
+  pub motes : Motes
+  pub taken : List RadioCopy
+  pub keeps : Keeps n of worker from motes taken share

@@ -1,0 +1,144 @@
+//! The share of one worker: its motes, their traces and packets, and their pending events.
+
+ghost use Rattle.std.specs.Prelude.{◌≡◌, ◌≤◌, ◌<◌, ◌++◌, ◌∷◌, ℕ, true, [], length};
+ghost use Rattle.std.specs.Prelude.{List, Some, IfOk, OnOk, if◌then◌else◌};
+ghost use Rattle.radio_packet.specs.declared.copy.RadioCopy.{RadioCopy};
+ghost use Rattle.window_laws.specs.Agenda.{Wake};
+ghost use Rattle.window_laws.specs.Windows.{first_mote};
+ghost use Rattle.mote_net.specs.Net.{NetTold, net_of};
+ghost use Rattle.net_agenda.specs.NetSystem.{first_node_in, system_of, tree_at};
+ghost use Rattle.net_agenda.specs.Changes.{Adds};
+ghost use Rattle.worker_cut.specs.Crossed.{is_own};
+ghost use Rattle.worker_window.specs.Next.{TellsNext};
+ghost use Rattle.worker_window.specs.Share.{Motes, Keeps, node_at};
+ghost use Rattle.worker_window.specs.Ended.{TellsAtEnd};
+
+use crate::rooms::Rooms;
+use mote_net::Net;
+use mote_node::Mote;
+use net_agenda::{Agenda, new_mote};
+use net_report::LogLine;
+use process_kernel::Line;
+use std::alloc::{AllocError, Global};
+
+/// What one worker of a net has. Motes and traces stand by the number of the mote, with none and an empty one for the
+/// motes of other workers; the packets of the worker's motes, each mote's in order; the pending events of its motes;
+/// and scratch buffers of windows.
+pub struct Share {
+    pub(crate) alloc: Global,
+    pub(crate) worker: u16,
+    pub(crate) motes: Vec<Option<Mote>>,
+    pub(crate) traces: Vec<Vec<Line>>,
+    pub(crate) log: Vec<LogLine>,
+    pub(crate) agenda: Agenda,
+    pub(crate) rooms: Rooms,
+}
+
+/// By hand, so that a share is dropped by one call: the check of a function that owns one sees no more of it.
+impl Drop for Share {
+    fn drop(self) {
+        let Share {
+            alloc: _,
+            worker: _,
+            motes: _,
+            traces: _,
+            log: _,
+            agenda: _,
+            rooms: _,
+        } = self;
+    }
+}
+
+/// What a worker has to tell at the end: the traces of its motes, by number, the packets that they sent, each mote's in
+/// order, and how many copies of packets are still on their way to them.
+#[derive(Drop)]
+pub struct Ended {
+    pub traces: Vec<Vec<Line>>,
+    pub log: Vec<LogLine>,
+    pub left: u64,
+}
+
+/// Whether a mote is one of this worker's: `of` tells the worker of each mote.
+pub(crate) fn is_own(of: &[u16], worker: u16, mote: u16) -> bool
+    ensures { result ≡ is_own of.now worker mote }
+{
+    match of.get(usize::from(mote)) {
+        Some(other) => *other == worker,
+        None => false,
+    }
+}
+
+/// A mote of the worker as it begins: it wakes at 0. There is none for a mote of another worker.
+fn begin(
+    alloc: Global,
+    net: &Net,
+    number: u16,
+    own: bool,
+    agenda: &mut Agenda,
+) -> Result<Option<Mote>, AllocError>
+    requires { number < length (net_of net.now).motes }
+    ensures mote { let n = net_of net.now in
+        IfOk result (λ mote. own ≡ true → node_at (tree_at n number) mote ≡ Some (first_node_in n number)) }
+    ensures wake { OnOk result (Adds agenda.old.buckets agenda.new.buckets (if own then Wake 0 number ∷ [] else [])) }
+{
+    if !own {
+        return Ok(None);
+    }
+    agenda.put_wake(0, number)?;
+    Ok(Some(new_mote(alloc, net, number)?))
+}
+
+impl Share {
+    /// The share of a worker before the motes' first turns: each mote wakes at 0. `of` tells the worker of each mote.
+    pub fn new(alloc: Global, net: &Net, of: &[u16], worker: u16) -> Result<Share, AllocError>
+        requires { length of.now ≡ length (net_of net.now).motes }
+        ensures { let n = net_of net.now in IfOk result
+            (λ share. Keeps n of.now worker 0 (first_mote (system_of n)) [] share) }
+    {
+        let mut share = Share {
+            alloc,
+            worker,
+            motes: Vec::new(alloc),
+            traces: Vec::new(alloc),
+            log: Vec::new(alloc),
+            agenda: Agenda::new(alloc),
+            rooms: Rooms::new(alloc),
+        };
+        for number in 0..net.motes() {
+            let own = is_own(of, worker, number);
+            let mote = begin(alloc, net, number, own, &mut share.agenda)?;
+            share.motes.push(mote)?;
+            share.traces.push(Vec::new(alloc))?;
+        }
+        Ok(share)
+    }
+
+    /// The moment of the first pending event, if there is one.
+    pub fn next(&self) -> Option<u64>
+        ensures { TellsNext self.now result }
+    {
+        match self.agenda.first() {
+            Some((moment, _)) => Some(moment),
+            None => None,
+        }
+    }
+
+    /// Takes the share apart at the end.
+    pub fn end(self) -> Result<Ended, AllocError>
+        ensures { (n : NetTold) (of : List ℕ) (worker from : ℕ) (motes : Motes) (taken : List RadioCopy)
+            → Keeps n of worker from motes taken self
+            → IfOk result (TellsAtEnd n of worker from motes taken) }
+    {
+        let Share {
+            alloc: _,
+            worker: _,
+            motes: _,
+            traces,
+            log,
+            agenda,
+            rooms: _,
+        } = self;
+        let left = agenda.left()?;
+        Ok(Ended { traces, log, left })
+    }
+}

@@ -1,0 +1,289 @@
+//! A worker's motes in a window: those that have a turn leave the share, run, and come back.
+
+ghost use Rattle.std.specs.Prelude.{◌≡◌, ◌+◌, ◌<◌, ◌≤◌, ◌^◌, ◌++◌, ◌∷◌, ◌==◌, ℕ, true, [], length};
+ghost use Rattle.std.specs.Prelude.{map, List, Some, None, IfOk, OnOk, IsSome, slice_set};
+ghost use Rattle.std.specs.List.{filter, flat_map, AllByRecursion};
+ghost use Rattle.radio_medium.specs.Medium.{copies};
+ghost use Rattle.window_laws.specs.Agenda.{Packet};
+ghost use Rattle.window_run.specs.Window.{is_rising};
+ghost use Rattle.net_agenda.specs.Changes.{Adds};
+ghost use Rattle.worker_window.specs.Calls.{copies_for};
+ghost use Rattle.mote_net.specs.Net.{NetTold, net_of};
+ghost use Rattle.net_agenda.specs.NetSystem.{system_of};
+ghost use Rattle.radio_packet.specs.declared.copy.RadioCopy.{RadioCopy as CopyOfCode};
+ghost use Rattle.worker_cut.specs.Crossed.{is_own, leaves};
+ghost use Rattle.worker_window.specs.Share.{Motes, Keeps, mote_here};
+ghost use Rattle.worker_window.specs.Window.{CanRun, ComesIn, GoesOut, RunsWindow};
+ghost use Rattle.worker_window.specs.Log.{HaveFates, packets_in};
+ghost use Rattle.worker_window.specs.Sending.{copies_away, own_items};
+ghost use Rattle.worker_window.specs.Leaving.{wake_from, MotesLeave, HasNumber, IsOutOfNet, MoteReturns};
+
+use crate::calls::{CalledMotes, gather};
+use crate::rooms::Rooms;
+use crate::share::{Share, is_own};
+use mote_net::Net;
+use mote_node::Mote;
+use net_agenda::{Agenda, add_lines};
+use net_report::LogLine;
+use radio_medium::Medium;
+use radio_packet::{Fate, RadioCopy, Sent};
+use std::alloc::{AllocError, AllocGlobal, Global};
+use std::random::RandomSource;
+use std::slice::from_ref;
+use std::sync::Wait;
+use window_run::{Gate, Resident, ShareError, WindowOut, WindowRoom, run_share};
+
+/// A wake that isn't before a moment.
+fn wake_from(until: u64, wake: Option<u64>) -> Option<u64>
+    ensures { result ≡ wake_from until wake }
+{
+    match wake {
+        Some(moment) => {
+            if moment < until {
+                return None;
+            }
+            Some(moment)
+        }
+        None => None,
+    }
+}
+
+/// Takes a mote that is here out of the share, with its wake.
+fn take_mote(motes: &mut Vec<Option<Mote>>, number: u16) -> Mote
+    requires { IsSome (mote_here motes.old.items number) }
+    ensures mote { mote_here motes.old.items number ≡ Some result }
+    ensures others { motes.new.items ≡ slice_set motes.old.items number None }
+{
+    motes[usize::from(number)].take().unwrap()
+}
+
+/// Takes the motes that are called out of the share, with their wakes.
+pub(crate) fn leave(
+    motes: &mut Vec<Option<Mote>>,
+    agenda: &mut Agenda,
+    until: u64,
+    calls: CalledMotes,
+    rooms: &mut Rooms,
+) -> Result<Vec<Resident>, AllocError>
+    requires here { (k : ℕ) → IsSome (copies_for calls.copies k) → IsSome (mote_here motes.old.items k) }
+    requires rising { (k : ℕ) (copies : List RadioCopy) → copies_for calls.copies k ≡ Some copies
+        → is_rising copies ≡ true }
+    ensures { IfOk result
+        (λ residents. MotesLeave until calls.copies motes.old.items motes.new.items agenda.old.buckets
+        agenda.new.buckets residents.items) }
+{
+    let mut residents = Vec::with_capacity(calls.alloc, calls.copies.len())?;
+    let mut copies = calls.copies;
+    while let Some((number, copies)) = copies.pop_first() {
+        let mote = take_mote(motes, number);
+        agenda.drop_wake(wake_from(until, mote.wake()), number)?;
+        residents.push(Resident {
+            number,
+            mote,
+            copies,
+            room: rooms.window(),
+        })?;
+    }
+    Ok(residents)
+}
+
+/// A copy goes on its way: one for a mote of the worker becomes a pending event, another goes away.
+fn send_copy(
+    of: &[u16],
+    worker: u16,
+    copy: &RadioCopy,
+    agenda: &mut Agenda,
+    away: &mut Vec<RadioCopy>,
+) -> Result<(), AllocError>
+    ensures own { OnOk result (Adds agenda.old.buckets agenda.new.buckets
+        (map Packet (filter (λ copy. is_own of.now worker copy.to) (copy.now ∷ [])))) }
+    ensures away { OnOk result (away.new.items ≡ away.old.items
+        ++ filter (leaves (is_own of.now worker)) (copy.now ∷ [])) }
+{
+    if is_own(of, worker, copy.to) {
+        return agenda.put_copies(from_ref(copy));
+    }
+    away.push(*copy)?;
+    Ok(())
+}
+
+/// The copy of a packet with this fate goes on its way, where it isn't lost.
+fn send_fate(
+    of: &[u16],
+    worker: u16,
+    sent: &Sent,
+    fate: &Fate,
+    agenda: &mut Agenda,
+    away: &mut Vec<RadioCopy>,
+) -> Result<(), AllocError>
+    ensures own { OnOk result (Adds agenda.old.buckets agenda.new.buckets
+        (own_items of.now worker sent.now (fate.now ∷ []))) }
+    ensures away { OnOk result (away.new.items ≡ away.old.items ++ copies_away of.now worker sent.now (fate.now ∷ [])) }
+{
+    let Some(at) = fate.at else {
+        return Ok(());
+    };
+    let copy = RadioCopy {
+        at,
+        to: fate.to,
+        sender: sent.sender,
+        number: sent.number,
+        value: sent.value,
+    };
+    send_copy(of, worker, &copy, agenda, away)
+}
+
+/// The copies of a packet with these fates go on their way.
+fn send_fates(
+    of: &[u16],
+    worker: u16,
+    sent: &Sent,
+    fates: &[Fate],
+    agenda: &mut Agenda,
+    away: &mut Vec<RadioCopy>,
+) -> Result<(), AllocError>
+    ensures own { OnOk result (Adds agenda.old.buckets agenda.new.buckets
+        (own_items of.now worker sent.now fates.now)) }
+    ensures away { OnOk result (away.new.items ≡ away.old.items ++ copies_away of.now worker sent.now fates.now) }
+{
+    for fate in fates {
+        send_fate(of, worker, sent, fate, agenda, away)?;
+    }
+    Ok(())
+}
+
+/// The packets of a mote go out, and are logged with the fates of their copies: the copies for the worker's own motes
+/// become pending events, the others go away.
+pub(crate) fn send_all(
+    medium: &Medium,
+    of: &[u16],
+    worker: u16,
+    sends: &[Sent],
+    agenda: &mut Agenda,
+    away: &mut Vec<RadioCopy>,
+    log: &mut Vec<LogLine>,
+) -> Result<(), AllocError>
+    requires { AllByRecursion (λ sent. (sent.sender < length medium.now.places) × (sent.at ≤ 2 ^ 40)) sends.now }
+    ensures own { OnOk result (Adds agenda.old.buckets agenda.new.buckets
+        (map Packet (filter (λ copy. is_own of.now worker copy.to) (flat_map (copies medium.now) sends.now)))) }
+    ensures away { OnOk result (away.new.items ≡ away.old.items
+        ++ filter (leaves (is_own of.now worker)) (flat_map (copies medium.now) sends.now)) }
+    ensures log { OnOk result (packets_in log.new.items ≡ packets_in log.old.items ++ sends.now) }
+    ensures fates { OnOk result (HaveFates medium.now log.old.items → HaveFates medium.now log.new.items) }
+{
+    for sent in sends {
+        let fates = medium.fates(sent)?;
+        send_fates(of, worker, sent, &fates, agenda, away)?;
+        log.push(LogLine { sent: *sent, fates })?;
+    }
+    Ok(())
+}
+
+impl Share {
+    /// A mote comes back from its window: its next wake becomes pending, its packets go out, and its lines and packets
+    /// are kept. The copies for other workers' motes go away.
+    fn take_back(
+        &mut self,
+        medium: &Medium,
+        of: &[u16],
+        out: WindowOut,
+        away: &mut Vec<RadioCopy>,
+    ) -> Result<(), AllocError>
+        requires motes { IsOutOfNet (length self.old.motes.items) out }
+        requires traces { IsOutOfNet (length self.old.traces.items) out }
+        requires places { IsOutOfNet (length medium.now.places) out }
+        ensures { OnOk result ((number : ℕ) → HasNumber number out.mote
+            → MoteReturns medium.now of.now number out self.old self.new away.old.items away.new.items) }
+    {
+        let number = out.mote.number();
+        let WindowOut {
+            mote,
+            lines,
+            sends,
+            wake,
+        } = out;
+        let mut room = WindowRoom { lines, sends };
+        self.agenda.put_next_wake(wake, number)?;
+        send_all(
+            medium,
+            of,
+            self.worker,
+            &room.sends,
+            &mut self.agenda,
+            away,
+            &mut self.log,
+        )?;
+        add_lines(&mut self.traces, number, &mut room.lines)?;
+        self.rooms.keep(room)?;
+        self.motes[usize::from(number)] = Some(mote);
+        Ok(())
+    }
+
+    /// Takes in copies that arrived from other workers, before the window in which the first of them can have a turn.
+    ///
+    /// # Errors
+    /// `Memory` alone.
+    pub fn take_in(&mut self, arrived: &[RadioCopy]) -> Result<(), AllocError>
+        ensures { OnOk result ((n : NetTold) (of : List ℕ) (worker from : ℕ) (motes : Motes) (taken : List CopyOfCode)
+            → Keeps n of worker from motes taken self.old
+            → AllByRecursion (ComesIn of worker from) arrived.now
+            → Keeps n of worker from motes (taken ++ arrived.now) self.new) }
+    {
+        self.agenda.put_copies(arrived)?;
+        Ok(())
+    }
+
+    /// Runs the worker's motes through the window up to `until`, which is at most 2^40: takes in the copies that
+    /// arrived from other workers, runs each mote that has something before `until` by the worker's future, and keeps
+    /// the pending events of its own motes. The answer is the copies for other workers' motes, those of each mote in
+    /// the order of sending. `of` tells the worker of each mote. The time goes with the turns of the window and the
+    /// copies that it takes and makes, and not with the motes.
+    ///
+    /// # Errors
+    /// `Memory`, and `Thread` where the executor answered an error.
+    pub fn run_window<R, G>(
+        &mut self,
+        rt: &R,
+        net: &Net,
+        of: &[u16],
+        arrived: Vec<RadioCopy>,
+        until: u64,
+        gate: &G,
+    ) -> Result<Vec<RadioCopy>, ShareError>
+    where
+        R: Wait + RandomSource + AllocGlobal,
+        G: Gate,
+        requires early { until ≤ 2 ^ 40 }
+        requires of { length of.now ≡ length (net_of net.now).motes }
+        requires ready { CanRun (net_of net.now) of.now until self.old arrived.items }
+        requires to_own { AllByRecursion (λ copy. is_own of.now self.old.worker copy.to ≡ true) arrived.items }
+        ensures window { let n = net_of net.now in
+            IfOk result (λ sent. (worker from : ℕ) (motes : Motes) (taken : List CopyOfCode)
+            → Keeps n of.now worker from motes taken self.old
+            → from ≤ until → until ≤ from + (system_of n).lookahead
+            → AllByRecursion (ComesIn of.now worker from) arrived.items
+            → RunsWindow n of.now worker from until motes (taken ++ arrived.items) self.new sent.items) }
+        ensures out { let n = net_of net.now in IfOk result
+            (λ sent. AllByRecursion (GoesOut n of.now self.old.worker) sent.items) }
+    {
+        self.agenda.put_copies(&arrived)?;
+        let calls = gather(self.alloc, &mut self.agenda, until)?;
+        let residents = leave(
+            &mut self.motes,
+            &mut self.agenda,
+            until,
+            calls,
+            &mut self.rooms,
+        )?;
+        let called = window_run::Residents {
+            worker: self.worker,
+            residents,
+        };
+        let mut outs = run_share(rt, self.alloc, net, called, until, gate)?;
+        let mut away = Vec::new(self.alloc);
+        while let Some(out) = outs.pop() {
+            self.take_back(net.medium(), of, out, &mut away)?;
+        }
+        Ok(away)
+    }
+}
