@@ -11,6 +11,7 @@ mod marks;
 mod medium;
 mod motes;
 mod protothreads;
+mod queues;
 mod reports;
 mod timers;
 mod workers;
@@ -29,9 +30,6 @@ use std::test::Fail;
 /// A process that prints, and yields for ever.
 const PRINT_THEN_YIELD: &str =
     "process a; autostart a; code a { body { print 1; yield; print 2; } }";
-
-/// A process that sends one packet.
-const SENDER: &str = "process a; autostart a; code a { body { send (self + 5); yield; } }";
 
 /// Fails where two texts differ, and shows both.
 fn same_text(told: &str, want: &str) -> Result<(), Fail> {

@@ -1,21 +1,21 @@
 //! Kernels of whole programs, with their answers and lines worked by hand.
 
-use super::{SENDER, same_text, write_lines, write_sends};
+use super::{same_text, write_lines, write_sends};
 use mote_program::read;
-use process_kernel::{Kernel, KernelError, Line, Out, Ran, What};
+use process_kernel::{Kernel, KernelError, Out, Ran};
 use program_tree::{Proc, Program};
 use radio_packet::Arrival;
 use std::alloc::Global;
 use std::test::Fail;
+
+/// A process that sends one packet.
+const SENDER: &str = "process a; autostart a; code a { body { send (self + 5); yield; } }";
 
 const RUNAWAY: &str =
     "process a; autostart a; code a { var x = 0; body { while 1 { x = (x + 1); } } }";
 
 const RECEIVER: &str =
     "process r; autostart r; receiver r; code r { body { while 1 { yield; if is(packet) { print from; print data; } } } }";
-
-const BUSY_FOR_EVER: &str =
-    "process a; autostart a; code a { var i = 0; body { while 1 { print i; send i; i = (i + 1); poll a; yield; } } }";
 
 /// The kernel of mote 7 with its program, and what it wrote.
 struct Bench {
@@ -207,48 +207,5 @@ fn kernels_by_hand(rt: HostRuntime) -> Result<(), Fail> {
     for (program, acts, want) in CASES {
         tells(rt.alloc(), program, acts, want)?;
     }
-    Ok(())
-}
-
-/// A line that stands before those of the kernel.
-const BEFORE: Line = Line {
-    at: 9,
-    what: What::Lost(1, 2),
-};
-
-/// The first error of a boot and at most 50 runs.
-fn first_error(bench: &mut Bench) -> Option<KernelError> {
-    if let Err(error) = bench.boot() {
-        return Some(error);
-    }
-    for now in 1..50u16 {
-        if let Err(error) = bench.run(now) {
-            return Some(error);
-        }
-    }
-    None
-}
-
-/// The first error, and those of two runs after that.
-fn three_errors(bench: &mut Bench) -> [Option<KernelError>; 3] {
-    let first = first_error(bench);
-    let second = bench.run(60).err();
-    [first, second, bench.run(61).err()]
-}
-
-/// Whether each call fails that comes after one that found no memory, and what was written before is still there.
-fn fails_for_good(bench: &mut Bench) -> bool {
-    let errors = three_errors(bench);
-    let failed = Some(KernelError::Failed);
-    let kept = bench.out.lines.first().copied() == Some(BEFORE);
-    kept && (errors[0].is_none() || errors == [Some(KernelError::Memory), failed, failed])
-}
-
-/// With each allocation refused in turn this is looked at; with ample memory there is no error.
-#[test]
-fn refused_memory_is_for_good(rt: HostRuntime) -> Result<(), Fail> {
-    let mut bench = new_bench(rt.alloc(), BUSY_FOR_EVER)?;
-    bench.out.lines.push(BEFORE)?;
-    assert!(rt; fails_for_good(&mut bench));
     Ok(())
 }

@@ -1,6 +1,6 @@
 //! Turns of motes, with their lines worked by hand.
 
-use super::{PRINT_THEN_YIELD, SENDER, same_text, write_lines, write_sends};
+use super::{PRINT_THEN_YIELD, same_text, write_lines, write_sends};
 use mote_node::{Mote, MoteError, TurnOut};
 use mote_program::read;
 use process_kernel::KernelError;
@@ -24,33 +24,65 @@ impl Drop for Bench {
     }
 }
 
-/// The moment of a turn, and the packet that arrives then, if there is one.
-type Turn = (u16, Option<Arrival>);
+/// A process that sends one packet and leaves.
+const SENDER: &str = "process a; autostart a; code a { body { send (self + 5); } }";
 
-const PACKET: Arrival = Arrival {
-    sender: 4,
-    number: 0,
-    value: 9,
-};
+/// A process that prints where each packet comes from and what it carries.
+const RECEIVER: &str =
+    "process r; autostart r; receiver r; code r { body { while 1 { yield; if is(packet) { print from; print data; } } } }";
 
-fn new_bench(alloc: Global, text: &str) -> Result<Bench, Fail> {
+/// A turn: its moment, and the packets that arrive then. They are packets of one mote, numbered from 0 on, and their
+/// values rise from this one on.
+#[derive(Clone, Copy)]
+struct Turn {
+    moment: u16,
+    packets: u16,
+    sender: u16,
+    value: u16,
+}
+
+/// A turn at which nothing arrives.
+const fn quiet(moment: u16) -> Turn {
+    Turn {
+        moment,
+        packets: 0,
+        sender: 0,
+        value: 0,
+    }
+}
+
+/// The packets that arrive at a turn.
+fn arrivals(alloc: Global, turn: Turn) -> Result<Vec<Arrival>, AllocError> {
+    let mut packets = Vec::new(alloc);
+    for number in 0..turn.packets {
+        packets.push(Arrival {
+            sender: turn.sender,
+            number: u64::from(number),
+            value: turn.value.wrapping_add(number),
+        })?;
+    }
+    Ok(packets)
+}
+
+fn new_bench(alloc: Global, number: u16, text: &str) -> Result<Bench, Fail> {
     let program = read(alloc, text)?;
-    let mote = Mote::new(alloc, 7, &program, 32)?;
+    let mote = Mote::new(alloc, number, &program, 32)?;
     Ok(Bench { program, mote })
 }
 
 impl Bench {
-    fn turn(&mut self, turn: Turn) -> Result<TurnOut, MoteError> {
-        let moment = u64::from(turn.0);
-        match turn.1 {
-            Some(packet) => self.mote.turn(&self.program, moment, &[packet]),
-            None => self.mote.turn(&self.program, moment, &[]),
-        }
+    fn turn(&mut self, moment: u16, packets: &[Arrival]) -> Result<TurnOut, MoteError> {
+        self.mote.turn(&self.program, u64::from(moment), packets)
     }
 
     /// Takes a turn, and writes down what it gives.
-    fn write_turn(&mut self, text: &mut String, turn: Turn) -> Result<(), AllocError> {
-        match self.turn(turn) {
+    fn write_turn(
+        &mut self,
+        text: &mut String,
+        moment: u16,
+        packets: &[Arrival],
+    ) -> Result<(), AllocError> {
+        match self.turn(moment, packets) {
             Ok(out) => write_out(text, &out)?,
             Err(error) => write!(text, "{error:?}|")?,
         }
@@ -67,32 +99,41 @@ fn write_out(text: &mut String, out: &TurnOut) -> Result<(), AllocError> {
     write!(text, "wake {wake:?}|")
 }
 
-/// Takes these turns with a new mote, and writes down what each gives and when the mote says that it wakes next.
+/// Takes these turns with a new mote of this number, and writes down what each gives and when the mote says that it
+/// wakes next.
 fn write_turns(
     alloc: Global,
     text: &mut String,
+    number: u16,
     program: &str,
     turns: &[Turn],
 ) -> Result<(), Fail> {
-    let mut bench = new_bench(alloc, program)?;
+    let mut bench = new_bench(alloc, number, program)?;
     let wake = bench.mote.wake();
     write!(text, "{wake:?}|")?;
     for turn in turns {
-        bench.write_turn(text, *turn)?;
+        let packets = arrivals(alloc, *turn)?;
+        bench.write_turn(text, turn.moment, &packets)?;
     }
     Ok(())
 }
 
 /// What is written of that.
-fn told(alloc: Global, program: &str, turns: &[Turn]) -> Result<String, Fail> {
+fn told(alloc: Global, number: u16, program: &str, turns: &[Turn]) -> Result<String, Fail> {
     let mut text = String::new(alloc);
-    write_turns(alloc, &mut text, program, turns)?;
+    write_turns(alloc, &mut text, number, program, turns)?;
     Ok(text)
 }
 
 /// Fails where something else is written of that.
-fn tells(alloc: Global, program: &str, turns: &[Turn], want: &str) -> Result<(), Fail> {
-    let told = told(alloc, program, turns)?;
+fn tells(
+    alloc: Global,
+    number: u16,
+    program: &str,
+    turns: &[Turn],
+    want: &str,
+) -> Result<(), Fail> {
+    let told = told(alloc, number, program, turns)?;
     same_text(told.as_str(), want)
 }
 
@@ -100,75 +141,43 @@ fn tells(alloc: Global, program: &str, turns: &[Turn], want: &str) -> Result<(),
 const PAST_TURN: &str =
     "Some(0)|0 Start(Etimer)|0 Start(Ctimer)|0 Start(Radio)|0 Start(Own(0))|0 Print(Own(0), 1)|wake None|None|Past|None|wake None|None|";
 
-/// A mote sends a packet, and gets one that its program has no receiver for.
+#[test]
+fn past_turn(rt: HostRuntime) -> Result<(), Fail> {
+    let turns = [quiet(0), quiet(0), quiet(1)];
+    tells(rt.alloc(), 7, PRINT_THEN_YIELD, &turns, PAST_TURN)
+}
+
+/// A program without a receiver is deaf to the packet of mote 4.
 const DEAF: &str =
-    "Some(0)|0 Start(Etimer)|0 Start(Ctimer)|0 Start(Radio)|0 Start(Own(0))|0 Send(0, 12)|sent 0 7 0 12|wake None|None|2 Recv(4, 0, 9)|2 Deaf(4, 0)|wake None|None|";
+    "Some(0)|0 Start(Etimer)|0 Start(Ctimer)|0 Start(Radio)|0 Start(Own(0))|0 Print(Own(0), 1)|wake None|None|2 Recv(4, 0, 9)|2 Deaf(4, 0)|wake None|None|";
 
+/// Of nine packets that arrive together the ring takes eight, which are posted and then taken.
+const NINE: &str =
+    "Some(0)|0 Start(Etimer)|0 Start(Ctimer)|0 Start(Radio)|0 Start(Own(0))|wake None|None|3 Recv(0, 0, 0)|3 Recv(0, 1, 1)|3 Recv(0, 2, 2)|3 Recv(0, 3, 3)|3 Recv(0, 4, 4)|3 Recv(0, 5, 5)|3 Recv(0, 6, 6)|3 Recv(0, 7, 7)|3 Lost(0, 8)|3 Post(0, One(Own(0)), 138, 0)|3 Post(1, One(Own(0)), 138, 1)|3 Post(2, One(Own(0)), 138, 2)|3 Post(3, One(Own(0)), 138, 3)|3 Post(4, One(Own(0)), 138, 4)|3 Post(5, One(Own(0)), 138, 5)|3 Post(6, One(Own(0)), 138, 6)|3 Post(7, One(Own(0)), 138, 7)|3 Take(0, Own(0))|3 Print(Own(0), 0)|3 Print(Own(0), 0)|3 Take(1, Own(0))|3 Print(Own(0), 0)|3 Print(Own(0), 1)|3 Take(2, Own(0))|3 Print(Own(0), 0)|3 Print(Own(0), 2)|3 Take(3, Own(0))|3 Print(Own(0), 0)|3 Print(Own(0), 3)|3 Take(4, Own(0))|3 Print(Own(0), 0)|3 Print(Own(0), 4)|3 Take(5, Own(0))|3 Print(Own(0), 0)|3 Print(Own(0), 5)|3 Take(6, Own(0))|3 Print(Own(0), 0)|3 Print(Own(0), 6)|3 Take(7, Own(0))|3 Print(Own(0), 0)|3 Print(Own(0), 7)|wake None|None|";
+
+/// Mote 0 sends one packet, and its process leaves.
+const SENT: &str =
+    "Some(0)|0 Start(Etimer)|0 Start(Ctimer)|0 Start(Radio)|0 Start(Own(0))|0 Send(0, 5)|0 Leave(Own(0))|sent 0 0 0 5|wake None|None|";
+
+/// A mote that prints, one that receives, and one that sends.
 #[test]
-fn turns_by_hand(rt: HostRuntime) -> Result<(), Fail> {
+fn mote_by_hand(rt: HostRuntime) -> Result<(), Fail> {
     let alloc = rt.alloc();
-    let turns = [(0, None), (0, None), (1, None)];
-    tells(alloc, PRINT_THEN_YIELD, &turns, PAST_TURN)?;
-    tells(alloc, SENDER, &[(0, None), (2, Some(PACKET))], DEAF)
-}
-
-/// Nine packets of mote 4, with values from 9 on.
-fn nine_packets() -> [Arrival; 9] {
-    let mut packets = [PACKET; 9];
-    for number in 0..9u16 {
-        packets[usize::from(number)] = Arrival {
-            sender: 4,
-            number: u64::from(number),
-            value: 9 + number,
-        };
-    }
-    packets
-}
-
-/// Writes down the first turn of a mote that sends a packet, and one at which nine packets arrive.
-fn write_nine(alloc: Global, text: &mut String) -> Result<(), Fail> {
-    let mut bench = new_bench(alloc, SENDER)?;
-    bench.write_turn(text, (0, None))?;
-    let out = bench.mote.turn(&bench.program, 2, &nine_packets())?;
-    write_out(text, &out)?;
-    Ok(())
-}
-
-/// What is written of that.
-fn nine_told(alloc: Global) -> Result<String, Fail> {
-    let mut text = String::new(alloc);
-    write_nine(alloc, &mut text)?;
-    Ok(text)
-}
-
-/// The ring takes eight of nine packets, and the only packet that is sent is the one before.
-#[test]
-fn nine_arrivals(rt: HostRuntime) -> Result<(), Fail> {
-    let told = nine_told(rt.alloc())?;
-    same_text(
-        told.as_str(),
-        "0 Start(Etimer)|0 Start(Ctimer)|0 Start(Radio)|0 Start(Own(0))|0 Send(0, 12)|sent 0 7 0 12|wake None|None|2 Recv(4, 0, 9)|2 Recv(4, 1, 10)|2 Recv(4, 2, 11)|2 Recv(4, 3, 12)|2 Recv(4, 4, 13)|2 Recv(4, 5, 14)|2 Recv(4, 6, 15)|2 Recv(4, 7, 16)|2 Lost(4, 8)|2 Deaf(4, 0)|2 Deaf(4, 1)|2 Deaf(4, 2)|2 Deaf(4, 3)|2 Deaf(4, 4)|2 Deaf(4, 5)|2 Deaf(4, 6)|2 Deaf(4, 7)|wake None|",
-    )
-}
-
-/// Whether a mote whose turn found no memory fails for good, and never wakes.
-fn fails_for_good(bench: &mut Bench) -> bool {
-    match bench.turn((0, Some(PACKET))).err() {
-        Some(MoteError::Memory) => {
-            let later = bench.turn((1, None)).err();
-            later == Some(MoteError::Failed) && bench.mote.wake().is_none()
-        }
-        Some(_) => false,
-        None => bench.mote.wake().is_none(),
-    }
-}
-
-/// With each allocation refused in turn this is looked at; with ample memory the turn succeeds.
-#[test]
-fn a_refused_turn_fails_for_good(rt: HostRuntime) -> Result<(), Fail> {
-    let mut bench = new_bench(rt.alloc(), SENDER)?;
-    assert!(rt; fails_for_good(&mut bench));
-    Ok(())
+    let heard = Turn {
+        moment: 2,
+        packets: 1,
+        sender: 4,
+        value: 9,
+    };
+    let nine = Turn {
+        moment: 3,
+        packets: 9,
+        sender: 0,
+        value: 0,
+    };
+    tells(alloc, 0, PRINT_THEN_YIELD, &[quiet(0), heard], DEAF)?;
+    tells(alloc, 1, RECEIVER, &[quiet(0), nine], NINE)?;
+    tells(alloc, 0, SENDER, &[quiet(0)], SENT)
 }
 
 /// The numbers by which the errors of motes and of kernels are told.

@@ -71,3 +71,12 @@ fn callbacks_come_and_go(rt: HostRuntime) -> Result<(), Fail> {
     assert!(rt; answers(&mut callbacks) == wanted);
     Ok(())
 }
+
+/// No new timer was ever set, so each has expired, and no new callback waits.
+#[test]
+fn new_parts(rt: HostRuntime) -> Result<(), Fail> {
+    let timers = Timers::new(rt.alloc(), 2)?;
+    let callbacks = Callbacks::new(rt.alloc(), 2)?;
+    assert!(rt; timers.expired(0) && !callbacks.holds(0));
+    Ok(())
+}
