@@ -13,7 +13,7 @@ use program_tree::program::Program;
 use program_tree::token::Token;
 use std::alloc::{AllocError, Global};
 
-/// How many braces are open behind a token, of those before it.
+/// How many braces are open after a token, of those before it.
 fn braces_behind(braces: usize, token: &Token) -> usize
     requires { braces + 1 < 2 ^ 64 }
     ensures { result ≡ braces_behind braces (token_of token.now) }
@@ -25,7 +25,7 @@ fn braces_behind(braces: usize, token: &Token) -> usize
     }
 }
 
-/// Whether a `(` stands close behind the word.
+/// Whether a `(` stands close after the word.
 fn tells(keyword: Keyword) -> bool
     ensures { result ≡ tells keyword }
 {
@@ -40,7 +40,7 @@ fn tells(keyword: Keyword) -> bool
     )
 }
 
-/// Whether a token ends its line, where these come behind it.
+/// Whether a token ends its line, where these come after it.
 fn ends_line(token: &Token, rest: &[Token]) -> bool
     ensures { result ≡ ends_line (token_of token.now) (map token_of rest.now) }
 {
@@ -84,7 +84,7 @@ fn indent(text: &mut String, mut depth: usize) -> Result<(), AllocError>
     Ok(())
 }
 
-/// Adds what stands behind a token, where so many braces are open.
+/// Adds what stands after a token, where so many braces are open.
 fn part(text: &mut String, braces: usize, token: &Token, rest: &[Token]) -> Result<(), AllocError>
     ensures { OnOk result (string_bytes text.new ≡ string_bytes text.old ++ gap braces (token_of token.now) (map token_of rest.now)) }
 {
@@ -115,13 +115,13 @@ pub(crate) fn print(alloc: Global, mut tokens: &[Token]) -> Result<String, Alloc
 
 /// The canonical text of a program. Reading it gives the same program.
 ///
-/// Tokens are one space apart, but no space stands before `;`, `,` and `)`, behind `(` and `!`, and between `is`, `fired`,
+/// Tokens are one space apart, but no space stands before `;`, `,` and `)`, after `(` and `!`, and between `is`, `fired`,
 /// `expired`, `gone`, `running` or `count` and its `(`. Each `;`, `{` and `}` ends a line, but `} else {` is one line. A line
 /// is indented by two spaces for each brace that is open. Empty blocks are kept. The text ends with LF.
 ///
 /// # Errors
 ///
-/// Want of memory.
+/// Out of memory; an allocation failed.
 pub fn print_program(alloc: Global, program: &Program) -> Result<String, AllocError>
     ensures text { IfOk result (λ t. string_bytes t ≡ text_of_tree (tree_of program.now)) }
     ensures reads { IfOk result (λ t. IsTreeOf (string_bytes t) (tree_of program.now)) }

@@ -59,11 +59,7 @@ fn valued<'a>(
 
 impl<'a> Scoped<'a> {
     /// Adds a block of the process.
-    fn flat_block(
-        &self,
-        block: &FlatBlock,
-        out: &mut Vec<Token<'a>>,
-    ) -> Result<(), AllocError>
+    fn flat_block(&self, block: &FlatBlock, out: &mut Vec<Token<'a>>) -> Result<(), AllocError>
         ensures { OnOk result (map token_of out.new.items ≡ map token_of out.old.items ++ block_tokens (block_with (names_in self.now) (tree_in block.now))) }
     {
         self.block(block.block(), out)

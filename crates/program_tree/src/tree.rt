@@ -155,7 +155,10 @@ impl Action {
         ensures { IfOk result (λ a. action_of a ≡ action_of self.now) }
     {
         match self {
-            Action::Assign(variable, value) => Ok(Action::Assign(*variable, value.clone_in(alloc)?)),
+            Action::Assign(variable, value) => Ok(Action::Assign(
+                *variable,
+                value.clone_in(alloc)?,
+            )),
             Action::Print(value) => Ok(Action::Print(value.clone_in(alloc)?)),
             Action::Send(value) => Ok(Action::Send(value.clone_in(alloc)?)),
             Action::WaitUntil(test) => Ok(Action::WaitUntil(test.clone_in(alloc)?)),

@@ -7,7 +7,7 @@ ghost use Rattle.protothread.specs.State.{state_number};
 pub enum PtState {
     /// It waits for a condition (`PT_WAITING`).
     Waiting,
-    /// It gave way to others once (`PT_YIELDED`).
+    /// It yielded the processor once (`PT_YIELDED`).
     Yielded,
     /// It left by itself (`PT_EXITED`).
     Exited,

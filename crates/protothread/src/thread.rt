@@ -54,14 +54,7 @@ enum Reach<'a> {
 
 /// The place where a test leads.
 #[inline(always)]
-fn chosen<L: Look>(
-    test: &Expr,
-    vars: &Vars,
-    event: &Event,
-    look: &L,
-    holds: u16,
-    fails: u16,
-) -> u16
+fn chosen<L: Look>(test: &Expr, vars: &Vars, event: &Event, look: &L, holds: u16, fails: u16) -> u16
     ensures { result ≡ place_by vars.now event.now (L.looks look.now) (expression_of test.now) holds fails }
 {
     if evaluate(test, vars, event, look) != 0 {
