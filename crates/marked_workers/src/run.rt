@@ -22,6 +22,7 @@ use crate::worker::{CrewRun, MarkWorker};
 use copy_exchange::{Courier, gather_back};
 use copy_inbox::{Inbox, Taker};
 use fork_join::{Refused, fork_join};
+use joined_workers::{Crew, lookahead_of, set_out, window_length};
 use mark_exchange::MarkCourier;
 use mote_net::Net;
 use std::alloc::{AllocGlobal, Global};
@@ -30,7 +31,6 @@ use std::sync::Wait;
 use std::sync::atomic::AtomicBool;
 use std::thread::Threads;
 use window_run::Gate;
-use joined_workers::{Crew, lookahead_of, set_out, window_length};
 use worker_window::Share;
 
 /// What each worker carries: its courier, with a count of marks for each sender on its inbox.

@@ -15,13 +15,13 @@ ghost use Rattle.marked_workers.specs.Thread.{IsManned, SendsWindow, TakesWindow
 
 use crate::worker::{CrewRun, MarkWorker};
 use fork_join::{Refused, Work};
+use joined_workers::{refused, window_end};
 use mark_exchange::{MarkError, Standing};
 use std::alloc::AllocGlobal;
 use std::random::RandomSource;
 use std::sync::Wait;
 use std::sync::atomic::Ordering;
 use window_run::Gate;
-use joined_workers::{refused, window_end};
 
 /// What each worker's thread needs besides: the runtime, the gate into its turns, and the run.
 pub struct MarkRunner<'a, R, G> {

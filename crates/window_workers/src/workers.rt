@@ -24,6 +24,7 @@ use crate::sync::SyncKind;
 use crate::traces::joined_traces;
 use copy_exchange::{make_inboxes, paired, parted};
 use copy_inbox::{Inbox, Taker};
+use joined_workers::{Crew, run_windows};
 use marked_workers::run_marked;
 use mote_net::Net;
 use net_report::Report;
@@ -33,7 +34,6 @@ use std::random::RandomSource;
 use std::sync::Wait;
 use std::thread::Threads;
 use window_run::Gate;
-use joined_workers::{Crew, run_windows};
 use worker_cut::Cut;
 
 /// What the workers have to tell at the end, and their inboxes. `of` tells the worker of each mote.

@@ -34,9 +34,9 @@ windows-preserved g c =
     let n = net_of c.args.net.now in
     let length = length_of_window (system_of n).lookahead c.args.longest in
     let is : c.window_end-until.result ≡ end_of_window n.end length c.windows.from =
-        c.window_end-until.ensures.value
-        ∙ (ap (λ e. end_of_window e c.window_length-length.result c.windows.from) c.end-end.ensures.value
-        ∙ ap (λ l. end_of_window n.end l c.windows.from) (c.window_length-length.ensures.value ∙ ap (λ l. length_of_window l c.args.longest) c.lookahead_of.ensures.value)) in
+    c.window_end-until.ensures.value
+    ∙ (ap (λ e. end_of_window e c.window_length-length.result c.windows.from) c.end-end.ensures.value
+    ∙ ap (λ l. end_of_window n.end l c.windows.from) (c.window_length-length.ensures.value ∙ ap (λ l. length_of_window l c.args.longest) c.lookahead_of.ensures.value)) in
     -- the window that was run is the next one
     let next : RunsNext n c.args.of.now length c.windows.crew c.in_ok-crew.crew = record {
       from = c.windows.from;
