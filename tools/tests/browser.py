@@ -21,8 +21,8 @@ from pathlib import Path
 from typing import Any
 
 NAMES = ['chromium', 'chromium-browser', 'google-chrome', 'google-chrome-stable', 'chrome']
-START_SECONDS = 20
-CALL_SECONDS = 30
+START_SECONDS = 60
+CALL_SECONDS = 120
 
 
 class BrowserFault(Exception):
