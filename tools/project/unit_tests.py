@@ -23,7 +23,7 @@ from project.tree import TOP
 TESTS = TOP / 'tools/tests'
 # How long one file may take.
 SECONDS = 600
-SKIPPED = re.compile(r"^(\w+) \(([\w.]+)\)(?:\n.*)? \.\.\. skipped (.*)$", re.M)
+SKIPPED = re.compile(r"^ *(\w+) \(([\w.]+)\)(?: \(.*\)|\n.*)? \.\.\. skipped (.*)$", re.M)
 # (what stands between is written by the tests themselves)
 COUNT = re.compile(r'^Ran (\d+) tests? in .*\n\n(OK|FAILED)(?: \((.*)\))?$', re.M)
 

@@ -1,7 +1,10 @@
 """That the kit at hand is the one that tools/project/kit.py knows, with all that it takes of it."""
 import shutil
+import subprocess
+import tempfile
 import types
 import unittest
+from pathlib import Path
 from unittest import mock
 
 import here
@@ -28,6 +31,20 @@ class AtHand(unittest.TestCase):
         from motesim.programs import crates_of_program
         program = kit.crate_named('motesim', here.TOP)
         self.assertEqual(sorted(it.name for it in [*program.below(), program]), crates_of_program(here.TOP))
+
+
+class Linker(unittest.TestCase):
+    def test_what_the_linker_makes_is_kept(self):
+        with tempfile.TemporaryDirectory() as room:
+            own, script, made, kept = (Path(room) / name for name in ('own', 'ld.lld', 'made', 'kept'))
+            own.write_text('#!/bin/sh\n[ "$1" = fails ] && exit 3\nprintf linked >"$3"\n')
+            script.write_text(kit.LINKER.format(linker=own, kept=kept))
+            for it in own, script:
+                it.chmod(0o755)
+            self.assertEqual(subprocess.run([str(script), 'fails', '-o', str(made)]).returncode, 3)
+            self.assertFalse(kept.exists())
+            self.assertEqual(subprocess.run([str(script), '-pie', '-o', str(made), 'input-0']).returncode, 0)
+            self.assertEqual(kept.read_text(), 'linked')
 
 
 class Others(unittest.TestCase):

@@ -208,7 +208,7 @@ class Running(unittest.TestCase):
     def test_each_limit_stops_a_run_and_says_how_to_raise_it(self):
         for word, limits, said in [('never_ends', {'seconds': 1}, 'after 1 second. tools/studio --seconds 6'),
                                    ('long_report', {'output': 1}, 'after 1 megabyte of report. tools/studio --report'),
-                                   ('much_memory', {'memory': 400}, 'at 400 megabytes of memory. tools/studio --memory 1600')]:
+                                   ('much_memory', {'memory': 400}, 'at 400 megabytes of memory. tools/studio --memory')]:
             begin = time.monotonic()
             with self.assertRaises(LimitMet, msg=word) as caught:
                 self.run_text('# %s\n%s' % (word, NET), **limits)

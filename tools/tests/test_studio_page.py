@@ -15,7 +15,6 @@ from motesim.studio.runs import Limits, Runs
 from motesim.studio.server import CODEMIRROR, Server, has_editor
 from motesim.studio.session import Session
 
-CONTROL = 2
 NET = """# Two motes hear each other, and one stands apart.
 version = 2
 end = 60
@@ -197,6 +196,15 @@ class Page(unittest.TestCase):
         self.value('m.editor().replace("; prin 2", "")')
         self.wait('document.getElementById("fault").hidden && !document.body.classList.contains("stale")')
         self.assertEqual(self.value('document.querySelectorAll(".fault-mark, .fault-line").length'), 0)
+
+    def test_what_is_hardly_meant_is_warned_of(self):
+        self.open()
+        self.assertIn('Warning: the timer `beat` is never set.', self.shown('warnings'))
+        self.value('document.querySelector("#warnings button").click()')
+        if has_editor(CODEMIRROR):
+            self.assertEqual(self.value('m.editor().mirror.getSelection()'), 'beat')
+        self.value('m.editor().replace("etimer beat;", "")')
+        self.wait('!document.getElementById("warnings").innerText.includes("beat")')
 
     def test_a_fault_of_the_tables_is_shown_too(self):
         self.open()

@@ -6,17 +6,19 @@ from typing import Any, NamedTuple
 
 from motesim import expectations
 from motesim.compare import MEDIUM, compared, differences, packet_of
-from motesim.explain import explanation, place_of_fault
+from motesim.explain import explanation, place_of_fault, place_of_token
 from motesim.faults import Fault
+from motesim.lint import warnings
 from motesim.report import Report
 from motesim.run import Run
 from motesim.scenario import Scenario
+from motesim.scenario_faults import Place, place_of
 from motesim.summary import LINK_NAMES, summary
 
 NOTE = re.compile(r'//[^\n]*')
 CODE_OR_PRINT = re.compile(r'\bcode\s+([a-z][a-z0-9_]*)|\bprint\s+([^;{}]+);')
 TIMER = re.compile(r'\bcode\s+([a-z][a-z0-9_]*)|\b([ec]timer)\s+([a-z][a-z0-9_]*)')
-MOST_ROWS, MOST_LINKS, MOST_PARTS = 12, 400, 1_000
+MOST_ROWS, MOST_LINKS, MOST_PARTS, MOST_WARNINGS = 12, 400, 1_000, 20
 SAID_A, SAID_B = 'the run before', 'this run'
 
 
@@ -24,7 +26,6 @@ class Finished(NamedTuple):
     """A run that has a report."""
     number: int
     text: str
-    data: bytes
     run: Run
     scenario: Scenario
 
@@ -35,7 +36,7 @@ class Finished(NamedTuple):
 def finished(number: int, text: str, data: bytes, name: str) -> Finished:
     """A run by its report."""
     scenario = Scenario.parse(text)
-    return Finished(number, text, data, Run(name, Report.parse(data), scenario), scenario)
+    return Finished(number, text, Run(name, Report.parse(data), scenario), scenario)
 
 
 def column16(line: str, column: int) -> int:
@@ -67,9 +68,27 @@ def fault_told(text: str, line: str) -> dict[str, Any]:
     place = place_of_fault(data, line)
     told: dict[str, Any] = {'line': line, 'words': unwrapped(explanation('the text', data, line)), 'place': None}
     if place:
-        row = text.split('\n')[place.line - 1]
-        told['place'] = [place.line - 1, column16(row, place.column), column16(row, place.column + place.length)]
+        told['place'] = stretch16(text, place)
     return told
+
+
+def stretch16(text: str, place: Place) -> list[int]:
+    """The line of a place and the columns at which it begins and ends, as the page's editor counts them."""
+    row = text.split('\n')[place.line - 1]
+    return [place.line - 1, column16(row, place.column), column16(row, place.column + place.length)]
+
+
+def warned(done: Finished) -> list[dict[str, Any]]:
+    """What tools/explain warns of: what is legal and surely not meant."""
+    found = []
+    for it in warnings(done.scenario, done.run.report)[:MOST_WARNINGS]:
+        place = None
+        if it.program is not None and it.token is not None:
+            place = place_of_token(done.text, it.program, it.token)
+        elif it.mote is not None:
+            place = place_of(done.text, ('mote', it.mote))
+        found.append({'text': it.text, 'place': stretch16(done.text, place) if place else None})
+    return found
 
 
 def names_of_programs(scenario: Scenario) -> dict[str, Any]:

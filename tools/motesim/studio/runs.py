@@ -153,7 +153,8 @@ def counted(number: float, what: str) -> str:
 def pipes_of(process: subprocess.Popen[bytes]) -> tuple[BufferedWriter, BufferedReader, BufferedReader]:
     """Standard input, output and error of a program that has pipes for all three."""
     given, written, told = process.stdin, process.stdout, process.stderr
-    assert isinstance(given, BufferedWriter) and isinstance(written, BufferedReader) and isinstance(told, BufferedReader)
+    assert isinstance(given, BufferedWriter)
+    assert isinstance(written, BufferedReader) and isinstance(told, BufferedReader)
     return given, written, told
 
 

@@ -19,7 +19,7 @@ from motesim.studio.edits import edit
 from motesim.studio.runs import LimitMet, Runs, Superseded
 from motesim.timeline import Columns, page_of, said_of
 
-MOST_KEPT = 6
+MOST_KEPT = 4
 JSON, BYTES, HTML = 'application/json', 'application/octet-stream', 'text/html; charset=utf-8'
 
 
@@ -162,7 +162,7 @@ class Session:
         if done is None:
             return told({'gone': True})
         with self.work:
-            said: dict[str, Any] = {'sums': answers.sums(done)}
+            said: dict[str, Any] = {'sums': answers.sums(done), 'warnings': answers.warned(done)}
             if before:
                 said['difference'] = answers.difference(before, done, asked.get('is_pinned') is True)
             expected = self.expectations(asked)

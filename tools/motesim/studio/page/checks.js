@@ -15,6 +15,16 @@ function chooseRow(row) {
   chooseLine(pane, line, true);
 }
 
+/** What is legal in the text and surely not meant; a click leads to its place. */
+function showWarnings(said) {
+  const box = byId('warnings');
+  box.hidden = !said.length;
+  box.replaceChildren(...said.map(({text, place}) => makeButton(`Warning: ${text}.`, () => {
+    if (place) editor.goTo(place[0], place[1], place[2] - place[1]);
+  })));
+  editor.refresh();
+}
+
 function showChecks(said) {
   const box = byId('checks');
   if (!said) {

@@ -11,6 +11,9 @@ const NOTATION = {
 const DECLARES = ['event', 'semaphore', 'process', 'code', 'var', 'etimer', 'ctimer', 'thread'];
 const STYLE_OF = new Map(Object.entries(NOTATION).flatMap(([style, words]) => words.map(word => [word, style])));
 
+// What the editor has to know of a program, and of the tables around it.
+const PROGRAM = {lineComment: '//', electricInput: /^\s*\}$/}, TABLES = {lineComment: '#'};
+
 /** One word or sign of a program. */
 function notationToken(stream, state) {
   if (stream.eatSpace()) return null;
@@ -60,7 +63,7 @@ function defineMode() {
         if (!state.quote) return 0;
         return Math.max(0, state.depth - (/^\s*\}/.test(after) ? 1 : 0)) * config.indentUnit;
       },
-      electricInput: /^\s*\}$/, lineComment: '//',
+      innerMode: state => ({state, mode: state.quote ? PROGRAM : TABLES}),
     };
   });
 }

@@ -204,12 +204,12 @@ function beginSteps() {
     made.setAttribute('aria-label', title);
     return made;
   };
-  const of = element('select', '', [Object.assign(element('option', 'of all motes'), {value: 'all'}),
-    Object.assign(element('option', 'of the selected mote'), {value: 'one'})]);
+  const of = element('select', '', [Object.assign(element('option', 'all motes'), {value: 'all'}),
+    Object.assign(element('option', 'one mote'), {value: 'one'})]);
   of.id = 'step-of';
   of.setAttribute('aria-label', 'Whose lines');
   const stop = Object.assign(element('input'), {id: 'stop-at', type: 'text', spellcheck: false, autocomplete: 'off',
-    placeholder: 'mote 3 prints, or a packet collides'});
+    placeholder: 'mote 3 prints'});
   stop.addEventListener('keydown', event => { if (event.key === 'Enter') runToStop(event.shiftKey ? -1 : 1); });
   const label = Object.assign(element('label', 'Stop where'), {htmlFor: 'stop-at'});
   bar.append(button('« moment', 'The moment before', () => stepMoment(-1)),

@@ -77,9 +77,15 @@ async function runNow() {
   if (asked !== studio.asked) return;
   noFault();
   showRun(run, said);
-  if (changedAt && changedAt === studio.changedAt) studio.latency.push(performance.now() - changedAt);
+  if (changedAt && changedAt === studio.changedAt) noteLatency(performance.now() - changedAt);
   showState('good', `${count(run.count + run.packets + run.begins.length + 2, 'line')} of report`);
   await judge(said.number);
+}
+
+/** The times from a key to the lanes, of which the last are kept. */
+function noteLatency(time) {
+  studio.latency.push(time);
+  if (studio.latency.length > 200) studio.latency.shift();
 }
 
 function showRun(run, said) {
@@ -119,6 +125,7 @@ async function judge(number) {
   if (!said || said.gone || number !== studio.number) return;
   studio.before = number;
   showSums(said.sums);
+  showWarnings(said.warnings);
   showChecks(said.checks);
   if (said.difference) showDifference(said.difference, Boolean(studio.pinned));
   else if (against === 0) forgetDifference();
@@ -138,6 +145,7 @@ function showFault({words: lines, line, place}) {
   setStale(true);
   unsay('limit');
   byId('fault').hidden = false;
+  byId('warnings').hidden = true;
   byId('fault').querySelector('pre').textContent = [line, ...lines].join('\n');
   byId('fault-place').hidden = !place;
   if (place) editor.mark(place); else editor.clear();
@@ -185,14 +193,15 @@ function pin() {
 /** The room that the lanes have. */
 roomForPanes = () => Math.max(150, byId('panes').clientHeight);
 
-/** What is selected by a click is shown, unless the reader steps. */
+/** What is newly selected by a click is shown, unless the reader steps. */
 function watchChosen() {
-  byId('panes').addEventListener('pointerup', () => setTimeout(() => {
-    if (chosen && studio.tab !== 'steps') showTab('chosen');
-  }));
-  byId('maps').addEventListener('pointerup', () => setTimeout(() => {
-    if (chosen && !ground.way && !['steps', 'guide'].includes(studio.tab)) showTab('chosen');
-  }));
+  let before = null;
+  for (const id of ['panes', 'maps']) {
+    byId(id).addEventListener('pointerdown', () => { before = chosen; }, true);
+    byId(id).addEventListener('pointerup', () => setTimeout(() => {
+      if (chosen && chosen !== before && studio.tab !== 'steps') showTab('chosen');
+    }));
+  }
   byId('search').addEventListener('submit', () => showTab('chosen'));
   new MutationObserver(() => byId('chosen').classList.toggle('two', !byId('matches').hidden))
     .observe(byId('matches'), {attributes: true});
