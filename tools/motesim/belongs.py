@@ -13,7 +13,8 @@ def copies_of(scenario: Scenario) -> Callable[[int, int, int], tuple[Copy, ...]]
     """A function from a mote, a packet's number and its moment to the packet's copies in this scenario."""
     @cache
     def links(sender: int) -> list[tuple[int, int, int]]:
-        return [(to, scenario.delay(sender, to), scenario.losses.get((sender, to), 0)) for to in scenario.hearers(sender)]
+        return [(to, scenario.delay(sender, to), scenario.losses.get((sender, to), 0))
+                for to in scenario.hearers(sender)]
 
     def copies(sender: int, number: int, at: int) -> tuple[Copy, ...]:
         return tuple(Copy(to, None if every and (number + 1) % every == 0 else at + delay)
@@ -46,16 +47,18 @@ def difference(packet: Packet, wanted: tuple[Copy, ...]) -> str:
 
 
 def check_medium(report: Report, scenario: Scenario) -> None:
-    """Whether each packet goes to those who hear its sender, after the moments that it takes, or is lost where it is."""
+    """Whether each packet goes to those who hear its sender, after the moments that it takes, or is lost where it
+    is."""
     copies, left = copies_of(scenario), 0
     for row, packet in enumerate(report.medium, report.medium_row + 1):
         wanted = copies(packet.sender, packet.number, packet.at)
         if packet.copies != wanted:
-            raise ScenarioFault('line %d of the report is not of this scenario: %s' % (row, difference(packet, wanted)))
+            raise ScenarioFault('line %d of the report is not of this scenario: %s' % (
+                row, difference(packet, wanted)))
         left += sum(it.at is not None and it.at > scenario.end for it in wanted)
     if left != report.left:
-        raise ScenarioFault('the report is not of this scenario, whose end is %d: %d copies would be left, and it has %d' % (
-            scenario.end, left, report.left))
+        raise ScenarioFault('the report is not of this scenario, whose end is %d: %d copies would be left, and it has '
+                            '%d' % (scenario.end, left, report.left))
 
 
 def check_scenario(report: Report, scenario: Scenario) -> None:

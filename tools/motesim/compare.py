@@ -2,8 +2,9 @@
 
 A and B are files with reports, or scenarios, NAME.toml, which are run. The first difference is the one at the least
 moment, not the one on the least line. It is shown with the mote, the moment, the line of each side, and the last
-packets and events of that mote before. Of two scenarios it says in what they differ. Then come the first collision that only one of the two has, and how many lines
-differ, by mote and by kind. `--html FILE` writes a page with both timelines above one another.
+packets and events of that mote before. Of two scenarios it says in what they differ. Then come the first collision
+that only one of the two has, and how many lines differ, by mote and by kind. `--html FILE` writes a page with both
+timelines above one another.
 
 Ends with status 0 where the reports are the same, 1 where they differ, and 2 where one can't be read.
 """
@@ -136,7 +137,8 @@ def origin(line: Line | Packet, report: Report) -> str:
         return ''
     if line.kind in OF_PACKETS and line.kind != 'send' and line.packet in report.packets:
         packet = report.packets[line.packet]
-        return 'packet %d of mote %d was sent at %d with value %d' % (packet.number, packet.sender, packet.at, packet.value)
+        return 'packet %d of mote %d was sent at %d with value %d' % (
+            packet.number, packet.sender, packet.at, packet.value)
     if line.kind in ('take', 'drop'):
         for other in report.motes[line.mote].lines:
             if other.kind == 'post' and other.serial == line.serial:
@@ -232,7 +234,8 @@ def table(name: str, rows: list[tuple[str, int, int]], most: int) -> Iterator[st
     """A table of what only A and only B has, and at most so many rows of it."""
     shown = rows[:most]
     if len(rows) > most:
-        shown.append(('%d more' % (len(rows) - most), sum(row[1] for row in rows[most:]), sum(row[2] for row in rows[most:])))
+        rest = rows[most:]
+        shown.append(('%d more' % len(rest), sum(row[1] for row in rest), sum(row[2] for row in rest)))
     width = max(len(it) for it in [name, *(row[0] for row in shown)])
     yield '  %-*s  %8s  %8s' % (width, name, 'only A', 'only B')
     for row in shown:

@@ -1,7 +1,7 @@
 """Faults of program texts: where the fault is, the rule in plain words, and what may stand there.
 
-`find_fault(text)` reads a program text by the grammar of docs/use/NOTATION.md and gives its first `ProgramFault`, or None;
-motesim tells the same kind and line.
+`find_fault(text)` reads a program text by the grammar of docs/use/NOTATION.md and gives its first `ProgramFault`, or
+None; motesim tells the same kind and line.
 """
 from __future__ import annotations
 

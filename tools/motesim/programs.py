@@ -91,7 +91,7 @@ def program_path() -> Path:
             return path
     kept = kept_unproved()
     if kept is None:
-        raise ProgramFault('the program is not built: ./run FILE.toml proves and builds it, ./run --unproved FILE.toml '
-                           'compiles it in minutes, and MOTESIM names a built one')
+        raise ProgramFault('the program is not built: ./run FILE.toml proves and builds it, ./run --unproved '
+                           'FILE.toml compiles it in minutes, and MOTESIM names a built one')
     say_unproved()
     return kept

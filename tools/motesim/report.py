@@ -1,9 +1,9 @@
 """Reads reports: docs/use/REPORT.md says what a report is.
 
-A report is read strictly: each line has to be one of docs/use/REPORT.md, with names and numbers that it can have. Moments
-don't fall in a trace, packets and their receivers stand in their order, and there is nothing after `left K`. Whether
-the traces and the log of the medium tell the same story isn't looked at. `Report.text()` gives the text back, byte for
-byte. A text that is no report is a `ReportFault`, which has its line.
+A report is read strictly: each line has to be one of docs/use/REPORT.md, with names and numbers that it can have.
+Moments don't fall in a trace, packets and their receivers stand in their order, and there is nothing after `left K`.
+Whether the traces and the log of the medium tell the same story isn't looked at. `Report.text()` gives the text back,
+byte for byte. A text that is no report is a `ReportFault`, which has its line.
 """
 from __future__ import annotations
 

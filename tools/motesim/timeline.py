@@ -6,9 +6,9 @@
     write_page('flooding.html', 'Flooding', [read_run('examples/flooding.toml')])
     write_page('both.html', 'With slots and without', [read_run(one), read_run(other)], start=17, mote=4)
 
-docs/use/TIMELINE.md says what one sees. The page stands by itself. In it a run is columns of numbers, compressed by zlib
-and written in base64: `data_of` makes them, `timeline_page/data.js` reads them. What follows from a run's lines the
-page finds out itself.
+docs/use/TIMELINE.md says what one sees. The page stands by itself. In it a run is columns of numbers, compressed by
+zlib and written in base64: `data_of` makes them, `timeline_page/data.js` reads them. What follows from a run's lines
+the page finds out itself.
 """
 from __future__ import annotations
 
@@ -224,9 +224,11 @@ def main() -> int:
     words = argparse.ArgumentParser(
         prog='timeline', description='Makes an HTML page of a run: a map of the motes, and a lane for each over time. '
         'FILE.toml is a scenario, which is run; any other FILE is a report.')
-    words.add_argument('file', metavar='FILE', help='a scenario (NAME.toml) or a report; - is a report on standard input')
+    words.add_argument('file', metavar='FILE',
+                       help='a scenario (NAME.toml) or a report; - is a report on standard input')
     words.add_argument('--scenario', metavar='FILE', help='the scenario of a report: it has the places of the motes')
-    words.add_argument('-o', dest='page', metavar='PAGE', help='the page to write; else NAME.html in the current folder')
+    words.add_argument('-o', dest='page', metavar='PAGE',
+                       help='the page to write; else NAME.html in the current folder')
     words.add_argument('--title', help='the title of the page; else the name of the file')
     asked = words.parse_args()
     name = 'run' if asked.file == '-' else Path(asked.file).stem

@@ -121,8 +121,8 @@ def still_after(crate: Crate, after: dict[str, float], estimate: Estimate) -> fl
 
 def jobs_of(crate: Crate, ready: Sequence[Crate], running: Sequence[Crate], after: dict[str, float],
             estimate: Estimate) -> tuple[int, bool]:
-    """How many jobs a crate is proved by, and whether it leaves the processors to others. The one that all wait for has
-    all processors, and goes first on them; each other one has a fair part of those that are idle."""
+    """How many jobs a crate is proved by, and whether it leaves the processors to others. The one that all wait for
+    has all processors, and goes first on them; each other one has a fair part of those that are idle."""
     chain = after[crate.name]
     is_longest = all(still_after(it, after, estimate) <= chain for it in [*ready, *running])
     idle = max(1, estimate.processors - len(running))

@@ -1,7 +1,8 @@
-"""Runs the built program on the cases of tests/cases and compares what it writes: tools/run_cases [--program FILE] [NAME ..]
+"""Runs the built program on the cases of tests/cases and compares what it writes: tools/run_cases [--program FILE]
+[NAME ..]
 
-NAME is a case, `nets/two_senders`, or a folder of cases, `nets`; without a name all are run. A case is made of the files
-with its name in tests/cases:
+NAME is a case, `nets/two_senders`, or a folder of cases, `nets`; without a name all are run. A case is made of the
+files with its name in tests/cases:
 
   NAME.toml      the scenario, which the program is given on standard input
   NAME.make      in its place Python, for what would be long: scenario() gives the scenario, as str or bytes, and
@@ -15,10 +16,10 @@ with its name in tests/cases:
   NAME.status    the exit status; without it, 0
   NAME.stack     how many KB of stack the proved program has (ulimit -s); without it, as many as the shell gives
 
-A word {} stands for the path of a file with the scenario, and standard input then holds a text that is no scenario. A case
-without a scenario has an empty standard input. Shows for each case that fails the first run that does, with the difference
-line by line; a case with nothing to expect fails too, and so does a file that belongs to no case. Ends with a line
-`N passed, M failed`, and with status 1 where one failed.
+A word {} stands for the path of a file with the scenario, and standard input then holds a text that is no scenario. A
+case without a scenario has an empty standard input. Shows for each case that fails the first run that does, with the
+difference line by line; a case with nothing to expect fails too, and so does a file that belongs to no case. Ends
+with a line `N passed, M failed`, and with status 1 where one failed.
 """
 from __future__ import annotations
 
@@ -116,7 +117,8 @@ def difference(got: bytes, wanted: bytes) -> list[str]:
 
 
 def answer(program: str, words: Sequence[str], text: bytes, stack: str) -> Answer:
-    """The status, the standard output and the standard error of a run with so many KB of stack, where some are named."""
+    """The status, the standard output and the standard error of a run with so many KB of stack, where some are
+    named."""
     asked, executable = ['motesim', *words], program
     # (what is built without a proof has checks that take more stack)
     if stack and 'unproved' not in Path(program).parts:

@@ -1,9 +1,10 @@
 """Notes what each crate costs while a command checks the repository: tools/gate_times -- rt ci
 
-Runs the command as it is, ends with its status, and changes nothing of it: four times a second it looks at the processes below it
-and notes the processor time of each `rattle`: of which crate, and whether it is a proof, a check of tests or one of a wrong body.
-(What a process used after the last look isn't seen: a few hundredths.) Before, with nothing beside it, it proves delivery_laws from
-nothing, as the measure of the machine. The figures go to out/gate_times.json, and one line of them to standard error.
+Runs the command as it is, ends with its status, and changes nothing of it: four times a second it looks at the
+processes below it and notes the processor time of each `rattle`: of which crate, and whether it is a proof, a check
+of tests or one of a wrong body. (What a process used after the last look isn't seen: a few hundredths.) Before, with
+nothing beside it, it proves delivery_laws from nothing, as the measure of the machine. The figures go to
+out/gate_times.json, and one line of them to standard error.
 
 tools/gate_times --show    prints the last run's table by crate, and its line for the table by landing
 tools/gate_times --write   writes the table by crate into docs/dev/GATE.md, and what proofs take into
@@ -40,7 +41,8 @@ TICK = os.sysconf('SC_CLK_TCK')
 
 
 def processes() -> dict[int, tuple[int, int, str]]:
-    """Of each process its parent, its ticks, those of the children that it has waited for included, and when it began."""
+    """Of each process its parent, its ticks, those of the children that it has waited for included, and when it
+    began."""
     found: dict[int, tuple[int, int, str]] = {}
     for name in filter(str.isdigit, os.listdir('/proc')):
         try:

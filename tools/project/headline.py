@@ -1,4 +1,5 @@
-"""Lists the files of specs/ on which the headline rests, in docs/proof/HEADLINE.md: tools/headline_files [--write | --check]
+"""Lists the files of specs/ on which the headline rests, in docs/proof/HEADLINE.md: tools/headline_files [--write |
+--check]
 
 The headline is the contract of `simulate`, crates/simulation/specs/Simulation*.antt. A file rests on each file of
 specs/ that it imports, and on what those rest on. The list goes from the top down: the crates from the last of

@@ -1,13 +1,13 @@
 """Refuses each request for memory of a run in turn: tools/refuse_memory [--program PROGRAM] [FILE [WORD ..]]
 
 The program simulates a scenario, and is refused its first request, in the next run its second, and so on until a run
-needs no more of them. The start of a thread is a request too, for its stack. Each run has to end with the whole report
-and status 0, or with `motesim: out of memory`, status 1 and a beginning of the report, or, by workers, with `motesim:
-run fault 5`, status 1 and no report; and each has to end. The words after FILE are the program's, as `--workers 2
---sync marks`. Without FILE small scenarios are tried, on one thread and by two and three workers of both kinds: packets
-that meet and are heard, a full ring, a full queue, a refused timer, and a scenario with a fault. So is the program of
-crates/refused_calls, which asks kernels and motes what they answer once they are out of memory: it has to print the
-same, or to end with status 1 where it has no kernel or mote to ask.
+needs no more of them. The start of a thread is a request too, for its stack. Each run has to end with the whole
+report and status 0, or with `motesim: out of memory`, status 1 and a beginning of the report, or, by workers, with
+`motesim: run fault 5`, status 1 and no report; and each has to end. The words after FILE are the program's, as
+`--workers 2 --sync marks`. Without FILE small scenarios are tried, on one thread and by two and three workers of both
+kinds: packets that meet and are heard, a full ring, a full queue, a refused timer, and a scenario with a fault. So is
+the program of crates/refused_calls, which asks kernels and motes what they answer once they are out of memory: it has
+to print the same, or to end with status 1 where it has no kernel or mote to ask.
 
 What refuses is a library in C that stands before the C library. `cc` compiles it, or else the compiler of the Rattle
 kit; where there is neither, nothing is tried and all fails. Ends with a line `N passed, M failed`, and with status 1

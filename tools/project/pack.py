@@ -1,8 +1,8 @@
 """Makes one archive for a classroom: tools/pack [-o FILE]
 
 The archive motesim-VERSION.tar.gz has the built program, the tools for users, the pages for users, the examples, and
-a page PROVED.md on what was proved of the program, and with which kit. It runs on any Linux for x86-64 with Python 3.11
-or newer, from any folder: nothing is installed, and nothing is fetched from a network.
+a page PROVED.md on what was proved of the program, and with which kit. It runs on any Linux for x86-64 with Python
+3.11 or newer, from any folder: nothing is installed, and nothing is fetched from a network.
 
     tar xzf motesim-VERSION.tar.gz && cd motesim-VERSION && ./run examples/flooding.toml
 

@@ -18,7 +18,8 @@ HEAD = '| Crate | Proof | Tests | Wrong bodies |\n|---|---|---|---|\n'
 
 
 def table_of(page: str) -> tuple[str, str, str]:
-    """What stands between the marks of a page, with the text before and after it; of a page with no marks, all is before."""
+    """What stands between the marks of a page, with the text before and after it; of a page with no marks, all is
+    before."""
     before, begin, rest = page.partition(BEGIN)
     table, end, after = rest.partition(END)
     return before + begin, table, end + after
@@ -43,7 +44,8 @@ def lines_of(crate: str) -> int:
 
 
 def shares(crates: Iterable[str]) -> dict[str, float]:
-    """What the proof of each crate takes as noted; of one that isn't noted, by its lines and the others' seconds a line."""
+    """What the proof of each crate takes as noted; of one that isn't noted, by its lines and the others' seconds a
+    line."""
     noted, lines = kept().get('proof', {}), {it: lines_of(it) for it in crates}
     known = {it: noted[it] for it in lines if noted.get(it)}
     a_line = sum(known.values()) / max(sum(lines[it] for it in known), 1) or 0.05

@@ -1,20 +1,22 @@
 """Tries wrong bodies of the crates' functions, many in one check: the prover must refuse each.
 
-A wrong body is a file NAME.edit of crates/CRATE/must-fail, which rt ci tries too, of crates/CRATE/gate-bodies, which the gate has this
-tool try, or of crates/CRATE/wrong-bodies, which the gate leaves out; all have the form of rt's must-fail edits. A function is proved
-from its own body and from the contracts of what it calls. So the wrong bodies of several functions are written into one copy of the crate, no two into one function or one cycle of
-functions, and one check from nothing judges them all. The copy has none of the proofs of what they call, where these can be told
-(bodies/stated.py). A wrong body passes where the check refuses the function that it stands in, and not just for what that calls; and
-no other function may be refused for anything but what it calls.
+A wrong body is a file NAME.edit of crates/CRATE/must-fail, which rt ci tries too, of crates/CRATE/gate-bodies, which
+the gate has this tool try, or of crates/CRATE/wrong-bodies, which the gate leaves out; all have the form of rt's
+must-fail edits. A function is proved from its own body and from the contracts of what it calls. So the wrong bodies
+of several functions are written into one copy of the crate, no two into one function or one cycle of functions, and
+one check from nothing judges them all. The copy has none of the proofs of what they call, where these can be told
+(bodies/stated.py). A wrong body passes where the check refuses the function that it stands in, and not just for what
+that calls; and no other function may be refused for anything but what it calls.
 
-One that the check leaves open is tried over the proofs of what it calls, and then as `rt must-fail` tries it, over the whole crate.
-So is at once one that changes more than bodies of functions, unless it has a line `refused: FUNCTION`, which names the function to
-look at.
+One that the check leaves open is tried over the proofs of what it calls, and then as `rt must-fail` tries it, over
+the whole crate. So is at once one that changes more than bodies of functions, unless it has a line `refused:
+FUNCTION`, which names the function to look at.
 
-The libraries below are those that lie in crates/*/out; what is missing or older than its sources is built first. With --built they
-are taken as they lie there: rt ci has just built them, or taken them from what it keeps on this machine, whose files are older than
-a fresh clone's sources. What is tried is noted in log/wrong_bodies.tsv. As many checks run side by side as there are processors and memory, or as RT_JOBS says. The last line is
-`N passed, M failed`, and the status 1 where one failed.
+The libraries below are those that lie in crates/*/out; what is missing or older than its sources is built first. With
+--built they are taken as they lie there: rt ci has just built them, or taken them from what it keeps on this machine,
+whose files are older than a fresh clone's sources. What is tried is noted in log/wrong_bodies.tsv. As many checks run
+side by side as there are processors and memory, or as RT_JOBS says. The last line is `N passed, M failed`, and the
+status 1 where one failed.
 """
 from __future__ import annotations
 
@@ -37,11 +39,15 @@ def words() -> argparse.Namespace:
     about, _, details = (__doc__ or '').partition('\n\n')
     form = argparse.RawDescriptionHelpFormatter
     asked = argparse.ArgumentParser(description=about, epilog=details, formatter_class=form)
-    asked.add_argument('--list', action='store_true', help='print each wrong body with its group and its functions, and try none')
-    asked.add_argument('--tried', action='store_true', help='print when each was last tried, by log/wrong_bodies.tsv, and try none')
+    asked.add_argument('--list', action='store_true',
+                       help='print each wrong body with its group and its functions, and try none')
+    asked.add_argument('--tried', action='store_true',
+                       help='print when each was last tried, by log/wrong_bodies.tsv, and try none')
     asked.add_argument('--folder', choices=FOLDERS, help='those of this folder alone; without it, of all three')
-    asked.add_argument('--built', action='store_true', help='take the libraries as rt ci has left them, and build none')
-    asked.add_argument('names', nargs='*', metavar='CRATE or CRATE/NAME', help='crates, or single wrong bodies; without them, all')
+    asked.add_argument('--built', action='store_true',
+                       help='take the libraries as rt ci has left them, and build none')
+    asked.add_argument('names', nargs='*', metavar='CRATE or CRATE/NAME',
+                       help='crates, or single wrong bodies; without them, all')
     return asked.parse_args()
 
 
@@ -54,7 +60,8 @@ def bodies_asked_for(names: Sequence[str], folders: Sequence[str]) -> list[Bodie
     for crate in wanted:
         if crate not in crates:
             raise Fault('there is no crate %s' % crate)
-    found = [bodies_of(crate, folders, wanted.get(name, [''])) for name, crate in crates.items() if not wanted or name in wanted]
+    found = [bodies_of(crate, folders, wanted.get(name, ['']))
+             for name, crate in crates.items() if not wanted or name in wanted]
     return [bodies for bodies in found if bodies.edits]
 
 
@@ -96,8 +103,8 @@ def has_new_library(crate: kit.Crate) -> bool:
 
 
 def build_libraries(of_crates: Sequence[Bodies], as_they_lie: bool) -> bool:
-    """Builds what is missing of the libraries below these crates, and returns whether all are there. (rt notes what a library was built
-    from, but not where it's the gate's own.)"""
+    """Builds what is missing of the libraries below these crates, and returns whether all are there. (rt notes what a
+    library was built from, but not where it's the gate's own.)"""
     below = list(dict.fromkeys(library for bodies in of_crates for library in bodies.crate.below()))
     if as_they_lie:
         return all(os.path.isfile('%s/format' % library.rlib) for library in below)

@@ -22,7 +22,8 @@ class Hunk(NamedTuple):
 
 
 class Edit(NamedTuple):
-    """A wrong body: the functions that it stands in or names, whether each of its lines stands in a function's body, and why it can't be applied."""
+    """A wrong body: the functions that it stands in or names, whether each of its lines stands in a function's body,
+    and why it can't be applied."""
     file: str
     hunks: list[Hunk]
     functions: list[Function]
@@ -78,7 +79,8 @@ class Bodies:
         return [it for path in paths for it in self.functions(path) if it.cycle in cycles]
 
     def groups(self) -> list[list[Edit]]:
-        """Lists of edits that one check can judge; those of which nothing says in which function they are refused make up a list too."""
+        """Lists of edits that one check can judge; those of which nothing says in which function they are refused
+        make up a list too."""
         shared: list[Group] = []
         alone: list[list[Edit]] = []
         whole: list[Edit] = []
@@ -115,7 +117,8 @@ def hunks_between(path: str, old_text: str, new_text: str) -> list[Hunk]:
 
 
 def put_in_group(groups: list[Group], edit: Edit) -> None:
-    """Puts an edit to the first group that has none in its functions, nor in their cycles of calls, or begins another."""
+    """Puts an edit to the first group that has none in its functions, nor in their cycles of calls, or begins
+    another."""
     keys = {it.cycle or it.path for it in edit.functions}
     for group, taken in groups:
         if not keys & taken:

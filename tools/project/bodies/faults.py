@@ -13,7 +13,8 @@ OF_NAMES = re.compile(r'has no field|is not in scope|has no `')
 
 
 def is_of(name: str, path: str) -> bool:
-    """Whether a name that a check prints is that function's or of a closure in it, as c::m::fn::S::f::closure is of S::f."""
+    """Whether a name that a check prints is that function's or of a closure in it, as c::m::fn::S::f::closure is of
+    S::f."""
     return '::%s::' % path in '%s::' % name.replace('::fn::', '::')
 
 
@@ -47,8 +48,8 @@ def fault(reasons: Sequence[str], errors: Sequence[str]) -> str | None:
 
 
 def own_faults(lines: Sequence[str], cycles: dict[str, str]) -> dict[str, str]:
-    """What a check says against each function of its own: one that is refused just for what it calls has no such fault.
-    `cycles` gives the cycle of each function that is in one, by its path."""
+    """What a check says against each function of its own: one that is refused just for what it calls has no such
+    fault. `cycles` gives the cycle of each function that is in one, by its path."""
     faults: dict[str, str] = {}
     for line in lines:
         refused = re.match(r'fn (\S+): (?:not proved|no proof)(.*)', line)

@@ -16,9 +16,9 @@ Rows = Sequence[tuple[int, str]]
 
 
 class Function(NamedTuple):
-    """The first and the last line of a function's body, from 0; its path as a check prints it, of a method from its type on;
-    and the cycle of calls that it says it is in. The path of a trait's method is made of the names of the type and the
-    trait, and is a guess where the type is no plain one."""
+    """The first and the last line of a function's body, from 0; its path as a check prints it, of a method from its
+    type on; and the cycle of calls that it says it is in. The path of a trait's method is made of the names of the
+    type and the trait, and is a guess where the type is no plain one."""
     first: int
     last: int
     path: str
@@ -47,7 +47,8 @@ def module_of(path: str) -> list[str]:
 
 
 def names_in(words: Sequence[str]) -> list[str]:
-    """The names of a type or a trait without the paths before them and lifetimes, as From and AllocError of From<alloc::AllocError>."""
+    """The names of a type or a trait without the paths before them and lifetimes, as From and AllocError of
+    From<alloc::AllocError>."""
     names: list[str] = []
     before = ''
     for word in words:
@@ -102,8 +103,8 @@ def before_where(head: Sequence[str]) -> Sequence[str]:
 
 
 def owner_of(head: Sequence[str]) -> tuple[str, bool]:
-    """What the functions of an impl have before their names, and whether that is a guess. A check counts `drop` among the
-    type's own."""
+    """What the functions of an impl have before their names, and whether that is a guess. A check counts `drop` among
+    the type's own."""
     parameters, head = without_generics(head)
     head = before_where(head)
     if 'for' not in head:
@@ -162,7 +163,8 @@ class Reader:
         return [word for _, word in self.rows[at:end]]
 
     def begin(self, line: int) -> None:
-        """A brace begins the item whose head was read, unless it stands in brackets of that head, where it is an expression's."""
+        """A brace begins the item whose head was read, unless it stands in brackets of that head, where it is an
+        expression's."""
         is_items = bool(self.head) and not self.depth
         self.open.append(Brace(self.head if is_items else None, line, self.depth))
         self.head, self.depth = None if is_items else self.head, 0
@@ -176,7 +178,8 @@ class Reader:
             self.found.append(Function(brace.line + 1, line - 1, path, brace.item.cycle, is_guess))
 
     def around(self) -> tuple[list[str], bool]:
-        """What stands before the name of a function here. A method's module is its type's, which may be another file's, so it is left out."""
+        """What stands before the name of a function here. A method's module is its type's, which may be another
+        file's, so it is left out."""
         around, is_guess = list(self.module), False
         for item in (brace.item for brace in self.open if brace.item):
             if item.kind == 'impl':

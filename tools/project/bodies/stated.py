@@ -14,7 +14,8 @@ from project.bodies.edits import Bodies
 from project.bodies.functions import Function, Rows, module_of
 from project.kit import Crate, files_of, parts, text_of, tokens
 
-# Proofs that are left open: antt takes them by their statements, so those who call the functions are proved from their contracts.
+# Proofs that are left open: antt takes them by their statements, so those who call the functions are proved from
+# their contracts.
 USE = 'use Rattle.%s.proofs.%s.Statement as the_%s\n'
 HOLE = """
 pub %s_spec : {M : Type 1} → the_%s.statement M
@@ -61,8 +62,8 @@ def is_one_of(function: Function, judged: Iterable[Function]) -> bool:
 
 def left_open(functions: Iterable[Function], types: dict[str, list[str]], judged: Sequence[Function],
               rows: Rows) -> dict[str, list[list[str]]]:
-    """The names that lead to the proof of each function of a file that isn't judged, nor in a cycle of calls with one that is, by the
-    folders of the proofs, where these can be told."""
+    """The names that lead to the proof of each function of a file that isn't judged, nor in a cycle of calls with one
+    that is, by the folders of the proofs, where these can be told."""
     cycles = {it.cycle for it in judged if it.cycle}
     found: dict[str, list[list[str]]] = {}
     for it in functions:
@@ -73,7 +74,8 @@ def left_open(functions: Iterable[Function], types: dict[str, list[str]], judged
 
 
 def proofs_of_others(bodies: Bodies, judged: Sequence[Function]) -> dict[str, list[list[str]]]:
-    """The names that lead to the proof of each function of a crate that isn't judged, by their folders, where they can be told."""
+    """The names that lead to the proof of each function of a crate that isn't judged, by their folders, where they
+    can be told."""
     files = [os.path.relpath(file, bodies.crate.folder) for file in files_of(bodies.crate.folder)]
     sources = [file for file in files if file.startswith('src/') and file.endswith('.rt')]
     rows = {file: tokens('%s/%s' % (bodies.crate.folder, file)) for file in sources}
@@ -93,13 +95,15 @@ def holes_for(crate: str, functions: Sequence[Sequence[str]]) -> str:
 
 
 def cited_in(texts: Iterable[str]) -> set[str]:
-    """The functions whose own answers or invariants these texts cite: theirs stay, or what cites them would be refused for that."""
+    """The functions whose own answers or invariants these texts cite: theirs stay, or what cites them would be
+    refused for that."""
     return {name for text in texts for name in re.findall(r'\.proofs\.(\S+)\.(?:Answers|Invariants|Proof)\b', text)}
 
 
 @contextlib.contextmanager
 def stated(bodies: Bodies, judged: Sequence[Function]) -> Iterator[Crate]:
-    """A copy of the crate in which the proofs of all but the judged functions are left open, where these can be told."""
+    """A copy of the crate in which the proofs of all but the judged functions are left open, where these can be
+    told."""
     with tempfile.TemporaryDirectory(prefix='stated-') as room:
         for part in parts():
             if os.path.isdir('%s/%s' % (bodies.crate.folder, part)):

@@ -35,7 +35,8 @@ def verdicts(bodies: Bodies, group: Sequence[Edit]) -> dict[str, Verdict]:
 
 
 def refused_together(bodies: Bodies, group: Sequence[Edit]) -> dict[str, str]:
-    """Which edits of a group a check of them all refuses. Those that it leaves open are tried again with fewer others, down to one by itself."""
+    """Which edits of a group a check of them all refuses. Those that it leaves open are tried again with fewer
+    others, down to one by itself."""
     refused = told_of(bodies, group)
     left = [edit for edit in group if edit.file not in refused]
     if not left or len(group) == 1:
@@ -48,8 +49,8 @@ def refused_together(bodies: Bodies, group: Sequence[Edit]) -> dict[str, str]:
 
 
 def told_of(bodies: Bodies, group: Sequence[Edit]) -> dict[str, str]:
-    """What is said against each edit of a group: by a check that takes what their functions call by its contract, and where that leaves
-    one open by a check that proves it too."""
+    """What is said against each edit of a group: by a check that takes what their functions call by its contract, and
+    where that leaves one open by a check that proves it too."""
     told = told_by(check_alone, bodies, group)
     if len(told) < len(group):
         told.update(told_by(check_with_calls, bodies, group))
@@ -58,8 +59,8 @@ def told_of(bodies: Bodies, group: Sequence[Edit]) -> dict[str, str]:
 
 def told_by(check: Callable[[Bodies, dict[str, str], Sequence[Function]], Ran], bodies: Bodies,
             group: Sequence[Edit]) -> dict[str, str]:
-    """What one check of all these edits says against each, or nothing where it says nothing of the proofs, or refuses a function that no
-    edit stands in for more than what that calls."""
+    """What one check of all these edits says against each, or nothing where it says nothing of the proofs, or refuses
+    a function that no edit stands in for more than what that calls."""
     texts = bodies.with_all(group)
     functions = [function for edit in group for function in edit.functions]
     lines = lines_said(check(bodies, texts, functions), texts)
