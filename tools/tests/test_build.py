@@ -1,5 +1,6 @@
 """What build foretells, and what it reads of a check."""
 import io
+import re
 import tempfile
 import types
 import unittest
@@ -49,7 +50,8 @@ class Foretold(unittest.TestCase):
         seconds = shares.shares([it.name for it in CRATES])
         pace = build.pace_of(CRATES, 4)
         self.assertAlmostEqual(estimate.Estimate(CRATES, seconds, 4, pace).left(), measured * 60, 0)
-        self.assertIn('%d minutes on four' % measured, (TREE / 'README.md').read_text('utf-8'))
+        least, most = re.search(r'(\d+) to (\d+) minutes on four', (TREE / 'README.md').read_text('utf-8')).groups()
+        self.assertTrue(int(least) <= measured <= int(most))
 
     def told(self, pace):
         """What is told each ten seconds of a build that takes so many seconds for each of the shares."""

@@ -18,6 +18,9 @@ class AtHand(unittest.TestCase):
     def test_it_is_the_kit_that_is_named(self):
         self.assertEqual(kit.version(), KIT)
 
+    def test_the_readme_names_it(self):
+        self.assertIn('`%s`' % KIT, (here.TOP / 'README.md').read_text('utf-8'))
+
     def test_it_has_all_that_is_taken(self):
         self.assertEqual(kit.lacking_in(kit.rt()), [])
 
