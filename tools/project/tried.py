@@ -7,7 +7,7 @@ from __future__ import annotations
 
 import hashlib
 import time
-from collections.abc import Mapping
+from collections.abc import Callable, Mapping
 from pathlib import Path
 from typing import NamedTuple
 
@@ -43,9 +43,17 @@ def noted() -> dict[str, Tried]:
     return {name: Tried(day, answer == 'refused', sum_) for name, day, answer, sum_ in cells}
 
 
-def note(answers: Mapping[str, tuple[bool, str]]) -> None:
-    """Notes that these were tried today: whether each was refused, and the digest of what it was tried over."""
-    day, kept = time.strftime('%Y-%m-%d'), noted()
+def is_there(name: str) -> bool:
+    """Whether there is a wrong body of this name."""
+    crate, _, edit = name.partition('/')
+    return any((TOP / 'crates' / crate).glob('*/%s.edit' % edit))
+
+
+def note(answers: Mapping[str, tuple[bool, str]], is_known: Callable[[str], bool] = is_there) -> None:
+    """Notes that these were tried today: whether each was refused, and the digest of what it was tried over. What is
+    noted of others goes where they are no longer known."""
+    day = time.strftime('%Y-%m-%d')
+    kept = {name: it for name, it in noted().items() if is_known(name)}
     kept.update((name, Tried(day, is_refused, sum_)) for name, (is_refused, sum_) in answers.items())
     KEPT.parent.mkdir(exist_ok=True)
     rows = ['%s\t%s\t%s\t%s\n' % (name, it.day, 'refused' if it.is_refused else 'open', it.digest)

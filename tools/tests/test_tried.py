@@ -17,15 +17,25 @@ class Tried(unittest.TestCase):
         patch.start()
         self.addCleanup(patch.stop)
 
+    def note(self, answers):
+        tried.note(answers, lambda name: name != 'gone/a')
+
+    def test_what_is_gone_is_forgotten(self):
+        self.note({'gone/a': (True, '1')})
+        self.note({'low/a': (True, '1')})
+        self.assertEqual(list(tried.noted()), ['low/a'])
+        self.assertTrue(tried.is_there('event_queue/overwriting-queue'))
+        self.assertFalse(tried.is_there('event_queue/no-such-body'))
+
     def test_the_last_try_is_noted(self):
         self.assertEqual(tried.noted(), {})
-        tried.note({'low/a': (True, '1'), 'low/b': (False, '1')})
-        tried.note({'low/b': (True, '2')})
+        self.note({'low/a': (True, '1'), 'low/b': (False, '1')})
+        self.note({'low/b': (True, '2')})
         found = tried.noted()
         self.assertEqual([(name, it.is_refused, it.digest) for name, it in found.items()], [('low/a', True, '1'), ('low/b', True, '2')])
 
     def test_what_has_changed_since_is_told(self):
-        tried.note({'low/a': (True, '1'), 'low/b': (False, '1')})
+        self.note({'low/a': (True, '1'), 'low/b': (False, '1')})
         lines = tried.told({'low/a': '1', 'low/b': '2', 'low/c': '3'})
         self.assertRegex(lines[0], r'^low/a +\d{4}-\d\d-\d\d  refused$')
         self.assertRegex(lines[1], r'^low/b +\S+  NOT REFUSED, over an earlier text of the crate$')
