@@ -24,7 +24,16 @@ pub record NetTold : Type 0 where
 abbrev pub no_program : NamedTree
 no_program = record {
   name = [];
-  tree = record { events = []; semaphores = []; counts = []; processes = []; autostart = []; receiver = None; codes = []; timers = [] };
+  tree = record {
+    events = [];
+    semaphores = [];
+    counts = [];
+    processes = [];
+    autostart = [];
+    receiver = None;
+    codes = [];
+    timers = [];
+  };
 }
 
 -- the program at an index
@@ -32,7 +41,11 @@ abbrev pub program_at : List NamedProgram → ℕ → NamedTree
 program_at programs i = unwrap_or (option_map named_tree (slice_get programs i)) no_program
 
 abbrev pub mote_told : List NamedProgram → Mote → MoteTold
-mote_told programs m = record { program = (program_at programs m.program).name; tree = (program_at programs m.program).tree; queue = m.queue }
+mote_told programs m = record {
+  program = (program_at programs m.program).name;
+  tree = (program_at programs m.program).tree;
+  queue = m.queue;
+}
 
 -- what a `Net` means
 abbrev pub net_of : Net → NetTold

@@ -15,8 +15,8 @@ pub struct Mote {
     pub queue: u16,
 }
 
-/// A net: the last moment at which turns are taken, whether packets collide, the medium with the places of the motes, and
-/// the motes, which are numbered from 0 in the order of the text.
+/// A net: the last moment at which turns are taken, whether packets collide, the medium with the places of the motes,
+/// and the motes, which are numbered from 0 in the order of the text.
 pub struct Net {
     end: u32,
     collide: bool,
@@ -47,8 +47,8 @@ impl Net {
     ghost use Rattle.program_tree.specs.Program.{tree_of};
     ghost use Rattle.mote_net.specs.Net.{net_of, mote_told};
 
-    /// The net of these parts: `end` is its last moment, the medium has a place for each mote, and each mote's program is one
-    /// of the programs.
+    /// The net of these parts: `end` is its last moment, the medium has a place for each mote, and each mote's program
+    /// is one of the programs.
     pub fn new(
         end: u32,
         collide: bool,
@@ -61,7 +61,12 @@ impl Net {
         requires few { length motes.items ≤ most_motes }
         requires placed { length medium.places ≡ length motes.items }
         requires fit { IsTrue (list_all (is_mote_of (length programs.items)) motes.items) }
-        ensures { net_of result ≡ record { end = end; collide = collide; radio = medium; motes = map (mote_told programs.items) motes.items } }
+        ensures { net_of result ≡ record {
+          end = end;
+          collide = collide;
+          radio = medium;
+          motes = map (mote_told programs.items) motes.items;
+        } }
     {
         Net {
             end,

@@ -12,7 +12,8 @@ use Rattle.simulation.specs.declared.error.SimError.{SimError}
 -- the text of a number of workers reads as this one, or as none
 abbrev pub ReadsCount : (text : List ℕ) → Option ℕ → Type 0
 ReadsCount text count =
-    ReadsOne (λ bytes r. ParsesUnsigned 16 10 bytes r × ExplainsUnsignedError 10 bytes r × HasUnsignedDigitsIfOk bytes r)
+    ReadsOne
+    (λ bytes r. ParsesUnsigned 16 10 bytes r × ExplainsUnsignedError 10 bytes r × HasUnsignedDigitsIfOk bytes r)
     text count
 
 -- the exit status of a simulation
