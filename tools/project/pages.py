@@ -27,7 +27,7 @@ from project.tree import TOP, program_of
 PAGES = ['docs/use/TUTORIAL.md', 'docs/use/TOOLS.md', 'docs/use/EXPECTATIONS.md', 'docs/use/EXPLAIN.md',
          'docs/use/EXPERIMENTS.md']
 FENCE = '```'
-SECONDS = 60
+SECONDS = 300
 
 
 @dataclass

@@ -42,8 +42,7 @@ class StudiesTest(unittest.TestCase):
             self.assertIn('tools/sweep examples/studies/%s --plot' % plan.name, page)
             for wish in wishes_of(Plan.read(plan)):
                 self.assertIn('(%s)' % wish.file, page)
-                if not (STUDIES / wish.file).is_file():
-                    self.skipTest('the picture %s is not kept' % wish.file)
+                self.assertTrue((STUDIES / wish.file).is_file(), wish.file)
 
     def test_trickle(self) -> None:
         rows = self.study('trickle', '--vary', 'seed=1,2', '--vary', 'enough=1,4', '--vary', 'step=20,8')
