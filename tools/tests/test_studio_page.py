@@ -274,7 +274,7 @@ class Page(unittest.TestCase):
         self.open()
         (x, y), (to_x, to_y) = self.on_map(0), self.on_map(1)
         self.browser.click((x + to_x) / 2, (y + to_y) / 2)
-        self.assertIn('0 → 1: after 3 moments', self.shown('way'))
+        self.assertIn('0 → 1: 3 moments, loses 1 in', self.shown('way'))
         self.value('''(() => { const it = document.querySelector('[data-way="0 1"]'); it.value = "2";
           it.dispatchEvent(new Event("change")); })()''')
         self.wait('run.losses.length === 1')

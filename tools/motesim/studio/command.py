@@ -9,6 +9,7 @@ import argparse
 import contextlib
 import gc
 import os
+import signal
 import sys
 import tempfile
 import webbrowser
@@ -52,7 +53,10 @@ def positive(word: str) -> int:
 
 
 def serve(server: Server, is_open: bool) -> None:
-    """Serves until Ctrl-C."""
+    """Serves until Ctrl-C, which it leaves to its caller."""
+    # (a terminal that is closed, and a polite request to end, end it as Ctrl-C does)
+    for number in (signal.SIGTERM, signal.SIGHUP):
+        signal.signal(number, signal.default_int_handler)
     print(server.address, flush=True)
     if not server.session.has_editor:
         print('studio: ' + NO_EDITOR, file=sys.stderr, flush=True)

@@ -201,10 +201,12 @@ class Desk:
         """Puts a file in its place whole, or not at all."""
         if len(data) > LONGEST:
             raise Fault('the text is longer than %d bytes, as a scenario may be' % LONGEST)
+        if path.exists() and not os.access(path, os.W_OK):
+            raise Fault('%s may not be written' % path.name)
         scratch = path.with_name('.%s.%d.studio' % (path.name, os.getpid()))
         try:
             mode = path.stat().st_mode & 0o777 if path.exists() else None
-            with open(scratch, 'wb') as file:
+            with open(scratch, 'xb') as file:
                 file.write(data)
                 file.flush()
                 os.fsync(file.fileno())

@@ -44,7 +44,6 @@ class Runs:
     def __init__(self, limits: Limits):
         self.limits = limits
         self.newest = 0
-        self.started = 0
         self.turn = threading.Lock()
         self.state = threading.Lock()
         self.process: subprocess.Popen[bytes] | None = None
@@ -73,12 +72,14 @@ class Runs:
             with self.state:
                 self.check(ticket)
                 self.why, self.process = None, self.begin()
-                self.started += 1
+                process = self.process
             try:
-                return self.finish(self.process, scenario)
+                return self.finish(process, scenario)
             finally:
                 with self.state:
                     self.process = None
+                process.kill()
+                process.wait()
 
     def begin(self) -> subprocess.Popen[bytes]:
         """Starts the program, which waits for its input."""
@@ -96,10 +97,10 @@ class Runs:
         given, written, told = pipes_of(process)
         said: list[bytes] = []
         helpers = [threading.Thread(target=give, args=(given, scenario), daemon=True),
-                   threading.Thread(target=lambda: said.append(told.read(CHUNK)), daemon=True),
-                   threading.Thread(target=self.watch, args=(process,), daemon=True)]
+                   threading.Thread(target=lambda: said.append(told.read(CHUNK)), daemon=True)]
+        watcher = threading.Thread(target=self.watch, args=(process,), daemon=True)
         timer.daemon = True
-        for helper in (timer, *helpers):
+        for helper in (timer, watcher, *helpers):
             helper.start()
         report = bytearray()
         while chunk := written.read1(CHUNK):

@@ -65,6 +65,8 @@ class Handler(BaseHTTPRequestHandler):
     server_version = 'motesim'
     sys_version = ''
     timeout = 600
+    # (head and body of an answer are two writes, of which the second shall not wait for the first)
+    disable_nagle_algorithm = True
     server: Server
 
     def log_message(self, *_: object) -> None:

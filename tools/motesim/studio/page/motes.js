@@ -116,7 +116,7 @@ function wayOf(run, s, r) {
   input.dataset.way = `${s} ${r}`;
   input.addEventListener('change',
     () => editText({what: 'lose', from: s, to: r, every: Math.floor(Number(input.value)) || 0}));
-  box.append(`${s} → ${r}: after ${count(delayOf(run, s, r), 'moment')}, `, label);
+  box.append(`${s} → ${r}: ${count(delayOf(run, s, r), 'moment')}, `, label);
   if (lost) box.append(element('br'), [['lost', 0], ['collided', 1], ['found no room', 2]].filter(([, i]) => lost[i])
     .map(([name, i]) => `${lost[i]} ${name}`).join(', ') + ' in this run');
   return box;

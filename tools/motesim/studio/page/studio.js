@@ -1,5 +1,5 @@
 // The studio: the text is run when no key has come for a while, and what the run shows takes the place of the last one.
-const PAUSE = 250;
+const PAUSE = 200;
 const TABS = [['guide', 'Guide'], ['chosen', 'Selected'], ['steps', 'Steps'], ['compare', 'Differences'],
   ['checks', 'Checks'], ['sums', 'Sums'], ['legend', 'Forms']];
 const studio = {document: null, saved: '', maySave: false, folder: '', number: 0, before: 0, pinned: 0, asked: 0,
