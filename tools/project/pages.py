@@ -1,10 +1,11 @@
 """Checks that the commands of the tutorial give what the page shows: tools/check_tutorial [--write] [PROGRAM]
 
-The pages are TUTORIAL.md, TOOLS.md, EXPECTATIONS.md, EXPLAIN.md and EXPERIMENTS.md of docs/use/. Their blocks of
-commands begin with ```sh, and what these print stands in the block behind, which begins with ```. Where no block is
-right behind, they print nothing. A block that begins with ```toml NAME, ```mote NAME or ```python NAME is a file that
-the reader saves under that name. The commands of a page are run in a folder of their own, in which ./run, tools/ and
-examples/ are found. PROGRAM is the motesim that they run, else the built one.
+The pages are those of docs/use/ that show commands (PAGES). Their blocks of commands begin with ```sh, and what these
+print stands in the block right after, which begins with ```. Where no block is right after, they print nothing. A block
+that begins with ```console has commands that open a window, and is not run. A block that begins with ```toml NAME,
+```mote NAME or ```python NAME is a file that the reader saves under that name. The commands of a page are run in a
+folder of their own, in which ./run, tools/ and examples/ are found. PROGRAM is the motesim that they run, else the built
+one.
 
 Shows for each block that fails what differs. Ends with a line `N passed, M failed`, and with status 1 where one
 failed. With `--write` it puts what the commands print into the pages, to be read before it is kept.
@@ -25,7 +26,7 @@ from motesim.faults import Fault, command
 from project.tree import TOP, program_of
 
 PAGES = ['docs/use/TUTORIAL.md', 'docs/use/TOOLS.md', 'docs/use/EXPECTATIONS.md', 'docs/use/EXPLAIN.md',
-         'docs/use/EXPERIMENTS.md']
+         'docs/use/EXPERIMENTS.md', 'docs/use/REPORT.md', 'docs/use/TIMELINE.md', 'docs/use/EXPORTS.md']
 FENCE = '```'
 SECONDS = 300
 
