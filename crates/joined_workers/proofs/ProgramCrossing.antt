@@ -12,6 +12,8 @@ use Rattle.std.specs.contracts.vec.Vec as Vec
 use Rattle.std.specs.contracts.alloc.Global as Heap
 use Rattle.std.specs.contracts.impls.GlobalAllocator.TheImpl.{ghosts}
 use Rattle.std.specs.contracts.option.Option as Option
+use Rattle.program_tree.specs.contracts.flat_block.FlatBlock as FlatBlock
+use Rattle.program_tree.specs.contracts.instruction.Instruction as Instruction
 use Rattle.program_tree.specs.contracts.process_text.ProcessText as ProcessText
 use Rattle.program_tree.specs.contracts.program.Program as Program
 use Rattle.program_tree.specs.contracts.timer.Timer as Timer
@@ -75,12 +77,19 @@ pub stmt_sync : IsSync Stmt.the_row
 stmt_sync = let e = expr_sync in let b = block_sync in
     variants_sync Stmt.enum ((action_sync, tt), ((e, (b, (option.the_sync Block.the_row b, tt))), ((e, (b, tt)), tt)))
 
+instruction_sync : IsSync Instruction.the_row
+instruction_sync = variants_sync Instruction.enum
+    ((action_sync, (u16, tt)), ((expr_sync, (u16, (u16, tt))), ((expr_sync, (u16, (u16, tt))), tt)))
+
+pub flat_sync : IsSync FlatBlock.the_row
+flat_sync = declared_sync FlatBlock.the_type (block_sync, (Vec-sync Instruction.the_row instruction_sync, tt))
+
 pub text_sync : IsSync ProcessText.the_row
-text_sync = let n = names.the_sync in let bs = Vec-sync Block.the_row block_sync in let o = option.the_sync Block.the_row block_sync in
-    declared_sync ProcessText.the_type (u8, (n, (Vec-sync builtin.u16 short, (u8, (n, (n, (bs, (n, (bs, (o, (o, (block_sync, tt))))))))))))
+text_sync = let n = names.the_sync in let bs = Vec-sync FlatBlock.the_row flat_sync in let o = option.the_sync FlatBlock.the_row flat_sync in
+    declared_sync ProcessText.the_type (u8, (n, (Vec-sync builtin.u16 short, (u8, (n, (n, (bs, (n, (bs, (o, (o, (flat_sync, tt))))))))))))
 
 pub program_sync : IsSync Program.the_row
 program_sync = let n = names.the_sync in
     declared_sync Program.the_type (n, (n, (Vec-sync builtin.u16 short, (n, (Vec-sync builtin.u8 byte, (option_u8, (Vec-sync ProcessText.the_row text_sync, (Vec-sync Timer.the_row timer.the_sync, tt))))))))
 
-pub ruleset shared = (expr_sync, action_sync, block_sync, stmt_sync, text_sync, program_sync)
+pub ruleset shared = (expr_sync, action_sync, block_sync, stmt_sync, flat_sync, text_sync, program_sync)
