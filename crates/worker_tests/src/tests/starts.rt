@@ -37,7 +37,7 @@ impl Gate for Watch<'_> {
     }
 }
 
-fn watch(of: &[u16], shut: Option<u16>) -> Watch<'_> {
+fn new_watch(of: &[u16], shut: Option<u16>) -> Watch<'_> {
     Watch {
         of,
         shut,
@@ -62,7 +62,7 @@ where
     R: Threads + Wait + Sync + RandomSource + AllocGlobal,
 {
     for (run, shut) in runs {
-        let gate = watch(run.of, *shut);
+        let gate = new_watch(run.of, *shut);
         let told = told_by_workers(rt, net, sync, run, &gate)?;
         let asked = gate.starts.load(SeqCst);
         let turns = gate.own.load(SeqCst);
