@@ -10,27 +10,25 @@ use std::test::Fail;
 use std::thread::Threads;
 use window_workers::{NoGate, SyncKind};
 
-/// How many of ten runs give the report of one thread.
-fn same_of_ten<R>(rt: &R, net: &Net) -> Result<u64, AllocError>
+/// Whether each of ten runs gives the report of one thread.
+fn all_same<R>(rt: &R, net: &Net) -> Result<bool, AllocError>
 where
     R: Threads + Wait + Sync + RandomSource + AllocGlobal,
 {
-    let mut same = 0;
     for _ in 0..10u8 {
         let told = told_by_workers(rt, net, SyncKind::Marks, &by(16, &[0, 5, 10], 1), &NoGate)?;
-        if matches!(told, Outcome::Same(_)) {
-            same += 1;
+        if !matches!(told, Outcome::Same(_)) {
+            return Ok(false);
         }
     }
-    Ok(same)
+    Ok(true)
 }
 
 #[test]
 fn no_run_is_stopped(rt: HostRuntime) -> Result<(), Fail> {
     let net = read_scenario(rt.alloc(), BUSY_TRIO)?;
-    let same = same_of_ten(&rt, &net)?;
-    if same == 10 {
+    if all_same(&rt, &net)? {
         return Ok(());
     }
-    Err(Fail::new(format_args!("{same} of 10")))
+    Err(Fail::new(format_args!("one of ten runs differs")))
 }
