@@ -47,7 +47,7 @@ module _ (p : Plan) (senders : Senders p) where
     HasTurn = ((e : Event) × MayDo p senders c e) ⊎ MayLeave p c v
 
     waiting : Waits p w v → (l : List Item) → c.queued.queue v ≡ l → HasTurn
-    waiting waits [] is = inr (record { there = lv; still = still; waits = waits; empty = is; stopped = stopped })
+    waiting waits [] is = inr (record { there = lv; still = still; waits = waits; stopped = stopped })
     waiting waits (y ∷ ys) is =
         let t = takes_first p senders c.queued s.order v y ys waits is in
         inl (Take v t.0 y.what, record { still = still; may = t.1 })

@@ -1,6 +1,5 @@
--- The same where a worker may fail, or never start: it sets a flag, and a worker that waits leaves where it sees
--- that and
--- finds its queue empty.
+-- The same where a worker may fail, or never start: it sets a flag, and a worker that waits may leave from then on. It
+-- looks at its queue before it looks at the flag, so an item may have come meanwhile.
 use Rattle.std.specs.Prelude.{◌≡◌, ℕ, ◌<◌, Bool, true, false, List, [], ◌∷◌}
 use Rattle.mark_laws.specs.Queues.{Senders, Queued, start_queued, MayHappenQueued, after_queued}
 use Rattle.mark_laws.specs.Steps.{Event, worker_of, Waits}
@@ -34,7 +33,6 @@ pub record MayLeave (p : Plan) (c : Flagged) (worker : ℕ) : Type 0 where
   pub there : worker < p.workers
   pub still : c.gone worker ≡ false
   pub waits : Waits p c.queued.state worker
-  pub empty : c.queued.queue worker ≡ []
   pub stopped : c.stop ≡ true
 
 abbrev pub MayTurn : (p : Plan) → Senders p → Flagged → Turn → Type 0

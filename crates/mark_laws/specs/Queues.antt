@@ -1,6 +1,5 @@
--- The same steps with the inboxes as they are: in the one queue of a worker the items of all others lie in the
--- order in
--- which they were pushed, and it takes the oldest.
+-- The same steps with the inboxes as they are: in the one queue of a worker the items of all others lie in the order
+-- in which they were pushed, and it takes the oldest.
 use Rattle.std.specs.Prelude.{◌≡◌, ℕ, List, [], ◌∷◌, ◌++◌}
 use Rattle.copy_inbox.specs.declared.items.Carried.{Carried}
 use Rattle.copy_inbox.specs.declared.items.Item.{Item}

@@ -7,8 +7,7 @@ ghost use Rattle.mark_laws.specs.Laws.{EachTakenPasses, TwoWindowsLieThere, Queu
 ghost use Rattle.mark_laws.specs.Laws.{QueuedStuckIsAtEnd, EveryQueuedRunCanEnd, OwnOrderDoesNotStick};
 ghost use Rattle.mark_laws.specs.Laws.{TurnsAreRuns, FlaggedStuckIsOver, UnlessOneFails, TurnsAreBounded};
 
-/// Whatever turns the workers take, each has pushed the whole of the windows behind it and nothing of a window
-/// that it
+/// Whatever turns the workers take, each has pushed the whole of the windows behind it and nothing of a window that it
 /// hasn't begun, and each other has taken a beginning of that, with the marks of the windows behind itself.
 pub fn all_stand()
     ensures { AllStand }
@@ -70,11 +69,9 @@ pub fn two_windows_lie_there()
     ensures { TwoWindowsLieThere }
 {}
 
-/// The same where the items of all others lie in one queue, of which a worker takes the oldest: each run is one of
-/// the
-/// runs of the laws above; somebody can go on while a window is left; a run that can't go on has made all its
-/// steps, and
-/// every queue is empty; and every run can go on to the end.
+/// The same where the items of all others lie in one queue, of which a worker takes the oldest: each run is one of the
+/// runs of the laws above; somebody can go on while a window is left; a run that can't go on has made all its steps,
+/// and every queue is empty; and every run can go on to the end.
 pub fn queues_do_not_stick()
     ensures senders { SendersAreThere }
     ensures runs { QueuedRunsAreRuns }
@@ -85,10 +82,8 @@ pub fn queues_do_not_stick()
 {}
 
 /// The same where a worker may fail or never start, which the others see by a flag once they wait in vain: when no
-/// turn
-/// is left but a failure, each worker is gone or behind all its windows; nobody goes unless one has failed; and
-/// there are
-/// only so many turns.
+/// turn is left but a failure, each worker is gone or behind all its windows; nobody goes unless one has failed; and
+/// there are only so many turns.
 pub fn failures_do_not_stick()
     ensures runs { TurnsAreRuns }
     ensures over { FlaggedStuckIsOver }

@@ -42,10 +42,10 @@ pub fn each_packet_is_handed_on()
     // The ring takes a packet at its back where it holds fewer than 8, loses one only where it holds 8, and gives each
     // up from the front; no `deaf` line stands there for another reason.
     ensures ring { RingGoesWithLines }
-    // After a turn the ring is empty.
+    // After a turn the ring is empty, unless the mote halted in it.
     ensures emptied { TurnsEmptyRing }
-    // Each packet that was received gets one line of its own, in the same turn and in order: it is posted to the
-    // receiver (`post`), refused by a full queue (`full`), or, without a receiver, `deaf`.
+    // Unless the mote halts, each packet that was received gets one line of its own, in the same turn and in order: it
+    // is posted to the receiver (`post`), refused by a full queue (`full`), or, without a receiver, `deaf`.
     ensures packets { PacketsAreAccountedFor }
 {}
 

@@ -18,7 +18,7 @@ use Rattle.radio_packet.specs.declared.fate.Fate.{Fate}
 abbrev pub line_of : (first : List ℕ) → (others : List (List ℕ)) → List ℕ
 line_of first others = first ++ flat_map (λ w. 32 ∷ w) others ++ 10 ∷ []
 
--- The name of a process. A process that the program doesn't have, which no trace shows, has the empty word.
+-- The name of a process; that of a process that the program doesn't have is the empty word.
 abbrev pub process_word : Tree → Proc → List ℕ
 process_word t (Own p) = unwrap_or (slice_get t.processes p) []
 process_word t Etimer = codes "etimer"
@@ -30,8 +30,8 @@ abbrev pub target_word : Tree → Target → List ℕ
 target_word t (One p) = process_word t p
 target_word t All = codes "all"
 
--- The word of an event by its number, or the name under which the program declares it. An event that is none of these,
--- which no trace shows, has the empty word.
+-- The word of an event by its number, or the name under which the program declares it. An event that is none of these has
+-- the empty word.
 abbrev pub event_word : Tree → ℕ → List ℕ
 event_word t e =
     if e == system_number event.Init then system_word event.Init
