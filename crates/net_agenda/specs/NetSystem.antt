@@ -1,5 +1,5 @@
 -- The motes of a net and the medium between them.
-use Rattle.std.specs.Prelude.{ℕ, List, [], length, map, slice_get, unwrap_or, None}
+use Rattle.std.specs.Prelude.{ℕ, List, length, map, slice_get, unwrap_or}
 use Rattle.program_tree.specs.Code.{Tree}
 use Rattle.trace_lines.specs.declared.line.Line.{Line}
 use Rattle.mote_node.specs.Node.{Node, new_node}
@@ -8,26 +8,13 @@ use Rattle.mote_node.specs.Turn.{turn_of}
 use Rattle.mote_node.specs.Turn as node
 use Rattle.radio_packet.specs.declared.copy.RadioCopy.{RadioCopy}
 use Rattle.radio_medium.specs.Medium.{copies, lookahead}
-use Rattle.mote_net.specs.Net.{MoteTold, NetTold}
+use Rattle.mote_net.specs.Net.{MoteTold, NetTold, no_program}
 use Rattle.window_laws.specs.System.{System, Turned}
 use Rattle.net_agenda.specs.Arrivals.{arrival_of}
 
 -- stands for a mote past the last one, which never turns
 abbrev pub no_mote : MoteTold
-no_mote = record {
-  program = [];
-  tree = record {
-    events = [];
-    semaphores = [];
-    counts = [];
-    processes = [];
-    autostart = [];
-    receiver = None;
-    codes = [];
-    timers = [];
-  };
-  queue = 1;
-}
+no_mote = record { program = no_program.name; tree = no_program.tree; queue = 1 }
 
 abbrev pub mote_at : List MoteTold → (mote : ℕ) → MoteTold
 mote_at motes mote = unwrap_or (slice_get motes mote) no_mote

@@ -11,6 +11,7 @@ ghost use Rattle.program_text_laws.specs.Machine.{last_brace, tell, fault};
 ghost use Rattle.program_tree.specs.Program.{code_of};
 ghost use Rattle.program_tree.specs.Scope.{threads_fit, earlier_threads};
 ghost use Rattle.program_tree.specs.Shapes.{Name};
+ghost use Rattle.program_reader.specs.Kept.{HasNoOwnNames};
 ghost use Rattle.program_reader.specs.Steps.{scope_of};
 ghost use Rattle.program_tree.specs.Tokens as token;
 ghost use Rattle.program_tree.specs.FlatBlock.{tree_in};
@@ -129,10 +130,7 @@ impl Reader<'_> {
     /// What stands between the braces of a code. Its names are then in scope.
     #[tactic(auto, using(crate::proofs::ContentLaws::content_steps))]
     fn content(&mut self) -> Result<Content, Refusal>
-        requires variables { self.old.scope.variables ≡ [] }
-        requires etimers { self.old.scope.etimers ≡ [] }
-        requires ctimers { self.old.scope.ctimers ≡ [] }
-        requires threads { self.old.scope.threads ≡ [] }
+        requires { HasNoOwnNames self.old.scope }
         ensures body { IfOk result (λ c. IsWithinLimits (tree_in c.body)) }
         ensures callbacks { IfOk result (λ c. All (λ b. IsWithinLimits (tree_in b)) c.callbacks.items) }
         ensures threads { IfOk result (λ c. All (λ b. IsWithinLimits (tree_in b)) c.thread_blocks.items) }
@@ -164,10 +162,7 @@ impl Reader<'_> {
     #[tactic(auto, using(crate::proofs::MadeLaws::code_steps))]
     pub(crate) fn code(&mut self, process: usize) -> Result<ProcessText, Refusal>
         requires process { process < length self.old.scope.processes }
-        requires variables { self.old.scope.variables ≡ [] }
-        requires etimers { self.old.scope.etimers ≡ [] }
-        requires ctimers { self.old.scope.ctimers ≡ [] }
-        requires threads { self.old.scope.threads ≡ [] }
+        requires own { HasNoOwnNames self.old.scope }
         ensures ok { IfOk result (λ t. ReadsCode (slice_index_or self.old.scope.processes process []) process (code_of t)
             (scope_of self.old.scope) (scope_of self.new.scope) self.old.cursor self.new.cursor) }
         ensures err { (f : Fault) → result ≡ Err (Refusal.Fault f) → (xs : List Name) (more : machine.Pending) →

@@ -1,5 +1,5 @@
 //! The codes of a program, and the program.
-ghost use Rattle.std.specs.Prelude.{◌≡◌, ◌≤◌, ◌<◌, ◌++◌, ◌∷◌, [], length, map, replicate, List, IfOk, OnOk};
+ghost use Rattle.std.specs.Prelude.{◌≡◌, ◌<◌, ◌++◌, ◌∷◌, [], map, replicate, IfOk, OnOk};
 ghost use Rattle.program_reader.specs.Codes.{HasCodes, ReadsHead, all_timers, tree_with};
 ghost use Rattle.program_reader.specs.Head.{FailsIn};
 ghost use Rattle.program_text_laws.specs.Machine as machine;
@@ -7,6 +7,7 @@ ghost use Rattle.program_tree.specs.Faults.{nothing_yet, Scope};
 ghost use Rattle.program_tree.specs.Program.{code_of, tree_of};
 ghost use Rattle.program_tree.specs.Reading.{AreLexed, IsTreeOfTokens, IsMade};
 ghost use Rattle.program_tree.specs.Tokens.{token_of};
+ghost use Rattle.program_reader.specs.Kept.{HasNoOwnNames};
 ghost use Rattle.program_reader.specs.Steps.{scope_of};
 ghost use Rattle.program_reader.specs.declared.fault.Fault.{Fault};
 
@@ -54,10 +55,7 @@ fn timers(alloc: Global, mut codes: &[ProcessText]) -> Result<Vec<Timer>, AllocE
 impl Reader<'_> {
     /// The codes of the processes, in their order.
     fn codes(&mut self) -> Result<Vec<ProcessText>, Refusal>
-        requires variables { self.old.scope.variables ≡ [] }
-        requires etimers { self.old.scope.etimers ≡ [] }
-        requires ctimers { self.old.scope.ctimers ≡ [] }
-        requires threads { self.old.scope.threads ≡ [] }
+        requires { HasNoOwnNames self.old.scope }
         ensures ok { IfOk result (λ codes. HasCodes (map code_of codes.items) [] (scope_of self.old.scope) (scope_of self.new.scope) self.old.cursor self.new.cursor) }
         ensures err { (f : Fault) → result ≡ Err (Refusal.Fault f) → (more : machine.Pending) →
             machine.tell (scope_of self.old.scope) (machine.codes_form self.old.scope.processes more) self.old.cursor ≡ machine.fault f.kind f.left }
@@ -123,10 +121,7 @@ struct Parts {
 impl Reader<'_> {
     /// The codes, behind which the text ends.
     fn last_codes(&mut self) -> Result<Vec<ProcessText>, Refusal>
-        requires variables { self.old.scope.variables ≡ [] }
-        requires etimers { self.old.scope.etimers ≡ [] }
-        requires ctimers { self.old.scope.ctimers ≡ [] }
-        requires threads { self.old.scope.threads ≡ [] }
+        requires { HasNoOwnNames self.old.scope }
         ensures ok { IfOk result (λ codes. HasCodes (map code_of codes.items) [] (scope_of self.old.scope) (scope_of self.new.scope) self.old.cursor []) }
         ensures err { (f : Fault) → result ≡ Err (Refusal.Fault f) →
             machine.tell (scope_of self.old.scope) (machine.codes_form self.old.scope.processes []) self.old.cursor ≡ machine.fault f.kind f.left }

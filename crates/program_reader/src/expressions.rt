@@ -1,11 +1,11 @@
 //! Expressions as they are read.
 ghost use Rattle.std.specs.Prelude.{◌≡◌, ◌∷◌, [], ◌≤◌, Some, length, IfOk};
-ghost use Rattle.program_tree.specs.Grammar.{expression_marks};
+ghost use Rattle.program_reader.specs.Answers.{AnswersExpression};
 ghost use Rattle.program_reader.specs.Head.{FailsIn};
 ghost use Rattle.program_tree.specs.InScope.{name_in, number_in};
 ghost use Rattle.program_text_laws.specs.Machine.{first, expression, operator, close};
 ghost use Rattle.program_tree.specs.Scope.{expression_fits};
-ghost use Rattle.program_reader.specs.Steps.{scope_of, context_of, ReadsSign, FailsSign, Reads, Fails, Numbered, Fits};
+ghost use Rattle.program_reader.specs.Steps.{scope_of, context_of, ReadsSign, FailsSign, Numbered, Fits};
 ghost use Rattle.program_tree.specs.Tokens as token;
 ghost use Rattle.program_tree.specs.Tree.{expression_of, expression_map, binary};
 ghost use Rattle.program_reader.specs.Values.{telling_keyword, ReadsSides};
@@ -80,13 +80,7 @@ impl Reader<'_> {
     #[tactic(auto, using(crate::proofs::ExpressionSteps::word_steps))]
     fn told(&mut self, place: &Context, telling: Telling) -> Result<Expr, Refusal>
         requires here { first self.old.cursor ≡ Some (token.Keyword (telling_keyword telling)) }
-        ensures no_longer { length self.new.cursor ≤ length self.old.cursor }
-        ensures same { self.new.scope ≡ self.old.scope }
-        ensures ok { IfOk result (λ e. Reads (scope_of self.old.scope) (scope_of self.old.scope) (expression (context_of place.now))
-            (λ n ms. expression_marks (context_of place.now) (expression_map (name_in n) (expression_of e)) ms) self.old.cursor self.new.cursor) }
-        ensures numbered { IfOk result (λ e. Numbered (scope_of self.old.scope).names (λ n. expression_map (number_in n) (expression_map (name_in n) (expression_of e))) (expression_of e)) }
-        ensures fits { IfOk result (λ e. Fits (scope_of self.old.scope).names (context_of place.now).thread (λ w. expression_fits w (expression_of e))) }
-        ensures err { Fails (scope_of self.old.scope) (expression (context_of place.now)) self.old.cursor result }
+        ensures { AnswersExpression self.old self.new place.now result }
     {
         let class = telling.class();
         self.cursor.advance();
@@ -100,13 +94,7 @@ impl Reader<'_> {
     #[tactic(auto, using(crate::proofs::ExpressionSteps::word_steps))]
     fn is(&mut self, place: &Context) -> Result<Expr, Refusal>
         requires here { first self.old.cursor ≡ Some (token.Keyword Keyword.Is) }
-        ensures no_longer { length self.new.cursor ≤ length self.old.cursor }
-        ensures same { self.new.scope ≡ self.old.scope }
-        ensures ok { IfOk result (λ e. Reads (scope_of self.old.scope) (scope_of self.old.scope) (expression (context_of place.now))
-            (λ n ms. expression_marks (context_of place.now) (expression_map (name_in n) (expression_of e)) ms) self.old.cursor self.new.cursor) }
-        ensures numbered { IfOk result (λ e. Numbered (scope_of self.old.scope).names (λ n. expression_map (number_in n) (expression_map (name_in n) (expression_of e))) (expression_of e)) }
-        ensures fits { IfOk result (λ e. Fits (scope_of self.old.scope).names (context_of place.now).thread (λ w. expression_fits w (expression_of e))) }
-        ensures err { Fails (scope_of self.old.scope) (expression (context_of place.now)) self.old.cursor result }
+        ensures { AnswersExpression self.old self.new place.now result }
     {
         self.cursor.advance();
         self.cursor.sign(Sign::Open)?;
@@ -119,13 +107,7 @@ impl Reader<'_> {
     #[tactic(auto, using(crate::proofs::ValueLaws::no_word))]
     fn word(&mut self, place: &Context, keyword: Keyword) -> Result<Expr, Refusal>
         requires here { first self.old.cursor ≡ Some (token.Keyword keyword) }
-        ensures no_longer { length self.new.cursor ≤ length self.old.cursor }
-        ensures same { self.new.scope ≡ self.old.scope }
-        ensures ok { IfOk result (λ e. Reads (scope_of self.old.scope) (scope_of self.old.scope) (expression (context_of place.now))
-            (λ n ms. expression_marks (context_of place.now) (expression_map (name_in n) (expression_of e)) ms) self.old.cursor self.new.cursor) }
-        ensures numbered { IfOk result (λ e. Numbered (scope_of self.old.scope).names (λ n. expression_map (number_in n) (expression_map (name_in n) (expression_of e))) (expression_of e)) }
-        ensures fits { IfOk result (λ e. Fits (scope_of self.old.scope).names (context_of place.now).thread (λ w. expression_fits w (expression_of e))) }
-        ensures err { Fails (scope_of self.old.scope) (expression (context_of place.now)) self.old.cursor result }
+        ensures { AnswersExpression self.old self.new place.now result }
     {
         match ValueWord::of(keyword) {
             Some(ValueWord::Alone(alone)) => {
@@ -144,13 +126,7 @@ impl Reader<'_> {
     fn negation(&mut self, place: &Context) -> Result<Expr, Refusal>
         requires shallow { place.now.level ≤ LEVELS }
         requires here { first self.old.cursor ≡ Some token.Bang }
-        ensures no_longer { length self.new.cursor ≤ length self.old.cursor }
-        ensures same { self.new.scope ≡ self.old.scope }
-        ensures ok { IfOk result (λ e. Reads (scope_of self.old.scope) (scope_of self.old.scope) (expression (context_of place.now))
-            (λ n ms. expression_marks (context_of place.now) (expression_map (name_in n) (expression_of e)) ms) self.old.cursor self.new.cursor) }
-        ensures numbered { IfOk result (λ e. Numbered (scope_of self.old.scope).names (λ n. expression_map (number_in n) (expression_map (name_in n) (expression_of e))) (expression_of e)) }
-        ensures fits { IfOk result (λ e. Fits (scope_of self.old.scope).names (context_of place.now).thread (λ w. expression_fits w (expression_of e))) }
-        ensures err { Fails (scope_of self.old.scope) (expression (context_of place.now)) self.old.cursor result }
+        ensures { AnswersExpression self.old self.new place.now result }
     {
         if place.level == LEVELS {
             return Err(self.cursor.fault(ReadErrorKind::TooDeep));
@@ -190,13 +166,7 @@ impl Reader<'_> {
     fn binary(&mut self, place: &Context) -> Result<Expr, Refusal>
         requires shallow { place.now.level ≤ LEVELS }
         requires here { first self.old.cursor ≡ Some token.Open }
-        ensures no_longer { length self.new.cursor ≤ length self.old.cursor }
-        ensures same { self.new.scope ≡ self.old.scope }
-        ensures ok { IfOk result (λ e. Reads (scope_of self.old.scope) (scope_of self.old.scope) (expression (context_of place.now))
-            (λ n ms. expression_marks (context_of place.now) (expression_map (name_in n) (expression_of e)) ms) self.old.cursor self.new.cursor) }
-        ensures numbered { IfOk result (λ e. Numbered (scope_of self.old.scope).names (λ n. expression_map (number_in n) (expression_map (name_in n) (expression_of e))) (expression_of e)) }
-        ensures fits { IfOk result (λ e. Fits (scope_of self.old.scope).names (context_of place.now).thread (λ w. expression_fits w (expression_of e))) }
-        ensures err { Fails (scope_of self.old.scope) (expression (context_of place.now)) self.old.cursor result }
+        ensures { AnswersExpression self.old self.new place.now result }
     {
         if place.level == LEVELS {
             return Err(self.cursor.fault(ReadErrorKind::TooDeep));
@@ -211,13 +181,7 @@ impl Reader<'_> {
     #[tactic(auto, using(crate::proofs::ExpressionSteps::variable_start))]
     pub(crate) fn expression(&mut self, place: &Context) -> Result<Expr, Refusal>
         requires shallow { place.now.level ≤ LEVELS }
-        ensures no_longer { length self.new.cursor ≤ length self.old.cursor }
-        ensures same { self.new.scope ≡ self.old.scope }
-        ensures ok { IfOk result (λ e. Reads (scope_of self.old.scope) (scope_of self.old.scope) (expression (context_of place.now))
-            (λ n ms. expression_marks (context_of place.now) (expression_map (name_in n) (expression_of e)) ms) self.old.cursor self.new.cursor) }
-        ensures numbered { IfOk result (λ e. Numbered (scope_of self.old.scope).names (λ n. expression_map (number_in n) (expression_map (name_in n) (expression_of e))) (expression_of e)) }
-        ensures fits { IfOk result (λ e. Fits (scope_of self.old.scope).names (context_of place.now).thread (λ w. expression_fits w (expression_of e))) }
-        ensures err { Fails (scope_of self.old.scope) (expression (context_of place.now)) self.old.cursor result }
+        ensures { AnswersExpression self.old self.new place.now result }
     {
         match self.cursor.peek() {
             Some(Token::Number(number)) => {

@@ -3,6 +3,7 @@ ghost use Rattle.std.specs.Prelude.{◌≡◌, ◌≤◌, Some, ◌∷◌, [], l
 ghost use Rattle.program_tree.specs.Grammar.{event_marks, semaphore_marks, variable_marks, etimer_marks};
 ghost use Rattle.program_reader.specs.Head.{FailsIn, ReadsNames, ReadsValues};
 ghost use Rattle.program_text_laws.specs.Machine.{first, from_events, from_semaphores, from_variables, from_etimers, from_ctimers};
+ghost use Rattle.program_reader.specs.Kept.{KeepsTimers};
 ghost use Rattle.program_reader.specs.Steps.{scope_of};
 ghost use Rattle.program_tree.specs.Tokens as token;
 ghost use Rattle.program_tree.specs.Tree.{an_event, a_semaphore, a_variable, a_timer};
@@ -46,8 +47,7 @@ impl Reader<'_> {
     #[tactic(auto, using(crate::proofs::ListLaws::variables_steps))]
     pub(crate) fn variables(&mut self) -> Result<Vec<u16>, Refusal>
         ensures no_longer { OnOk result (length self.new.cursor ≤ length self.old.cursor) }
-        ensures etimers { OnOk result (self.new.scope.etimers ≡ self.old.scope.etimers) }
-        ensures ctimers { OnOk result (self.new.scope.ctimers ≡ self.old.scope.ctimers) }
+        ensures timers { OnOk result (KeepsTimers self.old.scope self.new.scope) }
         ensures ok { IfOk result (λ values. ReadsValues a_variable from_variables from_etimers variable_marks values.items (scope_of self.old.scope) (scope_of self.new.scope) self.old.cursor self.new.cursor) }
         ensures err { FailsIn (scope_of self.old.scope) (from_variables ∷ []) self.old.cursor result }
     {

@@ -9,6 +9,7 @@ ghost use Rattle.program_reader.specs.Head.{FailsIn};
 ghost use Rattle.program_text_laws.specs.Machine as machine;
 ghost use Rattle.program_text_laws.specs.Machine.{new_name};
 ghost use Rattle.program_tree.specs.Scope.{block_fits, threads_fit, earlier_threads};
+ghost use Rattle.program_reader.specs.Kept.{KeepsTimers};
 ghost use Rattle.program_reader.specs.Steps.{scope_of, context_of, fixed, Reads, Fails, Numbered, Fits};
 ghost use Rattle.program_tree.specs.FlatBlock.{tree_in};
 ghost use Rattle.program_tree.specs.Tree.{a_timer, a_thread, body_map, IsWithinLimits};
@@ -84,8 +85,7 @@ impl Reader<'_> {
     #[tactic(auto, using(crate::proofs::BlockLaws::thread_steps))]
     fn thread(&mut self) -> Result<FlatBlock, Refusal>
         ensures no_longer { OnOk result (length self.new.cursor ≤ length self.old.cursor) }
-        ensures etimers { OnOk result (self.new.scope.etimers ≡ self.old.scope.etimers) }
-        ensures ctimers { OnOk result (self.new.scope.ctimers ≡ self.old.scope.ctimers) }
+        ensures timers { OnOk result (KeepsTimers self.old.scope self.new.scope) }
         ensures within { IfOk result (λ b. IsWithinLimits (tree_in b)) }
         ensures earlier { IfOk result (λ b. block_fits (earlier_threads (length self.old.scope.threads)) (tree_in b) ≡ true) }
         ensures ok { IfOk result (λ b. IsNamedBlock a_thread (λ f. machine.new_thread ∷ f) at_thread (tree_in b)
@@ -109,8 +109,7 @@ impl Reader<'_> {
     pub(crate) fn threads(&mut self) -> Result<Vec<FlatBlock>, Refusal>
         requires { self.old.scope.threads ≡ [] }
         ensures no_longer { OnOk result (length self.new.cursor ≤ length self.old.cursor) }
-        ensures etimers { OnOk result (self.new.scope.etimers ≡ self.old.scope.etimers) }
-        ensures ctimers { OnOk result (self.new.scope.ctimers ≡ self.old.scope.ctimers) }
+        ensures timers { OnOk result (KeepsTimers self.old.scope self.new.scope) }
         ensures within { IfOk result (λ blocks. All (λ b. IsWithinLimits (tree_in b)) blocks.items) }
         ensures earlier { IfOk result (λ blocks. threads_fit earlier_threads 0 (map tree_in blocks.items) ≡ true) }
         ensures ok { IfOk result (λ blocks. ReadsBlocks a_thread machine.from_threads machine.from_on_poll thread_marks (map tree_in blocks.items)

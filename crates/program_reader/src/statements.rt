@@ -1,15 +1,16 @@
 //! Statements and blocks as they are read.
 ghost use Rattle.std.specs.Prelude.{◌≡◌, ◌+◌, ◌≤◌, ◌<◌, false, ◌&&◌, drop, length, IfOk, OnOk, Some};
 ghost use Rattle.std.proofs.Common.{option_map};
+ghost use Rattle.program_reader.specs.Answers.{AnswersAction, AnswersStatement};
 ghost use Rattle.program_tree.specs.Forms.{beginning, waits};
-ghost use Rattle.program_tree.specs.Grammar.{into_marks, action_marks, statement_marks, else_marks, block_marks};
+ghost use Rattle.program_tree.specs.Grammar.{into_marks, else_marks, block_marks};
 ghost use Rattle.program_tree.specs.InScope.{name_in, number_in};
 ghost use Rattle.program_text_laws.specs.Machine.{first, into_end, items, items_else, block};
 ghost use Rattle.program_reader.specs.Plain.{BeginsPlain, bare_keyword, valued_keyword, about_keyword};
-ghost use Rattle.program_tree.specs.Scope.{into_fits, action_fits, statement_fits, other_fits, block_fits};
-ghost use Rattle.program_reader.specs.Steps.{scope_of, context_of, fixed, IsStatement, IsPlain, IsInside, Begins, Finds, IsTarget, Reads, ReadsStatement, ReadsElse, Fails, Numbered, Fits};
+ghost use Rattle.program_tree.specs.Scope.{into_fits, other_fits, block_fits};
+ghost use Rattle.program_reader.specs.Steps.{scope_of, context_of, fixed, IsStatement, IsPlain, IsInside, Begins, Finds, IsTarget, Reads, ReadsElse, Fails, Numbered, Fits};
 ghost use Rattle.program_tree.specs.Tokens as token;
-ghost use Rattle.program_tree.specs.Tree.{a_variable, action_of, action_map, statement_of, statement_map, block_of, body_map, otherwise_of, otherwise_map, height, inner_height, other_height, size, inner_size, other_size};
+ghost use Rattle.program_tree.specs.Tree.{a_variable, block_of, body_map, otherwise_of, otherwise_map, height, other_height, size, other_size};
 
 use crate::cursor::Sign;
 use crate::fault::Refusal;
@@ -144,14 +145,7 @@ impl Reader<'_> {
     /// A statement that is its keyword alone.
     fn bare(&mut self, place: &Context, bare: Bare) -> Result<Action, Refusal>
         requires here { first self.old.cursor ≡ Some (token.Keyword (bare_keyword bare)) }
-        ensures names { fixed self.new.scope ≡ fixed self.old.scope }
-        ensures shorter { OnOk result (length self.new.cursor < length self.old.cursor) }
-        ensures counts { OnOk result (self.old.scope.statements < self.new.scope.statements) }
-        ensures ok { IfOk result (λ a. ReadsStatement (scope_of self.old.scope) (scope_of self.new.scope) (context_of place.now)
-            (λ n ms. action_marks (context_of place.now) (action_map (name_in n) (action_of a)) ms) self.old.cursor self.new.cursor) }
-        ensures numbered { IfOk result (λ a. Numbered (scope_of self.old.scope).names (λ n. action_map (number_in n) (action_map (name_in n) (action_of a))) (action_of a)) }
-        ensures fits { IfOk result (λ a. Fits (scope_of self.old.scope).names (context_of place.now).thread (λ w. action_fits w (action_of a))) }
-        ensures err { Fails (scope_of self.old.scope) (items (context_of place.now)) self.old.cursor result }
+        ensures { AnswersAction self.old self.new place.now result }
     {
         self.begin(place, bare.keyword())?;
         self.cursor.sign(Sign::Semicolon)?;
@@ -162,14 +156,7 @@ impl Reader<'_> {
     fn valued(&mut self, place: &Context, valued: Valued) -> Result<Action, Refusal>
         requires shallow { place.now.level ≤ LEVELS }
         requires here { first self.old.cursor ≡ Some (token.Keyword (valued_keyword valued)) }
-        ensures names { fixed self.new.scope ≡ fixed self.old.scope }
-        ensures shorter { OnOk result (length self.new.cursor < length self.old.cursor) }
-        ensures counts { OnOk result (self.old.scope.statements < self.new.scope.statements) }
-        ensures ok { IfOk result (λ a. ReadsStatement (scope_of self.old.scope) (scope_of self.new.scope) (context_of place.now)
-            (λ n ms. action_marks (context_of place.now) (action_map (name_in n) (action_of a)) ms) self.old.cursor self.new.cursor) }
-        ensures numbered { IfOk result (λ a. Numbered (scope_of self.old.scope).names (λ n. action_map (number_in n) (action_map (name_in n) (action_of a))) (action_of a)) }
-        ensures fits { IfOk result (λ a. Fits (scope_of self.old.scope).names (context_of place.now).thread (λ w. action_fits w (action_of a))) }
-        ensures err { Fails (scope_of self.old.scope) (items (context_of place.now)) self.old.cursor result }
+        ensures { AnswersAction self.old self.new place.now result }
     {
         self.begin(place, valued.keyword())?;
         let value = self.expression(place)?;
@@ -180,14 +167,7 @@ impl Reader<'_> {
     /// A statement that is its keyword and a name.
     fn about(&mut self, place: &Context, about: About) -> Result<Action, Refusal>
         requires here { first self.old.cursor ≡ Some (token.Keyword (about_keyword about)) }
-        ensures names { fixed self.new.scope ≡ fixed self.old.scope }
-        ensures shorter { OnOk result (length self.new.cursor < length self.old.cursor) }
-        ensures counts { OnOk result (self.old.scope.statements < self.new.scope.statements) }
-        ensures ok { IfOk result (λ a. ReadsStatement (scope_of self.old.scope) (scope_of self.new.scope) (context_of place.now)
-            (λ n ms. action_marks (context_of place.now) (action_map (name_in n) (action_of a)) ms) self.old.cursor self.new.cursor) }
-        ensures numbered { IfOk result (λ a. Numbered (scope_of self.old.scope).names (λ n. action_map (number_in n) (action_map (name_in n) (action_of a))) (action_of a)) }
-        ensures fits { IfOk result (λ a. Fits (scope_of self.old.scope).names (context_of place.now).thread (λ w. action_fits w (action_of a))) }
-        ensures err { Fails (scope_of self.old.scope) (items (context_of place.now)) self.old.cursor result }
+        ensures { AnswersAction self.old self.new place.now result }
     {
         self.begin(place, about.keyword())?;
         let number = self.name(place, about.class())?;
@@ -198,14 +178,7 @@ impl Reader<'_> {
     fn post(&mut self, place: &Context) -> Result<Action, Refusal>
         requires shallow { place.now.level ≤ LEVELS }
         requires here { first self.old.cursor ≡ Some (token.Keyword Keyword.Post) }
-        ensures names { fixed self.new.scope ≡ fixed self.old.scope }
-        ensures shorter { OnOk result (length self.new.cursor < length self.old.cursor) }
-        ensures counts { OnOk result (self.old.scope.statements < self.new.scope.statements) }
-        ensures ok { IfOk result (λ a. ReadsStatement (scope_of self.old.scope) (scope_of self.new.scope) (context_of place.now)
-            (λ n ms. action_marks (context_of place.now) (action_map (name_in n) (action_of a)) ms) self.old.cursor self.new.cursor) }
-        ensures numbered { IfOk result (λ a. Numbered (scope_of self.old.scope).names (λ n. action_map (number_in n) (action_map (name_in n) (action_of a))) (action_of a)) }
-        ensures fits { IfOk result (λ a. Fits (scope_of self.old.scope).names (context_of place.now).thread (λ w. action_fits w (action_of a))) }
-        ensures err { Fails (scope_of self.old.scope) (items (context_of place.now)) self.old.cursor result }
+        ensures { AnswersAction self.old self.new place.now result }
     {
         self.begin(place, Keyword::Post)?;
         let process = self.name(place, Class::Process)?;
@@ -218,14 +191,7 @@ impl Reader<'_> {
     fn broadcast(&mut self, place: &Context) -> Result<Action, Refusal>
         requires shallow { place.now.level ≤ LEVELS }
         requires here { first self.old.cursor ≡ Some (token.Keyword Keyword.Broadcast) }
-        ensures names { fixed self.new.scope ≡ fixed self.old.scope }
-        ensures shorter { OnOk result (length self.new.cursor < length self.old.cursor) }
-        ensures counts { OnOk result (self.old.scope.statements < self.new.scope.statements) }
-        ensures ok { IfOk result (λ a. ReadsStatement (scope_of self.old.scope) (scope_of self.new.scope) (context_of place.now)
-            (λ n ms. action_marks (context_of place.now) (action_map (name_in n) (action_of a)) ms) self.old.cursor self.new.cursor) }
-        ensures numbered { IfOk result (λ a. Numbered (scope_of self.old.scope).names (λ n. action_map (number_in n) (action_map (name_in n) (action_of a))) (action_of a)) }
-        ensures fits { IfOk result (λ a. Fits (scope_of self.old.scope).names (context_of place.now).thread (λ w. action_fits w (action_of a))) }
-        ensures err { Fails (scope_of self.old.scope) (items (context_of place.now)) self.old.cursor result }
+        ensures { AnswersAction self.old self.new place.now result }
     {
         self.begin(place, Keyword::Broadcast)?;
         let event = self.cast(place)?;
@@ -237,14 +203,7 @@ impl Reader<'_> {
     fn synch(&mut self, place: &Context) -> Result<Action, Refusal>
         requires shallow { place.now.level ≤ LEVELS }
         requires here { first self.old.cursor ≡ Some (token.Keyword Keyword.Synch) }
-        ensures names { fixed self.new.scope ≡ fixed self.old.scope }
-        ensures shorter { OnOk result (length self.new.cursor < length self.old.cursor) }
-        ensures counts { OnOk result (self.old.scope.statements < self.new.scope.statements) }
-        ensures ok { IfOk result (λ a. ReadsStatement (scope_of self.old.scope) (scope_of self.new.scope) (context_of place.now)
-            (λ n ms. action_marks (context_of place.now) (action_map (name_in n) (action_of a)) ms) self.old.cursor self.new.cursor) }
-        ensures numbered { IfOk result (λ a. Numbered (scope_of self.old.scope).names (λ n. action_map (number_in n) (action_map (name_in n) (action_of a))) (action_of a)) }
-        ensures fits { IfOk result (λ a. Fits (scope_of self.old.scope).names (context_of place.now).thread (λ w. action_fits w (action_of a))) }
-        ensures err { Fails (scope_of self.old.scope) (items (context_of place.now)) self.old.cursor result }
+        ensures { AnswersAction self.old self.new place.now result }
     {
         self.begin(place, Keyword::Synch)?;
         let process = self.name(place, Class::Process)?;
@@ -257,14 +216,7 @@ impl Reader<'_> {
     fn set(&mut self, place: &Context) -> Result<Action, Refusal>
         requires shallow { place.now.level ≤ LEVELS }
         requires here { first self.old.cursor ≡ Some (token.Keyword Keyword.Set) }
-        ensures names { fixed self.new.scope ≡ fixed self.old.scope }
-        ensures shorter { OnOk result (length self.new.cursor < length self.old.cursor) }
-        ensures counts { OnOk result (self.old.scope.statements < self.new.scope.statements) }
-        ensures ok { IfOk result (λ a. ReadsStatement (scope_of self.old.scope) (scope_of self.new.scope) (context_of place.now)
-            (λ n ms. action_marks (context_of place.now) (action_map (name_in n) (action_of a)) ms) self.old.cursor self.new.cursor) }
-        ensures numbered { IfOk result (λ a. Numbered (scope_of self.old.scope).names (λ n. action_map (number_in n) (action_map (name_in n) (action_of a))) (action_of a)) }
-        ensures fits { IfOk result (λ a. Fits (scope_of self.old.scope).names (context_of place.now).thread (λ w. action_fits w (action_of a))) }
-        ensures err { Fails (scope_of self.old.scope) (items (context_of place.now)) self.old.cursor result }
+        ensures { AnswersAction self.old self.new place.now result }
     {
         self.begin(place, Keyword::Set)?;
         let timer = self.name(place, Class::Timer)?;
@@ -276,14 +228,7 @@ impl Reader<'_> {
     fn assign(&mut self, place: &Context, name: &str) -> Result<Action, Refusal>
         requires shallow { place.now.level ≤ LEVELS }
         requires here { first self.old.cursor ≡ Some (token.Name name.now) }
-        ensures names { fixed self.new.scope ≡ fixed self.old.scope }
-        ensures shorter { OnOk result (length self.new.cursor < length self.old.cursor) }
-        ensures counts { OnOk result (self.old.scope.statements < self.new.scope.statements) }
-        ensures ok { IfOk result (λ a. ReadsStatement (scope_of self.old.scope) (scope_of self.new.scope) (context_of place.now)
-            (λ n ms. action_marks (context_of place.now) (action_map (name_in n) (action_of a)) ms) self.old.cursor self.new.cursor) }
-        ensures numbered { IfOk result (λ a. Numbered (scope_of self.old.scope).names (λ n. action_map (number_in n) (action_map (name_in n) (action_of a))) (action_of a)) }
-        ensures fits { IfOk result (λ a. Fits (scope_of self.old.scope).names (context_of place.now).thread (λ w. action_fits w (action_of a))) }
-        ensures err { Fails (scope_of self.old.scope) (items (context_of place.now)) self.old.cursor result }
+        ensures { AnswersAction self.old self.new place.now result }
     {
         let variable = self.target(place, name)?;
         self.cursor.sign(Sign::Equals)?;
@@ -298,14 +243,7 @@ impl Reader<'_> {
         requires shallow { place.now.level ≤ LEVELS }
         requires here { first self.old.cursor ≡ Some (token.Keyword keyword) }
         requires plain { IsPlain (beginning keyword) }
-        ensures names { fixed self.new.scope ≡ fixed self.old.scope }
-        ensures shorter { OnOk result (length self.new.cursor < length self.old.cursor) }
-        ensures counts { OnOk result (self.old.scope.statements < self.new.scope.statements) }
-        ensures ok { IfOk result (λ a. ReadsStatement (scope_of self.old.scope) (scope_of self.new.scope) (context_of place.now)
-            (λ n ms. action_marks (context_of place.now) (action_map (name_in n) (action_of a)) ms) self.old.cursor self.new.cursor) }
-        ensures numbered { IfOk result (λ a. Numbered (scope_of self.old.scope).names (λ n. action_map (number_in n) (action_map (name_in n) (action_of a))) (action_of a)) }
-        ensures fits { IfOk result (λ a. Fits (scope_of self.old.scope).names (context_of place.now).thread (λ w. action_fits w (action_of a))) }
-        ensures err { Fails (scope_of self.old.scope) (items (context_of place.now)) self.old.cursor result }
+        ensures { AnswersAction self.old self.new place.now result }
     {
         match Plain::of(keyword) {
             Some(Plain::Bare(bare)) => self.bare(place, bare),
@@ -323,14 +261,7 @@ impl Reader<'_> {
     fn plain(&mut self, place: &Context) -> Result<Action, Refusal>
         requires shallow { place.now.level ≤ LEVELS }
         requires plain { BeginsPlain (first self.old.cursor) }
-        ensures names { fixed self.new.scope ≡ fixed self.old.scope }
-        ensures shorter { OnOk result (length self.new.cursor < length self.old.cursor) }
-        ensures counts { OnOk result (self.old.scope.statements < self.new.scope.statements) }
-        ensures ok { IfOk result (λ a. ReadsStatement (scope_of self.old.scope) (scope_of self.new.scope) (context_of place.now)
-            (λ n ms. action_marks (context_of place.now) (action_map (name_in n) (action_of a)) ms) self.old.cursor self.new.cursor) }
-        ensures numbered { IfOk result (λ a. Numbered (scope_of self.old.scope).names (λ n. action_map (number_in n) (action_map (name_in n) (action_of a))) (action_of a)) }
-        ensures fits { IfOk result (λ a. Fits (scope_of self.old.scope).names (context_of place.now).thread (λ w. action_fits w (action_of a))) }
-        ensures err { Fails (scope_of self.old.scope) (items (context_of place.now)) self.old.cursor result }
+        ensures { AnswersAction self.old self.new place.now result }
     {
         match self.cursor.peek() {
             Some(Token::Name(name)) => self.assign(place, name),
@@ -343,15 +274,7 @@ impl Reader<'_> {
     fn branch(&mut self, place: &Context) -> Result<Stmt, Refusal>
         requires low { place.now.level ≤ LEVELS }
         requires here { first self.old.cursor ≡ Some (token.Keyword Keyword.If) }
-        ensures names { fixed self.new.scope ≡ fixed self.old.scope }
-        ensures shorter { OnOk result (length self.new.cursor < length self.old.cursor) }
-        ensures ok { IfOk result (λ s. ReadsStatement (scope_of self.old.scope) (scope_of self.new.scope) (context_of place.now)
-            (λ n ms. statement_marks (context_of place.now) (statement_map (name_in n) (statement_of s)) ms) self.old.cursor self.new.cursor) }
-        ensures numbered { IfOk result (λ s. Numbered (scope_of self.old.scope).names (λ n. statement_map (number_in n) (statement_map (name_in n) (statement_of s))) (statement_of s)) }
-        ensures fits { IfOk result (λ s. Fits (scope_of self.old.scope).names (context_of place.now).thread (λ w. statement_fits w (statement_of s))) }
-        ensures shallow { IfOk result (λ s. place.now.level + inner_height (statement_of s) ≤ LEVELS) }
-        ensures counts { IfOk result (λ s. inner_size (statement_of s) + self.old.scope.statements < self.new.scope.statements) }
-        ensures err { Fails (scope_of self.old.scope) (items (context_of place.now)) self.old.cursor result }
+        ensures { AnswersStatement self.old self.new place.now result }
     {
         self.begin(place, Keyword::If)?;
         let test = self.expression(place)?;
@@ -364,15 +287,7 @@ impl Reader<'_> {
     fn repeat(&mut self, place: &Context) -> Result<Stmt, Refusal>
         requires low { place.now.level ≤ LEVELS }
         requires here { first self.old.cursor ≡ Some (token.Keyword Keyword.While) }
-        ensures names { fixed self.new.scope ≡ fixed self.old.scope }
-        ensures shorter { OnOk result (length self.new.cursor < length self.old.cursor) }
-        ensures ok { IfOk result (λ s. ReadsStatement (scope_of self.old.scope) (scope_of self.new.scope) (context_of place.now)
-            (λ n ms. statement_marks (context_of place.now) (statement_map (name_in n) (statement_of s)) ms) self.old.cursor self.new.cursor) }
-        ensures numbered { IfOk result (λ s. Numbered (scope_of self.old.scope).names (λ n. statement_map (number_in n) (statement_map (name_in n) (statement_of s))) (statement_of s)) }
-        ensures fits { IfOk result (λ s. Fits (scope_of self.old.scope).names (context_of place.now).thread (λ w. statement_fits w (statement_of s))) }
-        ensures shallow { IfOk result (λ s. place.now.level + inner_height (statement_of s) ≤ LEVELS) }
-        ensures counts { IfOk result (λ s. inner_size (statement_of s) + self.old.scope.statements < self.new.scope.statements) }
-        ensures err { Fails (scope_of self.old.scope) (items (context_of place.now)) self.old.cursor result }
+        ensures { AnswersStatement self.old self.new place.now result }
     {
         self.begin(place, Keyword::While)?;
         let test = self.expression(place)?;
@@ -385,15 +300,7 @@ impl Reader<'_> {
     fn statement(&mut self, place: &Context) -> Result<Stmt, Refusal>
         requires low { place.now.level ≤ LEVELS }
         requires inside { IsInside (first self.old.cursor) }
-        ensures names { fixed self.new.scope ≡ fixed self.old.scope }
-        ensures shorter { OnOk result (length self.new.cursor < length self.old.cursor) }
-        ensures ok { IfOk result (λ s. ReadsStatement (scope_of self.old.scope) (scope_of self.new.scope) (context_of place.now)
-            (λ n ms. statement_marks (context_of place.now) (statement_map (name_in n) (statement_of s)) ms) self.old.cursor self.new.cursor) }
-        ensures numbered { IfOk result (λ s. Numbered (scope_of self.old.scope).names (λ n. statement_map (number_in n) (statement_map (name_in n) (statement_of s))) (statement_of s)) }
-        ensures fits { IfOk result (λ s. Fits (scope_of self.old.scope).names (context_of place.now).thread (λ w. statement_fits w (statement_of s))) }
-        ensures shallow { IfOk result (λ s. place.now.level + inner_height (statement_of s) ≤ LEVELS) }
-        ensures counts { IfOk result (λ s. inner_size (statement_of s) + self.old.scope.statements < self.new.scope.statements) }
-        ensures err { Fails (scope_of self.old.scope) (items (context_of place.now)) self.old.cursor result }
+        ensures { AnswersStatement self.old self.new place.now result }
     {
         match self.cursor.peek() {
             Some(Token::Keyword(Keyword::If)) => self.branch(place),

@@ -1,18 +1,22 @@
-use Rattle.std.proofs.Common.{◌<◌, ap, arith}
+use Rattle.std.proofs.Common.{◌<◌, ap, arith, rules}
 use Rattle.program_reader.specs.Steps.{scope_of}
 use Rattle.program_tree.specs.Tree.{expression_of, negation}
 use Rattle.program_reader.proofs.Runs.{same_names, renumbered, refitted}
 use Rattle.program_reader.proofs.ValueLaws.{negation_reads, negation_numbered, sides_read, binary_reads, binary_numbered}
 use Rattle.program_reader.proofs.reader.Reader.+expression.Goals as goal
 
-pub negation-returns-clause-ok : goal.negation-returns-clause-ok
-negation-returns-clause-ok t c =
-    let low : c.args.place.now.level < 32 = omega (arith, c.requires.shallow, c.if-place-eq-LEVELS.false) in
-    negation_reads _ _ _ (negation (expression_of c.in_ok-new.field-0.value)) _ _ _ _ c.inner.ensures.context (ap (λ e. negation (expression_of e)) c.in_ok-new.ensures.ok) c.requires.here low c.advance.ensures c.in_ok-operand.ensures.ok
-
-pub negation-returns-clause-numbered : goal.negation-returns-clause-numbered
-negation-returns-clause-numbered t c =
-    negation_numbered _ (negation (expression_of c.in_ok-new.field-0.value)) _ (ap (λ e. negation (expression_of e)) c.in_ok-new.ensures.ok) c.in_ok-operand.ensures.numbered
+pub negation-returns : goal.negation-returns
+negation-returns t c = record {
+  no_longer = search rules;
+  same = search rules;
+  ok =
+      let low : c.args.place.now.level < 32 = omega (arith, c.requires.shallow, c.if-place-eq-LEVELS.false) in
+      negation_reads _ _ _ (negation (expression_of c.in_ok-new.field-0.value)) _ _ _ _ c.inner.ensures.context (ap (λ e. negation (expression_of e)) c.in_ok-new.ensures.ok) c.requires.here low c.advance.ensures c.in_ok-operand.ensures.ok;
+  numbered =
+      negation_numbered _ (negation (expression_of c.in_ok-new.field-0.value)) _ (ap (λ e. negation (expression_of e)) c.in_ok-new.ensures.ok) c.in_ok-operand.ensures.numbered;
+  fits = search rules;
+  err = search rules;
+}
 
 pub sides-returns-clause-ok : goal.sides-returns-clause-ok
 sides-returns-clause-ok t c =
@@ -24,10 +28,14 @@ sides-returns-clause-right_numbered t c = renumbered _ _ _ _ (same_names _ _ c.i
 pub sides-returns-clause-right_fits : goal.sides-returns-clause-right_fits
 sides-returns-clause-right_fits t c = refitted _ _ _ _ (same_names _ _ c.in_ok-left.ensures.same) c.in_ok-right.ensures.fits
 
-pub binary-returns-clause-ok : goal.binary-returns-clause-ok
-binary-returns-clause-ok t c =
-    let low : c.args.place.now.level < 32 = omega (arith, c.requires.shallow, c.if-place-eq-LEVELS.false) in
-    binary_reads _ _ _ _ _ _ _ _ _ _ c.inner.ensures.context c.in_ok-joined.ensures c.requires.here low c.advance.ensures c.in_ok-sides.ensures.ok
-
-pub binary-returns-clause-numbered : goal.binary-returns-clause-numbered
-binary-returns-clause-numbered t c = binary_numbered _ _ _ _ _ c.in_ok-joined.ensures c.in_ok-sides.ensures.left_numbered c.in_ok-sides.ensures.right_numbered
+pub binary-returns : goal.binary-returns
+binary-returns t c = record {
+  no_longer = search rules;
+  same = search rules;
+  ok =
+      let low : c.args.place.now.level < 32 = omega (arith, c.requires.shallow, c.if-place-eq-LEVELS.false) in
+      binary_reads _ _ _ _ _ _ _ _ _ _ c.inner.ensures.context c.in_ok-joined.ensures c.requires.here low c.advance.ensures c.in_ok-sides.ensures.ok;
+  numbered = binary_numbered _ _ _ _ _ c.in_ok-joined.ensures c.in_ok-sides.ensures.left_numbered c.in_ok-sides.ensures.right_numbered;
+  fits = search rules;
+  err = search rules;
+}

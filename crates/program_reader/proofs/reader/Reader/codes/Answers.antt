@@ -9,17 +9,13 @@ use Rattle.program_tree.specs.declared.process_text.ProcessText.{ProcessText}
 use Rattle.program_reader.proofs.CodesLaws.{behind_variables, behind_threads, still_no_timers, first_empty, second_empty, same_processes, loop_goes, loop_fails, loop_ends}
 use Rattle.program_reader.proofs.reader.Reader.codes.Goals as goal
 
-pub code-requires-clause-variables : goal.code-requires-clause-variables
-code-requires-clause-variables c = ap (λ n. n.variables) c.codes.invariant.read.names ∙ behind_variables (scope_of c.args.self.now.scope).names (values_of c.codes.invariant.read.shapes) c.requires.variables
-
-pub code-requires-clause-threads : goal.code-requires-clause-threads
-code-requires-clause-threads c = ap (λ n. n.threads) c.codes.invariant.read.names ∙ behind_threads (scope_of c.args.self.now.scope).names (values_of c.codes.invariant.read.shapes) c.requires.threads
-
-pub code-requires-clause-etimers : goal.code-requires-clause-etimers
-code-requires-clause-etimers c = first_empty _ _ (still_no_timers (scope_of c.args.self.now.scope) (scope_of c.codes.self.scope) _ _ _ _ _ _ refl c.requires.etimers c.requires.ctimers c.codes.invariant.read)
-
-pub code-requires-clause-ctimers : goal.code-requires-clause-ctimers
-code-requires-clause-ctimers c = second_empty _ _ (still_no_timers (scope_of c.args.self.now.scope) (scope_of c.codes.self.scope) _ _ _ _ _ _ refl c.requires.etimers c.requires.ctimers c.codes.invariant.read)
+pub code-requires-clause-own : goal.code-requires-clause-own
+code-requires-clause-own c = record {
+  variables = ap (λ n. n.variables) c.codes.invariant.read.names ∙ behind_variables (scope_of c.args.self.now.scope).names (values_of c.codes.invariant.read.shapes) c.requires.variables;
+  etimers = first_empty _ _ (still_no_timers (scope_of c.args.self.now.scope) (scope_of c.codes.self.scope) _ _ _ _ _ _ refl c.requires.etimers c.requires.ctimers c.codes.invariant.read);
+  ctimers = second_empty _ _ (still_no_timers (scope_of c.args.self.now.scope) (scope_of c.codes.self.scope) _ _ _ _ _ _ refl c.requires.etimers c.requires.ctimers c.codes.invariant.read);
+  threads = ap (λ n. n.threads) c.codes.invariant.read.names ∙ behind_threads (scope_of c.args.self.now.scope).names (values_of c.codes.invariant.read.shapes) c.requires.threads;
+}
 
 pub returns-in_err-code-clause-err : goal.returns-in_err-code-clause-err
 returns-in_err-code-clause-err c = λ f e.

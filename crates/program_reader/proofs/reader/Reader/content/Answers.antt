@@ -14,9 +14,9 @@ returns-clause-ok c =
     let two : c.etimers.new.self.scope.etimers ++ c.etimers.new.self.scope.ctimers ≡ c.etimers.new.self.scope.etimers =
     ap (λ z. c.etimers.new.self.scope.etimers ++ z) c.in_ok-etimers.ensures.ctimers ∙ append-nil c.etimers.new.self.scope.etimers in
     let etimers : c.body.new.self.scope.etimers ≡ c.ctimers.new.self.scope.etimers =
-    ap (λ z. z.etimers) c.in_ok-body.ensures.fixed ∙ ap (λ z. z.etimers) c.in_ok-on_exit.ensures.fixed ∙ ap (λ z. z.etimers) c.in_ok-on_poll.ensures.fixed ∙ c.in_ok-thread_blocks.ensures.etimers in
+    ap (λ z. z.etimers) c.in_ok-body.ensures.fixed ∙ ap (λ z. z.etimers) c.in_ok-on_exit.ensures.fixed ∙ ap (λ z. z.etimers) c.in_ok-on_poll.ensures.fixed ∙ c.in_ok-thread_blocks.ensures.timers.etimers in
     let ctimers : c.body.new.self.scope.ctimers ≡ c.ctimers.new.self.scope.ctimers =
-    ap (λ z. z.ctimers) c.in_ok-body.ensures.fixed ∙ ap (λ z. z.ctimers) c.in_ok-on_exit.ensures.fixed ∙ ap (λ z. z.ctimers) c.in_ok-on_poll.ensures.fixed ∙ c.in_ok-thread_blocks.ensures.ctimers in
+    ap (λ z. z.ctimers) c.in_ok-body.ensures.fixed ∙ ap (λ z. z.ctimers) c.in_ok-on_exit.ensures.fixed ∙ ap (λ z. z.ctimers) c.in_ok-on_poll.ensures.fixed ∙ c.in_ok-thread_blocks.ensures.timers.ctimers in
     let three : c.ctimers.new.self.scope.etimers ++ c.ctimers.new.self.scope.ctimers ≡ c.body.new.self.scope.etimers ++ c.body.new.self.scope.ctimers =
     ap (λ z. z ++ c.ctimers.new.self.scope.ctimers) (sym etimers) ∙ ap (λ z. c.body.new.self.scope.etimers ++ z) (sym ctimers) in
     content_read _ _ _ _ _ _ _ _ c.etimers.new.self.scope.etimers _ _ _ _ _ _ _ _ _ _ _ _ _ _ _ _ c.requires.variables no_timers c.requires.threads c.in_ok-starts.ensures.ok c.in_ok-etimers.ensures.ok c.in_ok-callbacks.ensures.ok

@@ -1,4 +1,4 @@
-use Rattle.std.proofs.Common.{ap, refl}
+use Rattle.std.proofs.Common.{ap, refl, rules}
 use Rattle.program_tree.specs.EventNames.{any_of, any_map}
 use Rattle.program_tree.specs.Forms.{any}
 use Rattle.program_tree.specs.InScope.{name_in}
@@ -7,9 +7,13 @@ use Rattle.program_tree.specs.declared.keyword.Keyword.TheVariants as word
 use Rattle.program_reader.proofs.ExpressionSteps.{told_reads}
 use Rattle.program_reader.proofs.reader.Reader.is.Goals as goal
 
-pub returns-clause-ok : goal.returns-clause-ok
-returns-clause-ok c =
-    told_reads _ _ word.Is any (λ n. any_map (name_in n an_event) (any_of c.in_ok-event.event)) _ _ _ _ _ c.requires.here refl c.advance.ensures c.in_ok-sign.ensures.ok c.in_ok-event.ensures.ok c.in_ok-sign-2.ensures.ok
-
-pub returns-clause-numbered : goal.returns-clause-numbered
-returns-clause-numbered c = λ n h. ap is (c.in_ok-event.ensures.numbered n h)
+pub returns : goal.returns
+returns c = record {
+  no_longer = search rules;
+  same = search rules;
+  ok =
+      told_reads _ _ word.Is any (λ n. any_map (name_in n an_event) (any_of c.in_ok-event.event)) _ _ _ _ _ c.requires.here refl c.advance.ensures c.in_ok-sign.ensures.ok c.in_ok-event.ensures.ok c.in_ok-sign-2.ensures.ok;
+  numbered = λ n h. ap is (c.in_ok-event.ensures.numbered n h);
+  fits = c.in_ok-event.ensures.fits;
+  err = search rules;
+}

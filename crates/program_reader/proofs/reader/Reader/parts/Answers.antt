@@ -9,17 +9,13 @@ use Rattle.program_reader.proofs.CodesLaws.{first_empty, second_empty}
 use Rattle.program_reader.proofs.ProgramLaws.{head_read, all_read, head_goes, no_own_names, is_tree, is_made}
 use Rattle.program_reader.proofs.reader.Reader.parts.Goals as goal
 
-pub last_codes-requires-clause-variables : goal.last_codes-requires-clause-variables
-last_codes-requires-clause-variables c = (no_own_names _ _ _ _ _ _ (head_read _ _ _ _ _ _ _ c.requires.fresh c.in_ok-head.ensures.ok)).0
-
-pub last_codes-requires-clause-etimers : goal.last_codes-requires-clause-etimers
-last_codes-requires-clause-etimers c = first_empty _ _ (no_own_names _ _ _ _ _ _ (head_read _ _ _ _ _ _ _ c.requires.fresh c.in_ok-head.ensures.ok)).1
-
-pub last_codes-requires-clause-ctimers : goal.last_codes-requires-clause-ctimers
-last_codes-requires-clause-ctimers c = second_empty _ _ (no_own_names _ _ _ _ _ _ (head_read _ _ _ _ _ _ _ c.requires.fresh c.in_ok-head.ensures.ok)).1
-
-pub last_codes-requires-clause-threads : goal.last_codes-requires-clause-threads
-last_codes-requires-clause-threads c = (no_own_names _ _ _ _ _ _ (head_read _ _ _ _ _ _ _ c.requires.fresh c.in_ok-head.ensures.ok)).2
+pub last_codes-requires : goal.last_codes-requires
+last_codes-requires c = record {
+  variables = (no_own_names _ _ _ _ _ _ (head_read _ _ _ _ _ _ _ c.requires.fresh c.in_ok-head.ensures.ok)).0;
+  etimers = first_empty _ _ (no_own_names _ _ _ _ _ _ (head_read _ _ _ _ _ _ _ c.requires.fresh c.in_ok-head.ensures.ok)).1;
+  ctimers = second_empty _ _ (no_own_names _ _ _ _ _ _ (head_read _ _ _ _ _ _ _ c.requires.fresh c.in_ok-head.ensures.ok)).1;
+  threads = (no_own_names _ _ _ _ _ _ (head_read _ _ _ _ _ _ _ c.requires.fresh c.in_ok-head.ensures.ok)).2;
+}
 
 pub returns-in_err-codes-clause-err : goal.returns-in_err-codes-clause-err
 returns-in_err-codes-clause-err c = λ f e.

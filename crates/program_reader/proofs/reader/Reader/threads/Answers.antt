@@ -17,8 +17,8 @@ threads-preserved c =
     ap (map tree_in) c.in_ok-push.ensures.items ∙ map-append tree_in c.threads.blocks.items (c.in_ok-block.block ∷ []) in
     record {
       no_longer = omega (arith, c.in_ok-block.ensures.no_longer);
-      etimers = c.in_ok-block.ensures.etimers ∙ c.threads.invariant.etimers;
-      ctimers = c.in_ok-block.ensures.ctimers ∙ c.threads.invariant.ctimers;
+      etimers = c.in_ok-block.ensures.timers.etimers ∙ c.threads.invariant.etimers;
+      ctimers = c.in_ok-block.ensures.timers.ctimers ∙ c.threads.invariant.ctimers;
       counted =
           ap (λ z. length z.threads) c.in_ok-block.ensures.ok.added ∙ length-append c.threads.self.scope.threads (c.in_ok-block.ensures.ok.name ∷ [])
           ∙ ap (λ k. k + 1) c.threads.invariant.counted ∙ sym (ap length c.in_ok-push.ensures.items ∙ length-append c.threads.blocks.items (c.in_ok-block.block ∷ []));

@@ -1,14 +1,16 @@
+use Rattle.std.proofs.Common.{rules}
 use Rattle.program_reader.proofs.ExpressionSteps.{told_reads}
 use Rattle.program_reader.proofs.ValueLaws.{telling_made, telling_numbered, telling_fits}
 use Rattle.program_reader.proofs.reader.Reader.told.Goals as goal
 
-pub returns-clause-ok : goal.returns-clause-ok
-returns-clause-ok c =
-    telling_made _ _ _ _ _ _ _ _ c.class-class.ensures.class c.value.ensures
-    (told_reads _ _ _ _ _ _ _ _ _ _ c.requires.here c.class-class.ensures.form c.advance.ensures c.in_ok-sign.ensures.ok c.in_ok-number.ensures.ok c.in_ok-sign-2.ensures.ok)
-
-pub returns-clause-numbered : goal.returns-clause-numbered
-returns-clause-numbered c = telling_numbered _ _ _ _ _ c.class-class.ensures.class c.value.ensures c.in_ok-number.ensures.numbered
-
-pub returns-clause-fits : goal.returns-clause-fits
-returns-clause-fits c = telling_fits _ _ _ _ _ _ c.class-class.ensures.class c.value.ensures c.in_ok-number.ensures.fits
+pub returns : goal.returns
+returns c = record {
+  no_longer = search rules;
+  same = search rules;
+  ok =
+      telling_made _ _ _ _ _ _ _ _ c.class-class.ensures.class c.value.ensures
+      (told_reads _ _ _ _ _ _ _ _ _ _ c.requires.here c.class-class.ensures.form c.advance.ensures c.in_ok-sign.ensures.ok c.in_ok-number.ensures.ok c.in_ok-sign-2.ensures.ok);
+  numbered = telling_numbered _ _ _ _ _ c.class-class.ensures.class c.value.ensures c.in_ok-number.ensures.numbered;
+  fits = telling_fits _ _ _ _ _ _ c.class-class.ensures.class c.value.ensures c.in_ok-number.ensures.fits;
+  err = search rules;
+}

@@ -1,0 +1,14 @@
+-- What stands in scope between codes, and what of the scope is kept.
+use Rattle.std.specs.Prelude.{◌≡◌, []}
+use Rattle.program_reader.specs.declared.scope.Scope.{Scope}
+
+-- no names of a code are in scope
+pub record HasNoOwnNames (s : Scope) : Type 0 where
+  pub variables : s.variables ≡ []
+  pub etimers : s.etimers ≡ []
+  pub ctimers : s.ctimers ≡ []
+  pub threads : s.threads ≡ []
+
+pub record KeepsTimers (old new : Scope) : Type 0 where
+  pub etimers : new.etimers ≡ old.etimers
+  pub ctimers : new.ctimers ≡ old.ctimers
