@@ -13,7 +13,7 @@ use Rattle.process_kernel.specs.Operation.{run_of}
 use Rattle.process_kernel.specs.Call.{calls_of, call_of}
 use Rattle.process_kernel.specs.Views.{Tells}
 
--- what a call tells of the rule, it tells of the calls that nest one deeper
+-- what follows the rule of a call follows the calls that nest one deeper
 pub deeper_call : (r : Result (Unit {0}) Stop) (new s : State) (p : Proc) (e : Event) →
     ((k : ℕ) → s.units ≤ k → Tells r new (call_of (calls_of k) s p e)) → (k : ℕ) → s.units < k → Tells r new ((calls_of k).call s p e)
 unfolding calls_of
@@ -32,7 +32,7 @@ unfolding calls_of
 run_opens s code t p e zero h = absurd (omega arith)
 run_opens s code t p e (suc m) h = let one : suc m - 1 ≡ m = omega arith in rw one refl
 
--- a halt tells of an end, want of memory aside
+-- a halt is an end; out of memory no claim is made
 pub halt_tells : (A : Type 0) (stop : Stop) (s new : State) → (stop ≡ Halted → new ≡ halted_of s) → Tells {A = A} (Err stop) new (Ends (halted_of s))
 halt_tells A Halted s new halts = ap Ends (sym (halts refl))
 halt_tells A Memory s new halts = tt
