@@ -85,7 +85,13 @@ pub call-returns-else-is_event-clause-follows : goal.call-returns-else-is_event-
 unfolding call_of answered
 call-returns-else-is_event-clause-follows t c = record {
   exact = let T = tree_of c.args.program.now in
-      deeper_call (Ok tt) (state_of T c.set_state-else-is_event.new.self) _ _ _ (λ k enough. search (rules, c.in_ok-spend.ensures.exact T, c.set_state.ensures.exact T, c.set_state-else-is_event.ensures.exact T));
+      deeper_call (Ok tt) (state_of T c.set_state-else-is_event.new.self) _ _ _
+      (λ k enough. search (
+        rules,
+        c.in_ok-spend.ensures.exact T,
+        c.set_state.ensures.exact T,
+        c.set_state-else-is_event.ensures.exact T,
+      ));
   spends = search rules;
   grows = search rules;
 }
@@ -109,7 +115,11 @@ exit-returns-in_err-run_last t c = record {
 pub exit-returns : goal.exit-returns
 unfolding exit_of
 exit-returns t c = record {
-  exact = λ k enough. search (rules, c.begin_exit.ensures.exact (tree_of c.args.program.now), c.leave.ensures.exact (tree_of c.args.program.now));
+  exact = λ k enough. search (
+    rules,
+    c.begin_exit.ensures.exact (tree_of c.args.program.now),
+    c.leave.ensures.exact (tree_of c.args.program.now),
+  );
   spends = search rules;
   grows = search rules;
 }
@@ -125,7 +135,11 @@ perform-returns-in_err-is_full-in-Post t c = record {
 pub perform-returns-in_ok-is_full-in-Post : goal.perform-returns-in_ok-is_full-in-Post
 unfolding perform_of
 perform-returns-in_ok-is_full-in-Post t c = record {
-  exact = λ k enough. search (rules, c.in_ok-is_full-in-Post.ensures.exact (tree_of c.args.program.now), c.answer.ensures.exact (tree_of c.args.program.now) (code_of c.args.text.now));
+  exact = λ k enough. search (
+    rules,
+    c.in_ok-is_full-in-Post.ensures.exact (tree_of c.args.program.now),
+    c.answer.ensures.exact (tree_of c.args.program.now) (code_of c.args.text.now),
+  );
   spends = search rules;
   grows = search rules;
 }
@@ -149,7 +163,8 @@ react-returns-in_ok-react_as_etimer-in-Etimer t c = record {
 pub react_as_ctimer-returns-then-not-takes_callback : goal.react_as_ctimer-returns-then-not-takes_callback
 unfolding ctimer_of
 react_as_ctimer-returns-then-not-takes_callback t c = record {
-  exact = let T = tree_of c.args.program.now in λ k enough. search (rules, c.takes_callback.ensures.waited T, c.takes_callback.ensures.after T);
+  exact = let T = tree_of c.args.program.now in
+      λ k enough. search (rules, c.takes_callback.ensures.waited T, c.takes_callback.ensures.after T);
   spends = search rules;
   grows = search rules;
 }
@@ -157,7 +172,8 @@ react_as_ctimer-returns-then-not-takes_callback t c = record {
 pub react_as_ctimer-returns : goal.react_as_ctimer-returns
 unfolding ctimer_of
 react_as_ctimer-returns t c = record {
-  exact = let T = tree_of c.args.program.now in λ k enough. search (rules, c.takes_callback.ensures.waited T, c.takes_callback.ensures.after T);
+  exact = let T = tree_of c.args.program.now in
+      λ k enough. search (rules, c.takes_callback.ensures.waited T, c.takes_callback.ensures.after T);
   spends = search rules;
   grows = search rules;
 }
@@ -166,7 +182,11 @@ pub resume-returns-in_err-answer : goal.resume-returns-in_err-answer
 unfolding resume_of
 resume-returns-in_err-answer t c = record {
   exact = let T = tree_of c.args.program.now in
-      λ k enough. search (rules, c.in_ok-body.ensures.exact T (code_of c.args.text.now) c.requires.text, c.take_thread.ensures.after T);
+      λ k enough. search (
+        rules,
+        c.in_ok-body.ensures.exact T (code_of c.args.text.now) c.requires.text,
+        c.take_thread.ensures.after T,
+      );
   spends = search rules;
   grows = search rules;
 }
@@ -175,7 +195,12 @@ pub resume-returns : goal.resume-returns
 unfolding resume_of
 resume-returns t c = record {
   exact = let T = tree_of c.args.program.now in
-      λ k enough. search (rules, c.in_ok-body.ensures.exact T (code_of c.args.text.now) c.requires.text, c.take_thread.ensures.after T, c.put_thread.ensures.exact T (code_of c.args.text.now) c.requires.text);
+      λ k enough. search (
+        rules,
+        c.in_ok-body.ensures.exact T (code_of c.args.text.now) c.requires.text,
+        c.take_thread.ensures.after T,
+        c.put_thread.ensures.exact T (code_of c.args.text.now) c.requires.text,
+      );
   spends = search rules;
   grows = search rules;
 }
@@ -192,8 +217,12 @@ run-loop-op-preserved t c =
           let now = c.loop-op.invariant.2 k enough in
           let rest = now.0 - 1 in
           let more : 0 < now.0 = omega (arith, now.1) in
-          let left : c.advance.new.self.fuel < rest = omega (arith, now.1, pays) in
-          (rest, omega (arith, left, spends), now.2 ∙ run_opens _ _ _ _ _ now.0 more ∙ rw (c.in-Op.ensures.exact T, c.in_ok-perform-in-Op.ensures.exact rest left) refl),
+          let left : c.advance.new.self.fuel < rest = omega (arith, now.1, pays) in (
+            rest,
+            omega (arith, left, spends),
+            now.2 ∙ run_opens _ _ _ _ _ now.0 more
+                ∙ rw (c.in-Op.ensures.exact T, c.in_ok-perform-in-Op.ensures.exact rest left) refl,
+          ),
     )
 
 pub run-returns-in_err-perform-in-Op : goal.run-returns-in_err-perform-in-Op
@@ -201,7 +230,8 @@ unfolding run_of
 run-returns-in_err-perform-in-Op t c = record {
   exact = λ k enough.
       let now = c.loop-op.invariant.2 k enough in
-      rw now.2 (deeper_run _ _ _ _ _ _ _ (λ j left. rw (c.in-Op.ensures.exact (tree_of c.args.program.now)) (search rules)) now.0 now.1);
+      rw now.2 (deeper_run _ _ _ _ _ _ _
+      (λ j left. rw (c.in-Op.ensures.exact (tree_of c.args.program.now)) (search rules)) now.0 now.1);
   spends = search rules;
   grows = search rules;
 }
@@ -223,7 +253,10 @@ run-returns-in-Runaway t c = record {
   exact = λ k enough.
       let T = tree_of c.args.program.now in
       let now = c.loop-op.invariant.2 k enough in
-      rw now.2 (deeper_run (Err c.halt.result) (state_of T c.halt.new.self) _ _ _ _ _ (λ j left. rw (c.in-Runaway.ensures.exact T) (halt_tells Answer c.halt.result (state_of T c.advance.new.self) (state_of T c.halt.new.self) (c.halt.ensures.exact T))) now.0 now.1);
+      rw now.2 (deeper_run (Err c.halt.result) (state_of T c.halt.new.self) _ _ _ _ _
+      (λ j left. rw (c.in-Runaway.ensures.exact T)
+      (halt_tells Answer c.halt.result (state_of T c.advance.new.self) (state_of T c.halt.new.self)
+      (c.halt.ensures.exact T))) now.0 now.1);
   spends = search rules;
   grows = search rules;
 }
@@ -281,7 +314,9 @@ pub run_part-returns-then-is_empty : goal.run_part-returns-then-is_empty
 run_part-returns-then-is_empty t c = record {
   exact = λ k enough.
       let none : whole_of (code_of c.args.text.now) c.args.part ≡ [] = search rules in
-      nothing_runs (code_of c.args.text.now) c.args.part none k (state_of (tree_of c.args.program.now) c.args.self.now) c.args.process c.args.event.now (omega (arith, enough));
+      nothing_runs (code_of c.args.text.now) c.args.part none k
+      (state_of (tree_of c.args.program.now) c.args.self.now) c.args.process c.args.event.now
+      (omega (arith, enough));
   spends = search rules;
   grows = search rules;
 }

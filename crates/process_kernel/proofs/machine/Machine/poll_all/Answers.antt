@@ -21,8 +21,10 @@ pub returns-then-count-le-FEW : goal.returns-then-count-le-FEW
 returns-then-count-le-FEW c = record {
   exact = λ k enough.
       let ms = c.args.self.now.members.items in
-      let found : position (λ m. flag_at c.args.self.now.marks.items m.process) ms ≡ Some c.in-Some.place = search rules in
-      rw (walk_from (calls_of k) (state_of (tree_of c.args.program.now) c.args.self.now) ms c.in-Some.place found) (c.poll_few.ensures.exact k enough);
+      let found : position (λ m. flag_at c.args.self.now.marks.items m.process) ms ≡ Some c.in-Some.place =
+      search rules in
+      rw (walk_from (calls_of k) (state_of (tree_of c.args.program.now) c.args.self.now) ms c.in-Some.place found)
+      (c.poll_few.ensures.exact k enough);
   spends = search rules;
   grows = search rules;
 }
