@@ -1,5 +1,6 @@
 -- What a boot or a run of a kernel gives.
-use Rattle.std.proofs.Common.{ℕ, ◌≡◌, ◌++◌, Bool, true, false, List, [], append-nil, Option, Some, None, Result, Ok, Err, refl, sym, ap, ◌∙◌}
+use Rattle.std.proofs.Common.{ℕ, ◌≡◌, ◌++◌, Bool, true, false, List, [], append-nil, Option, Some, None, Result, Ok}
+use Rattle.std.proofs.Common.{Err, refl, sym, ap, ◌∙◌}
 use Rattle.std.proofs.lemmas.List.{append_assoc}
 use Rattle.program_tree.specs.Code.{Tree}
 use Rattle.trace_lines.specs.declared.line.Line.{Line}
@@ -19,58 +20,101 @@ use Rattle.process_kernel.specs.Views.{state_of, mote_of, Begins}
 use Rattle.process_kernel.specs.Public.{mote_in, Given, given, BeginsWith, Tells, FailsAs, Closes}
 
 -- a kernel that an earlier call left without memory
-pub failed : (t : Tree) (gives : Mote → List Line → List Sent → Given) (k : Kernel) (out : Out) → k.failed ≡ true → Tells gives (mote_in t k) out (Err error.Failed) (mote_in t k) out
+pub failed : (t : Tree) (gives : Mote → List Line → List Sent → Given) (k : Kernel) (out : Out) → k.failed ≡ true
+    → Tells gives (mote_in t k) out (Err error.Failed) (mote_in t k) out
 unfolding mote_in
 failed t gives k out is = rw is (refl, refl, refl)
 
 -- a kernel of a mote that has halted
 pub halted : (t : Tree) (gives : Mote → List Line → List Sent → Given) (k : Kernel) (out : Out) → k.failed ≡ false
-    → gives (mote_of t k.machine k.booted k.halted) out.lines.items out.sends.items ≡ record { ran = ran.Halted; mote = mote_of t k.machine k.booted k.halted; lines = out.lines.items; sends = out.sends.items }
+    → gives (mote_of t k.machine k.booted k.halted) out.lines.items out.sends.items
+    ≡ record {
+      ran = ran.Halted;
+      mote = mote_of t k.machine k.booted k.halted;
+      lines = out.lines.items;
+      sends = out.sends.items;
+    }
     → Tells gives (mote_in t k) out (Ok ran.Halted) (mote_in t k) out
 unfolding mote_in
 halted t gives k out going is = rw going (mote_of t k.machine k.booted k.halted, refl, is)
 
 same_given : (r : Ran) (h : Bool) (a b : State) (ls ms : List Line) (ss us : List Sent) → a ≡ b → ms ≡ ls → us ≡ ss
-    → let x : Given = record { ran = r; mote = record { state = a; booted = true; halted = h }; lines = ls; sends = ss } in
-    let y : Given = record { ran = r; mote = record { state = b; booted = true; halted = h }; lines = ms; sends = us } in x ≡ y
+    → let x : Given = record {
+      ran = r;
+      mote = record { state = a; booted = true; halted = h };
+      lines = ls;
+      sends = ss;
+    } in
+    let y : Given = record {
+      ran = r;
+      mote = record { state = b; booted = true; halted = h };
+      lines = ms;
+      sends = us;
+    } in x ≡ y
 same_given r h a b ls ms ss us p q u = cc
 
 -- a kernel that was booted or run
-pub finished : (t : Tree) (gives : Mote → List Line → List Sent → Given) (k k1 k2 : Kernel) (out out' : Out) (s1 : State) (o : Outcome ℕ) (r : Result ℕ Stop) (result : Result Ran KernelError)
+pub finished : (t : Tree) (gives : Mote → List Line → List Sent → Given) (k k1 k2 : Kernel) (out out' : Out)
+    (s1 : State) (o : Outcome ℕ) (r : Result ℕ Stop) (result : Result Ran KernelError)
     → k.failed ≡ false → k1.failed ≡ false → k1.halted ≡ false
     → gives (mote_of t k.machine k.booted k.halted) out.lines.items out.sends.items ≡ given o
-    → views.Tells r s1 o → at_rest s1 ≡ at_rest (state_of t k1.machine) → out'.lines.items ≡ s1.lines → out'.sends.items ≡ s1.sends
+    → views.Tells r s1 o → at_rest s1 ≡ at_rest (state_of t k1.machine) → out'.lines.items ≡ s1.lines
+    → out'.sends.items ≡ s1.sends
     → BeginsWith out out' → Closes k1 r result k2 → Tells gives (mote_in t k) out result (mote_in t k2) out'
 unfolding mote_in
 finished t gives k k1 k2 out out' s1 o (Ok left) result going going1 running gives_it told rest ls ss begins closes =
-    rw (going, closes.0, closes.1, going1, running)
-    (mote_of t k1.machine true false, refl, gives_it ∙ ap given told ∙ same_given (ran.Left left) false (at_rest s1) (at_rest (state_of t k1.machine)) s1.lines out'.lines.items s1.sends out'.sends.items rest ls ss)
+    rw (going, closes.0, closes.1, going1, running) (
+      mote_of t k1.machine true false,
+      refl,
+      gives_it ∙ ap given told
+          ∙ same_given (ran.Left left) false (at_rest s1)
+          (at_rest (state_of t k1.machine)) s1.lines out'.lines.items s1.sends out'.sends.items rest ls ss,
+    )
 finished t gives k k1 k2 out out' s1 o (Err Halted) result going going1 running gives_it told rest ls ss begins closes =
-    rw (going, closes.0, closes.1, going1)
-    (mote_of t k1.machine true true, refl, gives_it ∙ ap given told ∙ same_given ran.Halted true (at_rest s1) (at_rest (state_of t k1.machine)) s1.lines out'.lines.items s1.sends out'.sends.items rest ls ss)
+    rw (going, closes.0, closes.1, going1) (
+      mote_of t k1.machine true true,
+      refl,
+      gives_it ∙ ap given told
+          ∙ same_given ran.Halted true (at_rest s1)
+          (at_rest (state_of t k1.machine)) s1.lines out'.lines.items s1.sends out'.sends.items rest ls ss,
+    )
 finished t gives k k1 k2 out out' s1 o (Err Memory) result going going1 running gives_it told rest ls ss begins closes =
     rw (going, closes.0, closes.1) (refl, refl, begins)
 
 -- a run that ends leaves its machine as it is
-pub machine_kept : (k1 k2 : Kernel) (r : Result ℕ Stop) (result : Result Ran KernelError) → Closes k1 r result k2 → k2.machine ≡ k1.machine
+pub machine_kept : (k1 k2 : Kernel) (r : Result ℕ Stop) (result : Result Ran KernelError) → Closes k1 r result k2
+    → k2.machine ≡ k1.machine
 machine_kept k1 k2 (Ok left) result closes = ap (λ (k : Kernel). k.machine) closes.1
 machine_kept k1 k2 (Err Halted) result closes = ap (λ (k : Kernel). k.machine) closes.1
 machine_kept k1 k2 (Err Memory) result closes = ap (λ (k : Kernel). k.machine) closes.1
 
 -- what grew from what was written begins with it
-pub begins_with : (old new : Out) → ((lines : List Line) (sends : List Sent) → Begins lines sends old → Begins lines sends new) → BeginsWith old new
+pub begins_with : (old new : Out)
+    → ((lines : List Line) (sends : List Sent) → Begins lines sends old → Begins lines sends new) → BeginsWith old new
 unfolding Begins
 begins_with old new grows =
-    let b = grows old.lines.items old.sends.items (([], sym (append-nil old.lines.items)), ([], sym (append-nil old.sends.items))) in
+    let b = grows old.lines.items old.sends.items
+    (([], sym (append-nil old.lines.items)), ([], sym (append-nil old.sends.items))) in
     record { lines = b.0; sends = b.1 }
 
 pub begins_same : (out : Out) → BeginsWith out out
-begins_same out = record { lines = ([], sym (append-nil out.lines.items)); sends = ([], sym (append-nil out.sends.items)) }
+begins_same out = record {
+  lines = ([], sym (append-nil out.lines.items));
+  sends = ([], sym (append-nil out.sends.items));
+}
 
 pub begins_further : (a b c : Out) → BeginsWith a b → BeginsWith b c → BeginsWith a c
 begins_further a b c h g = record {
-  lines = (h.lines.0 ++ g.lines.0, g.lines.1 ∙ ap (λ (ls : List Line). ls ++ g.lines.0) h.lines.1 ∙ append_assoc a.lines.items h.lines.0 g.lines.0);
-  sends = (h.sends.0 ++ g.sends.0, g.sends.1 ∙ ap (λ (ss : List Sent). ss ++ g.sends.0) h.sends.1 ∙ append_assoc a.sends.items h.sends.0 g.sends.0);
+  lines = (
+    h.lines.0 ++ g.lines.0,
+    g.lines.1 ∙ ap (λ (ls : List Line). ls ++ g.lines.0) h.lines.1
+        ∙ append_assoc a.lines.items h.lines.0 g.lines.0,
+  );
+  sends = (
+    h.sends.0 ++ g.sends.0,
+    g.sends.1 ∙ ap (λ (ss : List Sent). ss ++ g.sends.0) h.sends.1
+        ∙ append_assoc a.sends.items h.sends.0 g.sends.0,
+  );
 }
 
 -- a mote that had not failed has not failed by now, and what was written before is still there
@@ -83,17 +127,22 @@ so_far_none None out = (refl, refl)
 so_far_none (Some m) out = ((m, refl), begins_same out)
 
 -- one more call that told no error
-pub so_far_next : (gives : Mote → List Line → List Sent → Given) (old : Option Mote) (out : Out) (now : Option Mote) (out1 : Out) (r : Ran) (new : Option Mote) (out2 : Out)
-    → GoesOnSoFar old out now out1 → Tells gives now out1 (Ok r) new out2 → BeginsWith out1 out2 → GoesOnSoFar old out new out2
+pub so_far_next : (gives : Mote → List Line → List Sent → Given) (old : Option Mote) (out : Out) (now : Option Mote)
+    (out1 : Out) (r : Ran) (new : Option Mote) (out2 : Out)
+    → GoesOnSoFar old out now out1 → Tells gives now out1 (Ok r) new out2 → BeginsWith out1 out2
+    → GoesOnSoFar old out new out2
 so_far_next gives None out None out1 r new out2 so_far told more = let failed = told.0 in cc
 so_far_next gives None out (Some m) out1 r new out2 so_far told more = let none = so_far.0 in cc
 so_far_next gives (Some m) out None out1 r new out2 so_far told more = let some = so_far.0.1 in cc
-so_far_next gives (Some m) out (Some m1) out1 r new out2 so_far told more = ((told.0, told.1), begins_further out out1 out2 so_far.1 more)
+so_far_next gives (Some m) out (Some m1) out1 r new out2 so_far told more =
+    ((told.0, told.1), begins_further out out1 out2 so_far.1 more)
 
 -- and one that told an error
-pub so_far_fails : (gives : Mote → List Line → List Sent → Given) (old : Option Mote) (out : Out) (now : Option Mote) (out1 : Out) (e : KernelError) (new : Option Mote) (out2 : Out)
+pub so_far_fails : (gives : Mote → List Line → List Sent → Given) (old : Option Mote) (out : Out)
+    (now : Option Mote) (out1 : Out) (e : KernelError) (new : Option Mote) (out2 : Out)
     → GoesOnSoFar old out now out1 → Tells gives now out1 (Err e) new out2 → FailsAs old out e new out2
 so_far_fails gives None out None out1 e new out2 so_far told = ((let failed = told.0 in cc), told.1, told.2 ∙ so_far.1)
 so_far_fails gives None out (Some m) out1 e new out2 so_far told = let none = so_far.0 in cc
 so_far_fails gives (Some m) out None out1 e new out2 so_far told = let some = so_far.0.1 in cc
-so_far_fails gives (Some m) out (Some m1) out1 e new out2 so_far told = (told.0, told.1, begins_further out out1 out2 so_far.1 told.2)
+so_far_fails gives (Some m) out (Some m1) out1 e new out2 so_far told =
+    (told.0, told.1, begins_further out out1 out2 so_far.1 told.2)

@@ -19,7 +19,8 @@ last : (o : Went) (n : ℕ) (s : State) → (o >>= λ _ s1. Goes (left_of s1) s1
 last (Ends t) n s is = cc
 last (Goes a t) n s is = cc
 
-last_of_two : (o : Went) (d : State → Went) (n : ℕ) (s : State) → (o >>= λ _ s1. d s1 >>= λ _ s2. Goes (left_of s2) s2) ≡ Goes n s → n ≡ left_of s
+last_of_two : (o : Went) (d : State → Went) (n : ℕ) (s : State)
+    → (o >>= λ _ s1. d s1 >>= λ _ s2. Goes (left_of s2) s2) ≡ Goes n s → n ≡ left_of s
 last_of_two (Ends t) d n s is = cc
 last_of_two (Goes a t) d n s is = last (d t) n s is
 
@@ -31,14 +32,17 @@ boot_left : (calls : Calls) (s : State) (n : ℕ) (s1 : State) → boot_of calls
 unfolding boot_of
 boot_left calls s n s1 is = last _ n s1 is
 
-given_left : (o : Outcome ℕ) (n : ℕ) → ((k : ℕ) (s : State) → o ≡ Goes k s → k ≡ left_of s) → (given o).ran ≡ Left n → n ≡ left_of (given o).mote.state
+given_left : (o : Outcome ℕ) (n : ℕ) → ((k : ℕ) (s : State) → o ≡ Goes k s → k ≡ left_of s) → (given o).ran ≡ Left n
+    → n ≡ left_of (given o).mote.state
 given_left (Ends s) n tells is = cc
 given_left (Goes k s) n tells is = let same : n ≡ k = cc in same ∙ tells k s refl
 
-unless_left : (m : Mote) (ls : List Line) (ss : List Sent) (g : Given) (n : ℕ) → (g.ran ≡ Left n → n ≡ left_of g.mote.state)
+unless_left : (m : Mote) (ls : List Line) (ss : List Sent) (g : Given) (n : ℕ)
+    → (g.ran ≡ Left n → n ≡ left_of g.mote.state)
     → (unless_halted m ls ss g).ran ≡ Left n → n ≡ left_of (unless_halted m ls ss g).mote.state
 unless_left m ls ss g n tells is =
-    cond_both m.halted (record { ran = Halted; mote = m; lines = ls; sends = ss }) g (λ (x : Given). x.ran ≡ Left n → n ≡ left_of x.mote.state) (λ _ h. cc) (λ _ h. tells h) is
+    cond_both m.halted (record { ran = Halted; mote = m; lines = ls; sends = ss }) g
+    (λ (x : Given). x.ran ≡ Left n → n ≡ left_of x.mote.state) (λ _ h. cc) (λ _ h. tells h) is
 
 pub run_tells : TellsLeft run_given
 unfolding run_given

@@ -1,6 +1,7 @@
 -- Process lists.
 use Rattle.std.specs.Prelude.{slice_set, slice_index_or}
-use Rattle.std.proofs.Common.{ℕ, zero, suc, ◌++◌, take, drop, ◌≡◌, ◌+◌, ◌<◌, ◌≤◌, Bool, true, false, not, ◌&&◌, eqb, List, [], ◌∷◌, length, map, filter, refl, ap, sym, ◌∙◌, arith}
+use Rattle.std.proofs.Common.{ℕ, zero, suc, ◌++◌, take, drop, ◌≡◌, ◌+◌, ◌<◌, ◌≤◌, Bool, true, false, not, ◌&&◌, eqb}
+use Rattle.std.proofs.Common.{List, [], ◌∷◌, length, map, filter, refl, ap, sym, ◌∙◌, arith}
 use Rattle.std.specs.List.{All, AllByRecursion, IsDistinct, refill}
 use Rattle.std.proofs.lemmas.Bool.{or_parts, and_parts, cond_both, not-true, eqb-true, not_from_false}
 use Rattle.std.proofs.lemmas.List.Elements.{All-cons, All-contains, recursion_from_All, All-from_recursion}
@@ -18,17 +19,21 @@ both a b h i = rw (h, i) refl
 abbrev places : List Member → List ℕ
 places ms = map (λ m. place_of m.process) ms
 
-apart : (m : Member) (ms : List Member) → stands_in ms m.process ≡ false → AllByRecursion (λ y. eqb (place_of m.process) y ≡ false) (places ms)
+apart : (m : Member) (ms : List Member) → stands_in ms m.process ≡ false
+    → AllByRecursion (λ y. eqb (place_of m.process) y ≡ false) (places ms)
 apart m [] h = tt
-apart m (x ∷ xs) h = let parts = or_parts (is_same m.process x.process) (stands_in xs m.process) h in (parts.0, apart m xs parts.1)
+apart m (x ∷ xs) h = let parts = or_parts (is_same m.process x.process) (stands_in xs m.process) h in
+    (parts.0, apart m xs parts.1)
 
 distinct : (ms : List Member) → are_once ms ≡ true → IsDistinct eqb (places ms)
 unfolding IsDistinct
 distinct [] h = tt
 distinct (m ∷ ms) h =
-    let parts = and_parts (not (stands_in ms m.process)) (are_once ms) h in (apart m ms (not-true _ parts.0), distinct ms parts.1)
+    let parts = and_parts (not (stands_in ms m.process)) (are_once ms) h in
+    (apart m ms (not-true _ parts.0), distinct ms parts.1)
 
-below : (n : ℕ) (ms : List Member) → AllByRecursion (λ m. place_of m.process < n) ms → AllByRecursion (λ k. k < n) (places ms)
+below : (n : ℕ) (ms : List Member) → AllByRecursion (λ m. place_of m.process < n) ms
+    → AllByRecursion (λ k. k < n) (places ms)
 below n [] h = tt
 below n (m ∷ ms) h = (h.0, below n ms h.1)
 
@@ -40,39 +45,49 @@ length-places (m ∷ ms) = ap suc (length-places ms)
 pub length-le : (ms : List Member) (n : ℕ) → AreMembers ms n → length ms ≤ n
 length-le ms n are =
     let ks : All (λ k. k < n) (places ms) = All-from_recursion _ _ (below n ms (recursion_from_All _ ms are.within)) in
-    let most = length-le_from_distinct_below (places ms) n (distinct ms are.once) (λ q there. All-contains (λ j. j < n) (places ms) q ks (Contains-from_any eqb-true q (places ms) there)) in
+    let most = length-le_from_distinct_below (places ms) n (distinct ms are.once)
+    (λ q there. All-contains (λ j. j < n) (places ms) q ks (Contains-from_any eqb-true q (places ms) there)) in
     omega (arith, most, length-places ms)
 
 -- a process of the mote that is not on the list goes there
-pub AreMembers-cons : (m : Member) (ms : List Member) (n : ℕ) → AreMembers ms n → place_of m.process < n → stands_in ms m.process ≡ false → AreMembers (m ∷ ms) n
+pub AreMembers-cons : (m : Member) (ms : List Member) (n : ℕ) → AreMembers ms n → place_of m.process < n
+    → stands_in ms m.process ≡ false → AreMembers (m ∷ ms) n
 AreMembers-cons m ms n are within away = record {
   once = both _ _ (not_from_false _ away) are.once;
   within = All-cons (λ x. place_of x.process < n) m ms within are.within;
 }
 
 -- and there is room for it
-pub length-lt : (m : Member) (ms : List Member) (n : ℕ) → AreMembers ms n → place_of m.process < n → stands_in ms m.process ≡ false → length ms < n
-length-lt m ms n are within away = let most : length (m ∷ ms) ≤ n = length-le (m ∷ ms) n (AreMembers-cons m ms n are within away) in omega (arith, most)
+pub length-lt : (m : Member) (ms : List Member) (n : ℕ) → AreMembers ms n → place_of m.process < n
+    → stands_in ms m.process ≡ false → length ms < n
+length-lt m ms n are within away =
+    let most : length (m ∷ ms) ≤ n = length-le (m ∷ ms) n (AreMembers-cons m ms n are within away) in
+    omega (arith, most)
 
 -- what stays on the list
-stands_in-filter : (f : Member → Bool) (ms : List Member) (p : Proc) → stands_in ms p ≡ false → stands_in (filter f ms) p ≡ false
+stands_in-filter : (f : Member → Bool) (ms : List Member) (p : Proc) → stands_in ms p ≡ false
+    → stands_in (filter f ms) p ≡ false
 stands_in-filter f [] p h = refl
 stands_in-filter f (m ∷ ms) p h =
     let parts = or_parts (is_same p m.process) (stands_in ms p) h in
-    cond_both (f m) (m ∷ filter f ms) (filter f ms) (λ (xs : List Member). stands_in xs p ≡ false) (λ _. rw (parts.0, stands_in-filter f ms p parts.1) refl) (λ _. stands_in-filter f ms p parts.1)
+    cond_both (f m) (m ∷ filter f ms) (filter f ms) (λ (xs : List Member). stands_in xs p ≡ false)
+    (λ _. rw (parts.0, stands_in-filter f ms p parts.1) refl) (λ _. stands_in-filter f ms p parts.1)
 
 are_once-filter : (f : Member → Bool) (ms : List Member) → are_once ms ≡ true → are_once (filter f ms) ≡ true
 are_once-filter f [] h = refl
 are_once-filter f (m ∷ ms) h =
     let parts = and_parts (not (stands_in ms m.process)) (are_once ms) h in
     cond_both (f m) (m ∷ filter f ms) (filter f ms) (λ (xs : List Member). are_once xs ≡ true)
-    (λ _. both _ _ (not_from_false _ (stands_in-filter f ms m.process (not-true _ parts.0))) (are_once-filter f ms parts.1))
+    (λ _. both _ _ (not_from_false _ (stands_in-filter f ms m.process (not-true _ parts.0)))
+    (are_once-filter f ms parts.1))
     (λ _. are_once-filter f ms parts.1)
 
-within-filter : (n : ℕ) (f : Member → Bool) (ms : List Member) → AllByRecursion (λ m. place_of m.process < n) ms → AllByRecursion (λ m. place_of m.process < n) (filter f ms)
+within-filter : (n : ℕ) (f : Member → Bool) (ms : List Member) → AllByRecursion (λ m. place_of m.process < n) ms
+    → AllByRecursion (λ m. place_of m.process < n) (filter f ms)
 within-filter n f [] h = tt
 within-filter n f (m ∷ ms) h =
-    cond_both (f m) (m ∷ filter f ms) (filter f ms) (AllByRecursion (λ m. place_of m.process < n)) (λ _. (h.0, within-filter n f ms h.1)) (λ _. within-filter n f ms h.1)
+    cond_both (f m) (m ∷ filter f ms) (filter f ms) (AllByRecursion (λ m. place_of m.process < n))
+    (λ _. (h.0, within-filter n f ms h.1)) (λ _. within-filter n f ms h.1)
 
 pub AreMembers-filter : (f : Member → Bool) (ms : List Member) (n : ℕ) → AreMembers ms n → AreMembers (filter f ms) n
 AreMembers-filter f ms n are = record {
@@ -89,7 +104,8 @@ are_once-numbered : (k : ℕ) (ms : List Member) → are_once (numbered_from k m
 are_once-numbered k [] = refl
 are_once-numbered k (m ∷ ms) = rw (stands_in-numbered (k + 1) ms m.process, are_once-numbered (k + 1) ms) refl
 
-within-numbered : (n k : ℕ) (ms : List Member) → AllByRecursion (λ m. place_of m.process < n) ms → AllByRecursion (λ m. place_of m.process < n) (numbered_from k ms)
+within-numbered : (n k : ℕ) (ms : List Member) → AllByRecursion (λ m. place_of m.process < n) ms
+    → AllByRecursion (λ m. place_of m.process < n) (numbered_from k ms)
 within-numbered n k [] h = tt
 within-numbered n k (m ∷ ms) h = (h.0, within-numbered n (k + 1) ms h.1)
 
@@ -109,13 +125,16 @@ refill_same xs ws same = ap (λ n. take n (ws ++ drop (length ws) xs)) (sym same
 
 -- one more has its new number
 pub number_more : (k p n : ℕ) (ms : List Member) (d : Member) → p < length ms → n ≡ k + p
-    → slice_set (numbered_from k (take p ms) ++ drop p ms) p (record { process = (slice_index_or (numbered_from k (take p ms) ++ drop p ms) p d).process; incarnation = n })
+    → slice_set (numbered_from k (take p ms) ++ drop p ms) p
+    (record { process = (slice_index_or (numbered_from k (take p ms) ++ drop p ms) p d).process; incarnation = n })
     ≡ numbered_from k (take (p + 1) ms) ++ drop (p + 1) ms
 number_more k p n [] d inside is = absurd (omega arith)
-number_more k zero n (m ∷ ms) d inside is = ap (λ (i : ℕ). record { process = m.process; incarnation = i } ∷ ms) (let same : n ≡ k = omega arith in same)
+number_more k zero n (m ∷ ms) d inside is =
+    ap (λ (i : ℕ). record { process = m.process; incarnation = i } ∷ ms) (let same : n ≡ k = omega arith in same)
 number_more k (suc p) n (m ∷ ms) d inside is =
     let more : suc p + 1 ≡ suc (p + 1) = omega arith in
-    ap (λ xs. record { process = m.process; incarnation = k } ∷ xs) (number_more (k + 1) p n ms d (omega arith) (omega arith))
+    ap (λ xs. record { process = m.process; incarnation = k } ∷ xs)
+    (number_more (k + 1) p n ms d (omega arith) (omega arith))
     ∙ ap (λ j. numbered_from k (take j (m ∷ ms)) ++ drop j (m ∷ ms)) (sym more)
 
 pub length-numbered : (k : ℕ) (ms : List Member) → length (numbered_from k ms) ≡ length ms

@@ -1,5 +1,6 @@
 -- The walk of the polls passes those that have no mark.
-use Rattle.std.proofs.Common.{ℕ, zero, suc, ◌≡◌, ◌+◌, ◌≤◌, ◌&&◌, arith, Bool, true, false, not, cond, List, [], ◌∷◌, drop, length, Option, Some, None, refl, sym, ap, ◌∙◌}
+use Rattle.std.proofs.Common.{ℕ, zero, suc, ◌≡◌, ◌+◌, ◌≤◌, ◌&&◌, arith, Bool, true, false, not, cond, List, [], ◌∷◌}
+use Rattle.std.proofs.Common.{drop, length, Option, Some, None, refl, sym, ap, ◌∙◌}
 use Rattle.std.specs.Prelude.{if◌then◌else◌, nat_lt}
 use Rattle.std.specs.List.{position, position_or_len}
 use Rattle.std.proofs.lemmas.Bool.{cond_both, ltb-false}
@@ -28,27 +29,34 @@ module _ (calls : Calls) (s : State) where
   pub passes : (m : Member) → marked m ≡ false → poll_turn_of calls s m ≡ Goes tt s
   unfolding poll_turn_of
   passes m h =
-      ap (λ b. if b then calls.call (with_mark s m.process false) m.process (told Poll 0) else Goes tt s) (ap (λ b. is_on_list s m && b) h ∙ and_false (is_on_list s m))
+      ap (λ b. if b then calls.call (with_mark s m.process false) m.process (told Poll 0) else Goes tt s)
+      (ap (λ b. is_on_list s m && b) h ∙ and_false (is_on_list s m))
 
-  step : (m : Member) (ms : List Member) → walk_polls calls ms s ≡ walk_polls calls (drop (position_or_len marked ms) ms) s → (b : Bool) → marked m ≡ b
-      → walk_polls calls (m ∷ ms) s ≡ walk_polls calls (drop (cond (not b) (1 + position_or_len marked ms) 0) (m ∷ ms)) s
+  step : (m : Member) (ms : List Member)
+      → walk_polls calls ms s ≡ walk_polls calls (drop (position_or_len marked ms) ms) s → (b : Bool) → marked m ≡ b
+      → walk_polls calls (m ∷ ms) s
+      ≡ walk_polls calls (drop (cond (not b) (1 + position_or_len marked ms) 0) (m ∷ ms)) s
   step m ms rest true h = refl
   step m ms rest false h =
       let next : 1 + position_or_len marked ms ≡ suc (position_or_len marked ms) = omega arith in
-      ap (λ o. o >>= λ _ s1. walk_polls calls ms s1) (passes m h) ∙ rest ∙ ap (λ i. walk_polls calls (drop i (m ∷ ms)) s) (sym next)
+      ap (λ o. o >>= λ _ s1. walk_polls calls ms s1) (passes m h) ∙ rest
+      ∙ ap (λ i. walk_polls calls (drop i (m ∷ ms)) s) (sym next)
 
   skips : (ms : List Member) → walk_polls calls ms s ≡ walk_polls calls (drop (position_or_len marked ms) ms) s
   skips [] = refl
   skips (m ∷ ms) = step m ms (skips ms) (marked m) refl
 
   -- the walk begins at the first that has a mark
-  pub walk_from : (ms : List Member) (i : ℕ) → position marked ms ≡ Some i → walk_polls calls ms s ≡ walk_polls calls (drop i ms) s
+  pub walk_from : (ms : List Member) (i : ℕ) → position marked ms ≡ Some i
+      → walk_polls calls ms s ≡ walk_polls calls (drop i ms) s
   walk_from ms i is =
-      cond_both (nat_lt (position_or_len marked ms) (length ms)) (Some (position_or_len marked ms)) None (λ (o : Option ℕ). o ≡ Some i → walk_polls calls ms s ≡ walk_polls calls (drop i ms) s)
+      cond_both (nat_lt (position_or_len marked ms) (length ms)) (Some (position_or_len marked ms)) None
+      (λ (o : Option ℕ). o ≡ Some i → walk_polls calls ms s ≡ walk_polls calls (drop i ms) s)
       (λ _ here. let same : position_or_len marked ms ≡ i = cc in rw (← same) (skips ms)) (λ _ there. cc) is
 
   -- where none has a mark, nothing is done
   pub walk_none : (ms : List Member) → position marked ms ≡ None → walk_polls calls ms s ≡ Goes tt s
   walk_none ms is =
-      cond_both (nat_lt (position_or_len marked ms) (length ms)) (Some (position_or_len marked ms)) None (λ (o : Option ℕ). o ≡ None → walk_polls calls ms s ≡ Goes tt s)
+      cond_both (nat_lt (position_or_len marked ms) (length ms)) (Some (position_or_len marked ms)) None
+      (λ (o : Option ℕ). o ≡ None → walk_polls calls ms s ≡ Goes tt s)
       (λ _ here. cc) (λ past _. skips ms ∙ ap (λ l. walk_polls calls l s) (none_behind ms _ (ltb-false _ _ past))) is

@@ -1,5 +1,6 @@
 -- A process that is started is running, and so its call costs a unit of work.
-use Rattle.std.proofs.Common.{ℕ, zero, suc, ◌≡◌, ◌<◌, List, [], ◌∷◌, length, Result, Ok, Err, OnOk, refl, ap, sym, ◌∙◌, arith, IsTrue}
+use Rattle.std.proofs.Common.{ℕ, zero, suc, ◌≡◌, ◌<◌, List, [], ◌∷◌, length, Result, Ok, Err, OnOk, refl, ap, sym}
+use Rattle.std.proofs.Common.{◌∙◌, arith, IsTrue}
 use Rattle.std.specs.Prelude.{slice_get, slice_set, unwrap_or}
 use Rattle.program_tree.specs.declared.event.Proc.{Proc}
 use Rattle.program_tree.specs.declared.event.Proc.TheVariants.{Own, Etimer, Ctimer, Radio}
@@ -19,7 +20,8 @@ abbrev after : {A : Type 0} → Outcome A → State
 after (Ends s) = s
 after (Goes a s) = s
 
-written : (xs : List ProcessState) (i : ℕ) (x d : ProcessState) → i < length xs → unwrap_or (slice_get (slice_set xs i x) i) d ≡ x
+written : (xs : List ProcessState) (i : ℕ) (x d : ProcessState) → i < length xs
+    → unwrap_or (slice_get (slice_set xs i x) i) d ≡ x
 written [] i x d h = absurd (omega arith)
 written (y ∷ ys) zero x d h = refl
 written (y ∷ ys) (suc i) x d h = written ys i x d (omega arith)
@@ -31,7 +33,9 @@ states s Etimer = refl
 states s Ctimer = refl
 states s Radio = refl
 
-pub enlisted_runs : (s s1 : State) (p : Proc) → place_of p < length s.states → enlist_of s p ≡ Goes tt s1 → IsTrue (is_running_state (state_at s1.states p))
+pub enlisted_runs : (s s1 : State) (p : Proc) → place_of p < length s.states → enlist_of s p ≡ Goes tt s1
+    → IsTrue (is_running_state (state_at s1.states p))
 enlisted_runs s s1 p within is =
-    let same : s1.states ≡ slice_set s.states (place_of p) Running = sym (ap (λ (o : Outcome (Unit {0})). (after o).states) is) ∙ states s p in
+    let same : s1.states ≡ slice_set s.states (place_of p) Running =
+    sym (ap (λ (o : Outcome (Unit {0})). (after o).states) is) ∙ states s p in
     rw (same, written s.states (place_of p) Running Off within) refl

@@ -12,7 +12,8 @@ abbrev pub underway : Mote → Out → Underway
 underway m out = record { mote = m; lines = out.lines.items; sends = out.sends.items }
 
 -- a failed mote goes on anyhow
-pub from_none : (step : Underway → Underway) (out : Out) (new : Option Mote) (out' : Out) → GoesOn step None out new out'
+pub from_none : (step : Underway → Underway) (out : Out) (new : Option Mote) (out' : Out)
+    → GoesOn step None out new out'
 from_none step out new out' = record { leads = λ u is. cc }
 
 pub from_some : (step : Underway → Underway) (m : Mote) (out : Out) (new : Option Mote) (out' : Out)
@@ -31,7 +32,8 @@ kernel_step gives (Some m) new out out' r (m', is, given) =
     from_some (λ u. after (gives u.mote u.lines u.sends)) m out new out' (rw (is, given) refl)
 
 -- what the kernel answered
-pub kernel_ran : (gives : Mote → List Line → List Sent → Given) (old new : Option Mote) (out out' : Out) (r : Ran) (u : Underway)
+pub kernel_ran : (gives : Mote → List Line → List Sent → Given) (old new : Option Mote) (out out' : Out) (r : Ran)
+    (u : Underway)
     → Tells gives old out (Ok r) new out' → underway_in old out ≡ Some u → (gives u.mote u.lines u.sends).ran ≡ r
 kernel_ran gives None new out out' r u h is = cc
 kernel_ran gives (Some m) new out out' r u (m', same, given) is =

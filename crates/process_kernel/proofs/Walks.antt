@@ -1,5 +1,6 @@
 -- The walk along the timer list.
-use Rattle.std.proofs.Common.{◌≡◌, ℕ, zero, suc, ◌+◌, ◌<◌, ◌≤◌, Bool, true, false, not, cond, ◌==◌, eqb, List, [], ◌∷◌, length, length-drop, drop, Option, Some, None, refl, sym, ap, ◌∙◌, arith, subst}
+use Rattle.std.proofs.Common.{◌≡◌, ℕ, zero, suc, ◌+◌, ◌<◌, ◌≤◌, Bool, true, false, not, cond, ◌==◌, eqb, List, []}
+use Rattle.std.proofs.Common.{◌∷◌, length, length-drop, drop, Option, Some, None, refl, sym, ap, ◌∙◌, arith, subst}
 use Rattle.std.specs.List.{after_first, position_or_len, find}
 use Rattle.std.proofs.lemmas.Bool.{cond_both, not-true, eqb-true, eq-eqb, false≢true, false_from_ne_true}
 use Rattle.std.proofs.Common.{◌*◌, if◌then◌else◌, filter, Err}
@@ -19,7 +20,8 @@ use Rattle.process_kernel.specs.Calls.{told}
 use Rattle.process_kernel.specs.Etimer.{fired_of, post_due, walk_timers, walks_of}
 use Rattle.process_kernel.specs.Views.{Tells}
 
-after_first-cons : (a k : ℕ) (ks : List ℕ) → after_first (λ o. o == a) (k ∷ ks) ≡ cond (k == a) ks (after_first (λ o. o == a) ks)
+after_first-cons : (a k : ℕ) (ks : List ℕ)
+    → after_first (λ o. o == a) (k ∷ ks) ≡ cond (k == a) ks (after_first (λ o. o == a) ks)
 after_first-cons a k ks =
     let n : ℕ = position_or_len (λ o. o == a) ks in
     elim (k == a) as (λ b. drop (cond (not b) (1 + n) 0 + 1) (k ∷ ks) ≡ cond b ks (drop (n + 1) ks)) [
@@ -28,9 +30,11 @@ after_first-cons a k ks =
     ]
 
 after_first-here : (a k : ℕ) (ks : List ℕ) → k ≡ a → after_first (λ o. o == a) (k ∷ ks) ≡ ks
-after_first-here a k ks same = after_first-cons a k ks ∙ ap (λ b. cond b ks (after_first (λ o. o == a) ks)) (eq-eqb k a same)
+after_first-here a k ks same =
+    after_first-cons a k ks ∙ ap (λ b. cond b ks (after_first (λ o. o == a) ks)) (eq-eqb k a same)
 
-after_first-later : (a k : ℕ) (ks : List ℕ) → (k == a) ≡ false → after_first (λ o. o == a) (k ∷ ks) ≡ after_first (λ o. o == a) ks
+after_first-later : (a k : ℕ) (ks : List ℕ) → (k == a) ≡ false
+    → after_first (λ o. o == a) (k ∷ ks) ≡ after_first (λ o. o == a) ks
 after_first-later a k ks away = after_first-cons a k ks ∙ ap (λ b. cond b ks (after_first (λ o. o == a) ks)) away
 
 no_longer : (a : ℕ) (ks : List ℕ) → length (after_first (λ o. o == a) ks) ≤ length ks
@@ -41,20 +45,26 @@ module _ (x a : ℕ) where
   abbrev after : ℕ → List ℕ → List ℕ
   after y ks = after_first (λ o. o == y) ks
 
-  rest_here : (k : ℕ) (ks : List ℕ) → length (cond (k == x) ks (after x ks)) < length ks → cond (k == x) ks (after x ks) ≡ after x ks
+  rest_here : (k : ℕ) (ks : List ℕ) → length (cond (k == x) ks (after x ks)) < length ks
+      → cond (k == x) ks (after x ks) ≡ after x ks
   rest_here k ks h =
-      cond_both (k == x) ks (after x ks) (λ (m : List ℕ). length m < length ks → m ≡ after x ks) (λ _ f. absurd (omega arith)) (λ _ f. refl) h
+      cond_both (k == x) ks (after x ks) (λ (m : List ℕ). length m < length ks → m ≡ after x ks)
+      (λ _ f. absurd (omega arith)) (λ _ f. refl) h
 
   rest_there : (k : ℕ) (ks : List ℕ) → (length (after x ks) < length (after a ks) → after x ks ≡ after x (after a ks))
-      → length (cond (k == x) ks (after x ks)) < length (after a ks) → cond (k == x) ks (after x ks) ≡ after x (after a ks)
+      → length (cond (k == x) ks (after x ks)) < length (after a ks)
+      → cond (k == x) ks (after x ks) ≡ after x (after a ks)
   rest_there k ks more h =
       cond_both (k == x) ks (after x ks) (λ (m : List ℕ). length m < length (after a ks) → m ≡ after x (after a ks))
       (λ _ f. let most = no_longer a ks in absurd (omega (arith, most))) (λ _ f. more f) h
 
   rest_cons : (k : ℕ) (ks : List ℕ) → (length (after x ks) < length (after a ks) → after x ks ≡ after x (after a ks))
-      → length (cond (k == x) ks (after x ks)) < length (cond (k == a) ks (after a ks)) → cond (k == x) ks (after x ks) ≡ after x (cond (k == a) ks (after a ks))
+      → length (cond (k == x) ks (after x ks)) < length (cond (k == a) ks (after a ks))
+      → cond (k == x) ks (after x ks) ≡ after x (cond (k == a) ks (after a ks))
   rest_cons k ks more h =
-      cond_both (k == a) ks (after a ks) (λ (l : List ℕ). length (cond (k == x) ks (after x ks)) < length l → cond (k == x) ks (after x ks) ≡ after x l)
+      cond_both (k == a) ks (after a ks)
+      (λ (l : List ℕ). length (cond (k == x) ks (after x ks)) < length l
+      → cond (k == x) ks (after x ks) ≡ after x l)
       (λ _ f. rest_here k ks f) (λ _ f. rest_there k ks more f) h
 
   pub rest_behind : (ks : List ℕ) → length (after x ks) < length (after a ks) → after x ks ≡ after x (after a ks)
@@ -62,7 +72,8 @@ module _ (x a : ℕ) where
   rest_behind (k ∷ ks) h =
       let P : List ℕ → List ℕ → Type 0 = λ m l. length m < length l → m ≡ after x l in
       subst (λ m. P m (after a (k ∷ ks))) (sym (after_first-cons x k ks))
-      (subst (λ l. P (cond (k == x) ks (after x ks)) l) (sym (after_first-cons a k ks)) (rest_cons k ks (rest_behind ks))) h
+      (subst (λ l. P (cond (k == x) ks (after x ks)) l) (sym (after_first-cons a k ks))
+      (rest_cons k ks (rest_behind ks))) h
 
 pub behind_rest : (after : Option ℕ) (ks : List ℕ) (x : ℕ) → length (behind (Some x) ks) < length (behind after ks)
     → behind (Some x) ks ≡ after_first (λ o. o == x) (behind after ks)
@@ -72,7 +83,8 @@ behind_rest (Some a) ks x h = rest_behind x a ks h
 passes : (p : ℕ → Bool) (ks : List ℕ) (x : ℕ) → find p ks ≡ Some x → p x ≡ true
 passes p [] x found = cc
 passes p (k ∷ ks) x found =
-    cond_both (p k) (Some k) (find p ks) (λ (o : Option ℕ). o ≡ Some x → p x ≡ true) (λ holds here. let same : k ≡ x = cc in rw (← same) holds) (λ _ there. passes p ks x there) found
+    cond_both (p k) (Some k) (find p ks) (λ (o : Option ℕ). o ≡ Some x → p x ≡ true)
+    (λ holds here. let same : k ≡ x = cc in rw (← same) holds) (λ _ there. passes p ks x there) found
 
 module _ (again : State → Went) (s : State) where
   abbrev due : ℕ → Bool
@@ -80,14 +92,20 @@ module _ (again : State → Went) (s : State) where
 
   -- the walk comes to the first timer that is due
   pub walk_found : (ks : List ℕ) (x : ℕ) → find due ks ≡ Some x
-      → walk_timers again ks s ≡ post_due again (walk_timers again (after_first (λ o. o == x) ks)) s x (timer_at s.timers.timers x).owner
+      → walk_timers again ks s
+      ≡ post_due again (walk_timers again (after_first (λ o. o == x) ks)) s x (timer_at s.timers.timers x).owner
   walk_found [] x found = cc
   walk_found (t ∷ ts) x found =
       cond_both (due t) (Some t) (find due ts)
-      (λ (o : Option ℕ). o ≡ Some x → walk_timers again (t ∷ ts) s ≡ post_due again (walk_timers again (after_first (λ o. o == x) (t ∷ ts))) s x (timer_at s.timers.timers x).owner)
+      (λ (o : Option ℕ). o ≡ Some x
+      → walk_timers again (t ∷ ts) s
+      ≡ post_due again (walk_timers again (after_first (λ o. o == x) (t ∷ ts))) s x
+      (timer_at s.timers.timers x).owner)
       (λ holds here. let same : t ≡ x = cc in rw (holds, after_first-here x t ts same, same) refl)
       (λ fails there.
-      let away : (t == x) ≡ false = false_from_ne_true (t == x) (λ e. let same : t ≡ x = eqb-true t x e in false≢true (sym fails ∙ ap due same ∙ passes due ts x there)) in
+      let away : (t == x) ≡ false =
+      false_from_ne_true (t == x)
+      (λ e. let same : t ≡ x = eqb-true t x e in false≢true (sym fails ∙ ap due same ∙ passes due ts x there)) in
       rw (fails, after_first-later x t ts away) (walk_found ts x there))
       found
 
@@ -113,7 +131,8 @@ begin zero s h = record { left = zero; enough = omega arith; walks = rw (empty s
 begin (suc n) s h = record { left = n; enough = omega arith; walks = refl }
 
 -- what halts goes no further
-pub halts_through : (A B : Type 0) (stop : Stop) (new : State) (o : Outcome A) (f : A → State → Outcome B) → Tells {A = A} (Err stop) new o → Tells {A = B} (Err stop) new (o >>= f)
+pub halts_through : (A B : Type 0) (stop : Stop) (new : State) (o : Outcome A) (f : A → State → Outcome B)
+    → Tells {A = A} (Err stop) new o → Tells {A = B} (Err stop) new (o >>= f)
 halts_through A B Halted new o f is = ap (λ x. x >>= f) is
 halts_through A B Memory new o f is = tt
 
@@ -124,21 +143,33 @@ pub record Found (s : State) (after : Option ℕ) (x : ℕ) (o : Proc) : Type 0 
 
 module _ (s : State) (after : Option ℕ) (x : ℕ) (o : Proc) (left : ℕ) (at : Found s after x o) where
   pub step : walk_timers (walks_of left) (behind after s.timers.listed) s
-      ≡ (post_of s (One o) (told Timer x) >>= λ full s1. if full then walk_timers (walks_of left) (after_first (λ y. y == x) (behind after s.timers.listed)) (poll_of s1 Etimer) else walks_of left (fired_of s1 x))
+      ≡ (post_of s (One o) (told Timer x)
+      >>= λ full s1. if full
+      then walk_timers (walks_of left) (after_first (λ y. y == x) (behind after s.timers.listed))
+      (poll_of s1 Etimer) else walks_of left (fired_of s1 x))
   unfolding first_due
   step =
-      walk_found (walks_of left) s (behind after s.timers.listed) x (sym at.first) ∙ ap (post_due (walks_of left) (walk_timers (walks_of left) (after_first (λ y. y == x) (behind after s.timers.listed))) s x) at.owner
+      walk_found (walks_of left) s (behind after s.timers.listed) x (sym at.first)
+      ∙ ap (post_due (walks_of left)
+      (walk_timers (walks_of left) (after_first (λ y. y == x) (behind after s.timers.listed))) s x) at.owner
 
-  pub full_step : (s1 s2 : State) → post_of s (One o) (told Timer x) ≡ Goes true s1 → s2 ≡ poll_of s1 Etimer → s2.timers ≡ s.timers
+  pub full_step : (s1 s2 : State) → post_of s (One o) (told Timer x) ≡ Goes true s1 → s2 ≡ poll_of s1 Etimer
+      → s2.timers ≡ s.timers
       → length (behind (Some x) s.timers.listed) < length (behind after s.timers.listed)
-      → walk_timers (walks_of left) (behind after s.timers.listed) s ≡ walk_timers (walks_of left) (behind (Some x) s2.timers.listed) s2
+      → walk_timers (walks_of left) (behind after s.timers.listed) s
+      ≡ walk_timers (walks_of left) (behind (Some x) s2.timers.listed) s2
   full_step s1 s2 full polled same nearer =
-      let rest : behind (Some x) s2.timers.listed ≡ after_first (λ y. y == x) (behind after s.timers.listed) = ap (λ (t : TimerLists). behind (Some x) t.listed) same ∙ behind_rest after s.timers.listed x nearer in
+      let rest : behind (Some x) s2.timers.listed ≡ after_first (λ y. y == x) (behind after s.timers.listed) =
+      ap (λ (t : TimerLists). behind (Some x) t.listed) same ∙ behind_rest after s.timers.listed x nearer in
       step ∙ rw full (rw (rest, ← polled) refl)
 
-  pub fired_step : (s1 s2 : State) → post_of s (One o) (told Timer x) ≡ Goes false s1 → s2 ≡ fired_of s1 x → length s2.timers.listed ≤ left
-      → (more : ℕ) × (length s2.timers.listed ≤ more + 1) × (walk_timers (walks_of left) (behind after s.timers.listed) s ≡ walk_timers (walks_of more) s2.timers.listed s2)
-  fired_step s1 s2 room fired fewer = let b = begin left s2 fewer in (b.left, b.enough, step ∙ rw (room, ← fired) b.walks)
+  pub fired_step : (s1 s2 : State) → post_of s (One o) (told Timer x) ≡ Goes false s1 → s2 ≡ fired_of s1 x
+      → length s2.timers.listed ≤ left
+      → (more : ℕ) × (length s2.timers.listed ≤ more + 1)
+      × (walk_timers (walks_of left) (behind after s.timers.listed) s
+      ≡ walk_timers (walks_of more) s2.timers.listed s2)
+  fired_step s1 s2 room fired fewer =
+      let b = begin left s2 fewer in (b.left, b.enough, step ∙ rw (room, ← fired) b.walks)
 
   pub halt_step : (stop : Stop) (new : State) → Tells {A = Bool} (Err stop) new (post_of s (One o) (told Timer x))
       → Tells {A = Unit {0}} (Err stop) new (walk_timers (walks_of left) (behind after s.timers.listed) s)
@@ -148,16 +179,20 @@ few : (f : ℕ → Bool) (ks : List ℕ) → length (filter f ks) ≤ length ks
 few f [] = omega arith
 few f (k ∷ ks) =
     let rest = few f ks in
-    cond_both (f k) (k ∷ filter f ks) (filter f ks) (λ (l : List ℕ). length l ≤ suc (length ks)) (λ _. omega (arith, rest)) (λ _. omega (arith, rest))
+    cond_both (f k) (k ∷ filter f ks) (filter f ks) (λ (l : List ℕ). length l ≤ suc (length ks))
+    (λ _. omega (arith, rest)) (λ _. omega (arith, rest))
 
 pub fewer_without : (x : ℕ) (ks : List ℕ) → is_member x ks ≡ true → length (without_member x ks) < length ks
 fewer_without x [] there = absurd (false≢true there)
 fewer_without x (k ∷ ks) there =
     let rest = few (λ y. not (y == x)) ks in
-    cond_both (not (k == x)) (k ∷ without_member x ks) (without_member x ks) (λ (l : List ℕ). length l < suc (length ks))
+    cond_both (not (k == x)) (k ∷ without_member x ks) (without_member x ks)
+    (λ (l : List ℕ). length l < suc (length ks))
     (λ away.
     let other : (k == x) ≡ false = not-true (k == x) away in
-    let apart : eqb x k ≡ false = false_from_ne_true (eqb x k) (λ e. let same : x ≡ k = eqb-true x k e in false≢true (sym other ∙ eq-eqb k x (sym same))) in
+    let apart : eqb x k ≡ false =
+    false_from_ne_true (eqb x k)
+    (λ e. let same : x ≡ k = eqb-true x k e in false≢true (sym other ∙ eq-eqb k x (sym same))) in
     let later = fewer_without x ks (rw apart at there) in omega (arith, later))
     (λ _. omega (arith, rest))
 
@@ -166,6 +201,7 @@ square_less a b c h =
     let one : a + 1 ≤ b = omega arith in
     omega (arith, mul-le-mul_left (a + 1) one, mul-le-mul_left b one)
 
-pub fired_fewer : (ts : TimerLists) (x : ℕ) → is_member x ts.listed ≡ true → length (stop_timer ts x).listed < length ts.listed
+pub fired_fewer : (ts : TimerLists) (x : ℕ) → is_member x ts.listed ≡ true
+    → length (stop_timer ts x).listed < length ts.listed
 unfolding stop_timer
 fired_fewer ts x there = fewer_without x ts.listed there

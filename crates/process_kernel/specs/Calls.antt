@@ -19,11 +19,11 @@ told event word = record { number = system_number event; word = word; sender = 0
 abbrev pub is_system_event : SystemEvent → Event → Bool
 is_system_event event e = e.number == system_number event
 
--- what a thread answered, and what it has still to do
+-- the answer of a thread, and what it has still to do
 abbrev pub Answer : Type 0
 Answer = PtState × Remainder
 
--- The calls that a rule may make: that of a process with an event, and the run of a thread of a process up to its answer.
+-- The calls that a rule may make: of a process with an event, and of a thread of a process, which runs to its answer.
 pub record Calls : Type 0 where
   pub call : State → Proc → Event → Went
   pub run : State → Code → Remainder → (process : ℕ) → Event → Outcome Answer
@@ -32,4 +32,5 @@ pub record Calls : Type 0 where
 abbrev pub walk_of : Calls → Event → (skipped : Proc) → List Member → State → Went
 walk_of calls e skipped [] s = Goes tt s
 walk_of calls e skipped (m ∷ ms) s =
-    (if not (is_same m.process skipped) && is_on_list s m then calls.call s m.process e else Goes tt s) >>= λ _ s1. walk_of calls e skipped ms s1
+    (if not (is_same m.process skipped) && is_on_list s m then calls.call s m.process e else Goes tt s)
+    >>= λ _ s1. walk_of calls e skipped ms s1

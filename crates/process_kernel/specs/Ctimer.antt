@@ -24,8 +24,9 @@ callback_of calls s e =
 abbrev pub waits_for : State → (timer : ℕ) → Bool
 waits_for s timer = has_timer s timer && is_member timer s.callbacks
 
--- a callback that waits for its timer is taken off the callback list and runs
+-- a callback that waits for its timer is removed from the callback list and runs
 unfoldable pub ctimer_of : Calls → State → Event → Went
 ctimer_of calls s e =
-    if is_system_event Timer e && waits_for s e.word then callback_of calls (record s { callbacks = without_member e.word s.callbacks }) e
+    if is_system_event Timer e && waits_for s e.word
+    then callback_of calls (record s { callbacks = without_member e.word s.callbacks }) e
     else Goes tt s

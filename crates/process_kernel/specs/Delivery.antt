@@ -15,13 +15,14 @@ use Rattle.process_kernel.specs.Polls.{polls_due_of}
 -- an event reaches a process, or is dropped
 unfoldable pub give_of : Calls → State → Posted → Proc → (is_there : Bool) → Went
 give_of calls s x p is_there =
-    if is_there then (write_of s (what.Take x.serial p) >>= λ _ s1. calls.call s1 p x.event) else write_of s (what.Drop x.serial p)
+    if is_there then (write_of s (what.Take x.serial p) >>= λ _ s1. calls.call s1 p x.event)
+    else write_of s (what.Drop x.serial p)
 
 -- the turn of an incarnation in the walk of an event that goes to all: the polls come first, where the flag is set
 unfoldable pub visit_of : Calls → State → Posted → Member → Went
 visit_of calls s x m = polls_due_of calls s >>= λ _ s1. give_of calls s1 x m.process (is_on_list s1 m)
 
--- the walk of an event that goes to all, which skips none
+-- the walk of an event that goes to all
 abbrev pub walk_event : Calls → Posted → List Member → State → Went
 walk_event calls x [] s = Goes tt s
 walk_event calls x (m ∷ ms) s = visit_of calls s x m >>= λ _ s1. walk_event calls x ms s1

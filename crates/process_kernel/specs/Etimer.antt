@@ -11,22 +11,24 @@ use Rattle.process_kernel.specs.State.{State, Went, Goes, ◌>>=◌}
 use Rattle.process_kernel.specs.Posts.{post_of, poll_of}
 use Rattle.process_kernel.specs.Calls.{told, is_system_event}
 
--- the event of a timer was posted: it is off the timer list, and has no owner
+-- the event of a timer was posted: it is removed from the timer list, and has no owner
 unfoldable pub fired_of : State → (timer : ℕ) → State
 fired_of s timer = record s { timers = stop_timer s.timers timer }
 
--- A timer that is due is posted to its owner. Where the event is accepted, the timer is off the list, and the walk begins
--- again; where the queue is full, it stays, and etimer is to be polled once more.
+-- A timer that is due is posted to its owner. If the event is accepted, the timer is removed from the list, and the
+-- walk begins again; if the queue is full, it stays, and etimer is to be polled once more.
 abbrev pub post_due : (again on : State → Went) → State → (timer : ℕ) → Option Proc → Went
 post_due again on s timer None = on s
 post_due again on s timer (Some owner) =
-    post_of s (One owner) (told Timer timer) >>= λ full s1. if full then on (poll_of s1 Etimer) else again (fired_of s1 timer)
+    post_of s (One owner) (told Timer timer)
+    >>= λ full s1. if full then on (poll_of s1 Etimer) else again (fired_of s1 timer)
 
 -- along these timers of the list, from the front on
 abbrev pub walk_timers : (again : State → Went) → List ℕ → State → Went
 walk_timers again [] s = Goes tt s
 walk_timers again (t ∷ ts) s =
-    if is_due s.moment (timer_at s.timers.timers t) then post_due again (walk_timers again ts) s t (timer_at s.timers.timers t).owner
+    if is_due s.moment (timer_at s.timers.timers t)
+    then post_due again (walk_timers again ts) s t (timer_at s.timers.timers t).owner
     else walk_timers again ts s
 
 -- walks along the timer list, each from its front, as long as timers leave the list: at most so many may leave it
@@ -38,10 +40,11 @@ walks_of (suc k) s = walk_timers (walks_of k) s.timers.listed s
 unfoldable pub pass_of : State → Went
 pass_of s = walks_of (length s.timers.listed) s
 
--- the timers of a process that left are off the list, and keep their owner
+-- the timers of a process that left are removed from the list, and keep their owner
 unfoldable pub purge_of : State → (process : ℕ) → State
 purge_of s p = if nat_lt p 256 then record s { timers = purge_timers s.timers (Own p) } else s
 
 unfoldable pub etimer_of : State → Event → Went
 etimer_of s e =
-    if is_system_event Poll e then pass_of s else (if is_system_event Exited e then Goes tt (purge_of s e.word) else Goes tt s)
+    if is_system_event Poll e then pass_of s
+    else (if is_system_event Exited e then Goes tt (purge_of s e.word) else Goes tt s)

@@ -10,13 +10,17 @@ use Rattle.process_kernel.specs.Public.{Given}
 -- what a boot or a run answers as left is what the mote has left to do
 abbrev pub TellsLeft : (ℕ → Mote → List Line → List Sent → Given) → Type 0
 TellsLeft gives =
-    (moment : ℕ) (m : Mote) (lines : List Line) (sends : List Sent) (n : ℕ) → (gives moment m lines sends).ran ≡ Left n → n ≡ left_of (gives moment m lines sends).mote.state
+    (moment : ℕ) (m : Mote) (lines : List Line) (sends : List Sent) (n : ℕ)
+    → (gives moment m lines sends).ran ≡ Left n
+    → n ≡ left_of (gives moment m lines sends).mote.state
 
 -- a mote is pending exactly where something is left to do
 abbrev pub PendingIsLeft : Type 0
 PendingIsLeft = (m : Mote) → is_pending m ≡ nat_lt 0 (left_of m.state)
 
--- a mote that has halted stays as it is, and nothing is written
+-- a mote that has halted never changes, and nothing is written
 abbrev pub StaysHalted : (ℕ → Mote → List Line → List Sent → Given) → Type 0
 StaysHalted gives =
-    (moment : ℕ) (m : Mote) (lines : List Line) (sends : List Sent) → m.halted ≡ true → gives moment m lines sends ≡ record { ran = Halted; mote = m; lines = lines; sends = sends }
+    (moment : ℕ) (m : Mote) (lines : List Line) (sends : List Sent)
+    → m.halted ≡ true
+    → gives moment m lines sends ≡ record { ran = Halted; mote = m; lines = lines; sends = sends }

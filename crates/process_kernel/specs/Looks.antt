@@ -14,7 +14,8 @@ abbrev pub places_from : {A : Type 0} → (A → Bool) → (k : ℕ) → List A 
 places_from test k [] = []
 places_from test k (x ∷ xs) = if test x then k ∷ places_from test (k + 1) xs else places_from test (k + 1) xs
 
--- the moment, the mote, the timers that nobody owns, the program's processes that are running or called, and the semaphores
+-- the moment, the mote, the timers without an owner, the program's processes that are running or called, and the
+-- semaphores
 abbrev pub looks_at : (moment mote : ℕ) → List Timer → List ProcessState → (semaphores : List ℕ) → Looks
 looks_at moment mote timers states semaphores = record {
   moment = moment;

@@ -56,11 +56,11 @@ with_packet m a = record m { state = record m.state { ring = m.state.ring ++ a �
 unfoldable pub with_poll : Mote → Proc → Mote
 with_poll m p = record m { state = poll_of m.state p }
 
--- there is something to do: an event is queued, or the poll flag is set
+-- something is left to do: an event is queued, or the poll flag is set
 abbrev pub is_pending : Mote → Bool
 is_pending m = nat_lt 0 (length m.state.queue.events) || m.state.flag
 
--- how many packets wait in the ring
+-- how many packets are in the ring
 abbrev pub holds_packets : Mote → ℕ
 holds_packets m = length m.state.ring
 

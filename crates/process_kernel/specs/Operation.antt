@@ -24,8 +24,8 @@ use Rattle.process_kernel.specs.Kill.{kill_of}
 abbrev pub posted : ℕ → ℕ → Event
 posted number word = record { number = number; word = word; sender = 0 }
 
--- An operation that has no answer, for the current process: the one whose body, handler or callback is being executed. A post, which
--- has one, is left to `perform_of`; its line here is never reached, and only makes this a definition for each `Op`.
+-- An operation that has no answer, for the current process: the one whose body, handler or callback is being executed.
+-- A post, which has one, is left to `perform_of`; its line here is never reached, and makes the definition total.
 unfoldable pub act_of : Calls → State → (current : ℕ) → Op → Went
 act_of calls s current (op.Post t e w) = Goes tt s
 act_of calls s current (op.Synch p e w) = calls.call s p (posted e w)
@@ -44,13 +44,14 @@ act_of calls s current (op.Signal k) = Goes tt (signal_of s k)
 -- a thread is told whether the queue was full
 abbrev pub answered_with : Option (List ℕ) → State → Remainder → (process : ℕ) → (answer : ℕ) → Outcome Remainder
 answered_with (Some variables) s r p answer =
-    let a = answered_of r variables answer in Goes a.remainder (record s { variables = slice_set s.variables p a.variables })
+    let a = answered_of r variables answer in
+    Goes a.remainder (record s { variables = slice_set s.variables p a.variables })
 answered_with None s r p answer = Goes r s
 
 unfoldable pub answer_of : State → Remainder → (process : ℕ) → Bool → Outcome Remainder
 answer_of s r p full = answered_with (slice_get s.variables p) s r p (if full then 1 else 0)
 
--- an operation is performed; the thread stays as it is, but that it is told the answer to what it posted
+-- an operation is performed; the thread is unchanged, but for the answer to a post
 unfoldable pub perform_of : Calls → State → Remainder → (current : ℕ) → Op → Outcome Remainder
 perform_of calls s r current (op.Post t e w) = post_of s t (posted e w) >>= λ full s1. answer_of s1 r current full
 perform_of calls s r current o = act_of calls s current o >>= λ _ s1. Goes r s1

@@ -13,8 +13,10 @@ use Rattle.process_kernel.specs.Writes.{write_of, halted_of}
 unfoldable pub post_of : State → Target → Event → Outcome Bool
 post_of s t e =
     if nat_le (2 ^ 62) s.queue.accepted then Ends (halted_of s)
-    else (if nat_le s.queue.capacity (length s.queue.events) then (write_of s (what.Full t e.number e.word) >>= λ _ s1. Goes true s1)
-    else (write_of (record s { queue = with_posted s.queue t e }) (what.Post s.queue.accepted t e.number e.word) >>= λ _ s1. Goes false s1))
+    else (if nat_le s.queue.capacity (length s.queue.events)
+    then (write_of s (what.Full t e.number e.word) >>= λ _ s1. Goes true s1)
+    else (write_of (record s { queue = with_posted s.queue t e }) (what.Post s.queue.accepted t e.number e.word)
+    >>= λ _ s1. Goes false s1))
 
 -- a process that is running or called is to be polled
 unfoldable pub poll_of : State → Proc → State

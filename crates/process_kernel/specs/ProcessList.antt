@@ -17,7 +17,7 @@ use Rattle.process_kernel.specs.Writes.{write_of}
 unfoldable pub put_remainder : State → (process : ℕ) → Remainder → State
 put_remainder s p r = record s { remainders = slice_set s.remainders p r }
 
--- of the process with this number the whole body is still to be done
+-- the process with this number has its whole body still to do
 abbrev pub fresh_at : List Code → List Remainder → (process : ℕ) → List Remainder
 fresh_at [] rs p = rs
 fresh_at (c ∷ cs) [] p = []

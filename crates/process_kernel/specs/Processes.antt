@@ -1,4 +1,4 @@
--- What is said of a process, and of its incarnations.
+-- Properties of a process, and of its incarnations.
 use Rattle.std.specs.Prelude.{nat_lt, Bool, true, false, ◌||◌, List, length, unwrap_or, slice_get, slice_set}
 use Rattle.program_tree.specs.declared.event.Proc.{Proc}
 use Rattle.process_kernel.specs.declared.process.ProcessState.{ProcessState}
@@ -7,7 +7,7 @@ use Rattle.process_kernel.specs.declared.process.Member.{Member}
 use Rattle.process_kernel.specs.Members.{place_of, holds_member, stands_in}
 use Rattle.process_kernel.specs.State.{State}
 
--- a process that the mote doesn't have has the state of one that was never started
+-- a process that the mote doesn't have is off
 abbrev pub state_at : List ProcessState → Proc → ProcessState
 state_at states p = unwrap_or (slice_get states (place_of p)) Off
 

@@ -20,13 +20,15 @@ use Rattle.process_kernel.specs.Radio.{radio_of}
 unfoldable pub handler_of : Calls → State → Code → (process : ℕ) → Event → Went
 handler_of calls s code p e =
     if is_system_event Poll e then (calls.run s code (fresh_of code OnPoll) p e >>= λ _ s1. Goes tt s1)
-    else (if is_system_event Exit e then (calls.run s code (fresh_of code OnExit) p e >>= λ _ s1. Goes tt s1) else Goes tt s)
+    else (if is_system_event Exit e
+    then (calls.run s code (fresh_of code OnExit) p e >>= λ _ s1. Goes tt s1)
+    else Goes tt s)
 
 -- what the body has still to do
 abbrev pub remainder_at : State → Code → (process : ℕ) → Remainder
 remainder_at s code p = unwrap_or (slice_get s.remainders p) (fresh_of code Body)
 
--- The body is resumed. While it runs a fresh one stands in its place, where nobody looks.
+-- The body is resumed. While it runs, a fresh one stands in its place.
 unfoldable pub resume_of : Calls → State → Code → (process : ℕ) → Event → Outcome PtState
 resume_of calls s code p e =
     calls.run (with_fresh_body s p) code (remainder_at s code p) p e >>= λ a s1. Goes a.0 (put_remainder s1 p a.1)

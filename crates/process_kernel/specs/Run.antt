@@ -8,7 +8,7 @@ use Rattle.process_kernel.specs.Calls.{Calls}
 use Rattle.process_kernel.specs.Polls.{polls_due_of}
 use Rattle.process_kernel.specs.Delivery.{deliver_of}
 
--- the units of work that a boot has, and each kernel run
+-- the units of work of a boot, and of each kernel run
 abbrev pub most_units : ℕ
 most_units = 10000
 
@@ -25,12 +25,12 @@ begun_of s moment = record s {
 abbrev pub left_of : State → ℕ
 left_of s = length s.queue.events + (if s.flag then 1 else 0)
 
--- the front event is taken from the queue, which has a place free then, and delivered
+-- the oldest event is removed from the queue, and then delivered
 abbrev pub deliver_front : Calls → List Posted → State → Went
 deliver_front calls [] s = Goes tt s
 deliver_front calls (x ∷ xs) s = deliver_of calls (record s { queue = without_front s.queue }) x
 
--- a kernel run: the polls, where the flag is set, and then one event, if there is one; the answer is what is left
+-- a kernel run: the polls, if the flag is set, and then one event, if there is one; the answer is what is left
 unfoldable pub kernel_of : Calls → State → Outcome ℕ
 kernel_of calls s =
     polls_due_of calls s >>= λ _ s1. deliver_front calls s1.queue.events s1 >>= λ _ s2. Goes (left_of s2) s2

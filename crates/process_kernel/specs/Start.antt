@@ -13,4 +13,6 @@ use Rattle.process_kernel.specs.Calls.{Calls, told}
 unfoldable pub start_of : Calls → State → Proc → Went
 start_of calls s p =
     if is_busy s p then write_of s (what.Busy p)
-    else (if has_process s p && not (is_listed s p) then (enlist_of s p >>= λ _ s1. calls.call s1 p (told Init 0)) else Goes tt s)
+    else (if has_process s p && not (is_listed s p)
+    then (enlist_of s p >>= λ _ s1. calls.call s1 p (told Init 0))
+    else Goes tt s)

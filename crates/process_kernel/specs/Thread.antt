@@ -10,7 +10,7 @@ use Rattle.protothread.specs.Step.{Advanced, advanced_of}
 use Rattle.process_kernel.specs.State.{State}
 use Rattle.process_kernel.specs.Looks.{looks_of}
 
--- a step of a thread, with what is left to do and the state after it
+-- a step of a thread, with what it has still to do and the state after it
 pub record Stepped : Type 0 where
   pub step : Step
   pub remainder : Remainder

@@ -23,23 +23,30 @@ owner_of program timer current = if is_callback program timer then Ctimer else O
 -- a timer was set: the callback of a callback timer waits for it, and the etimer process is to be polled
 unfoldable pub timer_is_set : State → (timer : ℕ) → State
 timer_is_set s timer =
-    poll_of (record s { callbacks = if is_callback s.program timer then with_member timer s.callbacks else s.callbacks }) Etimer
+    poll_of
+    (record s { callbacks = if is_callback s.program timer then with_member timer s.callbacks else s.callbacks })
+    Etimer
 
 unfoldable pub set_of : State → (timer interval current : ℕ) → State
 set_of s timer interval current =
-    if has_timer s timer then timer_is_set (record s { timers = set_timer s.timers timer (owner_of s.program timer current) interval s.moment }) timer
+    if has_timer s timer then timer_is_set (record s
+    { timers = set_timer s.timers timer (owner_of s.program timer current) interval s.moment }) timer
     else s
 
 unfoldable pub reset_of : State → (timer current : ℕ) → State
 reset_of s timer current =
-    if has_timer s timer then timer_is_set (record s { timers = reset_timer s.timers timer (owner_of s.program timer current) }) timer
+    if has_timer s timer then timer_is_set (record s
+    { timers = reset_timer s.timers timer (owner_of s.program timer current) }) timer
     else s
 
 unfoldable pub restart_of : State → (timer current : ℕ) → State
 restart_of s timer current =
-    if has_timer s timer then timer_is_set (record s { timers = restart_timer s.timers timer (owner_of s.program timer current) s.moment }) timer
+    if has_timer s timer then timer_is_set (record s
+    { timers = restart_timer s.timers timer (owner_of s.program timer current) s.moment }) timer
     else s
 
 unfoldable pub stop_of : State → (timer : ℕ) → State
 stop_of s timer =
-    if has_timer s timer then record s { timers = stop_timer s.timers timer; callbacks = without_member timer s.callbacks } else s
+    if has_timer s timer then record s
+    { timers = stop_timer s.timers timer; callbacks = without_member timer s.callbacks }
+    else s

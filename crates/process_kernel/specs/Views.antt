@@ -66,7 +66,7 @@ state_of program m = record {
 abbrev pub looks_of_shown : Shown → Looks
 looks_of_shown x = looks_at x.moment x.mote x.timers.timers x.states.items x.semaphores.items
 
--- what a step told, and the state that it left, are this outcome, want of memory aside
+-- the answer of a step and the state after it are this outcome; out of memory no claim is made
 abbrev pub Tells : {A : Type 0} → Result A Stop → State → Outcome A → Type 0
 Tells (Ok a) s o = o ≡ Goes a s
 Tells (Err Halted) s o = o ≡ Ends s
@@ -86,19 +86,20 @@ unfoldable pub Begins : List Line → List Sent → Out → Type 0
 Begins lines sends out =
     ((more : List Line) × (out.lines.items ≡ lines ++ more)) × ((more : List Sent) × (out.sends.items ≡ sends ++ more))
 
--- what was written stays, whatever became of the step
+-- what was written before is still there, however the step ended
 abbrev pub Grows : Out → Out → Type 0
 Grows old new = (lines : List Line) (sends : List Sent) → Begins lines sends old → Begins lines sends new
 
--- each start is paid for by a unit of work that is spent, but for so many
+-- each start, except for so many, is paid for by a unit of work
 abbrev pub Spends : ℕ → Machine → Machine → Type 0
 Spends n old new = (new.fuel ≤ old.fuel) × (new.started + new.fuel ≤ old.started + old.fuel + n)
 
 -- the call of a running process costs a unit of work
 abbrev pub Pays : Proc → Machine → Machine → Type 0
-Pays p old new = IsTrue (is_running_state (state_at old.shown.states.items p)) → new.started + new.fuel + 1 ≤ old.started + old.fuel
+Pays p old new =
+    IsTrue (is_running_state (state_at old.shown.states.items p)) → new.started + new.fuel + 1 ≤ old.started + old.fuel
 
--- there is a number for each process that can still be started, and for so many more
+-- a number is left for each process that can still be started, and for so many more
 abbrev pub HasRoom : ℕ → Machine → Type 0
 HasRoom n m = m.started + m.fuel + n < 2 ^ 32
 

@@ -1,4 +1,4 @@
-//! Protothreads: their steps, and the answers that they are told.
+//! Protothreads: their steps, and the answers to their posts.
 
 ghost use Rattle.std.specs.Prelude.{◌≡◌};
 ghost use Rattle.program_tree.specs.Code.{Code, Tree};
@@ -15,7 +15,7 @@ use program_tree::{Event, ProcessText};
 use protothread::{PtState, Step, Thread};
 
 impl Machine {
-    /// Takes a thread of a process to its next operation or to its answer.
+    /// Advances a thread of a process to its next operation or to its answer.
     #[inline(always)]
     #[tactic(auto, unfolding(crate::specs::Thread::stepped_of))]
     pub fn advance(

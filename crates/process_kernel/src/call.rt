@@ -1,12 +1,13 @@
 //! The call of a process, and what the process does with the event.
 
-ghost use Rattle.std.specs.Prelude.{◌≡◌, ◌<◌, ℕ, Some, OnOk, slice_get};
+ghost use Rattle.std.specs.Prelude.{◌≡◌, Some, OnOk, slice_get};
 ghost use Rattle.program_tree.specs.Program.{tree_of, code_of};
 ghost use Rattle.protothread.specs.Places.{remainder_of};
-ghost use Rattle.process_kernel.specs.Call.{calls_of, has_ended as is_an_end};
+ghost use Rattle.process_kernel.specs.Call.{has_ended as is_an_end};
 ghost use Rattle.process_kernel.specs.Ctimer.{callback_of, ctimer_of};
+ghost use Rattle.process_kernel.specs.Follows.{Follows};
 ghost use Rattle.process_kernel.specs.Reaction.{handler_of, resume_of, own_of, react_of};
-ghost use Rattle.process_kernel.specs.Views.{state_of, Tells, Grows, HasRoom, Spends, Pays, told_answer, part_of};
+ghost use Rattle.process_kernel.specs.Views.{HasRoom, Pays, told_answer, part_of};
 
 use crate::event::is_event;
 use crate::machine::{Machine, Stop};
@@ -14,7 +15,6 @@ use crate::process::ProcessState;
 use program_tree::{Event, Proc, ProcessText, Program, SystemEvent};
 use protothread::{Part, PtState, Step, Thread};
 
-/// Whether it is the answer of a thread that exited by itself or has ended.
 fn has_ended(answer: PtState) -> bool
     ensures { result ≡ is_an_end answer }
 {
@@ -27,17 +27,14 @@ fn has_ended(answer: PtState) -> bool
 }
 
 impl Machine {
-    /// Calls a process with an event, which is lost where the process isn't running (`call_process` of `process.c`).
+    /// Calls a process with an event, which is lost if the process isn't running (`call_process` of `process.c`).
     #[cycle(kernel)]
     #[tactic(auto, unfolding(crate::specs::Call::call_of, crate::specs::Call::answered))]
     pub fn call(&mut self, program: &Program, process: Proc, event: &Event) -> Result<(), Stop>
         requires { HasRoom 0 self.old }
-        ensures exact { (k : ℕ) → self.old.fuel < k
-            → Tells result (state_of (tree_of program.now) self.new)
-            ((calls_of k).call (state_of (tree_of program.now) self.old) process event.now) }
-        ensures spends { OnOk result (Spends 0 self.old self.new) }
+        ensures follows { Follows program.now self.old result self.new
+            (λ calls state. calls.call state process event.now) }
         ensures pays { OnOk result (Pays process self.old self.new) }
-        ensures grows { Grows self.old.out self.new.out }
     {
         if !self.is_running(process) {
             return Ok(());
@@ -64,11 +61,8 @@ impl Machine {
         event: &Event,
     ) -> Result<PtState, Stop>
         requires { HasRoom 0 self.old }
-        ensures exact { (k : ℕ) → self.old.fuel < k
-            → Tells result (state_of (tree_of program.now) self.new)
-            (react_of (calls_of k) (state_of (tree_of program.now) self.old) process event.now) }
-        ensures spends { OnOk result (Spends 0 self.old self.new) }
-        ensures grows { Grows self.old.out self.new.out }
+        ensures { Follows program.now self.old result self.new
+            (λ calls state. react_of calls state process event.now) }
     {
         match process {
             Proc::Own(number) => self.react_as_own(program, number, event),
@@ -98,11 +92,7 @@ impl Machine {
         event: &Event,
     ) -> Result<PtState, Stop>
         requires { HasRoom 0 self.old }
-        ensures exact { (k : ℕ) → self.old.fuel < k
-            → Tells result (state_of (tree_of program.now) self.new)
-            (own_of (calls_of k) (state_of (tree_of program.now) self.old) number event.now) }
-        ensures spends { OnOk result (Spends 0 self.old self.new) }
-        ensures grows { Grows self.old.out self.new.out }
+        ensures { Follows program.now self.old result self.new (λ calls state. own_of calls state number event.now) }
     {
         if number >= program.processes() {
             return Ok(PtState::Ended);
@@ -123,11 +113,8 @@ impl Machine {
         event: &Event,
     ) -> Result<(), Stop>
         requires { HasRoom 0 self.old }
-        ensures exact { (k : ℕ) → self.old.fuel < k
-            → Tells result (state_of (tree_of program.now) self.new)
-            (handler_of (calls_of k) (state_of (tree_of program.now) self.old) (code_of text.now) number event.now) }
-        ensures spends { OnOk result (Spends 0 self.old self.new) }
-        ensures grows { Grows self.old.out self.new.out }
+        ensures { Follows program.now self.old result self.new
+            (λ calls state. handler_of calls state (code_of text.now) number event.now) }
     {
         if is_event(SystemEvent::Poll, event) {
             self.run_part(program, text, Part::OnPoll, number, event)
@@ -151,11 +138,8 @@ impl Machine {
     ) -> Result<PtState, Stop>
         requires room { HasRoom 0 self.old }
         requires text { slice_get (tree_of program.now).codes number ≡ Some (code_of text.now) }
-        ensures exact { (k : ℕ) → self.old.fuel < k
-            → Tells result (state_of (tree_of program.now) self.new)
-            (resume_of (calls_of k) (state_of (tree_of program.now) self.old) (code_of text.now) number event.now) }
-        ensures spends { OnOk result (Spends 0 self.old self.new) }
-        ensures grows { Grows self.old.out self.new.out }
+        ensures { Follows program.now self.old result self.new
+            (λ calls state. resume_of calls state (code_of text.now) number event.now) }
     {
         let mut body = self.take_thread(number)?;
         let answer = self.run(program, text, &mut body, number, event)?;
@@ -163,16 +147,12 @@ impl Machine {
         Ok(answer)
     }
 
-    /// The ctimer process: a callback that waits for this timer is taken off the callback list and runs.
+    /// The ctimer process: a callback that waits for this timer is removed from the callback list and runs.
     #[cycle(kernel)]
     #[tactic(auto, unfolding(crate::specs::Ctimer::ctimer_of))]
     fn react_as_ctimer(&mut self, program: &Program, event: &Event) -> Result<(), Stop>
         requires { HasRoom 0 self.old }
-        ensures exact { (k : ℕ) → self.old.fuel < k
-            → Tells result (state_of (tree_of program.now) self.new)
-            (ctimer_of (calls_of k) (state_of (tree_of program.now) self.old) event.now) }
-        ensures spends { OnOk result (Spends 0 self.old self.new) }
-        ensures grows { Grows self.old.out self.new.out }
+        ensures { Follows program.now self.old result self.new (λ calls state. ctimer_of calls state event.now) }
     {
         if !is_event(SystemEvent::Timer, event) {
             return Ok(());
@@ -188,11 +168,7 @@ impl Machine {
     #[tactic(auto, unfolding(crate::specs::Ctimer::callback_of))]
     fn call_back(&mut self, program: &Program, event: &Event) -> Result<(), Stop>
         requires { HasRoom 0 self.old }
-        ensures exact { (k : ℕ) → self.old.fuel < k
-            → Tells result (state_of (tree_of program.now) self.new)
-            (callback_of (calls_of k) (state_of (tree_of program.now) self.old) event.now) }
-        ensures spends { OnOk result (Spends 0 self.old self.new) }
-        ensures grows { Grows self.old.out self.new.out }
+        ensures { Follows program.now self.old result self.new (λ calls state. callback_of calls state event.now) }
     {
         let timer = event.word;
         if timer >= program.timers() {
@@ -214,11 +190,8 @@ impl Machine {
         event: &Event,
     ) -> Result<(), Stop>
         requires { HasRoom 0 self.old }
-        ensures exact { (k : ℕ) → self.old.fuel < k
-            → Tells result (state_of (tree_of program.now) self.new)
-            (part_of (calls_of k) (state_of (tree_of program.now) self.old) (code_of text.now) part process event.now) }
-        ensures spends { OnOk result (Spends 0 self.old self.new) }
-        ensures grows { Grows self.old.out self.new.out }
+        ensures { Follows program.now self.old result self.new
+            (λ calls state. part_of calls state (code_of text.now) part process event.now) }
     {
         if part.is_empty(text) {
             return Ok(());
@@ -226,7 +199,7 @@ impl Machine {
         self.run_fresh(program, text, part, process, event)
     }
 
-    /// Runs a fresh thread of a part. A call of it makes room for the thread, so it stands apart.
+    /// Runs a fresh thread of a part. It is not inlined, since its frame has the thread.
     #[cycle(kernel)]
     #[inline(never)]
     fn run_fresh(
@@ -238,11 +211,8 @@ impl Machine {
         event: &Event,
     ) -> Result<(), Stop>
         requires { HasRoom 0 self.old }
-        ensures exact { (k : ℕ) → self.old.fuel < k
-            → Tells result (state_of (tree_of program.now) self.new)
-            (part_of (calls_of k) (state_of (tree_of program.now) self.old) (code_of text.now) part process event.now) }
-        ensures spends { OnOk result (Spends 0 self.old self.new) }
-        ensures grows { Grows self.old.out self.new.out }
+        ensures { Follows program.now self.old result self.new
+            (λ calls state. part_of calls state (code_of text.now) part process event.now) }
     {
         let mut thread = Thread::fresh(part);
         self.run(program, text, &mut thread, process, event)?;
@@ -261,12 +231,9 @@ impl Machine {
         event: &Event,
     ) -> Result<PtState, Stop>
         requires { HasRoom 0 self.old }
-        ensures exact { (k : ℕ) → self.old.fuel < k
-            → Tells (told_answer (code_of text.now) thread.new result) (state_of (tree_of program.now) self.new)
-            ((calls_of k).run (state_of (tree_of program.now) self.old) (code_of text.now)
+        ensures { Follows program.now self.old (told_answer (code_of text.now) thread.new result) self.new
+            (λ calls state. calls.run state (code_of text.now)
             (remainder_of (code_of text.now) thread.old) process event.now) }
-        ensures spends { OnOk result (Spends 0 self.old self.new) }
-        ensures grows { Grows self.old.out self.new.out }
     {
         loop {
             match self.advance(text, thread, process, event) {

@@ -14,7 +14,7 @@ use std::error::Error;
 use std::{fmt, mem};
 use trace_lines::Out;
 
-/// How a boot or a kernel run ends: with so many events and polls left, or with the mote halted for good.
+/// How a boot or a kernel run ends.
 #[derive(Clone, Copy, Debug, PartialEq, Eq)]
 pub enum Ran {
     /// The queued events, and one more where the poll flag is set.
@@ -22,7 +22,6 @@ pub enum Ran {
     Halted,
 }
 
-/// Why a kernel gives no answer.
 #[derive(Clone, Copy, Debug, PartialEq, Eq)]
 pub enum KernelError {
     /// Out of memory: an allocation failed.
@@ -75,7 +74,7 @@ impl Kernel {
     ghost use Rattle.process_kernel.specs.Underway.{GoesOn};
     ghost use Rattle.process_kernel.specs.Runs.{runs_of};
 
-    /// The kernel of the mote with this number, not booted yet, with room for this many events in its queue, 1 to 128.
+    /// The kernel of the mote with this number, not booted yet, whose queue has this capacity, 1 to 128 events.
     #[tactic(auto, unfolding(crate::specs::Public::mote_in, crate::specs::Mote::unbooted))]
     pub fn new(
         alloc: Global,
@@ -120,7 +119,7 @@ impl Kernel {
         self.close(ran)
     }
 
-    /// One kernel run at this moment, whose lines and packets are added to what the machine has.
+    /// One kernel run at this moment, whose lines and packets are appended to those of the machine.
     fn run_on(&mut self, program: &Program, now: u64) -> Result<Ran, KernelError>
         requires { now ≤ 2 ^ 40 }
         ensures told { let t = tree_of program.now in
@@ -139,8 +138,8 @@ impl Kernel {
         self.close(ran)
     }
 
-    /// One kernel run at this moment: the polls, where they are due, and the event at the front of the queue. Lines and
-    /// packets are added to `out`. A kernel that was out of memory fails from then on.
+    /// One kernel run at this moment: the polls, if the flag is set, and the oldest event of the queue. Lines and
+    /// packets are appended to `out`. A kernel that was out of memory fails from then on.
     pub fn run(&mut self, program: &Program, now: u64, out: &mut Out) -> Result<Ran, KernelError>
         requires { now ≤ 2 ^ 40 }
         ensures { let t = tree_of program.now in
@@ -152,8 +151,8 @@ impl Kernel {
         ran
     }
 
-    /// Kernel runs at this moment, at most so many, until one leaves nothing to do or the mote halts, on what the
-    /// machine has.
+    /// Kernel runs at this moment, at most so many, until one leaves nothing to do or the mote halts, whose lines and
+    /// packets are appended to those of the machine.
     fn run_all_on(&mut self, program: &Program, now: u64, most: u8) -> Result<(), KernelError>
         requires { now ≤ 2 ^ 40 }
         ensures ok { let t = tree_of program.now in
@@ -177,8 +176,8 @@ impl Kernel {
     }
 
     /// Kernel runs at this moment, at most so many, until one leaves nothing to do or the mote halts: as so many calls
-    /// of `run`. Lines and packets are appended to `out`, also where one of them is out of memory; the kernel fails
-    /// from then on.
+    /// of `run`. Lines and packets are appended to `out`, also if one of them is out of memory; the kernel fails from
+    /// then on.
     pub fn run_all(
         &mut self,
         program: &Program,
@@ -216,7 +215,7 @@ impl Kernel {
         self.machine.queue.len() > 0 || self.machine.flag
     }
 
-    /// The earliest moment at which a timer on the timer list is due, if one is there.
+    /// The earliest moment at which a timer on the timer list is due; none for an empty list.
     #[tactic(auto, unfolding(crate::specs::Public::mote_in, crate::specs::Public::held_in))]
     pub fn next_expiration(&self) -> Option<u64>
         ensures mote { (t : Tree) → IfSome (mote_in t self.now) (λ m. result ≡ next_expiration_of m.state.timers) }
@@ -225,7 +224,7 @@ impl Kernel {
         self.machine.shown.timers.next_expiration()
     }
 
-    /// Puts a packet into the receive ring, where it has room; a full ring stays as it was.
+    /// Appends a packet to the receive ring, and returns whether it had room; a full ring is unchanged.
     #[tactic(auto, unfolding(crate::specs::Public::mote_in, crate::specs::Public::held_in, crate::specs::Mote::with_packet))]
     pub fn accept_packet(&mut self, packet: Arrival) -> bool
         ensures room { (t : Tree) → IfSome (mote_in t self.old) (λ m. result ≡ has_room m) }
@@ -238,7 +237,6 @@ impl Kernel {
         self.machine.accept_packet(packet)
     }
 
-    /// The number of the mote.
     #[tactic(auto, unfolding(crate::specs::Public::mote_in, crate::specs::Public::held_in))]
     pub fn number(&self) -> u16
         ensures mote { (t : Tree) → IfSome (mote_in t self.now) (λ m. result ≡ m.state.mote) }
@@ -247,7 +245,6 @@ impl Kernel {
         self.machine.shown.mote
     }
 
-    /// Whether the mote was booted.
     #[tactic(auto, unfolding(crate::specs::Public::mote_in, crate::specs::Public::held_in))]
     pub fn is_booted(&self) -> bool
         ensures mote { (t : Tree) → IfSome (mote_in t self.now) (λ m. result ≡ m.booted) }
@@ -256,7 +253,6 @@ impl Kernel {
         self.booted
     }
 
-    /// Whether the mote has halted.
     #[tactic(auto, unfolding(crate::specs::Public::mote_in, crate::specs::Public::held_in))]
     pub fn is_halted(&self) -> bool
         ensures mote { (t : Tree) → IfSome (mote_in t self.now) (λ m. result ≡ m.halted) }
@@ -265,7 +261,7 @@ impl Kernel {
         self.halted
     }
 
-    /// Notes how a boot or a run ended.
+    /// Notes how a boot or a run ended, and gives its answer.
     fn close(&mut self, ran: Result<u16, Stop>) -> Result<Ran, KernelError>
         ensures { Closes self.old ran result self.new }
     {

@@ -3,15 +3,14 @@
 ghost use Rattle.process_kernel.specs.Laws.{TellsLeft, PendingIsLeft, StaysHalted};
 ghost use Rattle.process_kernel.specs.Public.{boot_given, run_given};
 
-/// What a boot or a run answers as left is what the mote has left to do, and a kernel is pending exactly where that is
-/// more than nothing.
+/// A boot or a run returns how much the mote has left to do, and a kernel is pending exactly if that is not 0.
 pub fn left_is_pending()
     ensures boot { TellsLeft boot_given }
     ensures run { TellsLeft run_given }
     ensures pending { PendingIsLeft }
 {}
 
-/// A mote that has halted stays as it is, and nothing more is written.
+/// A mote that has halted never changes, and nothing more is written.
 pub fn halted_for_good()
     ensures boot { StaysHalted boot_given }
     ensures run { StaysHalted run_given }

@@ -1,9 +1,10 @@
-//! The process kernel of a mote: its processes, their events, polls and timers, and the packets that it is handed.
+//! The process kernel of a mote: its processes, their events, polls and timers, and the packets that it receives.
 #![tactic(auto)]
 
 mod advance;
 mod boot;
 mod call;
+mod delivery;
 mod event;
 mod kernel;
 mod laws;
@@ -11,11 +12,12 @@ mod list;
 mod look;
 mod machine;
 mod operation;
+mod polls;
 mod post;
 mod process;
 mod radio;
 mod room;
-mod runs;
+mod run;
 mod table;
 mod timer;
 

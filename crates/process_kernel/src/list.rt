@@ -170,7 +170,7 @@ impl Machine {
         self.set_exiting(process, true);
     }
 
-    /// Takes a process off the list.
+    /// Removes a process from the list.
     #[tactic(auto, unfolding(crate::specs::ProcessList::unlisted_of))]
     fn unlist(&mut self, process: Proc)
         ensures exact { (t : Tree) → state_of t self.new ≡ unlisted_of (state_of t self.old) process }

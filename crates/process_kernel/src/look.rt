@@ -21,7 +21,6 @@ pub struct Shown {
 }
 
 impl Shown {
-    /// Gives the process at a place of the tables a state.
     pub(crate) fn set_state(&mut self, place: usize, state: ProcessState)
         requires { place < length self.old.states.items }
         ensures states { self.new.states.items ≡ slice_set self.old.states.items place state }

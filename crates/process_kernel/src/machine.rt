@@ -1,4 +1,4 @@
-//! What a mote's kernel keeps, and why a run of it goes no further.
+//! The state of a kernel, and why its run stops.
 
 ghost use Rattle.std.specs.Prelude.{◌≡◌, ◌≤◌, ◌^◌, true, length};
 ghost use Rattle.process_kernel.specs.Members.{AreMembers};
@@ -18,7 +18,7 @@ use trace_lines::Out;
 /// How many processes a mote has at most: 64 of its program, and the three system processes.
 pub const MOST_PROCESSES: usize = 67;
 
-/// Why a run goes no further.
+/// Why a run stops.
 #[derive(Clone, Copy)]
 pub enum Stop {
     /// The mote has halted.

@@ -1,15 +1,15 @@
 //! The operations of the current process: starts, kills and exits, and the walk over the process list.
 
-ghost use Rattle.std.specs.Prelude.{◌≡◌, ◌<◌, ℕ, OnOk};
-ghost use Rattle.program_tree.specs.Program.{tree_of, code_of};
+ghost use Rattle.std.specs.Prelude.{◌≡◌};
+ghost use Rattle.program_tree.specs.Program.{code_of};
 ghost use Rattle.protothread.specs.Places.{remainder_of};
-ghost use Rattle.process_kernel.specs.Call.{calls_of};
 ghost use Rattle.process_kernel.specs.Calls.{walk_of};
 ghost use Rattle.process_kernel.specs.Exit.{process_number as number_told, last_run_of, exit_of};
+ghost use Rattle.process_kernel.specs.Follows.{Follows};
 ghost use Rattle.process_kernel.specs.Start.{start_of};
 ghost use Rattle.process_kernel.specs.Kill.{kill_of};
 ghost use Rattle.process_kernel.specs.Operation.{posted, act_of, perform_of};
-ghost use Rattle.process_kernel.specs.Views.{state_of, Tells, Grows, HasRoom, Spends, told_thread};
+ghost use Rattle.process_kernel.specs.Views.{HasRoom, told_thread};
 
 use crate::event::told;
 use crate::machine::{Machine, Stop};
@@ -55,12 +55,8 @@ impl Machine {
         op: &Op,
     ) -> Result<(), Stop>
         requires { HasRoom 1 self.old }
-        ensures exact { (k : ℕ) → self.old.fuel < k
-            → Tells (told_thread (code_of text.now) thread.new result) (state_of (tree_of program.now) self.new)
-            (perform_of (calls_of k) (state_of (tree_of program.now) self.old)
-            (remainder_of (code_of text.now) thread.old) current op.now) }
-        ensures spends { OnOk result (Spends 1 self.old self.new) }
-        ensures grows { Grows self.old.out self.new.out }
+        ensures { Follows program.now self.old (told_thread (code_of text.now) thread.new result) self.new
+            (λ calls state. perform_of calls state (remainder_of (code_of text.now) thread.old) current op.now) }
     {
         match op {
             Op::Post(target, number, word) => {
@@ -77,11 +73,7 @@ impl Machine {
     #[tactic(auto, unfolding(crate::specs::Operation::act_of))]
     fn act(&mut self, program: &Program, current: u8, op: &Op) -> Result<(), Stop>
         requires { HasRoom 1 self.old }
-        ensures exact { (k : ℕ) → self.old.fuel < k
-            → Tells result (state_of (tree_of program.now) self.new)
-            (act_of (calls_of k) (state_of (tree_of program.now) self.old) current op.now) }
-        ensures spends { OnOk result (Spends 1 self.old self.new) }
-        ensures grows { Grows self.old.out self.new.out }
+        ensures { Follows program.now self.old result self.new (λ calls state. act_of calls state current op.now) }
     {
         match op {
             Op::Post(..) => {}
@@ -103,18 +95,13 @@ impl Machine {
         Ok(())
     }
 
-    /// Starts a process: one that isn't on the process list goes to its front, and is called with INIT
-    /// (`process_start`).
+    /// Starts a process: if it isn't on the process list, it is put at its front and called with INIT (`process_start`
+    /// of `process.c`).
     #[cycle(kernel)]
     #[tactic(auto, unfolding(crate::specs::Start::start_of))]
     pub fn start(&mut self, program: &Program, process: Proc) -> Result<(), Stop>
         requires { HasRoom 1 self.old }
-        ensures exact { (k : ℕ) → self.old.fuel < k
-            → Tells result (state_of (tree_of program.now) self.new)
-            (start_of (calls_of k) (state_of (tree_of program.now) self.old) process) }
-        ensures spends { OnOk result (Spends 1 self.old self.new) }
-        ensures paid { OnOk result (Spends 0 self.old self.new) }
-        ensures grows { Grows self.old.out self.new.out }
+        ensures { Follows program.now self.old result self.new (λ calls state. start_of calls state process) }
     {
         if self.is_busy(process) {
             return self.write(What::Busy(process));
@@ -132,11 +119,7 @@ impl Machine {
     #[tactic(auto, unfolding(crate::specs::Kill::kill_of))]
     fn kill(&mut self, program: &Program, process: Proc, current: u8) -> Result<(), Stop>
         requires { HasRoom 0 self.old }
-        ensures exact { (k : ℕ) → self.old.fuel < k
-            → Tells result (state_of (tree_of program.now) self.new)
-            (kill_of (calls_of k) (state_of (tree_of program.now) self.old) process current) }
-        ensures spends { OnOk result (Spends 0 self.old self.new) }
-        ensures grows { Grows self.old.out self.new.out }
+        ensures { Follows program.now self.old result self.new (λ calls state. kill_of calls state process current) }
     {
         if self.is_busy(process) {
             self.write(What::Busy(process))
@@ -150,11 +133,7 @@ impl Machine {
     #[tactic(auto, unfolding(crate::specs::Exit::exit_of))]
     pub fn exit(&mut self, program: &Program, process: Proc, behalf: Proc) -> Result<(), Stop>
         requires { HasRoom 0 self.old }
-        ensures exact { (k : ℕ) → self.old.fuel < k
-            → Tells result (state_of (tree_of program.now) self.new)
-            (exit_of (calls_of k) (state_of (tree_of program.now) self.old) process behalf) }
-        ensures spends { OnOk result (Spends 0 self.old self.new) }
-        ensures grows { Grows self.old.out self.new.out }
+        ensures { Follows program.now self.old result self.new (λ calls state. exit_of calls state process behalf) }
     {
         if !self.is_listed(process) {
             return Ok(());
@@ -174,11 +153,7 @@ impl Machine {
     #[tactic(auto, unfolding(crate::specs::Exit::last_run_of))]
     fn run_last(&mut self, program: &Program, process: Proc) -> Result<(), Stop>
         requires { HasRoom 0 self.old }
-        ensures exact { (k : ℕ) → self.old.fuel < k
-            → Tells result (state_of (tree_of program.now) self.new)
-            (last_run_of (calls_of k) (state_of (tree_of program.now) self.old) process) }
-        ensures spends { OnOk result (Spends 0 self.old self.new) }
-        ensures grows { Grows self.old.out self.new.out }
+        ensures { Follows program.now self.old result self.new (λ calls state. last_run_of calls state process) }
     {
         self.spend()?;
         self.react(program, process, &told(SystemEvent::Exit, 0))?;
@@ -195,11 +170,8 @@ impl Machine {
         members: &[Member],
     ) -> Result<(), Stop>
         requires { HasRoom 0 self.old }
-        ensures exact { (k : ℕ) → self.old.fuel < k
-            → Tells result (state_of (tree_of program.now) self.new)
-            (walk_of (calls_of k) event.now skipped members.now (state_of (tree_of program.now) self.old)) }
-        ensures spends { OnOk result (Spends 0 self.old self.new) }
-        ensures grows { Grows self.old.out self.new.out }
+        ensures { Follows program.now self.old result self.new
+            (λ calls. walk_of calls event.now skipped members.now) }
     {
         for member in members {
             if !is_same(member.process, skipped) && self.is_on_list(*member) {

@@ -55,7 +55,7 @@ impl Machine {
         Ok(())
     }
 
-    /// Posts an event; the answer is whether the queue was full.
+    /// Posts an event; returns whether the queue was full.
     #[inline(always)]
     #[tactic(auto, unfolding(crate::specs::Posts::post_of))]
     pub fn post(&mut self, target: Target, event: Event) -> Result<bool, Stop>
@@ -106,7 +106,6 @@ impl Machine {
         Ok(())
     }
 
-    /// Sends a packet.
     #[tactic(auto, unfolding(crate::specs::Posts::send_of))]
     pub fn send(&mut self, value: u16) -> Result<(), Stop>
         ensures exact { (t : Tree) → Tells result (state_of t self.new) (send_of (state_of t self.old) value) }
@@ -127,7 +126,6 @@ impl Machine {
         self.write(What::Send(number, value))
     }
 
-    /// Subtracts one from a semaphore.
     #[tactic(auto, unfolding(crate::specs::Semaphores::take_of))]
     pub fn take_semaphore(&mut self, semaphore: u8)
         ensures exact { (t : Tree) → state_of t self.new ≡ take_of (state_of t self.old) semaphore }
@@ -140,7 +138,6 @@ impl Machine {
         }
     }
 
-    /// Adds one to a semaphore.
     #[tactic(auto, unfolding(crate::specs::Semaphores::signal_of))]
     pub fn signal_semaphore(&mut self, semaphore: u8)
         ensures exact { (t : Tree) → state_of t self.new ≡ signal_of (state_of t self.old) semaphore }

@@ -24,7 +24,7 @@ fn packet_event(packet: &Arrival) -> Event
 }
 
 impl Machine {
-    /// Puts a packet into the receive ring, where it has room; a full ring stays as it was.
+    /// Appends a packet to the receive ring, and returns whether it had room; a full ring is unchanged.
     pub fn accept_packet(&mut self, packet: Arrival) -> bool
         ensures room { result ≡ nat_lt (length self.old.ring.items) 8 }
         ensures after { (t : Tree) → state_of t self.new
@@ -37,8 +37,8 @@ impl Machine {
         }
     }
 
-    /// Takes the oldest packet out of the ring. The only one is taken from the back, so a ring that is emptied each
-    /// time stays at its first slots.
+    /// Removes the oldest packet from the ring. A single packet is taken from the back, so that a ring that is emptied
+    /// each time stays at its first slots.
     fn take_packet(&mut self) -> Option<Arrival>
         ensures value { result ≡ slice_get self.old.ring.items 0 }
         ensures after { (t : Tree) → state_of t self.new
@@ -72,7 +72,7 @@ impl Machine {
         }
     }
 
-    /// Takes the packets out of the ring, the oldest first.
+    /// Removes the packets from the ring, the oldest first, and posts each.
     fn empty_ring(&mut self, receiver: Option<u8>) -> Result<(), Stop>
         ensures exact { (t : Tree) → Tells result (state_of t self.new)
             (empty_ring receiver self.old.ring.items (state_of t self.old)) }

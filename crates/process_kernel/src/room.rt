@@ -1,4 +1,4 @@
-//! All that a kernel needs room for, made at once.
+//! The memory of a kernel, allocated when it is made.
 
 ghost use Rattle.std.specs.Prelude.{◌≡◌, ◌≤◌, ◌+◌, false, [], IfOk, OnOk, length, map, replicate};
 ghost use Rattle.mote_timers.specs.TimerLists.{new_timers};
@@ -18,7 +18,7 @@ use protothread::{Fuel, Part, Semaphore, Thread, Vars};
 use std::alloc::{AllocError, Global};
 use trace_lines::Out;
 
-/// How many packets the receive ring holds.
+/// The capacity of the receive ring.
 const RING: usize = 8;
 
 /// A fresh body for each process.
@@ -34,7 +34,6 @@ fn fresh_bodies(alloc: Global, program: &Program) -> Result<Vec<Option<Box<Threa
     Ok(threads)
 }
 
-/// The first variables of each process.
 fn first_variables(alloc: Global, program: &Program) -> Result<Vec<Vars>, AllocError>
     ensures { IfOk result (λ variables. variables.items ≡ map (λ c. c.starts) (tree_of program.now).codes) }
 {
@@ -45,7 +44,6 @@ fn first_variables(alloc: Global, program: &Program) -> Result<Vec<Vars>, AllocE
     Ok(variables)
 }
 
-/// The semaphores with their first counts.
 fn first_semaphores(alloc: Global, program: &Program) -> Result<Vec<Semaphore>, AllocError>
     ensures { IfOk result (λ semaphores. semaphores.items ≡ (tree_of program.now).counts) }
 {

@@ -12,7 +12,7 @@ use crate::machine::Machine;
 use crate::process::{Member, ProcessState};
 use program_tree::Proc;
 
-/// The place of a process in the tables. Two tests in place of a `match`, which would be a jump by a table at each use.
+/// The place of a process in the tables. Two tests are faster than a `match`, which is a jump table at each use.
 #[inline(always)]
 pub fn place_of(process: Proc) -> usize
     ensures { result ≡ place_of process }
@@ -39,7 +39,6 @@ pub fn state_at(states: &[ProcessState], place: usize) -> ProcessState
     states.get(place).copied().unwrap_or(ProcessState::Off)
 }
 
-/// Whether a process in this state is running or called.
 pub fn is_alive(state: ProcessState) -> bool
     ensures { result ≡ lives state }
 {

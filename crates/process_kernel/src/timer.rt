@@ -14,14 +14,13 @@ use crate::event::{is_event, told};
 use crate::machine::{Machine, Stop};
 use program_tree::{Event, Proc, Program, SystemEvent, Target};
 
-/// Whether it is a callback timer of the program.
 fn is_callback(program: &Program, timer: u16) -> bool
     ensures { result ≡ is_of_callback (tree_of program.now) timer }
 {
     timer < program.timers() && program.is_callback(timer)
 }
 
-/// Who is told when the timer is due: the process that sets it, and for a callback timer the ctimer process.
+/// Who gets the event of a timer: the process that sets it, or for a callback timer the ctimer process.
 fn owner(program: &Program, timer: u16, current: u8) -> Proc
     ensures { result ≡ owner_of (tree_of program.now) timer current }
 {
@@ -120,7 +119,7 @@ impl Machine {
         }
     }
 
-    /// Takes the callback of a timer off the callback list, and answers whether it was there.
+    /// Removes the callback of a timer from the callback list, and returns whether it was there.
     pub fn takes_callback(&mut self, timer: u16) -> bool
         ensures waited { (t : Tree) → result ≡ waits_for (state_of t self.old) timer }
         ensures after { (t : Tree) → state_of t self.new
@@ -136,8 +135,8 @@ impl Machine {
         }
     }
 
-    /// Posts the event of each timer that is due, and begins again at the front of the list after each that is
-    /// accepted.
+    /// Posts the event of each timer that is due. After each event that is accepted the walk begins again at the front
+    /// of the list.
     #[tactic(auto, unfolding(crate::specs::Etimer::pass_of))]
     fn post_due_timers(&mut self) -> Result<(), Stop>
         ensures exact { (t : Tree) → Tells result (state_of t self.new) (pass_of (state_of t self.old)) }
@@ -158,7 +157,7 @@ impl Machine {
         Ok(())
     }
 
-    /// Takes the timers of a process that left off the list.
+    /// Removes the timers of a process that left from the list.
     #[tactic(auto, unfolding(crate::specs::Etimer::purge_of))]
     fn purge(&mut self, process: u16)
         ensures exact { (t : Tree) → state_of t self.new ≡ purge_of (state_of t self.old) process }

@@ -4,4 +4,5 @@ use Rattle.process_kernel.proofs.room.first_variables.Given as goal
 
 abbrev pub invariant-loop-process : goal.invariant-loop-process
 invariant-loop-process l =
-    l.variables.items ++ map (λ c. c.starts) (drop l.process (tree_of l.program).codes) ≡ map (λ c. c.starts) (tree_of l.program).codes
+    l.variables.items ++ map (λ c. c.starts) (drop l.process (tree_of l.program).codes)
+    ≡ map (λ c. c.starts) (tree_of l.program).codes

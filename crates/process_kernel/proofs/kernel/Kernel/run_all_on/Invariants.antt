@@ -10,4 +10,5 @@ abbrev pub invariant-runs : goal.invariant-runs
 invariant-runs l =
     ((u : Underway) → underway_in (mote_in (tree_of l.program) l.fn.self) l.fn.self.machine.out ≡ Some u
     → RunSoFar l.most (l.most - l._run) l.now u (underway_in (mote_in (tree_of l.program) l.self) l.self.machine.out))
-    × GoesOnSoFar (mote_in (tree_of l.program) l.fn.self) l.fn.self.machine.out (mote_in (tree_of l.program) l.self) l.self.machine.out
+    × GoesOnSoFar (mote_in (tree_of l.program) l.fn.self) l.fn.self.machine.out
+    (mote_in (tree_of l.program) l.self) l.self.machine.out

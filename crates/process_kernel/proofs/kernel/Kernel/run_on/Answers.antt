@@ -16,7 +16,8 @@ returns-then-self-clause-told c = failed _ _ _ _ c.if-self.true
 pub returns-then-self-2-clause-told : goal.returns-then-self-2-clause-told
 unfolding run_given
 returns-then-self-2-clause-told c =
-    halted (tree_of c.args.program.now) (run_given c.args.now) c.args.self.now c.args.self.now.machine.out c.if-self.false (rw c.if-self-2.true refl)
+    halted (tree_of c.args.program.now)
+    (run_given c.args.now) c.args.self.now c.args.self.now.machine.out c.if-self.false (rw c.if-self-2.true refl)
 
 pub returns-clause-told : goal.returns-clause-told
 unfolding run_given begun_of
@@ -25,15 +26,23 @@ returns-clause-told c =
     let k = c.args.self.now in
     let out = k.machine.out in
     let o = kernel_of (calls_of (most_units + 1)) (state_of t c.begin.new.self) in
-    let begins : begun (mote_of t k.machine k.booted k.halted) c.args.now out.lines.items out.sends.items ≡ state_of t c.begin.new.self = sym (c.begin.ensures.exact t) in
+    let begins : begun (mote_of t k.machine k.booted k.halted) c.args.now out.lines.items out.sends.items
+    ≡ state_of t c.begin.new.self = sym (c.begin.ensures.exact t) in
     let work : c.begin.new.self.fuel ≡ most_units = ap (λ (s : State). s.units) (c.begin.ensures.exact t) in
-    let gives : run_given c.args.now (mote_of t k.machine k.booted k.halted) out.lines.items out.sends.items ≡ given o = rw c.if-self-2.false (ap (λ (s : State). given (kernel_of (calls_of (most_units + 1)) s)) begins) in
+    let gives : run_given c.args.now (mote_of t k.machine k.booted k.halted) out.lines.items out.sends.items
+    ≡ given o = rw c.if-self-2.false (ap (λ (s : State). given (kernel_of (calls_of (most_units + 1)) s)) begins) in
     let machine = c.run_kernel-ran.new.self in
-    let kept = machine_kept (record k { machine = machine }) c.close.new.self c.run_kernel-ran.result c.close.result c.close.ensures in
-    subst (λ (told : Out). Tells (run_given c.args.now) (mote_in t k) out c.close.result (mote_in t c.close.new.self) told) (sym (ap (λ (m : Machine). m.out) kept))
-    (finished t (run_given c.args.now) k (record k { machine = machine }) c.close.new.self out machine.out (state_of t machine) o c.run_kernel-ran.result c.close.result
-    c.if-self.false c.if-self.false c.if-self-2.false gives (c.run_kernel-ran.ensures.exact (most_units + 1) (omega (arith, work))) refl refl refl
-    (begins_with out machine.out (λ ls ss h. c.run_kernel-ran.ensures.grows ls ss (c.begin.ensures.grows ls ss h))) c.close.ensures)
+    let kept = machine_kept
+    (record k { machine = machine }) c.close.new.self c.run_kernel-ran.result c.close.result c.close.ensures in
+    subst (λ (told : Out).
+    Tells (run_given c.args.now) (mote_in t k) out c.close.result (mote_in t c.close.new.self) told)
+    (sym (ap (λ (m : Machine). m.out) kept))
+    (finished t (run_given c.args.now) k (record k { machine = machine }) c.close.new.self out machine.out
+    (state_of t machine) o c.run_kernel-ran.result c.close.result
+    c.if-self.false c.if-self.false c.if-self-2.false gives
+    (c.run_kernel-ran.ensures.exact (most_units + 1) (omega (arith, work))) refl refl refl
+    (begins_with out machine.out (λ ls ss h. c.run_kernel-ran.ensures.grows ls ss (c.begin.ensures.grows ls ss h)))
+    c.close.ensures)
 
 pub returns-then-self-clause-begins : goal.returns-then-self-clause-begins
 returns-then-self-clause-begins c = begins_same c.args.self.now.machine.out
@@ -45,6 +54,8 @@ pub returns-clause-begins : goal.returns-clause-begins
 returns-clause-begins c =
     let k = c.args.self.now in
     let machine = c.run_kernel-ran.new.self in
-    let kept = machine_kept (record k { machine = machine }) c.close.new.self c.run_kernel-ran.result c.close.result c.close.ensures in
+    let kept = machine_kept
+    (record k { machine = machine }) c.close.new.self c.run_kernel-ran.result c.close.result c.close.ensures in
     subst (λ (told : Out). BeginsWith k.machine.out told) (sym (ap (λ (m : Machine). m.out) kept))
-    (begins_with k.machine.out machine.out (λ ls ss h. c.run_kernel-ran.ensures.grows ls ss (c.begin.ensures.grows ls ss h)))
+    (begins_with k.machine.out machine.out
+    (λ ls ss h. c.run_kernel-ran.ensures.grows ls ss (c.begin.ensures.grows ls ss h)))

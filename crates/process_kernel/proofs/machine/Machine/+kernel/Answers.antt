@@ -15,100 +15,195 @@ use Rattle.process_kernel.specs.Call.{call_of, answered}
 use Rattle.process_kernel.specs.Views.{state_of}
 use Rattle.process_kernel.proofs.machine.Machine.+kernel.Goals as goal
 
-pub act-returns-in-Poll-clause-exact : goal.act-returns-in-Poll-clause-exact
+pub act-returns-in-Poll : goal.act-returns-in-Poll
 unfolding act_of
-act-returns-in-Poll-clause-exact t c = λ k enough. search (rules, c.poll.ensures.exact (tree_of c.args.program.now))
+act-returns-in-Poll t c = record {
+  exact = λ k enough. search (rules, c.poll.ensures.exact (tree_of c.args.program.now));
+  spends = search rules;
+  grows = search rules;
+}
 
-pub act-returns-in-Stop-clause-exact : goal.act-returns-in-Stop-clause-exact
+pub act-returns-in-Stop : goal.act-returns-in-Stop
 unfolding act_of
-act-returns-in-Stop-clause-exact t c = λ k enough. search (rules, c.stop_timer.ensures.exact (tree_of c.args.program.now))
+act-returns-in-Stop t c = record {
+  exact = λ k enough. search (rules, c.stop_timer.ensures.exact (tree_of c.args.program.now));
+  spends = search rules;
+  grows = search rules;
+}
 
-pub act-returns-in-Take-clause-exact : goal.act-returns-in-Take-clause-exact
+pub act-returns-in-Take : goal.act-returns-in-Take
 unfolding act_of
-act-returns-in-Take-clause-exact t c = λ k enough. search (rules, c.take_semaphore.ensures.exact (tree_of c.args.program.now))
+act-returns-in-Take t c = record {
+  exact = λ k enough. search (rules, c.take_semaphore.ensures.exact (tree_of c.args.program.now));
+  spends = search rules;
+  grows = search rules;
+}
 
-pub act-returns-in-Signal-clause-exact : goal.act-returns-in-Signal-clause-exact
+pub act-returns-in-Signal : goal.act-returns-in-Signal
 unfolding act_of
-act-returns-in-Signal-clause-exact t c = λ k enough. search (rules, c.signal_semaphore.ensures.exact (tree_of c.args.program.now))
+act-returns-in-Signal t c = record {
+  exact = λ k enough. search (rules, c.signal_semaphore.ensures.exact (tree_of c.args.program.now));
+  spends = search rules;
+  grows = search rules;
+}
 
-pub call-returns-then-not-is_running-clause-exact : goal.call-returns-then-not-is_running-clause-exact
+pub call-returns-then-not-is_running-clause-follows : goal.call-returns-then-not-is_running-clause-follows
 unfolding call_of answered
-call-returns-then-not-is_running-clause-exact t c =
-    deeper_call (Ok tt) (state_of (tree_of c.args.program.now) c.args.self.now) _ _ _ (λ k enough. search rules)
+call-returns-then-not-is_running-clause-follows t c = record {
+  exact = deeper_call (Ok tt) (state_of (tree_of c.args.program.now) c.args.self.now) _ _ _ (λ k enough. search rules);
+  spends = search rules;
+  grows = search rules;
+}
 
-pub call-returns-in_err-spend-clause-exact : goal.call-returns-in_err-spend-clause-exact
+pub call-returns-in_err-spend-clause-follows : goal.call-returns-in_err-spend-clause-follows
 unfolding call_of answered
-call-returns-in_err-spend-clause-exact t c =
-    deeper_call _ _ _ _ _ (λ k enough. search (rules, c.in_err-spend.ensures.exact (tree_of c.args.program.now)))
+call-returns-in_err-spend-clause-follows t c = record {
+  exact = deeper_call _ _ _ _ _ (λ k enough. search (rules, c.in_err-spend.ensures.exact (tree_of c.args.program.now)));
+  spends = search rules;
+  grows = search rules;
+}
 
-pub call-returns-in_err-answer-clause-exact : goal.call-returns-in_err-answer-clause-exact
+pub call-returns-in_err-answer-clause-follows : goal.call-returns-in_err-answer-clause-follows
 unfolding call_of answered
-call-returns-in_err-answer-clause-exact t c =
-    let T = tree_of c.args.program.now in
-    deeper_call _ _ _ _ _ (λ k enough. search (rules, c.in_ok-spend.ensures.exact T, c.set_state.ensures.exact T))
+call-returns-in_err-answer-clause-follows t c = record {
+  exact = let T = tree_of c.args.program.now in
+      deeper_call _ _ _ _ _ (λ k enough. search (rules, c.in_ok-spend.ensures.exact T, c.set_state.ensures.exact T));
+  spends = search rules;
+  grows = search rules;
+}
 
-pub call-returns-then-is_event-clause-exact : goal.call-returns-then-is_event-clause-exact
+pub call-returns-then-is_event-clause-follows : goal.call-returns-then-is_event-clause-follows
 unfolding call_of answered
-call-returns-then-is_event-clause-exact t c =
-    let T = tree_of c.args.program.now in
-    deeper_call _ _ _ _ _ (λ k enough. search (rules, c.in_ok-spend.ensures.exact T, c.set_state.ensures.exact T))
+call-returns-then-is_event-clause-follows t c = record {
+  exact = let T = tree_of c.args.program.now in
+      deeper_call _ _ _ _ _ (λ k enough. search (rules, c.in_ok-spend.ensures.exact T, c.set_state.ensures.exact T));
+  spends = search rules;
+  grows = search rules;
+}
 
-pub call-returns-else-is_event-clause-exact : goal.call-returns-else-is_event-clause-exact
+pub call-returns-else-is_event-clause-follows : goal.call-returns-else-is_event-clause-follows
 unfolding call_of answered
-call-returns-else-is_event-clause-exact t c =
-    let T = tree_of c.args.program.now in
-    deeper_call (Ok tt) (state_of T c.set_state-else-is_event.new.self) _ _ _ (λ k enough. search (rules, c.in_ok-spend.ensures.exact T, c.set_state.ensures.exact T, c.set_state-else-is_event.ensures.exact T))
+call-returns-else-is_event-clause-follows t c = record {
+  exact = let T = tree_of c.args.program.now in
+      deeper_call (Ok tt) (state_of T c.set_state-else-is_event.new.self) _ _ _
+      (λ k enough. search (
+        rules,
+        c.in_ok-spend.ensures.exact T,
+        c.set_state.ensures.exact T,
+        c.set_state-else-is_event.ensures.exact T,
+      ));
+  spends = search rules;
+  grows = search rules;
+}
 
-pub exit-returns-in_err-walk-clause-exact : goal.exit-returns-in_err-walk-clause-exact
+pub exit-returns-in_err-walk : goal.exit-returns-in_err-walk
 unfolding exit_of
-exit-returns-in_err-walk-clause-exact t c = λ k enough. search (rules, c.begin_exit.ensures.exact (tree_of c.args.program.now))
+exit-returns-in_err-walk t c = record {
+  exact = λ k enough. search (rules, c.begin_exit.ensures.exact (tree_of c.args.program.now));
+  spends = search rules;
+  grows = search rules;
+}
 
-pub exit-returns-in_err-run_last-clause-exact : goal.exit-returns-in_err-run_last-clause-exact
+pub exit-returns-in_err-run_last : goal.exit-returns-in_err-run_last
 unfolding exit_of
-exit-returns-in_err-run_last-clause-exact t c = λ k enough. search (rules, c.begin_exit.ensures.exact (tree_of c.args.program.now))
+exit-returns-in_err-run_last t c = record {
+  exact = λ k enough. search (rules, c.begin_exit.ensures.exact (tree_of c.args.program.now));
+  spends = search rules;
+  grows = search rules;
+}
 
-pub exit-returns-clause-exact : goal.exit-returns-clause-exact
+pub exit-returns : goal.exit-returns
 unfolding exit_of
-exit-returns-clause-exact t c = λ k enough. search (rules, c.begin_exit.ensures.exact (tree_of c.args.program.now), c.leave.ensures.exact (tree_of c.args.program.now))
+exit-returns t c = record {
+  exact = λ k enough. search (
+    rules,
+    c.begin_exit.ensures.exact (tree_of c.args.program.now),
+    c.leave.ensures.exact (tree_of c.args.program.now),
+  );
+  spends = search rules;
+  grows = search rules;
+}
 
-pub perform-returns-in_err-is_full-in-Post-clause-exact : goal.perform-returns-in_err-is_full-in-Post-clause-exact
+pub perform-returns-in_err-is_full-in-Post : goal.perform-returns-in_err-is_full-in-Post
 unfolding perform_of
-perform-returns-in_err-is_full-in-Post-clause-exact t c = λ k enough. search (rules, c.in_err-is_full-in-Post.ensures.exact (tree_of c.args.program.now))
+perform-returns-in_err-is_full-in-Post t c = record {
+  exact = λ k enough. search (rules, c.in_err-is_full-in-Post.ensures.exact (tree_of c.args.program.now));
+  spends = search rules;
+  grows = search rules;
+}
 
-pub perform-returns-in_ok-is_full-in-Post-clause-exact : goal.perform-returns-in_ok-is_full-in-Post-clause-exact
+pub perform-returns-in_ok-is_full-in-Post : goal.perform-returns-in_ok-is_full-in-Post
 unfolding perform_of
-perform-returns-in_ok-is_full-in-Post-clause-exact t c =
-    λ k enough. search (rules, c.in_ok-is_full-in-Post.ensures.exact (tree_of c.args.program.now), c.answer.ensures.exact (tree_of c.args.program.now) (code_of c.args.text.now))
+perform-returns-in_ok-is_full-in-Post t c = record {
+  exact = λ k enough. search (
+    rules,
+    c.in_ok-is_full-in-Post.ensures.exact (tree_of c.args.program.now),
+    c.answer.ensures.exact (tree_of c.args.program.now) (code_of c.args.text.now),
+  );
+  spends = search rules;
+  grows = search rules;
+}
 
-pub react-returns-in_err-react_as_etimer-in-Etimer-clause-exact : goal.react-returns-in_err-react_as_etimer-in-Etimer-clause-exact
+pub react-returns-in_err-react_as_etimer-in-Etimer : goal.react-returns-in_err-react_as_etimer-in-Etimer
 unfolding react_of
-react-returns-in_err-react_as_etimer-in-Etimer-clause-exact t c = λ k enough. search (rules, c.in_err-react_as_etimer-in-Etimer.ensures.exact (tree_of c.args.program.now))
+react-returns-in_err-react_as_etimer-in-Etimer t c = record {
+  exact = λ k enough. search (rules, c.in_err-react_as_etimer-in-Etimer.ensures.exact (tree_of c.args.program.now));
+  spends = search rules;
+  grows = search rules;
+}
 
-pub react-returns-in_ok-react_as_etimer-in-Etimer-clause-exact : goal.react-returns-in_ok-react_as_etimer-in-Etimer-clause-exact
+pub react-returns-in_ok-react_as_etimer-in-Etimer : goal.react-returns-in_ok-react_as_etimer-in-Etimer
 unfolding react_of
-react-returns-in_ok-react_as_etimer-in-Etimer-clause-exact t c = λ k enough. search (rules, c.in_ok-react_as_etimer-in-Etimer.ensures.exact (tree_of c.args.program.now))
+react-returns-in_ok-react_as_etimer-in-Etimer t c = record {
+  exact = λ k enough. search (rules, c.in_ok-react_as_etimer-in-Etimer.ensures.exact (tree_of c.args.program.now));
+  spends = search rules;
+  grows = search rules;
+}
 
-pub react_as_ctimer-returns-then-not-takes_callback-clause-exact : goal.react_as_ctimer-returns-then-not-takes_callback-clause-exact
+pub react_as_ctimer-returns-then-not-takes_callback : goal.react_as_ctimer-returns-then-not-takes_callback
 unfolding ctimer_of
-react_as_ctimer-returns-then-not-takes_callback-clause-exact t c =
-    let T = tree_of c.args.program.now in λ k enough. search (rules, c.takes_callback.ensures.waited T, c.takes_callback.ensures.after T)
+react_as_ctimer-returns-then-not-takes_callback t c = record {
+  exact = let T = tree_of c.args.program.now in
+      λ k enough. search (rules, c.takes_callback.ensures.waited T, c.takes_callback.ensures.after T);
+  spends = search rules;
+  grows = search rules;
+}
 
-pub react_as_ctimer-returns-clause-exact : goal.react_as_ctimer-returns-clause-exact
+pub react_as_ctimer-returns : goal.react_as_ctimer-returns
 unfolding ctimer_of
-react_as_ctimer-returns-clause-exact t c =
-    let T = tree_of c.args.program.now in λ k enough. search (rules, c.takes_callback.ensures.waited T, c.takes_callback.ensures.after T)
+react_as_ctimer-returns t c = record {
+  exact = let T = tree_of c.args.program.now in
+      λ k enough. search (rules, c.takes_callback.ensures.waited T, c.takes_callback.ensures.after T);
+  spends = search rules;
+  grows = search rules;
+}
 
-pub resume-returns-in_err-answer-clause-exact : goal.resume-returns-in_err-answer-clause-exact
+pub resume-returns-in_err-answer : goal.resume-returns-in_err-answer
 unfolding resume_of
-resume-returns-in_err-answer-clause-exact t c =
-    let T = tree_of c.args.program.now in
-    λ k enough. search (rules, c.in_ok-body.ensures.exact T (code_of c.args.text.now) c.requires.text, c.take_thread.ensures.after T)
+resume-returns-in_err-answer t c = record {
+  exact = let T = tree_of c.args.program.now in
+      λ k enough. search (
+        rules,
+        c.in_ok-body.ensures.exact T (code_of c.args.text.now) c.requires.text,
+        c.take_thread.ensures.after T,
+      );
+  spends = search rules;
+  grows = search rules;
+}
 
-pub resume-returns-clause-exact : goal.resume-returns-clause-exact
+pub resume-returns : goal.resume-returns
 unfolding resume_of
-resume-returns-clause-exact t c =
-    let T = tree_of c.args.program.now in
-    λ k enough. search (rules, c.in_ok-body.ensures.exact T (code_of c.args.text.now) c.requires.text, c.take_thread.ensures.after T, c.put_thread.ensures.exact T (code_of c.args.text.now) c.requires.text)
+resume-returns t c = record {
+  exact = let T = tree_of c.args.program.now in
+      λ k enough. search (
+        rules,
+        c.in_ok-body.ensures.exact T (code_of c.args.text.now) c.requires.text,
+        c.take_thread.ensures.after T,
+        c.put_thread.ensures.exact T (code_of c.args.text.now) c.requires.text,
+      );
+  spends = search rules;
+  grows = search rules;
+}
 
 pub run-loop-op-preserved : goal.run-loop-op-preserved
 unfolding run_of
@@ -122,59 +217,106 @@ run-loop-op-preserved t c =
           let now = c.loop-op.invariant.2 k enough in
           let rest = now.0 - 1 in
           let more : 0 < now.0 = omega (arith, now.1) in
-          let left : c.advance.new.self.fuel < rest = omega (arith, now.1, pays) in
-          (rest, omega (arith, left, spends), now.2 ∙ run_opens _ _ _ _ _ now.0 more ∙ rw (c.in-Op.ensures.exact T, c.in_ok-perform-in-Op.ensures.exact rest left) refl),
+          let left : c.advance.new.self.fuel < rest = omega (arith, now.1, pays) in (
+            rest,
+            omega (arith, left, spends),
+            now.2 ∙ run_opens _ _ _ _ _ now.0 more
+                ∙ rw (c.in-Op.ensures.exact T, c.in_ok-perform-in-Op.ensures.exact rest left) refl,
+          ),
     )
 
-pub run-returns-in_err-perform-in-Op-clause-exact : goal.run-returns-in_err-perform-in-Op-clause-exact
+pub run-returns-in_err-perform-in-Op : goal.run-returns-in_err-perform-in-Op
 unfolding run_of
-run-returns-in_err-perform-in-Op-clause-exact t c = λ k enough.
-    let now = c.loop-op.invariant.2 k enough in
-    rw now.2 (deeper_run _ _ _ _ _ _ _ (λ j left. rw (c.in-Op.ensures.exact (tree_of c.args.program.now)) (search rules)) now.0 now.1)
+run-returns-in_err-perform-in-Op t c = record {
+  exact = λ k enough.
+      let now = c.loop-op.invariant.2 k enough in
+      rw now.2 (deeper_run _ _ _ _ _ _ _
+      (λ j left. rw (c.in-Op.ensures.exact (tree_of c.args.program.now)) (search rules)) now.0 now.1);
+  spends = search rules;
+  grows = search rules;
+}
 
-pub run-returns-in-Done-clause-exact : goal.run-returns-in-Done-clause-exact
+pub run-returns-in-Done : goal.run-returns-in-Done
 unfolding run_of
-run-returns-in-Done-clause-exact t c = λ k enough.
-    let now = c.loop-op.invariant.2 k enough in
-    let more : 0 < now.0 = omega (arith, now.1) in
-    now.2 ∙ run_opens _ _ _ _ _ now.0 more ∙ rw (c.in-Done.ensures.exact (tree_of c.args.program.now)) refl
+run-returns-in-Done t c = record {
+  exact = λ k enough.
+      let now = c.loop-op.invariant.2 k enough in
+      let more : 0 < now.0 = omega (arith, now.1) in
+      now.2 ∙ run_opens _ _ _ _ _ now.0 more ∙ rw (c.in-Done.ensures.exact (tree_of c.args.program.now)) refl;
+  spends = search rules;
+  grows = search rules;
+}
 
-pub run-returns-in-Runaway-clause-exact : goal.run-returns-in-Runaway-clause-exact
+pub run-returns-in-Runaway : goal.run-returns-in-Runaway
 unfolding run_of
-run-returns-in-Runaway-clause-exact t c = λ k enough.
-    let T = tree_of c.args.program.now in
-    let now = c.loop-op.invariant.2 k enough in
-    rw now.2 (deeper_run (Err c.halt.result) (state_of T c.halt.new.self) _ _ _ _ _ (λ j left. rw (c.in-Runaway.ensures.exact T) (halt_tells Answer c.halt.result (state_of T c.advance.new.self) (state_of T c.halt.new.self) (c.halt.ensures.exact T))) now.0 now.1)
+run-returns-in-Runaway t c = record {
+  exact = λ k enough.
+      let T = tree_of c.args.program.now in
+      let now = c.loop-op.invariant.2 k enough in
+      rw now.2 (deeper_run (Err c.halt.result) (state_of T c.halt.new.self) _ _ _ _ _
+      (λ j left. rw (c.in-Runaway.ensures.exact T)
+      (halt_tells Answer c.halt.result (state_of T c.advance.new.self) (state_of T c.halt.new.self)
+      (c.halt.ensures.exact T))) now.0 now.1);
+  spends = search rules;
+  grows = search rules;
+}
 
-pub run_last-returns-in_err-spend-clause-exact : goal.run_last-returns-in_err-spend-clause-exact
+pub run_last-returns-in_err-spend : goal.run_last-returns-in_err-spend
 unfolding last_run_of
-run_last-returns-in_err-spend-clause-exact t c = λ k enough. search (rules, c.in_err-spend.ensures.exact (tree_of c.args.program.now))
+run_last-returns-in_err-spend t c = record {
+  exact = λ k enough. search (rules, c.in_err-spend.ensures.exact (tree_of c.args.program.now));
+  spends = search rules;
+  grows = search rules;
+}
 
-pub run_last-returns-in_err-react-clause-exact : goal.run_last-returns-in_err-react-clause-exact
+pub run_last-returns-in_err-react : goal.run_last-returns-in_err-react
 unfolding last_run_of
-run_last-returns-in_err-react-clause-exact t c = λ k enough. search (rules, c.in_ok-spend.ensures.exact (tree_of c.args.program.now))
+run_last-returns-in_err-react t c = record {
+  exact = λ k enough. search (rules, c.in_ok-spend.ensures.exact (tree_of c.args.program.now));
+  spends = search rules;
+  grows = search rules;
+}
 
-pub run_last-returns-clause-exact : goal.run_last-returns-clause-exact
+pub run_last-returns : goal.run_last-returns
 unfolding last_run_of
-run_last-returns-clause-exact t c = λ k enough. search (rules, c.in_ok-spend.ensures.exact (tree_of c.args.program.now))
+run_last-returns t c = record {
+  exact = λ k enough. search (rules, c.in_ok-spend.ensures.exact (tree_of c.args.program.now));
+  spends = search rules;
+  grows = search rules;
+}
 
-pub start-returns-in_err-enlist-clause-exact : goal.start-returns-in_err-enlist-clause-exact
+pub start-returns-in_err-enlist : goal.start-returns-in_err-enlist
 unfolding start_of
-start-returns-in_err-enlist-clause-exact t c = λ k enough. search (rules, c.in_err-enlist.ensures.exact (tree_of c.args.program.now))
+start-returns-in_err-enlist t c = record {
+  exact = λ k enough. search (rules, c.in_err-enlist.ensures.exact (tree_of c.args.program.now));
+  spends = search rules;
+  grows = search rules;
+}
 
-pub start-returns-in_ok-enlist-clause-exact : goal.start-returns-in_ok-enlist-clause-exact
+pub start-returns-in_ok-enlist : goal.start-returns-in_ok-enlist
 unfolding start_of
-start-returns-in_ok-enlist-clause-exact t c = λ k enough. search (rules, c.in_ok-enlist.ensures.exact (tree_of c.args.program.now))
-
-pub start-returns-in_ok-enlist-clause-paid : goal.start-returns-in_ok-enlist-clause-paid
-start-returns-in_ok-enlist-clause-paid t c =
+start-returns-in_ok-enlist t c =
     let T = tree_of c.args.program.now in
+    let old = state_of T c.args.self.now in
+    let listed = c.in_ok-enlist.ensures.exact T in
     let within : place_of c.args.process < length c.args.self.now.shown.states.items = search rules in
-    let runs = enlisted_runs (state_of T c.args.self.now) (state_of T c.enlist.new.self) c.args.process within (c.in_ok-enlist.ensures.exact T) in
+    let runs = enlisted_runs old (state_of T c.enlist.new.self) c.args.process within listed in
     let counts = c.in_ok-enlist.ensures.counts in
-    on_ok_both c.call.result _ _ _ c.call.ensures.spends c.call.ensures.pays (λ spends pays. let cost = pays runs in (omega (arith, counts, spends), omega (arith, counts, cost)))
+    record {
+      exact = λ k enough. search (rules, listed);
+      spends =
+          on_ok_both c.call.result _ _ _ c.call.ensures.follows.spends c.call.ensures.pays (λ spends pays.
+          let cost = pays runs in (omega (arith, counts, spends), omega (arith, counts, cost)));
+      grows = search rules;
+    }
 
-pub run_part-returns-then-is_empty-clause-exact : goal.run_part-returns-then-is_empty-clause-exact
-run_part-returns-then-is_empty-clause-exact t c = λ k enough.
-    let none : whole_of (code_of c.args.text.now) c.args.part ≡ [] = search rules in
-    nothing_runs (code_of c.args.text.now) c.args.part none k (state_of (tree_of c.args.program.now) c.args.self.now) c.args.process c.args.event.now (omega (arith, enough))
+pub run_part-returns-then-is_empty : goal.run_part-returns-then-is_empty
+run_part-returns-then-is_empty t c = record {
+  exact = λ k enough.
+      let none : whole_of (code_of c.args.text.now) c.args.part ≡ [] = search rules in
+      nothing_runs (code_of c.args.text.now) c.args.part none k
+      (state_of (tree_of c.args.program.now) c.args.self.now) c.args.process c.args.event.now
+      (omega (arith, enough));
+  spends = search rules;
+  grows = search rules;
+}

@@ -65,8 +65,10 @@ invariant-run-loop-op l =
     Spends 0 l.fn.self l.self
     × Grows l.fn.self.out l.self.out
     × ((k : ℕ) → l.fn.self.fuel < k → (m : ℕ) × (l.self.fuel < m)
-    × ((calls_of k).run (state_of (tree_of l.program) l.fn.self) (code_of l.text) (remainder_of (code_of l.text) l.fn.thread) l.process l.event
-    ≡ (calls_of m).run (state_of (tree_of l.program) l.self) (code_of l.text) (remainder_of (code_of l.text) l.thread) l.process l.event))
+    × ((calls_of k).run (state_of (tree_of l.program) l.fn.self) (code_of l.text)
+    (remainder_of (code_of l.text) l.fn.thread) l.process l.event
+    ≡ (calls_of m).run (state_of (tree_of l.program) l.self) (code_of l.text)
+    (remainder_of (code_of l.text) l.thread) l.process l.event))
 
 abbrev pub decreases-run-loop-op : goal.decreases-run-loop-op
 decreases-run-loop-op l = l.self.fuel
@@ -75,5 +77,6 @@ abbrev pub invariant-walk-loop-member : goal.invariant-walk-loop-member
 invariant-walk-loop-member l =
     Spends 0 l.fn.self l.self
     × Grows l.fn.self.out l.self.out
-    × ((k : ℕ) → l.fn.self.fuel < k → walk_of (calls_of k) l.event l.skipped l.members (state_of (tree_of l.program) l.fn.self)
+    × ((k : ℕ) → l.fn.self.fuel < k
+    → walk_of (calls_of k) l.event l.skipped l.members (state_of (tree_of l.program) l.fn.self)
     ≡ walk_of (calls_of k) l.event l.skipped (drop l.member-index l.members) (state_of (tree_of l.program) l.self))

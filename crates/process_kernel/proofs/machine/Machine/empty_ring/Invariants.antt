@@ -8,7 +8,8 @@ abbrev pub invariant-loop-packet : goal.invariant-loop-packet
 invariant-loop-packet l =
     KeepsCounts l.fn.self l.self
     × Grows l.fn.self.out l.self.out
-    × ((t : Tree) → empty_ring l.receiver l.fn.self.ring.items (state_of t l.fn.self) ≡ empty_ring l.receiver l.self.ring.items (state_of t l.self))
+    × ((t : Tree) → empty_ring l.receiver l.fn.self.ring.items (state_of t l.fn.self)
+    ≡ empty_ring l.receiver l.self.ring.items (state_of t l.self))
 
 abbrev pub decreases-loop-packet : goal.decreases-loop-packet
 decreases-loop-packet l = length l.self.ring.items

@@ -3,10 +3,18 @@ use Rattle.program_tree.specs.Program.{tree_of}
 use Rattle.process_kernel.specs.Delivery.{give_of}
 use Rattle.process_kernel.proofs.machine.Machine.give.Goals as goal
 
-pub returns-in_err-write-clause-exact : goal.returns-in_err-write-clause-exact
+pub returns-in_err-write : goal.returns-in_err-write
 unfolding give_of
-returns-in_err-write-clause-exact c = λ k enough. search (rules, c.in_err-write.ensures.exact (tree_of c.args.program.now))
+returns-in_err-write c = record {
+  exact = λ k enough. search (rules, c.in_err-write.ensures.exact (tree_of c.args.program.now));
+  spends = search rules;
+  grows = search rules;
+}
 
-pub returns-clause-exact : goal.returns-clause-exact
+pub returns : goal.returns
 unfolding give_of
-returns-clause-exact c = λ k enough. search (rules, c.in_ok-write.ensures.exact (tree_of c.args.program.now))
+returns c = record {
+  exact = λ k enough. search (rules, c.in_ok-write.ensures.exact (tree_of c.args.program.now));
+  spends = search rules;
+  grows = search rules;
+}

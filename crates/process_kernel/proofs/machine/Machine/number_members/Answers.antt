@@ -8,7 +8,8 @@ use Rattle.process_kernel.proofs.Lists.{AreMembers-numbered, length-numbered, nu
 use Rattle.process_kernel.proofs.machine.Machine.number_members.Goals as goal
 
 -- the members are those that were numbered
-are : (old lent new : List Member) (len : ℕ) → len ≡ length old → lent ≡ old → new ≡ numbered_from 0 lent → refill len old new ≡ numbered_from 0 old
+are : (old lent new : List Member) (len : ℕ) → len ≡ length old → lent ≡ old → new ≡ numbered_from 0 lent
+    → refill len old new ≡ numbered_from 0 old
 are old lent new len long same numbered =
     let is = numbered ∙ ap (numbered_from 0) same in
     ap (λ n. refill n old new) long ∙ (refill_same old new (ap length is ∙ length-numbered 0 old) ∙ is)
@@ -16,15 +17,21 @@ are old lent new len long same numbered =
 pub invariant_of-self-clause-numbered : goal.invariant_of-self-clause-numbered
 invariant_of-self-clause-numbered c = λ _.
     let old = c.args.self.now.members.items in
-    let is = are old _ c.number.new.members (vec_len c.args.self.now.members) (search rules) c.deref_mut.ensures.value c.number.ensures in
+    let is = are old _ c.number.new.members (vec_len c.args.self.now.members)
+    (search rules) c.deref_mut.ensures.value c.number.ensures in
     is ∙ sym (numbered_again 0 old) ∙ sym (ap (numbered_from 0) is)
 
 pub invariant_of-self-clause-are_members : goal.invariant_of-self-clause-are_members
 invariant_of-self-clause-are_members c =
-    let is = are c.args.self.now.members.items _ c.number.new.members (vec_len c.args.self.now.members) (search rules) c.deref_mut.ensures.value c.number.ensures in
-    subst (λ ms. AreMembers ms (length c.args.self.now.shown.states.items)) (sym is) (AreMembers-numbered 0 _ _ c.args.self.now.are_members)
+    let is = are c.args.self.now.members.items _ c.number.new.members (vec_len c.args.self.now.members)
+    (search rules) c.deref_mut.ensures.value c.number.ensures in
+    subst (λ ms. AreMembers ms (length c.args.self.now.shown.states.items)) (sym is)
+    (AreMembers-numbered 0 _ _ c.args.self.now.are_members)
 
 pub invariant_of-self-clause-few_members : goal.invariant_of-self-clause-few_members
 invariant_of-self-clause-few_members c =
-    let is = are c.args.self.now.members.items _ c.number.new.members (vec_len c.args.self.now.members) (search rules) c.deref_mut.ensures.value c.number.ensures in
-    subst (λ (ms : List Member). length ms ≤ 67) (sym is) (let same = length-numbered 0 c.args.self.now.members.items in let few = c.args.self.now.few_members in omega arith)
+    let is = are c.args.self.now.members.items _ c.number.new.members (vec_len c.args.self.now.members)
+    (search rules) c.deref_mut.ensures.value c.number.ensures in
+    subst (λ (ms : List Member). length ms ≤ 67) (sym is)
+    (let same = length-numbered 0 c.args.self.now.members.items in let few = c.args.self.now.few_members in
+    omega arith)

@@ -3,6 +3,10 @@ use Rattle.program_tree.specs.Program.{tree_of}
 use Rattle.process_kernel.specs.Polls.{poll_turn_of}
 use Rattle.process_kernel.proofs.machine.Machine.poll_in_turn.Goals as goal
 
-pub returns-clause-exact : goal.returns-clause-exact
+pub returns : goal.returns
 unfolding poll_turn_of
-returns-clause-exact c = λ k enough. search (rules, c.set_mark.ensures.exact (tree_of c.args.program.now))
+returns c = record {
+  exact = λ k enough. search (rules, c.set_mark.ensures.exact (tree_of c.args.program.now));
+  spends = search rules;
+  grows = search rules;
+}

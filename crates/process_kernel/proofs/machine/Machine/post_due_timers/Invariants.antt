@@ -13,8 +13,11 @@ invariant-loop-timer l =
     × Grows l.fn.self.out l.self.out
     × ForSome l.after (λ id. IsTrue (is_member id l.self.shown.timers.listed))
     × ((t : Tree) → (left : ℕ) × (length l.self.shown.timers.listed ≤ left + 1)
-    × (pass_of (state_of t l.fn.self) ≡ walk_timers (walks_of left) (behind l.after l.self.shown.timers.listed) (state_of t l.self)))
+    × (pass_of (state_of t l.fn.self)
+    ≡ walk_timers (walks_of left) (behind l.after l.self.shown.timers.listed) (state_of t l.self)))
 
 -- each walk has a timer less on the list, and each step of it comes nearer to the end
 abbrev pub decreases-loop-timer : goal.decreases-loop-timer
-decreases-loop-timer l = length l.self.shown.timers.listed * length l.self.shown.timers.listed + length (behind l.after l.self.shown.timers.listed)
+decreases-loop-timer l =
+    length l.self.shown.timers.listed * length l.self.shown.timers.listed + length
+    (behind l.after l.self.shown.timers.listed)

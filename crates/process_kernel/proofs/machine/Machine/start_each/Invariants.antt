@@ -10,5 +10,6 @@ abbrev pub invariant-loop-process : goal.invariant-loop-process
 invariant-loop-process l =
     Spends 0 l.fn.self l.self
     × Grows l.fn.self.out l.self.out
-    × ((k : ℕ) → l.fn.self.fuel < k → starts_of (calls_of k) (map Own l.processes) (state_of (tree_of l.program) l.fn.self)
+    × ((k : ℕ) → l.fn.self.fuel < k
+    → starts_of (calls_of k) (map Own l.processes) (state_of (tree_of l.program) l.fn.self)
     ≡ starts_of (calls_of k) (map Own (drop l.process-index l.processes)) (state_of (tree_of l.program) l.self))

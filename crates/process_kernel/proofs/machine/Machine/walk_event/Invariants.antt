@@ -9,5 +9,6 @@ abbrev pub invariant-loop-member : goal.invariant-loop-member
 invariant-loop-member l =
     Spends 0 l.fn.self l.self
     × Grows l.fn.self.out l.self.out
-    × ((k : ℕ) → l.fn.self.fuel < k → walk_event (calls_of k) l.posted l.members (state_of (tree_of l.program) l.fn.self)
+    × ((k : ℕ) → l.fn.self.fuel < k
+    → walk_event (calls_of k) l.posted l.members (state_of (tree_of l.program) l.fn.self)
     ≡ walk_event (calls_of k) l.posted (drop l.member-index l.members) (state_of (tree_of l.program) l.self))

@@ -2,7 +2,7 @@ use Rattle.std.proofs.Common.{rules, ap, ◌∙◌, arith, slice_set, slice_inde
 use Rattle.program_tree.specs.declared.event.Proc.TheVariants.{Own}
 use Rattle.process_kernel.specs.declared.process.Member.{Member}
 use Rattle.process_kernel.proofs.Lists.{number_more}
-use Rattle.process_kernel.proofs.runs.number.Goals as goal
+use Rattle.process_kernel.proofs.run.number.Goals as goal
 
 pub loop-place-preserved : goal.loop-place-preserved
 loop-place-preserved c =

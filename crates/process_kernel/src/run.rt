@@ -1,0 +1,73 @@
+//! A kernel run (`process_run` of `process.c`).
+
+ghost use Rattle.std.specs.Prelude.{◌≡◌, ◌≤◌, ◌+◌, ◌^◌, if◌then◌else◌, length};
+ghost use Rattle.program_tree.specs.Code.{Tree};
+ghost use Rattle.process_kernel.specs.Follows.{Follows};
+ghost use Rattle.process_kernel.specs.ProcessList.{numbered_from};
+ghost use Rattle.process_kernel.specs.Run.{begun_of, kernel_of};
+ghost use Rattle.process_kernel.specs.Views.{state_of, Grows, HasRoom, KeepsCounts};
+
+use crate::machine::{Machine, Stop};
+use crate::process::Member;
+use program_tree::Program;
+use protothread::Fuel;
+
+/// The units of work of a boot, and of each kernel run.
+pub const UNITS: u32 = 10_000;
+
+impl Machine {
+    /// One kernel run; returns how much is left to do.
+    #[tactic(auto, unfolding(crate::specs::Run::kernel_of))]
+    pub fn run_kernel(&mut self, program: &Program) -> Result<u16, Stop>
+        requires { HasRoom 0 self.old }
+        ensures { Follows program.now self.old result self.new kernel_of }
+    {
+        self.poll_due(program)?;
+        self.deliver_front(program)?;
+        Ok(self.left())
+    }
+
+    /// Begins a boot or a run at this moment.
+    #[tactic(auto, unfolding(crate::specs::Run::begun_of))]
+    pub fn begin(&mut self, moment: u64)
+        requires { moment ≤ 2 ^ 40 }
+        ensures exact { (t : Tree) → state_of t self.new ≡ begun_of (state_of t self.old) moment }
+        ensures room { HasRoom 1 self.new }
+        ensures grows { Grows self.old.out self.new.out }
+    {
+        self.shown.moment = moment;
+        self.fuel = Fuel::new(UNITS);
+        self.started = self.members.len() as u32;
+        self.number_members();
+    }
+
+    /// Numbers the incarnations on the process list from 0 on.
+    fn number_members(&mut self)
+        ensures exact { (t : Tree) → state_of t self.new
+            ≡ record (state_of t self.old) { members = numbered_from 0 self.old.members.items } }
+        ensures kept { KeepsCounts self.old self.new }
+        ensures grows { Grows self.old.out self.new.out }
+    {
+        if !self.is_numbered {
+            number(&mut self.members);
+            self.is_numbered = true;
+        }
+    }
+
+    /// How much is left to do: the queued events, and one more where the poll flag is set.
+    pub fn left(&self) -> u16
+        ensures { result ≡ length self.now.queue.events + (if self.now.flag then 1 else 0) }
+    {
+        self.queue.len() as u16 + u16::from(self.flag)
+    }
+}
+
+/// Numbers the members anew, from the first on.
+fn number(members: &mut [Member])
+    requires { length members.old ≤ 67 }
+    ensures { members.new ≡ numbered_from 0 members.old }
+{
+    for place in 0..members.len() {
+        members[place].incarnation = place as u32;
+    }
+}
