@@ -33,7 +33,7 @@ use Rattle.process_kernel.specs.Delivery.{give_of, visit_of, walk_event, deliver
 use Rattle.process_kernel.specs.Run.{begun_of, left_of, deliver_front, kernel_of, most_units}
 use Rattle.process_kernel.specs.Boot.{starts_of, boot_of}
 use Rattle.process_kernel.specs.Mote.{Mote, unbooted, with_poll, with_packet}
-use Rattle.process_kernel.specs.Public.{given, begun, unless_halted, boot_given, run_given}
+use Rattle.process_kernel.specs.Given.{given, begun, unless_halted, boot_given, run_given}
 use Rattle.kernel_laws.specs.Going.{IsNote}
 use Rattle.kernel_laws.specs.InStep.{AreInStep, state_at_place, exiting_at, listed_in}
 use Rattle.kernel_laws.specs.Traces.{KernelCall, RunAt, PollOf, Accepts, Notes, Traced, after_call, after_calls, booted_at}

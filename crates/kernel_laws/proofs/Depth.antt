@@ -37,7 +37,7 @@ use Rattle.process_kernel.specs.Polls.{walk_polls, polls_of, polls_due_of, poll_
 use Rattle.process_kernel.specs.Delivery.{give_of, visit_of, walk_event, deliver_to, deliver_of}
 use Rattle.process_kernel.specs.Run.{begun_of, deliver_front, kernel_of, most_units}
 use Rattle.process_kernel.specs.Boot.{starts_of, boot_of}
-use Rattle.process_kernel.specs.Public.{begun, given, unless_halted, boot_given, run_given}
+use Rattle.process_kernel.specs.Given.{begun, given, unless_halted, boot_given, run_given}
 use Rattle.kernel_laws.specs.Depth.{CallsAreAnyDepth, ThreadsAreAnyDepth, BootsAreAnyDepth, RunsAreAnyDepth}
 use Rattle.kernel_laws.proofs.Units.{Less, Costs, writes, spends, posts, sends, polled, enlists, leaves, sets, resets, restarts, stops, answers, etimer_costs, radio_costs, step_pays}
 

@@ -21,7 +21,7 @@ use Rattle.process_kernel.specs.Polls.{walk_polls}
 use Rattle.process_kernel.specs.Run.{begun_of, kernel_of, most_units}
 use Rattle.process_kernel.specs.Boot.{boot_of}
 use Rattle.process_kernel.specs.Mote.{Mote, unbooted}
-use Rattle.process_kernel.specs.Public.{Given, given, begun, unless_halted, boot_given, run_given}
+use Rattle.process_kernel.specs.Given.{Given, given, begun, unless_halted, boot_given, run_given}
 use Rattle.kernel_laws.specs.Own.{IsOwn}
 use Rattle.kernel_laws.specs.Going.{SystemStays}
 use Rattle.kernel_laws.specs.InStep.{IsInStep, IsIdle}

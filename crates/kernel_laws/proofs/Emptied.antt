@@ -19,7 +19,7 @@ use Rattle.process_kernel.specs.Polls.{walk_polls}
 use Rattle.process_kernel.specs.Run.{begun_of, kernel_of, most_units}
 use Rattle.process_kernel.specs.Writes.{spend_of}
 use Rattle.process_kernel.specs.Mote.{Mote}
-use Rattle.process_kernel.specs.Public.{given, begun, run_given}
+use Rattle.process_kernel.specs.Given.{given, begun, run_given}
 use Rattle.kernel_laws.specs.Own.{IsOwn}
 use Rattle.kernel_laws.specs.Going.{IsNote}
 use Rattle.kernel_laws.specs.Poll.{PollWaits, members_before}

@@ -18,7 +18,7 @@ use Rattle.process_kernel.specs.Call.{calls_of}
 use Rattle.process_kernel.specs.Run.{begun_of, kernel_of, most_units}
 use Rattle.process_kernel.specs.Boot.{boot_of}
 use Rattle.process_kernel.specs.Posts.{poll_of}
-use Rattle.process_kernel.specs.Public.{Given, given, begun, boot_given, run_given}
+use Rattle.process_kernel.specs.Given.{Given, given, begun, boot_given, run_given}
 use Rattle.kernel_laws.specs.Seen.{seen_what, seen_lines, view_of}
 use Rattle.kernel_laws.specs.Going.{SystemStays, IsBlank, GoesWithAs, GoesWith, Adds, IsNote, IsInOrder}
 use Rattle.kernel_laws.proofs.Steps.{IsQuiet, quiet, view_quiet, poll_quiet}

@@ -24,7 +24,7 @@ use Rattle.process_kernel.specs.Writes.{write_of, halted_of}
 use Rattle.process_kernel.specs.Call.{calls_of}
 use Rattle.process_kernel.specs.Run.{begun_of, most_units}
 use Rattle.process_kernel.specs.Mote.{Mote}
-use Rattle.process_kernel.specs.Public.{given, begun, unless_halted, boot_given, run_given}
+use Rattle.process_kernel.specs.Given.{given, begun, unless_halted, boot_given, run_given}
 use Rattle.kernel_laws.specs.Due.{HaveOwners, BootKeepsOwners, RunKeepsOwners}
 use Rattle.kernel_laws.proofs.Timers.{further, other_timer}
 use Rattle.kernel_laws.proofs.Watch.{is_left}

@@ -26,7 +26,7 @@ use Rattle.process_kernel.specs.Delivery.{give_of, visit_of, walk_event, deliver
 use Rattle.process_kernel.specs.Run.{begun_of, left_of, deliver_front, kernel_of, most_units}
 use Rattle.process_kernel.specs.Boot.{starts_of, boot_of}
 use Rattle.process_kernel.specs.Mote.{Mote, at_rest, unbooted, with_packet, with_poll}
-use Rattle.process_kernel.specs.Public.{Given, given, begun, boot_given, run_given}
+use Rattle.process_kernel.specs.Given.{Given, given, begun, boot_given, run_given}
 use Rattle.kernel_laws.specs.InStep.{state_at_place, exiting_at, listed_in, AreInStep, IsInStep, IsIdle}
 use Rattle.kernel_laws.specs.Traces.{KernelCall, RunAt, PollOf, Accepts, Notes, Traced, after_call, after_calls, booted_at}
 use Rattle.kernel_laws.specs.Laws.{OnlyTheRunningAreCalled, CallsKeepStep, ListedAreRunning}

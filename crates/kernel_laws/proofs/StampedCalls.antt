@@ -7,7 +7,7 @@ use Rattle.process_kernel.specs.Run.{begun_of, kernel_of, most_units}
 use Rattle.process_kernel.specs.Boot.{boot_of}
 use Rattle.process_kernel.specs.Mote.{Mote}
 use Rattle.process_kernel.specs.declared.kernel.Ran.TheVariants as ran
-use Rattle.process_kernel.specs.Public.{given, begun, unless_halted, boot_given, run_given}
+use Rattle.process_kernel.specs.Given.{given, begun, unless_halted, boot_given, run_given}
 use Rattle.trace_lines.specs.declared.line.Line.{Line}
 use Rattle.radio_packet.specs.declared.sent.Sent.{Sent}
 use Rattle.kernel_laws.specs.Stamps.{state_after, GivesStamped}

@@ -11,7 +11,7 @@ use Rattle.trace_lines.specs.declared.line.Line.{Line}
 use Rattle.radio_packet.specs.declared.sent.Sent.{Sent}
 use Rattle.process_kernel.specs.State.{State, Outcome, Ends, Goes}
 use Rattle.process_kernel.specs.Mote.{Mote, unbooted, with_poll, with_packet}
-use Rattle.process_kernel.specs.Public.{Given, given, boot_given, run_given}
+use Rattle.process_kernel.specs.Given.{Given, given, boot_given, run_given}
 use Rattle.kernel_laws.specs.Going.{GoesWithAs, GoesWith, Adds, IsNote}
 use Rattle.kernel_laws.specs.Traces.{KernelCall, RunAt, PollOf, Accepts, Notes, Traced, with_given, after_call, after_calls, booted_at}
 use Rattle.kernel_laws.specs.Laws.{KernelsHandOn, NoLinesGoFirst}

@@ -11,7 +11,7 @@ use Rattle.process_kernel.specs.Call.{calls_of}
 use Rattle.process_kernel.specs.Mote.{Mote}
 use Rattle.process_kernel.specs.Run.{kernel_of, most_units}
 use Rattle.process_kernel.specs.Boot.{boot_of}
-use Rattle.process_kernel.specs.Public.{begun, given, unless_halted, boot_given, run_given}
+use Rattle.process_kernel.specs.Given.{begun, given, unless_halted, boot_given, run_given}
 
 -- a call is the same at any depth above the units of work that are left
 abbrev pub CallsAreAnyDepth : Type 0

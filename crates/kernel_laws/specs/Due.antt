@@ -19,7 +19,7 @@ use Rattle.process_kernel.specs.State.{State, Goes}
 use Rattle.process_kernel.specs.Processes.{is_listed}
 use Rattle.process_kernel.specs.Call.{calls_of}
 use Rattle.process_kernel.specs.Mote.{Mote, unbooted}
-use Rattle.process_kernel.specs.Public.{begun, boot_given, run_given}
+use Rattle.process_kernel.specs.Given.{begun, boot_given, run_given}
 use Rattle.kernel_laws.specs.Going.{SystemStays}
 use Rattle.kernel_laws.specs.InStep.{IsInStep, IsIdle}
 use Rattle.kernel_laws.specs.Own.{FitsTarget}

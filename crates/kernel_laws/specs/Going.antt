@@ -12,7 +12,7 @@ use Rattle.trace_lines.specs.declared.line.What.TheVariants as what
 use Rattle.process_kernel.specs.State.{State}
 use Rattle.process_kernel.specs.Processes.{has_process, is_busy, is_listed}
 use Rattle.process_kernel.specs.Mote.{Mote}
-use Rattle.process_kernel.specs.Public.{Given}
+use Rattle.process_kernel.specs.Given.{Given}
 use Rattle.kernel_laws.specs.Own.{FitsTarget}
 use Rattle.kernel_laws.specs.Seen.{seen_lines, view_of}
 

@@ -10,7 +10,7 @@ use Rattle.process_kernel.specs.State.{State, Goes}
 use Rattle.process_kernel.specs.Processes.{is_running, is_listed}
 use Rattle.process_kernel.specs.Call.{calls_of}
 use Rattle.process_kernel.specs.Mote.{Mote, unbooted, with_packet, with_poll}
-use Rattle.process_kernel.specs.Public.{boot_given, run_given}
+use Rattle.process_kernel.specs.Given.{boot_given, run_given}
 use Rattle.kernel_laws.specs.Going.{GoesWith, Adds, IsNote, IsInOrder}
 use Rattle.kernel_laws.specs.InStep.{IsInStep, IsAsBusy}
 use Rattle.kernel_laws.specs.Stamps.{Stamped, state_after, GivesStamped}

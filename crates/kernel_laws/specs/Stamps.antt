@@ -5,7 +5,7 @@ use Rattle.trace_lines.specs.declared.line.Line.{Line}
 use Rattle.radio_packet.specs.declared.sent.Sent.{Sent}
 use Rattle.process_kernel.specs.State.{State, Outcome, Ends, Goes}
 use Rattle.process_kernel.specs.Mote.{Mote}
-use Rattle.process_kernel.specs.Public.{Given}
+use Rattle.process_kernel.specs.Given.{Given}
 
 -- each of these lines is stamped with the moment
 abbrev pub LinesBear : (moment : ℕ) → List Line → Type 0

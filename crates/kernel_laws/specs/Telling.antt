@@ -19,7 +19,7 @@ use Rattle.process_kernel.specs.State.{State}
 use Rattle.process_kernel.specs.Processes.{process_state, flag_at, has_process, is_listed}
 use Rattle.process_kernel.specs.Calls.{told}
 use Rattle.process_kernel.specs.Mote.{Mote, unbooted, with_packet, with_poll}
-use Rattle.process_kernel.specs.Public.{boot_given, run_given}
+use Rattle.process_kernel.specs.Given.{boot_given, run_given}
 use Rattle.kernel_laws.specs.Going.{IsNote}
 use Rattle.kernel_laws.specs.Printed.{IsQuietApart, starts_and_prints, prints, AreShown, Life, lines_of, Lives}
 use Rattle.kernel_laws.specs.Printed.{LivesSoFar, TellsLives}

@@ -5,7 +5,7 @@ use Rattle.program_tree.specs.Code.{Tree}
 use Rattle.radio_packet.specs.declared.arrival.Arrival.{Arrival}
 use Rattle.trace_lines.specs.declared.line.Line.{Line}
 use Rattle.process_kernel.specs.Mote.{Mote, unbooted, with_packet, with_poll}
-use Rattle.process_kernel.specs.Public.{Given, boot_given, run_given}
+use Rattle.process_kernel.specs.Given.{Given, boot_given, run_given}
 use Rattle.kernel_laws.specs.Going.{IsNote}
 
 -- A call of a kernel after its boot: a kernel run at a moment, a process that is to be polled, or a packet for the

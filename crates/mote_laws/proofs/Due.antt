@@ -21,7 +21,7 @@ use Rattle.process_kernel.specs.State.{State, Goes}
 use Rattle.process_kernel.specs.Call.{calls_of}
 use Rattle.process_kernel.specs.Posts.{poll_of}
 use Rattle.process_kernel.specs.Mote.{Mote, unbooted, has_room, with_packet, with_poll}
-use Rattle.process_kernel.specs.Public.{begun, boot_given, run_given}
+use Rattle.process_kernel.specs.Given.{begun, boot_given, run_given}
 use Rattle.kernel_laws.specs.Poll.{PollWaits, polls_before}
 use Rattle.kernel_laws.specs.Due.{IsDueFor, NoneIsDue, ForgetsNone, IsAtRest, HasTelling}
 use Rattle.kernel_laws.proofs.Steps.{quiet, poll_quiet}

@@ -10,7 +10,7 @@ use Rattle.radio_packet.specs.declared.arrival.Arrival.{Arrival}
 use Rattle.trace_lines.specs.declared.line.Line.{Line}
 use Rattle.process_kernel.specs.Posts.{poll_of}
 use Rattle.process_kernel.specs.Mote.{Mote, unbooted, with_poll}
-use Rattle.process_kernel.specs.Public.{boot_given, run_given}
+use Rattle.process_kernel.specs.Given.{boot_given, run_given}
 use Rattle.kernel_laws.specs.Poll.{PollWaits}
 use Rattle.kernel_laws.specs.Ring.{GivesPackets}
 use Rattle.kernel_laws.proofs.Ring.{boot_tells_packets}

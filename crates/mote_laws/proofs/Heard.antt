@@ -10,7 +10,7 @@ use Rattle.trace_lines.specs.declared.line.Line.{Line}
 use Rattle.trace_lines.specs.declared.line.What.{What}
 use Rattle.trace_lines.specs.declared.line.What.TheVariants as what
 use Rattle.process_kernel.specs.Mote.{has_room, with_packet, with_poll}
-use Rattle.process_kernel.specs.Public.{boot_given, run_given}
+use Rattle.process_kernel.specs.Given.{boot_given, run_given}
 use Rattle.kernel_laws.specs.Going.{IsNote}
 use Rattle.kernel_laws.proofs.Ring.{boot_tells_packets, run_tells_packets}
 use Rattle.mote_node.specs.Underway.{Underway, with_mote, with_lines, after}

@@ -8,7 +8,7 @@ use Rattle.process_kernel.specs.declared.kernel.Ran.TheVariants as ran
 use Rattle.radio_packet.specs.declared.arrival.Arrival.{Arrival}
 use Rattle.trace_lines.specs.declared.line.Line.{Line}
 use Rattle.process_kernel.specs.Mote.{Mote, unbooted, with_poll}
-use Rattle.process_kernel.specs.Public.{boot_given, run_given}
+use Rattle.process_kernel.specs.Given.{boot_given, run_given}
 use Rattle.kernel_laws.specs.Due.{HaveOwners}
 use Rattle.kernel_laws.proofs.Owners.{boot_keeps_owners, poll_timers, run_keeps_owners}
 use Rattle.mote_node.specs.Node.{Node, new_node}

@@ -15,7 +15,7 @@ use Rattle.process_kernel.specs.State.{State}
 use Rattle.process_kernel.specs.Processes.{is_alive, process_state, with_mark}
 use Rattle.process_kernel.specs.Posts.{poll_of}
 use Rattle.process_kernel.specs.Mote.{Mote, unbooted, has_room, with_packet, with_poll}
-use Rattle.process_kernel.specs.Public.{Given, boot_given, run_given}
+use Rattle.process_kernel.specs.Given.{Given, boot_given, run_given}
 use Rattle.kernel_laws.specs.Polled.{Accepted, Refused, TellsPacket, TellEach, NoneLeft, TellsNext}
 use Rattle.kernel_laws.specs.Ring.{IsApart, RingRuns, NoneMore, Receives, Loses, Hands, Passes, GivesPackets}
 use Rattle.kernel_laws.proofs.Ring.{ring_runs_on, boot_tells_packets, run_tells_packets}

@@ -14,7 +14,7 @@ use Rattle.trace_lines.specs.declared.line.Line.{Line}
 use Rattle.radio_packet.specs.declared.sent.Sent.{Sent}
 use Rattle.process_kernel.specs.State.{State}
 use Rattle.process_kernel.specs.Mote.{unbooted, has_room, with_packet, with_poll}
-use Rattle.process_kernel.specs.Public.{boot_given, run_given}
+use Rattle.process_kernel.specs.Given.{boot_given, run_given}
 use Rattle.mote_node.specs.Node.{Node, new_node, is_past}
 use Rattle.mote_node.specs.Underway.{Underway, with_mote, with_lines, after}
 use Rattle.mote_node.specs.Arrivals.{received_line, lost_line, collision_line, hear, hear_each, took_some, hear_all, is_collision, with_collisions}

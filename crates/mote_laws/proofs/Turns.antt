@@ -7,7 +7,7 @@ use Rattle.process_kernel.specs.declared.kernel.Ran.TheVariants as ran
 use Rattle.radio_packet.specs.declared.arrival.Arrival.{Arrival}
 use Rattle.trace_lines.specs.declared.line.Line.{Line}
 use Rattle.process_kernel.specs.Mote.{has_room, with_packet, with_poll}
-use Rattle.process_kernel.specs.Public.{Given, boot_given, run_given}
+use Rattle.process_kernel.specs.Given.{Given, boot_given, run_given}
 use Rattle.mote_node.specs.Node.{Node, new_node}
 use Rattle.mote_node.specs.Underway.{Underway, with_mote, with_lines, after}
 use Rattle.mote_node.specs.Arrivals.{received_line, lost_line, collision_line, hear, hear_each, hear_all, is_collision, with_collisions}

@@ -11,7 +11,7 @@ use Rattle.trace_lines.specs.declared.line.Line.{Line}
 use Rattle.process_kernel.specs.Run.{most_units}
 use Rattle.process_kernel.specs.State.{State, Goes}
 use Rattle.process_kernel.specs.Call.{calls_of}
-use Rattle.process_kernel.specs.Public.{begun}
+use Rattle.process_kernel.specs.Given.{begun}
 use Rattle.kernel_laws.specs.Poll.{PollWaits, polls_before}
 use Rattle.kernel_laws.specs.Due.{IsDueFor, NoneIsDue, HaveOwners, HasTelling}
 use Rattle.mote_node.specs.Node.{Node}

@@ -4,7 +4,7 @@ use Rattle.std.proofs.lemmas.Bool.Decides.{nat_tests}
 use Rattle.std.specs.List.Sorted.{IsStrictlyIncreasing}
 use Rattle.radio_packet.specs.declared.arrival.Arrival.{Arrival}
 use Rattle.trace_lines.specs.declared.line.Line.{Line}
-use Rattle.process_kernel.specs.Public.{boot_given}
+use Rattle.process_kernel.specs.Given.{boot_given}
 use Rattle.mote_node.specs.Node.{Node, is_past}
 use Rattle.mote_node.specs.Underway.{Underway, turn_goes_on, after}
 use Rattle.mote_node.specs.Arrivals.{is_collision}

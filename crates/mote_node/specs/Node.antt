@@ -17,3 +17,6 @@ new_node t number queue = record { mote = unbooted t number queue; last = None; 
 abbrev pub is_past : (moment : ℕ) → (last : Option ℕ) → Bool
 is_past moment None = false
 is_past moment (Some last) = nat_le moment last
+
+abbrev pub with_collide : Bool → Node → Node
+with_collide collides n = record n { collides = collides }

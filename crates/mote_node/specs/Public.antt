@@ -31,9 +31,6 @@ abbrev pub is_past_in : (moment : ℕ) → Option Node → Bool
 is_past_in moment None = false
 is_past_in moment (Some n) = is_past moment n.last
 
-abbrev pub with_collide : Bool → Node → Node
-with_collide collides n = record n { collides = collides }
-
 -- what a turn told, with the next wake
 abbrev pub told_with : Out → (wake : Option ℕ) → TurnOut
 told_with out wake = record { lines = out.lines; sends = out.sends; wake = wake }

@@ -6,7 +6,7 @@ use Rattle.radio_packet.specs.declared.arrival.Arrival.{Arrival}
 use Rattle.trace_lines.specs.declared.line.Line.{Line}
 use Rattle.radio_packet.specs.declared.sent.Sent.{Sent}
 use Rattle.process_kernel.specs.Mote.{Mote, with_poll}
-use Rattle.process_kernel.specs.Public.{boot_given}
+use Rattle.process_kernel.specs.Given.{boot_given}
 pub use Rattle.process_kernel.specs.Runs.{follow}
 unfoldable pub use Rattle.process_kernel.specs.Runs.{runs_of}
 use Rattle.mote_node.specs.Node.{Node}

@@ -115,7 +115,8 @@ fn is_past(moment: u64, last: Option<u64>) -> bool
 impl Mote {
     ghost use Rattle.mote_node.specs.Node.{new_node};
     ghost use Rattle.mote_node.specs.Turn.{turn_of};
-    ghost use Rattle.mote_node.specs.Public.{node_in, node_held, wake_in, is_past_in, with_collide, turn_told};
+    ghost use Rattle.mote_node.specs.Public.{node_in, node_held, wake_in, is_past_in, turn_told};
+    ghost use Rattle.mote_node.specs.Node.{with_collide};
     ghost use Rattle.mote_node.specs.Public.{told_with};
 
     /// The mote with this number and program, before its first turn. Its event queue has room for this many events, 1

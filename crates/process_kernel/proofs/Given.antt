@@ -17,7 +17,8 @@ use Rattle.process_kernel.specs.State.{State, Outcome}
 use Rattle.process_kernel.specs.Mote.{Mote, at_rest}
 use Rattle.process_kernel.specs.Views as views
 use Rattle.process_kernel.specs.Views.{state_of, mote_of, Begins}
-use Rattle.process_kernel.specs.Public.{mote_in, Given, given, BeginsWith, Tells, FailsAs, Closes}
+use Rattle.process_kernel.specs.Public.{mote_in, BeginsWith, Tells, FailsAs, Closes}
+use Rattle.process_kernel.specs.Given.{Given, given}
 
 -- a kernel that an earlier call left without memory
 pub failed : (t : Tree) (gives : Mote → List Line → List Sent → Given) (k : Kernel) (out : Out) → k.failed ≡ true

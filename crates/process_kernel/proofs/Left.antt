@@ -12,7 +12,7 @@ use Rattle.process_kernel.specs.Calls.{Calls}
 use Rattle.process_kernel.specs.Run.{left_of, kernel_of, deliver_front}
 use Rattle.process_kernel.specs.Polls.{polls_due_of}
 use Rattle.process_kernel.specs.Boot.{boot_of}
-use Rattle.process_kernel.specs.Public.{Given, given, unless_halted, boot_given, run_given}
+use Rattle.process_kernel.specs.Given.{Given, given, unless_halted, boot_given, run_given}
 use Rattle.process_kernel.specs.Laws.{TellsLeft, PendingIsLeft, StaysHalted}
 
 last : (o : Went) (n : ℕ) (s : State) → (o >>= λ _ s1. Goes (left_of s1) s1) ≡ Goes n s → n ≡ left_of s

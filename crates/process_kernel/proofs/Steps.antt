@@ -5,7 +5,8 @@ use Rattle.trace_lines.specs.declared.line.Line.{Line}
 use Rattle.trace_lines.specs.declared.out.Out.{Out}
 use Rattle.radio_packet.specs.declared.sent.Sent.{Sent}
 use Rattle.process_kernel.specs.Mote.{Mote}
-use Rattle.process_kernel.specs.Public.{Given, Tells}
+use Rattle.process_kernel.specs.Public.{Tells}
+use Rattle.process_kernel.specs.Given.{Given}
 use Rattle.process_kernel.specs.Underway.{Underway, after, underway_in, GoesOn}
 
 abbrev pub underway : Mote → Out → Underway

@@ -10,7 +10,7 @@ use Rattle.process_kernel.specs.Call.{calls_of}
 use Rattle.process_kernel.specs.Run.{begun_of, kernel_of, most_units}
 use Rattle.process_kernel.specs.Boot.{boot_of}
 
--- what a boot or a run gives: its answer, the mote that it leaves, and all that is written by then
+-- what a boot or a run gives: its answer, the mote after it, and all that is written by then
 pub record Given : Type 0 where
   pub ran : Ran
   pub mote : Mote
@@ -18,8 +18,18 @@ pub record Given : Type 0 where
   pub sends : List Sent
 
 abbrev pub given : Outcome ℕ → Given
-given (Ends s) = record { ran = ran.Halted; mote = record { state = at_rest s; booted = true; halted = true }; lines = s.lines; sends = s.sends }
-given (Goes left s) = record { ran = ran.Left left; mote = record { state = at_rest s; booted = true; halted = false }; lines = s.lines; sends = s.sends }
+given (Ends s) = record {
+  ran = ran.Halted;
+  mote = record { state = at_rest s; booted = true; halted = true };
+  lines = s.lines;
+  sends = s.sends;
+}
+given (Goes left s) = record {
+  ran = ran.Left left;
+  mote = record { state = at_rest s; booted = true; halted = false };
+  lines = s.lines;
+  sends = s.sends;
+}
 
 -- the state in which a boot or a run of a mote begins, where so much was written before
 abbrev pub begun : Mote → (moment : ℕ) → List Line → List Sent → State
@@ -27,12 +37,15 @@ begun m moment lines sends = begun_of (record m.state { lines = lines; sends = s
 
 -- a mote that has halted does nothing
 abbrev pub unless_halted : Mote → List Line → List Sent → Given → Given
-unless_halted m lines sends g = if m.halted then record { ran = ran.Halted; mote = m; lines = lines; sends = sends } else g
+unless_halted m lines sends g =
+    if m.halted then record { ran = ran.Halted; mote = m; lines = lines; sends = sends } else g
 
 -- the boot of a mote
 unfoldable pub boot_given : (moment : ℕ) → Mote → List Line → List Sent → Given
-boot_given moment m lines sends = unless_halted m lines sends (given (boot_of (calls_of (most_units + 1)) (begun m moment lines sends)))
+boot_given moment m lines sends =
+    unless_halted m lines sends (given (boot_of (calls_of (most_units + 1)) (begun m moment lines sends)))
 
 -- a kernel run of a mote
 unfoldable pub run_given : (moment : ℕ) → Mote → List Line → List Sent → Given
-run_given moment m lines sends = unless_halted m lines sends (given (kernel_of (calls_of (most_units + 1)) (begun m moment lines sends)))
+run_given moment m lines sends =
+    unless_halted m lines sends (given (kernel_of (calls_of (most_units + 1)) (begun m moment lines sends)))

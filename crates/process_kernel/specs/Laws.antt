@@ -5,7 +5,7 @@ use Rattle.radio_packet.specs.declared.sent.Sent.{Sent}
 use Rattle.process_kernel.specs.declared.kernel.Ran.TheVariants.{Left, Halted}
 use Rattle.process_kernel.specs.Mote.{Mote, is_pending}
 use Rattle.process_kernel.specs.Run.{left_of}
-use Rattle.process_kernel.specs.Public.{Given}
+use Rattle.process_kernel.specs.Given.{Given}
 
 -- what a boot or a run answers as left is what the mote has left to do
 abbrev pub TellsLeft : (ℕ → Mote → List Line → List Sent → Given) → Type 0

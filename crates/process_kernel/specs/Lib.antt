@@ -5,6 +5,7 @@ pub mod Ctimer
 pub mod Delivery
 pub mod Etimer
 pub mod Exit
+pub mod Given
 pub mod Follows
 pub mod KernelErrors
 pub mod Kill

@@ -2,7 +2,7 @@
 use Rattle.std.specs.Prelude.{ℕ, zero, suc}
 use Rattle.process_kernel.specs.declared.kernel.Ran.{Ran}
 use Rattle.process_kernel.specs.declared.kernel.Ran.TheVariants as ran
-use Rattle.process_kernel.specs.Public.{run_given}
+use Rattle.process_kernel.specs.Given.{run_given}
 use Rattle.process_kernel.specs.Underway.{Underway, after}
 
 -- a run that left something to do is followed by the others

@@ -4,7 +4,7 @@ use Rattle.trace_lines.specs.declared.line.Line.{Line}
 use Rattle.trace_lines.specs.declared.out.Out.{Out}
 use Rattle.radio_packet.specs.declared.sent.Sent.{Sent}
 use Rattle.process_kernel.specs.Mote.{Mote}
-use Rattle.process_kernel.specs.Public.{Given}
+use Rattle.process_kernel.specs.Given.{Given}
 
 -- the mote, and the lines and packets of the turn so far
 pub record Underway : Type 0 where

@@ -69,7 +69,8 @@ impl Drop for Kernel {
 }
 
 impl Kernel {
-    ghost use Rattle.process_kernel.specs.Public.{mote_in, held_in, boot_given, run_given, Tells, FailsAs, BeginsWith};
+    ghost use Rattle.process_kernel.specs.Public.{mote_in, held_in, Tells, FailsAs, BeginsWith};
+    ghost use Rattle.process_kernel.specs.Given.{boot_given, run_given};
     ghost use Rattle.process_kernel.specs.Public.{Closes};
     ghost use Rattle.process_kernel.specs.Underway.{GoesOn};
     ghost use Rattle.process_kernel.specs.Runs.{runs_of};

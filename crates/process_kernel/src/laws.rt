@@ -1,7 +1,7 @@
 //! Laws of kernels. Each is a theorem, stated as the contract of an empty function.
 
 ghost use Rattle.process_kernel.specs.Laws.{TellsLeft, PendingIsLeft, StaysHalted};
-ghost use Rattle.process_kernel.specs.Public.{boot_given, run_given};
+ghost use Rattle.process_kernel.specs.Given.{boot_given, run_given};
 
 /// A boot or a run returns how much the mote has left to do, and a kernel is pending exactly if that is not 0.
 pub fn left_is_pending()

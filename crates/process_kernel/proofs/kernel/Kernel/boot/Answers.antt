@@ -6,7 +6,7 @@ use Rattle.process_kernel.specs.Run.{begun_of, most_units}
 use Rattle.process_kernel.specs.Boot.{boot_of}
 use Rattle.process_kernel.specs.Call.{calls_of}
 use Rattle.process_kernel.specs.Views.{state_of, mote_of}
-use Rattle.process_kernel.specs.Public.{boot_given, given, begun}
+use Rattle.process_kernel.specs.Given.{boot_given, given, begun}
 use Rattle.process_kernel.proofs.Given.{failed, halted, finished, begins_with}
 use Rattle.process_kernel.proofs.kernel.Kernel.boot.Goals as goal
 

@@ -6,7 +6,8 @@ use Rattle.process_kernel.specs.State.{State}
 use Rattle.process_kernel.specs.Run.{begun_of, kernel_of, most_units}
 use Rattle.process_kernel.specs.Call.{calls_of}
 use Rattle.process_kernel.specs.Views.{state_of, mote_of}
-use Rattle.process_kernel.specs.Public.{run_given, given, begun, mote_in, Tells, BeginsWith}
+use Rattle.process_kernel.specs.Public.{mote_in, Tells, BeginsWith}
+use Rattle.process_kernel.specs.Given.{run_given, given, begun}
 use Rattle.process_kernel.proofs.Given.{failed, halted, finished, begins_with, begins_same, machine_kept}
 use Rattle.process_kernel.proofs.kernel.Kernel.run_on.Goals as goal
 
