@@ -6,6 +6,7 @@ pub mod Delivery
 pub mod Etimer
 pub mod Exit
 pub mod KernelErrors
+pub mod Heard
 pub mod Kill
 pub mod Laws
 pub mod Looks

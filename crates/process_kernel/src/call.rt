@@ -157,7 +157,7 @@ impl Machine {
         ensures spends { OnOk result (Spends 0 self.old self.new) }
         ensures grows { Grows self.old.out self.new.out }
     {
-        let mut body = self.take_thread(number)?;
+        let mut body = self.take_thread(number);
         let answer = self.run(program, text, &mut body, number, event)?;
         self.put_thread(number, body);
         Ok(answer)

@@ -14,6 +14,7 @@ mod operation;
 mod post;
 mod process;
 mod radio;
+mod ring;
 mod room;
 mod runs;
 mod table;

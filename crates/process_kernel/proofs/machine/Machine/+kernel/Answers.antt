@@ -102,13 +102,13 @@ pub resume-returns-in_err-answer-clause-exact : goal.resume-returns-in_err-answe
 unfolding resume_of
 resume-returns-in_err-answer-clause-exact t c =
     let T = tree_of c.args.program.now in
-    λ k enough. search (rules, c.in_ok-body.ensures.exact T (code_of c.args.text.now) c.requires.text, c.take_thread.ensures.after T)
+    λ k enough. search (rules, c.take_thread-body.ensures.exact T (code_of c.args.text.now) c.requires.text, c.take_thread-body.ensures.after T)
 
 pub resume-returns-clause-exact : goal.resume-returns-clause-exact
 unfolding resume_of
 resume-returns-clause-exact t c =
     let T = tree_of c.args.program.now in
-    λ k enough. search (rules, c.in_ok-body.ensures.exact T (code_of c.args.text.now) c.requires.text, c.take_thread.ensures.after T, c.put_thread.ensures.exact T (code_of c.args.text.now) c.requires.text)
+    λ k enough. search (rules, c.take_thread-body.ensures.exact T (code_of c.args.text.now) c.requires.text, c.take_thread-body.ensures.after T, c.put_thread.ensures.exact T (code_of c.args.text.now) c.requires.text)
 
 pub run-loop-op-preserved : goal.run-loop-op-preserved
 unfolding run_of
