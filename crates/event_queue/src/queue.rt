@@ -1,6 +1,6 @@
 //! A queue of posted events, over a ring whose room is made once.
 
-ghost use Rattle.std.specs.Prelude.{◌≡◌, ◌+◌, ◌^◌, ◌<◌, ◌≤◌, ◌↔◌, [], ◌∷◌, length, IsNone, IfSome, IsErr, IfOk, OnOk, OnErr, Some, codes};
+ghost use Rattle.std.specs.Prelude.{◌≡◌, ◌+◌, ◌^◌, ◌<◌, ◌≤◌, ◌↔◌, [], ◌∷◌, length, IsNone, IfNone, IfSome, IsErr, IfOk, OnOk, OnErr, Some, codes};
 ghost use Rattle.event_queue.specs.Queue.{empty_queue, with_posted, without_front};
 
 use circular_buffer::HeapCircularBuffer;
@@ -32,23 +32,49 @@ impl fmt::Display for Full {
 
 impl Error for Full {}
 
+/// An event that waits, and whom it goes to. It has no serial, since those that wait were accepted one after another.
+#[derive(Clone, Copy)]
+struct Waiting {
+    target: Target,
+    event: Event,
+}
+
 /// The events of a mote that were posted and not yet taken, the oldest first, and a count of all that were ever
 /// accepted (the ring `events` of `process.c`). All its memory is taken by `new`.
 #[derive(Drop)]
 pub struct EventQueue {
-    events: HeapCircularBuffer<Posted>,
-    accepted: u64,
+    waiting: HeapCircularBuffer<Waiting>,
+    /// How many were taken, which is the serial of the oldest that waits.
+    taken: u64,
 }
 
 impl Model for EventQueue {
-    ghost use Rattle.std.specs.Prelude.{◌≤◌, length};
+    ghost use Rattle.std.specs.Prelude.{◌+◌, ◌≤◌, ◌^◌, length};
     ghost use Rattle.event_queue.specs.Queue.{Queue};
+    ghost use Rattle.event_queue.specs.Posting.{queue_of};
 
     ghost Value = { Queue };
 
-    ghost view = { λ q. record { events = q.events.items; accepted = q.accepted; capacity = q.events.capacity } };
+    ghost view = { λ q. queue_of q.waiting.items q.taken q.waiting.capacity };
 
-    ghost invariant = { λ q. length q.events.items ≤ q.events.capacity };
+    ghost invariant = { λ q. (length q.waiting.items ≤ q.waiting.capacity) × (q.taken + length q.waiting.items ≤ 2 ^ 62) };
+}
+
+/// Takes the oldest that waits. The only one is taken from the back, so a ring that is emptied each time stays at its first
+/// slots, which are at hand.
+#[inline(always)]
+#[tactic(auto, using(crate::proofs::Only::only_first))]
+fn take_oldest(waiting: &mut HeapCircularBuffer<Waiting>) -> Option<Waiting>
+    ensures empty { IsNone result ↔ (waiting.old.items ≡ []) }
+    ensures oldest { IfSome result (λ first. waiting.old.items ≡ first ∷ waiting.new.items) }
+    ensures none { IfNone result (waiting.new ≡ waiting.old) }
+    ensures room { waiting.new.capacity ≡ waiting.old.capacity }
+{
+    if waiting.len() == 1 {
+        waiting.pop_back()
+    } else {
+        waiting.pop_front()
+    }
 }
 
 impl EventQueue {
@@ -59,21 +85,31 @@ impl EventQueue {
         ensures { IfOk result (λ queue. queue ≡ empty_queue capacity) }
     {
         Ok(EventQueue {
-            events: HeapCircularBuffer::with_capacity(alloc, usize::from(capacity))?,
-            accepted: 0,
+            waiting: HeapCircularBuffer::with_capacity(alloc, usize::from(capacity))?,
+            taken: 0,
         })
     }
 
     /// How many events wait.
+    #[tactic(auto, using(crate::proofs::Posting::length_posted))]
     pub fn len(&self) -> usize
         ensures len { result ≡ length self.now.events }
         ensures within { result ≤ self.now.capacity }
     {
-        self.events.len()
+        self.waiting.len()
+    }
+
+    /// How many events were ever accepted.
+    #[inline(always)]
+    pub fn accepted(&self) -> u64
+        ensures { result ≡ self.now.accepted }
+    {
+        self.taken + self.waiting.len() as u64
     }
 
     /// Puts an event at the back and answers its serial: 0 for the first that was ever accepted, and then one more
     /// for each. A full queue refuses it, and stays as it was.
+    #[tactic(auto, using(crate::proofs::Posting::length_posted))]
     pub fn post(&mut self, target: Target, event: Event) -> Result<u64, Full>
         requires { self.old.accepted < 2 ^ 62 }
         ensures serial { IfOk result (λ serial. serial ≡ self.old.accepted) }
@@ -83,14 +119,9 @@ impl EventQueue {
         ensures full { IsErr result ↔ (length self.old.events ≡ self.old.capacity) }
         ensures err { OnErr result (self.new ≡ self.old) }
     {
-        let serial = self.accepted;
-        let posted = Posted {
-            serial,
-            target,
-            event,
-        };
-        self.events.try_push_back(posted).map_err(|_| Full)?;
-        self.accepted = serial + 1;
+        let serial = self.accepted();
+        let waiting = Waiting { target, event };
+        self.waiting.try_push_back(waiting).map_err(|_| Full)?;
         Ok(serial)
     }
 
@@ -100,11 +131,13 @@ impl EventQueue {
         ensures front { IfSome result (λ first. self.old.events ≡ first ∷ self.new.events) }
         ensures after { self.new ≡ without_front self.old }
     {
-        // The only event is taken from the back, so a queue that is emptied each time stays at its first slots, which are at hand.
-        if self.len() == 1 {
-            self.events.pop_back()
-        } else {
-            self.events.pop_front()
-        }
+        let Waiting { target, event } = take_oldest(&mut self.waiting)?;
+        let serial = self.taken;
+        self.taken = serial + 1;
+        Some(Posted {
+            serial,
+            target,
+            event,
+        })
     }
 }

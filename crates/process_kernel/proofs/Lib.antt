@@ -2,9 +2,11 @@ pub mod Absent
 pub mod Depth
 pub mod First
 pub mod Given
+pub mod Heard
 pub mod Left
 pub mod Lists
 pub mod Marks
+pub mod Numbered
 pub mod Places
 pub mod Remainders
 pub mod Repeated

@@ -1,10 +1,8 @@
 -- What the types of `src/machine.rt` and `src/look.rt` stand for, where the program of the mote is this.
-use Rattle.std.specs.Prelude.{ℕ, ◌≡◌, ◌+◌, ◌<◌, ◌≤◌, ◌++◌, ◌^◌, Bool, IsTrue, List, [], ◌∷◌, Option, Some, None, Box, Result, Ok, Err}
-use Rattle.std.specs.declared.alloc.Global.{Global}
+use Rattle.std.specs.Prelude.{ℕ, ◌≡◌, ◌+◌, ◌<◌, ◌≤◌, ◌++◌, ◌^◌, Bool, IsTrue, List, [], ◌∷◌, Result, Ok, Err}
 use Rattle.program_tree.specs.Code.{Code, Tree}
 use Rattle.protothread.specs.declared.state.PtState.{PtState}
 use Rattle.protothread.specs.declared.thread.Thread.{Thread}
-use Rattle.protothread.specs.declared.part.Part.TheVariants.{Body}
 use Rattle.protothread.specs.Remainder.{Remainder, fresh_of}
 use Rattle.protothread.specs.Places.{remainder_of}
 use Rattle.protothread.specs.Looks.{Looks}
@@ -24,20 +22,11 @@ use Rattle.process_kernel.specs.State.{State, Outcome, Went, Ends, Goes, ◌>>=�
 use Rattle.process_kernel.specs.Mote.{Mote, at_rest}
 use Rattle.process_kernel.specs.Calls.{Calls, Answer}
 
--- the body of a process, unless it is away, where it runs
-abbrev pub KeptBody : Type 0
-KeptBody = Option (Box Thread Global)
-
--- what it has still to do; while it is away, a fresh one stands in its place
-abbrev pub body_of : Code → KeptBody → Remainder
-body_of code None = fresh_of code Body
-body_of code (Some thread) = remainder_of code thread.value
-
 -- what each body has still to do, by the code of its process
-abbrev pub remainders_of : List Code → List KeptBody → List Remainder
+abbrev pub remainders_of : List Code → List Thread → List Remainder
 remainders_of [] ts = []
 remainders_of (c ∷ cs) [] = []
-remainders_of (c ∷ cs) (t ∷ ts) = body_of c t ∷ remainders_of cs ts
+remainders_of (c ∷ cs) (t ∷ ts) = remainder_of c t ∷ remainders_of cs ts
 
 abbrev pub state_of : Tree → Machine → State
 state_of program m = record {

@@ -16,6 +16,7 @@ mod polls;
 mod post;
 mod process;
 mod radio;
+mod ring;
 mod room;
 mod run;
 mod table;

@@ -1,6 +1,6 @@
 //! How the process list grows and shrinks.
 
-ghost use Rattle.std.specs.Prelude.{◌≡◌, ◌<◌, ◌≤◌, ◌+◌, ◌^◌, ◌∷◌, false, not, OnOk, IfOk, IfErr, Some, drop, filter};
+ghost use Rattle.std.specs.Prelude.{◌≡◌, ◌<◌, ◌≤◌, ◌+◌, ◌^◌, ◌∷◌, false, not, OnOk, Some, drop, filter};
 ghost use Rattle.std.specs.Prelude.{length, slice_get};
 ghost use Rattle.program_tree.specs.Code.{Tree, Code};
 ghost use Rattle.protothread.specs.Places.{remainder_of};
@@ -8,7 +8,7 @@ ghost use Rattle.process_kernel.specs.Members.{is_same as are_same, place_of, st
 ghost use Rattle.process_kernel.specs.ProcessList.{put_remainder, enlist_of, exiting_of, unlisted_of, leave_of};
 ghost use Rattle.process_kernel.specs.ProcessList.{numbered_from, with_fresh_body, with_fresh_process};
 ghost use Rattle.process_kernel.specs.Reaction.{remainder_at};
-ghost use Rattle.process_kernel.specs.Views.{state_of, body_of, Tells, Grows, KeepsCounts};
+ghost use Rattle.process_kernel.specs.Views.{state_of, Tells, Grows, KeepsCounts};
 
 use crate::machine::{MOST_PROCESSES, Machine, Stop};
 use crate::process::{Member, ProcessState};
@@ -17,6 +17,7 @@ use arrayvec::ArrayVec;
 use program_tree::Proc;
 use protothread::{Part, Thread};
 use std::alloc::AllocError;
+use std::mem;
 use trace_lines::What;
 
 impl Machine {
@@ -45,52 +46,38 @@ impl Machine {
     /// Puts a thread back as the body of a process.
     #[inline(always)]
     #[tactic(auto, using(crate::proofs::Remainders::remainders_set, crate::proofs::Remainders::remainders_set_past), unfolding(crate::specs::ProcessList::put_remainder))]
-    pub fn put_thread(&mut self, process: u8, thread: Box<Thread>)
+    pub fn put_thread(&mut self, process: u8, thread: Thread)
         ensures exact { (t : Tree) (code : Code) → slice_get t.codes process ≡ Some code
-            → state_of t self.new ≡ put_remainder (state_of t self.old) process (remainder_of code thread.value) }
+            → state_of t self.new ≡ put_remainder (state_of t self.old) process (remainder_of code thread) }
         ensures kept { KeepsCounts self.old self.new }
         ensures grows { Grows self.old.out self.new.out }
     {
         let place = usize::from(process);
         if place < self.threads.len() {
-            self.threads[place] = Some(thread);
+            self.threads[place] = thread;
         }
     }
 
-    /// Takes the body of a process out of the table, where it is there.
-    #[tactic(auto, using(crate::proofs::Remainders::remainders_get, crate::proofs::Remainders::remainders_past, crate::proofs::Remainders::remainders_fresh, crate::proofs::Remainders::fresh_past))]
-    fn lift_thread(&mut self, process: u8) -> Option<Box<Thread>>
-        ensures exact { (t : Tree) (code : Code) → slice_get t.codes process ≡ Some code
-            → body_of code result ≡ remainder_at (state_of t self.old) code process }
-        ensures after { (t : Tree) → state_of t self.new ≡ with_fresh_body (state_of t self.old) process }
-        ensures kept { KeepsCounts self.old self.new }
-        ensures grows { Grows self.old.out self.new.out }
-    {
-        let place = usize::from(process);
-        if place < self.threads.len() {
-            self.threads[place].take()
-        } else {
-            None
-        }
-    }
-
-    /// Takes the body of a process out of the table; one that isn't there is fresh.
+    /// Takes the body of a process, in whose place a fresh one stands from then on.
     #[inline(always)]
-    pub fn take_thread(&mut self, process: u8) -> Result<Box<Thread>, Stop>
+    #[tactic(auto, using(crate::proofs::Remainders::remainders_get, crate::proofs::Remainders::remainders_past, crate::proofs::Remainders::remainders_fresh, crate::proofs::Remainders::fresh_past))]
+    pub fn take_thread(&mut self, process: u8) -> Thread
         ensures exact { (t : Tree) (code : Code) → slice_get t.codes process ≡ Some code
-            → IfOk result (λ thread. remainder_of code thread.value ≡ remainder_at (state_of t self.old) code process) }
-        ensures err { IfErr result (λ stop. stop ≡ Stop.Memory) }
+            → remainder_of code result ≡ remainder_at (state_of t self.old) code process }
         ensures after { (t : Tree) → state_of t self.new ≡ with_fresh_body (state_of t self.old) process }
         ensures kept { KeepsCounts self.old self.new }
         ensures grows { Grows self.old.out self.new.out }
     {
-        match self.lift_thread(process) {
-            Some(thread) => Ok(thread),
-            None => Ok(Box::new(self.alloc, Thread::fresh(Part::Body))?),
+        let fresh = Thread::fresh(Part::Body);
+        let place = usize::from(process);
+        if place < self.threads.len() {
+            mem::replace(&mut self.threads[place], fresh)
+        } else {
+            fresh
         }
     }
 
-    /// Makes the body of a process fresh, in its place.
+    /// Makes the body of a process fresh.
     #[tactic(auto, using(crate::proofs::Remainders::remainders_fresh, crate::proofs::Remainders::fresh_past))]
     fn refresh_body(&mut self, process: u8)
         ensures exact { (t : Tree) → state_of t self.new ≡ with_fresh_body (state_of t self.old) process }
@@ -99,9 +86,7 @@ impl Machine {
     {
         let place = usize::from(process);
         if place < self.threads.len() {
-            if let Some(thread) = &mut self.threads[place] {
-                **thread = Thread::fresh(Part::Body);
-            }
+            self.threads[place] = Thread::fresh(Part::Body);
         }
     }
 

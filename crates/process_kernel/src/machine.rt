@@ -7,12 +7,11 @@ ghost use Rattle.std.proofs.Props.{props};
 
 use crate::look::Shown;
 use crate::process::Member;
-use circular_buffer::HeapCircularBuffer;
+use crate::ring::Ring;
 use event_queue::EventQueue;
 use mote_timers::Callbacks;
 use protothread::{Fuel, Thread, Vars};
-use radio_packet::Arrival;
-use std::alloc::{AllocError, AllocFailed, Global};
+use std::alloc::{AllocError, AllocFailed};
 use trace_lines::Out;
 
 /// How many processes a mote has at most: 64 of its program, and the three system processes.
@@ -23,7 +22,7 @@ pub const MOST_PROCESSES: usize = 67;
 pub enum Stop {
     /// The mote has halted.
     Halted,
-    /// Out of memory for a line, a packet, or the thread of a body that begins anew while it runs.
+    /// Out of memory for a line or a packet.
     Memory,
 }
 
@@ -48,7 +47,7 @@ impl<T: Drop> From<AllocFailed<T>> for Stop {
 }
 
 /// The kernel of a mote. The tables have the system processes first, then those of the program in their order; threads
-/// and variables are those of the program's processes alone. The thread of a body is out of its table while it runs.
+/// and variables are those of the program's processes alone. While a body runs, a fresh one stands in its place.
 /// Whether the incarnations on the process list are known to have the numbers from 0 on is kept, so that they aren't
 /// numbered anew for nothing. What a run touches stands together, so that it takes few cache lines.
 #[derive(Drop)]
@@ -60,21 +59,18 @@ pub struct Machine {
     pub(crate) flag: bool,
     pub(crate) fuel: Fuel,
     pub(crate) marks: Vec<bool>,
-    pub(crate) threads: Vec<Option<Box<Thread>>>,
+    pub(crate) threads: Vec<Thread>,
     pub(crate) variables: Vec<Vars>,
     pub(crate) queue: EventQueue,
-    pub(crate) accepted: u64,
-    pub(crate) ring: HeapCircularBuffer<Arrival>,
+    pub(crate) ring: Ring,
     pub(crate) sent: u64,
     pub(crate) out: Out,
     pub(crate) callbacks: Callbacks,
     pub(crate) exiting: Vec<bool>,
-    pub(crate) alloc: Global,
     ghost numbered: { is_numbered ≡ true → members.items ≡ numbered_from 0 members.items } by { Prim.hlevel props },
     ghost few_processes: { length shown.states.items ≤ 67 },
     ghost few_members: { length members.items ≤ 67 },
     ghost are_members: { AreMembers members.items (length shown.states.items) },
-    ghost counted: { accepted ≡ queue.accepted },
     ghost short_queue: { queue.capacity ≤ 128 },
     ghost room_for_callbacks: { callbacks.limit ≡ shown.timer_count },
     ghost ring_room: { ring.capacity ≡ 8 },

@@ -64,12 +64,11 @@ impl Machine {
         ensures lists { OnOk result (KeepsLists self.old self.new) }
         ensures grows { Grows self.old.out self.new.out }
     {
-        if self.accepted >= LIMIT {
+        if self.queue.accepted() >= LIMIT {
             return Err(self.halt());
         }
         match self.queue.post(target, event) {
             Ok(serial) => {
-                self.accepted = serial + 1;
                 self.write(What::Post(serial, target, event.number, event.word))?;
                 Ok(false)
             }

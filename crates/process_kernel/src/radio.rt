@@ -31,14 +31,13 @@ impl Machine {
             ≡ (if result then record (state_of t self.old) { ring = self.old.ring.items ++ packet ∷ [] } else state_of t
             self.old) }
     {
-        match self.ring.try_push_back(packet) {
+        match self.ring.try_put(packet) {
             Ok(()) => true,
             Err(_) => false,
         }
     }
 
-    /// Removes the oldest packet from the ring. A single packet is taken from the back, so that a ring that is emptied
-    /// each time stays at its first slots.
+    /// Removes the oldest packet from the ring.
     fn take_packet(&mut self) -> Option<Arrival>
         ensures value { result ≡ slice_get self.old.ring.items 0 }
         ensures after { (t : Tree) → state_of t self.new
@@ -47,11 +46,7 @@ impl Machine {
         ensures kept { KeepsCounts self.old self.new }
         ensures grows { Grows self.old.out self.new.out }
     {
-        if self.ring.len() == 1 {
-            self.ring.pop_back()
-        } else {
-            self.ring.pop_front()
-        }
+        self.ring.take()
     }
 
     /// Posts a packet to the receiver; without one nobody hears it.

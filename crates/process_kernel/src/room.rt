@@ -10,7 +10,7 @@ ghost use Rattle.process_kernel.specs.Views.{state_of, remainders_of};
 use crate::look::Shown;
 use crate::machine::Machine;
 use crate::process::ProcessState;
-use circular_buffer::HeapCircularBuffer;
+use crate::ring::Ring;
 use event_queue::EventQueue;
 use mote_timers::{Callbacks, Timers};
 use program_tree::Program;
@@ -18,18 +18,14 @@ use protothread::{Fuel, Part, Semaphore, Thread, Vars};
 use std::alloc::{AllocError, Global};
 use trace_lines::Out;
 
-/// The capacity of the receive ring.
-const RING: usize = 8;
-
 /// A fresh body for each process.
-fn fresh_bodies(alloc: Global, program: &Program) -> Result<Vec<Option<Box<Thread>>>, AllocError>
+fn fresh_bodies(alloc: Global, program: &Program) -> Result<Vec<Thread>, AllocError>
     ensures { IfOk result (λ threads. remainders_of (tree_of program.now).codes threads.items
         ≡ map (λ c. fresh_of c Part.Body) (tree_of program.now).codes) }
 {
     let mut threads = Vec::with_capacity(alloc, usize::from(program.processes()))?;
     for _process in 0..program.processes() {
-        let body = Box::new(alloc, Thread::fresh(Part::Body))?;
-        threads.push(Some(body))?;
+        threads.push(Thread::fresh(Part::Body))?;
     }
     Ok(threads)
 }
@@ -96,9 +92,8 @@ impl Machine {
             }) }
     {
         Ok(Machine {
-            alloc,
             queue: EventQueue::new(alloc, queue)?,
-            ring: HeapCircularBuffer::with_capacity(alloc, RING)?,
+            ring: Ring::new(alloc)?,
             callbacks: Callbacks::new(alloc, program.timers())?,
             shown: first_shown(alloc, program, mote)?,
             exiting: Vec::new(alloc),
@@ -109,7 +104,6 @@ impl Machine {
             started: 0,
             is_numbered: false,
             flag: false,
-            accepted: 0,
             sent: 0,
             fuel: Fuel::new(0),
             out: Out::new(alloc),
@@ -118,7 +112,7 @@ impl Machine {
 
     /// Makes the tables of the processes, none of which is listed, and room for a list of all of them. What a run
     /// touches is made one after another, right after the timers and the states, so that it lies close together.
-    fn make_tables(&mut self, program: &Program) -> Result<(), AllocError>
+    fn make_tables(&mut self, alloc: Global, program: &Program) -> Result<(), AllocError>
         ensures { let t = tree_of program.now in let n = length t.processes + 3 in
             OnOk result (state_of t self.new
             ≡ record (state_of t self.old) {
@@ -130,11 +124,11 @@ impl Machine {
             }) }
     {
         let places = usize::from(program.processes()) + 3;
-        self.marks = vec![in self.alloc; false; places]?;
-        self.members = Vec::with_capacity(self.alloc, places)?;
-        self.threads = fresh_bodies(self.alloc, program)?;
-        self.variables = first_variables(self.alloc, program)?;
-        self.exiting = vec![in self.alloc; false; places]?;
+        self.marks = vec![in alloc; false; places]?;
+        self.members = Vec::with_capacity(alloc, places)?;
+        self.threads = fresh_bodies(alloc, program)?;
+        self.variables = first_variables(alloc, program)?;
+        self.exiting = vec![in alloc; false; places]?;
         Ok(())
     }
 
@@ -152,7 +146,7 @@ impl Machine {
             ≡ (unbooted (tree_of program.now) mote queue).state) }
     {
         let mut machine = Machine::without_tables(alloc, program, mote, queue)?;
-        machine.make_tables(program)?;
+        machine.make_tables(alloc, program)?;
         Ok(machine)
     }
 }

@@ -100,10 +100,16 @@ impl Machine {
         place_of(process) < self.shown.states.len()
     }
 
-    /// Whether this incarnation is on the process list.
+    /// Whether this incarnation is on the process list. Where they are numbered, it stands at its number or nowhere.
+    #[tactic(auto, using(crate::proofs::Numbered::held_there, crate::proofs::Numbered::held_past))]
     pub fn is_on_list(&self, member: Member) -> bool
         ensures { result ≡ holds_member self.now.members.items member }
     {
+        if self.is_numbered {
+            let place = member.incarnation as usize;
+            return place < self.members.len()
+                && is_same(member.process, self.members[place].process);
+        }
         self.members.iter().any(|x| member.incarnation == x.incarnation
             && place_of(member.process) == place_of(x.process))
     }

@@ -1,13 +1,12 @@
-use Rattle.std.proofs.Common.{rules, arith, ap, ◌∙◌, Some}
+use Rattle.std.proofs.Common.{rules, arith}
 use Rattle.std.proofs.lemmas.List.{length-map}
 use Rattle.program_tree.specs.Program.{tree_of, code_of}
-use Rattle.protothread.specs.Places.{remainder_of}
 use Rattle.process_kernel.proofs.First.{AreFresh-push, fresh_remainders}
 use Rattle.process_kernel.proofs.room.fresh_bodies.Goals as goal
 
 pub loop-process-preserved : goal.loop-process-preserved
 loop-process-preserved c =
-    (search rules, rw c.in_ok-push.ensures.items (AreFresh-push c.loop-process.threads.items (Some c.in_ok-body.body) c.loop-process.invariant.1 (λ code. ap (remainder_of code) c.in_ok-body.ensures.ok ∙ c.fresh.ensures code)))
+    (search rules, rw c.in_ok-push.ensures.items (AreFresh-push c.loop-process.threads.items c.fresh.result c.loop-process.invariant.1 c.fresh.ensures))
 
 pub returns : goal.returns
 returns c =

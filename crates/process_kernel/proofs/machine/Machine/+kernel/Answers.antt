@@ -184,8 +184,8 @@ resume-returns-in_err-answer t c = record {
   exact = let T = tree_of c.args.program.now in
       λ k enough. search (
         rules,
-        c.in_ok-body.ensures.exact T (code_of c.args.text.now) c.requires.text,
-        c.take_thread.ensures.after T,
+        c.take_thread-body.ensures.exact T (code_of c.args.text.now) c.requires.text,
+        c.take_thread-body.ensures.after T,
       );
   spends = search rules;
   grows = search rules;
@@ -197,8 +197,8 @@ resume-returns t c = record {
   exact = let T = tree_of c.args.program.now in
       λ k enough. search (
         rules,
-        c.in_ok-body.ensures.exact T (code_of c.args.text.now) c.requires.text,
-        c.take_thread.ensures.after T,
+        c.take_thread-body.ensures.exact T (code_of c.args.text.now) c.requires.text,
+        c.take_thread-body.ensures.after T,
         c.put_thread.ensures.exact T (code_of c.args.text.now) c.requires.text,
       );
   spends = search rules;
