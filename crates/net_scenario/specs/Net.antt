@@ -5,7 +5,7 @@ use Rattle.std.specs.Str.{bytes_eq}
 use Rattle.toml.specs.Data.{Members}
 use Rattle.radio_medium.specs.Medium.{Radio}
 use Rattle.radio_medium.specs.declared.place.Place.{Place}
-use Rattle.radio_medium.specs.declared.place.Loss.{Loss}
+use Rattle.radio_medium.specs.declared.losses.Loss.{Loss}
 use Rattle.net_scenario.specs.declared.error.TableFault.{TableFault}
 use Rattle.net_scenario.specs.declared.error.TableFault.TheVariants.{UnknownProgram}
 use Rattle.mote_net.specs.Net.{MoteTold, NetTold, no_program}

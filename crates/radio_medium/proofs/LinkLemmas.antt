@@ -12,7 +12,7 @@ use Rattle.std.proofs.lemmas.List.Elements.{All-map, filter-append}
 use Rattle.std.proofs.lemmas.List.FromFn.{map-range_with_len_more, length-map-range_with_len, get_or-map-range_with_len}
 use Rattle.radio_packet.specs.declared.sent.Sent.{Sent}
 use Rattle.radio_medium.specs.declared.link.Link.{Link}
-use Rattle.radio_medium.specs.declared.place.Loss.{Loss}
+use Rattle.radio_medium.specs.declared.losses.Loss.{Loss}
 use Rattle.radio_medium.specs.declared.place.Place.{Place}
 use Rattle.radio_medium.specs.declared.reach.Reach.{Reach}
 use Rattle.radio_medium.specs.Medium.{Radio, IsWithinLimits, square_distance, square, motes, hears, delay, delays, receivers, loses, place_at, every_of, fate, fates, has_bad_loss, medium_fault}

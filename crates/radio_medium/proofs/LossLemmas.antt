@@ -7,7 +7,7 @@ use Rattle.std.proofs.lemmas.List.{append-nil, take_more, take-append-drop}
 use Rattle.std.proofs.lemmas.List.Folds.{list_any-append}
 use Rattle.radio_medium.specs.declared.error.MediumError.{MediumError}
 use Rattle.radio_medium.specs.declared.error.MediumError.TheVariants.{Memory, ZeroBase, ZeroPer, BadLoss}
-use Rattle.radio_medium.specs.declared.place.Loss.{Loss}
+use Rattle.radio_medium.specs.declared.losses.Loss.{Loss}
 use Rattle.radio_medium.specs.Medium.{every_of, is_for_pair, is_good, has_pair_twice, has_bad_loss}
 use Rattle.radio_medium.specs.Links.{EveryByPair, every_at, GathersLosses, AddsLoss}
 

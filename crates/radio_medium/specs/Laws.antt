@@ -6,7 +6,7 @@ use Rattle.radio_packet.specs.declared.sent.Sent.{Sent}
 use Rattle.radio_packet.specs.declared.copy.RadioCopy.{RadioCopy}
 use Rattle.radio_medium.specs.Medium.{Radio, hears, lookahead, copies, medium_fault}
 
--- a copy of this packet, to a mote that is there and hears the sender, which arrives no sooner than the lookahead
+-- a copy of this packet, to a mote of the net that hears the sender, which arrives no sooner than the lookahead
 pub record IsCopyOf (radio : Radio) (sent : Sent) (copy : RadioCopy) : Type 0 where
   pub sender : copy.sender ≡ sent.sender
   pub number : copy.number ≡ sent.number
@@ -23,6 +23,6 @@ LooksAhead = (radio : Radio) → medium_fault radio ≡ None → (end : ℕ) →
 abbrev pub CopiesComeLater : Type 0
 CopiesComeLater = (radio : Radio) (sent : Sent) → AllByRecursion (IsCopyOf radio sent) (copies radio sent)
 
--- the copies of a packet rise by receiver
+-- the copies of a packet are sorted by receiver, each receiver once
 abbrev pub CopiesRise : Type 0
 CopiesRise = (radio : Radio) (sent : Sent) → IsStrictlyIncreasing (map (λ copy. copy.to) (copies radio sent))

@@ -1,5 +1,6 @@
 -- What a medium keeps to find the copies of a packet: for each mote, who hears it.
-use Rattle.std.specs.Prelude.{◌≡◌, ℕ, ◌+◌, ◌<◌, ◌^◌, min, ◌==◌, ◌&&◌, true, false, if◌then◌else◌, List, map, Option, Some, None, cond, ◌⊎◌, IsSome, Result, Ok, Err}
+use Rattle.std.specs.Prelude.{◌≡◌, ℕ, ◌+◌, ◌<◌, ◌^◌, min, ◌==◌, ◌&&◌, true, false, if◌then◌else◌, cond, ◌⊎◌, List, map}
+use Rattle.std.specs.Prelude.{Option, Some, None, IsSome, Result, Ok, Err}
 use Rattle.std.specs.List.{reduce}
 use Rattle.std.specs.Option.{ForSome}
 use Rattle.std.specs.HashMap.{get, HashMap}
@@ -10,14 +11,21 @@ use Rattle.radio_medium.specs.declared.error.MediumError.{MediumError}
 use Rattle.radio_medium.specs.declared.error.MediumError.TheVariants.{Memory, BadLoss}
 use Rattle.radio_packet.specs.declared.fate.Fate.{Fate}
 use Rattle.radio_medium.specs.declared.link.Link.{Link}
-use Rattle.radio_medium.specs.declared.place.Loss.{Loss}
+use Rattle.radio_medium.specs.declared.losses.Loss.{Loss}
 use Rattle.radio_medium.specs.declared.place.Place.{Place}
 use Rattle.radio_medium.specs.declared.reach.Reach.{Reach}
-use Rattle.radio_medium.specs.Medium.{Radio, IsWithinLimits, motes, receivers, delay, delays, every_of, is_for_pair, is_good, is_lost, has_bad_loss, medium_fault}
+use Rattle.radio_medium.specs.Medium.{Radio, IsWithinLimits, motes, receivers, delay, delays, medium_fault}
+use Rattle.radio_medium.specs.Medium.{every_of, is_for_pair, is_good, is_lost, has_bad_loss}
 
 -- the medium of these places and this reach, with these losses
 abbrev pub radio_from : List Place → Reach → List Loss → Radio
-radio_from places reach losses = record { places = places; range = reach.range; base = reach.base; per = reach.per; losses = losses }
+radio_from places reach losses = record {
+  places = places;
+  range = reach.range;
+  base = reach.base;
+  per = reach.per;
+  losses = losses;
+}
 
 -- of how many packets one is lost, by sender and receiver
 abbrev pub EveryByPair : Type 0
@@ -28,7 +36,8 @@ every_at every s r = get (λ x y. (x.0 == y.0) && (x.1 == y.1)) every (s, r)
 
 -- the losses by their pairs, or that one of them is bad
 abbrev pub GathersLosses : (motes : ℕ) → List Loss → Result EveryByPair MediumError → Type 0
-GathersLosses motes losses (Ok every) = (has_bad_loss motes losses ≡ false) × ((s r : ℕ) → every_at every s r ≡ every_of losses s r)
+GathersLosses motes losses (Ok every) =
+    (has_bad_loss motes losses ≡ false) × ((s r : ℕ) → every_at every s r ≡ every_of losses s r)
 GathersLosses motes losses (Err Memory) = Unit {0}
 GathersLosses motes losses (Err BadLoss) = has_bad_loss motes losses ≡ true
 GathersLosses motes losses (Err _) = ⊥
@@ -43,19 +52,22 @@ AddsLoss motes loss old new (Err Memory) = Unit {0}
 AddsLoss motes loss old new (Err BadLoss) = (is_good motes loss ≡ false) ⊎ IsSome (every_at old loss.sender loss.to)
 AddsLoss motes loss old new (Err _) = ⊥
 
--- the way from mote s to mote r
+-- the link from mote s to mote r
 abbrev pub link_of : Radio → (every : ℕ → ℕ → Option ℕ) → (s r : ℕ) → Link
 link_of radio every s r = record { to = r; delay = delay radio s r; every = every s r }
 
--- the ways from mote s to those that hear it
+-- the links from mote s to those that hear it
 unfoldable pub links_of : Radio → (every : ℕ → ℕ → Option ℕ) → (s : ℕ) → List Link
 links_of radio every s = map (link_of radio every s) (receivers radio s)
 
--- what becomes of the copy of a packet that goes this way
+-- the fate of the copy of a packet on this link
 abbrev pub fate_by : Sent → Link → Fate
-fate_by sent link = record { to = link.to; at = if is_lost sent.number link.every then None else Some (sent.at + link.delay) }
+fate_by sent link = record {
+  to = link.to;
+  at = if is_lost sent.number link.every then None else Some (sent.at + link.delay);
+}
 
--- a way along which a copy's moment can be told
+-- a link on which the moment of each copy can be computed
 pub record IsFit (link : Link) : Type 0 where
   pub delay : link.delay < 2 ^ 34
   pub every : ForSome link.every (λ k. 0 < k)

@@ -1,5 +1,7 @@
 -- The radio medium: who hears whom, how much later, and which copies are lost, by places and losses alone.
-use Rattle.std.specs.Prelude.{◌≡◌, ℕ, ◌+◌, ◌*◌, ◌/◌, ◌%◌, ◌≤◌, ◌==◌, nat_le, nat_lt, min, pos, ◌-ℤ◌, unsigned_abs, Bool, false, not, ◌&&◌, ◌||◌, if◌then◌else◌, List, [], ◌∷◌, length, map, filter, find, slice_index_or, All, Option, Some, None, unwrap_or, option_map, Result, Ok, Err}
+use Rattle.std.specs.Prelude.{◌≡◌, ℕ, ◌+◌, ◌*◌, ◌/◌, ◌%◌, ◌≤◌, ◌==◌, nat_le, nat_lt, min, pos, ◌-ℤ◌, unsigned_abs}
+use Rattle.std.specs.Prelude.{Bool, false, not, ◌&&◌, ◌||◌, if◌then◌else◌, Option, Some, None, unwrap_or, option_map}
+use Rattle.std.specs.Prelude.{Result, Ok, Err, List, [], ◌∷◌, length, map, filter, find, slice_index_or, All}
 use Rattle.std.specs.List.{filter_map, flat_map, list_any, range_with_len, reduce}
 use Rattle.std.specs.Option.{option_map_or}
 use Rattle.radio_packet.specs.declared.sent.Sent.{Sent}
@@ -7,7 +9,7 @@ use Rattle.radio_packet.specs.declared.copy.RadioCopy.{RadioCopy}
 use Rattle.radio_medium.specs.declared.error.MediumError.{MediumError}
 use Rattle.radio_medium.specs.declared.error.MediumError.TheVariants.{Memory, ZeroBase, ZeroPer, BadLoss}
 use Rattle.radio_packet.specs.declared.fate.Fate.{Fate}
-use Rattle.radio_medium.specs.declared.place.Loss.{Loss}
+use Rattle.radio_medium.specs.declared.losses.Loss.{Loss}
 use Rattle.radio_medium.specs.declared.place.Place.{Place}
 
 -- where each mote stands, how far a packet is heard, how long it takes, and which copies are lost;
@@ -46,7 +48,9 @@ place_at radio k = slice_index_or radio.places k (record { x = pos 0; y = pos 0 
 
 -- mote r hears mote s: they are two motes, and r stands within the range of s
 unfoldable pub hears : Radio → (r s : ℕ) → Bool
-hears radio r s = is_mote radio r && (is_mote radio s && (not (r == s) && nat_le (square_distance (place_at radio s) (place_at radio r)) (square radio.range)))
+hears radio r s =
+    is_mote radio r && (is_mote radio s && (not (r == s)
+    && nat_le (square_distance (place_at radio s) (place_at radio r)) (square radio.range)))
 
 -- how long a packet of mote s takes to mote r
 unfoldable pub delay : Radio → (s r : ℕ) → ℕ
@@ -56,11 +60,11 @@ delay radio s r = radio.base + square_distance (place_at radio s) (place_at radi
 unfoldable pub receivers : Radio → (s : ℕ) → List ℕ
 receivers radio s = filter (λ r. hears radio r s) (motes radio)
 
--- the delays over all pairs that hear
+-- the delays of all links
 unfoldable pub delays : Radio → List ℕ
 delays radio = flat_map (λ s. map (delay radio s) (receivers radio s)) (motes radio)
 
--- the least of these delays; where no pair hears, the first moment after the end
+-- the least of these delays; without links, the first moment after the end
 unfoldable pub lookahead : Radio → (end : ℕ) → ℕ
 lookahead radio end = unwrap_or (reduce min (delays radio)) (end + 1)
 
@@ -81,15 +85,20 @@ loses radio s r n = is_lost n (every_of radio.losses s r)
 
 -- what becomes of the copy for mote r
 unfoldable pub fate : Radio → Sent → (r : ℕ) → Fate
-fate radio sent r = record { to = r; at = if loses radio sent.sender r sent.number then None else Some (sent.at + delay radio sent.sender r) }
+fate radio sent r = record {
+  to = r;
+  at = if loses radio sent.sender r sent.number then None else Some (sent.at + delay radio sent.sender r);
+}
 
 -- the fates of a packet's copies, by rising receiver
 unfoldable pub fates : Radio → Sent → List Fate
 fates radio sent = map (fate radio sent) (receivers radio sent.sender)
 
--- the copy that has this fate, where it isn't lost
+-- the copy that has this fate, if it isn't lost
 abbrev pub copy_of : Sent → Fate → Option RadioCopy
-copy_of sent fate = option_map (λ at. record { at = at; to = fate.to; sender = sent.sender; number = sent.number; value = sent.value }) fate.at
+copy_of sent fate =
+    option_map (λ at. record
+    { at = at; to = fate.to; sender = sent.sender; number = sent.number; value = sent.value }) fate.at
 
 -- the copies of a packet that aren't lost, by rising receiver
 unfoldable pub copies : Radio → Sent → List RadioCopy
@@ -97,7 +106,8 @@ copies radio sent = filter_map (copy_of sent) (fates radio sent)
 
 -- a loss between two motes, each of so many packets that some packet is lost
 abbrev pub is_good : (motes : ℕ) → Loss → Bool
-is_good motes loss = nat_lt loss.sender motes && (nat_lt loss.to motes && (not (loss.sender == loss.to) && not (loss.every == 0)))
+is_good motes loss =
+    nat_lt loss.sender motes && (nat_lt loss.to motes && (not (loss.sender == loss.to) && not (loss.every == 0)))
 
 -- two losses for one pair of motes
 abbrev pub has_pair_twice : List Loss → Bool
@@ -109,9 +119,12 @@ has_bad_loss motes losses = list_any (λ loss. not (is_good motes loss)) losses 
 
 -- the first fault of a medium's numbers and losses
 unfoldable pub medium_fault : Radio → Option MediumError
-medium_fault radio = if radio.base == 0 then Some ZeroBase else if radio.per == 0 then Some ZeroPer else if has_bad_loss (length radio.places) radio.losses then Some BadLoss else None
+medium_fault radio =
+    if radio.base == 0 then Some ZeroBase
+    else if radio.per == 0 then Some ZeroPer
+    else if has_bad_loss (length radio.places) radio.losses then Some BadLoss else None
 
--- the medium of these, or their first fault, or want of memory
+-- the medium of these, or their first fault; out of memory no claim is made
 abbrev pub MakesMedium : Radio → Result Radio MediumError → Type 0
 MakesMedium radio (Ok medium) = (medium ≡ radio) × (medium_fault radio ≡ None)
 MakesMedium radio (Err Memory) = Unit {0}

@@ -6,13 +6,14 @@ use std::alloc::{AllocError, AllocFailed};
 /// Why no medium has these numbers and losses.
 #[derive(Clone, Copy, Debug, PartialEq, Eq)]
 pub enum MediumError {
+    /// Out of memory: an allocation failed.
     Memory = 1,
     /// The least delay is 0.
     ZeroBase = 2,
     /// The divisor of the square of the distance is 0.
     ZeroPer = 3,
-    /// A loss names a mote that isn't there, or one mote twice, or loses one of 0 packets; or two losses have the same
-    /// sender and receiver.
+    /// A loss names a mote that doesn't exist, or one mote twice, or loses one of 0 packets; or two losses have the
+    /// same sender and receiver.
     BadLoss = 4,
 }
 

@@ -1,15 +1,15 @@
-//! Laws of the medium. Each is the contract of a function that does nothing.
+//! Laws of the medium. Each is a theorem, stated as the contract of an empty function.
 
 ghost use Rattle.radio_medium.specs.Laws.{LooksAhead, CopiesComeLater, CopiesRise};
 
-/// A medium without a fault has a lookahead above 0; and each copy of a packet goes to a mote that is there and hears
-/// the sender, and arrives no sooner than the lookahead after the packet was sent.
+/// A medium without a fault has a lookahead above 0; and each copy of a packet goes to a mote of the net that hears the
+/// sender, and arrives no sooner than the lookahead after the packet was sent.
 pub fn copies_come_later()
     ensures ahead { LooksAhead }
     ensures later { CopiesComeLater }
 {}
 
-/// The copies of a packet rise by receiver, so no mote has two of them.
+/// The copies of a packet are sorted by receiver, and no mote has two of them.
 pub fn copies_rise()
     ensures { CopiesRise }
 {}

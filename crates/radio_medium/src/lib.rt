@@ -10,6 +10,7 @@ mod place;
 mod reach;
 
 pub use error::MediumError;
+pub use losses::Loss;
 pub use medium::Medium;
-pub use place::{Loss, Place};
+pub use place::Place;
 pub use radio_packet::{Fate, RadioCopy};

@@ -1,46 +1,36 @@
-//! The way of a packet from one mote to another that hears it.
+//! Links: the way of a packet from one mote to another that hears it.
 
 ghost use Rattle.std.specs.Prelude.{◌≡◌, ◌^◌, ◌<◌, ◌≤◌, ℕ, length, min, [], All, map, IfOk, if◌then◌else◌, Some, None};
 ghost use Rattle.std.specs.List.{filter_map, flat_map, fold, reduce};
-ghost use Rattle.radio_medium.specs.Medium.{is_lost, hears, motes, IsWithinLimits, copy_of};
-ghost use Rattle.radio_medium.specs.Links.{EveryByPair, every_at, radio_from, link_of, links_of, fate_by, IsFit, with_least};
+ghost use Rattle.radio_medium.specs.Medium.{hears, motes, IsWithinLimits, copy_of};
+ghost use Rattle.radio_medium.specs.Links.{EveryByPair, every_at, radio_from, link_of, links_of, fate_by};
+ghost use Rattle.radio_medium.specs.Links.{IsFit, with_least};
 
-use crate::losses::EveryByPair;
+use crate::losses::{EveryByPair, is_lost};
 use crate::place::Place;
 use crate::reach::Reach;
 use radio_packet::{Fate, RadioCopy, Sent};
 use std::alloc::{AllocError, Global};
 
-/// The way from a mote to one that hears it, as the medium keeps it for the sender.
+/// The link from a mote to one that hears it, as the medium keeps it for the sender.
 #[derive(Clone, Copy)]
 pub(crate) struct Link {
-    /// The mote that hears.
+    /// The receiver.
     pub(crate) to: u16,
     /// How many moments a packet takes.
     pub(crate) delay: u64,
-    /// The medium loses the last of each so many packets on this way, if it loses any.
+    /// The medium loses the last of each so many packets on this link, if it loses any.
     pub(crate) every: Option<u32>,
 }
 
 impl Link {
-    /// Whether the medium loses the copy of the packet with this number.
-    fn loses(self, number: u64) -> bool
-        requires fit { IsFit self }
-        ensures { result ≡ is_lost number self.every }
-    {
-        match self.every {
-            None => false,
-            Some(every) => number % u64::from(every) + 1 == u64::from(every),
-        }
-    }
-
     /// What becomes of the copy of a packet.
     fn fate(self, sent: &Sent) -> Fate
         requires fit { IsFit self }
         requires moment { sent.now.at ≤ 2 ^ 40 }
         ensures { result ≡ fate_by sent.now self }
     {
-        let at = if self.loses(sent.number) {
+        let at = if is_lost(sent.number, self.every) {
             None
         } else {
             Some(sent.at + self.delay)
@@ -49,7 +39,7 @@ impl Link {
     }
 }
 
-/// What becomes of a packet along each way.
+/// What becomes of a packet on each link.
 pub(crate) fn fates_along(
     alloc: Global,
     links: &[Link],
@@ -66,7 +56,7 @@ pub(crate) fn fates_along(
     Ok(fates)
 }
 
-/// The copies of a packet along the ways on which they aren't lost.
+/// The copies of a packet on the links that don't lose them.
 pub(crate) fn copies_along(
     alloc: Global,
     links: &[Link],
@@ -85,7 +75,7 @@ pub(crate) fn copies_along(
     Ok(copies)
 }
 
-/// The copy that has this fate, where it isn't lost.
+/// The copy that has this fate, if it isn't lost.
 fn copy_with(fate: Fate, sent: &Sent) -> Option<RadioCopy>
     ensures { result ≡ copy_of sent.now fate }
 {
@@ -98,7 +88,7 @@ fn copy_with(fate: Fate, sent: &Sent) -> Option<RadioCopy>
     })
 }
 
-/// For each mote the ways to those that hear it, by rising number.
+/// For each mote the links to those that hear it, by rising number.
 pub(crate) fn all_links(
     alloc: Global,
     places: &[Place],
@@ -107,7 +97,9 @@ pub(crate) fn all_links(
 ) -> Result<Vec<Vec<Link>>, AllocError>
     requires limits { IsWithinLimits (radio_from places.now reach []) }
     requires per { 0 < reach.per }
-    ensures { IfOk result (λ all. map (λ links. links.items) all.items ≡ map (links_of (radio_from places.now reach []) (every_at every.now)) (motes (radio_from places.now reach []))) }
+    ensures { let radio = radio_from places.now reach [] in
+        IfOk result (λ all. map (λ links. links.items) all.items
+        ≡ map (links_of radio (every_at every.now)) (motes radio)) }
 {
     let mut all = Vec::with_capacity(alloc, places.len())?;
     for sender in 0..places.len() as u16 {
@@ -116,7 +108,7 @@ pub(crate) fn all_links(
     Ok(all)
 }
 
-/// The ways from a mote to those that hear it, by rising number.
+/// The links from a mote to those that hear it, by rising number.
 fn links_from(
     alloc: Global,
     places: &[Place],
@@ -127,7 +119,8 @@ fn links_from(
     requires limits { IsWithinLimits (radio_from places.now reach []) }
     requires per { 0 < reach.per }
     requires there { sender < length places.now }
-    ensures { IfOk result (λ links. links.items ≡ links_of (radio_from places.now reach []) (every_at every.now) sender) }
+    ensures { let radio = radio_from places.now reach [] in
+        IfOk result (λ links. links.items ≡ links_of radio (every_at every.now) sender) }
 {
     let from = places[usize::from(sender)];
     let mut links = Vec::new(alloc);
@@ -141,7 +134,7 @@ fn links_from(
     Ok(links)
 }
 
-/// The way from one mote to another, if that one hears it.
+/// The link from one mote to another, if that one hears it.
 #[tactic(auto, using(crate::proofs::Hearing::hears_between), unfolding(crate::specs::Medium::delay))]
 fn link_between(
     places: &[Place],
@@ -154,7 +147,8 @@ fn link_between(
     requires per { 0 < reach.per }
     requires sender { sender < length places.now }
     requires receiver { to < length places.now }
-    ensures { result ≡ if hears (radio_from places.now reach []) to sender then Some (link_of (radio_from places.now reach []) (every_at every.now) sender to) else None }
+    ensures { let radio = radio_from places.now reach [] in
+        result ≡ if hears radio to sender then Some (link_of radio (every_at every.now) sender to) else None }
 {
     if to == sender {
         return None;
@@ -170,9 +164,10 @@ fn link_between(
     })
 }
 
-/// The least delay of all ways, if there is one.
+/// The least delay of all links, if there is one.
 pub(crate) fn least_delay(all: &[Vec<Link>]) -> Option<u64>
-    ensures { result ≡ reduce min (flat_map (λ links. map (λ link. link.delay) links) (map (λ links. links.items) all.now)) }
+    ensures { result
+        ≡ reduce min (flat_map (λ links. map (λ link. link.delay) links) (map (λ links. links.items) all.now)) }
 {
     let mut least = None;
     for links in all {

@@ -1,18 +1,27 @@
-//! The losses of a medium by the two motes of each.
+//! Losses: which copies from one mote to another the medium loses.
 
-ghost use Rattle.std.specs.Prelude.{◌≡◌, ℕ, true, false, cond, Some, None, IsSome, Ok, Err, ◌⊎◌};
-ghost use Rattle.radio_medium.specs.Medium.{is_good, is_for_pair};
+ghost use Rattle.std.specs.Prelude.{◌≡◌, ◌<◌, ℕ, true, false, cond, Some, None, IsSome, Ok, Err, ◌⊎◌};
+ghost use Rattle.std.specs.Option.{ForSome};
+ghost use Rattle.radio_medium.specs.Medium.{is_good, is_for_pair, is_lost};
 ghost use Rattle.radio_medium.specs.Links.{EveryByPair, every_at, GathersLosses, AddsLoss};
 
 use crate::error::MediumError;
-use crate::place::Loss;
 use std::alloc::Global;
 use std::collections::HashMap;
+
+/// The medium loses one of `every` copies from mote `sender` to mote `to`: those of the packets whose number plus one
+/// is a multiple of `every`.
+#[derive(Clone, Copy, Debug, PartialEq, Eq)]
+pub struct Loss {
+    pub sender: u32,
+    pub to: u32,
+    pub every: u32,
+}
 
 /// For each pair of a sender and a receiver with a loss: of how many packets the last one is lost.
 pub(crate) type EveryByPair = HashMap<(u32, u32), u32>;
 
-/// All losses by their pairs. A bad loss is refused.
+/// All losses by their pairs; a bad one is an error.
 pub(crate) fn gathered(
     alloc: Global,
     motes: usize,
@@ -27,7 +36,7 @@ pub(crate) fn gathered(
     Ok(every)
 }
 
-/// Adds a loss. One that is bad in itself is refused, and so is a second one for the same pair.
+/// Adds a loss. A loss that is bad by itself is an error, and so is a second one for the same pair.
 fn add_loss(every: &mut EveryByPair, motes: usize, loss: Loss) -> Result<(), MediumError>
     ensures { AddsLoss motes loss every.old every.new result }
 {
@@ -40,10 +49,21 @@ fn add_loss(every: &mut EveryByPair, motes: usize, loss: Loss) -> Result<(), Med
     }
 }
 
-/// Whether a loss is between two motes that are there, and loses the last of some packets.
+/// Whether a loss is between two different motes of the net, and loses the last of some packets.
 fn is_good(motes: usize, loss: Loss) -> bool
     ensures { result ≡ is_good motes loss }
 {
     let is_there = (loss.sender as usize) < motes && (loss.to as usize) < motes;
     is_there && loss.sender != loss.to && loss.every != 0
+}
+
+/// Whether the copy of the packet with this number is lost, where the last of each `every` is.
+pub(crate) fn is_lost(number: u64, every: Option<u32>) -> bool
+    requires { ForSome every (λ k. 0 < k) }
+    ensures { result ≡ is_lost number every }
+{
+    match every {
+        None => false,
+        Some(every) => number % u64::from(every) + 1 == u64::from(every),
+    }
 }

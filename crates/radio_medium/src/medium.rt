@@ -1,28 +1,29 @@
 //! The medium of a net.
 
 ghost use Rattle.std.specs.Prelude.{◌≡◌, ℕ, ◌+◌, ◌^◌, ◌<◌, ◌≤◌, None, length, All, IfOk};
-ghost use Rattle.radio_medium.specs.Medium.{IsWithinLimits, MakesMedium, square_distance, place_at, every_of, hears, delay, lookahead, fates, copies, medium_fault};
+ghost use Rattle.radio_medium.specs.Medium.{IsWithinLimits, MakesMedium, medium_fault, square_distance, place_at};
+ghost use Rattle.radio_medium.specs.Medium.{every_of, hears, delay, lookahead, fates, copies};
 ghost use Rattle.radio_medium.specs.Links.{links_of, IsFit};
 
 use crate::error::MediumError;
 use crate::link::{Link, all_links, copies_along, fates_along, least_delay};
-use crate::losses::gathered;
-use crate::place::{Loss, Place};
+use crate::losses::{Loss, gathered};
+use crate::place::Place;
 use crate::reach::Reach;
 use radio_packet::{Fate, RadioCopy, Sent};
 use std::alloc::{AllocError, Global};
 use std::marker::Model;
 
-/// The radio medium between motes that stand still. Who hears a mote, after which delay and with which loss, is found
-/// once, so a packet costs its receivers alone.
+/// The radio medium between motes that stand still. The links of each mote are found once, so that a packet costs no
+/// more than its receivers.
 pub struct Medium {
     alloc: Global,
     places: Vec<Place>,
     reach: Reach,
     losses: Vec<Loss>,
-    /// For each mote the ways to those that hear it, by rising number.
+    /// For each mote the links to those that hear it, by rising number.
     links: Vec<Vec<Link>>,
-    /// The least delay of all ways.
+    /// The least delay of all links.
     least_delay: Option<u64>,
 }
 
@@ -49,7 +50,8 @@ impl Model for Medium {
 
     ghost view = { λ m. radio_from m.places.items m.reach m.losses.items };
 
-    ghost invariant = { λ m. IsMedium (radio_from m.places.items m.reach m.losses.items) (map (λ links. links.items) m.links.items) m.least_delay };
+    ghost invariant = { λ m. IsMedium (radio_from m.places.items m.reach m.losses.items)
+        (map (λ links. links.items) m.links.items) m.least_delay };
 }
 
 impl Medium {
@@ -63,8 +65,10 @@ impl Medium {
         per: u32,
         losses: &[Loss],
     ) -> Result<Medium, MediumError>
-        requires { IsWithinLimits (record { places = places.now; range = range; base = base; per = per; losses = losses.now }) }
-        ensures { MakesMedium (record { places = places.now; range = range; base = base; per = per; losses = losses.now }) result }
+        requires { IsWithinLimits (record
+            { places = places.now; range = range; base = base; per = per; losses = losses.now }) }
+        ensures { MakesMedium (record
+            { places = places.now; range = range; base = base; per = per; losses = losses.now }) result }
     {
         if base == 0 {
             return Err(MediumError::ZeroBase);
@@ -106,7 +110,7 @@ impl Medium {
         self.reach.delay(self.square_distance(s, r))
     }
 
-    /// The least delay over all pairs of motes that hear; where none do, the first moment after the end.
+    /// The least delay of all links; without links, the first moment after the end.
     pub fn lookahead(&self, end: u64) -> u64
         requires { end ≤ 2 ^ 40 }
         ensures value { result ≡ lookahead self.now end }
@@ -116,7 +120,7 @@ impl Medium {
         self.least_delay.unwrap_or(end + 1)
     }
 
-    /// What becomes of the copies of a packet, one for each mote that hears the sender, by rising number.
+    /// The fates of the copies of a packet, one for each mote that hears the sender, by rising number.
     pub fn fates(&self, sent: &Sent) -> Result<Vec<Fate>, AllocError>
         requires sender { sent.now.sender < length self.now.places }
         requires moment { sent.now.at ≤ 2 ^ 40 }
@@ -134,7 +138,7 @@ impl Medium {
         copies_along(self.alloc, self.links_of(sent.sender), sent)
     }
 
-    /// The ways from a mote to those that hear it.
+    /// The links from a mote to those that hear it.
     fn links_of(&self, s: u16) -> &[Link]
         requires { s < length self.now.places }
         ensures ways { result.now ≡ links_of self.now (every_of self.now.losses) s }

@@ -1,4 +1,4 @@
-//! Where motes stand, and which copies between two of them are lost.
+//! Where motes stand.
 
 ghost use Rattle.std.specs.Prelude.{◌≡◌, ◌≤◌, ◌<◌, ◌^◌, ◌-ℤ◌, nat_le, unsigned_abs};
 ghost use Rattle.radio_medium.specs.Medium.{square_distance};
@@ -50,13 +50,4 @@ impl Place {
         }
         self.square_distance(other) <= square
     }
-}
-
-/// The medium loses one of `every` copies from mote `sender` to mote `to`: those of the packets whose number plus one
-/// is a multiple of `every`.
-#[derive(Clone, Copy, Debug, PartialEq, Eq)]
-pub struct Loss {
-    pub sender: u32,
-    pub to: u32,
-    pub every: u32,
 }
