@@ -16,5 +16,6 @@ pub fn tree_or_fault()
 
 /// At most one fault of a text is told.
 pub fn at_most_one_fault()
-    ensures { (text : List ℕ) (j k : ReadErrorKind) (l m : ℕ) → IsToldOf text j l → IsToldOf text k m → (j ≡ k) × (l ≡ m) }
+    ensures { (text : List ℕ) (j k : ReadErrorKind) (l m : ℕ) → IsToldOf text j l → IsToldOf text k m → (j ≡ k)
+        × (l ≡ m) }
 {}
