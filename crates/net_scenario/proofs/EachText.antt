@@ -1,4 +1,4 @@
--- Each text tells a net or has a fault.
+-- Each text describes a net or has a fault.
 use Rattle.std.proofs.Common.{◌≡◌, ◌⊎◌, ℕ, Bool, true, false, if◌then◌else◌, List, [], ◌∷◌, length, nat_lt, codes}
 use Rattle.std.proofs.Common.{refl, ap, inl, inr, Option, Some, None, Ok, Err}
 use Rattle.std.specs.Option.{option_map_or}
@@ -66,7 +66,7 @@ read_all : ((text : List ℕ) → HasTreeOrFault text) → (ps : List ProgramTex
 read_all each [] = inl ([], tt)
 read_all each (p ∷ ps) = read_one p ps (read_all each ps) (each p.text).one
 
--- a text tells a net or has a fault
+-- a text describes a net or has a fault
 abbrev Tells : List ℕ → Type 0
 Tells text = ((n : NetTold) × TellsNet text n) ⊎ ((e : ScenarioError) × TellsFault text e)
 

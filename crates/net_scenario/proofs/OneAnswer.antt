@@ -1,4 +1,4 @@
--- A text tells at most one net, at most one fault, and never both.
+-- A text has at most one net, at most one fault, and never both.
 use Rattle.std.proofs.Common.{◌≡◌, ℕ, List, [], ◌∷◌, ◌++◌, refl, sym, ap, ◌∙◌, subst, Err}
 use Rattle.toml.specs.Data.{Members}
 use Rattle.program_tree.specs.Code.{Tree}

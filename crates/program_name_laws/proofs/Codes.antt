@@ -41,7 +41,7 @@ is_first : (f : Body Name → Body ℕ) (d : Declarations) (a : Body Name) (b : 
     → NamesDeclared d (f a) → NamesDeclared d b
 is_first f d a b e h = let same : f a ≡ b = cc in subst (NamesDeclared d) same h
 
--- before the k-th of some callback timers behind others
+-- before the k-th of some callback timers after others
 abbrev callback_counts : Names → (done : List Name) → (k : ℕ) → Declarations
 callback_counts n done k = record (counts_of n) { timers = length done + (k + 1); threads = 0 }
 
@@ -140,7 +140,7 @@ code_declared t f k c callbacks threads on_poll on_exit body =
       body = block_declared t f k c c.body body;
     }
 
--- behind a code
+-- after a code
 code_sound : (t : Tree) (f k : ℕ) (p : Name × CodeShape) (after : List Mark)
     → AreSound (names_at t f) (code_marks p after) →
     IsDeclaredIn t (code_at t f k p.1) × AreSound (names_at t (f + length (timers_of p.1))) after

@@ -25,7 +25,7 @@ all_one y [] ys j h = absurd (omega (arith, h))
 all_one y (x ∷ xs) ys zero h = refl
 all_one y (x ∷ xs) ys (suc j) h = all_one y xs ys j (omega (arith, h))
 
--- the timers of a code, in the program's list, behind those of the codes before it
+-- the timers of a code, in the program's list, after those of the codes before it
 
 abbrev own_timers : (process : ℕ) → CodeShape → (after : List Timer) → List Timer
 own_timers k c after = map (λ x. timer_of k false) c.etimers ++ (map (λ t. timer_of k true) c.ctimers ++ after)

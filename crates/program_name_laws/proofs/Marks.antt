@@ -18,7 +18,7 @@ KeepsRole n (spawns own x) = (is_a n a_thread x ≡ true) × (is_own own x ≡ f
 KeepsRole n (starts x) = is_a n a_process x ≡ true
 KeepsRole n r = Unit {0}
 
--- the names in scope behind a token
+-- the names in scope after a token
 abbrev pub names_after : Names → Role → Names
 names_after n (new k x) = with_new n k x
 names_after n leaves = outside n

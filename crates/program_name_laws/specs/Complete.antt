@@ -3,7 +3,7 @@ use Rattle.std.specs.Prelude.{◌≡◌, ℕ, ◌+◌, ◌<◌, ◌≤◌, nat_l
 use Rattle.program_tree.specs.Code.{Code, Tree}
 
 -- Each variable of a process has its first value, each callback timer and each thread its block; and each timer of the
--- process, in the program's list of timers, is that process's own, and a callback timer where it stands behind the
+-- process, in the program's list of timers, is that process's own, and a callback timer where it stands after the
 -- event timers.
 pub record IsCompleteIn (t : Tree) (c : Code) : Type 0 where
   pub starts : length c.starts ≡ length c.variables

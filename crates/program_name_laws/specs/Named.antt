@@ -34,7 +34,7 @@ named_by_expression (negation e) = named_by_expression e
 named_by_expression (binary o a b) = named_by_expression a ++ named_by_expression b
 named_by_expression e = []
 
--- the variable that is told an answer
+-- the variable that gets an answer
 abbrev pub named_by_into : {Name : Type 0} → Option Name → List (Class × Name)
 named_by_into None = []
 named_by_into (Some x) = (a_variable, x) ∷ []

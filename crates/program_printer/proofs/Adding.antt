@@ -154,7 +154,7 @@ pub mapped_at : {X Y : Type 0} (h : X → Y) (xs : List X) (i : ℕ) (x : X) →
     → h x ≡ get_or (map h xs) i (h x)
 mapped_at h xs i x l same = ap h same ∙ sym (get_or-map h xs i x (h x) l)
 
--- tokens behind tokens
+-- tokens after tokens
 pub two_added : (t0 t1 t2 a b : List Token) → t1 ≡ t0 ++ a → t2 ≡ t1 ++ b → t2 ≡ t0 ++ (a ++ b)
 two_added t0 t1 t2 a b h k = k ∙ ap (λ ts. ts ++ b) h ∙ append_assoc t0 a b
 

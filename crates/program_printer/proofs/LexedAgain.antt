@@ -134,7 +134,7 @@ decimal_fits n h =
     let capped : n ≡ min (digits_value 10 (decimal n)) 65536 = omega (arith, value) in
     (number.0, digits-word (decimal n) number.1, sym (number_token (decimal n) n number.2 capped))
 
--- no word goes on into what stands behind it
+-- no word goes on into what stands after it
 keyword_stops : (b : ℕ) (k : Keyword) (rest : List Token)
     → begins is_word_byte (gap b (token.Keyword k) rest ++ text_from b rest) ≡ false
 keyword_stops b k [] = refl
@@ -210,7 +210,7 @@ other_signs rest = ((refl, refl), (refl, refl), (refl, refl), (refl, refl), (ref
 word-no_equals : (b : ℕ) → is_word_byte b ≡ true → nat_eq 61 b ≡ false
 word-no_equals b h = grind (arith, nat_tests)
 
--- a byte behind `!`
+-- a byte after `!`
 record OtherByte (text : List ℕ) : Type 0 where
   byte : ℕ
   more : List ℕ

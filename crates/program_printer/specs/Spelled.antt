@@ -33,7 +33,7 @@ sent_token e = (sent_mark e).token
 abbrev pub any_token : AnyEvent Name → Token
 any_token e = (any_mark e).token
 
--- a word that tells of something in parentheses
+-- a word that asks about something in parentheses
 abbrev pub telling : KeywordRead → Token → List Token
 telling k t = Keyword k ∷ Open ∷ t ∷ Close ∷ []
 
@@ -57,7 +57,7 @@ abbrev pub into_tokens : Option Name → List Token
 into_tokens None = Semicolon ∷ []
 into_tokens (Some x) = Keyword word.Into ∷ AName x ∷ Semicolon ∷ []
 
--- statements that are a keyword alone, and those with a name or an expression behind it
+-- statements that are a keyword alone, and those with a name or an expression after it
 abbrev pub bare : KeywordRead → List Token
 bare k = Keyword k ∷ Semicolon ∷ []
 
@@ -138,7 +138,7 @@ runs_tokens c = handler_tokens word.OnPoll c.on_poll
 abbrev pub code_tokens : Name × CodeShape → List Token
 code_tokens p = Keyword word.Code ∷ AName p.0 ∷ OpenBrace ∷ (declared_tokens p.1 ++ runs_tokens p.1)
 
--- a name behind a comma
+-- a name after a comma
 abbrev pub comma_tokens : Name → List Token
 comma_tokens x = Comma ∷ AName x ∷ []
 

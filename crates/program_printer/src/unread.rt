@@ -118,7 +118,7 @@ pub(crate) fn add_all<'a>(out: &mut Vec<Token<'a>>, more: &[Token<'a>]) -> Resul
     out.extend_from_slice(more)
 }
 
-/// Adds a word that tells of something in parentheses.
+/// Adds a word that asks about something in parentheses.
 fn telling<'a>(
     out: &mut Vec<Token<'a>>,
     keyword: Keyword,
@@ -207,7 +207,7 @@ impl<'a> Scoped<'a> {
         add(out, Token::Semicolon)
     }
 
-    /// Adds a semicolon, and before it the variable that is told the answer, where there is one.
+    /// Adds a semicolon, and before it the variable that gets the answer, where there is one.
     fn into_end(&self, told: Option<u8>, out: &mut Vec<Token<'a>>) -> Result<(), AllocError>
         ensures { OnOk result (map token_of out.new.items ≡ map token_of out.old.items
             ++ into_tokens (option_map (name_in (names_in self.now) a_variable) told)) }

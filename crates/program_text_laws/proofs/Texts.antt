@@ -1,4 +1,4 @@
--- Texts, their trees and their told faults.
+-- Texts, their trees and their reported errors.
 use Rattle.std.proofs.Common.{◌≡◌, ◌∙◌, ℕ, ◌-◌, ◌<◌, ◌≤◌, List, [], ◌∷◌, ◌++◌, length, map, refl, sym, ap, subst}
 use Rattle.std.proofs.Common.{arith, Bool, true, false, nat_lt, Some, get_or, ◌⊎◌, inl, inr}
 use Rattle.std.specs.Prelude.{slice_get}
@@ -46,7 +46,7 @@ pub read_fails : (k : ReadErrorKind) (left : ℕ) (text : List Token) → tell n
     ≡ fault k left → IsToldAt k left text
 read_fails k left text e = subst (λ v. Judged v text) e (judged text)
 
--- a told fault, as the reader has it
+-- a reported error, as the reader has it
 line_stands : (ls : List ℕ) (i : ℕ) → i < length ls → slice_get ls i ≡ Some (get_or ls i 0)
 line_stands ls i h = slice_get-get_or ls i 0 h
 
@@ -82,14 +82,14 @@ told_read text ts ls k left line lexed e at =
       stands = ap (λ i. slice_get ls i) here ∙ at;
     }
 
--- want of memory is no fault of a text
+-- a failed allocation is no fault of a text
 never_memory : (before rest : List Token) → IsTold Memory before rest → ⊥
 never_memory before rest h = absurd (cc (h.here.broken))
 
 pub told_no_memory : (text : List ℕ) (line : ℕ) → IsToldOf text Memory line → ⊥
 told_no_memory text line h = never_memory h.before h.rest h.told
 
--- a tree and a told fault
+-- a tree and a reported error
 pub never_both : (text : List ℕ) (t : Tree) (k : ReadErrorKind) (line : ℕ) → IsTreeOf text t → IsToldOf text k line → ⊥
 never_both text t k line h f =
     let e = one_lexing text h.tokens f.tokens h.lines f.lines h.lexed f.lexed in
@@ -135,7 +135,7 @@ tree_or_told text =
       apart = never_both text;
     }
 
--- one told fault
+-- one reported error
 same_kind : (j k : ReadErrorKind) → kind_number j ≡ kind_number k → j ≡ k
 same_kind BadToken BadToken e = refl
 same_kind Unexpected Unexpected e = refl

@@ -1,4 +1,4 @@
--- The machine tells the first fault, and passes programs alone.
+-- The machine reports the first fault, and passes programs alone.
 use Rattle.std.proofs.Common.{◌≡◌, ℕ, suc, ◌<◌, List, [], ◌∷◌, ◌++◌, length, refl, sym, ap, ◌∙◌, subst, arith}
 use Rattle.std.proofs.Common.{append_assoc, Bool, true, false, nat_lt, if◌then◌else◌, Option, Some, None, IsTrue, ◌⊎◌}
 use Rattle.std.proofs.Common.{inl, inr}

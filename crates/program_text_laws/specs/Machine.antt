@@ -32,14 +32,14 @@ pub data Symbol : Type 0 where
   -- `;`, or `into`, a variable and `;`
   into_end : Context → Symbol
   block : Context → Symbol
-  -- the statements of a block, and its closing brace; the same behind the first block of an `if`
+  -- the statements of a block, and its closing brace; the same after the first block of an `if`
   items : Context → Symbol
   items_else : Context → Symbol
   -- a new name of a class
   new_name : Class → Symbol
   -- the name of a new thread, and its block
   new_thread : Symbol
-  -- a code, from its keyword on, and the codes of these processes behind it
+  -- a code, from its keyword on, and the codes of these processes after it
   codes : Name → List Name → Symbol
   this_name : Name → Symbol
   -- what is left of a code: from the variables, the timers of either kind, the threads, `onpoll`, `onexit` or the body
@@ -56,7 +56,7 @@ pub data Symbol : Type 0 where
   from_events : Symbol
   from_semaphores : Symbol
   first_process : Symbol
-  -- from behind the name of a process on, or from a name on, where these processes are named
+  -- from after the name of a process on, or from a name on, where these processes are named
   from_comma : Name → List Name → Symbol
   more_process : Name → List Name → Symbol
   -- from `autostart` or `receiver` on
