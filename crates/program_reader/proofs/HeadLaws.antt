@@ -79,7 +79,7 @@ number_large n (t ∷ ts) s more is h = absurd cc
 
 pub ruleset number_steps = (number_reads, number_large)
 
--- behind a new name
+-- after a new name
 pub new_goes : (c : Class) (s s' : Scope) (x : Name) (old new : List Token) (f : Pending) → IsNew c s s' x old new → tell s (new_name c ∷ f) old ≡ tell s' f new
 new_goes c s s' x old new f r =
     ap (tell s (new_name c ∷ f)) r.spelled ∙ ap (λ o. fault_or o (suc (length new)) (tell (with_names s (with_new s.names c x)) f new)) r.sound ∙ ap (λ z. tell z f new) (sym r.added)

@@ -32,7 +32,7 @@ word_no_feed (x ∷ xs) h =
     let first : is_feed x ≡ false = grind (arith, nat_tests) in
     rw (first, word_no_feed xs parts.1) refl
 
--- bytes without LF, with what comes behind
+-- bytes without LF, with what comes after
 none_first : (xs rest : List ℕ) → xs ≢ [] → list_any is_feed xs ≡ false → count_by is_feed xs ≡ cond (is_feed (get_or (xs ++ rest) 0 0)) 1 0
 none_first [] rest some h = absurd (some refl)
 none_first (x ∷ xs) rest some h =
@@ -48,7 +48,7 @@ feeds rest (Other b) fits = omega arith
 
 -- ---- one piece more
 
--- whatever fitting pieces come behind, the text is pieces with these tokens and lines, and theirs
+-- whatever fitting pieces come after, the text is pieces with these tokens and lines, and theirs
 pub record HasRead (text : List ℕ) (tokens : List Token) (lines : List ℕ) (line : ℕ) (rest : List ℕ) : Type 0 where
   pub goes_on : (more : List Piece) → rest ≡ text_of more → AllFit more
       → (all : List Piece) × (text ≡ text_of all) × AllFit all × (tokens_of all ≡ tokens ++ tokens_of more) × (lines_from 1 all ≡ lines ++ lines_from line more)

@@ -50,7 +50,7 @@ pub shorter_from : (t : Token) (old m0 new : List Token) → first old ≡ Some 
 shorter_from t [] m0 new is from h = absurd cc
 shorter_from t (x ∷ ts) m0 new is from h = let e : length m0 ≡ length ts = ap length from in omega arith
 
--- a token and those behind it
+-- a token and those after it
 pub keyword_then : (t : Token) (rest m0 : List Token) → first rest ≡ Some t → m0 ≡ drop 1 rest → rest ≡ t ∷ m0
 keyword_then t rest m0 is from = front_of rest t is ∙ ap (λ ts. t ∷ ts) (sym from)
 

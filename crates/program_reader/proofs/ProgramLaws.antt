@@ -44,7 +44,7 @@ map_itself : (xs : List Name) → map itself xs ≡ xs
 map_itself [] = refl
 map_itself (x ∷ xs) = ap (λ zs. x ∷ zs) (map_itself xs)
 
--- what the names are behind the head
+-- what the names are after the head
 abbrev pub head_names : (events semaphores processes : List Name) → Names
 head_names events semaphores processes = record no_names { events = events; semaphores = semaphores; processes = processes }
 
@@ -246,7 +246,7 @@ module _ (text m5 : List Token) (s4 s5 : Scope) (counts autostart : List ℕ) (r
       subst (λ ts. All (λ t. t.process < length s5.names.processes) ts) (sym (timers_are timers e))
       (all_owned 0 (length s5.names.processes) (values_of r.shapes) (omega (arith, each_process, length-map r.shapes (λ p. p.1))))
 
--- head and codes are read, and the text ends behind them
+-- head and codes are read, and the text ends after them
 pub record AllRead (text : List Token) (s5 : Scope) (counts autostart : List ℕ) (receiver : Option ℕ) (trees : List Code) : Type 0 where
   pub m5 : List Token
   pub s4 : Scope
@@ -282,7 +282,7 @@ module _ (text : List Token) (s5 : Scope) (counts autostart : List ℕ) (receive
     was_read = was_read text tree lexed tree_and_shape.0 tree_and_shape.1;
   }
 
--- no names of a code are in scope behind the head
+-- no names of a code are in scope after the head
 pub no_own_names : (text m5 : List Token) (s4 : Scope) (counts autostart : List ℕ) (receiver : Option ℕ) → HeadIsRead text m5 s4 counts autostart receiver → (s4.names.variables ≡ []) × (s4.names.timers ≡ []) × (s4.names.threads ≡ [])
 no_own_names text m5 s4 counts autostart receiver h =
     let is = names_read text m5 s4 counts autostart receiver h in

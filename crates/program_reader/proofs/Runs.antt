@@ -33,7 +33,7 @@ then s s1 s' a b p q old mid new e r t = record {
   goes_on = λ f. r.goes_on (b f) ∙ t.goes_on f;
 }
 
--- an action: its keyword, and what the table asks for behind it
+-- an action: its keyword, and what the table asks for after it
 pub action_reads : (s s1 s' : Scope) (c : Context) (k : Keyword) (g : Form) (marks : Names → List Mark → List Mark) (old m0 new : List Token) → beginning k ≡ action g → s1.names ≡ s.names → Begins s s1 c k old m0 → Runs s1 s' (symbols_of c g) marks m0 new →
     ReadsStatement s s' c (λ n ms. begins_with c k ∷ marks n ms) old new
 action_reads s s1 s' c k g marks old m0 new is e b r = record {

@@ -74,7 +74,7 @@ alone_fits_at n own alone_word.Mote = λ w h. refl
 pub alone_fits : (n : Names) (own : Option Name) (a : Alone) (e : Expression ℕ) → e ≡ alone_value a → FitsValue n own e
 alone_fits n own a e is = subst (λ z. FitsValue n own z) (sym is) (alone_fits_at n own a)
 
--- a keyword that tells of a name
+-- a keyword that asks about a name
 
 telling_at : (s : Scope) (c : Context) (t : Telling) (i : ℕ) (old new : List Token) →
     Reads s s (expression c) (λ n ms. key (telling_keyword t) ∷ sign token.Open ∷ operand_mark c (form.name (telling_class t)) (name_in n (telling_class t) i) ∷ sign token.Close ∷ ms) old new → ReadsValue s c (telling_value t i) old new

@@ -16,7 +16,7 @@ use Rattle.program_reader.specs.declared.codes.Parts.{Parts}
 use Rattle.program_reader.specs.declared.scope.Scope.{Scope as ScopeRead}
 use Rattle.program_tree.specs.declared.timer.Timer.{Timer}
 
--- the names in scope behind some codes
+-- the names in scope after some codes
 abbrev pub behind : Names → List CodeShape → Names
 behind n [] = n
 behind n (c ∷ cs) = behind (outside (inside n c)) cs
@@ -54,7 +54,7 @@ abbrev pub all_timers : List Code → List Timer
 all_timers [] = []
 all_timers (c ∷ cs) = timers_of_code c ++ all_timers cs
 
--- what the names in scope behind a text and its parts stand for
+-- what the names in scope after a text and its parts stand for
 abbrev pub tree_with : ScopeRead → Parts → Tree
 tree_with s p = record {
   events = s.events;

@@ -47,14 +47,14 @@ pub record IsNew (c : Class) (s s' : Scope) (x : Name) (old new : List Token) : 
   pub spelled : old ≡ token.Name x ∷ new
   pub sound : first_broken s (named x (role.new c x)) ≡ None
 
--- a new name is read, and the semicolon behind it
+-- a new name is read, and the semicolon after it
 pub record IsListed (c : Class) (s s' : Scope) (old new : List Token) : Type 0 where
   pub name : Name
   pub added : s' ≡ with_names s (with_new s.names c name)
   pub spelled : old ≡ token.Name name ∷ token.Semicolon ∷ new
   pub goes_on : (f : Pending) → tell s (new_name c ∷ machine.semicolon ∷ f) old ≡ tell s' f new
 
--- a new name is read, its first value, and the semicolon behind it
+-- a new name is read, its first value, and the semicolon after it
 pub record IsValued (c : Class) (s s' : Scope) (values values' : List ℕ) (old new : List Token) : Type 0 where
   pub name : Name
   pub value : ℕ
@@ -76,7 +76,7 @@ pub record HasDeclared {A : Type 0} (c : Class) (name_of : A → Name) (y : Symb
   pub spelled : (more : List A) (ms : List Mark) → tokens (marks more ms) ≡ rest → old ≡ tokens (marks (items ++ more) ms)
   pub goes_on : (f : Pending) → tell s (y ∷ f) old ≡ tell s' (y ∷ f) rest
 
--- all declarations of a class are read, and the symbol behind them comes
+-- all declarations of a class are read, and the symbol after them comes
 pub record Declares {A : Type 0} (c : Class) (name_of : A → Name) (y z : Symbol) (marks : List A → List Mark → List Mark)
     (items : List A) (s s' : Scope) (old new : List Token) : Type 0 where
   pub added : s'.names ≡ with_all s.names c (map name_of items)
@@ -105,7 +105,7 @@ ReadsValues c y z marks values s s' old new =
 
 -- The process line.
 
--- its further names, each behind a comma, and its semicolon
+-- its further names, each after a comma, and its semicolon
 abbrev pub line_marks : List Name → (after : List Mark) → List Mark
 line_marks [] after = sign token.Semicolon ∷ after
 line_marks (x ∷ xs) after = sign token.Comma ∷ named x (role.new a_process x) ∷ line_marks xs after

@@ -1,5 +1,5 @@
--- What reading one part of a program gives: its tokens are spelled by its marks, and the machine goes on behind it, whatever
--- comes after.
+-- What reading one part of a program gives: its tokens are spelled by its marks, and the machine goes on after it, whatever
+-- comes then.
 use Rattle.std.specs.Prelude.{◌≡◌, ℕ, ◌+◌, List, ◌∷◌, ◌++◌, Bool, true, false, ◌||◌, Option, Some, option_map, Result, Err}
 pub use Rattle.program_tree.specs.Classes.{class_of}
 use Rattle.program_tree.specs.Faults.{Scope, is_other, is_own}

@@ -110,7 +110,7 @@ impl Reader<'_> {
     }
 }
 
-/// What a text holds beside the names that are in scope behind it: what stands before the codes, the codes, and their timers.
+/// What a text holds beside the names that are in scope after it: what stands before the codes, the codes, and their timers.
 #[derive(Drop)]
 struct Parts {
     head: Head,
@@ -119,7 +119,7 @@ struct Parts {
 }
 
 impl Reader<'_> {
-    /// The codes, behind which the text ends.
+    /// The codes, after which the text ends.
     fn last_codes(&mut self) -> Result<Vec<ProcessText>, Refusal>
         requires { HasNoOwnNames self.old.scope }
         ensures ok { IfOk result (λ codes. HasCodes (map code_of codes.items) [] (scope_of self.old.scope) (scope_of self.new.scope) self.old.cursor []) }
@@ -149,7 +149,7 @@ impl Reader<'_> {
         })
     }
 
-    /// The program of the parts, with the names that are in scope behind them.
+    /// The program of the parts, with the names that are in scope after them.
     fn into_program(self, parts: Parts) -> Program
         requires { IsMade (tree_with self.scope parts) }
         ensures { tree_of result ≡ tree_with self.entry.scope parts }

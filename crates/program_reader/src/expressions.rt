@@ -76,7 +76,7 @@ impl Cursor<'_> {
 }
 
 impl Reader<'_> {
-    /// A keyword that tells of something, and behind it in parentheses its name.
+    /// A keyword that asks about something, and after it in parentheses its name.
     #[tactic(auto, using(crate::proofs::ExpressionSteps::word_steps))]
     fn told(&mut self, place: &Context, telling: Telling) -> Result<Expr, Refusal>
         requires here { first self.old.cursor ≡ Some (token.Keyword (telling_keyword telling)) }
@@ -90,7 +90,7 @@ impl Reader<'_> {
         Ok(telling.value(number))
     }
 
-    /// `is`, and behind it in parentheses an event.
+    /// `is`, and after it in parentheses an event.
     #[tactic(auto, using(crate::proofs::ExpressionSteps::word_steps))]
     fn is(&mut self, place: &Context) -> Result<Expr, Refusal>
         requires here { first self.old.cursor ≡ Some (token.Keyword Keyword.Is) }

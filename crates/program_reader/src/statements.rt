@@ -116,7 +116,7 @@ impl Reader<'_> {
         Ok(variable)
     }
 
-    /// `;`, or `into`, a variable that is told the answer and `;`.
+    /// `;`, or `into`, a variable that gets the answer and `;`.
     #[tactic(auto, using(crate::proofs::StatementSteps::into_start))]
     fn into_end(&mut self, place: &Context) -> Result<Option<u8>, Refusal>
         ensures no_longer { length self.new.cursor ≤ length self.old.cursor }

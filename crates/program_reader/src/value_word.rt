@@ -18,7 +18,7 @@ pub(crate) enum Alone {
     Mote,
 }
 
-/// A keyword that tells of what is named in parentheses behind it.
+/// A keyword that asks about what is named in parentheses after it.
 #[derive(Clone, Copy)]
 pub(crate) enum Telling {
     Fired,
