@@ -45,7 +45,8 @@ impl Drop for Sides {
 
 impl Sides {
     fn joined(self, alloc: Global) -> Result<Expr, AllocError>
-        ensures { IfOk result (λ e. expression_of e ≡ binary self.operator (expression_of self.left) (expression_of self.right)) }
+        ensures { IfOk result (λ e. expression_of e ≡ binary self.operator (expression_of self.left)
+            (expression_of self.right)) }
     {
         let Sides {
             left,
@@ -142,12 +143,21 @@ impl Reader<'_> {
         requires shallow { place.now.level ≤ LEVELS }
         ensures no_longer { length self.new.cursor ≤ length self.old.cursor }
         ensures same { self.new.scope ≡ self.old.scope }
-        ensures ok { IfOk result (λ x. ReadsSides (scope_of self.old.scope) (context_of place.now) x.operator (expression_of x.left) (expression_of x.right) self.old.cursor self.new.cursor) }
-        ensures left_numbered { IfOk result (λ x. Numbered (scope_of self.old.scope).names (λ n. expression_map (number_in n) (expression_map (name_in n) (expression_of x.left))) (expression_of x.left)) }
-        ensures right_numbered { IfOk result (λ x. Numbered (scope_of self.old.scope).names (λ n. expression_map (number_in n) (expression_map (name_in n) (expression_of x.right))) (expression_of x.right)) }
-        ensures left_fits { IfOk result (λ x. Fits (scope_of self.old.scope).names (context_of place.now).thread (λ w. expression_fits w (expression_of x.left))) }
-        ensures right_fits { IfOk result (λ x. Fits (scope_of self.old.scope).names (context_of place.now).thread (λ w. expression_fits w (expression_of x.right))) }
-        ensures err { FailsIn (scope_of self.old.scope) (expression (context_of place.now) ∷ operator ∷ expression (context_of place.now) ∷ close ∷ []) self.old.cursor result }
+        ensures ok { IfOk result (λ x. ReadsSides (scope_of self.old.scope) (context_of place.now) x.operator
+            (expression_of x.left) (expression_of x.right) self.old.cursor self.new.cursor) }
+        ensures left_numbered { IfOk result (λ x. Numbered (scope_of self.old.scope).names
+            (λ n. expression_map (number_in n) (expression_map (name_in n) (expression_of x.left)))
+            (expression_of x.left)) }
+        ensures right_numbered { IfOk result (λ x. Numbered (scope_of self.old.scope).names
+            (λ n. expression_map (number_in n) (expression_map (name_in n) (expression_of x.right)))
+            (expression_of x.right)) }
+        ensures left_fits { IfOk result (λ x. Fits (scope_of self.old.scope).names (context_of place.now).thread
+            (λ w. expression_fits w (expression_of x.left))) }
+        ensures right_fits { IfOk result (λ x. Fits (scope_of self.old.scope).names (context_of place.now).thread
+            (λ w. expression_fits w (expression_of x.right))) }
+        ensures err { FailsIn (scope_of self.old.scope)
+            (expression (context_of place.now) ∷ operator ∷ expression (context_of place.now) ∷ close ∷ [])
+            self.old.cursor result }
     {
         let left = self.expression(place)?;
         let operator = self.cursor.operator()?;

@@ -23,10 +23,12 @@ use std::alloc::Global;
 /// The reported error, with the line of its token; `Memory` with line 0, where an allocation failed.
 pub fn read(alloc: Global, text: &str) -> Result<Program, ReadError>
     ensures ok { IfOk result (λ p. IsTreeOf text.now (tree_of p)) }
-    ensures told { (e : ReadError) → result ≡ Err e → (e.kind ≡ ReadErrorKind.Memory → ⊥) → IsToldOf text.now e.kind e.line }
+    ensures told { (e : ReadError) → result ≡ Err e → (e.kind ≡ ReadErrorKind.Memory → ⊥)
+        → IsToldOf text.now e.kind e.line }
     ensures memory { (e : ReadError) → result ≡ Err e → e.kind ≡ ReadErrorKind.Memory → e.line ≡ 0 }
     ensures only { (t : Tree) → IsTreeOf text.now t → IfOk result (λ p. tree_of p ≡ t) }
-    ensures accepts { (t : Tree) → IsTreeOf text.now t → (e : ReadError) → result ≡ Err e → e.kind ≡ ReadErrorKind.Memory }
+    ensures accepts { (t : Tree) → IsTreeOf text.now t → (e : ReadError) → result ≡ Err e
+        → e.kind ≡ ReadErrorKind.Memory }
 {
     let lexed = lex(alloc, text)?;
     match program(alloc, &lexed.tokens) {
