@@ -5,7 +5,8 @@ use Rattle.std.proofs.Props.{props}
 use Rattle.program_tree.specs.Code.{Tree}
 use Rattle.program_tree.specs.EventNames.{CastEvent, SentEvent, AnyEvent}
 use Rattle.program_tree.specs.Faults.{IsProgram}
-use Rattle.program_tree.specs.Reading.{IsTreeOf, IsToldOf, IsOfText, WasRead}
+use Rattle.program_tree.specs.Made.{IsOfText, WasRead}
+use Rattle.program_tree.specs.Reading.{IsTreeOf, IsToldOf}
 use Rattle.program_tree.specs.ShapeOf.{shape_of, tokens_of_tree, text_of_tree}
 use Rattle.program_tree.specs.Tree.{Expression, Action, Body, Expression-set, Body-set}
 use Rattle.program_tree.specs.declared.error.ReadErrorKind.{ReadErrorKind}

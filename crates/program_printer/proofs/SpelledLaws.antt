@@ -14,7 +14,7 @@ use Rattle.program_tree.specs.Grammar.{variable_marks, etimer_marks, ctimer_mark
 use Rattle.program_tree.specs.Grammar.{body_marks, code_marks, codes_marks, starting_marks, autostart_marks}
 use Rattle.program_tree.specs.Grammar.{receiver_marks, process_marks, program_marks}
 use Rattle.program_tree.specs.Numbers.{named_of, codes_of, program_names}
-use Rattle.program_tree.specs.Reading.{IsOfText, WasRead}
+use Rattle.program_tree.specs.Made.{IsOfText, WasRead}
 use Rattle.program_tree.specs.ShapeOf.{names_of_tree, code_shape, codes_of_tree, no_code, shape_of, tokens_of_tree}
 use Rattle.program_tree.specs.ShapeOf.{text_of_tree}
 use Rattle.program_tree.specs.Shapes.{Name, Valued, Named, CodeShape, ProgramShape}

@@ -16,7 +16,8 @@ use Rattle.program_tree.specs.InScope.{Names, no_names, with_new, number_in, nam
 use Rattle.program_text_laws.specs.Machine.{whole, tell, from_events, codes_form}
 use Rattle.program_tree.specs.Numbers.{named_of, values_of, codes_in, timers_from, timer_of, program_names}
 use Rattle.program_tree.specs.Numbers.{tree_of_shape}
-use Rattle.program_tree.specs.Reading.{AreLexed, IsTreeOfTokens, WasRead, IsMade}
+use Rattle.program_tree.specs.Made.{AreLexed, WasRead, IsMade}
+use Rattle.program_tree.specs.Reading.{IsTreeOfTokens}
 use Rattle.program_tree.specs.ShapeOf.{code_shape, no_code, shape_of}
 use Rattle.program_tree.specs.Shapes.{Name, CodeShape, ProgramShape}
 use Rattle.program_tree.specs.Tokens as token
