@@ -1,5 +1,5 @@
-//! Programs of motes: their notation, the trees of their texts, and the names that they share with the kernel. This is the public
-//! face of the crates below.
+//! Programs of motes: their notation, the trees of their texts, and the names that they share with the kernel. This is
+//! the public face of the crates below.
 #![tactic(auto)]
 
 pub use program_printer::print_program;

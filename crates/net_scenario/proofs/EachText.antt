@@ -1,5 +1,6 @@
--- Each text tells a net or has a fault.
-use Rattle.std.proofs.Common.{◌≡◌, ◌⊎◌, ℕ, Bool, true, false, if◌then◌else◌, List, [], ◌∷◌, length, nat_lt, codes, refl, ap, inl, inr, Option, Some, None, Ok, Err}
+-- Each text describes a net or has a fault.
+use Rattle.std.proofs.Common.{◌≡◌, ◌⊎◌, ℕ, Bool, true, false, if◌then◌else◌, List, [], ◌∷◌, length, nat_lt, codes}
+use Rattle.std.proofs.Common.{refl, ap, inl, inr, Option, Some, None, Ok, Err}
 use Rattle.std.specs.Option.{option_map_or}
 use Rattle.toml.specs.Data.{Members}
 use Rattle.toml.specs.Parse.{parse_document}
@@ -43,25 +44,43 @@ read_on p ps t is (inr (name, e, m)) = inr (
   },
 )
 
-read_one : (p : ProgramText) (ps : List ProgramText) → Reads ps → ((t : Tree) × IsTreeOf p.text t) ⊎ ((kind : ReadErrorKind) × (line : ℕ) × IsToldOf p.text kind line) → Reads (p ∷ ps)
+read_one : (p : ProgramText) (ps : List ProgramText) → Reads ps → ((t : Tree) × IsTreeOf p.text t)
+    ⊎ ((kind : ReadErrorKind) × (line : ℕ) × IsToldOf p.text kind line) → Reads (p ∷ ps)
 read_one p ps rest (inl (t, is)) = read_on p ps t is rest
 read_one p ps rest (inr (kind, line, told)) =
-    inr (p.name, record { kind = kind; line = line }, record { before = []; text = p.text; after = ps; trees = []; split = refl; read = tt; told = told })
+    inr (
+      p.name,
+      record { kind = kind; line = line },
+      record {
+        before = [];
+        text = p.text;
+        after = ps;
+        trees = [];
+        split = refl;
+        read = tt;
+        told = told;
+      },
+    )
 
 read_all : ((text : List ℕ) → HasTreeOrFault text) → (ps : List ProgramText) → Reads ps
 read_all each [] = inl ([], tt)
 read_all each (p ∷ ps) = read_one p ps (read_all each ps) (each p.text).one
 
--- a text tells a net or has a fault
+-- a text describes a net or has a fault
 abbrev Tells : List ℕ → Type 0
 Tells text = ((n : NetTold) × TellsNet text n) ⊎ ((e : ScenarioError) × TellsFault text e)
 
-by_medium : (text : List ℕ) (d : Document text) (trees : HasTrees d.top) (fault : Option MediumError) → medium_fault (radio_told d.top) ≡ fault → Tells text
-by_medium text d trees None e = inl (net_told d.top trees.trees, (d, record { programs = trees; medium = e; told = refl }))
+by_medium : (text : List ℕ) (d : Document text) (trees : HasTrees d.top) (fault : Option MediumError)
+    → medium_fault (radio_told d.top) ≡ fault → Tells text
+by_medium text d trees None e = inl (
+  net_told d.top trees.trees,
+  (d, record { programs = trees; medium = e; told = refl }),
+)
 by_medium text d trees (Some fault) e = inr (Medium fault, (d, record { programs = trees; medium = e }))
 
 by_programs : (text : List ℕ) (d : Document text) → Reads (texts_of (table_at (codes "programs") d.top)) → Tells text
-by_programs text d (inl (trees, read)) = by_medium text d (record { trees = trees; read = read }) (medium_fault (radio_told d.top)) refl
+by_programs text d (inl (trees, read)) = by_medium text d (record { trees = trees; read = read })
+    (medium_fault (radio_told d.top)) refl
 by_programs text d (inr (name, e, refused)) = inr (Program name e, (d, refused))
 
 table_told : (text : List ℕ) (f : TableFault) → document_of text ≡ Err (of_table f) → TellsFault text (of_table f)
@@ -72,15 +91,18 @@ table_told text table.OutOfRange e = e
 table_told text table.UnknownProgram e = e
 
 module _ (each : (text : List ℕ) → HasTreeOrFault text) where
-  by_tables : (text : List ℕ) (top : Members) (fault : Option TableFault) → document_of text ≡ option_map_or (λ f. Err (of_table f)) fault (Ok top) → Tells text
-  by_tables text top None e = let d : Document text = record { top = top; is = e } in by_programs text d (read_all each (texts_of (table_at (codes "programs") top)))
+  by_tables : (text : List ℕ) (top : Members) (fault : Option TableFault)
+      → document_of text ≡ option_map_or (λ f. Err (of_table f)) fault (Ok top) → Tells text
+  by_tables text top None e = let d : Document text = record { top = top; is = e } in
+      by_programs text d (read_all each (texts_of (table_at (codes "programs") top)))
   by_tables text top (Some f) e = inr (of_table f, table_told text f e)
 
   by_parse : (text : List ℕ) (parsed : Option Members) → document_of text ≡ faultless parsed → Tells text
   by_parse text None e = inr (Toml, e)
   by_parse text (Some top) e = by_tables text top (document_fault top) e
 
-  by_length : (text : List ℕ) (too_long : Bool) → document_of text ≡ (if too_long then Err OutOfRange else faultless (parse_document text)) → Tells text
+  by_length : (text : List ℕ) (too_long : Bool)
+      → document_of text ≡ (if too_long then Err OutOfRange else faultless (parse_document text)) → Tells text
   by_length text true e = inr (OutOfRange, e)
   by_length text false e = by_parse text (parse_document text) e
 

@@ -1,5 +1,7 @@
 -- What a table holds that has no fault.
-use Rattle.std.proofs.Common.{◌≡◌, ◌<◌, ◌≤◌, ◌≤ℤ◌, ℕ, zero, suc, ℤ, pos, negsuc, neg_ℤ, unsigned_abs, Bool, true, false, not, ◌&&◌, ◌||◌, cond, List, [], ◌∷◌, length, get_or, Option, Some, None, is_none, refl, arith}
+use Rattle.std.proofs.Common.{◌≡◌, ◌<◌, ◌≤◌, ◌≤ℤ◌, ℕ, zero, suc, ℤ, pos, negsuc, neg_ℤ, unsigned_abs, Bool, true}
+use Rattle.std.proofs.Common.{false, not, ◌&&◌, ◌||◌, cond, List, [], ◌∷◌, length, get_or, Option, Some, None, is_none}
+use Rattle.std.proofs.Common.{refl, arith}
 use Rattle.std.proofs.lemmas.Int.{ints}
 use Rattle.std.specs.List.{list_any}
 use Rattle.std.specs.Option.{option_map_or}
@@ -8,7 +10,8 @@ use Rattle.toml.specs.Data.{Data, string, integer, float, boolean, datetime, arr
 use Rattle.net_scenario.specs.declared.version.Version.{Version}
 use Rattle.net_scenario.specs.declared.version.Version.TheVariants.{First}
 use Rattle.net_scenario.specs.declared.rules.Kind.TheVariants.{Number, Table}
-use Rattle.net_scenario.specs.Rules.{Rule, needed, has_come, known_in, keys_fault, has_kind, is_in_range, misses, holds_other_kind, holds_out_of_range}
+use Rattle.net_scenario.specs.Rules.{Rule, needed, has_come, known_in, keys_fault, has_kind, is_in_range, misses}
+use Rattle.net_scenario.specs.Rules.{holds_other_kind, holds_out_of_range}
 use Rattle.net_scenario.specs.Document.{HoldsNumber, HoldsTable, integer_at, number_at}
 
 -- a table is faultless at one rule
@@ -17,7 +20,8 @@ pub record Keeps (ms : Members) (r : Rule) : Type 0 where
   pub kind : holds_other_kind ms r ≡ false
   pub range : holds_out_of_range ms r ≡ false
 
-pub passed : {E : Type 0} (b : Bool) (e : E) (rest : Option E) → cond b (Some e) rest ≡ None → (b ≡ false) × (rest ≡ None)
+pub passed : {E : Type 0} (b : Bool) (e : E) (rest : Option E) → cond b (Some e) rest ≡ None → (b ≡ false)
+    × (rest ≡ None)
 passed true e rest h = cc
 passed false e rest h = (refl, h)
 
@@ -30,11 +34,13 @@ both true true h = (refl, refl)
 both true false h = cc
 both false b h = cc
 
-rest_known : {X : Type 0} (b : Bool) (p : X → Bool) (x : X) (xs : List X) → list_any p (cond b (x ∷ xs) xs) ≡ false → list_any p xs ≡ false
+rest_known : {X : Type 0} (b : Bool) (p : X → Bool) (x : X) (xs : List X) → list_any p (cond b (x ∷ xs) xs) ≡ false
+    → list_any p xs ≡ false
 rest_known true p x xs h = (neither (p x) (list_any p xs) h).1
 rest_known false p x xs h = h
 
-first_known : {X : Type 0} (b : Bool) (p : X → Bool) (x : X) (xs : List X) → b ≡ true → list_any p (cond b (x ∷ xs) xs) ≡ false → p x ≡ false
+first_known : {X : Type 0} (b : Bool) (p : X → Bool) (x : X) (xs : List X) → b ≡ true → list_any p (cond b (x ∷ xs) xs)
+    ≡ false → p x ≡ false
 first_known true p x xs e h = (neither (p x) (list_any p xs) h).0
 first_known false p x xs e h = cc
 
@@ -42,14 +48,17 @@ first_known false p x xs e h = cc
 abbrev pub no_rule : Rule
 no_rule = needed First [] Table
 
-none_known : (v : Version) (p : Rule → Bool) (rs : List Rule) (i : ℕ) → i < length rs → has_come (get_or rs i no_rule).since v ≡ true
+none_known : (v : Version) (p : Rule → Bool) (rs : List Rule) (i : ℕ) → i < length rs
+    → has_come (get_or rs i no_rule).since v ≡ true
     → list_any p (known_in v rs) ≡ false → p (get_or rs i no_rule) ≡ false
 none_known v p [] i lt k h = absurd (omega arith)
 none_known v p (r ∷ rs) zero lt k h = first_known (has_come r.since v) p r (known_in v rs) k h
-none_known v p (r ∷ rs) (suc i) lt k h = none_known v p rs i (omega arith) k (rest_known (has_come r.since v) p r (known_in v rs) h)
+none_known v p (r ∷ rs) (suc i) lt k h = none_known v p rs i (omega arith) k
+    (rest_known (has_come r.since v) p r (known_in v rs) h)
 
 -- a table without fault keeps each rule of its version
-pub keeps_all : (v : Version) (rs : List Rule) (ms : Members) → keys_fault (known_in v rs) ms ≡ None → (i : ℕ) → i < length rs
+pub keeps_all : (v : Version) (rs : List Rule) (ms : Members) → keys_fault (known_in v rs) ms ≡ None → (i : ℕ)
+    → i < length rs
     → has_come (get_or rs i no_rule).since v ≡ true → Keeps ms (get_or rs i no_rule)
 unfolding keys_fault
 keeps_all v rs ms h i lt k =
@@ -66,7 +75,8 @@ keeps_all v rs ms h i lt k =
 pub le_of : (a b : ℤ) → le_z a b ≡ true → a ≤ℤ b
 le_of a b h = grind (arith, ints)
 
-held_number : (low high : ℤ) (name : List ℕ) (ms : Members) (o : Option Data) → get_member name ms ≡ o → is_none o ≡ false
+held_number : (low high : ℤ) (name : List ℕ) (ms : Members) (o : Option Data) → get_member name ms ≡ o
+    → is_none o ≡ false
     → option_map_or (λ d. not (has_kind (Number low high) d)) o false ≡ false
     → option_map_or (λ d. not (is_in_range (Number low high) d)) o false ≡ false → HoldsNumber low high name ms
 held_number low high name ms None e a b c = cc
@@ -80,11 +90,13 @@ held_number low high name ms (Some (datetime x)) e a b c = cc
 held_number low high name ms (Some (array x)) e a b c = cc
 held_number low high name ms (Some (table x)) e a b c = cc
 
-pub number_kept : {since : Version} (low high : ℤ) (name : List ℕ) (ms : Members) → Keeps ms (needed since name (Number low high)) → HoldsNumber low high name ms
+pub number_kept : {since : Version} (low high : ℤ) (name : List ℕ) (ms : Members)
+    → Keeps ms (needed since name (Number low high)) → HoldsNumber low high name ms
 number_kept low high name ms k = held_number low high name ms (get_member name ms) refl k.present k.kind k.range
 
 -- a number that is not negative and within 32 bits
-pub natural_kept : {since : Version} (high : ℕ) (name : List ℕ) (ms : Members) → high ≤ 4294967295 → Keeps ms (needed since name (Number (pos 0) (pos high))) → HoldsNumber (pos 0) (pos 4294967295) name ms
+pub natural_kept : {since : Version} (high : ℕ) (name : List ℕ) (ms : Members) → high ≤ 4294967295
+    → Keeps ms (needed since name (Number (pos 0) (pos high))) → HoldsNumber (pos 0) (pos 4294967295) name ms
 natural_kept high name ms fits k =
     let n = number_kept (pos 0) (pos high) name ms k in
     let above = n.above in
@@ -92,7 +104,9 @@ natural_kept high name ms fits k =
     record { value = n.value; held = n.held; above = n.above; below = omega (arith, ints) }
 
 -- a number within 32 bits with a sign
-pub signed_kept : {since : Version} (low high : ℤ) (name : List ℕ) (ms : Members) → negsuc 2147483647 ≤ℤ low → high ≤ℤ pos 2147483647 → Keeps ms (needed since name (Number low high)) → HoldsNumber (negsuc 2147483647) (pos 2147483647) name ms
+pub signed_kept : {since : Version} (low high : ℤ) (name : List ℕ) (ms : Members) → negsuc 2147483647 ≤ℤ low
+    → high ≤ℤ pos 2147483647 → Keeps ms (needed since name (Number low high))
+    → HoldsNumber (negsuc 2147483647) (pos 2147483647) name ms
 signed_kept low high name ms fits-low fits-high k =
     let n = number_kept low high name ms k in
     let above = n.above in
@@ -114,7 +128,8 @@ within_abs : (far : ℕ) (z : ℤ) → neg_ℤ (pos far) ≤ℤ z → z ≤ℤ p
 within_abs far z a b = omega (arith, ints)
 
 -- a number read is within the limits that its key holds
-pub natural_within : (high : ℕ) (name : List ℕ) (ms : Members) (n : ℕ) → HoldsNumber (pos 0) (pos high) name ms → integer_at name ms ≡ Some (pos n) → n ≤ high
+pub natural_within : (high : ℕ) (name : List ℕ) (ms : Members) (n : ℕ) → HoldsNumber (pos 0) (pos high) name ms
+    → integer_at name ms ≡ Some (pos n) → n ≤ high
 natural_within high name ms n h e =
     let held = h.held in
     let below = h.below in
@@ -122,11 +137,13 @@ natural_within high name ms n h e =
     omega (arith, ints)
 
 -- a signed number read is no farther from 0
-pub signed_within : (far : ℕ) (name : List ℕ) (ms : Members) → HoldsNumber (neg_ℤ (pos far)) (pos far) name ms → unsigned_abs (number_at name ms) ≤ far
+pub signed_within : (far : ℕ) (name : List ℕ) (ms : Members) → HoldsNumber (neg_ℤ (pos far)) (pos far) name ms
+    → unsigned_abs (number_at name ms) ≤ far
 signed_within far name ms h =
     let above = h.above in
     let below = h.below in
     rw h.held (within_abs far h.value above below)
 
-pub table_kept : {since : Version} (name : List ℕ) (ms : Members) → Keeps ms (needed since name Table) → HoldsTable name ms
+pub table_kept : {since : Version} (name : List ℕ) (ms : Members) → Keeps ms (needed since name Table)
+    → HoldsTable name ms
 table_kept name ms k = held_table name ms (get_member name ms) refl k.present k.kind

@@ -1,5 +1,7 @@
 -- The motes of a net by their tables.
-use Rattle.std.proofs.Common.{◌≡◌, ◌<◌, ◌≤◌, ◌&&◌, le-leb, lt-ltb, ℕ, suc, List, [], ◌∷◌, map, length, refl, ap, arith, Some, None, cond, ◌∙◌, Bool, true, false, codes, IsTrue, IsSome, is_none, ◌+◌, find, rules}
+use Rattle.std.proofs.Common.{◌≡◌, ◌<◌, ◌≤◌, ◌&&◌, le-leb, lt-ltb, ℕ, suc, List, [], ◌∷◌, map, length, refl, ap, arith}
+use Rattle.std.proofs.Common.{Some, None, cond, ◌∙◌, Bool, true, false, codes, IsTrue, IsSome, is_none, ◌+◌, find}
+use Rattle.std.proofs.Common.{rules}
 use Rattle.std.specs.List.{position_from}
 use Rattle.std.specs.Str.{bytes_eq}
 use Rattle.std.proofs.lemmas.Slice.Eq.{bytes_eq-Decides}
@@ -27,9 +29,11 @@ pub record Found (ps : List NamedProgram) (name : List ℕ) (k i : ℕ) : Type 0
 same_bytes : (xs ys : List ℕ) → bytes_eq xs ys ≡ true → xs ≡ ys
 same_bytes xs ys h = (bytes_eq-Decides xs ys).0 h
 
-found_first : (p : NamedProgram) (ps : List NamedProgram) (name : List ℕ) (k i : ℕ) (b : Bool) → bytes_eq p.name name ≡ b
+found_first : (p : NamedProgram) (ps : List NamedProgram) (name : List ℕ) (k i : ℕ) (b : Bool)
+    → bytes_eq p.name name ≡ b
     → cond b (Some k) (position_from (λ q. bytes_eq q.name name) (k + 1) ps) ≡ Some i
-    → (position_from (λ q. bytes_eq q.name name) (k + 1) ps ≡ Some i → Found ps name (k + 1) i) → Found (p ∷ ps) name k i
+    → (position_from (λ q. bytes_eq q.name name) (k + 1) ps ≡ Some i → Found ps name (k + 1) i)
+    → Found (p ∷ ps) name k i
 found_first p ps name k i true e h more =
     let same : k ≡ i = cc in
     record {
@@ -49,40 +53,49 @@ found_first p ps name k i false e h more =
       named = f.named;
     }
 
-pub found : (ps : List NamedProgram) (name : List ℕ) (k i : ℕ) → position_from (λ q. bytes_eq q.name name) k ps ≡ Some i → Found ps name k i
+pub found : (ps : List NamedProgram) (name : List ℕ) (k i : ℕ) → position_from (λ q. bytes_eq q.name name) k ps
+    ≡ Some i → Found ps name k i
 found [] name k i h = cc
 found (p ∷ ps) name k i h = found_first p ps name k i (bytes_eq p.name name) refl h (found ps name (k + 1) i)
 
 some_first : (p : NamedProgram) (ps : List NamedProgram) (name : List ℕ) (k : ℕ) (b : Bool)
     → is_none (cond b (Some (named_tree p)) (find (λ t. bytes_eq t.name name) (map named_tree ps))) ≡ false
-    → (is_none (find (λ t. bytes_eq t.name name) (map named_tree ps)) ≡ false → IsSome (position_from (λ q. bytes_eq q.name name) (k + 1) ps))
+    → (is_none (find (λ t. bytes_eq t.name name) (map named_tree ps)) ≡ false
+    → IsSome (position_from (λ q. bytes_eq q.name name) (k + 1) ps))
     → IsSome (cond b (Some k) (position_from (λ q. bytes_eq q.name name) (k + 1) ps))
 some_first p ps name k true h more = search rules
 some_first p ps name k false h more = more h
 
-pub some_place : (ps : List NamedProgram) (name : List ℕ) (k : ℕ) → is_none (find (λ t. bytes_eq t.name name) (map named_tree ps)) ≡ false
+pub some_place : (ps : List NamedProgram) (name : List ℕ) (k : ℕ)
+    → is_none (find (λ t. bytes_eq t.name name) (map named_tree ps)) ≡ false
     → IsSome (position_from (λ q. bytes_eq q.name name) k ps)
 some_place [] name k h = cc
 some_place (p ∷ ps) name k h = some_first p ps name k (bytes_eq p.name name) h (some_place ps name (k + 1))
 
 -- the mote of a table, by the index of its program and the length of its queue
-pub mote_is : (ps : List NamedProgram) (queue ms : Members) (name : List ℕ) (i q : ℕ) → name ≡ text_at (codes "program") ms
+pub mote_is : (ps : List NamedProgram) (queue ms : Members) (name : List ℕ) (i q : ℕ)
+    → name ≡ text_at (codes "program") ms
     → position_from (λ q. bytes_eq q.name name) 0 ps ≡ Some i → q ≡ queue_of queue name
     → mote_told ps (record { program = i; queue = q }) ≡ mote_of_table queue (map named_tree ps) ms
 mote_is ps queue ms name i q name-is h queue-is =
     let f = found ps name 0 i h in
     let place : i ≡ f.place = omega (arith, f.is) in
-    let name-at : (program_at ps i).name ≡ text_at (codes "program") ms = ap (λ (k : ℕ). (program_at ps k).name) place ∙ f.named ∙ name-is in
+    let name-at : (program_at ps i).name ≡ text_at (codes "program") ms = ap (λ (k : ℕ). (program_at ps k).name) place
+    ∙ f.named ∙ name-is in
     let tree-at : (program_at ps i).tree ≡ (program_named (map named_tree ps) (text_at (codes "program") ms)).tree =
-    ap (λ (k : ℕ). (program_at ps k).tree) place ∙ ap (λ (t : NamedTree). t.tree) f.program ∙ ap (λ (n : List ℕ). (program_named (map named_tree ps) n).tree) name-is in
-    let queue-at : q ≡ queue_of queue (text_at (codes "program") ms) = queue-is ∙ ap (λ (n : List ℕ). queue_of queue n) name-is in
+    ap (λ (k : ℕ). (program_at ps k).tree) place ∙ ap (λ (t : NamedTree). t.tree) f.program
+    ∙ ap (λ (n : List ℕ). (program_named (map named_tree ps) n).tree) name-is in
+    let queue-at : q ≡ queue_of queue (text_at (codes "program") ms) =
+    queue-is ∙ ap (λ (n : List ℕ). queue_of queue n) name-is in
     rw (name-at, tree-at, queue-at) refl
 
-pub place_within : (ps : List NamedProgram) (name : List ℕ) (i : ℕ) → position_from (λ q. bytes_eq q.name name) 0 ps ≡ Some i → i < length ps
+pub place_within : (ps : List NamedProgram) (name : List ℕ) (i : ℕ) → position_from (λ q. bytes_eq q.name name) 0 ps
+    ≡ Some i → i < length ps
 place_within ps name i h = let f = found ps name 0 i h in omega (arith, f.is, f.within)
 
 -- a program that isn't a fault is found
-pub read_is_found : (ps : List NamedProgram) (ms : Members) (name : List ℕ) → unread_fault (map named_tree ps) ms ≡ None → name ≡ text_at (codes "program") ms
+pub read_is_found : (ps : List NamedProgram) (ms : Members) (name : List ℕ) → unread_fault (map named_tree ps) ms
+    ≡ None → name ≡ text_at (codes "program") ms
     → IsSome (position_from (λ q. bytes_eq q.name name) 0 ps)
 read_is_found ps ms name h name-is =
     some_place ps name 0 (rw name-is (none_cond _ _ h))
@@ -91,5 +104,7 @@ both_true : (a b : Bool) → a ≡ true → b ≡ true → (a && b) ≡ true
 both_true a b x y = rw (x, y) refl
 
 -- a program that is there and a length within the limits
-pub is_mote : (n i q : ℕ) → i < n → shortest_queue ≤ q → q ≤ longest_queue → IsTrue (is_mote_of n (record { program = i; queue = q }))
-is_mote n i q a b c = both_true _ _ (lt-ltb i n a) (both_true _ _ (le-leb shortest_queue q b) (le-leb q longest_queue c))
+pub is_mote : (n i q : ℕ) → i < n → shortest_queue ≤ q → q ≤ longest_queue
+    → IsTrue (is_mote_of n (record { program = i; queue = q }))
+is_mote n i q a b c = both_true _ _ (lt-ltb i n a)
+    (both_true _ _ (le-leb shortest_queue q b) (le-leb q longest_queue c))

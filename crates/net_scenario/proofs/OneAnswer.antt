@@ -1,4 +1,4 @@
--- A text tells at most one net, at most one fault, and never both.
+-- A text has at most one net, at most one fault, and never both.
 use Rattle.std.proofs.Common.{◌≡◌, ℕ, List, [], ◌∷◌, ◌++◌, refl, sym, ap, ◌∙◌, subst, Err}
 use Rattle.toml.specs.Data.{Members}
 use Rattle.program_tree.specs.Code.{Tree}
@@ -7,7 +7,9 @@ use Rattle.program_tree.specs.declared.error.ReadError.{ReadError}
 use Rattle.program_tree.specs.declared.error.ReadErrorKind.{ReadErrorKind}
 use Rattle.radio_medium.specs.declared.error.MediumError.{MediumError}
 use Rattle.net_scenario.specs.declared.error.ScenarioError.{ScenarioError}
-use Rattle.net_scenario.specs.declared.error.ScenarioError.TheVariants.{Toml, MissingKey, UnknownKey, WrongKind, OutOfRange, UnknownProgram, Program, Medium, Memory}
+use Rattle.net_scenario.specs.declared.error.ScenarioError.TheVariants.{Toml, MissingKey, UnknownKey, WrongKind}
+use Rattle.net_scenario.specs.declared.error.ScenarioError.TheVariants.{OutOfRange, UnknownProgram, Program, Medium}
+use Rattle.net_scenario.specs.declared.error.ScenarioError.TheVariants.{Memory}
 use Rattle.mote_net.specs.Programs.{NamedTree}
 use Rattle.net_scenario.specs.Programs.{ProgramText, AllRead, FirstRefused}
 use Rattle.net_scenario.specs.Net.{net_told}
@@ -19,7 +21,8 @@ one_document text d f = let a = d.is in let b = f.is in cc
 
 same_named : (t u : NamedTree) → t.name ≡ u.name → t.tree ≡ u.tree → t ≡ u
 same_named t u n e =
-    ap (λ (k : List ℕ). let r : NamedTree = record { name = k; tree = t.tree } in r) n ∙ ap (λ (k : Tree). let r : NamedTree = record { name = u.name; tree = k } in r) e
+    ap (λ (k : List ℕ). let r : NamedTree = record { name = k; tree = t.tree } in r) n
+    ∙ ap (λ (k : Tree). let r : NamedTree = record { name = u.name; tree = k } in r) e
 
 one_reading : ProgramLaws → (ps : List ProgramText) (ts us : List NamedTree) → AllRead ps ts → AllRead ps us → ts ≡ us
 one_reading laws [] [] [] a b = refl
@@ -33,31 +36,36 @@ one_reading laws (p ∷ ps) (t ∷ ts) (u ∷ us) a b =
     cc
 
 -- a program among those read has a tree
-tree_of_read : (before : List ProgramText) (p : ProgramText) (after : List ProgramText) (ts : List NamedTree) → AllRead (before ++ p ∷ after) ts
+tree_of_read : (before : List ProgramText) (p : ProgramText) (after : List ProgramText) (ts : List NamedTree)
+    → AllRead (before ++ p ∷ after) ts
     → (t : Tree) × IsTreeOf p.text t
 tree_of_read [] p after [] a = absurd a
 tree_of_read [] p after (t ∷ ts) a = (t.tree, a.1)
 tree_of_read (q ∷ before) p after [] a = absurd a
 tree_of_read (q ∷ before) p after (t ∷ ts) a = tree_of_read before p after ts a.2
 
-read_or_refused : ProgramLaws → (ps : List ProgramText) (ts : List NamedTree) (name : List ℕ) (e : ReadError) → AllRead ps ts → FirstRefused ps name e → ⊥
+read_or_refused : ProgramLaws → (ps : List ProgramText) (ts : List NamedTree) (name : List ℕ) (e : ReadError)
+    → AllRead ps ts → FirstRefused ps name e → ⊥
 read_or_refused laws ps ts name e a m =
     let P : List ProgramText → Type 0 = λ qs. AllRead qs ts in
     let t = tree_of_read m.before (record { name = name; text = m.text }) m.after ts (subst P m.split a) in
     laws.never_both m.text t.0 e.kind e.line t.1 m.told
 
 -- the first program with a fault, where those before it have trees, is one program
-one_split : ProgramLaws → (b c : List ProgramText) (p q : ProgramText) (r s : List ProgramText) (ts us : List NamedTree) (k l : ReadErrorKind) (m n : ℕ)
+one_split : ProgramLaws → (b c : List ProgramText) (p q : ProgramText) (r s : List ProgramText)
+    (ts us : List NamedTree) (k l : ReadErrorKind) (m n : ℕ)
     → b ++ p ∷ r ≡ c ++ q ∷ s → AllRead b ts → AllRead c us → IsToldOf p.text k m → IsToldOf q.text l n → p ≡ q
 one_split laws [] [] p q r s ts us k l m n e a d x y = cc
 one_split laws [] (v ∷ c) p q r s ts [] k l m n e a d x y = absurd d
 one_split laws [] (v ∷ c) p q r s ts (u ∷ us) k l m n e a d x y =
     let same : v ≡ p = cc in
-    absurd (laws.never_both p.text u.tree k m (let P : ProgramText → Type 0 = λ w. IsTreeOf w.text u.tree in subst P same d.1) x)
+    absurd (laws.never_both p.text u.tree k m (let P : ProgramText → Type 0 = λ w. IsTreeOf w.text u.tree in
+    subst P same d.1) x)
 one_split laws (v ∷ b) [] p q r s [] us k l m n e a d x y = absurd a
 one_split laws (v ∷ b) [] p q r s (t ∷ ts) us k l m n e a d x y =
     let same : v ≡ q = cc in
-    absurd (laws.never_both q.text t.tree l n (let P : ProgramText → Type 0 = λ w. IsTreeOf w.text t.tree in subst P same a.1) y)
+    absurd (laws.never_both q.text t.tree l n (let P : ProgramText → Type 0 = λ w. IsTreeOf w.text t.tree in
+    subst P same a.1) y)
 one_split laws (v ∷ b) (w ∷ c) p q r s [] us k l m n e a d x y = absurd a
 one_split laws (v ∷ b) (w ∷ c) p q r s (t ∷ ts) [] k l m n e a d x y = absurd d
 one_split laws (v ∷ b) (w ∷ c) p q r s (t ∷ ts) (u ∷ us) k l m n e a d x y =
@@ -66,12 +74,15 @@ one_split laws (v ∷ b) (w ∷ c) p q r s (t ∷ ts) (u ∷ us) k l m n e a d x
 
 same_error : (d e : ReadError) → d.kind ≡ e.kind → d.line ≡ e.line → d ≡ e
 same_error d e k l =
-    ap (λ (x : ReadErrorKind). let r : ReadError = record { kind = x; line = d.line } in r) k ∙ ap (λ (x : ℕ). let r : ReadError = record { kind = e.kind; line = x } in r) l
+    ap (λ (x : ReadErrorKind). let r : ReadError = record { kind = x; line = d.line } in r) k
+    ∙ ap (λ (x : ℕ). let r : ReadError = record { kind = e.kind; line = x } in r) l
 
-one_refused : ProgramLaws → (ps : List ProgramText) (m n : List ℕ) (d e : ReadError) → FirstRefused ps m d → FirstRefused ps n e → (m ≡ n) × (d ≡ e)
+one_refused : ProgramLaws → (ps : List ProgramText) (m n : List ℕ) (d e : ReadError) → FirstRefused ps m d
+    → FirstRefused ps n e → (m ≡ n) × (d ≡ e)
 one_refused laws ps m n d e x y =
     let same : record { name = m; text = x.text } ≡ record { name = n; text = y.text } =
-    one_split laws x.before y.before (record { name = m; text = x.text }) (record { name = n; text = y.text }) x.after y.after x.trees y.trees d.kind e.kind d.line e.line
+    one_split laws x.before y.before (record { name = m; text = x.text }) (record { name = n; text = y.text }) x.after
+    y.after x.trees y.trees d.kind e.kind d.line e.line
     (sym x.split ∙ y.split) x.read y.read x.told y.told in
     let name : m ≡ n = ap (λ (p : ProgramText). p.name) same in
     let text : x.text ≡ y.text = ap (λ (p : ProgramText). p.text) same in
@@ -117,7 +128,8 @@ of_tables text e WrongKind a b = cc
 of_tables text e OutOfRange a b = cc
 of_tables text e UnknownProgram a b = cc
 
-of_medium : ProgramLaws → (text : List ℕ) (m : MediumError) (f : ScenarioError) → TellsFault text (Medium m) → TellsFault text f → Medium m ≡ f
+of_medium : ProgramLaws → (text : List ℕ) (m : MediumError) (f : ScenarioError) → TellsFault text (Medium m)
+    → TellsFault text f → Medium m ≡ f
 of_medium laws text m (Program name x) a b =
     let P : Members → Type 0 = λ t. IsRefusedProgramOf t name x in
     absurd (read_or_refused laws _ _ _ x a.1.programs.read (subst P (one_document text b.0 a.0) b.1))

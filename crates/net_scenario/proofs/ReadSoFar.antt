@@ -4,7 +4,9 @@ use Rattle.std.proofs.lemmas.List.{map-append}
 use Rattle.program_tree.specs.Reading.{IsTreeOf}
 use Rattle.mote_net.specs.declared.programs.NamedProgram.{NamedProgram}
 use Rattle.net_scenario.specs.declared.error.ScenarioError.{ScenarioError}
-use Rattle.net_scenario.specs.declared.error.ScenarioError.TheVariants.{Toml, MissingKey, UnknownKey, WrongKind, OutOfRange, UnknownProgram, Program, Medium, Memory}
+use Rattle.net_scenario.specs.declared.error.ScenarioError.TheVariants.{Toml, MissingKey, UnknownKey, WrongKind}
+use Rattle.net_scenario.specs.declared.error.ScenarioError.TheVariants.{OutOfRange, UnknownProgram, Program, Medium}
+use Rattle.net_scenario.specs.declared.error.ScenarioError.TheVariants.{Memory}
 use Rattle.mote_net.specs.Programs.{NamedTree, named_tree}
 use Rattle.net_scenario.specs.Programs.{ProgramText, AllRead, ReadsProgram, ReadsPrograms}
 
@@ -17,19 +19,23 @@ pub record ReadSoFar (texts : List ProgramText) (trees : List NamedTree) (rest :
 pub read_none : (texts : List ProgramText) → ReadSoFar texts [] texts
 read_none texts = record { before = []; split = refl; read = tt }
 
-all_read-push : (ps : List ProgramText) (ts : List NamedTree) (p : ProgramText) (t : NamedTree) → AllRead ps ts → t.name ≡ p.name → IsTreeOf p.text t.tree
+all_read-push : (ps : List ProgramText) (ts : List NamedTree) (p : ProgramText) (t : NamedTree) → AllRead ps ts
+    → t.name ≡ p.name → IsTreeOf p.text t.tree
     → AllRead (ps ++ p ∷ []) (ts ++ t ∷ [])
 all_read-push [] [] p t h n r = (n, r, tt)
 all_read-push [] (u ∷ ts) p t h n r = absurd h
 all_read-push (q ∷ ps) [] p t h n r = absurd h
 all_read-push (q ∷ ps) (u ∷ ts) p t h n r = (h.0, h.1, all_read-push ps ts p t h.2 n r)
 
-pub read_one : (texts : List ProgramText) (qs : List NamedProgram) (p : ProgramText) (rest : List ProgramText) (q : NamedProgram)
-    → ReadSoFar texts (map named_tree qs) (p ∷ rest) → ReadsProgram p (Ok q) → ReadSoFar texts (map named_tree (qs ++ q ∷ [])) rest
+pub read_one : (texts : List ProgramText) (qs : List NamedProgram) (p : ProgramText) (rest : List ProgramText)
+    (q : NamedProgram)
+    → ReadSoFar texts (map named_tree qs) (p ∷ rest) → ReadsProgram p (Ok q)
+    → ReadSoFar texts (map named_tree (qs ++ q ∷ [])) rest
 read_one texts qs p rest q s r = record {
   before = s.before ++ p ∷ [];
   split = s.split ∙ sym (append_assoc s.before (p ∷ []) rest);
-  read = rw (map-append named_tree qs (q ∷ [])) (all_read-push s.before (map named_tree qs) p (named_tree q) s.read r.0 r.1);
+  read = rw (map-append named_tree qs (q ∷ [])) (all_read-push s.before (map named_tree qs) p (named_tree q) s.read r.0
+      r.1);
 }
 
 pub read_all : (texts : List ProgramText) (ts : List NamedTree) → ReadSoFar texts ts [] → AllRead texts ts
@@ -37,7 +43,8 @@ read_all texts ts s =
     let same : texts ≡ s.before = s.split ∙ append-nil s.before in
     rw same s.read
 
-pub read_failed : (texts : List ProgramText) (ts : List NamedTree) (p : ProgramText) (rest : List ProgramText) (e : ScenarioError)
+pub read_failed : (texts : List ProgramText) (ts : List NamedTree) (p : ProgramText) (rest : List ProgramText)
+    (e : ScenarioError)
     → ReadSoFar texts ts (p ∷ rest) → ReadsProgram p (Err e) → ReadsPrograms texts (Err e)
 read_failed texts ts p rest (Program name e) s r = record {
   before = s.before;

@@ -1,5 +1,6 @@
--- What a text tells, from what its document makes.
-use Rattle.std.proofs.Common.{◌≡◌, ◌≤◌, ℕ, List, length, map, codes, ℤ, pos, Bool, unwrap_or, nat_lt, false, lit<, refl, sym, ap, ◌∙◌, arith, Result, Ok, Err, Option, Some, None}
+-- What a text describes, from what its document makes.
+use Rattle.std.proofs.Common.{◌≡◌, ◌≤◌, ℕ, List, length, map, codes, ℤ, pos, Bool, unwrap_or, nat_lt, false, lit<}
+use Rattle.std.proofs.Common.{refl, sym, ap, ◌∙◌, arith, Result, Ok, Err, Option, Some, None}
 use Rattle.std.proofs.lemmas.Bool.Decides.{nat_tests}
 use Rattle.std.proofs.lemmas.List.{length-map}
 use Rattle.toml.specs.Data.{Members}
@@ -15,19 +16,23 @@ use Rattle.net_scenario.proofs.Members.{tables_kept, tables_asked}
 use Rattle.radio_medium.specs.declared.error.MediumError.{MediumError}
 use Rattle.radio_medium.specs.declared.error.MediumError.TheVariants as medium
 use Rattle.net_scenario.specs.declared.error.ScenarioError.{ScenarioError}
-use Rattle.net_scenario.specs.declared.error.ScenarioError.TheVariants.{Toml, MissingKey, UnknownKey, WrongKind, OutOfRange, UnknownProgram, Program, Medium, Memory}
+use Rattle.net_scenario.specs.declared.error.ScenarioError.TheVariants.{Toml, MissingKey, UnknownKey, WrongKind}
+use Rattle.net_scenario.specs.declared.error.ScenarioError.TheVariants.{OutOfRange, UnknownProgram, Program, Medium}
+use Rattle.net_scenario.specs.declared.error.ScenarioError.TheVariants.{Memory}
 use Rattle.mote_net.specs.declared.net.Net.{Net}
 use Rattle.mote_net.specs.declared.programs.NamedProgram.{NamedProgram}
 use Rattle.net_scenario.specs.Errors.{of_medium}
-use Rattle.net_scenario.specs.Document.{version_of, natural, integer_at, natural_at, boolean_at, table_at, tables_at, document_fault}
+use Rattle.net_scenario.specs.Document.{version_of, natural, integer_at, natural_at, boolean_at, table_at, tables_at}
+use Rattle.net_scenario.specs.Document.{document_fault}
 use Rattle.mote_net.specs.Programs.{named_tree}
 use Rattle.net_scenario.specs.Programs.{texts_of, AllRead, ReadsPrograms}
 use Rattle.mote_net.specs.Net.{MoteTold, mote_told}
 use Rattle.net_scenario.specs.Net.{mote_of_table, place_told, radio_told}
 use Rattle.net_scenario.specs.Reading.{document_of, HasTrees, IsNetOf, MakesRadio, MakesNet, Answers}
 
--- a document makes what its text tells
-pub answered : (text : List ℕ) (top : Members) (r : Result Net ScenarioError) → document_of text ≡ Ok top → MakesNet top r → Answers text r
+-- a document makes what its text describes
+pub answered : (text : List ℕ) (top : Members) (r : Result Net ScenarioError) → document_of text ≡ Ok top
+    → MakesNet top r → Answers text r
 answered text top (Ok net) is m = (record { top = top; is = is }, m)
 answered text top (Err (Program name e)) is m = (record { top = top; is = is }, m)
 answered text top (Err (Medium e)) is m = (record { top = top; is = is }, m)
@@ -40,7 +45,8 @@ answered text top (Err OutOfRange) is m = absurd m
 answered text top (Err UnknownProgram) is m = absurd m
 
 -- a program that isn't read
-pub refused : (top : Members) (e : ScenarioError) → ReadsPrograms (texts_of (table_at (codes "programs") top)) (Err e) → MakesNet top (Err e)
+pub refused : (top : Members) (e : ScenarioError) → ReadsPrograms (texts_of (table_at (codes "programs") top)) (Err e)
+    → MakesNet top (Err e)
 refused top (Program name e) m = m
 refused top Memory m = tt
 refused top (Medium e) m = absurd m
@@ -52,7 +58,8 @@ refused top OutOfRange m = absurd m
 refused top UnknownProgram m = absurd m
 
 -- a medium that isn't made
-pub no_medium : (top : Members) (e : ScenarioError) (programs : HasTrees top) → MakesRadio (radio_told top) (Err e) → MakesNet top (Err e)
+pub no_medium : (top : Members) (e : ScenarioError) (programs : HasTrees top) → MakesRadio (radio_told top) (Err e)
+    → MakesNet top (Err e)
 no_medium top (Program name e) programs m = absurd m
 no_medium top Memory programs m = tt
 no_medium top (Medium e) programs m = record { programs = programs; medium = m }
@@ -71,7 +78,8 @@ as_told radio medium.ZeroPer m = m
 as_told radio medium.BadLoss m = m
 
 -- a text short enough, that is TOML with a table without fault, has that document
-pub document_is : (text : List ℕ) (top : Members) → length text ≤ longest_text → parse_document text ≡ Some top → document_fault top ≡ None → document_of text ≡ Ok top
+pub document_is : (text : List ℕ) (top : Members) → length text ≤ longest_text → parse_document text ≡ Some top
+    → document_fault top ≡ None → document_of text ≡ Ok top
 document_is text top short parsed faultless =
     let fits : nat_lt longest_text (length text) ≡ false = grind (arith, nat_tests) in
     rw (fits, parsed, faultless) refl
@@ -82,10 +90,12 @@ pub made : (top : Members) (e : ℕ) (flag : Bool) (radio : Radio) (ps : List Na
     → integer_at (codes "end") top ≡ Some (pos e)
     → flag ≡ boolean_at (codes "collide") (table_at (codes "medium") top)
     → MakesRadio (radio_told top) (Ok radio)
-    → map (mote_told ps) ms ≡ map (mote_of_table (table_at (codes "queue") top) (map named_tree ps)) (tables_at (codes "mote") top)
+    → map (mote_told ps) ms ≡ map (mote_of_table (table_at (codes "queue") top) (map named_tree ps))
+    (tables_at (codes "mote") top)
     → IsNetOf top (record { end = e; collide = flag; radio = radio; motes = map (mote_told ps) ms })
 made top e flag radio ps ms read end-is flag-is radio-is motes-are =
-    let same-end : e ≡ natural_at (codes "end") top = sym (ap (λ (o : Option ℤ). natural (unwrap_or o (pos 0))) end-is) in
+    let same-end : e ≡ natural_at (codes "end") top =
+    sym (ap (λ (o : Option ℤ). natural (unwrap_or o (pos 0))) end-is) in
     let same-radio : radio ≡ radio_told top = radio-is.0 in
     record {
       programs = record { trees = map named_tree ps; read = read };
@@ -95,17 +105,23 @@ made top e flag radio ps ms read end-is flag-is radio-is motes-are =
 
 -- as many motes as there are tables of them
 pub mote_count : (top : Members) (ps : List NamedProgram) (ms : List Mote) (queue : Members)
-    → map (mote_told ps) ms ≡ map (mote_of_table queue (map named_tree ps)) (tables_at (codes "mote") top) → length ms ≡ length (tables_at (codes "mote") top)
+    → map (mote_told ps) ms ≡ map (mote_of_table queue (map named_tree ps)) (tables_at (codes "mote") top)
+    → length ms ≡ length (tables_at (codes "mote") top)
 mote_count top ps ms queue motes-are =
-    sym (length-map ms (mote_told ps)) ∙ ap (λ (l : List MoteTold). length l) motes-are ∙ length-map (tables_at (codes "mote") top) (mote_of_table queue (map named_tree ps))
+    sym (length-map ms (mote_told ps)) ∙ ap (λ (l : List MoteTold). length l) motes-are
+    ∙ length-map (tables_at (codes "mote") top) (mote_of_table queue (map named_tree ps))
 
 -- there are as few and as many motes as the rules allow
 pub few_motes : (top : Members) → Faultless top → length (tables_at (codes "mote") top) ≤ most_motes
-few_motes top f = tables_kept fewest_motes most_motes (codes "mote") top (keeps_all (version_of top) top_rules top f.top 4 (lit< tt) refl)
+few_motes top f = tables_kept fewest_motes most_motes (codes "mote") top
+    (keeps_all (version_of top) top_rules top f.top 4 (lit< tt) refl)
 
 pub some_motes : (top : Members) → Faultless top → fewest_motes ≤ length (tables_at (codes "mote") top)
-some_motes top f = tables_asked fewest_motes most_motes (codes "mote") top (keeps_all (version_of top) top_rules top f.top 4 (lit< tt) refl)
+some_motes top f = tables_asked fewest_motes most_motes (codes "mote") top
+    (keeps_all (version_of top) top_rules top f.top 4 (lit< tt) refl)
 
 -- as many places as motes
-pub place_count : (top : Members) (radio : Radio) → MakesRadio (radio_told top) (Ok radio) → length radio.places ≡ length (tables_at (codes "mote") top)
-place_count top radio made = ap (λ (r : Radio). length r.places) made.0 ∙ length-map (tables_at (codes "mote") top) place_told
+pub place_count : (top : Members) (radio : Radio) → MakesRadio (radio_told top) (Ok radio)
+    → length radio.places ≡ length (tables_at (codes "mote") top)
+place_count top radio made = ap (λ (r : Radio). length r.places) made.0 ∙ length-map (tables_at (codes "mote") top)
+    place_told

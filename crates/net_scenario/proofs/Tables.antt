@@ -1,5 +1,7 @@
 -- Tables and arrays of code beside the data that they stand for.
-use Rattle.std.proofs.Common.{◌≡◌, ℕ, Bool, ◌&&◌, ◌||◌, nat_le, List, [], ◌∷◌, map, length, is_some, is_none, not, cond, true, false, Some, None, BTreeMap, if◌then◌else◌, String, Global, string_bytes, refl, ap, arith}
+use Rattle.std.proofs.Common.{◌≡◌, ℕ, Bool, ◌&&◌, ◌||◌, nat_le, List, [], ◌∷◌, map, length, is_some, is_none, not}
+use Rattle.std.proofs.Common.{cond, true, false, Some, None, BTreeMap, if◌then◌else◌, String, Global, string_bytes}
+use Rattle.std.proofs.Common.{refl, ap, arith}
 use Rattle.std.specs.List.{list_any, list_all}
 use Rattle.std.specs.Map.{keys_of, values_of}
 use Rattle.net_scenario.specs.Limits.{most_programs}
@@ -10,13 +12,17 @@ use Rattle.toml.specs.declared.value.Value.{Value}
 use Rattle.toml.proofs.Views.{Entry}
 use Rattle.net_scenario.specs.declared.version.Version.{Version}
 use Rattle.net_scenario.specs.Document.{queue_fault}
-use Rattle.net_scenario.specs.Rules.{Rule, has_come, known_in, has_kind, is_in_range, rule_of, misses, holds_other_kind, holds_out_of_range, keys_fault, are_tables, items_len, members_any}
+use Rattle.net_scenario.specs.Rules.{Rule, has_come, known_in, has_kind, is_in_range, rule_of, misses}
+use Rattle.net_scenario.specs.Rules.{holds_other_kind, holds_out_of_range, keys_fault, are_tables, items_len}
+use Rattle.net_scenario.specs.Rules.{members_any}
 use Rattle.std.specs.Str.{bytes_eq}
 use Rattle.toml.specs.View.{table_view}
 use Rattle.net_scenario.specs.declared.rules.Key.{Key}
-use Rattle.net_scenario.specs.declared.error.TableFault.TheVariants.{MissingKey, UnknownKey, WrongKind, OutOfRange, UnknownProgram}
+use Rattle.net_scenario.specs.declared.error.TableFault.TheVariants.{MissingKey, UnknownKey, WrongKind, OutOfRange}
+use Rattle.net_scenario.specs.declared.error.TableFault.TheVariants.{UnknownProgram}
 
-pub list_any_map : {X Y : Type 0} (p : Y → Bool) (f : X → Y) (xs : List X) → list_any p (map f xs) ≡ list_any (λ x. p (f x)) xs
+pub list_any_map : {X Y : Type 0} (p : Y → Bool) (f : X → Y) (xs : List X)
+    → list_any p (map f xs) ≡ list_any (λ x. p (f x)) xs
 list_any_map p f [] = refl
 list_any_map p f (x ∷ xs) = ap (λ b. p (f x) || b) (list_any_map p f xs)
 
@@ -28,7 +34,8 @@ pub items_len_view : (vs : List Value) → items_len (items_view vs) ≡ length 
 items_len_view [] = refl
 items_len_view (v ∷ vs) = omega (arith, items_len_view vs)
 
-pub members_any_view : (p : List ℕ → Bool) (es : List Entry) → members_any p (members_view es) ≡ list_any (λ k. p (string_bytes k)) (keys_of es)
+pub members_any_view : (p : List ℕ → Bool) (es : List Entry) → members_any p (members_view es)
+    ≡ list_any (λ k. p (string_bytes k)) (keys_of es)
 members_any_view p [] = refl
 members_any_view p (e ∷ es) = ap (λ b. p (string_bytes e.0) || b) (members_any_view p es)
 
@@ -38,21 +45,28 @@ known_first true c r rs p rest e h = rw (e, h) refl
 known_first false c r rs p rest e h = h
 
 -- a test of the rules that a version has
-pub list_any_known : (version : Version) (p : Rule → Bool) (ks : List Key) → list_any p (known_in version (map rule_of ks)) ≡ list_any (λ k. has_come k.since version && p (rule_of k)) ks
+pub list_any_known : (version : Version) (p : Rule → Bool) (ks : List Key)
+    → list_any p (known_in version (map rule_of ks)) ≡ list_any (λ k. has_come k.since version && p (rule_of k)) ks
 list_any_known version p [] = refl
-list_any_known version p (k ∷ ks) = known_first (has_come k.since version) (p (rule_of k)) (rule_of k) _ p _ refl (list_any_known version p ks)
+list_any_known version p (k ∷ ks) = known_first (has_come k.since version) (p (rule_of k)) (rule_of k) _ p _ refl
+    (list_any_known version p ks)
 
 -- the fault of a table, by the tests that the code makes
-pub keys_fault_of : (version : Version) (ks : List Key) (m : BTreeMap (String Global) Value) → keys_fault (known_in version (map rule_of ks)) (table_view m) ≡
+pub keys_fault_of : (version : Version) (ks : List Key) (m : BTreeMap (String Global) Value)
+    → keys_fault (known_in version (map rule_of ks)) (table_view m) ≡
     (if list_any (λ k. has_come k.since version && misses (table_view m) (rule_of k)) ks then Some MissingKey
-    else if list_any (λ n. not (list_any (λ k. has_come k.since version && bytes_eq k.name.now (string_bytes n)) ks)) (keys_of m.entries) then Some UnknownKey
-    else if list_any (λ k. has_come k.since version && holds_other_kind (table_view m) (rule_of k)) ks then Some WrongKind
-    else if list_any (λ k. has_come k.since version && holds_out_of_range (table_view m) (rule_of k)) ks then Some OutOfRange
+    else if list_any (λ n. not (list_any (λ k. has_come k.since version && bytes_eq k.name.now (string_bytes n)) ks))
+    (keys_of m.entries) then Some UnknownKey
+    else if list_any (λ k. has_come k.since version && holds_other_kind (table_view m) (rule_of k)) ks then
+    Some WrongKind
+    else if list_any (λ k. has_come k.since version && holds_out_of_range (table_view m) (rule_of k)) ks then
+    Some OutOfRange
     else None)
 unfolding keys_fault
 keys_fault_of version ks m = simp (list_any_known, members_any_view)
 
-pub values_any_view : (p : Data → Bool) (es : List Entry) → values_any p (members_view es) ≡ list_any (λ v. p (view v)) (values_of es)
+pub values_any_view : (p : Data → Bool) (es : List Entry) → values_any p (members_view es) ≡ list_any (λ v. p (view v))
+    (values_of es)
 values_any_view p [] = refl
 values_any_view p (e ∷ es) = ap (λ b. p (view e.1) || b) (values_any_view p es)
 
@@ -83,5 +97,6 @@ lengths_fault_of_none = refl
 
 -- the fault of the names of lengths, by the test that the code makes
 pub queue_fault_of : (programs : Members) (m : BTreeMap (String Global) Value) → queue_fault programs (table_view m) ≡
-    (if list_any (λ k. is_none (get_member (string_bytes k) programs)) (keys_of m.entries) then Some UnknownProgram else None)
+    (if list_any (λ k. is_none (get_member (string_bytes k) programs)) (keys_of m.entries) then
+    Some UnknownProgram else None)
 queue_fault_of programs m = simp (members_any_view)

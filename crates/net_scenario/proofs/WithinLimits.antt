@@ -1,5 +1,6 @@
 -- A document without fault keeps the limits of the medium.
-use Rattle.std.proofs.Common.{◌≡◌, ◌≤◌, ℕ, List, [], ◌∷◌, map, codes, refl, sym, ap, ℤ, pos, neg_ℤ, unsigned_abs, unwrap_or, Option, Some, None, lit<, All, zero, suc, arith}
+use Rattle.std.proofs.Common.{◌≡◌, ◌≤◌, ℕ, List, [], ◌∷◌, map, codes, refl, sym, ap, ℤ, pos, neg_ℤ, unsigned_abs}
+use Rattle.std.proofs.Common.{unwrap_or, Option, Some, None, lit<, All, zero, suc, arith}
 use Rattle.std.proofs.lemmas.List.{length-map}
 use Rattle.toml.specs.Data.{Members}
 use Rattle.radio_medium.specs.Medium.{IsWithinLimits}
@@ -18,8 +19,10 @@ IsNear p = (unsigned_abs p.x ≤ 30000) × (unsigned_abs p.y ≤ 30000)
 
 near : (ms : Members) → keys_fault mote_rules ms ≡ None → IsNear (place_told ms)
 near ms h = (
-  signed_within 30000 (codes "x") ms (number_kept (neg_ℤ (pos 30000)) (pos 30000) _ _ (keeps_all First mote_rules ms h 0 (lit< tt) refl)),
-  signed_within 30000 (codes "y") ms (number_kept (neg_ℤ (pos 30000)) (pos 30000) _ _ (keeps_all First mote_rules ms h 1 (lit< tt) refl)),
+  signed_within 30000 (codes "x") ms (number_kept (neg_ℤ (pos 30000))
+      (pos 30000) _ _ (keeps_all First mote_rules ms h 0 (lit< tt) refl)),
+  signed_within 30000 (codes "y") ms (number_kept (neg_ℤ (pos 30000))
+      (pos 30000) _ _ (keeps_all First mote_rules ms h 1 (lit< tt) refl)),
 )
 
 -- no place is farther than a coordinate may be
@@ -33,16 +36,29 @@ pub same_radio : (top : Members) (range base per : ℕ)
     → integer_at (codes "range") (table_at (codes "medium") top) ≡ Some (pos range)
     → integer_at (codes "base") (table_at (codes "medium") top) ≡ Some (pos base)
     → integer_at (codes "per") (table_at (codes "medium") top) ≡ Some (pos per)
-    → record { places = map place_told (tables_at (codes "mote") top); range = range; base = base; per = per; losses = map loss_of (tables_at (codes "loss") top) } ≡ radio_told top
+    → record {
+      places = map place_told (tables_at (codes "mote") top);
+      range = range;
+      base = base;
+      per = per;
+      losses = map loss_of (tables_at (codes "loss") top);
+    } ≡ radio_told top
 same_radio top range base per a b c =
-    let same : (o : Option ℤ) (n : ℕ) → o ≡ Some (pos n) → n ≡ natural (unwrap_or o (pos 0)) = λ o n e. sym (ap (λ (p : Option ℤ). natural (unwrap_or p (pos 0))) e) in
+    let same : (o : Option ℤ) (n : ℕ) → o ≡ Some (pos n) → n ≡ natural (unwrap_or o (pos 0)) =
+    λ o n e. sym (ap (λ (p : Option ℤ). natural (unwrap_or p (pos 0))) e) in
     rw (same _ _ a, same _ _ b, same _ _ c) refl
 
 pub within_limits : (top : Members) → Faultless top → (range base per : ℕ)
     → integer_at (codes "range") (table_at (codes "medium") top) ≡ Some (pos range)
     → integer_at (codes "base") (table_at (codes "medium") top) ≡ Some (pos base)
     → integer_at (codes "per") (table_at (codes "medium") top) ≡ Some (pos per)
-    → IsWithinLimits (record { places = map place_told (tables_at (codes "mote") top); range = range; base = base; per = per; losses = map loss_of (tables_at (codes "loss") top) })
+    → IsWithinLimits (record {
+      places = map place_told (tables_at (codes "mote") top);
+      range = range;
+      base = base;
+      per = per;
+      losses = map loss_of (tables_at (codes "loss") top);
+    })
 within_limits top f range base per a b c =
     let medium = table_at (codes "medium") top in
     let few = few_motes top f in
@@ -50,10 +66,17 @@ within_limits top f range base per a b c =
     record {
       motes = omega (arith, few, as_many);
       places = all_near (tables_at (codes "mote") top) f.motes;
-      range = natural_within 100000 (codes "range") medium range (number_kept (pos 0) (pos 100000) _ _ (keeps_all (version_of top) medium_rules medium f.medium 0 (lit< tt) refl)) a;
-      base = natural_within 1000000 (codes "base") medium base (number_kept (pos 0) (pos 1000000) _ _ (keeps_all (version_of top) medium_rules medium f.medium 1 (lit< tt) refl)) b;
-      per = natural_within 1000000 (codes "per") medium per (number_kept (pos 0) (pos 1000000) _ _ (keeps_all (version_of top) medium_rules medium f.medium 2 (lit< tt) refl)) c;
+      range = natural_within 100000 (codes "range") medium range
+          (number_kept (pos 0) (pos 100000) _ _ (keeps_all (version_of top) medium_rules medium f.medium 0 (lit< tt)
+          refl)) a;
+      base = natural_within 1000000 (codes "base") medium base
+          (number_kept (pos 0) (pos 1000000) _ _ (keeps_all (version_of top) medium_rules medium f.medium 1 (lit< tt)
+          refl)) b;
+      per = natural_within 1000000 (codes "per") medium per
+          (number_kept (pos 0) (pos 1000000) _ _ (keeps_all (version_of top) medium_rules medium f.medium 2 (lit< tt)
+          refl)) c;
     }
 
 pub early_end : (top : Members) → Faultless top → (n : ℕ) → integer_at (codes "end") top ≡ Some (pos n) → n ≤ latest_end
-early_end top f n e = natural_within latest_end (codes "end") top n (number_kept (pos 0) (pos latest_end) _ _ (keeps_all (version_of top) top_rules top f.top 1 (lit< tt) refl)) e
+early_end top f n e = natural_within latest_end (codes "end") top n
+    (number_kept (pos 0) (pos latest_end) _ _ (keeps_all (version_of top) top_rules top f.top 1 (lit< tt) refl)) e

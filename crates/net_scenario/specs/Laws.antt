@@ -1,4 +1,4 @@
--- What a text tells: one net or one fault, and never both.
+-- What a text describes: one net or one fault, and never both.
 use Rattle.std.specs.Prelude.{◌≡◌, ◌⊎◌, ℕ, List}
 use Rattle.program_tree.specs.Code.{Tree}
 use Rattle.program_tree.specs.Reading.{IsTreeOf, IsToldOf}
@@ -20,7 +20,7 @@ OneNet = (text : List ℕ) (m n : NetTold) → TellsNet text m → TellsNet text
 abbrev pub NeverBoth : Type 0
 NeverBoth = (text : List ℕ) (n : NetTold) (e : ScenarioError) → TellsNet text n → TellsFault text e → ⊥
 
--- and each tells one of them
+-- and each has one of them
 abbrev pub NetOrFault : Type 0
 NetOrFault = (text : List ℕ) → ((n : NetTold) × TellsNet text n) ⊎ ((e : ScenarioError) × TellsFault text e)
 

@@ -1,4 +1,4 @@
--- Scenarios: what a text tells.
+-- Scenarios: what a text describes.
 pub mod Document
 pub mod Errors
 pub mod Laws

@@ -33,7 +33,7 @@ AllRead [] [] = Unit {0}
 AllRead (p ∷ ps) (t ∷ ts) = (t.name ≡ p.name) × IsTreeOf p.text t.tree × AllRead ps ts
 AllRead _ _ = ⊥
 
--- the first program that isn't read: those before it are, and the error is the one told of its text
+-- the first program that isn't read: those before it are, and the error is the one reported for its text
 pub record FirstRefused (programs : List ProgramText) (name : List ℕ) (error : ReadError) : Type 0 where
   pub before : List ProgramText
   pub text : List ℕ
@@ -43,14 +43,14 @@ pub record FirstRefused (programs : List ProgramText) (name : List ℕ) (error :
   pub read : AllRead before trees
   pub told : IsToldOf text error.kind error.line
 
--- all programs are read, or the first that isn't is told, unless memory ran out
+-- all programs are read, or the first that isn't is reported, unless an allocation failed
 abbrev pub ReadsPrograms : List ProgramText → Result (Vec NamedProgram Global) ScenarioError → Type 0
 ReadsPrograms texts (Ok v) = AllRead texts (map named_tree v.items)
 ReadsPrograms texts (Err (Program name e)) = FirstRefused texts name e
 ReadsPrograms texts (Err Memory) = Unit {0}
 ReadsPrograms texts (Err e) = ⊥
 
--- one program is read, or told, unless memory ran out
+-- one program is read, or its fault reported, unless an allocation failed
 abbrev pub ReadsProgram : ProgramText → Result NamedProgram ScenarioError → Type 0
 ReadsProgram p (Ok q) = (q.name ≡ p.name) × IsTreeOf p.text (tree_of q.program)
 ReadsProgram p (Err (Program name e)) = (name ≡ p.name) × IsToldOf p.text e.kind e.line

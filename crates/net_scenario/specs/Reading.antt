@@ -1,4 +1,4 @@
--- What a text tells: a net, or its first fault.
+-- What a text describes: a net, or its first fault.
 use Rattle.std.specs.Prelude.{◌≡◌, ℕ, nat_lt, List, length, codes, Option, Some, None, if◌then◌else◌, Result, Ok, Err}
 use Rattle.std.specs.Prelude.{String}
 use Rattle.std.specs.BTreeMap.{BTreeMap}
@@ -57,7 +57,7 @@ pub record IsMediumFaultOf (top : Members) (error : MediumError) : Type 0 where
 abbrev pub IsRefusedProgramOf : Members → List ℕ → ReadError → Type 0
 IsRefusedProgramOf top name error = FirstRefused (texts_of (table_at (codes "programs") top)) name error
 
--- the text tells this net
+-- the text describes this net
 abbrev pub TellsNet : List ℕ → NetTold → Type 0
 TellsNet text net = (d : Document text) × IsNetOf d.top net
 
@@ -90,7 +90,7 @@ MakesNet top (Err (Medium e)) = IsMediumFaultOf top e
 MakesNet top (Err Memory) = Unit {0}
 MakesNet top (Err e) = ⊥
 
--- what may be answered to a text: the net that it tells, its first fault, or out of memory
+-- what may be answered to a text: the net that it describes, its first fault, or out of memory
 abbrev pub Answers : List ℕ → Result Net ScenarioError → Type 0
 Answers text (Ok net) = TellsNet text (net_of net)
 Answers text (Err Memory) = Unit {0}

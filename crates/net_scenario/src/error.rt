@@ -6,7 +6,7 @@ use program_tree::ReadError;
 use radio_medium::MediumError;
 use std::alloc::{AllocError, AllocFailed};
 
-/// A fault of a document's tables. It is told as the scenario's fault of the same name.
+/// A fault of a document's tables. It is reported as the scenario's fault of the same name.
 #[derive(Clone, Copy, Debug, PartialEq, Eq)]
 pub enum TableFault {
     MissingKey,
@@ -16,7 +16,7 @@ pub enum TableFault {
     UnknownProgram,
 }
 
-/// Why a text tells no net: its first fault, or out of memory in any part of the reading.
+/// Why there is no net of a text: its first fault, or an allocation failed in any part of the reading.
 #[derive(Debug, PartialEq, Eq, Drop)]
 pub enum ScenarioError {
     /// The text is no TOML.

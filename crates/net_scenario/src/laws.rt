@@ -1,11 +1,11 @@
-//! Laws of what a text tells, each as the contract of a function that only cites the laws of programs' texts.
+//! Laws of what a text describes, each as the contract of a function that only cites the laws of programs' texts.
 ghost use Rattle.net_scenario.specs.Laws.{OneNet, OneFault, NeverBoth, NetOrFault};
 
 use program_text_laws::laws::{
     at_most_one_fault as at_most_one_program_fault, at_most_one_tree, tree_or_fault,
 };
 
-/// A text tells at most one net.
+/// A text describes at most one net.
 pub fn at_most_one_net()
     ensures { OneNet }
 {
@@ -23,7 +23,7 @@ pub fn at_most_one_fault()
     tree_or_fault();
 }
 
-/// No text tells a net and has a fault.
+/// No text describes a net and has a fault.
 pub fn never_a_net_and_a_fault()
     ensures { NeverBoth }
 {
@@ -32,7 +32,7 @@ pub fn never_a_net_and_a_fault()
     tree_or_fault();
 }
 
-/// Each text tells a net or has a fault.
+/// Each text describes a net or has a fault.
 pub fn a_net_or_a_fault()
     ensures { NetOrFault }
 {

@@ -11,7 +11,7 @@ use program_tree::ReadErrorKind;
 use std::alloc::Global;
 use toml::Table;
 
-/// The program of a text, or the fault told of it.
+/// The program of a text, or its reported error.
 fn read_program(alloc: Global, name: &str, text: &str) -> Result<NamedProgram, ScenarioError>
     ensures { ReadsProgram (record { name = name.now; text = text.now }) result }
 {

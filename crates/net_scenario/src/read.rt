@@ -17,8 +17,8 @@ use radio_medium::Medium;
 use std::alloc::Global;
 use toml::Table;
 
-/// The table of a text.
-fn table_of(alloc: Global, text: &str) -> Result<Table, ScenarioError>
+/// The table of a TOML text.
+fn parse_toml(alloc: Global, text: &str) -> Result<Table, ScenarioError>
     ensures { Parses text.now result }
 {
     match toml::table_from_str(alloc, text) {
@@ -57,16 +57,16 @@ fn net_from(alloc: Global, top: &Table) -> Result<Net, ScenarioError>
     Ok(Net::new(end, collide, medium, programs, motes))
 }
 
-/// The net that a scenario's text tells, or the first fault of the text: its length, its TOML, its tables in order, the
-/// motes' programs, the programs' texts in byte order of their names, and the numbers of the medium. `Memory` may be
-/// answered in place of any of these, only where an allocation failed.
+/// The net that a scenario's text describes, or the first fault of the text: its length, its TOML, its tables in
+/// order, the motes' programs, the programs' texts in byte order of their names, and the numbers of the medium.
+/// `Memory` may be answered in place of any of these, only where an allocation failed.
 pub fn read_scenario(alloc: Global, text: &str) -> Result<Net, ScenarioError>
     ensures { Answers text.now result }
 {
     if text.len() > LONGEST_TEXT {
         return Err(ScenarioError::OutOfRange);
     }
-    let top = table_of(alloc, text)?;
+    let top = parse_toml(alloc, text)?;
     check_document(&top)?;
     net_from(alloc, &top)
 }

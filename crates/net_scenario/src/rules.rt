@@ -60,7 +60,7 @@ const fn optional(since: Version, name: &'static str, kind: Kind) -> Key
     }
 }
 
-/// The keys of a document. The counts of motes and losses are told here, before the tables themselves.
+/// The keys of a document. The counts of motes and losses are checked here, before the tables themselves.
 pub fn top_keys() -> [Key; 7]
     ensures { map rule_of result ≡ top_rules }
 {

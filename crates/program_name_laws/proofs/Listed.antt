@@ -1,12 +1,20 @@
--- The list of what a tree names has each of its names: where two ways to change names agree on the list, they change the tree to the same.
+-- The list of what a tree names has each of its names: where two ways to change names agree on the list, they change
+-- the tree to the same.
 use Rattle.std.proofs.Common.{◌≡◌, List, [], ◌∷◌, ◌++◌, refl, Option, Some, None, option_map}
 use Rattle.std.specs.List.{AllByRecursion}
 use Rattle.std.proofs.lemmas.List.Elements.{recursion_from_All}
 use Rattle.program_tree.specs.EventNames as event
 use Rattle.program_tree.specs.EventNames.{CastEvent, SentEvent, AnyEvent, cast_map, sent_map, any_map}
-use Rattle.program_tree.specs.Tree.{Class, an_event, a_semaphore, a_process, a_variable, a_timer, a_thread, Expression, variable, is, fired, expired, gone, running, count, negation, binary, Action, assign, print, send, wait_until, wait_while, yield_until, spawn, acquire, signal, post, broadcast, synch, poll, start, kill, set, reset, restart_timer, stop, Statement, does, branch, while, Body, end, next, Otherwise, nothing, otherwise, expression_map, action_map, statement_map, body_map, otherwise_map}
+use Rattle.program_tree.specs.Tree.{Class, an_event, a_semaphore, a_process, a_variable, a_timer, a_thread, Expression}
+use Rattle.program_tree.specs.Tree.{variable, is, fired, expired, gone, running, count, negation, binary, Action}
+use Rattle.program_tree.specs.Tree.{assign, print, send, wait_until, wait_while, yield_until, spawn, acquire, signal}
+use Rattle.program_tree.specs.Tree.{post, broadcast, synch, poll, start, kill, set, reset, restart_timer, stop}
+use Rattle.program_tree.specs.Tree.{Statement, does, branch, while, Body, end, next, Otherwise, nothing, otherwise}
+use Rattle.program_tree.specs.Tree.{expression_map, action_map, statement_map, body_map, otherwise_map}
 use Rattle.program_name_laws.specs.Laws.{EachNameIsListed}
-use Rattle.program_name_laws.specs.Named.{named_by_cast, named_by_sent, named_by_any, named_by_expression, named_by_into, named_by_action, named_by_statement, named_by_block, named_by_otherwise}
+use Rattle.program_name_laws.specs.Named.{named_by_cast, named_by_sent, named_by_any, named_by_expression}
+use Rattle.program_name_laws.specs.Named.{named_by_into, named_by_action, named_by_statement, named_by_block}
+use Rattle.program_name_laws.specs.Named.{named_by_otherwise}
 
 left : {X : Type 0} (P : X → Type 0) (xs ys : List X) → AllByRecursion P (xs ++ ys) → AllByRecursion P xs
 left P [] ys h = tt
@@ -67,7 +75,8 @@ module _ {A B : Type 0} (f g : Class → A → B) where
   into_same (Some x) h = let p : f a_variable x ≡ g a_variable x = h.0 in cc p
 
   action_same : (a : Action A) → Agree f g (named_by_action a) → action_map f a ≡ action_map g a
-  action_same (assign x e) h = let p : f a_variable x ≡ g a_variable x = h.0 in let q = expression_same e h.1 in cc (p, q)
+  action_same (assign x e) h = let p : f a_variable x ≡ g a_variable x = h.0 in let q = expression_same e h.1 in
+      cc (p, q)
   action_same (print e) h = let p = expression_same e h in cc p
   action_same (send e) h = let p = expression_same e h in cc p
   action_same (wait_until e) h = let p = expression_same e h in cc p

@@ -1,5 +1,6 @@
 -- Where the names of a block stand for something, its numbers are those of what is declared.
-use Rattle.std.proofs.Common.{◌≡◌, ℕ, ◌+◌, ◌<◌, ◌≤◌, nat_lt, List, [], ◌∷◌, ◌++◌, length, slice_index_or, refl, sym, ap, subst, ◌∙◌, arith, Bool, true, false, Option, Some, None, option_map}
+use Rattle.std.proofs.Common.{◌≡◌, ℕ, ◌+◌, ◌<◌, ◌≤◌, nat_lt, List, [], ◌∷◌, ◌++◌, length, slice_index_or, refl, sym}
+use Rattle.std.proofs.Common.{ap, subst, ◌∙◌, arith, Bool, true, false, Option, Some, None, option_map}
 use Rattle.std.specs.List.{All}
 use Rattle.std.specs.Str.{bytes_eq}
 use Rattle.std.proofs.lemmas.Bool.{ltb-true, ltb-false}
@@ -38,7 +39,8 @@ shifted : (o : Option ℕ) (n i : ℕ) → option_map (λ k. n + k) o ≡ Some i
 shifted None n i e = absurd cc
 shifted (Some j) n i e = (j, refl, cc)
 
-timer_below : (n : Names) (x : Name) (i : ℕ) → look n a_timer x ≡ Some i → (n.first_timer ≤ i) × (i < n.first_timer + length n.timers)
+timer_below : (n : Names) (x : Name) (i : ℕ) → look n a_timer x ≡ Some i → (n.first_timer ≤ i)
+    × (i < n.first_timer + length n.timers)
 timer_below n x i e =
     let q = shifted (place_of n.timers x) n.first_timer i e in
     let below : q.0 < length n.timers = place_below n.timers x q.0 q.1 in
@@ -59,9 +61,11 @@ last_at [] x = refl
 last_at (y ∷ xs) x = last_at xs x
 
 not_same : (x y : Name) → x ≡ y → bytes_eq x y ≡ false → ⊥
-not_same x y e h = let same : bytes_eq x y ≡ true = subst (λ z. bytes_eq x z ≡ true) e (bytes_same x) in absurd (cc (same, h))
+not_same x y e h = let same : bytes_eq x y ≡ true = subst (λ z. bytes_eq x z ≡ true) e (bytes_same x) in
+    absurd (cc (same, h))
 
-not_last : (xs : List Name) (x y : Name) (i : ℕ) → place_of (xs ++ x ∷ []) y ≡ Some i → bytes_eq x y ≡ false → i < length xs
+not_last : (xs : List Name) (x y : Name) (i : ℕ) → place_of (xs ++ x ∷ []) y ≡ Some i → bytes_eq x y ≡ false
+    → i < length xs
 not_last xs x y i e h = go (nat_lt i (length xs)) refl
   where
     below : i < length (xs ++ x ∷ [])
@@ -72,7 +76,8 @@ not_last xs x y i e h = go (nat_lt i (length xs)) refl
     go false is =
         let above : length xs ≤ i = ltb-false _ _ is in
         let last : i ≡ length xs = omega (arith, above, below, length-append xs (x ∷ [])) in
-        absurd (not_same x y (sym (last_at xs x) ∙ ap (λ k. slice_index_or (xs ++ x ∷ []) k []) (sym last) ∙ name_at (xs ++ x ∷ []) y i e) h)
+        absurd (not_same x y (sym (last_at xs x) ∙ ap (λ k. slice_index_or (xs ++ x ∷ []) k []) (sym last)
+        ∙ name_at (xs ++ x ∷ []) y i e) h)
 
 pub counted_before : (n : Names) (x : Name) → Counts (with_new n a_thread x) (Some x) (counts_of n)
 counted_before n x an_event y i f = place_below n.events y i f.found
@@ -82,10 +87,13 @@ counted_before n x a_variable y i f = place_below n.variables y i f.found
 counted_before n x a_timer y i f = timer_below n y i f.found
 counted_before n x a_thread y i f = not_last n.threads x y i f.found f.other
 
-pub numbers_declared : (n n' : Names) (own : Option Name) (d : Declarations) (b : Body Name) → Extends n n' → Counts n own d → All (Stands n own) (named_by_block b) → NamesDeclared d (block_in n' b)
+pub numbers_declared : (n n' : Names) (own : Option Name) (d : Declarations) (b : Body Name) → Extends n n'
+    → Counts n own d → All (Stands n own) (named_by_block b) → NamesDeclared d (block_in n' b)
 numbers_declared n n' own d b more counts h =
     subst (All (λ m. IsOneOf d m.0 m.1)) (sym (block_changed (number_in n') b))
-    (All-map (λ m. IsOneOf d m.0 m.1) (change (number_in n')) (named_by_block b) (All-weaker (Stands n own) (λ m. IsOneOf d m.0 (number_in n' m.0 m.1)) one (named_by_block b) h))
+    (All-map (λ m. IsOneOf d m.0 m.1) (change (number_in n')) (named_by_block b)
+    (All-weaker (Stands n own) (λ m. IsOneOf d m.0 (number_in n' m.0 m.1)) one (named_by_block b) h))
   where
     one : (m : Class × Name) → Stands n own m → IsOneOf d m.0 (number_in n' m.0 m.1)
-    one m s = subst (IsOneOf d m.0) (sym (number_found n' m.0 m.1 s.0 (still_found n n' m.0 m.1 s.0 more s.1.found))) (counts m.0 m.1 s.0 s.1)
+    one m s = subst (IsOneOf d m.0) (sym (number_found n' m.0 m.1 s.0 (still_found n n' m.0 m.1 s.0 more s.1.found)))
+        (counts m.0 m.1 s.0 s.1)

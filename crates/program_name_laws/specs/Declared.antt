@@ -6,7 +6,8 @@ use Rattle.program_tree.specs.Code.{Code, Tree}
 use Rattle.program_tree.specs.Tree.{Class, an_event, a_semaphore, a_process, a_variable, a_timer, a_thread, Body}
 use Rattle.program_name_laws.specs.Named.{named_by_block}
 
--- How many of each class are declared before a block. Timers are numbered through the program, and a block has those of its process.
+-- How many of each class are declared before a block. Timers are numbered through the program, and a block has those
+-- of its process.
 pub record Declarations : Type 0 where
   pub events : ℕ
   pub semaphores : ℕ
@@ -57,7 +58,8 @@ pub record IsDeclaredIn (t : Tree) (c : Code) : Type 0 where
   pub on_exit : ForSome c.on_exit (NamesDeclared (of_process t c))
   pub body : NamesDeclared (of_process t c) c.body
 
--- The names in a program are declared: those in the blocks of each process, those of the processes that start at boot, and that of the one that packets go to.
+-- The names in a program are declared: those in the blocks of each process, those of the processes that start at boot,
+-- and that of the one that packets go to.
 pub record IsDeclared (t : Tree) : Type 0 where
   pub each : (k : ℕ) (c : Code) → slice_get t.codes k ≡ Some c → IsDeclaredIn t c
   pub autostart : All (λ p. p < length t.processes) t.autostart

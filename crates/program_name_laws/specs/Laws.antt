@@ -14,7 +14,9 @@ NamesAreDeclared = (text : List ℕ) (tree : Tree) → IsTreeOf text tree → Is
 abbrev pub DeclarationsAreComplete : Type 0
 DeclarationsAreComplete = (text : List ℕ) (tree : Tree) → IsTreeOf text tree → IsComplete tree
 
--- The list of what a block names leaves out none of its names: where two ways to number names agree on the list, they make the same block.
+-- The list of what a block names leaves out none of its names: where two ways to number names agree on the list, they
+-- make the same block.
 abbrev pub EachNameIsListed : Type 0
 EachNameIsListed =
-    (f g : Class → List ℕ → ℕ) (b : Body (List ℕ)) → All (λ named. f named.0 named.1 ≡ g named.0 named.1) (named_by_block b) → body_map f b ≡ body_map g b
+    (f g : Class → List ℕ → ℕ) (b : Body (List ℕ))
+    → All (λ named. f named.0 named.1 ≡ g named.0 named.1) (named_by_block b) → body_map f b ≡ body_map g b

@@ -1,8 +1,14 @@
--- What each part of a program names: the names, or the numbers that they stand for, each with its class, in the order of the text.
+-- What each part of a program names: the names, or the numbers that they stand for, each with its class, in the order
+-- of the text.
 use Rattle.std.specs.Prelude.{List, [], ◌∷◌, ◌++◌, Option, Some, None}
 use Rattle.program_tree.specs.EventNames as event
 use Rattle.program_tree.specs.EventNames.{CastEvent, SentEvent, AnyEvent}
-use Rattle.program_tree.specs.Tree.{Class, an_event, a_semaphore, a_process, a_variable, a_timer, a_thread, Expression, variable, is, fired, expired, gone, running, count, negation, binary, Action, assign, print, send, wait_until, wait_while, yield, yield_until, spawn, restart, exit, pause, acquire, signal, post, broadcast, synch, poll, start, kill, set, reset, restart_timer, stop, Statement, does, branch, while, Body, end, next, Otherwise, nothing, otherwise}
+use Rattle.program_tree.specs.Tree.{Class, an_event, a_semaphore, a_process, a_variable, a_timer, a_thread, Expression}
+use Rattle.program_tree.specs.Tree.{variable, is, fired, expired, gone, running, count, negation, binary, Action}
+use Rattle.program_tree.specs.Tree.{assign, print, send, wait_until, wait_while, yield, yield_until, spawn, restart}
+use Rattle.program_tree.specs.Tree.{exit, pause, acquire, signal, post, broadcast, synch, poll, start, kill, set}
+use Rattle.program_tree.specs.Tree.{reset, restart_timer, stop, Statement, does, branch, while, Body, end, next}
+use Rattle.program_tree.specs.Tree.{Otherwise, nothing, otherwise}
 
 abbrev pub named_by_cast : {Name : Type 0} → CastEvent Name → List (Class × Name)
 named_by_cast (event.declared x) = (an_event, x) ∷ []
@@ -28,7 +34,7 @@ named_by_expression (negation e) = named_by_expression e
 named_by_expression (binary o a b) = named_by_expression a ++ named_by_expression b
 named_by_expression e = []
 
--- the variable that is told an answer
+-- the variable that gets an answer
 abbrev pub named_by_into : {Name : Type 0} → Option Name → List (Class × Name)
 named_by_into None = []
 named_by_into (Some x) = (a_variable, x) ∷ []

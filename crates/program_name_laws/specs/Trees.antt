@@ -2,7 +2,8 @@
 use Rattle.std.specs.Prelude.{ℕ, true, false, [], ◌∷◌, Some, None, codes}
 use Rattle.program_tree.specs.Code.{Code, Tree}
 use Rattle.program_tree.specs.EventNames as event
-use Rattle.program_tree.specs.Tree.{number, variable, Action, print, broadcast, poll, signal, spawn, reset, does, Body, end, next}
+use Rattle.program_tree.specs.Tree.{number, variable, Action, print, broadcast, poll, signal, spawn, reset, does, Body}
+use Rattle.program_tree.specs.Tree.{end, next}
 use Rattle.program_name_laws.specs.Complete.{IsComplete}
 use Rattle.program_name_laws.specs.Declared.{IsDeclared}
 
@@ -27,7 +28,8 @@ first_code = record {
   body = end;
 }
 
--- the second process: it has a variable, the timers 1 and 2, the latter a callback timer with this block, and a thread with that block
+-- the second process: it has a variable, the timers 1 and 2, the latter a callback timer with this block, and a thread
+-- with that block
 abbrev pub second_code : (callback thread body : Body ℕ) → Code
 second_code callback thread body = record {
   number = 1;
@@ -54,13 +56,16 @@ tree_with callback thread body = record {
   autostart = 1 ∷ [];
   receiver = Some 0;
   codes = first_code ∷ second_code callback thread body ∷ [];
-  timers = record { process = 0; is_callback = false } ∷ record { process = 1; is_callback = false } ∷ record { process = 1; is_callback = true } ∷ [];
+  timers = record { process = 0; is_callback = false } ∷ record { process = 1; is_callback = false }
+      ∷ record { process = 1; is_callback = true } ∷ [];
 }
 
 -- a body that names the last of each class, and both timers
 abbrev pub names_each_class : Body ℕ
 names_each_class =
-    next (does (broadcast (event.declared 0) (number 3) (Some 0))) (next (does (signal 0)) (next (does (poll 1)) (next (does (reset 1)) (next (does (reset 2)) (only (spawn 0))))))
+    next (does (broadcast (event.declared 0) (number 3) (Some 0)))
+    (next (does (signal 0)) (next (does (poll 1))
+    (next (does (reset 1)) (next (does (reset 2)) (only (spawn 0))))))
 
 abbrev pub second_there : Code
 second_there = second_code (only (reset 2)) (only (print (variable 0))) names_each_class
@@ -111,13 +116,16 @@ abbrev pub process_without_code : Tree
 process_without_code = record (tree_with end end end) { codes = first_code ∷ [] }
 
 abbrev pub variable_without_value : Tree
-variable_without_value = record (tree_with end end end) { codes = first_code ∷ record (second_code end end end) { starts = [] } ∷ [] }
+variable_without_value = record (tree_with end end end)
+    { codes = first_code ∷ record (second_code end end end) { starts = [] } ∷ [] }
 
 abbrev pub code_of_another_process : Tree
-code_of_another_process = record (tree_with end end end) { codes = first_code ∷ record (second_code end end end) { number = 0 } ∷ [] }
+code_of_another_process = record (tree_with end end end)
+    { codes = first_code ∷ record (second_code end end end) { number = 0 } ∷ [] }
 
 abbrev pub timer_without_place : Tree
-timer_without_place = record (tree_with end end end) { timers = record { process = 0; is_callback = false } ∷ record { process = 1; is_callback = false } ∷ [] }
+timer_without_place = record (tree_with end end end)
+    { timers = record { process = 0; is_callback = false } ∷ record { process = 1; is_callback = false } ∷ [] }
 
 -- names that are declared, and declarations that are complete
 pub record TreesThatDeclare : Type 0 where

@@ -8,10 +8,11 @@ ghost use Rattle.program_name_laws.specs.Trees.{TreesThatDeclare, TreesThatDoNot
 
 use program_tree::Program;
 
-/// Whatever text has a tree: each variable, process, thread, timer, semaphore and event that the tree names, by its number, is one that is
-/// declared before the block in which it is named; the numbers in `autostart` and of the receiver are those of processes. And each declaration
-/// has what it declares: a variable its first value, a semaphore its first count, a process its code, a callback timer and a thread its
-/// block, and a timer its place among those of the program.
+/// Whatever text has a tree: each variable, process, thread, timer, semaphore and event that the tree names, by its
+/// number, is one that is declared before the block in which it is named; the numbers in `autostart` and of the
+/// receiver are those of processes. And each declaration has what it declares: a variable its first value, a semaphore
+/// its first count, a process its code, a callback timer and a thread its block, and a timer its place among those of
+/// the program.
 pub fn what_a_text_names_is_declared()
     ensures declared { NamesAreDeclared }
     ensures complete { DeclarationsAreComplete }
@@ -23,12 +24,14 @@ pub fn names_are_declared(program: &Program)
     ensures complete { IsComplete (tree_of program.now) }
 {}
 
-/// The list of what a block names leaves out none of its names: where two ways to number names agree on the list, they make the same block.
+/// The list of what a block names leaves out none of its names: where two ways to number names agree on the list, they
+/// make the same block.
 pub fn each_name_is_listed()
     ensures { EachNameIsListed }
 {}
 
-/// Both properties hold of a small tree that names something of each class, and fail at small trees that break one thing each.
+/// Both properties hold of a small tree that names something of each class, and fail at small trees that break one
+/// thing each.
 pub fn trees_are_told_apart()
     ensures whole { TreesThatDeclare }
     ensures undeclared { TreesThatDoNot }

@@ -5,7 +5,8 @@ use Rattle.std.proofs.Props.{props}
 use Rattle.program_tree.specs.Code.{Tree}
 use Rattle.program_tree.specs.EventNames.{CastEvent, SentEvent, AnyEvent}
 use Rattle.program_tree.specs.Faults.{IsProgram}
-use Rattle.program_tree.specs.Reading.{IsTreeOf, IsToldOf, IsOfText, WasRead}
+use Rattle.program_tree.specs.Made.{IsOfText, WasRead}
+use Rattle.program_tree.specs.Reading.{IsTreeOf, IsToldOf}
 use Rattle.program_tree.specs.ShapeOf.{shape_of, tokens_of_tree, text_of_tree}
 use Rattle.program_tree.specs.Tree.{Expression, Action, Body, Expression-set, Body-set}
 use Rattle.program_tree.specs.declared.error.ReadErrorKind.{ReadErrorKind}
@@ -17,10 +18,17 @@ use Rattle.program_text_laws.proofs.Texts.{one_tree, never_both, tree_or_told}
 
 again : (t : Tree) → IsOfText t → IsTreeOf (text_of_tree t) t
 again t w =
-    let program : IsProgram (shape_of t) (tokens_of_tree t) = subst (λ ts. IsProgram (shape_of t) ts) (sym w.program.spelled) w.program in
-    let lexed : AreLexedNames (tokens_of_tree t) = subst AreLexedNames (sym w.program.spelled) (names_lexed w.lexed.text w.tokens w.lexed.lines w.lexed.lexed) in
+    let program : IsProgram (shape_of t) (tokens_of_tree t) =
+    subst (λ ts. IsProgram (shape_of t) ts) (sym w.program.spelled) w.program in
+    let lexed : AreLexedNames (tokens_of_tree t) =
+    subst AreLexedNames (sym w.program.spelled) (names_lexed w.lexed.text w.tokens w.lexed.lines w.lexed.lexed) in
     let own : AreOwn (tokens_of_tree t) = own_tokens (shape_of t) program (program_fair (shape_of t)) lexed in
-    record { tokens = tokens_of_tree t; lines = _; lexed = lexed_again (tokens_of_tree t) own; spelled = record { shape = shape_of t; program = program; numbered = w.numbered } }
+    record {
+      tokens = tokens_of_tree t;
+      lines = _;
+      lexed = lexed_again (tokens_of_tree t) own;
+      spelled = record { shape = shape_of t; program = program; numbered = w.numbered };
+    }
 
 cast_set : IsSet (CastEvent ℕ)
 cast_set = hlevel props

@@ -8,8 +8,13 @@ use Rattle.program_tree.specs.InScope.{Names, name_in}
 use Rattle.program_tree.specs.Program.{code_of, tree_of}
 use Rattle.program_tree.specs.ShapeOf.{names_of_tree, names_of_code, codes_of_tree}
 use Rattle.program_tree.specs.Shapes.{Name, Valued, Named, CodeShape}
-use Rattle.program_tree.specs.Tokens.{Token, Keyword, Semicolon, Comma, Equals, Bang, Open, Close, OpenBrace, CloseBrace, Op, Name as AName, Number}
-use Rattle.program_tree.specs.Tree.{a_process, Expression, number, variable, sender, moment, mote, is, fired, expired, gone, running, count, negation, binary, Action, assign, print, send, wait_until, wait_while, yield, yield_until, spawn, restart, exit, pause, acquire, signal, post, broadcast, synch, poll, start, kill, set, reset, restart_timer, stop, Statement, does, branch, while, Body, end, next, Otherwise, nothing, otherwise}
+use Rattle.program_tree.specs.Tokens.{Token, Keyword, Semicolon, Comma, Equals, Bang, Open, Close, OpenBrace}
+use Rattle.program_tree.specs.Tokens.{CloseBrace, Op, Name as AName, Number}
+use Rattle.program_tree.specs.Tree.{a_process, Expression, number, variable, sender, moment, mote, is, fired, expired}
+use Rattle.program_tree.specs.Tree.{gone, running, count, negation, binary, Action, assign, print, send, wait_until}
+use Rattle.program_tree.specs.Tree.{wait_while, yield, yield_until, spawn, restart, exit, pause, acquire, signal, post}
+use Rattle.program_tree.specs.Tree.{broadcast, synch, poll, start, kill, set, reset, restart_timer, stop, Statement}
+use Rattle.program_tree.specs.Tree.{does, branch, while, Body, end, next, Otherwise, nothing, otherwise}
 use Rattle.program_tree.specs.Tree as tree
 use Rattle.program_tree.specs.declared.keyword.Keyword.{Keyword as KeywordRead}
 use Rattle.program_tree.specs.declared.keyword.Keyword.TheVariants as word
@@ -28,7 +33,7 @@ sent_token e = (sent_mark e).token
 abbrev pub any_token : AnyEvent Name → Token
 any_token e = (any_mark e).token
 
--- a word that tells of something in parentheses
+-- a word that asks about something in parentheses
 abbrev pub telling : KeywordRead → Token → List Token
 telling k t = Keyword k ∷ Open ∷ t ∷ Close ∷ []
 
@@ -52,7 +57,7 @@ abbrev pub into_tokens : Option Name → List Token
 into_tokens None = Semicolon ∷ []
 into_tokens (Some x) = Keyword word.Into ∷ AName x ∷ Semicolon ∷ []
 
--- statements that are a keyword alone, and those with a name or an expression behind it
+-- statements that are a keyword alone, and those with a name or an expression after it
 abbrev pub bare : KeywordRead → List Token
 bare k = Keyword k ∷ Semicolon ∷ []
 
@@ -90,7 +95,8 @@ action_tokens (stop t) = about word.Stop t
 abbrev mutual
   pub statement_tokens : Statement Name → List Token
   statement_tokens (does a) = action_tokens a
-  statement_tokens (branch e a o) = Keyword word.If ∷ (expression_tokens e ++ ((OpenBrace ∷ items_tokens a) ++ else_tokens o))
+  statement_tokens (branch e a o) = Keyword word.If
+      ∷ (expression_tokens e ++ ((OpenBrace ∷ items_tokens a) ++ else_tokens o))
   statement_tokens (while e a) = Keyword word.While ∷ (expression_tokens e ++ (OpenBrace ∷ items_tokens a))
 
   -- the statements of a block, and its closing brace
@@ -126,12 +132,13 @@ declared_tokens c =
     ++ (flat_map (named_tokens word.Ctimer) c.ctimers ++ flat_map (named_tokens word.Thread) c.threads))
 
 abbrev pub runs_tokens : CodeShape → List Token
-runs_tokens c = handler_tokens word.OnPoll c.on_poll ++ (handler_tokens word.OnExit c.on_exit ++ (Keyword word.Body ∷ (block_tokens c.body ++ (CloseBrace ∷ []))))
+runs_tokens c = handler_tokens word.OnPoll c.on_poll
+    ++ (handler_tokens word.OnExit c.on_exit ++ (Keyword word.Body ∷ (block_tokens c.body ++ (CloseBrace ∷ []))))
 
 abbrev pub code_tokens : Name × CodeShape → List Token
 code_tokens p = Keyword word.Code ∷ AName p.0 ∷ OpenBrace ∷ (declared_tokens p.1 ++ runs_tokens p.1)
 
--- a name behind a comma
+-- a name after a comma
 abbrev pub comma_tokens : Name → List Token
 comma_tokens x = Comma ∷ AName x ∷ []
 
@@ -149,12 +156,16 @@ abbrev pub receiver_tokens : Option Name → List Token
 receiver_tokens None = []
 receiver_tokens (Some x) = about word.Receiver x
 
-abbrev pub head_tokens : (events : List Name) → List Valued → (processes autostart : List Name) → Option Name → List Token
+abbrev pub head_tokens : (events : List Name) → List Valued → (processes autostart : List Name) → Option Name
+    → List Token
 head_tokens es ss ps st r =
-    flat_map (listed_tokens word.Event) es ++ (flat_map (valued_tokens word.Semaphore) ss ++ (process_tokens ps ++ (autostart_tokens st ++ receiver_tokens r)))
+    flat_map (listed_tokens word.Event) es ++ (flat_map (valued_tokens word.Semaphore) ss
+    ++ (process_tokens ps ++ (autostart_tokens st ++ receiver_tokens r)))
 
 -- those of a tree
 abbrev pub spelled_tokens : Tree → List Token
 spelled_tokens t =
-    head_tokens t.events (zip t.semaphores t.counts) t.processes (map (name_in (names_of_tree t) a_process) t.autostart) (option_map (name_in (names_of_tree t) a_process) t.receiver)
+    head_tokens t.events (zip t.semaphores t.counts) t.processes
+    (map (name_in (names_of_tree t) a_process) t.autostart)
+    (option_map (name_in (names_of_tree t) a_process) t.receiver)
     ++ flat_map code_tokens (codes_of_tree t)

@@ -1,6 +1,7 @@
 //! The canonical text of tokens, and of a program.
 ghost use Rattle.std.specs.Prelude.{◌≡◌, ◌++◌, ◌+◌, ◌<◌, ◌^◌, map, IfOk, OnOk, string_bytes};
-ghost use Rattle.program_tree.specs.Canonical.{braces_behind, tells, ends_line, stands_close, line_depth, indentation, gap, canonical_text};
+ghost use Rattle.program_tree.specs.Canonical.{braces_behind, tells, ends_line, stands_close, line_depth, indentation};
+ghost use Rattle.program_tree.specs.Canonical.{gap, canonical_text};
 ghost use Rattle.program_tree.specs.Program.{tree_of};
 ghost use Rattle.program_tree.specs.Reading.{IsTreeOf};
 ghost use Rattle.program_tree.specs.ShapeOf.{text_of_tree};
@@ -86,7 +87,8 @@ fn indent(text: &mut String, mut depth: usize) -> Result<(), AllocError>
 
 /// Adds what stands after a token, where so many braces are open.
 fn part(text: &mut String, braces: usize, token: &Token, rest: &[Token]) -> Result<(), AllocError>
-    ensures { OnOk result (string_bytes text.new ≡ string_bytes text.old ++ gap braces (token_of token.now) (map token_of rest.now)) }
+    ensures { OnOk result (string_bytes text.new ≡ string_bytes text.old ++ gap braces (token_of token.now)
+        (map token_of rest.now)) }
 {
     if ends_line(token, rest) {
         text.push_str("\n")?;
@@ -115,9 +117,10 @@ pub(crate) fn print(alloc: Global, mut tokens: &[Token]) -> Result<String, Alloc
 
 /// The canonical text of a program. Reading it gives the same program.
 ///
-/// Tokens are one space apart, but no space stands before `;`, `,` and `)`, after `(` and `!`, and between `is`, `fired`,
-/// `expired`, `gone`, `running` or `count` and its `(`. Each `;`, `{` and `}` ends a line, but `} else {` is one line. A line
-/// is indented by two spaces for each brace that is open. Empty blocks are kept. The text ends with LF.
+/// Tokens are one space apart, but no space stands before `;`, `,` and `)`, after `(` and `!`, and between `is`,
+/// `fired`, `expired`, `gone`, `running` or `count` and its `(`. Each `;`, `{` and `}` ends a line, but `} else {` is
+/// one line. A line is indented by two spaces for each brace that is open. Empty blocks are kept. The text ends with
+/// LF.
 ///
 /// # Errors
 ///

@@ -2,11 +2,15 @@
 ghost use Rattle.std.specs.Prelude.{◌≡◌, ◌-◌, ◌∷◌, ◌++◌, [], map, OnOk, slice_index_or, option_map};
 ghost use Rattle.program_tree.specs.EventNames.{cast_of, sent_of, any_of, cast_map, sent_map, any_map};
 ghost use Rattle.program_tree.specs.InScope.{name_in};
-ghost use Rattle.program_printer.specs.Spelled.{names_in, cast_token, sent_token, any_token, telling, expression_tokens, into_tokens, bare, about, valued, action_tokens, statement_tokens, block_tokens};
+ghost use Rattle.program_printer.specs.Spelled.{names_in, cast_token, sent_token, any_token, telling};
+ghost use Rattle.program_printer.specs.Spelled.{expression_tokens, into_tokens, bare, about, valued, action_tokens};
+ghost use Rattle.program_printer.specs.Spelled.{statement_tokens, block_tokens};
 ghost use Rattle.program_tree.specs.Classes.{class_of};
 ghost use Rattle.program_tree.specs.Tokens as token;
 ghost use Rattle.program_tree.specs.Tokens.{token_of};
-ghost use Rattle.program_tree.specs.Tree.{an_event, a_variable, expression_of, expression_map, action_of, action_map, statement_of, statement_map, block_of, body_map, assign, post, broadcast, synch, set};
+ghost use Rattle.program_tree.specs.Tree.{an_event, a_variable, expression_of, expression_map, action_of, action_map};
+ghost use Rattle.program_tree.specs.Tree.{statement_of, statement_map, block_of, body_map, assign, post, broadcast};
+ghost use Rattle.program_tree.specs.Tree.{synch, set};
 
 use program_tree::class::Class;
 use program_tree::event_name::{AnyEvent, CastEvent, SentEvent};
@@ -114,13 +118,14 @@ pub(crate) fn add_all<'a>(out: &mut Vec<Token<'a>>, more: &[Token<'a>]) -> Resul
     out.extend_from_slice(more)
 }
 
-/// Adds a word that tells of something in parentheses.
+/// Adds a word that asks about something in parentheses.
 fn telling<'a>(
     out: &mut Vec<Token<'a>>,
     keyword: Keyword,
     operand: Token<'a>,
 ) -> Result<(), AllocError>
-    ensures { OnOk result (map token_of out.new.items ≡ map token_of out.old.items ++ telling keyword (token_of operand.entry)) }
+    ensures { OnOk result (map token_of out.new.items ≡ map token_of out.old.items
+        ++ telling keyword (token_of operand.entry)) }
 {
     add_all(
         out,
@@ -131,7 +136,8 @@ fn telling<'a>(
 impl<'a> Scoped<'a> {
     /// Adds an expression.
     fn expression(&self, expr: &Expr, out: &mut Vec<Token<'a>>) -> Result<(), AllocError>
-        ensures { OnOk result (map token_of out.new.items ≡ map token_of out.old.items ++ expression_tokens (expression_map (name_in (names_in self.now)) (expression_of expr.now))) }
+        ensures { OnOk result (map token_of out.new.items ≡ map token_of out.old.items
+            ++ expression_tokens (expression_map (name_in (names_in self.now)) (expression_of expr.now))) }
     {
         match expr {
             Expr::Number(number) => add(out, Token::Number(u32::from(*number))),
@@ -179,7 +185,8 @@ impl<'a> Scoped<'a> {
         number: u8,
         out: &mut Vec<Token<'a>>,
     ) -> Result<(), AllocError>
-        ensures { OnOk result (map token_of out.new.items ≡ map token_of out.old.items ++ about keyword (name_in (names_in self.now) (class_of class) number)) }
+        ensures { OnOk result (map token_of out.new.items ≡ map token_of out.old.items
+            ++ about keyword (name_in (names_in self.now) (class_of class) number)) }
     {
         let name = self.name(class, number);
         add_all(out, &[Token::Keyword(keyword), name, Token::Semicolon])
@@ -192,16 +199,18 @@ impl<'a> Scoped<'a> {
         value: &Expr,
         out: &mut Vec<Token<'a>>,
     ) -> Result<(), AllocError>
-        ensures { OnOk result (map token_of out.new.items ≡ map token_of out.old.items ++ valued keyword (expression_map (name_in (names_in self.now)) (expression_of value.now))) }
+        ensures { OnOk result (map token_of out.new.items ≡ map token_of out.old.items
+            ++ valued keyword (expression_map (name_in (names_in self.now)) (expression_of value.now))) }
     {
         add(out, Token::Keyword(keyword))?;
         self.expression(value, out)?;
         add(out, Token::Semicolon)
     }
 
-    /// Adds a semicolon, and before it the variable that is told the answer, where there is one.
+    /// Adds a semicolon, and before it the variable that gets the answer, where there is one.
     fn into_end(&self, told: Option<u8>, out: &mut Vec<Token<'a>>) -> Result<(), AllocError>
-        ensures { OnOk result (map token_of out.new.items ≡ map token_of out.old.items ++ into_tokens (option_map (name_in (names_in self.now) a_variable) told)) }
+        ensures { OnOk result (map token_of out.new.items ≡ map token_of out.old.items
+            ++ into_tokens (option_map (name_in (names_in self.now) a_variable) told)) }
     {
         match told {
             None => add(out, Token::Semicolon),
@@ -222,7 +231,9 @@ impl<'a> Scoped<'a> {
         value: &Expr,
         out: &mut Vec<Token<'a>>,
     ) -> Result<(), AllocError>
-        ensures { OnOk result (map token_of out.new.items ≡ map token_of out.old.items ++ (map token_of front.now ++ expression_tokens (expression_map (name_in (names_in self.now)) (expression_of value.now)))) }
+        ensures { OnOk result (map token_of out.new.items ≡ map token_of out.old.items
+            ++ (map token_of front.now ++ expression_tokens
+            (expression_map (name_in (names_in self.now)) (expression_of value.now)))) }
     {
         add_all(out, front)?;
         self.expression(value, out)
@@ -236,7 +247,9 @@ impl<'a> Scoped<'a> {
         told: Option<u8>,
         out: &mut Vec<Token<'a>>,
     ) -> Result<(), AllocError>
-        ensures { OnOk result (map token_of out.new.items ≡ map token_of out.old.items ++ action_tokens (action_map (name_in (names_in self.now)) (post process (sent_of event) (expression_of word.now) told))) }
+        ensures { OnOk result (map token_of out.new.items ≡ map token_of out.old.items
+            ++ action_tokens (action_map (name_in (names_in self.now))
+            (post process (sent_of event) (expression_of word.now) told))) }
     {
         let process = self.name(Class::Process, process);
         let event = self.sent(event);
@@ -251,7 +264,9 @@ impl<'a> Scoped<'a> {
         told: Option<u8>,
         out: &mut Vec<Token<'a>>,
     ) -> Result<(), AllocError>
-        ensures { OnOk result (map token_of out.new.items ≡ map token_of out.old.items ++ action_tokens (action_map (name_in (names_in self.now)) (broadcast (cast_of event) (expression_of word.now) told))) }
+        ensures { OnOk result (map token_of out.new.items ≡ map token_of out.old.items
+            ++ action_tokens (action_map (name_in (names_in self.now))
+            (broadcast (cast_of event) (expression_of word.now) told))) }
     {
         let event = self.cast(event);
         self.with_value(&[Token::Keyword(Keyword::Broadcast), event], word, out)?;
@@ -265,7 +280,9 @@ impl<'a> Scoped<'a> {
         word: &Expr,
         out: &mut Vec<Token<'a>>,
     ) -> Result<(), AllocError>
-        ensures { OnOk result (map token_of out.new.items ≡ map token_of out.old.items ++ action_tokens (action_map (name_in (names_in self.now)) (synch process (sent_of event) (expression_of word.now)))) }
+        ensures { OnOk result (map token_of out.new.items ≡ map token_of out.old.items
+            ++ action_tokens (action_map (name_in (names_in self.now))
+            (synch process (sent_of event) (expression_of word.now)))) }
     {
         let process = self.name(Class::Process, process);
         let event = self.sent(event);
@@ -274,7 +291,8 @@ impl<'a> Scoped<'a> {
     }
 
     fn set(&self, timer: u8, interval: &Expr, out: &mut Vec<Token<'a>>) -> Result<(), AllocError>
-        ensures { OnOk result (map token_of out.new.items ≡ map token_of out.old.items ++ action_tokens (action_map (name_in (names_in self.now)) (set timer (expression_of interval.now)))) }
+        ensures { OnOk result (map token_of out.new.items ≡ map token_of out.old.items
+            ++ action_tokens (action_map (name_in (names_in self.now)) (set timer (expression_of interval.now)))) }
     {
         let timer = self.name(Class::Timer, timer);
         self.with_value(&[Token::Keyword(Keyword::Set), timer], interval, out)?;
@@ -282,7 +300,8 @@ impl<'a> Scoped<'a> {
     }
 
     fn assign(&self, variable: u8, value: &Expr, out: &mut Vec<Token<'a>>) -> Result<(), AllocError>
-        ensures { OnOk result (map token_of out.new.items ≡ map token_of out.old.items ++ action_tokens (action_map (name_in (names_in self.now)) (assign variable (expression_of value.now)))) }
+        ensures { OnOk result (map token_of out.new.items ≡ map token_of out.old.items
+            ++ action_tokens (action_map (name_in (names_in self.now)) (assign variable (expression_of value.now)))) }
     {
         let variable = self.name(Class::Variable, variable);
         self.with_value(&[variable, Token::Equals], value, out)?;
@@ -291,7 +310,8 @@ impl<'a> Scoped<'a> {
 
     /// Adds a statement that has no block.
     fn action(&self, action: &Action, out: &mut Vec<Token<'a>>) -> Result<(), AllocError>
-        ensures { OnOk result (map token_of out.new.items ≡ map token_of out.old.items ++ action_tokens (action_map (name_in (names_in self.now)) (action_of action.now))) }
+        ensures { OnOk result (map token_of out.new.items ≡ map token_of out.old.items
+            ++ action_tokens (action_map (name_in (names_in self.now)) (action_of action.now))) }
     {
         match action {
             Action::Assign(variable, value) => self.assign(*variable, value, out),
@@ -331,7 +351,8 @@ impl<'a> Scoped<'a> {
     /// Adds a statement.
     #[cycle(unread)]
     fn statement(&self, statement: &Stmt, out: &mut Vec<Token<'a>>) -> Result<(), AllocError>
-        ensures { OnOk result (map token_of out.new.items ≡ map token_of out.old.items ++ statement_tokens (statement_map (name_in (names_in self.now)) (statement_of statement.now))) }
+        ensures { OnOk result (map token_of out.new.items ≡ map token_of out.old.items
+            ++ statement_tokens (statement_map (name_in (names_in self.now)) (statement_of statement.now))) }
     {
         match statement {
             Stmt::Do(action) => self.action(action, out),
@@ -356,7 +377,8 @@ impl<'a> Scoped<'a> {
     /// Adds a block.
     #[cycle(unread)]
     pub(crate) fn block(&self, block: &Block, out: &mut Vec<Token<'a>>) -> Result<(), AllocError>
-        ensures { OnOk result (map token_of out.new.items ≡ map token_of out.old.items ++ block_tokens (body_map (name_in (names_in self.now)) (block_of block.now))) }
+        ensures { OnOk result (map token_of out.new.items ≡ map token_of out.old.items
+            ++ block_tokens (body_map (name_in (names_in self.now)) (block_of block.now))) }
     {
         add(out, Token::OpenBrace)?;
         'statements: for statement in &block.statements {

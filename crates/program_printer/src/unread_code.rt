@@ -3,7 +3,10 @@ ghost use Rattle.std.specs.Prelude.{◌≡◌, ◌++◌, [], length, map, IfOk, 
 ghost use Rattle.std.specs.List.{flat_map, zip};
 ghost use Rattle.program_tree.specs.Program.{code_of, tree_of};
 ghost use Rattle.program_tree.specs.ShapeOf.{block_with, code_with, codes_of_tree};
-ghost use Rattle.program_printer.specs.Spelled.{names_in, block_tokens, listed_tokens, valued_tokens, named_tokens, handler_tokens, declared_tokens, runs_tokens, code_tokens, process_tokens, autostart_tokens, receiver_tokens, head_tokens, spelled_tokens};
+ghost use Rattle.program_printer.specs.Spelled.{names_in, block_tokens, listed_tokens, valued_tokens, named_tokens};
+ghost use Rattle.program_printer.specs.Spelled.{handler_tokens, declared_tokens, runs_tokens, code_tokens};
+ghost use Rattle.program_printer.specs.Spelled.{process_tokens, autostart_tokens, receiver_tokens, head_tokens};
+ghost use Rattle.program_printer.specs.Spelled.{spelled_tokens};
 ghost use Rattle.program_tree.specs.Tokens.{token_of};
 ghost use Rattle.program_tree.specs.FlatBlock.{tree_in};
 
@@ -21,7 +24,8 @@ fn listed<'a>(
     names: &'a Names,
     out: &mut Vec<Token<'a>>,
 ) -> Result<(), AllocError>
-    ensures { OnOk result (map token_of out.new.items ≡ map token_of out.old.items ++ flat_map (listed_tokens keyword) names.now) }
+    ensures { OnOk result (map token_of out.new.items ≡ map token_of out.old.items ++ flat_map (listed_tokens keyword)
+        names.now) }
 {
     for place in 0..names.len() {
         let name = Token::Name(names.get(place));
@@ -38,7 +42,8 @@ fn valued<'a>(
     out: &mut Vec<Token<'a>>,
 ) -> Result<(), AllocError>
     requires { length values.now ≡ length names.now }
-    ensures { OnOk result (map token_of out.new.items ≡ map token_of out.old.items ++ flat_map (valued_tokens keyword) (zip names.now values.now)) }
+    ensures { OnOk result (map token_of out.new.items ≡ map token_of out.old.items ++ flat_map (valued_tokens keyword)
+        (zip names.now values.now)) }
 {
     for place in 0..names.len() {
         let name = Token::Name(names.get(place));
@@ -60,7 +65,8 @@ fn valued<'a>(
 impl<'a> Scoped<'a> {
     /// Adds a block of the process.
     fn flat_block(&self, block: &FlatBlock, out: &mut Vec<Token<'a>>) -> Result<(), AllocError>
-        ensures { OnOk result (map token_of out.new.items ≡ map token_of out.old.items ++ block_tokens (block_with (names_in self.now) (tree_in block.now))) }
+        ensures { OnOk result (map token_of out.new.items ≡ map token_of out.old.items
+            ++ block_tokens (block_with (names_in self.now) (tree_in block.now))) }
     {
         self.block(block.block(), out)
     }
@@ -74,7 +80,9 @@ impl<'a> Scoped<'a> {
         out: &mut Vec<Token<'a>>,
     ) -> Result<(), AllocError>
         requires { length blocks.now ≡ length names.now }
-        ensures { OnOk result (map token_of out.new.items ≡ map token_of out.old.items ++ flat_map (named_tokens keyword) (zip names.now (map (block_with (names_in self.now)) (map tree_in blocks.now)))) }
+        ensures { OnOk result (map token_of out.new.items ≡ map token_of out.old.items
+            ++ flat_map (named_tokens keyword) (zip names.now
+            (map (block_with (names_in self.now)) (map tree_in blocks.now)))) }
     {
         for place in 0..names.len() {
             let name = Token::Name(names.get(place));
@@ -91,7 +99,8 @@ impl<'a> Scoped<'a> {
         block: &Option<FlatBlock>,
         out: &mut Vec<Token<'a>>,
     ) -> Result<(), AllocError>
-        ensures { OnOk result (map token_of out.new.items ≡ map token_of out.old.items ++ handler_tokens keyword (option_map (block_with (names_in self.now)) (option_map tree_in block.now))) }
+        ensures { OnOk result (map token_of out.new.items ≡ map token_of out.old.items
+            ++ handler_tokens keyword (option_map (block_with (names_in self.now)) (option_map tree_in block.now))) }
     {
         match block {
             None => Ok(()),
@@ -104,7 +113,8 @@ impl<'a> Scoped<'a> {
 
     /// Adds what the code declares.
     fn declared(&self, out: &mut Vec<Token<'a>>) -> Result<(), AllocError>
-        ensures { OnOk result (map token_of out.new.items ≡ map token_of out.old.items ++ declared_tokens (code_with (names_in self.now) (code_of self.now.code.now))) }
+        ensures { OnOk result (map token_of out.new.items ≡ map token_of out.old.items
+            ++ declared_tokens (code_with (names_in self.now) (code_of self.now.code.now))) }
     {
         let code = self.code;
         valued(Keyword::Var, &code.variables, &code.starts, out)?;
@@ -115,7 +125,8 @@ impl<'a> Scoped<'a> {
 
     /// Adds the blocks that the process runs, and the last brace.
     fn runs(&self, out: &mut Vec<Token<'a>>) -> Result<(), AllocError>
-        ensures { OnOk result (map token_of out.new.items ≡ map token_of out.old.items ++ runs_tokens (code_with (names_in self.now) (code_of self.now.code.now))) }
+        ensures { OnOk result (map token_of out.new.items ≡ map token_of out.old.items
+            ++ runs_tokens (code_with (names_in self.now) (code_of self.now.code.now))) }
     {
         let code = self.code;
         self.handler(Keyword::OnPoll, &code.on_poll, out)?;
@@ -127,7 +138,8 @@ impl<'a> Scoped<'a> {
 
     /// Adds the code, of the process with this name.
     fn code(&self, name: &'a str, out: &mut Vec<Token<'a>>) -> Result<(), AllocError>
-        ensures { OnOk result (map token_of out.new.items ≡ map token_of out.old.items ++ code_tokens (name.now, code_with (names_in self.now) (code_of self.now.code.now))) }
+        ensures { OnOk result (map token_of out.new.items ≡ map token_of out.old.items
+            ++ code_tokens (name.now, code_with (names_in self.now) (code_of self.now.code.now))) }
     {
         add_all(
             out,
@@ -144,7 +156,8 @@ impl<'a> Scoped<'a> {
 
 /// Adds the codes of all processes.
 fn codes<'a>(program: &'a Program, out: &mut Vec<Token<'a>>) -> Result<(), AllocError>
-    ensures { OnOk result (map token_of out.new.items ≡ map token_of out.old.items ++ flat_map code_tokens (codes_of_tree (tree_of program.now))) }
+    ensures { OnOk result (map token_of out.new.items ≡ map token_of out.old.items
+        ++ flat_map code_tokens (codes_of_tree (tree_of program.now))) }
 {
     for place in 0..program.codes.len() {
         let scoped = Scoped {
@@ -175,7 +188,8 @@ fn autostart<'a>(
     numbers: &[u8],
     out: &mut Vec<Token<'a>>,
 ) -> Result<(), AllocError>
-    ensures { OnOk result (map token_of out.new.items ≡ map token_of out.old.items ++ autostart_tokens (map (λ i. slice_index_or names.now i []) numbers.now)) }
+    ensures { OnOk result (map token_of out.new.items ≡ map token_of out.old.items
+        ++ autostart_tokens (map (λ i. slice_index_or names.now i []) numbers.now)) }
 {
     let [first, others @ ..] = numbers else {
         return Ok(());
@@ -195,7 +209,8 @@ fn receiver<'a>(
     receiver: Option<u8>,
     out: &mut Vec<Token<'a>>,
 ) -> Result<(), AllocError>
-    ensures { OnOk result (map token_of out.new.items ≡ map token_of out.old.items ++ receiver_tokens (option_map (λ i. slice_index_or names.now i []) receiver)) }
+    ensures { OnOk result (map token_of out.new.items ≡ map token_of out.old.items
+        ++ receiver_tokens (option_map (λ i. slice_index_or names.now i []) receiver)) }
 {
     let Some(process) = receiver else {
         return Ok(());
@@ -210,7 +225,9 @@ fn receiver<'a>(
 /// Adds what the program declares.
 fn head<'a>(program: &'a Program, out: &mut Vec<Token<'a>>) -> Result<(), AllocError>
     ensures { OnOk result (let t = tree_of program.now in map token_of out.new.items ≡ map token_of out.old.items ++
-        head_tokens t.events (zip t.semaphores t.counts) t.processes (map (λ i. slice_index_or t.processes i []) t.autostart) (option_map (λ i. slice_index_or t.processes i []) t.receiver)) }
+        head_tokens t.events (zip t.semaphores t.counts) t.processes
+        (map (λ i. slice_index_or t.processes i []) t.autostart)
+        (option_map (λ i. slice_index_or t.processes i []) t.receiver)) }
 {
     listed(Keyword::Event, &program.events, out)?;
     valued(

@@ -15,13 +15,16 @@ use Rattle.program_tree.specs.declared.keyword.Keyword.TheVariants as word
 use Rattle.program_reader.proofs.NameSteps.{taken, front_of}
 
 -- a keyword that is one mark of its own
-pub key_reads : (s : Scope) (y : Symbol) (k : Keyword) (old new : List Token) → first old ≡ Some (token.Keyword k) → ((f : Pending) → step (y ∷ f) (token.Keyword k) ≡ take (key k) f) → new ≡ drop 1 old → Reads s s y (λ n ms. key k ∷ ms) old new
+pub key_reads : (s : Scope) (y : Symbol) (k : Keyword) (old new : List Token) → first old ≡ Some (token.Keyword k)
+    → ((f : Pending) → step (y ∷ f) (token.Keyword k) ≡ take (key k) f) → new ≡ drop 1 old
+    → Reads s s y (λ n ms. key k ∷ ms) old new
 key_reads s y k old new is fits from = record {
   spelled = λ n h ms e. front_of old (token.Keyword k) is ∙ ap (λ ts. token.Keyword k ∷ ts) (sym from ∙ sym e);
   goes_on = λ f. taken s (y ∷ f) f old (token.Keyword k) (key k) is (fits f) refl ∙ ap (λ ts. tell s f ts) (sym from);
 }
 
-pub cast_name : (s : Scope) (c : Context) (f : Pending) (old : List Token) (x : Name) → first old ≡ Some (token.Name x) → tell s (operand c form.cast ∷ f) old ≡ tell s (operand c (form.name an_event) ∷ f) old
+pub cast_name : (s : Scope) (c : Context) (f : Pending) (old : List Token) (x : Name) → first old ≡ Some (token.Name x)
+    → tell s (operand c form.cast ∷ f) old ≡ tell s (operand c (form.name an_event) ∷ f) old
 cast_name s c f [] x e = absurd cc
 cast_name s c f (t ∷ ts) x e = let is : t ≡ token.Name x = cc in rw is refl
 
@@ -34,21 +37,25 @@ IsOther form.any (Some (token.Keyword word.Exited)) = ⊥
 IsOther form.any (Some (token.Keyword word.Timer)) = ⊥
 IsOther o t = Unit {0}
 
-sent_passes_at : (s : Scope) (c : Context) (f : Pending) (t : Token) (ts : List Token) → IsOther form.sent (Some t) → tell s (operand c form.sent ∷ f) (t ∷ ts) ≡ tell s (operand c form.cast ∷ f) (t ∷ ts)
+sent_passes_at : (s : Scope) (c : Context) (f : Pending) (t : Token) (ts : List Token) → IsOther form.sent (Some t)
+    → tell s (operand c form.sent ∷ f) (t ∷ ts) ≡ tell s (operand c form.cast ∷ f) (t ∷ ts)
 sent_passes_at s c f (token.Keyword word.Exit) ts h = absurd h
 sent_passes_at s c f t ts h = refl
 
-pub sent_passes : (s : Scope) (c : Context) (f : Pending) (old : List Token) → IsOther form.sent (first old) → tell s (operand c form.sent ∷ f) old ≡ tell s (operand c form.cast ∷ f) old
+pub sent_passes : (s : Scope) (c : Context) (f : Pending) (old : List Token) → IsOther form.sent (first old)
+    → tell s (operand c form.sent ∷ f) old ≡ tell s (operand c form.cast ∷ f) old
 sent_passes s c f [] h = refl
 sent_passes s c f (t ∷ ts) h = sent_passes_at s c f t ts h
 
-any_passes_at : (s : Scope) (c : Context) (f : Pending) (t : Token) (ts : List Token) → IsOther form.any (Some t) → tell s (operand c form.any ∷ f) (t ∷ ts) ≡ tell s (operand c form.sent ∷ f) (t ∷ ts)
+any_passes_at : (s : Scope) (c : Context) (f : Pending) (t : Token) (ts : List Token) → IsOther form.any (Some t)
+    → tell s (operand c form.any ∷ f) (t ∷ ts) ≡ tell s (operand c form.sent ∷ f) (t ∷ ts)
 any_passes_at s c f (token.Keyword word.Init) ts h = absurd h
 any_passes_at s c f (token.Keyword word.Poll) ts h = absurd h
 any_passes_at s c f (token.Keyword word.Exited) ts h = absurd h
 any_passes_at s c f (token.Keyword word.Timer) ts h = absurd h
 any_passes_at s c f t ts h = refl
 
-pub any_passes : (s : Scope) (c : Context) (f : Pending) (old : List Token) → IsOther form.any (first old) → tell s (operand c form.any ∷ f) old ≡ tell s (operand c form.sent ∷ f) old
+pub any_passes : (s : Scope) (c : Context) (f : Pending) (old : List Token) → IsOther form.any (first old)
+    → tell s (operand c form.any ∷ f) old ≡ tell s (operand c form.sent ∷ f) old
 any_passes s c f [] h = refl
 any_passes s c f (t ∷ ts) h = any_passes_at s c f t ts h

@@ -17,7 +17,8 @@ extends_itself n = record { front = λ c. front_itself (names_of n c); first_tim
 
 pub extends_on : (n m k : Names) → Extends n m → Extends m k → Extends n k
 extends_on n m k a b = record {
-  front = λ c. let p = a.front c in let q = b.front c in (p.0 ++ q.0, q.1 ∙ ap (λ z. z ++ q.0) p.1 ∙ append_assoc (names_of n c) p.0 q.0);
+  front = λ c. let p = a.front c in let q = b.front c in
+      (p.0 ++ q.0, q.1 ∙ ap (λ z. z ++ q.0) p.1 ∙ append_assoc (names_of n c) p.0 q.0);
   first_timer = b.first_timer ∙ a.first_timer;
 }
 
@@ -43,7 +44,8 @@ extends_new n c x = record { front = front_new n c x; first_timer = same_first_t
 
 pub extends_all : (n : Names) (c : Class) (xs : List Name) → Extends n (with_all n c xs)
 extends_all n c [] = extends_itself n
-extends_all n c (x ∷ xs) = extends_on n (with_new n c x) (with_all (with_new n c x) c xs) (extends_new n c x) (extends_all (with_new n c x) c xs)
+extends_all n c (x ∷ xs) = extends_on n (with_new n c x) (with_all (with_new n c x) c xs) (extends_new n c x)
+    (extends_all (with_new n c x) c xs)
 
 pub numbered_on : (n m : Names) (b : Body ℕ) → Extends n m → IsNumbered n b → IsNumbered m b
 numbered_on n m b e h = λ k f. h k (extends_on n m k e f)
@@ -52,7 +54,8 @@ pub all_numbered_on : (n m : Names) (bs : List (Body ℕ)) → Extends n m → A
 all_numbered_on n m [] e h = tt
 all_numbered_on n m (b ∷ bs) e h = (numbered_on n m b e h.0, all_numbered_on n m bs e h.1)
 
-pub all_numbered-append : (n : Names) (bs : List (Body ℕ)) (b : Body ℕ) → AllNumbered n bs → IsNumbered n b → AllNumbered n (bs ++ b ∷ [])
+pub all_numbered-append : (n : Names) (bs : List (Body ℕ)) (b : Body ℕ) → AllNumbered n bs → IsNumbered n b
+    → AllNumbered n (bs ++ b ∷ [])
 all_numbered-append n [] b h k = (k, tt)
 all_numbered-append n (c ∷ bs) b h k = (h.0, all_numbered-append n bs b h.1 k)
 

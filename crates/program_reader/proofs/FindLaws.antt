@@ -1,5 +1,6 @@
 -- What `find` and `position` give, in the words of the lexer's definitions.
-use Rattle.std.proofs.Common.{◌≡◌, nat_lt, ◌≤◌, not, ℕ, List, [], ◌∷◌, length, map, Bool, true, false, cond, Option, Some, None, refl, ap, ◌∙◌, arith, bytes_eq}
+use Rattle.std.proofs.Common.{◌≡◌, nat_lt, ◌≤◌, not, ℕ, List, [], ◌∷◌, length, map, Bool, true, false, cond, Option}
+use Rattle.std.proofs.Common.{Some, None, refl, ap, ◌∙◌, arith, bytes_eq}
 use Rattle.std.specs.Prelude.{find, option_map, unwrap_or, nat_eq}
 use Rattle.std.specs.Borrow.{Bor}
 use Rattle.std.specs.List.{position, position_or_len, prefix_len, starts_with}
@@ -15,9 +16,11 @@ place_or_end : (b : Bool) (n l : ℕ) → nat_lt n l ≡ b → n ≤ l → unwra
 place_or_end true n l h w = refl
 place_or_end false n l h w = omega (arith, ltb-false n l h)
 
-pub front_len : (test : ℕ → Bool) (xs : List ℕ) (found : Option ℕ) → found ≡ position test xs → unwrap_or found (length xs) ≡ position_or_len test xs
+pub front_len : (test : ℕ → Bool) (xs : List ℕ) (found : Option ℕ) → found ≡ position test xs
+    → unwrap_or found (length xs) ≡ position_or_len test xs
 front_len test xs found e =
-    ap (λ o. unwrap_or o (length xs)) e ∙ place_or_end _ (position_or_len test xs) (length xs) refl (prefix_len-le-length (λ x. not (test x)) xs)
+    ap (λ o. unwrap_or o (length xs)) e ∙ place_or_end _ (position_or_len test xs) (length xs) refl
+    (prefix_len-le-length (λ x. not (test x)) xs)
 
 -- what doesn't fail passes
 twice : (b : Bool) → not (not b) ≡ b
@@ -28,21 +31,27 @@ pub same_front_len : (test : ℕ → Bool) (xs : List ℕ) → prefix_len (λ x.
 same_front_len test [] = refl
 same_front_len test (x ∷ xs) = rw (twice (test x), same_front_len test xs) refl
 
-mapped : {A B : Type 0} (f : A → B) (b : Bool) (x : A) (o : Option A) → option_map f (cond b (Some x) o) ≡ cond b (Some (f x)) (option_map f o)
+mapped : {A B : Type 0} (f : A → B) (b : Bool) (x : A) (o : Option A) → option_map f (cond b (Some x) o)
+    ≡ cond b (Some (f x)) (option_map f o)
 mapped f true x o = refl
 mapped f false x o = refl
 
-pub lookup_found : (table : List (Bor (List ℕ) × TokenRead)) (word : List ℕ) → option_map (λ e. token_of e.1) (find (λ e. bytes_eq e.0.now word) table) ≡ lookup (map entry_of table) word
+pub lookup_found : (table : List (Bor (List ℕ) × TokenRead)) (word : List ℕ)
+    → option_map (λ e. token_of e.1) (find (λ e. bytes_eq e.0.now word) table) ≡ lookup (map entry_of table) word
 lookup_found [] word = refl
 lookup_found (e ∷ table) word =
     mapped (λ e. token_of e.1) (bytes_eq e.0.now word) e (find (λ e. bytes_eq e.0.now word) table)
     ∙ ap (λ o. cond (bytes_eq e.0.now word) (Some (token_of e.1)) o) (lookup_found table word)
 
-pub mapped_twice : (found : Option (Bor (Bor (List ℕ) × TokenRead))) → option_map token_of (option_map (λ e. e.now.1) found) ≡ option_map (λ e. token_of e.1) (option_map (λ e. e.now) found)
+pub mapped_twice : (found : Option (Bor (Bor (List ℕ) × TokenRead)))
+    → option_map token_of (option_map (λ e. e.now.1) found) ≡ option_map (λ e. token_of e.1)
+    (option_map (λ e. e.now) found)
 mapped_twice None = refl
 mapped_twice (Some e) = refl
 
-pub sign_found : (signs : List (Bor (List ℕ) × TokenRead)) (text : List ℕ) → option_map entry_of (find (λ s. starts_with nat_eq text s.0.now) signs) ≡ find (λ s. starts_with nat_eq text s.0) (map entry_of signs)
+pub sign_found : (signs : List (Bor (List ℕ) × TokenRead)) (text : List ℕ)
+    → option_map entry_of (find (λ s. starts_with nat_eq text s.0.now) signs) ≡ find (λ s. starts_with nat_eq text s.0)
+    (map entry_of signs)
 sign_found [] text = refl
 sign_found (s ∷ signs) text =
     mapped entry_of (starts_with nat_eq text s.0.now) s (find (λ s. starts_with nat_eq text s.0.now) signs)

@@ -1,5 +1,7 @@
 -- How the reading goes on at a declaration.
-use Rattle.std.proofs.Common.{◌≡◌, ◌<◌, ◌≤◌, nat_lt, arith, ℕ, suc, List, [], ◌∷◌, ◌++◌, length, drop, Bool, true, false, Option, Some, None, is_some, option_map, ◌+◌, refl, ap, sym, ◌∙◌, ◌||◌, append_assoc}
+use Rattle.std.proofs.Common.{◌≡◌, ◌<◌, ◌≤◌, nat_lt, arith, ℕ, suc, List, [], ◌∷◌, ◌++◌, length, drop, Bool, true}
+use Rattle.std.proofs.Common.{false, Option, Some, None, is_some, option_map, ◌+◌, refl, ap, sym, ◌∙◌, ◌||◌}
+use Rattle.std.proofs.Common.{append_assoc}
 use Rattle.std.proofs.lemmas.Bool.Decides.{nat_tests}
 use Rattle.std.proofs.lemmas.List.{append-nil}
 use Rattle.program_tree.specs.Faults.{Scope, is_full}
@@ -19,7 +21,9 @@ use Rattle.program_reader.specs.declared.declarations.Kind.TheVariants as kind
 use Rattle.program_reader.proofs.NameSteps.{front_of}
 use Rattle.program_reader.proofs.PlaceLaws.{place_left, place_right}
 
-pub is_new : (c : Class) (s s' : Scope) (x : Name) (old new : List Token) → first old ≡ Some (token.Name x) → new ≡ drop 1 old → is_in_scope s.names x ≡ false → is_full s.names c ≡ false → s' ≡ with_names s (with_new s.names c x)
+pub is_new : (c : Class) (s s' : Scope) (x : Name) (old new : List Token) → first old ≡ Some (token.Name x)
+    → new ≡ drop 1 old → is_in_scope s.names x ≡ false → is_full s.names c ≡ false
+    → s' ≡ with_names s (with_new s.names c x)
     → IsNew c s s' x old new
 is_new c s s' x old new is from fresh room added = record {
   added = added;
@@ -27,12 +31,16 @@ is_new c s s' x old new is from fresh room added = record {
   sound = rw (fresh, room) refl;
 }
 
-pub new_twice : (c : Class) (s : Scope) (x : Name) (old : List Token) (more : Pending) → first old ≡ Some (token.Name x) → is_in_scope s.names x ≡ true → tell s (new_name c ∷ more) old ≡ fault NameTwice (length old)
+pub new_twice : (c : Class) (s : Scope) (x : Name) (old : List Token) (more : Pending)
+    → first old ≡ Some (token.Name x) → is_in_scope s.names x ≡ true → tell s (new_name c ∷ more) old
+    ≡ fault NameTwice (length old)
 new_twice c s x [] more is twice = absurd cc
 new_twice c s x (token.Name y ∷ ts) more is twice = let e : y ≡ x = cc in rw (e, twice) refl
 new_twice c s x (t ∷ ts) more is twice = absurd cc
 
-pub new_many : (c : Class) (s : Scope) (x : Name) (old : List Token) (more : Pending) → first old ≡ Some (token.Name x) → is_in_scope s.names x ≡ false → is_full s.names c ≡ true → tell s (new_name c ∷ more) old ≡ fault TooMany (length old)
+pub new_many : (c : Class) (s : Scope) (x : Name) (old : List Token) (more : Pending) → first old ≡ Some (token.Name x)
+    → is_in_scope s.names x ≡ false → is_full s.names c ≡ true → tell s (new_name c ∷ more) old
+    ≡ fault TooMany (length old)
 new_many c s x [] more is fresh full = absurd cc
 new_many c s x (token.Name y ∷ ts) more is fresh full = let e : y ≡ x = cc in rw (e, fresh, full) refl
 new_many c s x (t ∷ ts) more is fresh full = absurd cc
@@ -51,7 +59,9 @@ of_no_class names c x h =
     let t = or_parts (is_a names an_event x) (is_a names a_semaphore x) s.0 in
     pick c t.0 t.1 s.1 r.1 q.1 p.1
   where
-    pick : (c : Class) → is_a names an_event x ≡ false → is_a names a_semaphore x ≡ false → is_a names a_process x ≡ false → is_a names a_variable x ≡ false → is_a names a_timer x ≡ false → is_a names a_thread x ≡ false → is_a names c x ≡ false
+    pick : (c : Class) → is_a names an_event x ≡ false → is_a names a_semaphore x ≡ false
+        → is_a names a_process x ≡ false → is_a names a_variable x ≡ false → is_a names a_timer x ≡ false
+        → is_a names a_thread x ≡ false → is_a names c x ≡ false
     pick an_event a b c d e f = a
     pick a_semaphore a b c d e f = b
     pick a_process a b c d e f = c
@@ -61,15 +71,20 @@ of_no_class names c x h =
 
 pub ruleset new_steps = (is_new, new_twice, new_many, of_no_class)
 
-pub number_reads : (n : ℕ) (old new : List Token) → first old ≡ Some (token.Number n) → n ≤ 65535 → new ≡ drop 1 old → ReadsSign machine.number (token.Number n) old new
+pub number_reads : (n : ℕ) (old new : List Token) → first old ≡ Some (token.Number n) → n ≤ 65535 → new ≡ drop 1 old
+    → ReadsSign machine.number (token.Number n) old new
 number_reads n [] new is h from = absurd cc
 number_reads n (token.Number m ∷ ts) new is h from =
     let e : m ≡ n = cc in
     let small : nat_lt 65535 m ≡ false = grind (arith, nat_tests) in
-    record { spelled = ap (λ z. token.Number z ∷ ts) e ∙ ap (λ z. token.Number n ∷ z) (sym from); goes_on = λ s f. rw small (ap (tell s f) (sym from)) }
+    record {
+      spelled = ap (λ z. token.Number z ∷ ts) e ∙ ap (λ z. token.Number n ∷ z) (sym from);
+      goes_on = λ s f. rw small (ap (tell s f) (sym from));
+    }
 number_reads n (t ∷ ts) new is h from = absurd cc
 
-pub number_large : (n : ℕ) (old : List Token) (s : Scope) (more : Pending) → first old ≡ Some (token.Number n) → 65535 < n → tell s (machine.number ∷ more) old ≡ fault NumberTooLarge (length old)
+pub number_large : (n : ℕ) (old : List Token) (s : Scope) (more : Pending) → first old ≡ Some (token.Number n)
+    → 65535 < n → tell s (machine.number ∷ more) old ≡ fault NumberTooLarge (length old)
 number_large n [] s more is h = absurd cc
 number_large n (token.Number m ∷ ts) s more is h =
     let e : m ≡ n = cc in
@@ -79,12 +94,15 @@ number_large n (t ∷ ts) s more is h = absurd cc
 
 pub ruleset number_steps = (number_reads, number_large)
 
--- behind a new name
-pub new_goes : (c : Class) (s s' : Scope) (x : Name) (old new : List Token) (f : Pending) → IsNew c s s' x old new → tell s (new_name c ∷ f) old ≡ tell s' f new
+-- after a new name
+pub new_goes : (c : Class) (s s' : Scope) (x : Name) (old new : List Token) (f : Pending) → IsNew c s s' x old new
+    → tell s (new_name c ∷ f) old ≡ tell s' f new
 new_goes c s s' x old new f r =
-    ap (tell s (new_name c ∷ f)) r.spelled ∙ ap (λ o. fault_or o (suc (length new)) (tell (with_names s (with_new s.names c x)) f new)) r.sound ∙ ap (λ z. tell z f new) (sym r.added)
+    ap (tell s (new_name c ∷ f)) r.spelled ∙ ap (λ o. fault_or o (suc (length new))
+    (tell (with_names s (with_new s.names c x)) f new)) r.sound ∙ ap (λ z. tell z f new) (sym r.added)
 
-pub is_listed : (c : Class) (s s' : Scope) (x : Name) (old m new : List Token) → IsNew c s s' x old m → ReadsSign machine.semicolon token.Semicolon m new → IsListed c s s' old new
+pub is_listed : (c : Class) (s s' : Scope) (x : Name) (old m new : List Token) → IsNew c s s' x old m
+    → ReadsSign machine.semicolon token.Semicolon m new → IsListed c s s' old new
 is_listed c s s' x old m new r k = record {
   name = x;
   added = r.added;
@@ -92,15 +110,20 @@ is_listed c s s' x old m new r k = record {
   goes_on = λ f. new_goes c s s' x old m (machine.semicolon ∷ f) r ∙ k.goes_on s' f;
 }
 
-pub is_valued : (c : Class) (s s' : Scope) (values values' : List ℕ) (x : Name) (v : ℕ) (old m0 m1 m2 new : List Token) → IsNew c s s' x old m0 → ReadsSign machine.equals token.Equals m0 m1
-    → ReadsSign machine.number (token.Number v) m1 m2 → ReadsSign machine.semicolon token.Semicolon m2 new → values' ≡ values ++ v ∷ [] → IsValued c s s' values values' old new
+pub is_valued : (c : Class) (s s' : Scope) (values values' : List ℕ) (x : Name) (v : ℕ) (old m0 m1 m2 new : List Token)
+    → IsNew c s s' x old m0 → ReadsSign machine.equals token.Equals m0 m1
+    → ReadsSign machine.number (token.Number v) m1 m2 → ReadsSign machine.semicolon token.Semicolon m2 new
+    → values' ≡ values ++ v ∷ [] → IsValued c s s' values values' old new
 is_valued c s s' values values' x v old m0 m1 m2 new r k1 k2 k3 e = record {
   name = x;
   value = v;
   added = r.added;
   pushed = e;
-  spelled = r.spelled ∙ ap (λ z. token.Name x ∷ z) (k1.spelled ∙ ap (λ z. token.Equals ∷ z) (k2.spelled ∙ ap (λ z. token.Number v ∷ z) k3.spelled));
-  goes_on = λ f. new_goes c s s' x old m0 (machine.equals ∷ machine.number ∷ machine.semicolon ∷ f) r ∙ k1.goes_on s' (machine.number ∷ machine.semicolon ∷ f) ∙ k2.goes_on s' (machine.semicolon ∷ f) ∙ k3.goes_on s' f;
+  spelled = r.spelled ∙ ap (λ z. token.Name x ∷ z)
+      (k1.spelled ∙ ap (λ z. token.Equals ∷ z) (k2.spelled ∙ ap (λ z. token.Number v ∷ z) k3.spelled));
+  goes_on = λ f. new_goes c s s' x old m0 (machine.equals ∷ machine.number ∷ machine.semicolon ∷ f) r
+      ∙ k1.goes_on s' (machine.number ∷ machine.semicolon ∷ f) ∙ k2.goes_on s' (machine.semicolon ∷ f)
+      ∙ k3.goes_on s' f;
 }
 
 mapped_none : (n : ℕ) (o : Option ℕ) → is_some (option_map (λ i. n + i) o) ≡ false → o ≡ None
@@ -113,32 +136,50 @@ not_in_second xs ys x h = go (place_of xs x) refl
   where
     go : (o : Option ℕ) → place_of xs x ≡ o → place_of ys x ≡ None
     go None e = mapped_none (length xs) (place_of ys x) (ap is_some (sym (place_right xs ys x e)) ∙ h)
-    go (Some i) e = let k : is_some (place_of (xs ++ ys) x) ≡ true = ap is_some (place_left xs ys x i e) in absurd (cc (k, h))
+    go (Some i) e = let k : is_some (place_of (xs ++ ys) x) ≡ true = ap is_some (place_left xs ys x i e) in
+        absurd (cc (k, h))
 
 -- what a declaration adds
 
-pub event_added : (s : Scope) (k : Kind) (x : Name) (xs : List Name) → k ≡ kind.Event → xs ≡ s.names.events ++ x ∷ [] → record s { names = record s.names { events = xs } } ≡ with_names s (with_new s.names (class_of_kind k) x)
+pub event_added : (s : Scope) (k : Kind) (x : Name) (xs : List Name) → k ≡ kind.Event → xs ≡ s.names.events ++ x ∷ []
+    → record s { names = record s.names { events = xs } } ≡ with_names s (with_new s.names (class_of_kind k) x)
 event_added s k x xs is e = rw (is, e) refl
 
-pub semaphore_added : (s : Scope) (k : Kind) (x : Name) (xs : List Name) → k ≡ kind.Semaphore → xs ≡ s.names.semaphores ++ x ∷ [] → record s { names = record s.names { semaphores = xs } } ≡ with_names s (with_new s.names (class_of_kind k) x)
+pub semaphore_added : (s : Scope) (k : Kind) (x : Name) (xs : List Name) → k ≡ kind.Semaphore
+    → xs ≡ s.names.semaphores ++ x ∷ [] → record s { names = record s.names { semaphores = xs } }
+    ≡ with_names s (with_new s.names (class_of_kind k) x)
 semaphore_added s k x xs is e = rw (is, e) refl
 
-pub process_added : (s : Scope) (k : Kind) (x : Name) (xs : List Name) → k ≡ kind.Process → xs ≡ s.names.processes ++ x ∷ [] → record s { names = record s.names { processes = xs } } ≡ with_names s (with_new s.names (class_of_kind k) x)
+pub process_added : (s : Scope) (k : Kind) (x : Name) (xs : List Name) → k ≡ kind.Process
+    → xs ≡ s.names.processes ++ x ∷ [] → record s { names = record s.names { processes = xs } }
+    ≡ with_names s (with_new s.names (class_of_kind k) x)
 process_added s k x xs is e = rw (is, e) refl
 
-pub variable_added : (s : Scope) (k : Kind) (x : Name) (xs : List Name) → k ≡ kind.Variable → xs ≡ s.names.variables ++ x ∷ [] → record s { names = record s.names { variables = xs } } ≡ with_names s (with_new s.names (class_of_kind k) x)
+pub variable_added : (s : Scope) (k : Kind) (x : Name) (xs : List Name) → k ≡ kind.Variable
+    → xs ≡ s.names.variables ++ x ∷ [] → record s { names = record s.names { variables = xs } }
+    ≡ with_names s (with_new s.names (class_of_kind k) x)
 variable_added s k x xs is e = rw (is, e) refl
 
-pub thread_added : (s : Scope) (k : Kind) (x : Name) (xs : List Name) → k ≡ kind.Thread → xs ≡ s.names.threads ++ x ∷ [] → record s { names = record s.names { threads = xs } } ≡ with_names s (with_new s.names (class_of_kind k) x)
+pub thread_added : (s : Scope) (k : Kind) (x : Name) (xs : List Name) → k ≡ kind.Thread
+    → xs ≡ s.names.threads ++ x ∷ [] → record s { names = record s.names { threads = xs } }
+    ≡ with_names s (with_new s.names (class_of_kind k) x)
 thread_added s k x xs is e = rw (is, e) refl
 
-timer_added : (s : Scope) (k : Kind) (x : Name) (ts : List Name) → class_of_kind k ≡ a_timer → ts ≡ s.names.timers ++ x ∷ [] → record s { names = record s.names { timers = ts } } ≡ with_names s (with_new s.names (class_of_kind k) x)
+timer_added : (s : Scope) (k : Kind) (x : Name) (ts : List Name) → class_of_kind k ≡ a_timer
+    → ts ≡ s.names.timers ++ x ∷ [] → record s { names = record s.names { timers = ts } }
+    ≡ with_names s (with_new s.names (class_of_kind k) x)
 timer_added s k x ts is e = rw (is, e) refl
 
-pub etimer_added : (s : Scope) (k : Kind) (x : Name) (es cs xs : List Name) → k ≡ kind.Etimer → s.names.timers ≡ es ++ cs → cs ≡ [] → xs ≡ es ++ x ∷ [] → record s { names = record s.names { timers = xs ++ cs } } ≡ with_names s (with_new s.names (class_of_kind k) x)
+pub etimer_added : (s : Scope) (k : Kind) (x : Name) (es cs xs : List Name) → k ≡ kind.Etimer
+    → s.names.timers ≡ es ++ cs → cs ≡ [] → xs ≡ es ++ x ∷ []
+    → record s { names = record s.names { timers = xs ++ cs } } ≡ with_names s (with_new s.names (class_of_kind k) x)
 etimer_added s k x es cs xs is all none e =
-    timer_added s k x (xs ++ cs) (ap class_of_kind is) (ap (λ z. xs ++ z) none ∙ append-nil xs ∙ e ∙ ap (λ z. z ++ x ∷ []) (sym (append-nil es) ∙ ap (λ z. es ++ z) (sym none) ∙ sym all))
+    timer_added s k x (xs ++ cs) (ap class_of_kind is) (ap (λ z. xs ++ z) none ∙ append-nil xs ∙ e
+    ∙ ap (λ z. z ++ x ∷ []) (sym (append-nil es) ∙ ap (λ z. es ++ z) (sym none) ∙ sym all))
 
-pub ctimer_added : (s : Scope) (k : Kind) (x : Name) (es cs xs : List Name) → k ≡ kind.Ctimer → s.names.timers ≡ es ++ cs → xs ≡ cs ++ x ∷ [] → record s { names = record s.names { timers = es ++ xs } } ≡ with_names s (with_new s.names (class_of_kind k) x)
+pub ctimer_added : (s : Scope) (k : Kind) (x : Name) (es cs xs : List Name) → k ≡ kind.Ctimer
+    → s.names.timers ≡ es ++ cs → xs ≡ cs ++ x ∷ [] → record s { names = record s.names { timers = es ++ xs } }
+    ≡ with_names s (with_new s.names (class_of_kind k) x)
 ctimer_added s k x es cs xs is all e =
-    timer_added s k x (es ++ xs) (ap class_of_kind is) (ap (λ z. es ++ z) e ∙ sym (append_assoc es cs (x ∷ [])) ∙ ap (λ z. z ++ x ∷ []) (sym all))
+    timer_added s k x (es ++ xs) (ap class_of_kind is) (ap (λ z. es ++ z) e ∙ sym (append_assoc es cs (x ∷ []))
+    ∙ ap (λ z. z ++ x ∷ []) (sym all))

@@ -1,9 +1,11 @@
 -- The text of a process from what was read of its code.
-use Rattle.std.proofs.Common.{◌≡◌, ℕ, ◌+◌, List, [], ◌∷◌, ◌++◌, length, map, Option, Some, None, option_map, refl, ap, sym, subst, ◌∙◌}
+use Rattle.std.proofs.Common.{◌≡◌, ℕ, ◌+◌, List, [], ◌∷◌, ◌++◌, length, map, Option, Some, None, option_map, refl, ap}
+use Rattle.std.proofs.Common.{sym, subst, ◌∙◌}
 use Rattle.std.proofs.lemmas.List.{length-append, length-map}
 use Rattle.std.specs.List.{zip}
 use Rattle.program_tree.specs.Code.{Code}
-use Rattle.program_reader.specs.CodeParts.{written, all_written, AllNumbered, MaybeNumbered, with_own, ReadsOpening, ReadsContent, ReadsCode}
+use Rattle.program_reader.specs.CodeParts.{written, all_written, AllNumbered, MaybeNumbered, with_own, ReadsOpening}
+use Rattle.program_reader.specs.CodeParts.{ReadsContent, ReadsCode}
 use Rattle.program_tree.specs.Faults.{Scope}
 use Rattle.program_tree.specs.Grammar.{leaving}
 use Rattle.program_reader.specs.Head.{with_names}
@@ -22,19 +24,25 @@ named_again : (n : Names) (items : List (Name × (Body ℕ))) → named_of (all_
 named_again n [] = refl
 named_again n (p ∷ ps) = ap (λ z. p.0 ∷ z) (named_again n ps)
 
-all_again : (n : Names) (items : List (Name × (Body ℕ))) (trees : List (Body ℕ)) → trees ≡ values_of items → AllNumbered n trees → map (block_in n) (values_of (all_written n items)) ≡ trees
+all_again : (n : Names) (items : List (Name × (Body ℕ))) (trees : List (Body ℕ)) → trees ≡ values_of items
+    → AllNumbered n trees → map (block_in n) (values_of (all_written n items)) ≡ trees
 all_again n items trees e h = go items (subst (λ z. AllNumbered n z) e h) ∙ sym e
   where
-    go : (ps : List (Name × (Body ℕ))) → AllNumbered n (values_of ps) → map (block_in n) (values_of (all_written n ps)) ≡ values_of ps
+    go : (ps : List (Name × (Body ℕ))) → AllNumbered n (values_of ps) → map (block_in n) (values_of (all_written n ps))
+        ≡ values_of ps
     go [] k = refl
-    go (p ∷ ps) k = ap (λ z. z ∷ map (block_in n) (values_of (all_written n ps))) (k.0 n (extends_itself n)) ∙ ap (λ z. p.1 ∷ z) (go ps k.1)
+    go (p ∷ ps) k = ap (λ z. z ∷ map (block_in n) (values_of (all_written n ps))) (k.0 n (extends_itself n))
+        ∙ ap (λ z. p.1 ∷ z) (go ps k.1)
 
-maybe_again : (n : Names) (b : Option (Body ℕ)) → MaybeNumbered n b → option_map (block_in n) (option_map (written n) b) ≡ b
+maybe_again : (n : Names) (b : Option (Body ℕ)) → MaybeNumbered n b
+    → option_map (block_in n) (option_map (written n) b) ≡ b
 maybe_again n None h = refl
 maybe_again n (Some b) h = ap Some (h n (extends_itself n))
 
 -- the shape of a code
-abbrev pub shape_in : (es cs : List Name) (starts : List ℕ) (callbacks thread_bodies : List (Body ℕ)) (on_poll on_exit : Option (Body ℕ)) (body : Body ℕ) (s s' : Scope) (old new : List Token) → ReadsContent es cs starts callbacks thread_bodies on_poll on_exit body s s' old new → CodeShape
+abbrev pub shape_in : (es cs : List Name) (starts : List ℕ) (callbacks thread_bodies : List (Body ℕ))
+    (on_poll on_exit : Option (Body ℕ)) (body : Body ℕ) (s s' : Scope) (old new : List Token)
+    → ReadsContent es cs starts callbacks thread_bodies on_poll on_exit body s s' old new → CodeShape
 shape_in es cs starts callbacks thread_bodies on_poll on_exit body s s' old new r = record {
   variables = r.variables;
   etimers = r.etimers;
@@ -45,7 +53,9 @@ shape_in es cs starts callbacks thread_bodies on_poll on_exit body s s' old new 
   body = written s'.names body;
 }
 
-abbrev pub made : (process first_timer : ℕ) (variables : List Name) (starts : List ℕ) (es cs : List Name) (callbacks : List (Body ℕ)) (threads : List Name) (thread_bodies : List (Body ℕ)) (on_poll on_exit : Option (Body ℕ)) (body : Body ℕ) → Code
+abbrev pub made : (process first_timer : ℕ) (variables : List Name) (starts : List ℕ) (es cs : List Name)
+    (callbacks : List (Body ℕ)) (threads : List Name) (thread_bodies : List (Body ℕ))
+    (on_poll on_exit : Option (Body ℕ)) (body : Body ℕ) → Code
 made process first_timer variables starts es cs callbacks threads thread_bodies on_poll on_exit body = record {
   number = process;
   variables = variables;
@@ -61,11 +71,16 @@ made process first_timer variables starts es cs callbacks threads thread_bodies 
   body = body;
 }
 
-pub same_made : (k f f' : ℕ) (v v' : List Name) (starts : List ℕ) (e e' c c' : List Name) (callbacks : List (Body ℕ)) (t t' : List Name) (thread_bodies : List (Body ℕ)) (on_poll on_exit : Option (Body ℕ)) (body : Body ℕ) → v ≡ v' → f ≡ f' → e ≡ e' → c ≡ c' → t ≡ t'
-    → made k f v starts e c callbacks t thread_bodies on_poll on_exit body ≡ made k f' v' starts e' c' callbacks t' thread_bodies on_poll on_exit body
+pub same_made : (k f f' : ℕ) (v v' : List Name) (starts : List ℕ) (e e' c c' : List Name) (callbacks : List (Body ℕ))
+    (t t' : List Name) (thread_bodies : List (Body ℕ)) (on_poll on_exit : Option (Body ℕ)) (body : Body ℕ) → v ≡ v'
+    → f ≡ f' → e ≡ e' → c ≡ c' → t ≡ t'
+    → made k f v starts e c callbacks t thread_bodies on_poll on_exit body ≡ made k f' v' starts e' c' callbacks t'
+    thread_bodies on_poll on_exit body
 same_made k f f' v v' starts e e' c c' callbacks t t' thread_bodies on_poll on_exit body hv hf he hc ht =
-    ap (λ z. made k f z starts e c callbacks t thread_bodies on_poll on_exit body) hv ∙ ap (λ z. made k z v' starts e c callbacks t thread_bodies on_poll on_exit body) hf
-    ∙ ap (λ z. made k f' v' starts z c callbacks t thread_bodies on_poll on_exit body) he ∙ ap (λ z. made k f' v' starts e' z callbacks t thread_bodies on_poll on_exit body) hc
+    ap (λ z. made k f z starts e c callbacks t thread_bodies on_poll on_exit body) hv
+    ∙ ap (λ z. made k z v' starts e c callbacks t thread_bodies on_poll on_exit body) hf
+    ∙ ap (λ z. made k f' v' starts z c callbacks t thread_bodies on_poll on_exit body) he
+    ∙ ap (λ z. made k f' v' starts e' z callbacks t thread_bodies on_poll on_exit body) hc
     ∙ ap (λ z. made k f' v' starts e' c' callbacks z thread_bodies on_poll on_exit body) ht
 
 -- names beside what they have, put together again
@@ -73,11 +88,13 @@ pub zipped : {T : Type 0} (ps : List (Name × T)) → zip (named_of ps) (values_
 zipped [] = refl
 zipped (p ∷ ps) = ap (λ z. p ∷ z) (zipped ps)
 
-zipped_written : (n : Names) (ps : List (Name × (Body ℕ))) → zip (named_of ps) (map (written n) (values_of ps)) ≡ all_written n ps
+zipped_written : (n : Names) (ps : List (Name × (Body ℕ))) → zip (named_of ps) (map (written n) (values_of ps))
+    ≡ all_written n ps
 zipped_written n [] = refl
 zipped_written n (p ∷ ps) = ap (λ z. (p.0, written n p.1) ∷ z) (zipped_written n ps)
 
-abbrev shape_from : Names → List Valued → List Name → List (Name × (Body ℕ)) → List (Name × (Body ℕ)) → (on_poll on_exit : Option (Body ℕ)) → Body ℕ → CodeShape
+abbrev shape_from : Names → List Valued → List Name → List (Name × (Body ℕ)) → List (Name × (Body ℕ))
+    → (on_poll on_exit : Option (Body ℕ)) → Body ℕ → CodeShape
 shape_from n vs es cs ts on_poll on_exit body = record {
   variables = vs;
   etimers = es;
@@ -88,7 +105,8 @@ shape_from n vs es cs ts on_poll on_exit body = record {
   body = written n body;
 }
 
-abbrev shape_parts : Names → List Valued → List Name → (ctimers threads : List Named) → (on_poll on_exit : Option (Body ℕ)) → Body ℕ → CodeShape
+abbrev shape_parts : Names → List Valued → List Name → (ctimers threads : List Named)
+    → (on_poll on_exit : Option (Body ℕ)) → Body ℕ → CodeShape
 shape_parts n vs es cs ts on_poll on_exit body = record {
   variables = vs;
   etimers = es;
@@ -100,61 +118,108 @@ shape_parts n vs es cs ts on_poll on_exit body = record {
 }
 
 -- a shape is that of its code, with the names put back
-names_put_back : (n m : Names) (k : ℕ) (vs : List Valued) (es : List Name) (cs ts : List (Name × (Body ℕ))) (on_poll on_exit : Option (Body ℕ)) (body : Body ℕ) → m ≡ with_own n (named_of vs) (es ++ named_of cs) (named_of ts)
-    → shape_from m vs es cs ts on_poll on_exit body ≡ code_shape n (made k m.first_timer (named_of vs) (values_of vs) es (named_of cs) (values_of cs) (named_of ts) (values_of ts) on_poll on_exit body)
+names_put_back : (n m : Names) (k : ℕ) (vs : List Valued) (es : List Name) (cs ts : List (Name × (Body ℕ)))
+    (on_poll on_exit : Option (Body ℕ)) (body : Body ℕ)
+    → m ≡ with_own n (named_of vs) (es ++ named_of cs) (named_of ts)
+    → shape_from m vs es cs ts on_poll on_exit body
+    ≡ code_shape n (made k m.first_timer (named_of vs) (values_of vs) es (named_of cs) (values_of cs) (named_of ts)
+    (values_of ts) on_poll on_exit body)
 names_put_back n m k vs es cs ts on_poll on_exit body e =
     let w : Names = with_own n (named_of vs) (es ++ named_of cs) (named_of ts) in
     ap (λ z. shape_from z vs es cs ts on_poll on_exit body) e
     ∙ ap (λ z. shape_parts w z es (all_written w cs) (all_written w ts) on_poll on_exit body) (sym (zipped vs))
-    ∙ ap (λ z. shape_parts w (zip (named_of vs) (values_of vs)) es z (all_written w ts) on_poll on_exit body) (sym (zipped_written w cs))
-    ∙ ap (λ z. shape_parts w (zip (named_of vs) (values_of vs)) es (zip (named_of cs) (map (written w) (values_of cs))) z on_poll on_exit body) (sym (zipped_written w ts))
-    ∙ ap (λ f. code_shape n (made k f (named_of vs) (values_of vs) es (named_of cs) (values_of cs) (named_of ts) (values_of ts) on_poll on_exit body)) (sym (ap (λ (z : Names). z.first_timer) e))
+    ∙ ap (λ z. shape_parts w (zip (named_of vs) (values_of vs)) es z (all_written w ts) on_poll on_exit body)
+    (sym (zipped_written w cs))
+    ∙ ap (λ z. shape_parts w (zip (named_of vs) (values_of vs)) es (zip (named_of cs) (map (written w) (values_of cs)))
+    z on_poll on_exit body) (sym (zipped_written w ts))
+    ∙ ap (λ f. code_shape n (made k f (named_of vs) (values_of vs) es (named_of cs) (values_of cs) (named_of ts)
+    (values_of ts) on_poll on_exit body)) (sym (ap (λ (z : Names). z.first_timer) e))
 
-pub code_read : (x : Name) (k : ℕ) (code : Code) (es cs : List Name) (starts : List ℕ) (callbacks thread_bodies : List (Body ℕ)) (on_poll on_exit : Option (Body ℕ)) (body : Body ℕ) (s s' s'' : Scope) (t0 t1 t2 new : List Token)
-    → ReadsOpening x s t0 t1 → ReadsContent es cs starts callbacks thread_bodies on_poll on_exit body s s' t1 t2 → t2 ≡ token.CloseBrace ∷ new → ((f : Pending) → tell s' (last_brace ∷ f) t2 ≡ tell (with_names s' (outside s'.names)) f new)
-    → s'' ≡ with_names s' (outside s'.names) → code ≡ made k s'.names.first_timer s'.names.variables starts es cs callbacks s'.names.threads thread_bodies on_poll on_exit body
+pub code_read : (x : Name) (k : ℕ) (code : Code) (es cs : List Name) (starts : List ℕ)
+    (callbacks thread_bodies : List (Body ℕ)) (on_poll on_exit : Option (Body ℕ)) (body : Body ℕ) (s s' s'' : Scope)
+    (t0 t1 t2 new : List Token)
+    → ReadsOpening x s t0 t1 → ReadsContent es cs starts callbacks thread_bodies on_poll on_exit body s s' t1 t2
+    → t2 ≡ token.CloseBrace ∷ new → ((f : Pending)
+    → tell s' (last_brace ∷ f) t2 ≡ tell (with_names s' (outside s'.names)) f new)
+    → s'' ≡ with_names s' (outside s'.names) → code ≡ made k s'.names.first_timer s'.names.variables starts es cs
+    callbacks s'.names.threads thread_bodies on_poll on_exit body
     → ReadsCode x k code s s'' t0 new
-code_read x k code es cs starts callbacks thread_bodies on_poll on_exit body s s' s'' t0 t1 t2 new o r split last left is =
+code_read x k code es cs starts callbacks thread_bodies on_poll on_exit body s s' s'' t0 t1 t2 new o r split last left
+    is =
     let shape = shape_in es cs starts callbacks thread_bodies on_poll on_exit body s s' t1 t2 r in
     let full : s'.names ≡ inside s.names shape =
-    r.names ∙ ap (λ z. with_own s.names (named_of r.variables) (r.etimers ++ z) (named_of r.threads)) (sym (named_again s'.names r.ctimers))
-    ∙ ap (λ z. with_own s.names (named_of r.variables) (r.etimers ++ named_of (all_written s'.names r.ctimers)) z) (sym (named_again s'.names r.threads)) in
-    let same : made k s'.names.first_timer s'.names.variables starts es cs callbacks s'.names.threads thread_bodies on_poll on_exit body ≡ code_in k s'.names shape =
-    ap (λ z. made k s'.names.first_timer z.variables starts es cs callbacks z.threads thread_bodies on_poll on_exit body) full
-    ∙ ap (λ z. made k s'.names.first_timer (named_of r.variables) z es cs callbacks (named_of shape.threads) thread_bodies on_poll on_exit body) r.started
-    ∙ ap (λ z. made k s'.names.first_timer (named_of r.variables) (values_of r.variables) z cs callbacks (named_of shape.threads) thread_bodies on_poll on_exit body) r.first_timers
-    ∙ ap (λ z. made k s'.names.first_timer (named_of r.variables) (values_of r.variables) r.etimers z callbacks (named_of shape.threads) thread_bodies on_poll on_exit body) (r.last_timers ∙ sym (named_again s'.names r.ctimers))
-    ∙ ap (λ z. made k s'.names.first_timer (named_of r.variables) (values_of r.variables) r.etimers (named_of shape.ctimers) z (named_of shape.threads) thread_bodies on_poll on_exit body) (sym (all_again s'.names r.ctimers callbacks r.called r.callbacks_numbered))
-    ∙ ap (λ z. made k s'.names.first_timer (named_of r.variables) (values_of r.variables) r.etimers (named_of shape.ctimers) (map (block_in s'.names) (values_of shape.ctimers)) (named_of shape.threads) z on_poll on_exit body) (sym (all_again s'.names r.threads thread_bodies r.threaded r.threads_numbered))
-    ∙ ap (λ z. made k s'.names.first_timer (named_of r.variables) (values_of r.variables) r.etimers (named_of shape.ctimers) (map (block_in s'.names) (values_of shape.ctimers)) (named_of shape.threads) (map (block_in s'.names) (values_of shape.threads)) z on_exit body) (sym (maybe_again s'.names on_poll r.on_poll_numbered))
-    ∙ ap (λ z. made k s'.names.first_timer (named_of r.variables) (values_of r.variables) r.etimers (named_of shape.ctimers) (map (block_in s'.names) (values_of shape.ctimers)) (named_of shape.threads) (map (block_in s'.names) (values_of shape.threads)) (option_map (block_in s'.names) shape.on_poll) z body) (sym (maybe_again s'.names on_exit r.on_exit_numbered))
-    ∙ ap (λ z. made k s'.names.first_timer (named_of r.variables) (values_of r.variables) r.etimers (named_of shape.ctimers) (map (block_in s'.names) (values_of shape.ctimers)) (named_of shape.threads) (map (block_in s'.names) (values_of shape.threads)) (option_map (block_in s'.names) shape.on_poll) (option_map (block_in s'.names) shape.on_exit) z) (sym (r.body_numbered s'.names (extends_itself s'.names))) in
+    r.names ∙ ap (λ z. with_own s.names (named_of r.variables) (r.etimers ++ z) (named_of r.threads))
+    (sym (named_again s'.names r.ctimers))
+    ∙ ap (λ z. with_own s.names (named_of r.variables) (r.etimers ++ named_of (all_written s'.names r.ctimers)) z)
+    (sym (named_again s'.names r.threads)) in
+    let same : made k s'.names.first_timer s'.names.variables starts es cs callbacks s'.names.threads thread_bodies
+    on_poll on_exit body ≡ code_in k s'.names shape =
+    ap (λ z. made k s'.names.first_timer z.variables starts es cs callbacks z.threads thread_bodies on_poll on_exit
+    body) full
+    ∙ ap (λ z. made k s'.names.first_timer (named_of r.variables) z es cs callbacks (named_of shape.threads)
+    thread_bodies on_poll on_exit body) r.started
+    ∙ ap (λ z. made k s'.names.first_timer (named_of r.variables) (values_of r.variables) z cs callbacks
+    (named_of shape.threads) thread_bodies on_poll on_exit body) r.first_timers
+    ∙ ap (λ z. made k s'.names.first_timer (named_of r.variables) (values_of r.variables) r.etimers z callbacks
+    (named_of shape.threads) thread_bodies on_poll on_exit body)
+    (r.last_timers ∙ sym (named_again s'.names r.ctimers))
+    ∙ ap (λ z. made k s'.names.first_timer (named_of r.variables) (values_of r.variables) r.etimers
+    (named_of shape.ctimers) z (named_of shape.threads) thread_bodies on_poll on_exit body)
+    (sym (all_again s'.names r.ctimers callbacks r.called r.callbacks_numbered))
+    ∙ ap (λ z. made k s'.names.first_timer (named_of r.variables) (values_of r.variables) r.etimers
+    (named_of shape.ctimers) (map (block_in s'.names) (values_of shape.ctimers)) (named_of shape.threads) z on_poll
+    on_exit body) (sym (all_again s'.names r.threads thread_bodies r.threaded r.threads_numbered))
+    ∙ ap (λ z. made k s'.names.first_timer (named_of r.variables) (values_of r.variables) r.etimers
+    (named_of shape.ctimers) (map (block_in s'.names) (values_of shape.ctimers)) (named_of shape.threads)
+    (map (block_in s'.names) (values_of shape.threads)) z on_exit body)
+    (sym (maybe_again s'.names on_poll r.on_poll_numbered))
+    ∙ ap (λ z. made k s'.names.first_timer (named_of r.variables) (values_of r.variables) r.etimers
+    (named_of shape.ctimers) (map (block_in s'.names) (values_of shape.ctimers)) (named_of shape.threads)
+    (map (block_in s'.names) (values_of shape.threads)) (option_map (block_in s'.names) shape.on_poll) z body)
+    (sym (maybe_again s'.names on_exit r.on_exit_numbered))
+    ∙ ap (λ z. made k s'.names.first_timer (named_of r.variables) (values_of r.variables) r.etimers
+    (named_of shape.ctimers) (map (block_in s'.names) (values_of shape.ctimers)) (named_of shape.threads)
+    (map (block_in s'.names) (values_of shape.threads)) (option_map (block_in s'.names) shape.on_poll)
+    (option_map (block_in s'.names) shape.on_exit) z) (sym (r.body_numbered s'.names (extends_itself s'.names))) in
     record {
       shape = shape;
       tree = is ∙ same ∙ ap (λ z. code_in k z shape) full;
       put_back =
           names_put_back s.names s'.names k r.variables r.etimers r.ctimers r.threads on_poll on_exit body r.names
           ∙ ap (code_shape s.names) (sym (is
-          ∙ ap (λ z. made k s'.names.first_timer z.variables starts es cs callbacks z.threads thread_bodies on_poll on_exit body) r.names
-          ∙ ap (λ z. made k s'.names.first_timer (named_of r.variables) z es cs callbacks (named_of r.threads) thread_bodies on_poll on_exit body) r.started
-          ∙ ap (λ z. made k s'.names.first_timer (named_of r.variables) (values_of r.variables) z cs callbacks (named_of r.threads) thread_bodies on_poll on_exit body) r.first_timers
-          ∙ ap (λ z. made k s'.names.first_timer (named_of r.variables) (values_of r.variables) r.etimers z callbacks (named_of r.threads) thread_bodies on_poll on_exit body) r.last_timers
-          ∙ ap (λ z. made k s'.names.first_timer (named_of r.variables) (values_of r.variables) r.etimers (named_of r.ctimers) z (named_of r.threads) thread_bodies on_poll on_exit body) r.called
-          ∙ ap (λ z. made k s'.names.first_timer (named_of r.variables) (values_of r.variables) r.etimers (named_of r.ctimers) (values_of r.ctimers) (named_of r.threads) z on_poll on_exit body) r.threaded));
+          ∙ ap (λ z. made k s'.names.first_timer z.variables starts es cs callbacks z.threads thread_bodies on_poll
+          on_exit body) r.names
+          ∙ ap (λ z. made k s'.names.first_timer (named_of r.variables) z es cs callbacks (named_of r.threads)
+          thread_bodies on_poll on_exit body) r.started
+          ∙ ap (λ z. made k s'.names.first_timer (named_of r.variables) (values_of r.variables) z cs callbacks
+          (named_of r.threads) thread_bodies on_poll on_exit body) r.first_timers
+          ∙ ap (λ z. made k s'.names.first_timer (named_of r.variables) (values_of r.variables) r.etimers z callbacks
+          (named_of r.threads) thread_bodies on_poll on_exit body) r.last_timers
+          ∙ ap (λ z. made k s'.names.first_timer (named_of r.variables) (values_of r.variables) r.etimers
+          (named_of r.ctimers) z (named_of r.threads) thread_bodies on_poll on_exit body) r.called
+          ∙ ap (λ z. made k s'.names.first_timer (named_of r.variables) (values_of r.variables) r.etimers
+          (named_of r.ctimers) (values_of r.ctimers) (named_of r.threads) z on_poll on_exit body) r.threaded));
       left = ap (λ z. z.names) left ∙ ap outside full;
       starting = ap (λ z. z.starting) left ∙ r.starting;
-      spelled = λ ms e. o.spelled ∙ ap (λ ts. token.Keyword word.Code ∷ token.Name x ∷ token.OpenBrace ∷ ts) (r.spelled s'.names (extends_itself s'.names) (leaving ∷ ms) (sym (split ∙ ap (λ ts. token.CloseBrace ∷ ts) (sym e))));
-      goes_on = λ xs f. o.goes_on xs f ∙ r.goes_on (codes_form xs f) ∙ last (codes_form xs f) ∙ ap (λ z. tell z (codes_form xs f) new) (sym left);
+      spelled = λ ms e. o.spelled ∙ ap (λ ts. token.Keyword word.Code ∷ token.Name x ∷ token.OpenBrace ∷ ts)
+          (r.spelled s'.names (extends_itself s'.names) (leaving ∷ ms)
+          (sym (split ∙ ap (λ ts. token.CloseBrace ∷ ts) (sym e))));
+      goes_on = λ xs f. o.goes_on xs f ∙ r.goes_on (codes_form xs f) ∙ last (codes_form xs f)
+          ∙ ap (λ z. tell z (codes_form xs f) new) (sym left);
     }
 
 pub all_timers_long : (es cs : List Name) → length (es ++ cs) ≡ length es + length cs
 all_timers_long es cs = length-append es cs
 
-pub paired : (xs : List Name) (ys : List ℕ) (items : List (Name × ℕ)) → xs ≡ named_of items → ys ≡ values_of items → length ys ≡ length xs
-paired xs ys items e f = ap length f ∙ length-map items (λ p. p.1) ∙ sym (length-map items (λ p. p.0)) ∙ sym (ap length e)
+pub paired : (xs : List Name) (ys : List ℕ) (items : List (Name × ℕ)) → xs ≡ named_of items → ys ≡ values_of items
+    → length ys ≡ length xs
+paired xs ys items e f = ap length f ∙ length-map items (λ p. p.1) ∙ sym (length-map items (λ p. p.0))
+    ∙ sym (ap length e)
 
-pub blocks_paired : (xs : List Name) (ys : List (Body ℕ)) (items : List (Name × (Body ℕ))) → xs ≡ named_of items → ys ≡ values_of items → length ys ≡ length xs
-blocks_paired xs ys items e f = ap length f ∙ length-map items (λ p. p.1) ∙ sym (length-map items (λ p. p.0)) ∙ sym (ap length e)
+pub blocks_paired : (xs : List Name) (ys : List (Body ℕ)) (items : List (Name × (Body ℕ))) → xs ≡ named_of items
+    → ys ≡ values_of items → length ys ≡ length xs
+blocks_paired xs ys items e f = ap length f ∙ length-map items (λ p. p.1) ∙ sym (length-map items (λ p. p.0))
+    ∙ sym (ap length e)
 
 pub ruleset leave_steps = (all_timers_long)
 

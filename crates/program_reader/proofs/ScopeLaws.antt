@@ -1,5 +1,6 @@
 -- What is found stands in scope, and it stands there for the same whatever more is declared.
-use Rattle.std.proofs.Common.{◌≡◌, ℕ, ◌+◌, ◌-◌, List, [], ◌++◌, refl, sym, ap, ◌∙◌, arith, Option, Some, None, option_map, Bool, true, false, not, ◌&&◌, ◌||◌, is_some, slice_index_or}
+use Rattle.std.proofs.Common.{◌≡◌, ℕ, ◌+◌, ◌-◌, List, [], ◌++◌, refl, sym, ap, ◌∙◌, arith, Option, Some, None}
+use Rattle.std.proofs.Common.{option_map, Bool, true, false, not, ◌&&◌, ◌||◌, is_some, slice_index_or}
 use Rattle.program_tree.specs.InScope.{Names, names_of, is_a, is_in_scope, number_in, name_in, or_zero}
 use Rattle.program_tree.specs.Names.{place_of}
 use Rattle.program_tree.specs.Shapes.{Name}
@@ -18,7 +19,8 @@ not_mapped None n e = refl
 not_mapped (Some j) n e = absurd cc
 
 -- the place among the names of its class
-pub placed : (n : Names) (c : Class) (x : Name) (i : ℕ) → look n c x ≡ Some i → (j : ℕ) × (place_of (names_of n c) x ≡ Some j)
+pub placed : (n : Names) (c : Class) (x : Name) (i : ℕ) → look n c x ≡ Some i → (j : ℕ)
+    × (place_of (names_of n c) x ≡ Some j)
 placed n an_event x i e = (i, e)
 placed n a_semaphore x i e = (i, e)
 placed n a_process x i e = (i, e)
@@ -53,22 +55,26 @@ a_in_scope n a_variable x e = or_first _ _ (or_first _ _ (or_second _ _ e))
 a_in_scope n a_timer x e = or_first _ _ (or_second _ _ e)
 a_in_scope n a_thread x e = or_second _ _ e
 
-pub found_here : (n : Names) (own : Option Name) (c : Class) (x : Name) (i : ℕ) → look n c x ≡ Some i → is_own_thread own c x ≡ false → IsFound n own c x (found.Here i)
+pub found_here : (n : Names) (own : Option Name) (c : Class) (x : Name) (i : ℕ) → look n c x ≡ Some i
+    → is_own_thread own c x ≡ false → IsFound n own c x (found.Here i)
 found_here n own c x i e h = record { found = e; other = h }
 
-pub found_own : (n : Names) (own : Option Name) (c : Class) (x : Name) (i : ℕ) → look n c x ≡ Some i → is_own_thread own c x ≡ true → IsFound n own c x found.Other
+pub found_own : (n : Names) (own : Option Name) (c : Class) (x : Name) (i : ℕ) → look n c x ≡ Some i
+    → is_own_thread own c x ≡ true → IsFound n own c x found.Other
 found_own n own c x i e h = (a_in_scope n c x (found_is_a n c x i e), or_second _ _ h)
 
 and_both : (a b : Bool) → a ≡ true → b ≡ false → (a && not b) ≡ true
 and_both a b e f = rw (e, f) refl
 
-pub found_other : (n : Names) (own : Option Name) (c : Class) (x : Name) → look n c x ≡ None → is_in_scope n x ≡ true → IsFound n own c x found.Other
+pub found_other : (n : Names) (own : Option Name) (c : Class) (x : Name) → look n c x ≡ None → is_in_scope n x ≡ true
+    → IsFound n own c x found.Other
 found_other n own c x e h = (h, or_first _ _ (and_both _ _ h (none_is_a n c x e)))
 
 -- The number of what is found, and the name with that number, in any names that extend these.
 
 number_timer : (n : Names) (x : Name) (i : ℕ) → look n a_timer x ≡ Some i → number_in n a_timer x ≡ i
-number_timer n x i e = let q = mapped (place_of n.timers x) n.first_timer i e in ap (λ o. n.first_timer + or_zero o) q.1 ∙ sym q.2
+number_timer n x i e = let q = mapped (place_of n.timers x) n.first_timer i e in
+    ap (λ o. n.first_timer + or_zero o) q.1 ∙ sym q.2
 
 name_timer : (n : Names) (x : Name) (i : ℕ) → look n a_timer x ≡ Some i → name_in n a_timer i ≡ x
 name_timer n x i e =
@@ -92,23 +98,29 @@ name_found n a_variable x i e = laws.name_at n.variables x i e
 name_found n a_timer x i e = name_timer n x i e
 name_found n a_thread x i e = laws.name_at n.threads x i e
 
-grown : (xs ys : List Name) (x : Name) (i : ℕ) → (more : List Name) × (ys ≡ xs ++ more) → place_of xs x ≡ Some i → place_of ys x ≡ Some i
+grown : (xs ys : List Name) (x : Name) (i : ℕ) → (more : List Name) × (ys ≡ xs ++ more) → place_of xs x ≡ Some i
+    → place_of ys x ≡ Some i
 grown xs ys x i m e = ap (λ zs. place_of zs x) m.1 ∙ place_left xs m.0 x i e
 
-pub still_found : (n n' : Names) (c : Class) (x : Name) (i : ℕ) → Extends n n' → look n c x ≡ Some i → look n' c x ≡ Some i
+pub still_found : (n n' : Names) (c : Class) (x : Name) (i : ℕ) → Extends n n' → look n c x ≡ Some i
+    → look n' c x ≡ Some i
 still_found n n' an_event x i h e = grown _ _ x i (h.front an_event) e
 still_found n n' a_semaphore x i h e = grown _ _ x i (h.front a_semaphore) e
 still_found n n' a_process x i h e = grown _ _ x i (h.front a_process) e
 still_found n n' a_variable x i h e = grown _ _ x i (h.front a_variable) e
 still_found n n' a_timer x i h e =
     let q = mapped (place_of n.timers x) n.first_timer i e in
-    ap (option_map (λ k. n'.first_timer + k)) (grown n.timers n'.timers x q.0 (h.front a_timer) q.1) ∙ ap (λ k. Some (k + q.0)) h.first_timer ∙ ap Some (sym q.2)
+    ap (option_map (λ k. n'.first_timer + k)) (grown n.timers n'.timers x q.0 (h.front a_timer) q.1)
+    ∙ ap (λ k. Some (k + q.0)) h.first_timer ∙ ap Some (sym q.2)
 still_found n n' a_thread x i h e = grown _ _ x i (h.front a_thread) e
 
-pub name_again : (n n' : Names) (own : Option Name) (c : Class) (x : Name) (i : ℕ) → Finds n own c x i → Extends n n' → name_in n' c i ≡ x
+pub name_again : (n n' : Names) (own : Option Name) (c : Class) (x : Name) (i : ℕ) → Finds n own c x i → Extends n n'
+    → name_in n' c i ≡ x
 name_again n n' own c x i f h = name_found n' c x i (still_found n n' c x i h f.found)
 
-pub number_again : (n n' : Names) (own : Option Name) (c : Class) (x : Name) (i : ℕ) → Finds n own c x i → Extends n n' → number_in n' c (name_in n' c i) ≡ i
-number_again n n' own c x i f h = ap (number_in n' c) (name_again n n' own c x i f h) ∙ number_found n' c x i (still_found n n' c x i h f.found)
+pub number_again : (n n' : Names) (own : Option Name) (c : Class) (x : Name) (i : ℕ) → Finds n own c x i → Extends n n'
+    → number_in n' c (name_in n' c i) ≡ i
+number_again n n' own c x i f h = ap (number_in n' c) (name_again n n' own c x i f h)
+    ∙ number_found n' c x i (still_found n n' c x i h f.found)
 
 pub ruleset find_steps = (found_here, found_own, found_other)

@@ -1,5 +1,6 @@
 -- What starts at boot, name by name, and the receiver.
-use Rattle.std.proofs.Common.{◌≡◌, ◌<◌, nat_lt, ℕ, List, [], ◌∷◌, ◌++◌, length, drop, map, true, false, Option, Some, None, refl, ap, sym, subst, ◌∙◌, append_assoc}
+use Rattle.std.proofs.Common.{◌≡◌, ◌<◌, nat_lt, ℕ, List, [], ◌∷◌, ◌++◌, length, drop, map, true, false, Option, Some}
+use Rattle.std.proofs.Common.{None, refl, ap, sym, subst, ◌∙◌, append_assoc}
 use Rattle.std.specs.List.{All}
 use Rattle.std.proofs.lemmas.Bool.{ltb-true, lt-ltb}
 use Rattle.std.proofs.lemmas.List.{append-nil, map-append}
@@ -9,7 +10,8 @@ use Rattle.program_tree.specs.Forms as form
 use Rattle.program_tree.specs.Grammar.{tokens, sign, named, starts, at_body, operand_mark, starting_marks}
 use Rattle.program_reader.specs.Head.{with_starting, CanStart, IsStarting, HasStarting, ReadsAutostart, ReadsReceiver}
 use Rattle.program_tree.specs.InScope.{Names, names_of, is_in_scope, or_zero, number_in, name_in}
-use Rattle.program_text_laws.specs.Machine.{Pending, Verdict, tell, fault, first, first_broken, starting, more_starting, from_autostart, from_receiver, codes, semicolon, operand}
+use Rattle.program_text_laws.specs.Machine.{Pending, Verdict, tell, fault, first, first_broken, starting}
+use Rattle.program_text_laws.specs.Machine.{more_starting, from_autostart, from_receiver, codes, semicolon, operand}
 use Rattle.program_tree.specs.Names.{place_of}
 use Rattle.program_tree.specs.Scope.{Within}
 use Rattle.program_tree.specs.Shapes.{Name}
@@ -27,25 +29,33 @@ use Rattle.program_reader.proofs.Stages.{no_autostart, no_receiver}
 
 -- one name
 
-pub start_unknown : (s : Scope) (x : Name) → is_in_scope s.names x ≡ false → first_broken s (named x (starts x)) ≡ Some UnknownName
+pub start_unknown : (s : Scope) (x : Name) → is_in_scope s.names x ≡ false → first_broken s (named x (starts x))
+    ≡ Some UnknownName
 start_unknown s x h = rw h refl
 
-pub start_twice : (s : Scope) (x : Name) (i : ℕ) → is_in_scope s.names x ≡ true → place_of s.starting x ≡ Some i → first_broken s (named x (starts x)) ≡ Some NameTwice
+pub start_twice : (s : Scope) (x : Name) (i : ℕ) → is_in_scope s.names x ≡ true → place_of s.starting x ≡ Some i
+    → first_broken s (named x (starts x)) ≡ Some NameTwice
 start_twice s x i h k = rw (h, k) refl
 
-pub start_other : (s : Scope) (x : Name) → is_in_scope s.names x ≡ true → place_of s.starting x ≡ None → place_of s.names.processes x ≡ None → first_broken s (named x (starts x)) ≡ Some BadTarget
+pub start_other : (s : Scope) (x : Name) → is_in_scope s.names x ≡ true → place_of s.starting x ≡ None
+    → place_of s.names.processes x ≡ None → first_broken s (named x (starts x)) ≡ Some BadTarget
 start_other s x h k l = rw (h, k, l) refl
 
-pub can_start : (s : Scope) (x : Name) (i : ℕ) → is_in_scope s.names x ≡ true → place_of s.starting x ≡ None → place_of s.names.processes x ≡ Some i → CanStart s x i
+pub can_start : (s : Scope) (x : Name) (i : ℕ) → is_in_scope s.names x ≡ true → place_of s.starting x ≡ None
+    → place_of s.names.processes x ≡ Some i → CanStart s x i
 can_start s x i h k l = record { declared = h; fresh = k; known = l }
 
 pub ruleset startable_steps = (start_unknown, start_twice, start_other, can_start)
 
-pub start_fails : (s : Scope) (x : Name) (k : ReadErrorKind) (old : List Token) (more : Pending) → first old ≡ Some (token.Name x) → first_broken s (named x (starts x)) ≡ Some k → tell s (starting ∷ more) old ≡ fault k (length old)
+pub start_fails : (s : Scope) (x : Name) (k : ReadErrorKind) (old : List Token) (more : Pending)
+    → first old ≡ Some (token.Name x) → first_broken s (named x (starts x)) ≡ Some k
+    → tell s (starting ∷ more) old ≡ fault k (length old)
 start_fails s x k old more is h = broken s (starting ∷ more) more old (token.Name x) (named x (starts x)) k is refl h
 
-pub is_starting : (s s' : Scope) (numbers numbers' : List ℕ) (x : Name) (i : ℕ) (old new : List Token) → first old ≡ Some (token.Name x) → new ≡ drop 1 old → CanStart s x i
-    → s' ≡ with_starting s (s.starting ++ x ∷ []) → numbers' ≡ numbers ++ i ∷ [] → IsStarting s s' numbers numbers' old new
+pub is_starting : (s s' : Scope) (numbers numbers' : List ℕ) (x : Name) (i : ℕ) (old new : List Token)
+    → first old ≡ Some (token.Name x) → new ≡ drop 1 old → CanStart s x i
+    → s' ≡ with_starting s (s.starting ++ x ∷ []) → numbers' ≡ numbers ++ i ∷ []
+    → IsStarting s s' numbers numbers' old new
 is_starting s s' numbers numbers' x i old new is from can added pushed = record {
   name = x;
   number = i;
@@ -54,7 +64,8 @@ is_starting s s' numbers numbers' x i old new is from can added pushed = record 
   pushed = pushed;
   spelled = front_of old (token.Name x) is ∙ ap (λ ts. token.Name x ∷ ts) (sym from);
   goes_on = λ f.
-      taken s (starting ∷ f) f old (token.Name x) (named x (starts x)) is refl (rw (can.declared, can.fresh, can.known) refl)
+      taken s (starting ∷ f) f old (token.Name x) (named x (starts x)) is refl
+      (rw (can.declared, can.fresh, can.known) refl)
       ∙ ap (λ ts. tell (with_starting s (s.starting ++ x ∷ [])) f ts) (sym from) ∙ ap (λ z. tell z f new) (sym added);
 }
 
@@ -68,7 +79,9 @@ all_one n i h = All-cons (λ k. k < n) i [] h (All-nil (λ k. k < n))
 number_is : (n : Names) (x : Name) (i : ℕ) → place_of n.processes x ≡ Some i → number_in n a_process x ≡ i
 number_is n x i e = ap or_zero e
 
-pub has_first : (s s' : Scope) (n0 n1 : List ℕ) (old m0 rest : List Token) → n0 ≡ [] → first old ≡ Some (token.Keyword word.Autostart) → m0 ≡ drop 1 old → IsStarting s s' n0 n1 m0 rest → HasStarting s s' n1 old rest
+pub has_first : (s s' : Scope) (n0 n1 : List ℕ) (old m0 rest : List Token) → n0 ≡ []
+    → first old ≡ Some (token.Keyword word.Autostart) → m0 ≡ drop 1 old → IsStarting s s' n0 n1 m0 rest
+    → HasStarting s s' n1 old rest
 has_first s s' n0 n1 old m0 rest none is from r =
     let split : old ≡ token.Keyword word.Autostart ∷ m0 = keyword_then (token.Keyword word.Autostart) old m0 is from in
     let pushed : n1 ≡ r.number ∷ [] = r.pushed ∙ ap (λ z. z ++ r.number ∷ []) none in
@@ -77,41 +90,58 @@ has_first s s' n0 n1 old m0 rest none is from r =
       others = [];
       added = r.added;
       numbered = pushed ∙ ap (λ i. i ∷ []) (sym (number_is s.names r.name r.number r.known));
-      named = sym (ap (map (name_in s.names a_process)) pushed ∙ ap (λ x. x ∷ []) (name_at s.names.processes r.name r.number r.known));
-      within = subst (λ z. All (λ i. i < length s.names.processes) z) (sym pushed) (all_one _ r.number (place_below s.names.processes r.name r.number r.known));
-      spelled = λ more ms e. split ∙ ap (λ ts. token.Keyword word.Autostart ∷ ts) (r.spelled ∙ ap (λ ts. token.Name r.name ∷ ts) (sym e));
-      goes_on = λ x xs f. ap (tell s (from_autostart x xs ∷ f)) split ∙ r.goes_on (more_starting ∷ from_receiver x xs ∷ f);
+      named = sym (ap (map (name_in s.names a_process)) pushed
+          ∙ ap (λ x. x ∷ []) (name_at s.names.processes r.name r.number r.known));
+      within = subst (λ z. All (λ i. i < length s.names.processes) z) (sym pushed)
+          (all_one _ r.number (place_below s.names.processes r.name r.number r.known));
+      spelled = λ more ms e. split ∙ ap (λ ts. token.Keyword word.Autostart ∷ ts)
+          (r.spelled ∙ ap (λ ts. token.Name r.name ∷ ts) (sym e));
+      goes_on = λ x xs f. ap (tell s (from_autostart x xs ∷ f)) split
+          ∙ r.goes_on (more_starting ∷ from_receiver x xs ∷ f);
     }
 
-pub has_more : (s m s' : Scope) (n1 n2 : List ℕ) (old rest m0 new : List Token) → HasStarting s m n1 old rest → first rest ≡ Some token.Comma → m0 ≡ drop 1 rest → IsStarting m s' n1 n2 m0 new → HasStarting s s' n2 old new
+pub has_more : (s m s' : Scope) (n1 n2 : List ℕ) (old rest m0 new : List Token) → HasStarting s m n1 old rest
+    → first rest ≡ Some token.Comma → m0 ≡ drop 1 rest → IsStarting m s' n1 n2 m0 new → HasStarting s s' n2 old new
 has_more s m s' n1 n2 old rest m0 new h is from r =
     let split : rest ≡ token.Comma ∷ m0 = keyword_then token.Comma rest m0 is from in
-    let known : place_of s.names.processes r.name ≡ Some r.number = ap (λ z. place_of z.names.processes r.name) (sym h.added) ∙ r.known in
+    let known : place_of s.names.processes r.name ≡ Some r.number =
+    ap (λ z. place_of z.names.processes r.name) (sym h.added) ∙ r.known in
     record {
       first = h.first;
       others = h.others ++ r.name ∷ [];
-      added = r.added ∙ ap (λ z. with_starting z (z.starting ++ r.name ∷ [])) h.added ∙ ap (with_starting s) (append_assoc s.starting (h.first ∷ h.others) (r.name ∷ []));
+      added = r.added ∙ ap (λ z. with_starting z (z.starting ++ r.name ∷ [])) h.added
+          ∙ ap (with_starting s) (append_assoc s.starting (h.first ∷ h.others) (r.name ∷ []));
       numbered =
-          r.pushed ∙ ap (λ z. z ++ r.number ∷ []) h.numbered ∙ ap (λ i. map (number_in s.names a_process) (h.first ∷ h.others) ++ i ∷ []) (sym (number_is s.names r.name r.number known))
+          r.pushed ∙ ap (λ z. z ++ r.number ∷ []) h.numbered
+          ∙ ap (λ i. map (number_in s.names a_process) (h.first ∷ h.others) ++ i ∷ [])
+          (sym (number_is s.names r.name r.number known))
           ∙ sym (map-append (number_in s.names a_process) (h.first ∷ h.others) (r.name ∷ []));
       named =
-          sym (ap (map (name_in s.names a_process)) r.pushed ∙ map-append (name_in s.names a_process) n1 (r.number ∷ []) ∙ ap (λ zs. zs ++ (name_in s.names a_process r.number ∷ [])) (sym h.named)
+          sym (ap (map (name_in s.names a_process)) r.pushed ∙ map-append (name_in s.names a_process) n1
+          (r.number ∷ []) ∙ ap (λ zs. zs ++ (name_in s.names a_process r.number ∷ [])) (sym h.named)
           ∙ ap (λ x. (h.first ∷ h.others) ++ x ∷ []) (name_at s.names.processes r.name r.number known));
       within =
           subst (λ z. All (λ i. i < length s.names.processes) z) (sym r.pushed)
-          (All-append (λ i. i < length s.names.processes) n1 (r.number ∷ []) h.within (all_one _ r.number (place_below s.names.processes r.name r.number known)));
+          (All-append (λ i. i < length s.names.processes) n1 (r.number ∷ []) h.within
+          (all_one _ r.number (place_below s.names.processes r.name r.number known)));
       spelled = λ more ms e.
-          h.spelled (r.name ∷ more) ms (sym (split ∙ ap (λ ts. token.Comma ∷ ts) (r.spelled ∙ ap (λ ts. token.Name r.name ∷ ts) (sym e))))
-          ∙ ap (λ z. token.Keyword word.Autostart ∷ token.Name h.first ∷ tokens (starting_marks z ms)) (sym (append_assoc h.others (r.name ∷ []) more));
-      goes_on = λ x xs f. h.goes_on x xs f ∙ ap (tell m (more_starting ∷ from_receiver x xs ∷ f)) split ∙ r.goes_on (more_starting ∷ from_receiver x xs ∷ f);
+          h.spelled (r.name ∷ more) ms (sym (split ∙ ap (λ ts. token.Comma ∷ ts)
+          (r.spelled ∙ ap (λ ts. token.Name r.name ∷ ts) (sym e))))
+          ∙ ap (λ z. token.Keyword word.Autostart ∷ token.Name h.first ∷ tokens (starting_marks z ms))
+          (sym (append_assoc h.others (r.name ∷ []) more));
+      goes_on = λ x xs f. h.goes_on x xs f ∙ ap (tell m (more_starting ∷ from_receiver x xs ∷ f)) split
+          ∙ r.goes_on (more_starting ∷ from_receiver x xs ∷ f);
     }
 
-no_comma : (s : Scope) (f : Pending) (ts : List Token) → (first ts ≡ Some token.Comma → ⊥) → tell s (more_starting ∷ f) ts ≡ tell s (semicolon ∷ f) ts
+no_comma : (s : Scope) (f : Pending) (ts : List Token) → (first ts ≡ Some token.Comma → ⊥)
+    → tell s (more_starting ∷ f) ts ≡ tell s (semicolon ∷ f) ts
 no_comma s f [] h = refl
 no_comma s f (token.Comma ∷ ts) h = absurd (h refl)
 no_comma s f (t ∷ ts) h = refl
 
-pub has_all : (s m : Scope) (n : List ℕ) (old rest r new : List Token) → HasStarting s m n old rest → (first rest ≡ Some token.Comma → ⊥) → r ≡ rest → ReadsSign semicolon token.Semicolon r new → ReadsAutostart s m n old new
+pub has_all : (s m : Scope) (n : List ℕ) (old rest r new : List Token) → HasStarting s m n old rest
+    → (first rest ≡ Some token.Comma → ⊥) → r ≡ rest → ReadsSign semicolon token.Semicolon r new
+    → ReadsAutostart s m n old new
 has_all s m n old rest r new h other same k =
     let split : rest ≡ token.Semicolon ∷ new = sym same ∙ k.spelled in
     record {
@@ -122,38 +152,61 @@ has_all s m n old rest r new h other same k =
       within = h.within;
       spelled = λ ms e.
           h.spelled [] ms (sym (split ∙ ap (λ ts. token.Semicolon ∷ ts) (sym e)))
-          ∙ ap (λ z. token.Keyword word.Autostart ∷ token.Name h.first ∷ tokens (starting_marks z ms)) (append-nil h.others);
-      goes_on = λ x xs f. h.goes_on x xs f ∙ no_comma m (from_receiver x xs ∷ f) rest other ∙ ap (tell m (semicolon ∷ from_receiver x xs ∷ f)) (sym same) ∙ k.goes_on m (from_receiver x xs ∷ f);
+          ∙ ap (λ z. token.Keyword word.Autostart ∷ token.Name h.first ∷ tokens (starting_marks z ms))
+          (append-nil h.others);
+      goes_on = λ x xs f. h.goes_on x xs f ∙ no_comma m (from_receiver x xs ∷ f) rest other
+          ∙ ap (tell m (semicolon ∷ from_receiver x xs ∷ f)) (sym same) ∙ k.goes_on m (from_receiver x xs ∷ f);
     }
 
-pub none_starts : (s s' : Scope) (n : List ℕ) (old new : List Token) → s' ≡ s → n ≡ [] → (first old ≡ Some (token.Keyword word.Autostart) → ⊥) → new ≡ old → ReadsAutostart s s' n old new
+pub none_starts : (s s' : Scope) (n : List ℕ) (old new : List Token) → s' ≡ s → n ≡ []
+    → (first old ≡ Some (token.Keyword word.Autostart) → ⊥) → new ≡ old → ReadsAutostart s s' n old new
 none_starts s s' n old new scope none other same = record {
   names = [];
   added = scope ∙ ap (with_starting s) (sym (append-nil s.starting));
   numbered = none;
   named = sym (ap (map (name_in s.names a_process)) none);
-  within = subst (λ z. All (λ i. i < length s.names.processes) z) (sym none) (All-nil (λ i. i < length s.names.processes));
+  within = subst (λ z. All (λ i. i < length s.names.processes) z) (sym none)
+      (All-nil (λ i. i < length s.names.processes));
   spelled = λ ms e. sym same ∙ sym e;
-  goes_on = λ x xs f. no_autostart s x xs f old other ∙ ap (tell s (from_receiver x xs ∷ f)) (sym same) ∙ ap (λ z. tell z (from_receiver x xs ∷ f) new) (sym scope);
+  goes_on = λ x xs f. no_autostart s x xs f old other ∙ ap (tell s (from_receiver x xs ∷ f)) (sym same)
+      ∙ ap (λ z. tell z (from_receiver x xs ∷ f) new) (sym scope);
 }
 
-pub first_fails : (s : Scope) (old m0 : List Token) (v : Verdict) (x : Name) (xs : List Name) (more : Pending) → first old ≡ Some (token.Keyword word.Autostart) → m0 ≡ drop 1 old → ((more : Pending) → tell s (starting ∷ more) m0 ≡ v) → tell s (from_autostart x xs ∷ more) old ≡ v
-first_fails s old m0 v x xs more is from e = ap (tell s (from_autostart x xs ∷ more)) (keyword_then (token.Keyword word.Autostart) old m0 is from) ∙ e (more_starting ∷ from_receiver x xs ∷ more)
+pub first_fails : (s : Scope) (old m0 : List Token) (v : Verdict) (x : Name) (xs : List Name) (more : Pending)
+    → first old ≡ Some (token.Keyword word.Autostart) → m0 ≡ drop 1 old
+    → ((more : Pending) → tell s (starting ∷ more) m0 ≡ v) → tell s (from_autostart x xs ∷ more) old ≡ v
+first_fails s old m0 v x xs more is from e = ap (tell s (from_autostart x xs ∷ more))
+    (keyword_then (token.Keyword word.Autostart) old m0 is from) ∙ e (more_starting ∷ from_receiver x xs ∷ more)
 
-pub more_fails : (s m : Scope) (n : List ℕ) (old rest m0 : List Token) (v : Verdict) (x : Name) (xs : List Name) (more : Pending) → HasStarting s m n old rest → first rest ≡ Some token.Comma → m0 ≡ drop 1 rest → ((more : Pending) → tell m (starting ∷ more) m0 ≡ v)
+pub more_fails : (s m : Scope) (n : List ℕ) (old rest m0 : List Token) (v : Verdict) (x : Name) (xs : List Name)
+    (more : Pending) → HasStarting s m n old rest → first rest ≡ Some token.Comma → m0 ≡ drop 1 rest
+    → ((more : Pending) → tell m (starting ∷ more) m0 ≡ v)
     → tell s (from_autostart x xs ∷ more) old ≡ v
 more_fails s m n old rest m0 v x xs more h is from e =
-    h.goes_on x xs more ∙ ap (tell m (more_starting ∷ from_receiver x xs ∷ more)) (keyword_then token.Comma rest m0 is from) ∙ e (more_starting ∷ from_receiver x xs ∷ more)
+    h.goes_on x xs more ∙ ap (tell m (more_starting ∷ from_receiver x xs ∷ more))
+    (keyword_then token.Comma rest m0 is from) ∙ e (more_starting ∷ from_receiver x xs ∷ more)
 
-pub end_fails : (s m : Scope) (n : List ℕ) (old rest r : List Token) (v : Verdict) (x : Name) (xs : List Name) (more : Pending) → HasStarting s m n old rest → (first rest ≡ Some token.Comma → ⊥) → r ≡ rest → ((t : Scope) (f : Pending) → tell t (semicolon ∷ f) r ≡ v)
+pub end_fails : (s m : Scope) (n : List ℕ) (old rest r : List Token) (v : Verdict) (x : Name) (xs : List Name)
+    (more : Pending) → HasStarting s m n old rest → (first rest ≡ Some token.Comma → ⊥) → r ≡ rest
+    → ((t : Scope) (f : Pending) → tell t (semicolon ∷ f) r ≡ v)
     → tell s (from_autostart x xs ∷ more) old ≡ v
 end_fails s m n old rest r v x xs more h other same e =
-    h.goes_on x xs more ∙ no_comma m (from_receiver x xs ∷ more) rest other ∙ ap (tell m (semicolon ∷ from_receiver x xs ∷ more)) (sym same) ∙ e m (from_receiver x xs ∷ more)
+    h.goes_on x xs more ∙ no_comma m (from_receiver x xs ∷ more) rest other
+    ∙ ap (tell m (semicolon ∷ from_receiver x xs ∷ more)) (sym same) ∙ e m (from_receiver x xs ∷ more)
 
 -- the receiver
 
-pub no_receiver_read : (s : Scope) (old new : List Token) → (first old ≡ Some (token.Keyword word.Receiver) → ⊥) → new ≡ old → ReadsReceiver s None old new
-no_receiver_read s old new other same = record { name = None; numbered = refl; named = refl; within = tt; spelled = λ ms e. sym same ∙ sym e; goes_on = λ x xs f. no_receiver s x xs f old other ∙ ap (tell s (codes x xs ∷ f)) (sym same) }
+pub no_receiver_read : (s : Scope) (old new : List Token) → (first old ≡ Some (token.Keyword word.Receiver) → ⊥)
+    → new ≡ old → ReadsReceiver s None old new
+no_receiver_read s old new other same = record {
+  name = None;
+  numbered = refl;
+  named = refl;
+  within = tt;
+  spelled = λ ms e. sym same ∙ sym e;
+  goes_on = λ x xs f. no_receiver s x xs f old other
+      ∙ ap (tell s (codes x xs ∷ f)) (sym same);
+}
 
 extends_itself : (n : Names) → Extends n n
 extends_itself n = record { front = λ c. ([], sym (append-nil (names_of n c))); first_timer = refl }
@@ -163,7 +216,8 @@ within_processes : Names → Within
 within_processes n a_process i = nat_lt i (length n.processes)
 within_processes n c i = true
 
-covers_processes : (n : Names) (own : Option Name) (c : Class) (x : Name) (i : ℕ) → Finds n own c x i → within_processes n c i ≡ true
+covers_processes : (n : Names) (own : Option Name) (c : Class) (x : Name) (i : ℕ) → Finds n own c x i
+    → within_processes n c i ≡ true
 unfolding within_processes
 covers_processes n own a_process x i f = lt-ltb i (length n.processes) (place_below n.processes x i f.found)
 covers_processes n own c x i f = refl
@@ -172,8 +226,11 @@ pub process_within : (n : Names) (own : Option Name) (i : ℕ) → Fits n own (�
 unfolding within_processes
 process_within n own i h = ltb-true i (length n.processes) (h (within_processes n) (covers_processes n own))
 
-pub receiver_read : (s : Scope) (i : ℕ) (old m0 m1 new : List Token) → first old ≡ Some (token.Keyword word.Receiver) → m0 ≡ drop 1 old → Reads s s (operand at_body (form.name a_process)) (λ n ms. operand_mark at_body (form.name a_process) (name_in n a_process i) ∷ ms) m0 m1
-    → Numbered s.names (λ n. number_in n a_process (name_in n a_process i)) i → i < length s.names.processes → ReadsSign semicolon token.Semicolon m1 new → ReadsReceiver s (Some i) old new
+pub receiver_read : (s : Scope) (i : ℕ) (old m0 m1 new : List Token) → first old ≡ Some (token.Keyword word.Receiver)
+    → m0 ≡ drop 1 old → Reads s s (operand at_body (form.name a_process))
+    (λ n ms. operand_mark at_body (form.name a_process) (name_in n a_process i) ∷ ms) m0 m1
+    → Numbered s.names (λ n. number_in n a_process (name_in n a_process i)) i → i < length s.names.processes
+    → ReadsSign semicolon token.Semicolon m1 new → ReadsReceiver s (Some i) old new
 receiver_read s i old m0 m1 new is from r numbered within k =
     let split : old ≡ token.Keyword word.Receiver ∷ m0 = keyword_then (token.Keyword word.Receiver) old m0 is from in
     record {
@@ -181,18 +238,29 @@ receiver_read s i old m0 m1 new is from r numbered within k =
       numbered = ap Some (sym (numbered s.names (extends_itself s.names)));
       named = refl;
       within = within;
-      spelled = λ ms e. split ∙ ap (λ ts. token.Keyword word.Receiver ∷ ts) (r.spelled s.names (extends_itself s.names) (sign token.Semicolon ∷ ms) (sym (k.spelled ∙ ap (λ ts. token.Semicolon ∷ ts) (sym e))));
-      goes_on = λ x xs f. ap (tell s (from_receiver x xs ∷ f)) split ∙ r.goes_on (semicolon ∷ codes x xs ∷ f) ∙ k.goes_on s (codes x xs ∷ f);
+      spelled = λ ms e. split ∙ ap (λ ts. token.Keyword word.Receiver ∷ ts)
+          (r.spelled s.names (extends_itself s.names) (sign token.Semicolon ∷ ms)
+          (sym (k.spelled ∙ ap (λ ts. token.Semicolon ∷ ts) (sym e))));
+      goes_on = λ x xs f. ap (tell s (from_receiver x xs ∷ f)) split ∙ r.goes_on (semicolon ∷ codes x xs ∷ f)
+          ∙ k.goes_on s (codes x xs ∷ f);
     }
 
-pub receiver_fails : (s : Scope) (old m0 : List Token) (v : Verdict) (x : Name) (xs : List Name) (more : Pending) → first old ≡ Some (token.Keyword word.Receiver) → m0 ≡ drop 1 old → ((more : Pending) → tell s (operand at_body (form.name a_process) ∷ more) m0 ≡ v)
+pub receiver_fails : (s : Scope) (old m0 : List Token) (v : Verdict) (x : Name) (xs : List Name) (more : Pending)
+    → first old ≡ Some (token.Keyword word.Receiver) → m0 ≡ drop 1 old
+    → ((more : Pending) → tell s (operand at_body (form.name a_process) ∷ more) m0 ≡ v)
     → tell s (from_receiver x xs ∷ more) old ≡ v
-receiver_fails s old m0 v x xs more is from e = ap (tell s (from_receiver x xs ∷ more)) (keyword_then (token.Keyword word.Receiver) old m0 is from) ∙ e (semicolon ∷ codes x xs ∷ more)
+receiver_fails s old m0 v x xs more is from e =
+    ap (tell s (from_receiver x xs ∷ more)) (keyword_then (token.Keyword word.Receiver) old m0 is from)
+    ∙ e (semicolon ∷ codes x xs ∷ more)
 
-pub receiver_end_fails : (s : Scope) (i : ℕ) (old m0 m1 : List Token) (v : Verdict) (x : Name) (xs : List Name) (more : Pending) → first old ≡ Some (token.Keyword word.Receiver) → m0 ≡ drop 1 old
-    → Reads s s (operand at_body (form.name a_process)) (λ n ms. operand_mark at_body (form.name a_process) (name_in n a_process i) ∷ ms) m0 m1 → ((t : Scope) (f : Pending) → tell t (semicolon ∷ f) m1 ≡ v) → tell s (from_receiver x xs ∷ more) old ≡ v
+pub receiver_end_fails : (s : Scope) (i : ℕ) (old m0 m1 : List Token) (v : Verdict) (x : Name) (xs : List Name)
+    (more : Pending) → first old ≡ Some (token.Keyword word.Receiver) → m0 ≡ drop 1 old
+    → Reads s s (operand at_body (form.name a_process))
+    (λ n ms. operand_mark at_body (form.name a_process) (name_in n a_process i) ∷ ms) m0 m1
+    → ((t : Scope) (f : Pending) → tell t (semicolon ∷ f) m1 ≡ v) → tell s (from_receiver x xs ∷ more) old ≡ v
 receiver_end_fails s i old m0 m1 v x xs more is from r e =
-    ap (tell s (from_receiver x xs ∷ more)) (keyword_then (token.Keyword word.Receiver) old m0 is from) ∙ r.goes_on (semicolon ∷ codes x xs ∷ more) ∙ e s (codes x xs ∷ more)
+    ap (tell s (from_receiver x xs ∷ more)) (keyword_then (token.Keyword word.Receiver) old m0 is from)
+    ∙ r.goes_on (semicolon ∷ codes x xs ∷ more) ∙ e s (codes x xs ∷ more)
 
 pub ruleset autostart_steps = (none_starts, has_first, has_all, first_fails)
 

@@ -13,7 +13,8 @@ use Rattle.program_tree.specs.Tokens as token
 use Rattle.program_tree.specs.Tokens.{Token}
 use Rattle.program_tree.specs.Tree as tree
 use Rattle.program_tree.specs.Tree.{Class, Expression, expression_map, binary, negation}
-use Rattle.program_reader.specs.Values.{alone_keyword, alone_value, telling_keyword, telling_class, telling_value, ReadsSides}
+use Rattle.program_reader.specs.Values.{alone_keyword, alone_value, telling_keyword, telling_class, telling_value}
+use Rattle.program_reader.specs.Values.{ReadsSides}
 use Rattle.program_tree.specs.declared.error.ReadErrorKind.TheVariants.{Unexpected}
 use Rattle.program_tree.specs.declared.keyword.Keyword.{Keyword}
 use Rattle.program_tree.specs.declared.tree.Operator.{Operator}
@@ -26,7 +27,8 @@ use Rattle.program_reader.proofs.NameSteps.{front_of}
 
 -- the expression in the words of its marks
 abbrev ReadsValue : Scope → Context → Expression ℕ → List Token → List Token → Type 0
-ReadsValue s c e old new = Reads s s (expression c) (λ n ms. expression_marks c (expression_map (name_in n) e) ms) old new
+ReadsValue s c e old new = Reads s s (expression c) (λ n ms. expression_marks c (expression_map (name_in n) e) ms) old
+    new
 
 abbrev NumbersValue : Names → Expression ℕ → Type 0
 NumbersValue n e = Numbered n (λ n'. expression_map (number_in n') (expression_map (name_in n') e)) e
@@ -42,17 +44,21 @@ alone_form alone_word.Sender = refl
 alone_form alone_word.Moment = refl
 alone_form alone_word.Mote = refl
 
-alone_at : (s : Scope) (c : Context) (a : Alone) (old new : List Token) → Reads s s (expression c) (λ n ms. key (alone_keyword a) ∷ ms) old new → ReadsValue s c (alone_value a) old new
+alone_at : (s : Scope) (c : Context) (a : Alone) (old new : List Token)
+    → Reads s s (expression c) (λ n ms. key (alone_keyword a) ∷ ms) old new → ReadsValue s c (alone_value a) old new
 alone_at s c alone_word.Word old new r = r
 alone_at s c alone_word.Sender old new r = r
 alone_at s c alone_word.Moment old new r = r
 alone_at s c alone_word.Mote old new r = r
 
-pub alone_reads : (s : Scope) (c : Context) (a : Alone) (k : Keyword) (e : Expression ℕ) (old new : List Token) → k ≡ alone_keyword a → e ≡ alone_value a → first old ≡ Some (token.Keyword k) → new ≡ drop 1 old → ReadsValue s c e old new
+pub alone_reads : (s : Scope) (c : Context) (a : Alone) (k : Keyword) (e : Expression ℕ) (old new : List Token)
+    → k ≡ alone_keyword a → e ≡ alone_value a → first old ≡ Some (token.Keyword k) → new ≡ drop 1 old
+    → ReadsValue s c e old new
 alone_reads s c a k e old new same is here from =
     let at : first old ≡ Some (token.Keyword (alone_keyword a)) = here ∙ ap (λ z. Some (token.Keyword z)) same in
     subst (λ z. ReadsValue s c z old new) (sym is) (alone_at s c a old new (record {
-      spelled = λ n h ms q. front_of old (token.Keyword (alone_keyword a)) at ∙ ap (λ ts. token.Keyword (alone_keyword a) ∷ ts) (sym from ∙ sym q);
+      spelled = λ n h ms q. front_of old (token.Keyword (alone_keyword a))
+          at ∙ ap (λ ts. token.Keyword (alone_keyword a) ∷ ts) (sym from ∙ sym q);
       goes_on = λ f. alone_start s c f old (alone_keyword a) at (alone_form a) ∙ ap (λ ts. tell s f ts) (sym from);
     }))
 
@@ -74,59 +80,78 @@ alone_fits_at n own alone_word.Mote = λ w h. refl
 pub alone_fits : (n : Names) (own : Option Name) (a : Alone) (e : Expression ℕ) → e ≡ alone_value a → FitsValue n own e
 alone_fits n own a e is = subst (λ z. FitsValue n own z) (sym is) (alone_fits_at n own a)
 
--- a keyword that tells of a name
+-- a keyword that asks about a name
 
 telling_at : (s : Scope) (c : Context) (t : Telling) (i : ℕ) (old new : List Token) →
-    Reads s s (expression c) (λ n ms. key (telling_keyword t) ∷ sign token.Open ∷ operand_mark c (form.name (telling_class t)) (name_in n (telling_class t) i) ∷ sign token.Close ∷ ms) old new → ReadsValue s c (telling_value t i) old new
+    Reads s s (expression c) (λ n ms. key (telling_keyword t) ∷ sign token.Open ∷ operand_mark c
+    (form.name (telling_class t)) (name_in n (telling_class t) i) ∷ sign token.Close ∷ ms) old new
+    → ReadsValue s c (telling_value t i) old new
 telling_at s c telling.Fired i old new r = r
 telling_at s c telling.Expired i old new r = r
 telling_at s c telling.Gone i old new r = r
 telling_at s c telling.Running i old new r = r
 telling_at s c telling.Count i old new r = r
 
-pub telling_made : (s : Scope) (c : Context) (t : Telling) (d : Class) (i : ℕ) (e : Expression ℕ) (old new : List Token) → d ≡ telling_class t → e ≡ telling_value t i →
-    Reads s s (expression c) (λ n ms. key (telling_keyword t) ∷ sign token.Open ∷ operand_mark c (form.name d) (name_in n d i) ∷ sign token.Close ∷ ms) old new → ReadsValue s c e old new
+pub telling_made : (s : Scope) (c : Context) (t : Telling) (d : Class) (i : ℕ) (e : Expression ℕ)
+    (old new : List Token) → d ≡ telling_class t → e ≡ telling_value t i →
+    Reads s s (expression c) (λ n ms. key (telling_keyword t) ∷ sign token.Open ∷ operand_mark c (form.name d)
+    (name_in n d i) ∷ sign token.Close ∷ ms) old new → ReadsValue s c e old new
 telling_made s c t d i e old new class is r =
     subst (λ z. ReadsValue s c z old new) (sym is)
-    (telling_at s c t i old new (subst (λ z. Reads s s (expression c) (λ n ms. key (telling_keyword t) ∷ sign token.Open ∷ operand_mark c (form.name z) (name_in n z i) ∷ sign token.Close ∷ ms) old new) class r))
+    (telling_at s c t i old new (subst (λ z. Reads s s (expression c)
+    (λ n ms. key (telling_keyword t) ∷ sign token.Open ∷ operand_mark c (form.name z) (name_in n z i)
+    ∷ sign token.Close ∷ ms) old new) class r))
 
-telling_numbered_at : (n : Names) (t : Telling) (i : ℕ) → Numbered n (λ n'. number_in n' (telling_class t) (name_in n' (telling_class t) i)) i → NumbersValue n (telling_value t i)
+telling_numbered_at : (n : Names) (t : Telling) (i : ℕ)
+    → Numbered n (λ n'. number_in n' (telling_class t) (name_in n' (telling_class t) i)) i
+    → NumbersValue n (telling_value t i)
 telling_numbered_at n telling.Fired i r = λ n' h. ap tree.fired (r n' h)
 telling_numbered_at n telling.Expired i r = λ n' h. ap tree.expired (r n' h)
 telling_numbered_at n telling.Gone i r = λ n' h. ap tree.gone (r n' h)
 telling_numbered_at n telling.Running i r = λ n' h. ap tree.running (r n' h)
 telling_numbered_at n telling.Count i r = λ n' h. ap tree.count (r n' h)
 
-pub telling_numbered : (n : Names) (t : Telling) (d : Class) (i : ℕ) (e : Expression ℕ) → d ≡ telling_class t → e ≡ telling_value t i → Numbered n (λ n'. number_in n' d (name_in n' d i)) i → NumbersValue n e
-telling_numbered n t d i e class is r = subst (λ z. NumbersValue n z) (sym is) (telling_numbered_at n t i (subst (λ z. Numbered n (λ n'. number_in n' z (name_in n' z i)) i) class r))
+pub telling_numbered : (n : Names) (t : Telling) (d : Class) (i : ℕ) (e : Expression ℕ) → d ≡ telling_class t
+    → e ≡ telling_value t i → Numbered n (λ n'. number_in n' d (name_in n' d i)) i → NumbersValue n e
+telling_numbered n t d i e class is r = subst (λ z. NumbersValue n z) (sym is)
+    (telling_numbered_at n t i (subst (λ z. Numbered n (λ n'. number_in n' z (name_in n' z i)) i) class r))
 
-telling_fits_at : (n : Names) (own : Option Name) (t : Telling) (i : ℕ) → Fits n own (λ w. w (telling_class t) i) → FitsValue n own (telling_value t i)
+telling_fits_at : (n : Names) (own : Option Name) (t : Telling) (i : ℕ) → Fits n own (λ w. w (telling_class t) i)
+    → FitsValue n own (telling_value t i)
 telling_fits_at n own telling.Fired i r = r
 telling_fits_at n own telling.Expired i r = r
 telling_fits_at n own telling.Gone i r = r
 telling_fits_at n own telling.Running i r = r
 telling_fits_at n own telling.Count i r = r
 
-pub telling_fits : (n : Names) (own : Option Name) (t : Telling) (d : Class) (i : ℕ) (e : Expression ℕ) → d ≡ telling_class t → e ≡ telling_value t i → Fits n own (λ w. w d i) → FitsValue n own e
-telling_fits n own t d i e class is r = subst (λ z. FitsValue n own z) (sym is) (telling_fits_at n own t i (subst (λ z. Fits n own (λ w. w z i)) class r))
+pub telling_fits : (n : Names) (own : Option Name) (t : Telling) (d : Class) (i : ℕ) (e : Expression ℕ)
+    → d ≡ telling_class t → e ≡ telling_value t i → Fits n own (λ w. w d i) → FitsValue n own e
+telling_fits n own t d i e class is r = subst (λ z. FitsValue n own z) (sym is)
+    (telling_fits_at n own t i (subst (λ z. Fits n own (λ w. w z i)) class r))
 
 -- a keyword that is no value
 
-no_word_at : (s : Scope) (c : Context) (k : Keyword) (f : Pending) (ts : List Token) → word_of k ≡ no_value → tell s (expression c ∷ f) (token.Keyword k ∷ ts) ≡ fault Unexpected (length (token.Keyword k ∷ ts))
+no_word_at : (s : Scope) (c : Context) (k : Keyword) (f : Pending) (ts : List Token) → word_of k ≡ no_value
+    → tell s (expression c ∷ f) (token.Keyword k ∷ ts) ≡ fault Unexpected (length (token.Keyword k ∷ ts))
 no_word_at s c k f ts e = let u : word_step c k (word_of k) f ≡ unfit = ap (λ w. word_step c k w f) e in rw u refl
 
-pub no_word : (s : Scope) (c : Context) (k : Keyword) (f : Pending) (old : List Token) → first old ≡ Some (token.Keyword k) → word_of k ≡ no_value → tell s (expression c ∷ f) old ≡ fault Unexpected (length old)
+pub no_word : (s : Scope) (c : Context) (k : Keyword) (f : Pending) (old : List Token)
+    → first old ≡ Some (token.Keyword k) → word_of k ≡ no_value → tell s (expression c ∷ f) old
+    ≡ fault Unexpected (length old)
 no_word s c k f [] is e = absurd cc
 no_word s c k f (t ∷ ts) is e = let here : t ≡ token.Keyword k = cc in rw here (no_word_at s c k f ts e)
 
 -- `!`
 
-pub negation_reads : (s : Scope) (c d : Context) (e a : Expression ℕ) (old m0 new : List Token) → d ≡ inner c → e ≡ negation a → first old ≡ Some token.Bang → c.level < 32 → m0 ≡ drop 1 old → ReadsValue s d a m0 new → ReadsValue s c e old new
+pub negation_reads : (s : Scope) (c d : Context) (e a : Expression ℕ) (old m0 new : List Token) → d ≡ inner c
+    → e ≡ negation a → first old ≡ Some token.Bang → c.level < 32 → m0 ≡ drop 1 old → ReadsValue s d a m0 new
+    → ReadsValue s c e old new
 negation_reads s c d e a old m0 new h is here low from r =
     let t : ReadsValue s (inner c) a m0 new = subst (λ z. ReadsValue s z a m0 new) h r in
     subst (λ z. ReadsValue s c z old new) (sym is) (record {
       spelled = λ n g ms p. front_of old token.Bang here ∙ ap (λ ts. token.Bang ∷ ts) (sym from ∙ t.spelled n g ms p);
-      goes_on = λ f. bang_start s c f old here low ∙ ap (λ ts. tell s (expression (inner c) ∷ f) ts) (sym from) ∙ t.goes_on f;
+      goes_on = λ f. bang_start s c f old here low ∙ ap (λ ts. tell s (expression (inner c) ∷ f) ts) (sym from)
+          ∙ t.goes_on f;
     })
 
 pub negation_numbered : (n : Names) (e a : Expression ℕ) → e ≡ negation a → NumbersValue n a → NumbersValue n e
@@ -134,7 +159,9 @@ negation_numbered n e a is r = subst (λ z. NumbersValue n z) (sym is) (λ n' h.
 
 -- the two sides of an operator
 
-pub sides_read : (s s1 : Scope) (c : Context) (o : Operator) (a b : Expression ℕ) (old m1 m2 m3 new : List Token) → s1 ≡ s → ReadsValue s c a old m1 → ReadsSign operator (token.Op o) m1 m2 → ReadsValue s1 c b m2 m3 → ReadsSign close token.Close m3 new → ReadsSides s c o a b old new
+pub sides_read : (s s1 : Scope) (c : Context) (o : Operator) (a b : Expression ℕ) (old m1 m2 m3 new : List Token)
+    → s1 ≡ s → ReadsValue s c a old m1 → ReadsSign operator (token.Op o) m1 m2 → ReadsValue s1 c b m2 m3
+    → ReadsSign close token.Close m3 new → ReadsSides s c o a b old new
 sides_read s s1 c o a b old m1 m2 m3 new g r r2 rb r3 =
     let t : ReadsValue s c b m2 m3 = subst (λ z. ReadsValue z c b m2 m3) g rb in
     record {
@@ -142,19 +169,26 @@ sides_read s s1 c o a b old m1 m2 m3 new g r r2 rb r3 =
           let x3 = r3.spelled ∙ ap (λ ts. token.Close ∷ ts) (sym u) in
           let x2 = t.spelled n e (sign token.Close ∷ ms) (sym x3) in
           let x1 = r2.spelled ∙ ap (λ ts. token.Op o ∷ ts) x2 in
-          r.spelled n e (sign (token.Op o) ∷ expression_marks c (expression_map (name_in n) b) (sign token.Close ∷ ms)) (sym x1);
-      goes_on = λ f. r.goes_on (operator ∷ expression c ∷ close ∷ f) ∙ r2.goes_on s (expression c ∷ close ∷ f) ∙ t.goes_on (close ∷ f) ∙ r3.goes_on s f;
+          r.spelled n e (sign (token.Op o) ∷ expression_marks c (expression_map (name_in n) b) (sign token.Close ∷ ms))
+          (sym x1);
+      goes_on = λ f. r.goes_on (operator ∷ expression c ∷ close ∷ f) ∙ r2.goes_on s (expression c ∷ close ∷ f)
+          ∙ t.goes_on (close ∷ f) ∙ r3.goes_on s f;
     }
 
-pub binary_reads : (s : Scope) (c d : Context) (o : Operator) (e a b : Expression ℕ) (old m0 new : List Token) → d ≡ inner c → e ≡ binary o a b → first old ≡ Some token.Open → c.level < 32 → m0 ≡ drop 1 old → ReadsSides s d o a b m0 new → ReadsValue s c e old new
+pub binary_reads : (s : Scope) (c d : Context) (o : Operator) (e a b : Expression ℕ) (old m0 new : List Token)
+    → d ≡ inner c → e ≡ binary o a b → first old ≡ Some token.Open → c.level < 32 → m0 ≡ drop 1 old
+    → ReadsSides s d o a b m0 new → ReadsValue s c e old new
 binary_reads s c d o e a b old m0 new h is here low from r =
     let t : ReadsSides s (inner c) o a b m0 new = subst (λ z. ReadsSides s z o a b m0 new) h r in
     subst (λ z. ReadsValue s c z old new) (sym is) (record {
       spelled = λ n g ms p. front_of old token.Open here ∙ ap (λ ts. token.Open ∷ ts) (sym from ∙ t.spelled n g ms p);
-      goes_on = λ f. open_start s c f old here low ∙ ap (λ ts. tell s (expression (inner c) ∷ operator ∷ expression (inner c) ∷ close ∷ f) ts) (sym from) ∙ t.goes_on f;
+      goes_on = λ f. open_start s c f old here low ∙ ap (λ ts. tell s
+          (expression (inner c) ∷ operator ∷ expression (inner c) ∷ close ∷ f) ts) (sym from) ∙ t.goes_on f;
     })
 
-pub binary_numbered : (n : Names) (o : Operator) (e a b : Expression ℕ) → e ≡ binary o a b → NumbersValue n a → NumbersValue n b → NumbersValue n e
+pub binary_numbered : (n : Names) (o : Operator) (e a b : Expression ℕ) → e ≡ binary o a b → NumbersValue n a
+    → NumbersValue n b → NumbersValue n e
 binary_numbered n o e a b is ra rb =
     subst (λ z. NumbersValue n z) (sym is) (λ n' h.
-    ap (λ z. binary o z (expression_map (number_in n') (expression_map (name_in n') b))) (ra n' h) ∙ ap (binary o a) (rb n' h))
+    ap (λ z. binary o z (expression_map (number_in n') (expression_map (name_in n') b))) (ra n' h)
+    ∙ ap (binary o a) (rb n' h))

@@ -45,7 +45,8 @@ pub record AnswersStatement (old new : Reader) (place : Context) (result : Resul
   pub names : fixed new.scope ≡ fixed old.scope
   pub shorter : OnOk result (length new.cursor < length old.cursor)
   pub ok : IfOk result (λ s. ReadsStatement (scope_of old.scope) (scope_of new.scope) (context_of place)
-      (λ n ms. statement_marks (context_of place) (statement_map (name_in n) (statement_of s)) ms) old.cursor new.cursor)
+      (λ n ms. statement_marks (context_of place) (statement_map (name_in n) (statement_of s)) ms) old.cursor
+      new.cursor)
   pub numbered : IfOk result (λ s. Numbered (scope_of old.scope).names
       (λ n. statement_map (number_in n) (statement_map (name_in n) (statement_of s))) (statement_of s))
   pub fits : IfOk result (λ s. Fits (scope_of old.scope).names (context_of place).thread

@@ -2,7 +2,8 @@
 use Rattle.std.specs.Prelude.{◌≡◌, ℕ, List, [], ◌∷◌, ◌++◌, map, Option, Some, None, option_map}
 use Rattle.program_tree.specs.Code.{Code}
 use Rattle.program_tree.specs.Faults.{Scope}
-use Rattle.program_tree.specs.Grammar.{Context, at_body, Mark, tokens, key, variable_marks, etimer_marks, ctimer_marks, thread_marks, handler_marks, block_marks, code_marks}
+use Rattle.program_tree.specs.Grammar.{Context, at_body, Mark, tokens, key, variable_marks, etimer_marks, ctimer_marks}
+use Rattle.program_tree.specs.Grammar.{thread_marks, handler_marks, block_marks, code_marks}
 use Rattle.program_reader.specs.Head.{with_all}
 use Rattle.program_tree.specs.InScope.{Names, with_new, outside, name_in, number_in}
 use Rattle.program_text_laws.specs.Machine as machine
@@ -36,40 +37,48 @@ abbrev pub all_written : Names → List (Name × (Body ℕ)) → List Named
 all_written n items = map (λ p. (p.0, written n p.1)) items
 
 -- a new callback timer or thread, with its block
-pub record IsNamedBlock (c : Class) (y : Pending → Pending) (place : Name → Context) (tree : Body ℕ) (s s' : Scope) (old new : List Token) : Type 0 where
+pub record IsNamedBlock (c : Class) (y : Pending → Pending) (place : Name → Context) (tree : Body ℕ) (s s' : Scope)
+    (old new : List Token) : Type 0 where
   pub name : Name
   pub added : s'.names ≡ with_new s.names c name
   pub starting : s'.starting ≡ s.starting
   pub numbered : IsNumbered s'.names tree
-  pub spelled : (n : Names) → Extends s'.names n → (ms : List Mark) → tokens ms ≡ new → old ≡ token.Name name ∷ tokens (block_marks (place name) (written n tree) ms)
+  pub spelled : (n : Names) → Extends s'.names n → (ms : List Mark) → tokens ms ≡ new
+      → old ≡ token.Name name ∷ tokens (block_marks (place name) (written n tree) ms)
   pub goes_on : (f : Pending) → tell s (y f) old ≡ tell s' f new
 
 -- some of them, and there may be more
-pub record HasBlocks (c : Class) (y : Symbol) (marks : List Named → List Mark → List Mark) (trees : List (Body ℕ)) (s s' : Scope) (old rest : List Token) : Type 0 where
+pub record HasBlocks (c : Class) (y : Symbol) (marks : List Named → List Mark → List Mark) (trees : List (Body ℕ))
+    (s s' : Scope) (old rest : List Token) : Type 0 where
   pub items : List (Name × (Body ℕ))
   pub blocks : trees ≡ values_of items
   pub added : s'.names ≡ with_all s.names c (named_of items)
   pub starting : s'.starting ≡ s.starting
   pub numbered : AllNumbered s'.names trees
-  pub spelled : (n : Names) → Extends s'.names n → (more : List Named) (ms : List Mark) → tokens (marks more ms) ≡ rest → old ≡ tokens (marks (all_written n items ++ more) ms)
+  pub spelled : (n : Names) → Extends s'.names n → (more : List Named) (ms : List Mark) → tokens (marks more ms) ≡ rest
+      → old ≡ tokens (marks (all_written n items ++ more) ms)
   pub goes_on : (f : Pending) → tell s (y ∷ f) old ≡ tell s' (y ∷ f) rest
 
 -- all of them
-pub record ReadsBlocks (c : Class) (y z : Symbol) (marks : List Named → List Mark → List Mark) (trees : List (Body ℕ)) (s s' : Scope) (old new : List Token) : Type 0 where
+pub record ReadsBlocks (c : Class) (y z : Symbol) (marks : List Named → List Mark → List Mark) (trees : List (Body ℕ))
+    (s s' : Scope) (old new : List Token) : Type 0 where
   pub items : List (Name × (Body ℕ))
   pub blocks : trees ≡ values_of items
   pub added : s'.names ≡ with_all s.names c (named_of items)
   pub starting : s'.starting ≡ s.starting
   pub numbered : AllNumbered s'.names trees
-  pub spelled : (n : Names) → Extends s'.names n → (ms : List Mark) → tokens ms ≡ new → old ≡ tokens (marks (all_written n items) ms)
+  pub spelled : (n : Names) → Extends s'.names n → (ms : List Mark) → tokens ms ≡ new
+      → old ≡ tokens (marks (all_written n items) ms)
   pub goes_on : (f : Pending) → tell s (y ∷ f) old ≡ tell s' (z ∷ f) new
 
 -- `onpoll` or `onexit`, where it is there
-pub record ReadsHandler (k : Keyword) (y z : Symbol) (tree : Option (Body ℕ)) (s s' : Scope) (old new : List Token) : Type 0 where
+pub record ReadsHandler (k : Keyword) (y z : Symbol) (tree : Option (Body ℕ)) (s s' : Scope)
+    (old new : List Token) : Type 0 where
   pub names : s'.names ≡ s.names
   pub starting : s'.starting ≡ s.starting
   pub numbered : MaybeNumbered s.names tree
-  pub spelled : (n : Names) → Extends s.names n → (ms : List Mark) → tokens ms ≡ new → old ≡ tokens (handler_marks k (option_map (written n) tree) ms)
+  pub spelled : (n : Names) → Extends s.names n → (ms : List Mark) → tokens ms ≡ new
+      → old ≡ tokens (handler_marks k (option_map (written n) tree) ms)
   pub goes_on : (f : Pending) → tell s (y ∷ f) old ≡ tell s' (z ∷ f) new
 
 -- the body, and the last brace is still to come
@@ -77,13 +86,15 @@ pub record ReadsBody (tree : Body ℕ) (s s' : Scope) (old new : List Token) : T
   pub names : s'.names ≡ s.names
   pub starting : s'.starting ≡ s.starting
   pub numbered : IsNumbered s.names tree
-  pub spelled : (n : Names) → Extends s.names n → (ms : List Mark) → tokens ms ≡ new → old ≡ token.Keyword word.Body ∷ tokens (block_marks at_body (written n tree) ms)
+  pub spelled : (n : Names) → Extends s.names n → (ms : List Mark) → tokens ms ≡ new
+      → old ≡ token.Keyword word.Body ∷ tokens (block_marks at_body (written n tree) ms)
   pub goes_on : (f : Pending) → tell s (machine.from_body ∷ f) old ≡ tell s' (machine.last_brace ∷ f) new
 
 -- a code's keyword, name and opening brace
 pub record ReadsOpening (x : Name) (s : Scope) (old new : List Token) : Type 0 where
   pub spelled : old ≡ token.Keyword word.Code ∷ token.Name x ∷ token.OpenBrace ∷ new
-  pub goes_on : (xs : List Name) (f : Pending) → tell s (machine.codes x xs ∷ f) old ≡ tell s (machine.from_variables ∷ codes_form xs f) new
+  pub goes_on : (xs : List Name) (f : Pending) → tell s (machine.codes x xs ∷ f) old
+      ≡ tell s (machine.from_variables ∷ codes_form xs f) new
 
 -- the code of a process
 pub record ReadsCode (x : Name) (process : ℕ) (code : Code) (s s' : Scope) (old new : List Token) : Type 0 where
@@ -99,9 +110,10 @@ pub record ReadsCode (x : Name) (process : ℕ) (code : Code) (s s' : Scope) (ol
 abbrev pub with_own : Names → (variables timers threads : List Name) → Names
 with_own n vs ts hs = record n { variables = vs; timers = ts; threads = hs }
 
--- What stands between the braces of a code is read, but for its last brace: the names of the event timers and callback timers, the
--- first values, and the blocks.
-pub record ReadsContent (own_etimers own_ctimers : List Name) (starts : List ℕ) (callbacks thread_bodies : List (Body ℕ)) (on_poll on_exit : Option (Body ℕ)) (body : Body ℕ)
+-- What stands between the braces of a code is read, but for its last brace: the names of the event timers and callback
+-- timers, the first values, and the blocks.
+pub record ReadsContent (own_etimers own_ctimers : List Name) (starts : List ℕ)
+    (callbacks thread_bodies : List (Body ℕ)) (on_poll on_exit : Option (Body ℕ)) (body : Body ℕ)
     (s s' : Scope) (old new : List Token) : Type 0 where
   pub variables : List Valued
   pub etimers : List Name
@@ -120,7 +132,9 @@ pub record ReadsContent (own_etimers own_ctimers : List Name) (starts : List ℕ
   pub on_exit_numbered : MaybeNumbered s'.names on_exit
   pub body_numbered : IsNumbered s'.names body
   pub spelled : (n : Names) → Extends s'.names n → (ms : List Mark) → tokens ms ≡ new →
-      old ≡ tokens (variable_marks variables (etimer_marks etimers (ctimer_marks (all_written n ctimers) (thread_marks (all_written n threads)
-      (handler_marks word.OnPoll (option_map (written n) on_poll) (handler_marks word.OnExit (option_map (written n) on_exit)
+      old ≡ tokens (variable_marks variables (etimer_marks etimers
+      (ctimer_marks (all_written n ctimers) (thread_marks (all_written n threads)
+      (handler_marks word.OnPoll (option_map (written n) on_poll)
+      (handler_marks word.OnExit (option_map (written n) on_exit)
       (key word.Body ∷ block_marks at_body (written n body) ms)))))))
   pub goes_on : (f : Pending) → tell s (machine.from_variables ∷ f) old ≡ tell s' (machine.last_brace ∷ f) new

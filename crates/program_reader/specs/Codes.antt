@@ -16,7 +16,7 @@ use Rattle.program_reader.specs.declared.codes.Parts.{Parts}
 use Rattle.program_reader.specs.declared.scope.Scope.{Scope as ScopeRead}
 use Rattle.program_tree.specs.declared.timer.Timer.{Timer}
 
--- the names in scope behind some codes
+-- the names in scope after some codes
 abbrev pub behind : Names → List CodeShape → Names
 behind n [] = n
 behind n (c ∷ cs) = behind (outside (inside n c)) cs
@@ -32,29 +32,31 @@ pub record HasCodes (trees : List Code) (left : List Name) (s s' : Scope) (old r
   pub goes_on : (f : Pending) → tell s (codes_form s.names.processes f) old ≡ tell s' (codes_form left f) rest
 
 -- what stands before the codes is read
-pub record ReadsHead (counts autostart : List ℕ) (receiver : Option ℕ) (s s' : Scope) (old new : List Token) : Type 0 where
-  pub s1 : Scope
-  pub s2 : Scope
-  pub s3 : Scope
-  pub m1 : List Token
-  pub m2 : List Token
-  pub m3 : List Token
-  pub m4 : List Token
-  pub events : ReadsNames an_event from_events from_semaphores event_marks s s1 old m1
-  pub semaphores : ReadsValues a_semaphore from_semaphores from_semaphores semaphore_marks counts s1 s2 m1 m2
-  pub processes : ReadsProcesses s2 s3 m2 m3
-  pub starting : ReadsAutostart s3 s' autostart m3 m4
-  pub receiving : ReadsReceiver s' receiver m4 new
+pub record ReadsHead (counts autostart : List ℕ) (receiver : Option ℕ) (s s' : Scope) (old new : List Token) : Type 0
+  where
+    pub s1 : Scope
+    pub s2 : Scope
+    pub s3 : Scope
+    pub m1 : List Token
+    pub m2 : List Token
+    pub m3 : List Token
+    pub m4 : List Token
+    pub events : ReadsNames an_event from_events from_semaphores event_marks s s1 old m1
+    pub semaphores : ReadsValues a_semaphore from_semaphores from_semaphores semaphore_marks counts s1 s2 m1 m2
+    pub processes : ReadsProcesses s2 s3 m2 m3
+    pub starting : ReadsAutostart s3 s' autostart m3 m4
+    pub receiving : ReadsReceiver s' receiver m4 new
 
 -- the timers of a code, and of all
 abbrev pub timers_of_code : Code → List Timer
-timers_of_code c = replicate (length c.etimers) (timer_of c.number false) ++ replicate (length c.ctimers) (timer_of c.number true)
+timers_of_code c = replicate (length c.etimers) (timer_of c.number false) ++ replicate (length c.ctimers)
+    (timer_of c.number true)
 
 abbrev pub all_timers : List Code → List Timer
 all_timers [] = []
 all_timers (c ∷ cs) = timers_of_code c ++ all_timers cs
 
--- what the names in scope behind a text and its parts stand for
+-- what the names in scope after a text and its parts stand for
 abbrev pub tree_with : ScopeRead → Parts → Tree
 tree_with s p = record {
   events = s.events;

@@ -1,5 +1,6 @@
 -- What reading a part of the head of a program gives.
-use Rattle.std.specs.Prelude.{◌≡◌, ℕ, true, List, [], ◌∷◌, ◌++◌, length, map, ◌<◌, Option, Some, None, IfSome, option_map, Result, Err}
+use Rattle.std.specs.Prelude.{◌≡◌, ℕ, true, List, [], ◌∷◌, ◌++◌, length, map, ◌<◌, Option, Some, None, IfSome}
+use Rattle.std.specs.Prelude.{option_map, Result, Err}
 use Rattle.std.specs.List.{All}
 use Rattle.program_tree.specs.Faults.{Scope}
 use Rattle.program_tree.specs.Grammar as role
@@ -39,7 +40,8 @@ with_starting s xs = record s { starting = xs }
 
 -- where the result is a fault, it is the first one, whatever comes after these symbols
 abbrev pub FailsIn : {T : Type 0} → Scope → Pending → List Token → Result T Refusal → Type 0
-FailsIn s y old result = (f : Fault) → result ≡ Err (refusal.Fault f) → (more : Pending) → tell s (y ++ more) old ≡ fault f.kind f.left
+FailsIn s y old result = (f : Fault) → result ≡ Err (refusal.Fault f) → (more : Pending)
+    → tell s (y ++ more) old ≡ fault f.kind f.left
 
 -- a new name of a class is read
 pub record IsNew (c : Class) (s s' : Scope) (x : Name) (old new : List Token) : Type 0 where
@@ -47,21 +49,22 @@ pub record IsNew (c : Class) (s s' : Scope) (x : Name) (old new : List Token) : 
   pub spelled : old ≡ token.Name x ∷ new
   pub sound : first_broken s (named x (role.new c x)) ≡ None
 
--- a new name is read, and the semicolon behind it
+-- a new name is read, and the semicolon after it
 pub record IsListed (c : Class) (s s' : Scope) (old new : List Token) : Type 0 where
   pub name : Name
   pub added : s' ≡ with_names s (with_new s.names c name)
   pub spelled : old ≡ token.Name name ∷ token.Semicolon ∷ new
   pub goes_on : (f : Pending) → tell s (new_name c ∷ machine.semicolon ∷ f) old ≡ tell s' f new
 
--- a new name is read, its first value, and the semicolon behind it
+-- a new name is read, its first value, and the semicolon after it
 pub record IsValued (c : Class) (s s' : Scope) (values values' : List ℕ) (old new : List Token) : Type 0 where
   pub name : Name
   pub value : ℕ
   pub added : s' ≡ with_names s (with_new s.names c name)
   pub pushed : values' ≡ values ++ value ∷ []
   pub spelled : old ≡ token.Name name ∷ token.Equals ∷ token.Number value ∷ token.Semicolon ∷ new
-  pub goes_on : (f : Pending) → tell s (new_name c ∷ machine.equals ∷ machine.number ∷ machine.semicolon ∷ f) old ≡ tell s' f new
+  pub goes_on : (f : Pending) → tell s (new_name c ∷ machine.equals ∷ machine.number ∷ machine.semicolon ∷ f) old
+      ≡ tell s' f new
 
 -- names are declared, one by one
 abbrev pub with_all : Names → Class → List Name → Names
@@ -69,15 +72,18 @@ with_all names c [] = names
 with_all names c (x ∷ xs) = with_all (with_new names c x) c xs
 
 -- some declarations of a class are read, and there may be more of them
-pub record HasDeclared {A : Type 0} (c : Class) (name_of : A → Name) (y : Symbol) (marks : List A → List Mark → List Mark)
+pub record HasDeclared {A : Type 0} (c : Class) (name_of : A → Name) (y : Symbol) (marks : List A → List Mark
+    → List Mark)
     (items : List A) (s s' : Scope) (old rest : List Token) : Type 0 where
   pub added : s'.names ≡ with_all s.names c (map name_of items)
   pub starting : s'.starting ≡ s.starting
-  pub spelled : (more : List A) (ms : List Mark) → tokens (marks more ms) ≡ rest → old ≡ tokens (marks (items ++ more) ms)
+  pub spelled : (more : List A) (ms : List Mark) → tokens (marks more ms) ≡ rest
+      → old ≡ tokens (marks (items ++ more) ms)
   pub goes_on : (f : Pending) → tell s (y ∷ f) old ≡ tell s' (y ∷ f) rest
 
--- all declarations of a class are read, and the symbol behind them comes
-pub record Declares {A : Type 0} (c : Class) (name_of : A → Name) (y z : Symbol) (marks : List A → List Mark → List Mark)
+-- all declarations of a class are read, and the symbol after them comes
+pub record Declares {A : Type 0} (c : Class) (name_of : A → Name) (y z : Symbol) (marks : List A → List Mark
+    → List Mark)
     (items : List A) (s s' : Scope) (old new : List Token) : Type 0 where
   pub added : s'.names ≡ with_all s.names c (map name_of items)
   pub starting : s'.starting ≡ s.starting
@@ -88,24 +94,28 @@ abbrev pub itself : Name → Name
 itself x = x
 
 -- the events and the event timers
-abbrev pub HasNames : Class → Symbol → (List Name → List Mark → List Mark) → Scope → Scope → List Token → List Token → Type 0
+abbrev pub HasNames : Class → Symbol → (List Name → List Mark → List Mark) → Scope → Scope → List Token → List Token
+    → Type 0
 HasNames c y marks s s' old rest = (items : List Name) × HasDeclared c itself y marks items s s' old rest
 
-abbrev pub ReadsNames : Class → Symbol → Symbol → (List Name → List Mark → List Mark) → Scope → Scope → List Token → List Token → Type 0
+abbrev pub ReadsNames : Class → Symbol → Symbol → (List Name → List Mark → List Mark) → Scope → Scope → List Token
+    → List Token → Type 0
 ReadsNames c y z marks s s' old new = (items : List Name) × Declares c itself y z marks items s s' old new
 
 -- the semaphores and the variables, with their first values
-abbrev pub HasValues : Class → Symbol → (List Valued → List Mark → List Mark) → List ℕ → Scope → Scope → List Token → List Token → Type 0
+abbrev pub HasValues : Class → Symbol → (List Valued → List Mark → List Mark) → List ℕ → Scope → Scope → List Token
+    → List Token → Type 0
 HasValues c y marks values s s' old rest =
     (items : List Valued) × (values ≡ values_of items) × HasDeclared c (λ v. v.0) y marks items s s' old rest
 
-abbrev pub ReadsValues : Class → Symbol → Symbol → (List Valued → List Mark → List Mark) → List ℕ → Scope → Scope → List Token → List Token → Type 0
+abbrev pub ReadsValues : Class → Symbol → Symbol → (List Valued → List Mark → List Mark) → List ℕ → Scope → Scope
+    → List Token → List Token → Type 0
 ReadsValues c y z marks values s s' old new =
     (items : List Valued) × (values ≡ values_of items) × Declares c (λ v. v.0) y z marks items s s' old new
 
 -- The process line.
 
--- its further names, each behind a comma, and its semicolon
+-- its further names, each after a comma, and its semicolon
 abbrev pub line_marks : List Name → (after : List Mark) → List Mark
 line_marks [] after = sign token.Semicolon ∷ after
 line_marks (x ∷ xs) after = sign token.Comma ∷ named x (role.new a_process x) ∷ line_marks xs after
@@ -117,15 +127,18 @@ pub record HasProcesses (s s' : Scope) (old rest : List Token) : Type 0 where
   pub added : s' ≡ with_names s (with_all s.names a_process (first ∷ others))
   pub spelled : (more : List Name) (ms : List Mark) → tokens (line_marks more ms) ≡ rest →
       old ≡ token.Keyword word.Process ∷ token.Name first ∷ tokens (line_marks (others ++ more) ms)
-  pub goes_on : (f : Pending) → tell s (machine.from_semaphores ∷ f) old ≡ tell s' (machine.from_comma first others ∷ f) rest
+  pub goes_on : (f : Pending) → tell s (machine.from_semaphores ∷ f) old
+      ≡ tell s' (machine.from_comma first others ∷ f) rest
 
 -- all of it is read
 pub record ReadsProcesses (s s' : Scope) (old new : List Token) : Type 0 where
   pub first : Name
   pub others : List Name
   pub added : s' ≡ with_names s (with_all s.names a_process (first ∷ others))
-  pub spelled : (ms : List Mark) → tokens ms ≡ new → old ≡ token.Keyword word.Process ∷ token.Name first ∷ tokens (line_marks others ms)
-  pub goes_on : (f : Pending) → tell s (machine.from_semaphores ∷ f) old ≡ tell s' (machine.from_autostart first others ∷ f) new
+  pub spelled : (ms : List Mark) → tokens ms ≡ new → old ≡ token.Keyword word.Process ∷ token.Name first
+      ∷ tokens (line_marks others ms)
+  pub goes_on : (f : Pending) → tell s (machine.from_semaphores ∷ f) old
+      ≡ tell s' (machine.from_autostart first others ∷ f) new
 
 -- What starts at boot.
 
@@ -156,7 +169,8 @@ pub record HasStarting (s s' : Scope) (numbers : List ℕ) (old rest : List Toke
   pub spelled : (more : List Name) (ms : List Mark) → tokens (starting_marks more ms) ≡ rest →
       old ≡ token.Keyword word.Autostart ∷ token.Name first ∷ tokens (starting_marks (others ++ more) ms)
   pub goes_on : (x : Name) (xs : List Name) (f : Pending) →
-      tell s (machine.from_autostart x xs ∷ f) old ≡ tell s' (machine.more_starting ∷ machine.from_receiver x xs ∷ f) rest
+      tell s (machine.from_autostart x xs ∷ f) old ≡ tell s' (machine.more_starting ∷ machine.from_receiver x xs ∷ f)
+      rest
 
 -- all of them are
 pub record ReadsAutostart (s s' : Scope) (numbers : List ℕ) (old new : List Token) : Type 0 where

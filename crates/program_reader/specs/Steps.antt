@@ -1,12 +1,14 @@
--- What reading one part of a program gives: its tokens are spelled by its marks, and the machine goes on behind it, whatever
--- comes after.
-use Rattle.std.specs.Prelude.{◌≡◌, ℕ, ◌+◌, List, ◌∷◌, ◌++◌, Bool, true, false, ◌||◌, Option, Some, option_map, Result, Err}
+-- What reading one part of a program gives: its tokens are spelled by its marks, and the machine goes on after it,
+-- whatever comes then.
+use Rattle.std.specs.Prelude.{◌≡◌, ℕ, ◌+◌, List, ◌∷◌, ◌++◌, Bool, true, false, ◌||◌, Option, Some, option_map, Result}
+use Rattle.std.specs.Prelude.{Err}
 pub use Rattle.program_tree.specs.Classes.{class_of}
 use Rattle.program_tree.specs.Faults.{Scope, is_other, is_own}
 use Rattle.program_tree.specs.Forms.{Beginning, no_statement, action, branches, loops, goes_on, beginning}
 use Rattle.program_tree.specs.Grammar.{Context, Mark, tokens}
 use Rattle.program_tree.specs.InScope.{Names, names_of, name_in, is_in_scope}
-use Rattle.program_text_laws.specs.Machine.{Symbol, Pending, fault, tell, first, semicolon, equals, open_sign, close, open_brace, expression, block, items, items_else, symbols_of}
+use Rattle.program_text_laws.specs.Machine.{Symbol, Pending, fault, tell, first, semicolon, equals, open_sign, close}
+use Rattle.program_text_laws.specs.Machine.{open_brace, expression, block, items, items_else, symbols_of}
 use Rattle.program_tree.specs.Names.{place_of}
 use Rattle.program_tree.specs.Scope.{Within}
 use Rattle.program_tree.specs.Shapes.{Name}
@@ -119,24 +121,29 @@ pub record ReadsSign (y : Symbol) (t : Token) (old new : List Token) : Type 0 wh
   pub goes_on : (s : Scope) (f : Pending) → tell s (y ∷ f) old ≡ tell s f new
 
 abbrev pub FailsSign : {T : Type 0} → Symbol → List Token → Result T Refusal → Type 0
-FailsSign y old result = (f : Fault) → result ≡ Err (refusal.Fault f) → (s : Scope) (more : Pending) → tell s (y ∷ more) old ≡ fault f.kind f.left
+FailsSign y old result = (f : Fault) → result ≡ Err (refusal.Fault f) → (s : Scope) (more : Pending)
+    → tell s (y ∷ more) old ≡ fault f.kind f.left
 
 -- a part in which the marks stand so with the names put back
-pub record Reads (s s' : Scope) (y : Symbol) (marks : Names → List Mark → List Mark) (old new : List Token) : Type 0 where
-  pub spelled : (n : Names) → Extends s.names n → (ms : List Mark) → tokens ms ≡ new → old ≡ tokens (marks n ms)
-  pub goes_on : (f : Pending) → tell s (y ∷ f) old ≡ tell s' f new
+pub record Reads (s s' : Scope) (y : Symbol) (marks : Names → List Mark → List Mark) (old new : List Token) : Type 0
+  where
+    pub spelled : (n : Names) → Extends s.names n → (ms : List Mark) → tokens ms ≡ new → old ≡ tokens (marks n ms)
+    pub goes_on : (f : Pending) → tell s (y ∷ f) old ≡ tell s' f new
 
 -- where the result is a fault, it is the first one, whatever comes after the symbol
 abbrev pub Fails : {T : Type 0} → Scope → Symbol → List Token → Result T Refusal → Type 0
-Fails s y old result = (f : Fault) → result ≡ Err (refusal.Fault f) → (more : Pending) → tell s (y ∷ more) old ≡ fault f.kind f.left
+Fails s y old result = (f : Fault) → result ≡ Err (refusal.Fault f) → (more : Pending)
+    → tell s (y ∷ more) old ≡ fault f.kind f.left
 
 -- a statement of a block, of which more comes
-pub record ReadsStatement (s s' : Scope) (c : Context) (marks : Names → List Mark → List Mark) (old new : List Token) : Type 0 where
+pub record ReadsStatement (s s' : Scope) (c : Context) (marks : Names → List Mark → List Mark)
+    (old new : List Token) : Type 0 where
   pub spelled : (n : Names) → Extends s.names n → (ms : List Mark) → tokens ms ≡ new → old ≡ tokens (marks n ms)
   pub goes_on : (f : Pending) → tell s (items c ∷ f) old ≡ tell s' (items c ∷ f) new
 
 -- what follows the first block of an `if`
-pub record ReadsElse (s s' : Scope) (c : Context) (marks : Names → List Mark → List Mark) (old new : List Token) : Type 0 where
+pub record ReadsElse (s s' : Scope) (c : Context) (marks : Names → List Mark → List Mark) (old new : List Token) : Type
+    0 where
   pub spelled : (n : Names) → Extends s.names n → (ms : List Mark) → tokens ms ≡ new → old ≡ tokens (marks n ms)
   pub goes_on : (f : Pending) → tell s (items_else c ∷ f) old ≡ tell s' (items c ∷ f) new
 

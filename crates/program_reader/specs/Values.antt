@@ -58,7 +58,9 @@ value_keyword (value.Telling t) = telling_keyword t
 value_keyword value.Is = word.Is
 
 -- the two sides of an operator are read, and what closes them
-pub record ReadsSides (s : Scope) (c : Context) (o : Operator) (a b : Expression ℕ) (old new : List Token) : Type 0 where
-  pub spelled : (n : Names) → Extends s.names n → (ms : List Mark) → tokens ms ≡ new →
-      old ≡ tokens (expression_marks c (expression_map (name_in n) a) (sign (token.Op o) ∷ expression_marks c (expression_map (name_in n) b) (sign token.Close ∷ ms)))
-  pub goes_on : (f : Pending) → tell s (expression c ∷ operator ∷ expression c ∷ close ∷ f) old ≡ tell s f new
+pub record ReadsSides (s : Scope) (c : Context) (o : Operator) (a b : Expression ℕ) (old new : List Token) : Type 0
+  where
+    pub spelled : (n : Names) → Extends s.names n → (ms : List Mark) → tokens ms ≡ new →
+        old ≡ tokens (expression_marks c (expression_map (name_in n) a)
+        (sign (token.Op o) ∷ expression_marks c (expression_map (name_in n) b) (sign token.Close ∷ ms)))
+    pub goes_on : (f : Pending) → tell s (expression c ∷ operator ∷ expression c ∷ close ∷ f) old ≡ tell s f new

@@ -1,5 +1,6 @@
 //! The code of a process.
-ghost use Rattle.std.specs.Prelude.{◌≡◌, ◌<◌, ◌≤◌, ◌+◌, List, true, ◌∷◌, [], length, map, IfOk, OnOk, option_map, slice_index_or};
+ghost use Rattle.std.specs.Prelude.{◌≡◌, ◌<◌, ◌≤◌, ◌+◌, List, true, ◌∷◌, [], length, map, IfOk, OnOk, option_map};
+ghost use Rattle.std.specs.Prelude.{slice_index_or};
 ghost use Rattle.std.specs.List.{All};
 ghost use Rattle.std.specs.Option.{ForSome};
 ghost use Rattle.program_reader.specs.CodeParts.{ReadsOpening, ReadsContent, ReadsCode};
@@ -35,7 +36,8 @@ impl Cursor<'_> {
     #[tactic(auto, using(crate::proofs::CodeLaws::opening_steps))]
     fn opening(&mut self, name: &str) -> Result<(), Refusal>
         ensures ok { OnOk result ((s : faults.Scope) → ReadsOpening name.now s self.old self.new) }
-        ensures err { (f : Fault) → result ≡ Err (Refusal.Fault f) → (s : faults.Scope) (xs : List Name) (more : machine.Pending) →
+        ensures err { (f : Fault) → result ≡ Err (Refusal.Fault f)
+            → (s : faults.Scope) (xs : List Name) (more : machine.Pending) →
             tell s (machine.codes name.now xs ∷ more) self.old ≡ fault f.kind f.left }
     {
         if !self.accept(Keyword::Code) {
@@ -51,9 +53,12 @@ impl Cursor<'_> {
     /// The same of a process, by its number.
     fn opening_of(&mut self, scope: &Scope, process: usize) -> Result<(), Refusal>
         requires { process < length scope.now.processes }
-        ensures ok { OnOk result ((s : faults.Scope) → ReadsOpening (slice_index_or scope.now.processes process []) s self.old self.new) }
-        ensures err { (f : Fault) → result ≡ Err (Refusal.Fault f) → (s : faults.Scope) (xs : List Name) (more : machine.Pending) →
-            tell s (machine.codes (slice_index_or scope.now.processes process []) xs ∷ more) self.old ≡ fault f.kind f.left }
+        ensures ok { OnOk result ((s : faults.Scope) → ReadsOpening (slice_index_or scope.now.processes process []) s
+            self.old self.new) }
+        ensures err { (f : Fault) → result ≡ Err (Refusal.Fault f)
+            → (s : faults.Scope) (xs : List Name) (more : machine.Pending) →
+            tell s (machine.codes (slice_index_or scope.now.processes process []) xs ∷ more) self.old
+            ≡ fault f.kind f.left }
     {
         self.opening(scope.processes.get(process))
     }
@@ -62,8 +67,10 @@ impl Cursor<'_> {
     #[tactic(auto, using(crate::proofs::CodeLaws::brace_steps))]
     fn last_brace(&mut self) -> Result<(), Refusal>
         ensures spelled { OnOk result (self.old ≡ token.CloseBrace ∷ self.new) }
-        ensures ok { OnOk result ((s : faults.Scope) (f : machine.Pending) → tell s (last_brace ∷ f) self.old ≡ tell (with_names s (outside s.names)) f self.new) }
-        ensures err { (f : Fault) → result ≡ Err (Refusal.Fault f) → (s : faults.Scope) (more : machine.Pending) → tell s (last_brace ∷ more) self.old ≡ fault f.kind f.left }
+        ensures ok { OnOk result ((s : faults.Scope) (f : machine.Pending) → tell s (last_brace ∷ f) self.old
+            ≡ tell (with_names s (outside s.names)) f self.new) }
+        ensures err { (f : Fault) → result ≡ Err (Refusal.Fault f) → (s : faults.Scope) (more : machine.Pending)
+            → tell s (last_brace ∷ more) self.old ≡ fault f.kind f.left }
     {
         match self.peek() {
             Some(Token::CloseBrace) => {
@@ -137,8 +144,10 @@ impl Reader<'_> {
         ensures on_poll { IfOk result (λ c. ForSome c.on_poll (λ b. IsWithinLimits (tree_in b))) }
         ensures on_exit { IfOk result (λ c. ForSome c.on_exit (λ b. IsWithinLimits (tree_in b))) }
         ensures earlier { IfOk result (λ c. threads_fit earlier_threads 0 (map tree_in c.thread_blocks.items) ≡ true) }
-        ensures ok { IfOk result (λ c. ReadsContent self.new.scope.etimers self.new.scope.ctimers c.starts.items (map tree_in c.callbacks.items) (map tree_in c.thread_blocks.items)
-            (option_map tree_in c.on_poll) (option_map tree_in c.on_exit) (tree_in c.body) (scope_of self.old.scope) (scope_of self.new.scope) self.old.cursor self.new.cursor) }
+        ensures ok { IfOk result (λ c. ReadsContent self.new.scope.etimers self.new.scope.ctimers c.starts.items
+            (map tree_in c.callbacks.items) (map tree_in c.thread_blocks.items)
+            (option_map tree_in c.on_poll) (option_map tree_in c.on_exit) (tree_in c.body) (scope_of self.old.scope)
+            (scope_of self.new.scope) self.old.cursor self.new.cursor) }
         ensures err { FailsIn (scope_of self.old.scope) (machine.from_variables ∷ []) self.old.cursor result }
     {
         let starts = self.variables()?;
@@ -163,10 +172,12 @@ impl Reader<'_> {
     pub(crate) fn code(&mut self, process: usize) -> Result<ProcessText, Refusal>
         requires process { process < length self.old.scope.processes }
         requires own { HasNoOwnNames self.old.scope }
-        ensures ok { IfOk result (λ t. ReadsCode (slice_index_or self.old.scope.processes process []) process (code_of t)
+        ensures ok { IfOk result (λ t. ReadsCode (slice_index_or self.old.scope.processes process []) process
+            (code_of t)
             (scope_of self.old.scope) (scope_of self.new.scope) self.old.cursor self.new.cursor) }
         ensures err { (f : Fault) → result ≡ Err (Refusal.Fault f) → (xs : List Name) (more : machine.Pending) →
-            machine.tell (scope_of self.old.scope) (machine.codes (slice_index_or self.old.scope.processes process []) xs ∷ more) self.old.cursor ≡ machine.fault f.kind f.left }
+            machine.tell (scope_of self.old.scope) (machine.codes (slice_index_or self.old.scope.processes process [])
+            xs ∷ more) self.old.cursor ≡ machine.fault f.kind f.left }
     {
         self.cursor.opening_of(&self.scope, process)?;
         let content = self.content()?;

@@ -5,7 +5,8 @@ ghost use Rattle.program_reader.specs.Head.{FailsIn};
 ghost use Rattle.program_text_laws.specs.Machine as machine;
 ghost use Rattle.program_tree.specs.Faults.{nothing_yet, Scope};
 ghost use Rattle.program_tree.specs.Program.{code_of, tree_of};
-ghost use Rattle.program_tree.specs.Reading.{AreLexed, IsTreeOfTokens, IsMade};
+ghost use Rattle.program_tree.specs.Made.{AreLexed, IsMade};
+ghost use Rattle.program_tree.specs.Reading.{IsTreeOfTokens};
 ghost use Rattle.program_tree.specs.Tokens.{token_of};
 ghost use Rattle.program_reader.specs.Kept.{HasNoOwnNames};
 ghost use Rattle.program_reader.specs.Steps.{scope_of};
@@ -56,9 +57,11 @@ impl Reader<'_> {
     /// The codes of the processes, in their order.
     fn codes(&mut self) -> Result<Vec<ProcessText>, Refusal>
         requires { HasNoOwnNames self.old.scope }
-        ensures ok { IfOk result (λ codes. HasCodes (map code_of codes.items) [] (scope_of self.old.scope) (scope_of self.new.scope) self.old.cursor self.new.cursor) }
+        ensures ok { IfOk result (λ codes. HasCodes (map code_of codes.items) [] (scope_of self.old.scope)
+            (scope_of self.new.scope) self.old.cursor self.new.cursor) }
         ensures err { (f : Fault) → result ≡ Err (Refusal.Fault f) → (more : machine.Pending) →
-            machine.tell (scope_of self.old.scope) (machine.codes_form self.old.scope.processes more) self.old.cursor ≡ machine.fault f.kind f.left }
+            machine.tell (scope_of self.old.scope) (machine.codes_form self.old.scope.processes more) self.old.cursor
+            ≡ machine.fault f.kind f.left }
     {
         let mut codes = Vec::new(self.alloc);
         'codes: while codes.len() < self.scope.processes.len() {
@@ -73,7 +76,8 @@ impl Cursor<'_> {
     /// The end of the text.
     fn end(&self) -> Result<(), Refusal>
         ensures ok { OnOk result (self.now ≡ []) }
-        ensures err { (f : Fault) → result ≡ Err (Refusal.Fault f) → (s : Scope) → machine.tell s [] self.now ≡ machine.fault f.kind f.left }
+        ensures err { (f : Fault) → result ≡ Err (Refusal.Fault f) → (s : Scope)
+            → machine.tell s [] self.now ≡ machine.fault f.kind f.left }
     {
         if self.left() == 0 {
             return Ok(());
@@ -82,8 +86,8 @@ impl Cursor<'_> {
     }
 }
 
-/// What stands before the codes of a program: the first counts of the semaphores, the processes that start at boot, and the one that
-/// packets go to.
+/// What stands before the codes of a program: the first counts of the semaphores, the processes that start at boot,
+/// and the one that packets go to.
 #[derive(Drop)]
 struct Head {
     counts: Vec<u16>,
@@ -94,7 +98,8 @@ struct Head {
 impl Reader<'_> {
     /// What stands before the codes.
     fn head(&mut self) -> Result<Head, Refusal>
-        ensures ok { IfOk result (λ h. ReadsHead h.counts.items h.autostart.items h.receiver (scope_of self.old.scope) (scope_of self.new.scope) self.old.cursor self.new.cursor) }
+        ensures ok { IfOk result (λ h. ReadsHead h.counts.items h.autostart.items h.receiver (scope_of self.old.scope)
+            (scope_of self.new.scope) self.old.cursor self.new.cursor) }
         ensures err { FailsIn (scope_of self.old.scope) (machine.from_events ∷ []) self.old.cursor result }
     {
         self.events()?;
@@ -110,7 +115,8 @@ impl Reader<'_> {
     }
 }
 
-/// What a text holds beside the names that are in scope behind it: what stands before the codes, the codes, and their timers.
+/// What a text holds beside the names that are in scope after it: what stands before the codes, the codes, and their
+/// timers.
 #[derive(Drop)]
 struct Parts {
     head: Head,
@@ -119,12 +125,14 @@ struct Parts {
 }
 
 impl Reader<'_> {
-    /// The codes, behind which the text ends.
+    /// The codes, after which the text ends.
     fn last_codes(&mut self) -> Result<Vec<ProcessText>, Refusal>
         requires { HasNoOwnNames self.old.scope }
-        ensures ok { IfOk result (λ codes. HasCodes (map code_of codes.items) [] (scope_of self.old.scope) (scope_of self.new.scope) self.old.cursor []) }
+        ensures ok { IfOk result (λ codes. HasCodes (map code_of codes.items) [] (scope_of self.old.scope)
+            (scope_of self.new.scope) self.old.cursor []) }
         ensures err { (f : Fault) → result ≡ Err (Refusal.Fault f) →
-            machine.tell (scope_of self.old.scope) (machine.codes_form self.old.scope.processes []) self.old.cursor ≡ machine.fault f.kind f.left }
+            machine.tell (scope_of self.old.scope) (machine.codes_form self.old.scope.processes []) self.old.cursor
+            ≡ machine.fault f.kind f.left }
     {
         let codes = self.codes()?;
         self.cursor.end()?;
@@ -137,7 +145,8 @@ impl Reader<'_> {
         requires lexed { AreLexed self.old.cursor }
         ensures made { IfOk result (λ p. IsMade (tree_with self.new.scope p)) }
         ensures tree { IfOk result (λ p. IsTreeOfTokens self.old.cursor (tree_with self.new.scope p)) }
-        ensures err { (f : Fault) → result ≡ Err (Refusal.Fault f) → machine.tell nothing_yet (machine.from_events ∷ []) self.old.cursor ≡ machine.fault f.kind f.left }
+        ensures err { (f : Fault) → result ≡ Err (Refusal.Fault f)
+            → machine.tell nothing_yet (machine.from_events ∷ []) self.old.cursor ≡ machine.fault f.kind f.left }
     {
         let head = self.head()?;
         let codes = self.last_codes()?;
@@ -149,7 +158,7 @@ impl Reader<'_> {
         })
     }
 
-    /// The program of the parts, with the names that are in scope behind them.
+    /// The program of the parts, with the names that are in scope after them.
     fn into_program(self, parts: Parts) -> Program
         requires { IsMade (tree_with self.scope parts) }
         ensures { tree_of result ≡ tree_with self.entry.scope parts }

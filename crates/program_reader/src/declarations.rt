@@ -69,7 +69,8 @@ impl Scope {
         requires etimer { kind ≡ Kind.Etimer → self.old.ctimers ≡ [] }
         ensures etimers { kind ≢ Kind.Etimer → self.new.etimers ≡ self.old.etimers }
         ensures ctimers { kind ≢ Kind.Ctimer → self.new.ctimers ≡ self.old.ctimers }
-        ensures ok { OnOk result (scope_of self.new ≡ with_names (scope_of self.old) (with_new (scope_of self.old).names (class_of_kind kind) name.now)) }
+        ensures ok { OnOk result (scope_of self.new ≡ with_names (scope_of self.old)
+            (with_new (scope_of self.old).names (class_of_kind kind) name.now)) }
     {
         match kind {
             Kind::Event => self.events.add(alloc, name),
@@ -117,7 +118,8 @@ impl<'a> Cursor<'a> {
         ensures no_longer { OnOk result (length self.new ≤ length self.old) }
         ensures etimers { OnOk result (kind ≢ Kind.Etimer → scope.new.etimers ≡ scope.old.etimers) }
         ensures ctimers { OnOk result (kind ≢ Kind.Ctimer → scope.new.ctimers ≡ scope.old.ctimers) }
-        ensures ok { IfOk result (λ x. IsNew (class_of_kind kind) (scope_of scope.old) (scope_of scope.new) x.now self.old self.new) }
+        ensures ok { IfOk result (λ x. IsNew (class_of_kind kind) (scope_of scope.old) (scope_of scope.new) x.now
+            self.old self.new) }
         ensures err { FailsIn (scope_of scope.old) (new_name (class_of_kind kind) ∷ []) self.old result }
     {
         match self.peek() {
@@ -144,8 +146,10 @@ impl Reader<'_> {
         requires { kind ≡ Kind.Etimer → self.old.scope.ctimers ≡ [] }
         ensures no_longer { OnOk result (length self.new.cursor ≤ length self.old.cursor) }
         ensures ctimers { OnOk result (kind ≢ Kind.Ctimer → self.new.scope.ctimers ≡ self.old.scope.ctimers) }
-        ensures ok { OnOk result (IsListed (class_of_kind kind) (scope_of self.old.scope) (scope_of self.new.scope) self.old.cursor self.new.cursor) }
-        ensures err { FailsIn (scope_of self.old.scope) (new_name (class_of_kind kind) ∷ machine.semicolon ∷ []) self.old.cursor result }
+        ensures ok { OnOk result (IsListed (class_of_kind kind) (scope_of self.old.scope) (scope_of self.new.scope)
+            self.old.cursor self.new.cursor) }
+        ensures err { FailsIn (scope_of self.old.scope) (new_name (class_of_kind kind) ∷ machine.semicolon ∷ [])
+            self.old.cursor result }
     {
         self.cursor.new_name(self.alloc, &mut self.scope, kind)?;
         self.cursor.sign(Sign::Semicolon)
@@ -158,8 +162,11 @@ impl Reader<'_> {
         ensures no_longer { OnOk result (length self.new.cursor ≤ length self.old.cursor) }
         ensures etimers { OnOk result (self.new.scope.etimers ≡ self.old.scope.etimers) }
         ensures ctimers { OnOk result (kind ≢ Kind.Ctimer → self.new.scope.ctimers ≡ self.old.scope.ctimers) }
-        ensures ok { OnOk result (IsValued (class_of_kind kind) (scope_of self.old.scope) (scope_of self.new.scope) values.old.items values.new.items self.old.cursor self.new.cursor) }
-        ensures err { FailsIn (scope_of self.old.scope) (new_name (class_of_kind kind) ∷ machine.equals ∷ machine.number ∷ machine.semicolon ∷ []) self.old.cursor result }
+        ensures ok { OnOk result (IsValued (class_of_kind kind) (scope_of self.old.scope) (scope_of self.new.scope)
+            values.old.items values.new.items self.old.cursor self.new.cursor) }
+        ensures err { FailsIn (scope_of self.old.scope)
+            (new_name (class_of_kind kind) ∷ machine.equals ∷ machine.number ∷ machine.semicolon ∷ []) self.old.cursor
+            result }
     {
         self.cursor.new_name(self.alloc, &mut self.scope, kind)?;
         self.cursor.sign(Sign::Equals)?;

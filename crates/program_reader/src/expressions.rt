@@ -45,7 +45,8 @@ impl Drop for Sides {
 
 impl Sides {
     fn joined(self, alloc: Global) -> Result<Expr, AllocError>
-        ensures { IfOk result (λ e. expression_of e ≡ binary self.operator (expression_of self.left) (expression_of self.right)) }
+        ensures { IfOk result (λ e. expression_of e ≡ binary self.operator (expression_of self.left)
+            (expression_of self.right)) }
     {
         let Sides {
             left,
@@ -76,7 +77,7 @@ impl Cursor<'_> {
 }
 
 impl Reader<'_> {
-    /// A keyword that tells of something, and behind it in parentheses its name.
+    /// A keyword that asks about something, and after it in parentheses its name.
     #[tactic(auto, using(crate::proofs::ExpressionSteps::word_steps))]
     fn told(&mut self, place: &Context, telling: Telling) -> Result<Expr, Refusal>
         requires here { first self.old.cursor ≡ Some (token.Keyword (telling_keyword telling)) }
@@ -90,7 +91,7 @@ impl Reader<'_> {
         Ok(telling.value(number))
     }
 
-    /// `is`, and behind it in parentheses an event.
+    /// `is`, and after it in parentheses an event.
     #[tactic(auto, using(crate::proofs::ExpressionSteps::word_steps))]
     fn is(&mut self, place: &Context) -> Result<Expr, Refusal>
         requires here { first self.old.cursor ≡ Some (token.Keyword Keyword.Is) }
@@ -142,12 +143,21 @@ impl Reader<'_> {
         requires shallow { place.now.level ≤ LEVELS }
         ensures no_longer { length self.new.cursor ≤ length self.old.cursor }
         ensures same { self.new.scope ≡ self.old.scope }
-        ensures ok { IfOk result (λ x. ReadsSides (scope_of self.old.scope) (context_of place.now) x.operator (expression_of x.left) (expression_of x.right) self.old.cursor self.new.cursor) }
-        ensures left_numbered { IfOk result (λ x. Numbered (scope_of self.old.scope).names (λ n. expression_map (number_in n) (expression_map (name_in n) (expression_of x.left))) (expression_of x.left)) }
-        ensures right_numbered { IfOk result (λ x. Numbered (scope_of self.old.scope).names (λ n. expression_map (number_in n) (expression_map (name_in n) (expression_of x.right))) (expression_of x.right)) }
-        ensures left_fits { IfOk result (λ x. Fits (scope_of self.old.scope).names (context_of place.now).thread (λ w. expression_fits w (expression_of x.left))) }
-        ensures right_fits { IfOk result (λ x. Fits (scope_of self.old.scope).names (context_of place.now).thread (λ w. expression_fits w (expression_of x.right))) }
-        ensures err { FailsIn (scope_of self.old.scope) (expression (context_of place.now) ∷ operator ∷ expression (context_of place.now) ∷ close ∷ []) self.old.cursor result }
+        ensures ok { IfOk result (λ x. ReadsSides (scope_of self.old.scope) (context_of place.now) x.operator
+            (expression_of x.left) (expression_of x.right) self.old.cursor self.new.cursor) }
+        ensures left_numbered { IfOk result (λ x. Numbered (scope_of self.old.scope).names
+            (λ n. expression_map (number_in n) (expression_map (name_in n) (expression_of x.left)))
+            (expression_of x.left)) }
+        ensures right_numbered { IfOk result (λ x. Numbered (scope_of self.old.scope).names
+            (λ n. expression_map (number_in n) (expression_map (name_in n) (expression_of x.right)))
+            (expression_of x.right)) }
+        ensures left_fits { IfOk result (λ x. Fits (scope_of self.old.scope).names (context_of place.now).thread
+            (λ w. expression_fits w (expression_of x.left))) }
+        ensures right_fits { IfOk result (λ x. Fits (scope_of self.old.scope).names (context_of place.now).thread
+            (λ w. expression_fits w (expression_of x.right))) }
+        ensures err { FailsIn (scope_of self.old.scope)
+            (expression (context_of place.now) ∷ operator ∷ expression (context_of place.now) ∷ close ∷ [])
+            self.old.cursor result }
     {
         let left = self.expression(place)?;
         let operator = self.cursor.operator()?;

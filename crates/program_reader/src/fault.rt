@@ -12,7 +12,7 @@ pub(crate) struct Fault {
     pub left: usize,
 }
 
-/// Want of memory, or the first fault.
+/// Out of memory (an allocation failed), or the first fault.
 #[derive(Clone, Copy)]
 pub(crate) enum Refusal {
     Memory,

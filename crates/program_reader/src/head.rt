@@ -1,7 +1,8 @@
-//! What stands before the codes of a program, behind its events and semaphores.
+//! What stands before the codes of a program, after its events and semaphores.
 ghost use Rattle.std.specs.Prelude.{List, ◌≡◌, ◌≤◌, Some, None, ◌∷◌, ◌++◌, [], length, IfOk, OnOk, IfErr};
 ghost use Rattle.program_tree.specs.Grammar.{named, starts};
-ghost use Rattle.program_reader.specs.Head.{FailsIn, ReadsProcesses, CanStart, IsStarting, ReadsAutostart, ReadsReceiver, with_starting};
+ghost use Rattle.program_reader.specs.Head.{FailsIn, ReadsProcesses, CanStart, IsStarting, ReadsAutostart};
+ghost use Rattle.program_reader.specs.Head.{ReadsReceiver, with_starting};
 ghost use Rattle.program_text_laws.specs.Machine as machine;
 ghost use Rattle.program_text_laws.specs.Machine.{first, first_broken};
 ghost use Rattle.program_tree.specs.Names.{place_of};
@@ -50,7 +51,8 @@ impl Scope {
         numbers: &mut Vec<u8>,
     ) -> Result<(), Refusal>
         requires { place_of self.old.starting name.now ≡ None }
-        ensures scope { OnOk result (scope_of self.new ≡ with_starting (scope_of self.old) (self.old.starting ++ name.now ∷ [])) }
+        ensures scope { OnOk result (scope_of self.new ≡ with_starting (scope_of self.old)
+            (self.old.starting ++ name.now ∷ [])) }
         ensures numbers { OnOk result (numbers.new.items ≡ numbers.old.items ++ number ∷ []) }
         ensures memory { IfErr result (λ e. e ≡ Refusal.Memory) }
     {
@@ -70,7 +72,8 @@ impl Cursor<'_> {
         numbers: &mut Vec<u8>,
     ) -> Result<(), Refusal>
         ensures no_longer { OnOk result (length self.new ≤ length self.old) }
-        ensures ok { OnOk result (IsStarting (scope_of scope.old) (scope_of scope.new) numbers.old.items numbers.new.items self.old self.new) }
+        ensures ok { OnOk result (IsStarting (scope_of scope.old) (scope_of scope.new) numbers.old.items
+            numbers.new.items self.old self.new) }
         ensures err { FailsIn (scope_of scope.old) (machine.starting ∷ []) self.old result }
     {
         match self.peek() {
@@ -91,7 +94,8 @@ impl Reader<'_> {
     #[tactic(auto, using(crate::proofs::LineLaws::line_steps))]
     pub(crate) fn processes(&mut self) -> Result<(), Refusal>
         requires { first self.old.cursor ≡ Some (token.Keyword word.Semaphore) → ⊥ }
-        ensures ok { OnOk result (ReadsProcesses (scope_of self.old.scope) (scope_of self.new.scope) self.old.cursor self.new.cursor) }
+        ensures ok { OnOk result (ReadsProcesses (scope_of self.old.scope) (scope_of self.new.scope) self.old.cursor
+            self.new.cursor) }
         ensures err { FailsIn (scope_of self.old.scope) (machine.from_semaphores ∷ []) self.old.cursor result }
     {
         if self.cursor.left() == 0 {
@@ -111,9 +115,12 @@ impl Reader<'_> {
 
     /// The processes that start at boot, by their numbers.
     pub(crate) fn autostart(&mut self) -> Result<Vec<u8>, Refusal>
-        ensures ok { IfOk result (λ numbers. ReadsAutostart (scope_of self.old.scope) (scope_of self.new.scope) numbers.items self.old.cursor self.new.cursor) }
-        ensures err { (f : Fault) → result ≡ Err (Refusal.Fault f) → (x : Name) (xs : List Name) (more : machine.Pending) →
-            machine.tell (scope_of self.old.scope) (machine.from_autostart x xs ∷ more) self.old.cursor ≡ machine.fault f.kind f.left }
+        ensures ok { IfOk result (λ numbers. ReadsAutostart (scope_of self.old.scope) (scope_of self.new.scope)
+            numbers.items self.old.cursor self.new.cursor) }
+        ensures err { (f : Fault) → result ≡ Err (Refusal.Fault f)
+            → (x : Name) (xs : List Name) (more : machine.Pending) →
+            machine.tell (scope_of self.old.scope) (machine.from_autostart x xs ∷ more) self.old.cursor
+            ≡ machine.fault f.kind f.left }
     {
         let mut numbers = Vec::new(self.alloc);
         self.starting_names(&mut numbers)?;
@@ -124,9 +131,12 @@ impl Reader<'_> {
     #[tactic(auto, using(crate::proofs::StartLaws::autostart_steps))]
     fn starting_names(&mut self, numbers: &mut Vec<u8>) -> Result<(), Refusal>
         requires { numbers.old.items ≡ [] }
-        ensures ok { OnOk result (ReadsAutostart (scope_of self.old.scope) (scope_of self.new.scope) numbers.new.items self.old.cursor self.new.cursor) }
-        ensures err { (f : Fault) → result ≡ Err (Refusal.Fault f) → (x : Name) (xs : List Name) (more : machine.Pending) →
-            machine.tell (scope_of self.old.scope) (machine.from_autostart x xs ∷ more) self.old.cursor ≡ machine.fault f.kind f.left }
+        ensures ok { OnOk result (ReadsAutostart (scope_of self.old.scope) (scope_of self.new.scope) numbers.new.items
+            self.old.cursor self.new.cursor) }
+        ensures err { (f : Fault) → result ≡ Err (Refusal.Fault f)
+            → (x : Name) (xs : List Name) (more : machine.Pending) →
+            machine.tell (scope_of self.old.scope) (machine.from_autostart x xs ∷ more) self.old.cursor
+            ≡ machine.fault f.kind f.left }
     {
         if !self.cursor.accept(Keyword::Autostart) {
             return Ok(());
@@ -142,9 +152,12 @@ impl Reader<'_> {
     #[tactic(auto, using(crate::proofs::StartLaws::receiver_steps))]
     pub(crate) fn receiver(&mut self) -> Result<Option<u8>, Refusal>
         ensures same { self.new.scope ≡ self.old.scope }
-        ensures ok { IfOk result (λ receiver. ReadsReceiver (scope_of self.old.scope) receiver self.old.cursor self.new.cursor) }
-        ensures err { (f : Fault) → result ≡ Err (Refusal.Fault f) → (x : Name) (xs : List Name) (more : machine.Pending) →
-            machine.tell (scope_of self.old.scope) (machine.from_receiver x xs ∷ more) self.old.cursor ≡ machine.fault f.kind f.left }
+        ensures ok { IfOk result (λ receiver. ReadsReceiver (scope_of self.old.scope) receiver self.old.cursor
+            self.new.cursor) }
+        ensures err { (f : Fault) → result ≡ Err (Refusal.Fault f)
+            → (x : Name) (xs : List Name) (more : machine.Pending) →
+            machine.tell (scope_of self.old.scope) (machine.from_receiver x xs ∷ more) self.old.cursor
+            ≡ machine.fault f.kind f.left }
     {
         if !self.cursor.accept(Keyword::Receiver) {
             return Ok(None);

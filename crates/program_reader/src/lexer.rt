@@ -1,5 +1,6 @@
 //! The lexer: from a text to its tokens and their lines.
-ghost use Rattle.std.specs.Prelude.{◌≡◌, ◌<◌, ◌≤◌, ◌++◌, map, length, not, nat_eq, find, option_map, option_to_list, IfOk, OnOk};
+ghost use Rattle.std.specs.Prelude.{◌≡◌, ◌<◌, ◌≤◌, ◌++◌, map, length, not, nat_eq, find, option_map, option_to_list};
+ghost use Rattle.std.specs.Prelude.{IfOk, OnOk};
 ghost use Rattle.std.specs.List.{prefix_len, starts_with};
 ghost use Rattle.program_tree.specs.Tokens.{token_of};
 ghost use Rattle.program_tree.specs.Words.{is_word_byte};
@@ -133,7 +134,8 @@ impl<'a> Lexed<'a> {
     /// Adds a token, if there is one, with its line.
     fn add(&mut self, token: Option<Token<'a>>, line: usize) -> Result<(), AllocError>
         ensures tokens { OnOk result (self.new.tokens.items ≡ self.old.tokens.items ++ option_to_list token.entry) }
-        ensures lines { OnOk result (self.new.lines.items ≡ self.old.lines.items ++ option_to_list (option_map (λ t. line) token.entry)) }
+        ensures lines { OnOk result (self.new.lines.items ≡ self.old.lines.items
+            ++ option_to_list (option_map (λ t. line) token.entry)) }
     {
         if let Some(token) = token {
             self.tokens.push(token)?;

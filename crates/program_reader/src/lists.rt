@@ -2,7 +2,8 @@
 ghost use Rattle.std.specs.Prelude.{◌≡◌, ◌≤◌, Some, ◌∷◌, [], length, IfOk, OnOk};
 ghost use Rattle.program_tree.specs.Grammar.{event_marks, semaphore_marks, variable_marks, etimer_marks};
 ghost use Rattle.program_reader.specs.Head.{FailsIn, ReadsNames, ReadsValues};
-ghost use Rattle.program_text_laws.specs.Machine.{first, from_events, from_semaphores, from_variables, from_etimers, from_ctimers};
+ghost use Rattle.program_text_laws.specs.Machine.{first, from_events, from_semaphores, from_variables, from_etimers};
+ghost use Rattle.program_text_laws.specs.Machine.{from_ctimers};
 ghost use Rattle.program_reader.specs.Kept.{KeepsTimers};
 ghost use Rattle.program_reader.specs.Steps.{scope_of};
 ghost use Rattle.program_tree.specs.Tokens as token;
@@ -19,7 +20,8 @@ impl Reader<'_> {
     #[tactic(auto, using(crate::proofs::ListLaws::events_steps))]
     pub(crate) fn events(&mut self) -> Result<(), Refusal>
         ensures no_longer { OnOk result (length self.new.cursor ≤ length self.old.cursor) }
-        ensures ok { OnOk result (ReadsNames an_event from_events from_semaphores event_marks (scope_of self.old.scope) (scope_of self.new.scope) self.old.cursor self.new.cursor) }
+        ensures ok { OnOk result (ReadsNames an_event from_events from_semaphores event_marks (scope_of self.old.scope)
+            (scope_of self.new.scope) self.old.cursor self.new.cursor) }
         ensures err { FailsIn (scope_of self.old.scope) (from_events ∷ []) self.old.cursor result }
     {
         'events: while self.cursor.accept(Keyword::Event) {
@@ -33,7 +35,8 @@ impl Reader<'_> {
     pub(crate) fn semaphores(&mut self) -> Result<Vec<u16>, Refusal>
         ensures no_longer { OnOk result (length self.new.cursor ≤ length self.old.cursor) }
         ensures behind { OnOk result (first self.new.cursor ≡ Some (token.Keyword word.Semaphore) → ⊥) }
-        ensures ok { IfOk result (λ values. ReadsValues a_semaphore from_semaphores from_semaphores semaphore_marks values.items (scope_of self.old.scope) (scope_of self.new.scope) self.old.cursor self.new.cursor) }
+        ensures ok { IfOk result (λ values. ReadsValues a_semaphore from_semaphores from_semaphores semaphore_marks
+            values.items (scope_of self.old.scope) (scope_of self.new.scope) self.old.cursor self.new.cursor) }
         ensures err { FailsIn (scope_of self.old.scope) (from_semaphores ∷ []) self.old.cursor result }
     {
         let mut values = Vec::new(self.alloc);
@@ -48,7 +51,8 @@ impl Reader<'_> {
     pub(crate) fn variables(&mut self) -> Result<Vec<u16>, Refusal>
         ensures no_longer { OnOk result (length self.new.cursor ≤ length self.old.cursor) }
         ensures timers { OnOk result (KeepsTimers self.old.scope self.new.scope) }
-        ensures ok { IfOk result (λ values. ReadsValues a_variable from_variables from_etimers variable_marks values.items (scope_of self.old.scope) (scope_of self.new.scope) self.old.cursor self.new.cursor) }
+        ensures ok { IfOk result (λ values. ReadsValues a_variable from_variables from_etimers variable_marks
+            values.items (scope_of self.old.scope) (scope_of self.new.scope) self.old.cursor self.new.cursor) }
         ensures err { FailsIn (scope_of self.old.scope) (from_variables ∷ []) self.old.cursor result }
     {
         let mut values = Vec::new(self.alloc);
@@ -64,7 +68,8 @@ impl Reader<'_> {
         requires { self.old.scope.ctimers ≡ [] }
         ensures no_longer { OnOk result (length self.new.cursor ≤ length self.old.cursor) }
         ensures ctimers { OnOk result (self.new.scope.ctimers ≡ []) }
-        ensures ok { OnOk result (ReadsNames a_timer from_etimers from_ctimers etimer_marks (scope_of self.old.scope) (scope_of self.new.scope) self.old.cursor self.new.cursor) }
+        ensures ok { OnOk result (ReadsNames a_timer from_etimers from_ctimers etimer_marks (scope_of self.old.scope)
+            (scope_of self.new.scope) self.old.cursor self.new.cursor) }
         ensures err { FailsIn (scope_of self.old.scope) (from_etimers ∷ []) self.old.cursor result }
     {
         'etimers: while self.cursor.accept(Keyword::Etimer) {

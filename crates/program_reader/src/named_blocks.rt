@@ -36,10 +36,14 @@ impl Reader<'_> {
         ensures names { fixed self.new.scope ≡ fixed self.old.scope }
         ensures no_longer { OnOk result (length self.new.cursor ≤ length self.old.cursor) }
         ensures within { IfOk result (λ b. IsWithinLimits (tree_in b)) }
-        ensures ok { IfOk result (λ b. Reads (scope_of self.old.scope) (scope_of self.new.scope) (machine.block (context_of place.now))
-            (λ n ms. block_marks (context_of place.now) (body_map (name_in n) (tree_in b)) ms) self.old.cursor self.new.cursor) }
-        ensures numbered { IfOk result (λ b. Numbered (scope_of self.old.scope).names (λ n. body_map (number_in n) (body_map (name_in n) (tree_in b))) (tree_in b)) }
-        ensures fits { IfOk result (λ b. Fits (scope_of self.old.scope).names (context_of place.now).thread (λ w. block_fits w (tree_in b))) }
+        ensures ok { IfOk result (λ b. Reads (scope_of self.old.scope) (scope_of self.new.scope)
+            (machine.block (context_of place.now))
+            (λ n ms. block_marks (context_of place.now) (body_map (name_in n) (tree_in b)) ms) self.old.cursor
+            self.new.cursor) }
+        ensures numbered { IfOk result (λ b. Numbered (scope_of self.old.scope).names
+            (λ n. body_map (number_in n) (body_map (name_in n) (tree_in b))) (tree_in b)) }
+        ensures fits { IfOk result (λ b. Fits (scope_of self.old.scope).names (context_of place.now).thread
+            (λ w. block_fits w (tree_in b))) }
         ensures err { Fails (scope_of self.old.scope) (machine.block (context_of place.now)) self.old.cursor result }
     {
         let block = self.block(place)?;
@@ -53,9 +57,11 @@ impl Reader<'_> {
         ensures no_longer { OnOk result (length self.new.cursor ≤ length self.old.cursor) }
         ensures etimers { OnOk result (self.new.scope.etimers ≡ self.old.scope.etimers) }
         ensures within { IfOk result (λ b. IsWithinLimits (tree_in b)) }
-        ensures ok { IfOk result (λ b. IsNamedBlock a_timer (λ f. new_name a_timer ∷ machine.block at_simple ∷ f) (λ x. at_simple) (tree_in b)
+        ensures ok { IfOk result (λ b. IsNamedBlock a_timer (λ f. new_name a_timer ∷ machine.block at_simple ∷ f)
+            (λ x. at_simple) (tree_in b)
             (scope_of self.old.scope) (scope_of self.new.scope) self.old.cursor self.new.cursor) }
-        ensures err { FailsIn (scope_of self.old.scope) (new_name a_timer ∷ machine.block at_simple ∷ []) self.old.cursor result }
+        ensures err { FailsIn (scope_of self.old.scope) (new_name a_timer ∷ machine.block at_simple ∷ [])
+            self.old.cursor result }
     {
         self.cursor
             .new_name(self.alloc, &mut self.scope, Kind::Ctimer)?;
@@ -69,7 +75,8 @@ impl Reader<'_> {
         ensures no_longer { OnOk result (length self.new.cursor ≤ length self.old.cursor) }
         ensures etimers { OnOk result (self.new.scope.etimers ≡ self.old.scope.etimers) }
         ensures within { IfOk result (λ blocks. All (λ b. IsWithinLimits (tree_in b)) blocks.items) }
-        ensures ok { IfOk result (λ blocks. ReadsBlocks a_timer machine.from_ctimers machine.from_threads ctimer_marks (map tree_in blocks.items)
+        ensures ok { IfOk result (λ blocks. ReadsBlocks a_timer machine.from_ctimers machine.from_threads ctimer_marks
+            (map tree_in blocks.items)
             (scope_of self.old.scope) (scope_of self.new.scope) self.old.cursor self.new.cursor) }
         ensures err { FailsIn (scope_of self.old.scope) (machine.from_ctimers ∷ []) self.old.cursor result }
     {
@@ -87,7 +94,8 @@ impl Reader<'_> {
         ensures no_longer { OnOk result (length self.new.cursor ≤ length self.old.cursor) }
         ensures timers { OnOk result (KeepsTimers self.old.scope self.new.scope) }
         ensures within { IfOk result (λ b. IsWithinLimits (tree_in b)) }
-        ensures earlier { IfOk result (λ b. block_fits (earlier_threads (length self.old.scope.threads)) (tree_in b) ≡ true) }
+        ensures earlier { IfOk result (λ b. block_fits (earlier_threads (length self.old.scope.threads)) (tree_in b)
+            ≡ true) }
         ensures ok { IfOk result (λ b. IsNamedBlock a_thread (λ f. machine.new_thread ∷ f) at_thread (tree_in b)
             (scope_of self.old.scope) (scope_of self.new.scope) self.old.cursor self.new.cursor) }
         ensures err { FailsIn (scope_of self.old.scope) (machine.new_thread ∷ []) self.old.cursor result }
@@ -112,7 +120,8 @@ impl Reader<'_> {
         ensures timers { OnOk result (KeepsTimers self.old.scope self.new.scope) }
         ensures within { IfOk result (λ blocks. All (λ b. IsWithinLimits (tree_in b)) blocks.items) }
         ensures earlier { IfOk result (λ blocks. threads_fit earlier_threads 0 (map tree_in blocks.items) ≡ true) }
-        ensures ok { IfOk result (λ blocks. ReadsBlocks a_thread machine.from_threads machine.from_on_poll thread_marks (map tree_in blocks.items)
+        ensures ok { IfOk result (λ blocks. ReadsBlocks a_thread machine.from_threads machine.from_on_poll thread_marks
+            (map tree_in blocks.items)
             (scope_of self.old.scope) (scope_of self.new.scope) self.old.cursor self.new.cursor) }
         ensures err { FailsIn (scope_of self.old.scope) (machine.from_threads ∷ []) self.old.cursor result }
     {
@@ -129,7 +138,8 @@ impl Reader<'_> {
     pub(crate) fn on_poll(&mut self) -> Result<Option<FlatBlock>, Refusal>
         ensures fixed { fixed self.new.scope ≡ fixed self.old.scope }
         ensures within { IfOk result (λ block. ForSome block (λ b. IsWithinLimits (tree_in b))) }
-        ensures ok { IfOk result (λ block. ReadsHandler word.OnPoll machine.from_on_poll machine.from_on_exit (option_map tree_in block)
+        ensures ok { IfOk result (λ block. ReadsHandler word.OnPoll machine.from_on_poll machine.from_on_exit
+            (option_map tree_in block)
             (scope_of self.old.scope) (scope_of self.new.scope) self.old.cursor self.new.cursor) }
         ensures err { FailsIn (scope_of self.old.scope) (machine.from_on_poll ∷ []) self.old.cursor result }
     {
@@ -145,7 +155,8 @@ impl Reader<'_> {
     pub(crate) fn on_exit(&mut self) -> Result<Option<FlatBlock>, Refusal>
         ensures fixed { fixed self.new.scope ≡ fixed self.old.scope }
         ensures within { IfOk result (λ block. ForSome block (λ b. IsWithinLimits (tree_in b))) }
-        ensures ok { IfOk result (λ block. ReadsHandler word.OnExit machine.from_on_exit machine.from_body (option_map tree_in block)
+        ensures ok { IfOk result (λ block. ReadsHandler word.OnExit machine.from_on_exit machine.from_body
+            (option_map tree_in block)
             (scope_of self.old.scope) (scope_of self.new.scope) self.old.cursor self.new.cursor) }
         ensures err { FailsIn (scope_of self.old.scope) (machine.from_on_exit ∷ []) self.old.cursor result }
     {
@@ -161,7 +172,8 @@ impl Reader<'_> {
     pub(crate) fn body(&mut self) -> Result<FlatBlock, Refusal>
         ensures fixed { fixed self.new.scope ≡ fixed self.old.scope }
         ensures within { IfOk result (λ b. IsWithinLimits (tree_in b)) }
-        ensures ok { IfOk result (λ b. ReadsBody (tree_in b) (scope_of self.old.scope) (scope_of self.new.scope) self.old.cursor self.new.cursor) }
+        ensures ok { IfOk result (λ b. ReadsBody (tree_in b) (scope_of self.old.scope) (scope_of self.new.scope)
+            self.old.cursor self.new.cursor) }
         ensures err { FailsIn (scope_of self.old.scope) (machine.from_body ∷ []) self.old.cursor result }
     {
         if !self.cursor.accept(Keyword::Body) {

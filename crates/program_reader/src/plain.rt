@@ -2,7 +2,8 @@
 ghost use Rattle.std.specs.Prelude.{◌≡◌, None, IfSome};
 ghost use Rattle.program_tree.specs.Forms as form;
 ghost use Rattle.program_tree.specs.Forms.{beginning, action, ends, takes, values};
-ghost use Rattle.program_reader.specs.Plain.{IsNoAction, bare_keyword, bare_action, valued_keyword, valued_action, about_keyword, about_class, about_action, plain_keyword};
+ghost use Rattle.program_reader.specs.Plain.{IsNoAction, bare_keyword, bare_action, valued_keyword, valued_action};
+ghost use Rattle.program_reader.specs.Plain.{about_keyword, about_class, about_action, plain_keyword};
 ghost use Rattle.program_reader.specs.Steps.{class_of};
 ghost use Rattle.program_tree.specs.Tree.{action_of, expression_of};
 

@@ -11,7 +11,7 @@ use program_tree::error::{ReadError, ReadErrorKind};
 use program_tree::program::Program;
 use std::alloc::Global;
 
-/// The program of a text, or its told fault: the one at the earliest token, and of several there the one of the
+/// The program of a text, or its reported error: the one at the earliest token, and of several there the one of the
 /// least number. The time is linear in the length of the text, but for the names in scope.
 ///
 /// A program has at most 64 processes, 117 events, 64 semaphores and 64 timers, each process at most 64 variables and
@@ -20,13 +20,15 @@ use std::alloc::Global;
 ///
 /// # Errors
 ///
-/// The told fault, with the line of its token; want of memory, with line 0.
+/// The reported error, with the line of its token; `Memory` with line 0, where an allocation failed.
 pub fn read(alloc: Global, text: &str) -> Result<Program, ReadError>
     ensures ok { IfOk result (λ p. IsTreeOf text.now (tree_of p)) }
-    ensures told { (e : ReadError) → result ≡ Err e → (e.kind ≡ ReadErrorKind.Memory → ⊥) → IsToldOf text.now e.kind e.line }
+    ensures told { (e : ReadError) → result ≡ Err e → (e.kind ≡ ReadErrorKind.Memory → ⊥)
+        → IsToldOf text.now e.kind e.line }
     ensures memory { (e : ReadError) → result ≡ Err e → e.kind ≡ ReadErrorKind.Memory → e.line ≡ 0 }
     ensures only { (t : Tree) → IsTreeOf text.now t → IfOk result (λ p. tree_of p ≡ t) }
-    ensures accepts { (t : Tree) → IsTreeOf text.now t → (e : ReadError) → result ≡ Err e → e.kind ≡ ReadErrorKind.Memory }
+    ensures accepts { (t : Tree) → IsTreeOf text.now t → (e : ReadError) → result ≡ Err e
+        → e.kind ≡ ReadErrorKind.Memory }
 {
     let lexed = lex(alloc, text)?;
     match program(alloc, &lexed.tokens) {

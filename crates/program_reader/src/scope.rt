@@ -8,7 +8,8 @@ use std::alloc::Global;
 /// How many blocks and expressions may stand in one another.
 pub(crate) const LEVELS: usize = 32;
 
-/// What a name stands for, where one of a class is asked for: nothing, something of the class, by its number, or something else.
+/// What a name stands for, where one of a class is asked for: nothing, something of the class, by its number, or
+/// something else.
 #[derive(Clone, Copy)]
 pub(crate) enum Found {
     Unknown,
@@ -16,7 +17,8 @@ pub(crate) enum Found {
     Here(u8),
 }
 
-/// Where a block or an expression stands: below so many levels, in a simple block or not, and in the block of which thread.
+/// Where a block or an expression stands: below so many levels, in a simple block or not, and in the block of which
+/// thread.
 #[derive(Clone, Copy)]
 pub(crate) struct Context<'a> {
     pub level: usize,
@@ -52,8 +54,8 @@ impl<'a> Context<'a> {
     }
 }
 
-/// The names that are declared so far, those that `autostart` lists, and how many statements have begun. Variables, timers and
-/// threads are those of one code, before which the program has so many timers.
+/// The names that are declared so far, those that `autostart` lists, and how many statements have begun. Variables,
+/// timers and threads are those of one code, before which the program has so many timers.
 #[derive(Drop)]
 pub(crate) struct Scope {
     pub events: Names,
@@ -162,7 +164,8 @@ impl Scope {
     #[tactic(auto, using(crate::proofs::ScopeLaws::find_steps))]
     pub(crate) fn find(&self, place: &Context, class: Class, name: &str) -> Found
         ensures few { (i : ℕ) → result ≡ Found.Here i → i < most_of (class_of class) }
-        ensures value { IsFound (scope_of self.now).names (context_of place.now).thread (class_of class) name.now result }
+        ensures value { IsFound (scope_of self.now).names (context_of place.now).thread (class_of class) name.now
+            result }
     {
         match self.number_of(class, name) {
             Some(_) if place.is_own(class, name) => Found::Other,

@@ -8,9 +8,11 @@ ghost use Rattle.program_tree.specs.InScope.{name_in, number_in};
 ghost use Rattle.program_text_laws.specs.Machine.{first, into_end, items, items_else, block};
 ghost use Rattle.program_reader.specs.Plain.{BeginsPlain, bare_keyword, valued_keyword, about_keyword};
 ghost use Rattle.program_tree.specs.Scope.{into_fits, other_fits, block_fits};
-ghost use Rattle.program_reader.specs.Steps.{scope_of, context_of, fixed, IsStatement, IsPlain, IsInside, Begins, Finds, IsTarget, Reads, ReadsElse, Fails, Numbered, Fits};
+ghost use Rattle.program_reader.specs.Steps.{scope_of, context_of, fixed, IsStatement, IsPlain, IsInside, Begins};
+ghost use Rattle.program_reader.specs.Steps.{Finds, IsTarget, Reads, ReadsElse, Fails, Numbered, Fits};
 ghost use Rattle.program_tree.specs.Tokens as token;
-ghost use Rattle.program_tree.specs.Tree.{a_variable, block_of, body_map, otherwise_of, otherwise_map, height, other_height, size, other_size};
+ghost use Rattle.program_tree.specs.Tree.{a_variable, block_of, body_map, otherwise_of, otherwise_map, height};
+ghost use Rattle.program_tree.specs.Tree.{other_height, size, other_size};
 
 use crate::cursor::Sign;
 use crate::fault::Refusal;
@@ -71,7 +73,8 @@ impl Reader<'_> {
         ensures names { fixed self.new.scope ≡ fixed self.old.scope }
         ensures shorter { OnOk result (length self.new.cursor < length self.old.cursor) }
         ensures counts { OnOk result (self.old.scope.statements < self.new.scope.statements) }
-        ensures ok { OnOk result (Begins (scope_of self.old.scope) (scope_of self.new.scope) (context_of place.now) keyword self.old.cursor self.new.cursor) }
+        ensures ok { OnOk result (Begins (scope_of self.old.scope) (scope_of self.new.scope) (context_of place.now)
+            keyword self.old.cursor self.new.cursor) }
         ensures err { Fails (scope_of self.old.scope) (items (context_of place.now)) self.old.cursor result }
     {
         self.may_begin(place, keyword)?;
@@ -84,7 +87,8 @@ impl Reader<'_> {
     #[tactic(auto, using(crate::proofs::StatementSteps::may_assign_steps))]
     fn may_assign(&self, place: &Context, name: &str) -> Result<u8, Refusal>
         requires here { first self.now.cursor ≡ Some (token.Name name.now) }
-        ensures finds { IfOk result (λ i. Finds (scope_of self.now.scope).names (context_of place.now).thread a_variable name.now i) }
+        ensures finds { IfOk result (λ i. Finds (scope_of self.now.scope).names (context_of place.now).thread
+            a_variable name.now i) }
         ensures room { OnOk result (self.now.scope.statements < STATEMENTS) }
         ensures err { Fails (scope_of self.now.scope) (items (context_of place.now)) self.now.cursor result }
     {
@@ -105,9 +109,12 @@ impl Reader<'_> {
         ensures names { fixed self.new.scope ≡ fixed self.old.scope }
         ensures shorter { OnOk result (length self.new.cursor < length self.old.cursor) }
         ensures counts { OnOk result (self.old.scope.statements < self.new.scope.statements) }
-        ensures ok { IfOk result (λ i. IsTarget (scope_of self.old.scope) (scope_of self.new.scope) (context_of place.now) i self.old.cursor self.new.cursor) }
-        ensures numbered { IfOk result (λ i. Numbered (scope_of self.old.scope).names (λ n. number_in n a_variable (name_in n a_variable i)) i) }
-        ensures fits { IfOk result (λ i. Fits (scope_of self.old.scope).names (context_of place.now).thread (λ w. w a_variable i)) }
+        ensures ok { IfOk result (λ i. IsTarget (scope_of self.old.scope) (scope_of self.new.scope)
+            (context_of place.now) i self.old.cursor self.new.cursor) }
+        ensures numbered { IfOk result (λ i. Numbered (scope_of self.old.scope).names
+            (λ n. number_in n a_variable (name_in n a_variable i)) i) }
+        ensures fits { IfOk result (λ i. Fits (scope_of self.old.scope).names (context_of place.now).thread
+            (λ w. w a_variable i)) }
         ensures err { Fails (scope_of self.old.scope) (items (context_of place.now)) self.old.cursor result }
     {
         let variable = self.may_assign(place, name)?;
@@ -116,15 +123,18 @@ impl Reader<'_> {
         Ok(variable)
     }
 
-    /// `;`, or `into`, a variable that is told the answer and `;`.
+    /// `;`, or `into`, a variable that gets the answer and `;`.
     #[tactic(auto, using(crate::proofs::StatementSteps::into_start))]
     fn into_end(&mut self, place: &Context) -> Result<Option<u8>, Refusal>
         ensures no_longer { length self.new.cursor ≤ length self.old.cursor }
         ensures same { self.new.scope ≡ self.old.scope }
-        ensures ok { IfOk result (λ i. Reads (scope_of self.old.scope) (scope_of self.old.scope) (into_end (context_of place.now))
+        ensures ok { IfOk result (λ i. Reads (scope_of self.old.scope) (scope_of self.old.scope)
+            (into_end (context_of place.now))
             (λ n ms. into_marks (option_map (name_in n a_variable) i) ms) self.old.cursor self.new.cursor) }
-        ensures numbered { IfOk result (λ i. Numbered (scope_of self.old.scope).names (λ n. option_map (number_in n a_variable) (option_map (name_in n a_variable) i)) i) }
-        ensures fits { IfOk result (λ i. Fits (scope_of self.old.scope).names (context_of place.now).thread (λ w. into_fits w i)) }
+        ensures numbered { IfOk result (λ i. Numbered (scope_of self.old.scope).names
+            (λ n. option_map (number_in n a_variable) (option_map (name_in n a_variable) i)) i) }
+        ensures fits { IfOk result (λ i. Fits (scope_of self.old.scope).names (context_of place.now).thread
+            (λ w. into_fits w i)) }
         ensures err { Fails (scope_of self.old.scope) (into_end (context_of place.now)) self.old.cursor result }
     {
         match self.cursor.peek() {
@@ -316,12 +326,19 @@ impl Reader<'_> {
         requires low { place.now.level ≤ LEVELS }
         ensures names { fixed self.new.scope ≡ fixed self.old.scope }
         ensures no_longer { OnOk result (length self.new.cursor ≤ length self.old.cursor) }
-        ensures ok { IfOk result (λ o. ReadsElse (scope_of self.old.scope) (scope_of self.new.scope) (context_of place.now)
-            (λ n ms. else_marks (context_of place.now) (otherwise_map (name_in n) (otherwise_of (option_map block_of o))) ms) self.old.cursor self.new.cursor) }
-        ensures numbered { IfOk result (λ o. Numbered (scope_of self.old.scope).names (λ n. otherwise_map (number_in n) (otherwise_map (name_in n) (otherwise_of (option_map block_of o)))) (otherwise_of (option_map block_of o))) }
-        ensures fits { IfOk result (λ o. Fits (scope_of self.old.scope).names (context_of place.now).thread (λ w. other_fits w (otherwise_of (option_map block_of o)))) }
-        ensures shallow { IfOk result (λ o. place.now.level + other_height (otherwise_of (option_map block_of o)) ≤ LEVELS) }
-        ensures counts { IfOk result (λ o. other_size (otherwise_of (option_map block_of o)) + self.old.scope.statements ≤ self.new.scope.statements) }
+        ensures ok { IfOk result (λ o. ReadsElse (scope_of self.old.scope) (scope_of self.new.scope)
+            (context_of place.now)
+            (λ n ms. else_marks (context_of place.now) (otherwise_map (name_in n)
+            (otherwise_of (option_map block_of o))) ms) self.old.cursor self.new.cursor) }
+        ensures numbered { IfOk result (λ o. Numbered (scope_of self.old.scope).names
+            (λ n. otherwise_map (number_in n) (otherwise_map (name_in n) (otherwise_of (option_map block_of o))))
+            (otherwise_of (option_map block_of o))) }
+        ensures fits { IfOk result (λ o. Fits (scope_of self.old.scope).names (context_of place.now).thread
+            (λ w. other_fits w (otherwise_of (option_map block_of o)))) }
+        ensures shallow { IfOk result (λ o. place.now.level + other_height (otherwise_of (option_map block_of o))
+            ≤ LEVELS) }
+        ensures counts { IfOk result (λ o. other_size (otherwise_of (option_map block_of o))
+            + self.old.scope.statements ≤ self.new.scope.statements) }
         ensures err { Fails (scope_of self.old.scope) (items_else (context_of place.now)) self.old.cursor result }
     {
         match self.cursor.peek() {
@@ -362,10 +379,14 @@ impl Reader<'_> {
         requires low { place.now.level ≤ LEVELS }
         ensures names { fixed self.new.scope ≡ fixed self.old.scope }
         ensures no_longer { OnOk result (length self.new.cursor ≤ length self.old.cursor) }
-        ensures ok { IfOk result (λ b. Reads (scope_of self.old.scope) (scope_of self.new.scope) (block (context_of place.now))
-            (λ n ms. block_marks (context_of place.now) (body_map (name_in n) (block_of b)) ms) self.old.cursor self.new.cursor) }
-        ensures numbered { IfOk result (λ b. Numbered (scope_of self.old.scope).names (λ n. body_map (number_in n) (body_map (name_in n) (block_of b))) (block_of b)) }
-        ensures fits { IfOk result (λ b. Fits (scope_of self.old.scope).names (context_of place.now).thread (λ w. block_fits w (block_of b))) }
+        ensures ok { IfOk result (λ b. Reads (scope_of self.old.scope) (scope_of self.new.scope)
+            (block (context_of place.now))
+            (λ n ms. block_marks (context_of place.now) (body_map (name_in n) (block_of b)) ms) self.old.cursor
+            self.new.cursor) }
+        ensures numbered { IfOk result (λ b. Numbered (scope_of self.old.scope).names
+            (λ n. body_map (number_in n) (body_map (name_in n) (block_of b))) (block_of b)) }
+        ensures fits { IfOk result (λ b. Fits (scope_of self.old.scope).names (context_of place.now).thread
+            (λ w. block_fits w (block_of b))) }
         ensures shallow { IfOk result (λ b. place.now.level + height (block_of b) ≤ LEVELS) }
         ensures counts { IfOk result (λ b. size (block_of b) + self.old.scope.statements ≤ self.new.scope.statements) }
         ensures err { Fails (scope_of self.old.scope) (block (context_of place.now)) self.old.cursor result }

@@ -3,7 +3,8 @@ ghost use Rattle.std.specs.Prelude.{◌≡◌, None, IfSome};
 ghost use Rattle.program_tree.specs.Forms.{name, no_value, tells_of, word_of};
 ghost use Rattle.program_reader.specs.Steps.{class_of};
 ghost use Rattle.program_tree.specs.Tree.{expression_of};
-ghost use Rattle.program_reader.specs.Values.{alone_value, telling_class, telling_keyword, telling_value, value_keyword};
+ghost use Rattle.program_reader.specs.Values.{alone_value, telling_class, telling_keyword, telling_value};
+ghost use Rattle.program_reader.specs.Values.{value_keyword};
 
 use program_tree::class::Class;
 use program_tree::keyword::Keyword;
@@ -18,7 +19,7 @@ pub(crate) enum Alone {
     Mote,
 }
 
-/// A keyword that tells of what is named in parentheses behind it.
+/// A keyword that asks about what is named in parentheses after it.
 #[derive(Clone, Copy)]
 pub(crate) enum Telling {
     Fired,

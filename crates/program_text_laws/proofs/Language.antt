@@ -1,16 +1,37 @@
 -- What each symbol stands for, and how the machine's steps follow the grammar.
-use Rattle.std.proofs.Common.{◌≡◌, ℕ, List, [], ◌∷◌, ◌++◌, refl, sym, ap, ◌∙◌, Bool, true, false, if◌then◌else◌, Option, Some, None}
+use Rattle.std.proofs.Common.{◌≡◌, ℕ, List, [], ◌∷◌, ◌++◌, refl, sym, ap, ◌∙◌, Bool, true, false, if◌then◌else◌}
+use Rattle.std.proofs.Common.{Option, Some, None}
 use Rattle.std.specs.Str.{bytes_eq}
 use Rattle.program_tree.specs.EventNames as event
 use Rattle.program_tree.specs.Forms as form
-use Rattle.program_tree.specs.Forms.{Operand, Form, ends, tells, takes, values, Beginning, no_statement, action, branches, loops, goes_on, beginning, Word, no_value, alone, tells_of, word_of}
-use Rattle.program_tree.specs.Grammar.{Context, at_thread, Mark, new, starts, sign, key, named, valued, begins_with, leaving, operand_mark, into_marks, word_marks, value_marks, expression_marks, form_marks, beginning_marks, keyword_marks, action_marks, items_marks, else_marks, block_marks, variable_marks, etimer_marks, ctimer_marks, thread_marks, handler_marks, body_marks, code_marks, codes_marks, event_marks, semaphore_marks, process_marks, starting_marks, autostart_marks, receiver_marks}
-use Rattle.program_text_laws.specs.Machine.{Symbol, Pending, Step, unfit, take, step, semicolon, equals, open_sign, close, open_brace, operator, number as number_symbol, operand, expression, into_end, block, items, items_else, new_name, new_thread, codes, this_name, from_variables, from_etimers, from_ctimers, from_threads, from_on_poll, from_on_exit, from_body, last_brace, from_events, from_semaphores, first_process, from_comma, more_process, from_autostart, from_receiver, starting, more_starting, symbols_of, codes_form, cast_step, sent_step, operand_step, word_step, begin_step, items_step, body_step, on_exit_step, on_poll_step, threads_step, ctimers_step, etimers_step, codes_step, receiver_step, process_step, semaphores_step}
+use Rattle.program_tree.specs.Forms.{Operand, Form, ends, tells, takes, values, Beginning, no_statement, action}
+use Rattle.program_tree.specs.Forms.{branches, loops, goes_on, beginning, Word, no_value, alone, tells_of, word_of}
+use Rattle.program_tree.specs.Grammar.{Context, at_thread, Mark, new, starts, sign, key, named, valued, begins_with}
+use Rattle.program_tree.specs.Grammar.{leaving, operand_mark, into_marks, word_marks, value_marks, expression_marks}
+use Rattle.program_tree.specs.Grammar.{form_marks, beginning_marks, keyword_marks, action_marks, items_marks}
+use Rattle.program_tree.specs.Grammar.{else_marks, block_marks, variable_marks, etimer_marks, ctimer_marks}
+use Rattle.program_tree.specs.Grammar.{thread_marks, handler_marks, body_marks, code_marks, codes_marks, event_marks}
+use Rattle.program_tree.specs.Grammar.{semaphore_marks, process_marks, starting_marks, autostart_marks, receiver_marks}
+use Rattle.program_text_laws.specs.Machine.{Symbol, Pending, Step, unfit, take, step, semicolon, equals, open_sign}
+use Rattle.program_text_laws.specs.Machine.{close, open_brace, operator, number as number_symbol, operand, expression}
+use Rattle.program_text_laws.specs.Machine.{into_end, block, items, items_else, new_name, new_thread, codes, this_name}
+use Rattle.program_text_laws.specs.Machine.{from_variables, from_etimers, from_ctimers, from_threads, from_on_poll}
+use Rattle.program_text_laws.specs.Machine.{from_on_exit, from_body, last_brace, from_events, from_semaphores}
+use Rattle.program_text_laws.specs.Machine.{first_process, from_comma, more_process, from_autostart, from_receiver}
+use Rattle.program_text_laws.specs.Machine.{starting, more_starting, symbols_of, codes_form, cast_step, sent_step}
+use Rattle.program_text_laws.specs.Machine.{operand_step, word_step, begin_step, items_step, body_step, on_exit_step}
+use Rattle.program_text_laws.specs.Machine.{on_poll_step, threads_step, ctimers_step, etimers_step, codes_step}
+use Rattle.program_text_laws.specs.Machine.{receiver_step, process_step, semaphores_step}
 use Rattle.program_tree.specs.Shapes.{Name, Valued, Named, CodeShape, OperandShape, WordShape, FormShape, ActionShape}
 use Rattle.program_tree.specs.Tokens as token
 use Rattle.program_tree.specs.Tokens.{Token}
 use Rattle.program_tree.specs.Tree as tree
-use Rattle.program_tree.specs.Tree.{Class, a_thread, a_process, Expression, number, variable, sender, moment, mote, is, fired, expired, gone, running, count, negation, binary, Action, assign, print, send, wait_until, wait_while, yield, yield_until, spawn, restart, exit, pause, acquire, signal, post, broadcast, synch, poll, start, kill, set, reset, restart_timer, stop, Statement, does, branch, while, Body, end, next, Otherwise, nothing, otherwise}
+use Rattle.program_tree.specs.Tree.{Class, a_thread, a_process, Expression, number, variable, sender, moment, mote, is}
+use Rattle.program_tree.specs.Tree.{fired, expired, gone, running, count, negation, binary, Action, assign, print}
+use Rattle.program_tree.specs.Tree.{send, wait_until, wait_while, yield, yield_until, spawn, restart, exit, pause}
+use Rattle.program_tree.specs.Tree.{acquire, signal, post, broadcast, synch, poll, start, kill, set, reset}
+use Rattle.program_tree.specs.Tree.{restart_timer, stop, Statement, does, branch, while, Body, end, next, Otherwise}
+use Rattle.program_tree.specs.Tree.{nothing, otherwise}
 use Rattle.program_tree.specs.declared.keyword.Keyword.{Keyword}
 use Rattle.program_tree.specs.declared.keyword.Keyword.TheVariants as word
 use Rattle.program_tree.specs.declared.tree.Operator.{Operator}
@@ -44,7 +65,8 @@ action_of word.RestartTimer v = restart_timer v.0
 action_of word.Stop v = stop v.0
 action_of k v = absurd v
 
-abbrev pub action_spelled : (c : Context) (k : Keyword) (v : ActionShape (beginning k)) (after : List Mark) → action_marks c (action_of k v) after ≡ keyword_marks c k v after
+abbrev pub action_spelled : (c : Context) (k : Keyword) (v : ActionShape (beginning k)) (after : List Mark)
+    → action_marks c (action_of k v) after ≡ keyword_marks c k v after
 action_spelled c word.Print v after = refl
 action_spelled c word.Send v after = refl
 action_spelled c word.WaitUntil v after = refl
@@ -82,7 +104,8 @@ value_of word.Running v = running v
 value_of word.Count v = count v
 value_of k v = absurd v
 
-abbrev pub value_spelled : (c : Context) (k : Keyword) (v : WordShape (word_of k)) (after : List Mark) → expression_marks c (value_of k v) after ≡ value_marks c k v after
+abbrev pub value_spelled : (c : Context) (k : Keyword) (v : WordShape (word_of k)) (after : List Mark)
+    → expression_marks c (value_of k v) after ≡ value_marks c k v after
 value_spelled c word.Data v after = refl
 value_spelled c word.From v after = refl
 value_spelled c word.Now v after = refl
@@ -207,11 +230,13 @@ abbrev pub comma_spelled : Name → (xs : List Name) → FromComma xs → List M
 comma_spelled x xs p rest = process_marks p.0 (autostart_spelled x xs p.1 (codes_marks p.0 rest))
 
 abbrev pub more_spelled : Name → (xs : List Name) → Process → FromComma xs → List Mark → List Mark
-more_spelled x xs n p rest = named n.0 (new a_process n.0) ∷ process_marks p.0 (autostart_spelled x xs p.1 (codes_marks (n ∷ p.0) rest))
+more_spelled x xs n p rest = named n.0 (new a_process n.0) ∷ process_marks p.0
+    (autostart_spelled x xs p.1 (codes_marks (n ∷ p.0) rest))
 
 abbrev pub process_spelled : FromProcess → List Mark → List Mark
 process_spelled p rest =
-    named p.0.0 (new a_process p.0.0) ∷ process_marks p.1.0 (autostart_marks p.1.1.0 (receiver_marks p.1.1.1 (codes_marks (p.0 ∷ p.1.0) rest)))
+    named p.0.0 (new a_process p.0.0) ∷ process_marks p.1.0
+    (autostart_marks p.1.1.0 (receiver_marks p.1.1.1 (codes_marks (p.0 ∷ p.1.0) rest)))
 
 abbrev pub semaphores_spelled : FromSemaphores → List Mark → List Mark
 semaphores_spelled p rest = semaphore_marks p.0 (key word.Process ∷ process_spelled p.1 rest)
@@ -272,7 +297,15 @@ some_operand form.sent = event.exit
 some_operand form.any = event.init
 
 abbrev pub some_code : CodeShape
-some_code = record { variables = []; etimers = []; ctimers = []; threads = []; on_poll = None; on_exit = None; body = end }
+some_code = record {
+  variables = [];
+  etimers = [];
+  ctimers = [];
+  threads = [];
+  on_poll = None;
+  on_exit = None;
+  body = end;
+}
 
 pub some_codes : (xs : List Name) → CodesOf xs
 some_codes [] = tt
@@ -323,7 +356,8 @@ form_split c tells f ps = (ps.0, ps.1)
 form_split c (takes o g) f ps = ((ps.0, (form_split c g f ps.1).0), (form_split c g f ps.1).1)
 form_split c (values g) f ps = ((ps.0, (form_split c g f ps.1).0), (form_split c g f ps.1).1)
 
-abbrev pub form_spelled : (c : Context) (g : Form) (f : Pending) (ps : Parts (symbols_of c g f)) → form_marks c g (form_split c g f ps).0 (spell_all f (form_split c g f ps).1) ≡ spell_all (symbols_of c g f) ps
+abbrev pub form_spelled : (c : Context) (g : Form) (f : Pending) (ps : Parts (symbols_of c g f))
+    → form_marks c g (form_split c g f ps).0 (spell_all f (form_split c g f ps).1) ≡ spell_all (symbols_of c g f) ps
 form_spelled c ends f ps = refl
 form_spelled c tells f ps = refl
 form_spelled c (takes o g) f ps = ap (λ ms. operand_mark c o ps.0 ∷ ms) (form_spelled c g f ps.1)
@@ -333,11 +367,13 @@ abbrev pub codes_split : (xs : List Name) (f : Pending) → Parts (codes_form xs
 codes_split [] f ps = (tt, ps)
 codes_split (x ∷ xs) f ps = ps
 
-abbrev pub codes_split_spelled : (xs : List Name) (f : Pending) (ps : Parts (codes_form xs f)) → codes_spelled xs (codes_split xs f ps).0 (spell_all f (codes_split xs f ps).1) ≡ spell_all (codes_form xs f) ps
+abbrev pub codes_split_spelled : (xs : List Name) (f : Pending) (ps : Parts (codes_form xs f))
+    → codes_spelled xs (codes_split xs f ps).0 (spell_all f (codes_split xs f ps).1) ≡ spell_all (codes_form xs f) ps
 codes_split_spelled [] f ps = refl
 codes_split_spelled (x ∷ xs) f ps = refl
 
-codes_join : (xs : List Name) (f : Pending) (cs : CodesOf xs) (ps : Parts f) → (qs : Parts (codes_form xs f)) × (spell_all (codes_form xs f) qs ≡ codes_spelled xs cs (spell_all f ps)) × (codes_split xs f qs ≡ (cs, ps))
+codes_join : (xs : List Name) (f : Pending) (cs : CodesOf xs) (ps : Parts f) → (qs : Parts (codes_form xs f))
+    × (spell_all (codes_form xs f) qs ≡ codes_spelled xs cs (spell_all f ps)) × (codes_split xs f qs ≡ (cs, ps))
 codes_join [] f cs ps = (ps, refl, refl)
 codes_join (x ∷ xs) f cs ps = ((cs, ps), refl, refl)
 
@@ -350,11 +386,14 @@ abbrev pub last : (xs : List Name) (x : Name) → CodesOf (xs ++ x ∷ []) → C
 last [] x cs = cs.0
 last (y ∷ xs) x cs = last xs x cs.1
 
-abbrev pub last_spelled : (xs : List Name) (x : Name) (cs : CodesOf (xs ++ x ∷ [])) (rest : List Mark) → codes_spelled xs (all_but_last xs x cs) (code_marks (x, last xs x cs) rest) ≡ codes_spelled (xs ++ x ∷ []) cs rest
+abbrev pub last_spelled : (xs : List Name) (x : Name) (cs : CodesOf (xs ++ x ∷ [])) (rest : List Mark)
+    → codes_spelled xs (all_but_last xs x cs) (code_marks (x, last xs x cs) rest) ≡ codes_spelled (xs ++ x ∷ []) cs
+    rest
 last_spelled [] x cs rest = refl
 last_spelled (y ∷ xs) x cs rest = ap (λ ms. code_marks (y, cs.0) ms) (last_spelled xs x cs.1 rest)
 
-pub with_last : (xs : List Name) (x : Name) (cs : CodesOf xs) (c : CodeShape) → (ds : CodesOf (xs ++ x ∷ [])) × (all_but_last xs x ds ≡ cs) × (last xs x ds ≡ c)
+pub with_last : (xs : List Name) (x : Name) (cs : CodesOf xs) (c : CodeShape) → (ds : CodesOf (xs ++ x ∷ []))
+    × (all_but_last xs x ds ≡ cs) × (last xs x ds ≡ c)
 with_last [] x cs c = ((c, tt), refl, refl)
 with_last (y ∷ xs) x cs c = let q = with_last xs x cs.1 c in ((cs.0, q.0), ap (λ z. (cs.0, z)) q.1, q.2)
 
@@ -365,9 +404,12 @@ Back f t unfit = Unit {0}
 Back f t (take m f') = (m.token ≡ t) × ((ps : Parts f') → (qs : Parts f) × (spell_all f qs ≡ m ∷ spell_all f' ps))
 
 -- where a symbol is passed over
-abbrev pub passed : (y z : Symbol) (f : Pending) (up : PartOf z → PartOf y) → ((p : PartOf z) (rest : List Mark) → spell y (up p) rest ≡ spell z p rest) → (t : Token) (s : Step) → Back (z ∷ f) t s → Back (y ∷ f) t s
+abbrev pub passed : (y z : Symbol) (f : Pending) (up : PartOf z → PartOf y)
+    → ((p : PartOf z) (rest : List Mark) → spell y (up p) rest ≡ spell z p rest) → (t : Token) (s : Step)
+    → Back (z ∷ f) t s → Back (y ∷ f) t s
 passed y z f up same t unfit b = tt
-passed y z f up same t (take m f') b = (b.0, λ ps. ((up (b.1 ps).0.0, (b.1 ps).0.1), same (b.1 ps).0.0 (spell_all f (b.1 ps).0.1) ∙ (b.1 ps).1))
+passed y z f up same t (take m f') b =
+    (b.0, λ ps. ((up (b.1 ps).0.0, (b.1 ps).0.1), same (b.1 ps).0.0 (spell_all f (b.1 ps).0.1) ∙ (b.1 ps).1))
 
 abbrev pub back_cast : (c : Context) (f : Pending) (t : Token) → Back (operand c form.cast ∷ f) t (cast_step f t)
 back_cast c f (token.Name x) = (refl, λ ps. ((event.declared x, ps), refl))
@@ -379,9 +421,11 @@ back_cast c f t = tt
 
 abbrev pub back_sent : (c : Context) (f : Pending) (t : Token) → Back (operand c form.sent ∷ f) t (sent_step f t)
 back_sent c f (token.Keyword word.Exit) = (refl, λ ps. ((event.exit, ps), refl))
-back_sent c f t = passed (operand c form.sent) (operand c form.cast) f event.cast (λ p rest. refl) t (cast_step f t) (back_cast c f t)
+back_sent c f t = passed (operand c form.sent) (operand c form.cast) f event.cast (λ p rest. refl) t (cast_step f t)
+    (back_cast c f t)
 
-abbrev pub back_operand : (c : Context) (o : Operand) (f : Pending) (t : Token) → Back (operand c o ∷ f) t (operand_step c o f t)
+abbrev pub back_operand : (c : Context) (o : Operand) (f : Pending) (t : Token)
+    → Back (operand c o ∷ f) t (operand_step c o f t)
 back_operand c (form.name k) f (token.Name x) = (refl, λ ps. ((x, ps), refl))
 back_operand c form.cast f t = back_cast c f t
 back_operand c form.sent f t = back_sent c f t
@@ -389,15 +433,20 @@ back_operand c form.any f (token.Keyword word.Init) = (refl, λ ps. ((event.init
 back_operand c form.any f (token.Keyword word.Poll) = (refl, λ ps. ((event.poll, ps), refl))
 back_operand c form.any f (token.Keyword word.Exited) = (refl, λ ps. ((event.exited, ps), refl))
 back_operand c form.any f (token.Keyword word.Timer) = (refl, λ ps. ((event.timer, ps), refl))
-back_operand c form.any f t = passed (operand c form.any) (operand c form.sent) f event.sent (λ p rest. refl) t (sent_step f t) (back_sent c f t)
+back_operand c form.any f t = passed (operand c form.any) (operand c form.sent) f event.sent (λ p rest. refl) t
+    (sent_step f t) (back_sent c f t)
 back_operand c o f t = tt
 
-abbrev pub back_word : (c : Context) (k : Keyword) (w : Word) (f : Pending) (make : WordShape w → Expression Name) → ((v : WordShape w) (after : List Mark) → expression_marks c (make v) after ≡ key k ∷ word_marks c w v after) → Back (expression c ∷ f) (token.Keyword k) (word_step c k w f)
+abbrev pub back_word : (c : Context) (k : Keyword) (w : Word) (f : Pending) (make : WordShape w → Expression Name)
+    → ((v : WordShape w) (after : List Mark) → expression_marks c (make v) after ≡ key k ∷ word_marks c w v after)
+    → Back (expression c ∷ f) (token.Keyword k) (word_step c k w f)
 back_word c k no_value f make spelled = tt
 back_word c k alone f make spelled = (refl, λ ps. ((make tt, ps), spelled tt (spell_all f ps)))
-back_word c k (tells_of o) f make spelled = (refl, λ ps. ((make ps.1.0, ps.1.1.1), spelled ps.1.0 (spell_all f ps.1.1.1)))
+back_word c k (tells_of o) f make spelled =
+    (refl, λ ps. ((make ps.1.0, ps.1.1.1), spelled ps.1.0 (spell_all f ps.1.1.1)))
 
-abbrev pub back_expression : (c : Context) (f : Pending) (t : Token) → Back (expression c ∷ f) t (step (expression c ∷ f) t)
+abbrev pub back_expression : (c : Context) (f : Pending) (t : Token)
+    → Back (expression c ∷ f) t (step (expression c ∷ f) t)
 back_expression c f (token.Number n) = (refl, λ ps. ((number n, ps), refl))
 back_expression c f (token.Name x) = (refl, λ ps. ((variable x, ps), refl))
 back_expression c f (token.Keyword k) = back_word c k (word_of k) f (value_of k) (value_spelled c k)
@@ -410,14 +459,19 @@ IsPlain branches = ⊥
 IsPlain loops = ⊥
 IsPlain b = Unit {0}
 
-abbrev pub back_action : (c : Context) (k : Keyword) (b : Beginning) (f : Pending) (make : ActionShape b → Action Name) → ((v : ActionShape b) (after : List Mark) → action_marks c (make v) after ≡ begins_with c k ∷ beginning_marks c b v after) → IsPlain b →
+abbrev pub back_action : (c : Context) (k : Keyword) (b : Beginning) (f : Pending) (make : ActionShape b → Action Name)
+    → ((v : ActionShape b) (after : List Mark) → action_marks c (make v) after ≡ begins_with c k ∷ beginning_marks c b
+    v after) → IsPlain b →
     Back (items c ∷ f) (token.Keyword k) (begin_step c k b f)
 back_action c k no_statement f make spelled h = tt
 back_action c k (action g) f make spelled h = (
   refl,
   λ ps.
-      let q = form_split c g (items c ∷ f) ps in
-      ((next (does (make q.0)) q.1.0, q.1.1), spelled q.0 (spell_all (items c ∷ f) q.1) ∙ ap (λ ms. begins_with c k ∷ ms) (form_spelled c g (items c ∷ f) ps)),
+      let q = form_split c g (items c ∷ f) ps in (
+        (next (does (make q.0)) q.1.0, q.1.1),
+        spelled q.0 (spell_all (items c ∷ f) q.1)
+            ∙ ap (λ ms. begins_with c k ∷ ms) (form_spelled c g (items c ∷ f) ps),
+      ),
 )
 back_action c k branches f make spelled h = absurd h
 back_action c k loops f make spelled h = absurd h
@@ -426,14 +480,17 @@ back_action c k goes_on f make spelled h = tt
 abbrev pub back_items : (c : Context) (f : Pending) (t : Token) → Back (items c ∷ f) t (items_step c f t)
 back_items c f token.CloseBrace = (refl, λ ps. ((end, ps), refl))
 back_items c f (token.Name x) = (refl, λ ps. ((next (does (assign x ps.1.0)) ps.1.1.1.0, ps.1.1.1.1), refl))
-back_items c f (token.Keyword word.If) = (refl, λ ps. ((next (branch ps.0 ps.1.0 ps.1.1.0.0) ps.1.1.0.1, ps.1.1.1), refl))
+back_items c f (token.Keyword word.If) =
+    (refl, λ ps. ((next (branch ps.0 ps.1.0 ps.1.1.0.0) ps.1.1.0.1, ps.1.1.1), refl))
 back_items c f (token.Keyword word.While) = (refl, λ ps. ((next (while ps.0 ps.1.0) ps.1.1.0, ps.1.1.1), refl))
 back_items c f (token.Keyword k) = back_action c k (beginning k) f (action_of k) (action_spelled c k) tt
 back_items c f t = tt
 
-abbrev pub back_items_else : (c : Context) (f : Pending) (t : Token) → Back (items_else c ∷ f) t (step (items_else c ∷ f) t)
+abbrev pub back_items_else : (c : Context) (f : Pending) (t : Token)
+    → Back (items_else c ∷ f) t (step (items_else c ∷ f) t)
 back_items_else c f (token.Keyword word.Else) = (refl, λ ps. (((otherwise ps.0, ps.1.0), ps.1.1), refl))
-back_items_else c f t = passed (items_else c) (items c) f (λ b. (nothing, b)) (λ p rest. refl) t (items_step c f t) (back_items c f t)
+back_items_else c f t = passed (items_else c) (items c) f (λ b. (nothing, b)) (λ p rest. refl) t (items_step c f t)
+    (back_items c f t)
 
 abbrev pub back_body : (f : Pending) (t : Token) → Back (from_body ∷ f) t (body_step f t)
 back_body f (token.Keyword word.Body) = (refl, λ ps. ((ps.0, ps.1.1), refl))
@@ -445,51 +502,80 @@ back_on_exit f t = passed from_on_exit from_body f (λ p. (None, p)) (λ p rest.
 
 abbrev pub back_on_poll : (f : Pending) (t : Token) → Back (from_on_poll ∷ f) t (step (from_on_poll ∷ f) t)
 back_on_poll f (token.Keyword word.OnPoll) = (refl, λ ps. (((Some ps.0, ps.1.0), ps.1.1), refl))
-back_on_poll f t = passed from_on_poll from_on_exit f (λ p. (None, p)) (λ p rest. refl) t (on_exit_step f t) (back_on_exit f t)
+back_on_poll f t = passed from_on_poll from_on_exit f (λ p. (None, p)) (λ p rest. refl) t (on_exit_step f t)
+    (back_on_exit f t)
 
 abbrev pub back_threads : (f : Pending) (t : Token) → Back (from_threads ∷ f) t (step (from_threads ∷ f) t)
 back_threads f (token.Keyword word.Thread) = (refl, λ ps. (((ps.0 ∷ ps.1.0.0, ps.1.0.1), ps.1.1), refl))
-back_threads f t = passed from_threads from_on_poll f (λ p. ([], p)) (λ p rest. refl) t (on_poll_step f t) (back_on_poll f t)
+back_threads f t = passed from_threads from_on_poll f (λ p. ([], p)) (λ p rest. refl) t (on_poll_step f t)
+    (back_on_poll f t)
 
 abbrev pub back_ctimers : (f : Pending) (t : Token) → Back (from_ctimers ∷ f) t (step (from_ctimers ∷ f) t)
 back_ctimers f (token.Keyword word.Ctimer) = (refl, λ ps. ((((ps.0, ps.1.0) ∷ ps.1.1.0.0, ps.1.1.0.1), ps.1.1.1), refl))
-back_ctimers f t = passed from_ctimers from_threads f (λ p. ([], p)) (λ p rest. refl) t (threads_step f t) (back_threads f t)
+back_ctimers f t = passed from_ctimers from_threads f (λ p. ([], p)) (λ p rest. refl) t (threads_step f t)
+    (back_threads f t)
 
 abbrev pub back_etimers : (f : Pending) (t : Token) → Back (from_etimers ∷ f) t (step (from_etimers ∷ f) t)
 back_etimers f (token.Keyword word.Etimer) = (refl, λ ps. (((ps.0 ∷ ps.1.1.0.0, ps.1.1.0.1), ps.1.1.1), refl))
-back_etimers f t = passed from_etimers from_ctimers f (λ p. ([], p)) (λ p rest. refl) t (ctimers_step f t) (back_ctimers f t)
+back_etimers f t = passed from_etimers from_ctimers f (λ p. ([], p)) (λ p rest. refl) t (ctimers_step f t)
+    (back_ctimers f t)
 
 abbrev pub back_variables : (f : Pending) (t : Token) → Back (from_variables ∷ f) t (step (from_variables ∷ f) t)
-back_variables f (token.Keyword word.Var) = (refl, λ ps. ((((ps.0, ps.1.1.0) ∷ ps.1.1.1.1.0.0, ps.1.1.1.1.0.1), ps.1.1.1.1.1), refl))
-back_variables f t = passed from_variables from_etimers f (λ p. ([], p)) (λ p rest. refl) t (etimers_step f t) (back_etimers f t)
+back_variables f (token.Keyword word.Var) =
+    (refl, λ ps. ((((ps.0, ps.1.1.0) ∷ ps.1.1.1.1.0.0, ps.1.1.1.1.0.1), ps.1.1.1.1.1), refl))
+back_variables f t = passed from_variables from_etimers f (λ p. ([], p)) (λ p rest. refl) t (etimers_step f t)
+    (back_etimers f t)
 
 abbrev pub code_from : FromVariables → CodeShape
-code_from p = record { variables = p.0; etimers = p.1.0; ctimers = p.1.1.0; threads = p.1.1.1.0; on_poll = p.1.1.1.1.0; on_exit = p.1.1.1.1.1.0; body = p.1.1.1.1.1.1 }
+code_from p = record {
+  variables = p.0;
+  etimers = p.1.0;
+  ctimers = p.1.1.0;
+  threads = p.1.1.1.0;
+  on_poll = p.1.1.1.1.0;
+  on_exit = p.1.1.1.1.1.0;
+  body = p.1.1.1.1.1.1;
+}
 
 abbrev pub parts_of_code : CodeShape → FromVariables
 parts_of_code c = (c.variables, (c.etimers, (c.ctimers, (c.threads, (c.on_poll, (c.on_exit, c.body))))))
 
-abbrev pub back_codes : (x : Name) (xs : List Name) (f : Pending) (t : Token) → Back (codes x xs ∷ f) t (codes_step x xs f t)
+abbrev pub back_codes : (x : Name) (xs : List Name) (f : Pending) (t : Token)
+    → Back (codes x xs ∷ f) t (codes_step x xs f t)
 back_codes x xs f (token.Keyword word.Code) = (
   refl,
   λ ps.
-      let q = codes_split xs f ps.1.1.1 in
-      (((code_from ps.1.1.0, q.0), q.1), ap (λ ms. code_marks (x, code_from ps.1.1.0) ms) (codes_split_spelled xs f ps.1.1.1)),
+      let q = codes_split xs f ps.1.1.1 in (
+        ((code_from ps.1.1.0, q.0), q.1),
+        ap (λ ms. code_marks (x, code_from ps.1.1.0) ms)
+            (codes_split_spelled xs f ps.1.1.1),
+      ),
 )
 back_codes x xs f t = tt
 
-abbrev pub back_receiver : (x : Name) (xs : List Name) (f : Pending) (t : Token) → Back (from_receiver x xs ∷ f) t (receiver_step x xs f t)
+abbrev pub back_receiver : (x : Name) (xs : List Name) (f : Pending) (t : Token)
+    → Back (from_receiver x xs ∷ f) t (receiver_step x xs f t)
 back_receiver x xs f (token.Keyword word.Receiver) = (refl, λ ps. (((Some ps.0, ps.1.1.0), ps.1.1.1), refl))
-back_receiver x xs f t = passed (from_receiver x xs) (codes x xs) f (λ p. (None, p)) (λ p rest. refl) t (codes_step x xs f t) (back_codes x xs f t)
+back_receiver x xs f t = passed (from_receiver x xs) (codes x xs) f (λ p. (None, p)) (λ p rest. refl) t
+    (codes_step x xs f t) (back_codes x xs f t)
 
-abbrev pub back_autostart : (x : Name) (xs : List Name) (f : Pending) (t : Token) → Back (from_autostart x xs ∷ f) t (step (from_autostart x xs ∷ f) t)
+abbrev pub back_autostart : (x : Name) (xs : List Name) (f : Pending) (t : Token)
+    → Back (from_autostart x xs ∷ f) t (step (from_autostart x xs ∷ f) t)
 back_autostart x xs f (token.Keyword word.Autostart) = (refl, λ ps. (((ps.0 ∷ ps.1.0, ps.1.1.0), ps.1.1.1), refl))
-back_autostart x xs f t = passed (from_autostart x xs) (from_receiver x xs) f (λ p. ([], p)) (λ p rest. refl) t (receiver_step x xs f t) (back_receiver x xs f t)
+back_autostart x xs f t = passed (from_autostart x xs) (from_receiver x xs) f (λ p. ([], p)) (λ p rest. refl) t
+    (receiver_step x xs f t) (back_receiver x xs f t)
 
-abbrev pub back_more : (x : Name) (xs : List Name) (y : Name) (f : Pending) (ps : Parts (from_comma x (xs ++ y ∷ []) ∷ f)) → (qs : Parts (more_process x xs ∷ f)) × (spell_all (more_process x xs ∷ f) qs ≡ named y (new a_process y) ∷ spell_all (from_comma x (xs ++ y ∷ []) ∷ f) ps)
+abbrev pub back_more : (x : Name) (xs : List Name) (y : Name) (f : Pending)
+    (ps : Parts (from_comma x (xs ++ y ∷ []) ∷ f)) → (qs : Parts (more_process x xs ∷ f))
+    × (spell_all (more_process x xs ∷ f) qs ≡ named y (new a_process y) ∷ spell_all (from_comma x (xs ++ y ∷ []) ∷ f)
+    ps)
 back_more x xs y f ps = (
-  (((y, last xs y ps.0.1.1.1.1), (ps.0.0, (ps.0.1.0, (ps.0.1.1.0, (ps.0.1.1.1.0, all_but_last xs y ps.0.1.1.1.1))))), ps.1),
-  ap (λ ms. named y (new a_process y) ∷ process_marks ps.0.0 (autostart_marks ps.0.1.0 (receiver_marks ps.0.1.1.0 (code_marks (x, ps.0.1.1.1.0) ms))))
+  (
+    ((y, last xs y ps.0.1.1.1.1), (ps.0.0, (ps.0.1.0, (ps.0.1.1.0, (ps.0.1.1.1.0, all_but_last xs y ps.0.1.1.1.1))))),
+    ps.1,
+  ),
+  ap (λ ms. named y (new a_process y) ∷ process_marks ps.0.0
+      (autostart_marks ps.0.1.0 (receiver_marks ps.0.1.1.0 (code_marks (x, ps.0.1.1.1.0) ms))))
       (last_spelled xs y ps.0.1.1.1.1 (codes_marks ps.0.0 (spell_all f ps.1))),
 )
 
@@ -498,15 +584,19 @@ back_process f (token.Keyword word.Process) = (refl, λ ps. ((([], ps.0), ps.1),
 back_process f t = tt
 
 abbrev pub back_semaphores : (f : Pending) (t : Token) → Back (from_semaphores ∷ f) t (semaphores_step f t)
-back_semaphores f (token.Keyword word.Semaphore) = (refl, λ ps. ((((ps.0, ps.1.1.0) ∷ ps.1.1.1.1.0.0, ps.1.1.1.1.0.1), ps.1.1.1.1.1), refl))
+back_semaphores f (token.Keyword word.Semaphore) =
+    (refl, λ ps. ((((ps.0, ps.1.1.0) ∷ ps.1.1.1.1.0.0, ps.1.1.1.1.0.1), ps.1.1.1.1.1), refl))
 back_semaphores f t = back_process f t
 
 abbrev pub back_events : (f : Pending) (t : Token) → Back (from_events ∷ f) t (step (from_events ∷ f) t)
 back_events f (token.Keyword word.Event) = (refl, λ ps. (((ps.0 ∷ ps.1.1.0.0, ps.1.1.0.1), ps.1.1.1), refl))
-back_events f t = passed from_events from_semaphores f (λ p. ([], p)) (λ p rest. refl) t (semaphores_step f t) (back_semaphores f t)
+back_events f t = passed from_events from_semaphores f (λ p. ([], p)) (λ p rest. refl) t (semaphores_step f t)
+    (back_semaphores f t)
 
-abbrev pub back_this : (x : Name) (f : Pending) (y : Name) (b : Bool) → bytes_eq y x ≡ b → Back (this_name x ∷ f) (token.Name y) (if b then take (sign (token.Name y)) f else unfit)
-back_this x f y true e = (refl, λ ps. ((tt, ps), ap (λ z. sign (token.Name z) ∷ spell_all f ps) (sym (same_bytes y x e))))
+abbrev pub back_this : (x : Name) (f : Pending) (y : Name) (b : Bool) → bytes_eq y x ≡ b
+    → Back (this_name x ∷ f) (token.Name y) (if b then take (sign (token.Name y)) f else unfit)
+back_this x f y true e =
+    (refl, λ ps. ((tt, ps), ap (λ z. sign (token.Name z) ∷ spell_all f ps) (sym (same_bytes y x e))))
 back_this x f y false e = tt
 
 abbrev pub back : (f : Pending) (t : Token) → Back f t (step f t)
@@ -539,7 +629,8 @@ back (from_body ∷ f) t = back_body f t
 back (last_brace ∷ f) token.CloseBrace = (refl, λ ps. ((tt, ps), refl))
 back (from_events ∷ f) t = back_events f t
 back (from_semaphores ∷ f) t = back_semaphores f t
-back (first_process ∷ f) (token.Name x) = (refl, λ ps. ((((x, ps.0.1.1.1.0), (ps.0.0, (ps.0.1.0, ps.0.1.1.0))), ps.1), refl))
+back (first_process ∷ f) (token.Name x) =
+    (refl, λ ps. ((((x, ps.0.1.1.1.0), (ps.0.0, (ps.0.1.0, ps.0.1.1.0))), ps.1), refl))
 back (from_comma x xs ∷ f) token.Comma = (refl, λ ps. (((ps.0.0 ∷ ps.0.1.0, ps.0.1.1), ps.1), refl))
 back (from_comma x xs ∷ f) token.Semicolon = (refl, λ ps. ((([], ps.0), ps.1), refl))
 back (more_process x xs ∷ f) (token.Name y) = (refl, back_more x xs y f)

@@ -1,5 +1,6 @@
 -- Words are ASCII, and the token of each.
-use Rattle.std.proofs.Common.{◌≡◌, ◌<◌, ◌≤◌, ◌+◌, ◌*◌, ◌-◌, ℕ, zero, suc, min, List, [], ◌∷◌, get_or, length, take, Bool, true, false, Some, None, refl, ap, sym, ◌∙◌, arith, if◌then◌else◌}
+use Rattle.std.proofs.Common.{◌≡◌, ◌<◌, ◌≤◌, ◌+◌, ◌*◌, ◌-◌, ℕ, zero, suc, min, List, [], ◌∷◌, get_or, length, take}
+use Rattle.std.proofs.Common.{Bool, true, false, Some, None, refl, ap, sym, ◌∙◌, arith, if◌then◌else◌}
 use Rattle.std.proofs.lemmas.Bool.{and_parts}
 use Rattle.std.proofs.lemmas.Bool.Decides.{nat_tests}
 use Rattle.std.proofs.lemmas.Int.Digits.{digits_value_more}
@@ -38,7 +39,8 @@ capped_more : (v d : ℕ) → min (10 * min v 65536 + d) 65536 ≡ min (v * 10 +
 capped_more v d = omega arith
 
 -- one more digit
-pub digit_step : (ds : List ℕ) (i v d r : ℕ) → list_all is_ascii_digit ds ≡ true → i < length ds → v ≡ min (digits_value 10 (take i ds)) 65536 → d ≡ get_or ds i 0 - 48
+pub digit_step : (ds : List ℕ) (i v d r : ℕ) → list_all is_ascii_digit ds ≡ true → i < length ds
+    → v ≡ min (digits_value 10 (take i ds)) 65536 → d ≡ get_or ds i 0 - 48
     → r ≡ min (10 * v + d) 65536 → r ≡ min (digits_value 10 (take (i + 1) ds)) 65536
 digit_step ds i v d r all l so_far digit is =
     let low = digit-low _ (all_at is_ascii_digit ds i all l) in
@@ -49,7 +51,8 @@ digit_step ds i v d r all l so_far digit is =
     is ∙ ap (λ w. min (10 * w + d) 65536) so_far ∙ capped_more (digits_value 10 (take i ds)) d
     ∙ ap (λ w. min (digits_value 10 (take i ds) * 10 + w) 65536) digit_is ∙ ap (λ w. min w 65536) (sym more)
 
-pub number_token : (w : List ℕ) (n : ℕ) → is_number w ≡ true → n ≡ min (digits_value 10 w) 65536 → Number n ≡ word_token w
+pub number_token : (w : List ℕ) (n : ℕ) → is_number w ≡ true → n ≡ min (digits_value 10 w) 65536
+    → Number n ≡ word_token w
 unfolding word_token
 number_token w n h e = rw h (ap Number e)
 
@@ -57,6 +60,7 @@ pub table_token : (w : List ℕ) (t : Token) → is_number w ≡ false → looku
 unfolding word_token
 table_token w t h e = rw (h, e) refl
 
-pub other_token : (w : List ℕ) (t : Token) → is_number w ≡ false → lookup keywords w ≡ None → t ≡ (if is_name w then Name w else Bad) → t ≡ word_token w
+pub other_token : (w : List ℕ) (t : Token) → is_number w ≡ false → lookup keywords w ≡ None
+    → t ≡ (if is_name w then Name w else Bad) → t ≡ word_token w
 unfolding word_token
 other_token w t h e is = rw (h, e) is

@@ -1,11 +1,13 @@
--- What may still come, as a list of symbols, and what each token makes of it. A device of the proofs: the grammar and its
--- faults are defined without it. Each symbol stands for at least one token.
+-- What may still come, as a list of symbols, and what each token makes of it. A device of the proofs: the grammar and
+-- its faults are defined without it. Each symbol stands for at least one token.
 use Rattle.std.specs.Prelude.{ℕ, suc, ◌+◌, List, [], ◌∷◌, ◌++◌, length, Bool, if◌then◌else◌, Option, Some, None}
 use Rattle.std.specs.Str.{bytes_eq}
 use Rattle.program_tree.specs.Faults.{Scope, scope_after, breaks}
 use Rattle.program_tree.specs.Forms as form
-use Rattle.program_tree.specs.Forms.{Operand, Form, ends, tells, takes, values, Beginning, no_statement, action, branches, loops, goes_on, beginning, Word, no_value, alone, tells_of, word_of}
-use Rattle.program_tree.specs.Grammar.{Context, inner, at_body, at_simple, at_thread, Mark, new, uses, starts, sign, key, named, opening, valued, used, target, begins_with, leaving}
+use Rattle.program_tree.specs.Forms.{Operand, Form, ends, tells, takes, values, Beginning, no_statement, action}
+use Rattle.program_tree.specs.Forms.{branches, loops, goes_on, beginning, Word, no_value, alone, tells_of, word_of}
+use Rattle.program_tree.specs.Grammar.{Context, inner, at_body, at_simple, at_thread, Mark, new, uses, starts, sign}
+use Rattle.program_tree.specs.Grammar.{key, named, opening, valued, used, target, begins_with, leaving}
 use Rattle.program_tree.specs.Shapes.{Name}
 use Rattle.program_tree.specs.Tokens as token
 use Rattle.program_tree.specs.Tokens.{Token}
@@ -13,7 +15,9 @@ use Rattle.program_tree.specs.Tree.{Class, an_event, a_semaphore, a_process, a_v
 use Rattle.program_tree.specs.declared.keyword.Keyword.{Keyword}
 use Rattle.program_tree.specs.declared.keyword.Keyword.TheVariants as word
 use Rattle.program_tree.specs.declared.error.ReadErrorKind.{ReadErrorKind}
-use Rattle.program_tree.specs.declared.error.ReadErrorKind.TheVariants.{BadToken, Unexpected, UnknownName, NameTwice, NumberTooLarge, WaitInSimpleBlock, TooDeep, TooMany, NoProcess, BadTarget}
+use Rattle.program_tree.specs.declared.error.ReadErrorKind.TheVariants.{BadToken, Unexpected, UnknownName, NameTwice}
+use Rattle.program_tree.specs.declared.error.ReadErrorKind.TheVariants.{NumberTooLarge, WaitInSimpleBlock, TooDeep}
+use Rattle.program_tree.specs.declared.error.ReadErrorKind.TheVariants.{TooMany, NoProcess, BadTarget}
 
 pub data Symbol : Type 0 where
   semicolon : Symbol
@@ -28,17 +32,18 @@ pub data Symbol : Type 0 where
   -- `;`, or `into`, a variable and `;`
   into_end : Context → Symbol
   block : Context → Symbol
-  -- the statements of a block, and its closing brace; the same behind the first block of an `if`
+  -- the statements of a block, and its closing brace; the same after the first block of an `if`
   items : Context → Symbol
   items_else : Context → Symbol
   -- a new name of a class
   new_name : Class → Symbol
   -- the name of a new thread, and its block
   new_thread : Symbol
-  -- a code, from its keyword on, and the codes of these processes behind it
+  -- a code, from its keyword on, and the codes of these processes after it
   codes : Name → List Name → Symbol
   this_name : Name → Symbol
-  -- what is left of a code: from the variables, the timers of either kind, the threads, `onpoll`, `onexit` or the body on
+  -- what is left of a code: from the variables, the timers of either kind, the threads, `onpoll`, `onexit` or the body
+  -- on
   from_variables : Symbol
   from_etimers : Symbol
   from_ctimers : Symbol
@@ -51,7 +56,7 @@ pub data Symbol : Type 0 where
   from_events : Symbol
   from_semaphores : Symbol
   first_process : Symbol
-  -- from behind the name of a process on, or from a name on, where these processes are named
+  -- from after the name of a process on, or from a name on, where these processes are named
   from_comma : Name → List Name → Symbol
   more_process : Name → List Name → Symbol
   -- from `autostart` or `receiver` on
@@ -159,7 +164,8 @@ threads_step f (token.Keyword word.Thread) = take (key word.Thread) (new_thread 
 threads_step f t = on_poll_step f t
 
 abbrev pub ctimers_step : Pending → Token → Step
-ctimers_step f (token.Keyword word.Ctimer) = take (key word.Ctimer) (new_name a_timer ∷ block at_simple ∷ from_ctimers ∷ f)
+ctimers_step f (token.Keyword word.Ctimer) = take (key word.Ctimer)
+    (new_name a_timer ∷ block at_simple ∷ from_ctimers ∷ f)
 ctimers_step f t = threads_step f t
 
 abbrev pub etimers_step : Pending → Token → Step
@@ -167,7 +173,8 @@ etimers_step f (token.Keyword word.Etimer) = take (key word.Etimer) (new_name a_
 etimers_step f t = ctimers_step f t
 
 abbrev pub variables_step : Pending → Token → Step
-variables_step f (token.Keyword word.Var) = take (key word.Var) (new_name a_variable ∷ equals ∷ number ∷ semicolon ∷ from_variables ∷ f)
+variables_step f (token.Keyword word.Var) = take (key word.Var)
+    (new_name a_variable ∷ equals ∷ number ∷ semicolon ∷ from_variables ∷ f)
 variables_step f t = etimers_step f t
 
 -- the codes that are left
@@ -176,17 +183,20 @@ codes_form [] f = f
 codes_form (x ∷ xs) f = codes x xs ∷ f
 
 abbrev pub codes_step : Name → List Name → Pending → Token → Step
-codes_step x xs f (token.Keyword word.Code) = take (key word.Code) (this_name x ∷ open_brace ∷ from_variables ∷ codes_form xs f)
+codes_step x xs f (token.Keyword word.Code) =
+    take (key word.Code) (this_name x ∷ open_brace ∷ from_variables ∷ codes_form xs f)
 codes_step x xs f t = unfit
 
 -- The stages of a program.
 
 abbrev pub receiver_step : Name → List Name → Pending → Token → Step
-receiver_step x xs f (token.Keyword word.Receiver) = take (key word.Receiver) (operand at_body (form.name a_process) ∷ semicolon ∷ codes x xs ∷ f)
+receiver_step x xs f (token.Keyword word.Receiver) =
+    take (key word.Receiver) (operand at_body (form.name a_process) ∷ semicolon ∷ codes x xs ∷ f)
 receiver_step x xs f t = codes_step x xs f t
 
 abbrev pub autostart_step : Name → List Name → Pending → Token → Step
-autostart_step x xs f (token.Keyword word.Autostart) = take (key word.Autostart) (starting ∷ more_starting ∷ from_receiver x xs ∷ f)
+autostart_step x xs f (token.Keyword word.Autostart) =
+    take (key word.Autostart) (starting ∷ more_starting ∷ from_receiver x xs ∷ f)
 autostart_step x xs f t = receiver_step x xs f t
 
 abbrev pub process_step : Pending → Token → Step
@@ -214,7 +224,8 @@ step (number ∷ f) (token.Number n) = take (valued n) f
 step (operand c o ∷ f) t = operand_step c o f t
 step (expression c ∷ f) t = expression_step c f t
 step (into_end c ∷ f) token.Semicolon = take (sign token.Semicolon) f
-step (into_end c ∷ f) (token.Keyword word.Into) = take (key word.Into) (operand c (form.name a_variable) ∷ semicolon ∷ f)
+step (into_end c ∷ f) (token.Keyword word.Into) =
+    take (key word.Into) (operand c (form.name a_variable) ∷ semicolon ∷ f)
 step (block c ∷ f) token.OpenBrace = take (opening token.OpenBrace (c.level + 1)) (items (inner c) ∷ f)
 step (items c ∷ f) t = items_step c f t
 step (items_else c ∷ f) t = items_else_step c f t

@@ -9,12 +9,13 @@ pub fn at_most_one_tree()
     ensures { (text : List ℕ) (t u : Tree) → IsTreeOf text t → IsTreeOf text u → t ≡ u }
 {}
 
-/// Each text has a tree or a told fault, and none has both.
+/// Each text has a tree or a reported error, and none has both.
 pub fn tree_or_fault()
     ensures { (text : List ℕ) → HasTreeOrFault text }
 {}
 
-/// At most one fault of a text is told.
+/// At most one fault of a text is reported.
 pub fn at_most_one_fault()
-    ensures { (text : List ℕ) (j k : ReadErrorKind) (l m : ℕ) → IsToldOf text j l → IsToldOf text k m → (j ≡ k) × (l ≡ m) }
+    ensures { (text : List ℕ) (j k : ReadErrorKind) (l m : ℕ) → IsToldOf text j l → IsToldOf text k m → (j ≡ k)
+        × (l ≡ m) }
 {}

@@ -99,13 +99,13 @@ spelling (token.Name x) = x
 spelling (token.Number n) = decimal n
 spelling token.Bad = []
 
--- how many braces are open behind a token, of those before it
+-- how many braces are open after a token, of those before it
 abbrev pub braces_behind : (braces : ℕ) → Token → ℕ
 braces_behind braces token.OpenBrace = braces + 1
 braces_behind braces token.CloseBrace = braces - 1
 braces_behind braces t = braces
 
--- the words whose `(` stands close behind them
+-- the words that are followed by `(` without a space
 abbrev pub tells : Keyword → Bool
 tells word.Is = true
 tells word.Fired = true
@@ -115,7 +115,7 @@ tells word.Running = true
 tells word.Count = true
 tells k = false
 
--- Each of these speaks of a token and of those that come behind it.
+-- Each of these speaks of a token and of those that come after it.
 
 -- it ends its line
 abbrev pub ends_line : Token → List Token → Bool
@@ -145,7 +145,7 @@ abbrev pub indentation : ℕ → List ℕ
 indentation zero = []
 indentation (suc n) = codes "  " ++ indentation n
 
--- what stands behind a token, where so many braces are open
+-- what stands after a token, where so many braces are open
 abbrev pub gap : (braces : ℕ) → Token → (rest : List Token) → List ℕ
 gap braces t rest =
     if ends_line t rest then 10 ∷ indentation (line_depth braces rest)

@@ -12,7 +12,7 @@ use Rattle.program_tree.specs.declared.keyword.Keyword.TheVariants.{Process}
 use Rattle.program_tree.specs.declared.error.ReadErrorKind.{ReadErrorKind}
 use Rattle.program_tree.specs.declared.error.ReadErrorKind.TheVariants.{BadToken, Unexpected, UnknownName, NameTwice, NumberTooLarge, WaitInSimpleBlock, TooDeep, TooMany, NoProcess, BadTarget}
 
--- the names in scope behind some marks, those that `autostart` lists, and how many statements have begun
+-- the names in scope after some marks, those that `autostart` lists, and how many statements have begun
 pub record Scope : Type 0 where
   pub names : Names
   pub starting : List Name
@@ -124,6 +124,6 @@ pub record IsProgram (p : ProgramShape) (text : List Token) : Type 0 where
   pub spelled : tokens (program_marks p []) ≡ text
   pub sound : (b r : List Token) (j : ReadErrorKind) → text ≡ b ++ r → IsFault j b r → ⊥
 
--- the told fault, with the number of tokens from its token on
+-- the reported error, with the number of tokens from its token on
 abbrev pub IsToldAt : ReadErrorKind → (left : ℕ) → List Token → Type 0
 IsToldAt k left text = (before : List Token) × (rest : List Token) × (text ≡ before ++ rest) × (length rest ≡ left) × IsTold k before rest

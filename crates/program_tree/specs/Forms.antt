@@ -1,4 +1,4 @@
--- The tables of the grammar: what stands behind each keyword of a statement or an expression.
+-- The tables of the grammar: what stands after each keyword of a statement or an expression.
 use Rattle.std.specs.Prelude.{Bool, true, false}
 use Rattle.program_tree.specs.Tree.{Class, a_semaphore, a_process, a_timer, a_thread}
 use Rattle.program_tree.specs.declared.keyword.Keyword.{Keyword}
@@ -72,7 +72,7 @@ waits Pause = true
 waits Acquire = true
 waits k = false
 
--- what a keyword is in an expression: nothing, a value by itself, or one that tells of something in parentheses
+-- what a keyword is in an expression: nothing, a value by itself, or one that asks about something in parentheses
 pub data Word : Type 0 where
   no_value : Word
   alone : Word

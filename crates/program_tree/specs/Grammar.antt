@@ -116,7 +116,7 @@ operand_mark c form.cast e = cast_mark e
 operand_mark c form.sent e = sent_mark e
 operand_mark c form.any e = any_mark e
 
--- what stands behind a keyword of an expression; its parentheses are no level
+-- what stands after a keyword of an expression; its parentheses are no level
 abbrev pub word_marks : Context → (w : Word) → WordShape w → (after : List Mark) → List Mark
 word_marks c no_value v after = absurd v
 word_marks c alone v after = after
@@ -146,7 +146,7 @@ abbrev pub into_marks : Option Name → (after : List Mark) → List Mark
 into_marks None after = sign token.Semicolon ∷ after
 into_marks (Some x) after = key word.Into ∷ named x (uses a_variable x) ∷ sign token.Semicolon ∷ after
 
--- what stands behind the keyword of a statement
+-- what stands after the keyword of a statement
 abbrev pub form_marks : Context → (f : Form) → FormShape f → (after : List Mark) → List Mark
 form_marks c ends v after = sign token.Semicolon ∷ after
 form_marks c tells v after = into_marks v after
@@ -259,7 +259,7 @@ semaphore_marks [] after = after
 semaphore_marks (v ∷ vs) after =
     key word.Semaphore ∷ (named v.0 (new a_semaphore v.0) ∷ (sign token.Equals ∷ (valued v.1 ∷ (sign token.Semicolon ∷ semaphore_marks vs after))))
 
--- the further names of the process line, each behind a comma, and its semicolon
+-- the further names of the process line, each after a comma, and its semicolon
 abbrev pub process_marks : List (Name × CodeShape) → (after : List Mark) → List Mark
 process_marks [] after = sign token.Semicolon ∷ after
 process_marks (p ∷ ps) after = sign token.Comma ∷ (named p.0 (new a_process p.0) ∷ process_marks ps after)

@@ -35,7 +35,7 @@ with_new n a_variable x = record n { variables = n.variables ++ x ∷ [] }
 with_new n a_timer x = record n { timers = n.timers ++ x ∷ [] }
 with_new n a_thread x = record n { threads = n.threads ++ x ∷ [] }
 
--- behind a code, whose own names are no longer in scope
+-- after a code, whose own names are no longer in scope
 abbrev pub outside : Names → Names
 outside n = record n { variables = []; first_timer = n.first_timer + length n.timers; timers = []; threads = [] }
 

@@ -11,6 +11,7 @@ pub mod Forms
 pub mod Grammar
 pub mod InScope
 pub mod Kinds
+pub mod Made
 pub mod Names
 pub mod Numbers
 pub mod ProcessText

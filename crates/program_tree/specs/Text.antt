@@ -53,7 +53,7 @@ ends_line (b ∷ bs) = is_feed b
 
 pub data Piece : Type 0 where
   Blank : (byte : ℕ) → Piece
-  -- what stands behind its `//`
+  -- what stands after its `//`
   Comment : (bytes : List ℕ) → Piece
   Word : (bytes : List ℕ) → Piece
   Sign : (bytes : List ℕ) → (token : Token) → Piece
@@ -75,7 +75,7 @@ token_at (Word bytes) = Some (word_token bytes)
 token_at (Sign bytes token) = Some token
 token_at (Other byte) = Some Bad
 
--- a piece is what it says it is, and it goes as far as it can, where this text comes behind it
+-- a piece is what it says it is, and it goes as far as it can, where this text comes after it
 abbrev pub FitsBefore : List ℕ → Piece → Type 0
 FitsBefore rest (Blank byte) = is_blank byte ≡ true
 FitsBefore rest (Comment bytes) = (list_any is_feed bytes ≡ false) × (ends_line rest ≡ true)

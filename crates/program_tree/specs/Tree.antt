@@ -55,7 +55,7 @@ pub data Action (Name : Type 0) : Type 0 where
   pause : Action Name
   acquire : Name → Action Name
   signal : Name → Action Name
-  -- the last of them the variable that is told the answer
+  -- the last of them the variable that gets the answer
   post : Name → SentEvent Name → Expression Name → Option Name → Action Name
   broadcast : CastEvent Name → Expression Name → Option Name → Action Name
   synch : Name → SentEvent Name → Expression Name → Action Name

@@ -43,8 +43,8 @@ impl ReadErrorKind {
     }
 }
 
-/// Why a text is no program, and the line of the token at which it isn't one. The first line is 1; want of memory
-/// has line 0.
+/// Why a text is no program, and the line of the token at which it isn't one. The first line is 1; where an
+/// allocation failed, the line is 0.
 #[derive(Clone, Copy, Debug, PartialEq, Eq)]
 pub struct ReadError {
     pub kind: ReadErrorKind,

@@ -5,7 +5,7 @@ ghost use Rattle.std.specs.Prelude.{◌≡◌, ◌<◌, ◌≤◌, length, map, 
 ghost use Rattle.std.specs.Option.{ForSome};
 ghost use Rattle.std.specs.List.{All};
 ghost use Rattle.program_tree.specs.ProcessText.{code_of};
-ghost use Rattle.program_tree.specs.Reading.{WasRead, IsMade};
+ghost use Rattle.program_tree.specs.Made.{WasRead, IsMade};
 
 use crate::event_name::FIRST_DECLARED;
 use crate::names::Names;

@@ -71,7 +71,7 @@ pub enum Action {
     Pause,
     Acquire(u8),
     Signal(u8),
-    /// Posts an event with this word to a process; the variable, if any, is told the answer.
+    /// Posts an event with this word to a process; the variable, if any, gets the answer.
     Post(u8, SentEvent, Expr, Option<u8>),
     Broadcast(CastEvent, Expr, Option<u8>),
     Synch(u8, SentEvent, Expr),

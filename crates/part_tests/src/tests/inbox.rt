@@ -53,7 +53,8 @@ pub(crate) fn with_two(
 ) -> Result<(Inbox, Taker, Sender, Sender), InboxError>
     ensures inbox { IfOk result (λ made. (made.1.inbox ≡ made.0) × (made.2.inbox ≡ made.0) × (made.3.inbox ≡ made.0)) }
     ensures taker { IfOk result (λ made. made.1.desk ≡ make_desk marked 2 [] []) }
-    ensures senders { IfOk result (λ made. (made.2.post ≡ make_post marked 0 []) × (made.3.post ≡ make_post marked 1 [])) }
+    ensures senders { IfOk result (λ made. (made.2.post ≡ make_post marked 0 [])
+        × (made.3.post ≡ make_post marked 1 [])) }
 {
     let (inbox, mut taker, first) = with_one(alloc, marked)?;
     let second = inbox.sender(&mut taker)?;
@@ -63,7 +64,8 @@ pub(crate) fn with_two(
 // Pushes a copy. Where memory is refused, it is not there to be taken.
 pub(crate) fn push<R: Wait>(rt: &R, inbox: &Inbox, sender: &mut Sender, copied: RadioCopy)
     requires { sender.old.inbox ≡ inbox.now }
-    ensures { (sender.new.inbox ≡ inbox.now) × (sender.new.post.number ≡ sender.old.post.number) × (sender.new.post.marked ≡ sender.old.post.marked) }
+    ensures { (sender.new.inbox ≡ inbox.now) × (sender.new.post.number ≡ sender.old.post.number)
+        × (sender.new.post.marked ≡ sender.old.post.marked) }
 {
     let _ = inbox.push_copy(rt, sender, copied);
 }
@@ -105,7 +107,8 @@ fn drain<R: Wait>(
     most: u64,
 ) -> Result<Vec<RadioCopy>, InboxError>
     requires { (taker.old.inbox ≡ inbox.now) × (taker.old.desk.marked ≡ false) }
-    ensures { (taker.new.inbox ≡ inbox.now) × (taker.new.desk.marked ≡ false) × (taker.new.desk.made ≡ taker.old.desk.made) × (taker.new.desk.gathered ≡ taker.old.desk.gathered) }
+    ensures { (taker.new.inbox ≡ inbox.now) × (taker.new.desk.marked ≡ false)
+        × (taker.new.desk.made ≡ taker.old.desk.made) × (taker.new.desk.gathered ≡ taker.old.desk.gathered) }
 {
     let known = inbox.known(taker);
     inbox.drain(rt, taker, most.min(known))
@@ -121,7 +124,8 @@ fn write_taken<R: Wait>(
     most: u64,
 ) -> Result<(), InboxError>
     requires { (taker.old.inbox ≡ inbox.now) × (taker.old.desk.marked ≡ false) }
-    ensures { (taker.new.inbox ≡ inbox.now) × (taker.new.desk.marked ≡ false) × (taker.new.desk.made ≡ taker.old.desk.made) × (taker.new.desk.gathered ≡ taker.old.desk.gathered) }
+    ensures { (taker.new.inbox ≡ inbox.now) × (taker.new.desk.marked ≡ false)
+        × (taker.new.desk.made ≡ taker.old.desk.made) × (taker.new.desk.gathered ≡ taker.old.desk.gathered) }
 {
     write_known(text, inbox, taker)?;
     let taken = drain(rt, inbox, taker, most)?;
@@ -204,8 +208,8 @@ fn write_in_one_thread<R: Wait>(
     // Two copies of each, taken by three and by the closing.
     let four = [copy(0, 0), copy(1, 0), copy(1, 1), copy(0, 1)];
     write_of_two(rt, alloc, text, &four, (0, 3))?;
-    // What a sender pushed is in the inbox before the sender is gathered: the taker takes it, though it knows only of the
-    // other's.
+    // What a sender pushed is in the inbox before the sender is gathered: the taker takes it, though it knows only of
+    // the other's.
     text.push_str("of both|")?;
     write_of_two(rt, alloc, text, &[copy(1, 8), copy(0, 7)], (1, 0))?;
     text.push_str("of nobody|")?;
@@ -221,7 +225,9 @@ fn in_one_thread(rt: HostRuntime) -> Result<(), Fail> {
     write_in_one_thread(&rt, rt.alloc(), &mut text)?;
     same_text(
         text.as_str(),
-        "known 0|known 2|known 2|known 4|5 1 0 0 9|5 1 1 0 9|5 1 1 1 9|known 1|5 1 0 1 9|of both|known 0|known 1|5 1 1 8 9|known 1|known 1|known 1|5 1 0 7 9|of nobody|known 0|known 0|known 0|known 0|known 0|one behind the other|known 1|5 1 0 7 9|known 0|known 1|5 1 1 8 9|",
+        "known 0|known 2|known 2|known 4|5 1 0 0 9|5 1 1 0 9|5 1 1 1 9|known 1|5 1 0 1 9|of both|known 0|known 1|\
+         5 1 1 8 9|known 1|known 1|known 1|5 1 0 7 9|of nobody|known 0|known 0|known 0|known 0|known 0|\
+         one behind the other|known 1|5 1 0 7 9|known 0|known 1|5 1 1 8 9|",
     )
 }
 
@@ -252,7 +258,8 @@ pub(crate) fn sender_again(inbox: &Inbox, taker: &mut Taker) -> Result<Sender, I
 // Pushes a copy. Where memory is refused, what comes back is pushed.
 pub(crate) fn push_again<R: Wait>(rt: &R, inbox: &Inbox, sender: &mut Sender, copied: RadioCopy)
     requires { sender.old.inbox ≡ inbox.now }
-    ensures { (sender.new.inbox ≡ inbox.now) × (sender.new.post.number ≡ sender.old.post.number) × (sender.new.post.marked ≡ sender.old.post.marked) }
+    ensures { (sender.new.inbox ≡ inbox.now) × (sender.new.post.number ≡ sender.old.post.number)
+        × (sender.new.post.marked ≡ sender.old.post.marked) }
 {
     if let Err(back) = inbox.push_copy(rt, sender, copied) {
         push(rt, inbox, sender, back);
@@ -273,7 +280,8 @@ fn push_all_again<R: Wait>(rt: &R, inbox: &Inbox, mut sender: Sender, count: u64
 // Whether the copies that are taken are so many of one sender, in order. Where memory is refused, they are taken again.
 fn takes_again<R: Wait>(rt: &R, inbox: &Inbox, taker: &mut Taker, count: u64) -> bool
     requires { (taker.old.inbox ≡ inbox.now) × (taker.old.desk.marked ≡ false) }
-    ensures { (taker.new.inbox ≡ inbox.now) × (taker.new.desk.marked ≡ false) × (taker.new.desk.made ≡ taker.old.desk.made) × (taker.new.desk.gathered ≡ taker.old.desk.gathered) }
+    ensures { (taker.new.inbox ≡ inbox.now) × (taker.new.desk.marked ≡ false)
+        × (taker.new.desk.made ≡ taker.old.desk.made) × (taker.new.desk.gathered ≡ taker.old.desk.gathered) }
 {
     if let Ok(copies) = drain(rt, inbox, taker, count) {
         return are_of(copies.as_slice(), 0, count);
@@ -380,7 +388,8 @@ fn push_all_three<R: Threads + Wait + Sync>(
         rt,
         move ||
             requires { (first.inbox ≡ inbox.now) × (second.inbox ≡ inbox.now) }
-            ensures { (result.0.inbox ≡ inbox.entry.now) × (result.0.post.number ≡ first.post.number) × (result.1.inbox ≡ inbox.entry.now) × (result.1.post.number ≡ second.post.number) }
+            ensures { (result.0.inbox ≡ inbox.entry.now) × (result.0.post.number ≡ first.post.number)
+                × (result.1.inbox ≡ inbox.entry.now) × (result.1.post.number ≡ second.post.number) }
         { push_both(rt, inbox, first, second, count) },
         move ||
             requires { third.inbox ≡ inbox.now }
@@ -420,7 +429,8 @@ fn are_in_order(copies: &[RadioCopy], count: u64) -> bool {
 // Takes all that is known, and tells whether that is so many copies of sender 0, in order.
 fn takes_known<R: Wait>(rt: &R, inbox: &Inbox, mut taker: Taker, count: u64) -> (Taker, bool)
     requires { (taker.inbox ≡ inbox.now) × (taker.desk.marked ≡ false) }
-    ensures { (result.0.desk.marked ≡ false) × (result.0.inbox ≡ inbox.now) × (result.0.desk.made ≡ taker.desk.made) × (result.0.desk.gathered ≡ taker.desk.gathered) }
+    ensures { (result.0.desk.marked ≡ false) × (result.0.inbox ≡ inbox.now) × (result.0.desk.made ≡ taker.desk.made)
+        × (result.0.desk.gathered ≡ taker.desk.gathered) }
 {
     let known = inbox.known(&taker);
     let taken = match inbox.drain(rt, &mut taker, known) {
@@ -439,14 +449,16 @@ fn take_beside<R: Threads + Wait + Sync>(
     count: u64,
 ) -> ((Taker, bool), Sender)
     requires { (taker.inbox ≡ inbox.now) × (taker.desk.marked ≡ false) × (second.inbox ≡ inbox.now) }
-    ensures taker { (result.0.0.desk.marked ≡ false) × (result.0.0.inbox ≡ inbox.now) × (result.0.0.desk.made ≡ taker.desk.made) × (result.0.0.desk.gathered ≡ taker.desk.gathered) }
+    ensures taker { (result.0.0.desk.marked ≡ false) × (result.0.0.inbox ≡ inbox.now)
+        × (result.0.0.desk.made ≡ taker.desk.made) × (result.0.0.desk.gathered ≡ taker.desk.gathered) }
     ensures second { (result.1.inbox ≡ inbox.now) × (result.1.post.number ≡ second.post.number) }
 {
     thread::join(
         rt,
         move ||
             requires { (taker.inbox ≡ inbox.now) × (taker.desk.marked ≡ false) }
-            ensures { (result.0.desk.marked ≡ false) × (result.0.inbox ≡ inbox.entry.now) × (result.0.desk.made ≡ taker.desk.made) × (result.0.desk.gathered ≡ taker.desk.gathered) }
+            ensures { (result.0.desk.marked ≡ false) × (result.0.inbox ≡ inbox.entry.now)
+                × (result.0.desk.made ≡ taker.desk.made) × (result.0.desk.gathered ≡ taker.desk.gathered) }
         { takes_known(rt, inbox, taker, count) },
         move ||
             requires { second.inbox ≡ inbox.now }

@@ -14,8 +14,8 @@ const SENDER: &str = "process a; autostart a; code a { body { send (self + 5); y
 const RUNAWAY: &str =
     "process a; autostart a; code a { var x = 0; body { while 1 { x = (x + 1); } } }";
 
-const RECEIVER: &str =
-    "process r; autostart r; receiver r; code r { body { while 1 { yield; if is(packet) { print from; print data; } } } }";
+const RECEIVER: &str = "process r; autostart r; receiver r; code r { body { while 1 { yield; \
+     if is(packet) { print from; print data; } } } }";
 
 /// The kernel of mote 7 with its program, and what it wrote.
 struct Bench {
@@ -167,7 +167,8 @@ const CASES: [(&str, &[Act], &str); 4] = [
     (
         SENDER,
         &[Act::Look, Act::Boot, Act::Look],
-        "7 false false false None|Left(0)|0 Start(Etimer)|0 Start(Ctimer)|0 Start(Radio)|0 Start(Own(0))|0 Send(0, 12)|sent 0 7 0 12|7 true false false None|",
+        "7 false false false None|Left(0)|0 Start(Etimer)|0 Start(Ctimer)|0 Start(Radio)|0 Start(Own(0))|\
+         0 Send(0, 12)|sent 0 7 0 12|7 true false false None|",
     ),
     // A mote that has halted stays so, and writes nothing more.
     (
@@ -186,7 +187,15 @@ const CASES: [(&str, &[Act], &str); 4] = [
             Act::Look,
             Act::RunOut(2),
         ],
-        "Left(0)|0 Start(Etimer)|0 Start(Ctimer)|0 Start(Radio)|0 Start(Own(0))|8 taken|7 true false false None|7 true false true None|Left(0)|2 Post(0, One(Own(0)), 138, 0)|2 Post(1, One(Own(0)), 138, 1)|2 Post(2, One(Own(0)), 138, 2)|2 Post(3, One(Own(0)), 138, 3)|2 Post(4, One(Own(0)), 138, 4)|2 Post(5, One(Own(0)), 138, 5)|2 Post(6, One(Own(0)), 138, 6)|2 Post(7, One(Own(0)), 138, 7)|2 Take(0, Own(0))|2 Print(Own(0), 3)|2 Print(Own(0), 0)|2 Take(1, Own(0))|2 Print(Own(0), 3)|2 Print(Own(0), 1)|2 Take(2, Own(0))|2 Print(Own(0), 3)|2 Print(Own(0), 2)|2 Take(3, Own(0))|2 Print(Own(0), 3)|2 Print(Own(0), 3)|2 Take(4, Own(0))|2 Print(Own(0), 3)|2 Print(Own(0), 4)|2 Take(5, Own(0))|2 Print(Own(0), 3)|2 Print(Own(0), 5)|2 Take(6, Own(0))|2 Print(Own(0), 3)|2 Print(Own(0), 6)|2 Take(7, Own(0))|2 Print(Own(0), 3)|2 Print(Own(0), 7)|",
+        "Left(0)|0 Start(Etimer)|0 Start(Ctimer)|0 Start(Radio)|0 Start(Own(0))|8 taken|7 true false false None|\
+         7 true false true None|Left(0)|2 Post(0, One(Own(0)), 138, 0)|2 Post(1, One(Own(0)), 138, 1)|\
+         2 Post(2, One(Own(0)), 138, 2)|2 Post(3, One(Own(0)), 138, 3)|2 Post(4, One(Own(0)), 138, 4)|\
+         2 Post(5, One(Own(0)), 138, 5)|2 Post(6, One(Own(0)), 138, 6)|2 Post(7, One(Own(0)), 138, 7)|\
+         2 Take(0, Own(0))|2 Print(Own(0), 3)|2 Print(Own(0), 0)|2 Take(1, Own(0))|2 Print(Own(0), 3)|\
+         2 Print(Own(0), 1)|2 Take(2, Own(0))|2 Print(Own(0), 3)|2 Print(Own(0), 2)|2 Take(3, Own(0))|\
+         2 Print(Own(0), 3)|2 Print(Own(0), 3)|2 Take(4, Own(0))|2 Print(Own(0), 3)|2 Print(Own(0), 4)|\
+         2 Take(5, Own(0))|2 Print(Own(0), 3)|2 Print(Own(0), 5)|2 Take(6, Own(0))|2 Print(Own(0), 3)|\
+         2 Print(Own(0), 6)|2 Take(7, Own(0))|2 Print(Own(0), 3)|2 Print(Own(0), 7)|",
     ),
     // Nobody receives the packets of a program that has no receiver.
     (
@@ -197,7 +206,8 @@ const CASES: [(&str, &[Act], &str); 4] = [
             Act::Poll(Proc::Radio),
             Act::RunOut(2),
         ],
-        "Left(0)|0 Start(Etimer)|0 Start(Ctimer)|0 Start(Radio)|0 Start(Own(0))|0 Send(0, 12)|sent 0 7 0 12|1 taken|Left(0)|2 Deaf(3, 0)|",
+        "Left(0)|0 Start(Etimer)|0 Start(Ctimer)|0 Start(Radio)|0 Start(Own(0))|0 Send(0, 12)|\
+         sent 0 7 0 12|1 taken|Left(0)|2 Deaf(3, 0)|",
     ),
 ];
 

@@ -18,7 +18,8 @@ use std::thread::Threads;
 fn push_mark<R: Wait>(rt: &R, inbox: &Inbox, sender: &mut Sender, window: u64)
     requires inbox { sender.old.inbox ≡ inbox.now }
     requires marked { sender.old.post.marked ≡ true }
-    ensures { (sender.new.inbox ≡ inbox.now) × (sender.new.post.number ≡ sender.old.post.number) × (sender.new.post.marked ≡ true) }
+    ensures { (sender.new.inbox ≡ inbox.now) × (sender.new.post.number ≡ sender.old.post.number)
+        × (sender.new.post.marked ≡ true) }
 {
     let _ = inbox.push_mark(rt, sender, window);
 }
@@ -44,7 +45,8 @@ fn write_nexts<R: Wait>(
     count: u8,
 ) -> Result<(), AllocError>
     requires { taker.old.inbox ≡ inbox.now }
-    ensures { (taker.new.inbox ≡ inbox.now) × (taker.new.desk.made ≡ taker.old.desk.made) × (taker.new.desk.gathered ≡ taker.old.desk.gathered) }
+    ensures { (taker.new.inbox ≡ inbox.now) × (taker.new.desk.made ≡ taker.old.desk.made)
+        × (taker.new.desk.gathered ≡ taker.old.desk.gathered) }
 {
     for _ in 0..count {
         write_item(text, inbox.take_next(rt, taker))?;
@@ -85,7 +87,8 @@ fn write_pushed_marks<R: Wait>(
 ) -> Result<(), AllocError>
     requires inbox { (taker.old.inbox ≡ inbox.now) × (first.old.inbox ≡ inbox.now) × (second.old.inbox ≡ inbox.now) }
     requires marked { (first.old.post.marked ≡ true) × (second.old.post.marked ≡ true) }
-    ensures taker { (taker.new.inbox ≡ inbox.now) × (taker.new.desk.made ≡ taker.old.desk.made) × (taker.new.desk.gathered ≡ taker.old.desk.gathered) }
+    ensures taker { (taker.new.inbox ≡ inbox.now) × (taker.new.desk.made ≡ taker.old.desk.made)
+        × (taker.new.desk.gathered ≡ taker.old.desk.gathered) }
     ensures first { (first.new.inbox ≡ inbox.now) × (first.new.post.number ≡ first.old.post.number) }
     ensures second { (second.new.inbox ≡ inbox.now) × (second.new.post.number ≡ second.old.post.number) }
 {
@@ -170,7 +173,8 @@ fn items_one_by_one(rt: HostRuntime) -> Result<(), Fail> {
     write_items(&rt, rt.alloc(), &mut text)?;
     same_text(
         text.as_str(),
-        "of 0 5 1 0 7 9|of 0 mark 0|of 1 mark 0|none|known marks|known 0|known 3|of 0 mark 0|known 2|of 0 5 1 0 0 9|of 0 mark 1|none|known 0|no marks|none|of 1 5 1 1 0 9|of 0 5 1 0 0 9|none|",
+        "of 0 5 1 0 7 9|of 0 mark 0|of 1 mark 0|none|known marks|known 0|known 3|of 0 mark 0|known 2|of 0 5 1 0 0 9|\
+         of 0 mark 1|none|known 0|no marks|none|of 1 5 1 1 0 9|of 0 5 1 0 0 9|none|",
     )
 }
 
@@ -289,8 +293,8 @@ fn after(heard: Heard, what: Carried) -> Heard {
     }
 }
 
-// Takes until the mark of the last of so many windows; gives way where nothing is there. Tells in how many windows three
-// copies came before the mark.
+// Takes until the mark of the last of so many windows; gives way where nothing is there. Tells in how many windows
+// three copies came before the mark.
 fn take_windows<R: Wait>(rt: &R, inbox: &Inbox, taker: &mut Taker, windows: u64) -> u64
     requires { taker.old.inbox ≡ inbox.now }
 {

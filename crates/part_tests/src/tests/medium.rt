@@ -158,6 +158,11 @@ fn media_by_hand(rt: HostRuntime) -> Result<(), Fail> {
     write_media(rt.alloc(), &mut text)?;
     same_text(
         text.as_str(),
-        "[true, true, false] 4 4|[Fate { to: 1, at: Some(5) }]|5 1 0 0 7|[Fate { to: 1, at: Some(5) }]|5 1 0 1 7|[Fate { to: 0, at: Some(5) }]|5 0 1 1 7|[false, false, false] 4 10|[]|[]|[]|[true, true, false] 4 4|[Fate { to: 1, at: Some(5) }]|5 1 0 0 7|[Fate { to: 1, at: None }]|[Fate { to: 0, at: Some(5) }]|5 0 1 1 7|[Fate { to: 0, at: Some(7) }, Fate { to: 2, at: Some(4) }, Fate { to: 3, at: Some(12) }]|7 0 1 3 7|4 2 1 3 7|12 3 1 3 7|[Fate { to: 0, at: Some(7) }, Fate { to: 2, at: None }, Fate { to: 3, at: Some(12) }]|7 0 1 2 7|12 3 1 2 7|3|BadLoss 4|BadLoss 4|BadLoss 4|BadLoss 4|BadLoss 4|ZeroBase 2|ZeroPer 3|BadLoss 4|",
+        "[true, true, false] 4 4|[Fate { to: 1, at: Some(5) }]|5 1 0 0 7|[Fate { to: 1, at: Some(5) }]|5 1 0 1 7|\
+         [Fate { to: 0, at: Some(5) }]|5 0 1 1 7|[false, false, false] 4 10|[]|[]|[]|[true, true, false] 4 4|\
+         [Fate { to: 1, at: Some(5) }]|5 1 0 0 7|[Fate { to: 1, at: None }]|[Fate { to: 0, at: Some(5) }]|5 0 1 1 7|\
+         [Fate { to: 0, at: Some(7) }, Fate { to: 2, at: Some(4) }, Fate { to: 3, at: Some(12) }]|7 0 1 3 7|4 2 1 3 7|\
+         12 3 1 3 7|[Fate { to: 0, at: Some(7) }, Fate { to: 2, at: None }, Fate { to: 3, at: Some(12) }]|7 0 1 2 7|\
+         12 3 1 2 7|3|BadLoss 4|BadLoss 4|BadLoss 4|BadLoss 4|BadLoss 4|ZeroBase 2|ZeroPer 3|BadLoss 4|",
     )
 }

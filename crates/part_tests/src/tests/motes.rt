@@ -28,8 +28,8 @@ impl Drop for Bench {
 const SENDER: &str = "process a; autostart a; code a { body { send (self + 5); } }";
 
 /// A process that prints where each packet comes from and what it carries.
-const RECEIVER: &str =
-    "process r; autostart r; receiver r; code r { body { while 1 { yield; if is(packet) { print from; print data; } } } }";
+const RECEIVER: &str = "process r; autostart r; receiver r; code r { body { while 1 { yield; \
+     if is(packet) { print from; print data; } } } }";
 
 /// A turn: its moment, and the packets that arrive then. They are packets of one mote, numbered from 0 on, and their
 /// values rise from this one on.
@@ -139,7 +139,8 @@ fn tells(
 
 /// A turn at a moment that isn't above the last turn's is refused, and the next one that is above it isn't.
 const PAST_TURN: &str =
-    "Some(0)|0 Start(Etimer)|0 Start(Ctimer)|0 Start(Radio)|0 Start(Own(0))|0 Print(Own(0), 1)|wake None|None|Past|None|wake None|None|";
+    "Some(0)|0 Start(Etimer)|0 Start(Ctimer)|0 Start(Radio)|0 Start(Own(0))|0 Print(Own(0), 1)|\
+     wake None|None|Past|None|wake None|None|";
 
 #[test]
 fn past_turn(rt: HostRuntime) -> Result<(), Fail> {
@@ -149,15 +150,25 @@ fn past_turn(rt: HostRuntime) -> Result<(), Fail> {
 
 /// A program without a receiver is deaf to the packet of mote 4.
 const DEAF: &str =
-    "Some(0)|0 Start(Etimer)|0 Start(Ctimer)|0 Start(Radio)|0 Start(Own(0))|0 Print(Own(0), 1)|wake None|None|2 Recv(4, 0, 9)|2 Deaf(4, 0)|wake None|None|";
+    "Some(0)|0 Start(Etimer)|0 Start(Ctimer)|0 Start(Radio)|0 Start(Own(0))|0 Print(Own(0), 1)|wake None|None|\
+     2 Recv(4, 0, 9)|2 Deaf(4, 0)|wake None|None|";
 
 /// Of nine packets that arrive together the ring takes eight, which are posted and then taken.
 const NINE: &str =
-    "Some(0)|0 Start(Etimer)|0 Start(Ctimer)|0 Start(Radio)|0 Start(Own(0))|wake None|None|3 Recv(0, 0, 0)|3 Recv(0, 1, 1)|3 Recv(0, 2, 2)|3 Recv(0, 3, 3)|3 Recv(0, 4, 4)|3 Recv(0, 5, 5)|3 Recv(0, 6, 6)|3 Recv(0, 7, 7)|3 Lost(0, 8)|3 Post(0, One(Own(0)), 138, 0)|3 Post(1, One(Own(0)), 138, 1)|3 Post(2, One(Own(0)), 138, 2)|3 Post(3, One(Own(0)), 138, 3)|3 Post(4, One(Own(0)), 138, 4)|3 Post(5, One(Own(0)), 138, 5)|3 Post(6, One(Own(0)), 138, 6)|3 Post(7, One(Own(0)), 138, 7)|3 Take(0, Own(0))|3 Print(Own(0), 0)|3 Print(Own(0), 0)|3 Take(1, Own(0))|3 Print(Own(0), 0)|3 Print(Own(0), 1)|3 Take(2, Own(0))|3 Print(Own(0), 0)|3 Print(Own(0), 2)|3 Take(3, Own(0))|3 Print(Own(0), 0)|3 Print(Own(0), 3)|3 Take(4, Own(0))|3 Print(Own(0), 0)|3 Print(Own(0), 4)|3 Take(5, Own(0))|3 Print(Own(0), 0)|3 Print(Own(0), 5)|3 Take(6, Own(0))|3 Print(Own(0), 0)|3 Print(Own(0), 6)|3 Take(7, Own(0))|3 Print(Own(0), 0)|3 Print(Own(0), 7)|wake None|None|";
+    "Some(0)|0 Start(Etimer)|0 Start(Ctimer)|0 Start(Radio)|0 Start(Own(0))|wake None|None|3 Recv(0, 0, 0)|\
+     3 Recv(0, 1, 1)|3 Recv(0, 2, 2)|3 Recv(0, 3, 3)|3 Recv(0, 4, 4)|3 Recv(0, 5, 5)|3 Recv(0, 6, 6)|3 Recv(0, 7, 7)|\
+     3 Lost(0, 8)|3 Post(0, One(Own(0)), 138, 0)|3 Post(1, One(Own(0)), 138, 1)|3 Post(2, One(Own(0)), 138, 2)|\
+     3 Post(3, One(Own(0)), 138, 3)|3 Post(4, One(Own(0)), 138, 4)|3 Post(5, One(Own(0)), 138, 5)|\
+     3 Post(6, One(Own(0)), 138, 6)|3 Post(7, One(Own(0)), 138, 7)|3 Take(0, Own(0))|3 Print(Own(0), 0)|\
+     3 Print(Own(0), 0)|3 Take(1, Own(0))|3 Print(Own(0), 0)|3 Print(Own(0), 1)|3 Take(2, Own(0))|3 Print(Own(0), 0)|\
+     3 Print(Own(0), 2)|3 Take(3, Own(0))|3 Print(Own(0), 0)|3 Print(Own(0), 3)|3 Take(4, Own(0))|3 Print(Own(0), 0)|\
+     3 Print(Own(0), 4)|3 Take(5, Own(0))|3 Print(Own(0), 0)|3 Print(Own(0), 5)|3 Take(6, Own(0))|3 Print(Own(0), 0)|\
+     3 Print(Own(0), 6)|3 Take(7, Own(0))|3 Print(Own(0), 0)|3 Print(Own(0), 7)|wake None|None|";
 
 /// Mote 0 sends one packet, and its process leaves.
 const SENT: &str =
-    "Some(0)|0 Start(Etimer)|0 Start(Ctimer)|0 Start(Radio)|0 Start(Own(0))|0 Send(0, 5)|0 Leave(Own(0))|sent 0 0 0 5|wake None|None|";
+    "Some(0)|0 Start(Etimer)|0 Start(Ctimer)|0 Start(Radio)|0 Start(Own(0))|0 Send(0, 5)|\
+     0 Leave(Own(0))|sent 0 0 0 5|wake None|None|";
 
 /// A mote that prints, one that receives, and one that sends.
 #[test]

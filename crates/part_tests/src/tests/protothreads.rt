@@ -28,7 +28,13 @@ const FIXED: Fixed = Fixed {
 };
 
 impl Look for Fixed {
-    ghost looks = { λ f. record { moment = f.moment; mote = f.mote; expired = f.timer ∷ []; running = f.process ∷ []; counts = f.count ∷ [] } };
+    ghost looks = { λ f. record {
+      moment = f.moment;
+      mote = f.mote;
+      expired = f.timer ∷ [];
+      running = f.process ∷ [];
+      counts = f.count ∷ [];
+    } };
 
     fn now(&self) -> u16 {
         (self.moment % 65_536) as u16
@@ -190,7 +196,8 @@ const CASES: [(&str, u32, &[Act], &str); 13] = [
     ),
     // Both ways of an `if`.
     (
-        "process a; code a { body { if 0 { print 1; } else { print 2; } if 7 { print 3; } else { print 4; } if 0 { print 5; } print 6; } }",
+        "process a; code a { body { if 0 { print 1; } else { print 2; } if 7 { print 3; } else { \
+         print 4; } if 0 { print 5; } print 6; } }",
         10,
         &[INIT; 4],
         "Op(Print(2)) 8|Op(Print(3)) 6|Op(Print(6)) 4|Done(Ended) 4|",
@@ -204,17 +211,21 @@ const CASES: [(&str, u32, &[Act], &str); 13] = [
     ),
     // It goes on where it stood, in a loop of a loop that waits inside an `if`, three levels deep.
     (
-        "process a; code a { var i = 0; body { while (i < 2) { i = (i + 1); if (i == 2) { print 8; } else { while data { yield; print i; } } print 9; } } }",
+        "process a; code a { var i = 0; body { while (i < 2) { i = (i + 1); if (i == 2) { print 8; } else { while \
+         data { yield; print i; } } print 9; } } }",
         100,
         &[MSG_1, MSG_1, MSG_1, MSG_0, MSG_0, MSG_0, MSG_0, MSG_0],
-        "Done(Yielded) 95|Op(Print(1)) 93|Done(Yielded) 91|Op(Print(1)) 89|Op(Print(9)) 87|Op(Print(8)) 83|Op(Print(9)) 82|Done(Ended) 81|",
+        "Done(Yielded) 95|Op(Print(1)) 93|Done(Yielded) 91|Op(Print(1)) 89|Op(Print(9)) 87|\
+         Op(Print(8)) 83|Op(Print(9)) 82|Done(Ended) 81|",
     ),
     // The three calls of the body answer 0, 0 and 3. Each later call pays for the two spawns that it passes.
     (
-        "process a; autostart a; code a { var n = 0; thread c { n = (n + 1); if (n == 1) { poll a; yield; poll a; restart; } print n; exit; print 8; } thread d { spawn c; print 7; } body { spawn d; print 6; } }",
+        "process a; autostart a; code a { var n = 0; thread c { n = (n + 1); if (n == 1) { poll a; yield; poll a; \
+         restart; } print n; exit; print 8; } thread d { spawn c; print 7; } body { spawn d; print 6; } }",
         100,
         &[INIT; 8],
-        "Op(Poll(Own(0))) 95|Done(Waiting) 94|Op(Poll(Own(0))) 90|Done(Waiting) 89|Op(Print(2)) 84|Op(Print(7)) 82|Op(Print(6)) 81|Done(Ended) 81|",
+        "Op(Poll(Own(0))) 95|Done(Waiting) 94|Op(Poll(Own(0))) 90|Done(Waiting) 89|Op(Print(2)) 84|\
+         Op(Print(7)) 82|Op(Print(6)) 81|Done(Ended) 81|",
     ),
     // The answer of a pause's post isn't asked for, and any CONTINUE ends the wait.
     (
@@ -225,10 +236,12 @@ const CASES: [(&str, u32, &[Act], &str); 13] = [
     ),
     // Only the variable behind `into` is told the answer.
     (
-        "event e; process a, b; code a { var v = 7; body { post b e 5 into v; print v; broadcast msg 6; print v; synch b exit 2; } } code b { body { } }",
+        "event e; process a, b; code a { var v = 7; body { post b e 5 into v; print v; broadcast msg 6; \
+         print v; synch b exit 2; } } code b { body { } }",
         10,
         &[INIT, Act::Answer(1), INIT, INIT, Act::Answer(0), INIT, INIT],
-        "Op(Post(One(Own(1)), 139, 5)) 9|Op(Print(1)) 8|Op(Post(All, 134, 6)) 7|Op(Print(1)) 6|Op(Synch(Own(1), 131, 2)) 5|",
+        "Op(Post(One(Own(1)), 139, 5)) 9|Op(Print(1)) 8|Op(Post(All, 134, 6)) 7|\
+         Op(Print(1)) 6|Op(Synch(Own(1), 131, 2)) 5|",
     ),
     // The look has a count of 4 for semaphore 0, and of 0 for any other.
     (

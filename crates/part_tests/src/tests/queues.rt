@@ -50,6 +50,7 @@ fn small_parts(rt: HostRuntime) -> Result<(), Fail> {
     let told = told(rt.alloc())?;
     same_text(
         told.as_str(),
-        "Ok(0) Err(Full) Some(Posted { serial: 0, target: All, event: Event { number: 139, word: 7, sender: 0 } }) Ok(1)",
+        "Ok(0) Err(Full) Some(Posted { serial: 0, target: All, event: Event { \
+         number: 139, word: 7, sender: 0 } }) Ok(1)",
     )
 }

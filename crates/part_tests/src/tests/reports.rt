@@ -15,11 +15,15 @@ use trace_printer::write_report;
 
 /// One mote, whose program has two events and two processes.
 const TWO_PROCESSES: &str =
-    "version = 1\nend = 5\n[medium]\nrange = 10\nbase = 1\nper = 100\n[programs]\np = \"event e; event f; process a, b; code a { body { } } code b { body { } }\"\n[[mote]]\nx = 0\ny = 0\nprogram = \"p\"\n";
+    "version = 1\nend = 5\n[medium]\nrange = 10\nbase = 1\nper = 100\n[programs]\n\
+     p = \"event e; event f; process a, b; code a { body { } } code b { body { } }\"\n\
+     [[mote]]\nx = 0\ny = 0\nprogram = \"p\"\n";
 
 /// Two motes with programs of their own.
 const TWO_MOTES: &str =
-    "version = 1\nend = 5\n[medium]\nrange = 10\nbase = 1\nper = 100\n[programs]\np = \"process a; code a { body { } }\"\nq_2 = \"process c; code c { body { } }\"\n[[mote]]\nx = 0\ny = 0\nprogram = \"p\"\n[[mote]]\nx = 0\ny = 0\nprogram = \"q_2\"\n";
+    "version = 1\nend = 5\n[medium]\nrange = 10\nbase = 1\nper = 100\n[programs]\n\
+     p = \"process a; code a { body { } }\"\nq_2 = \"process c; code c { body { } }\"\n[[mote]]\nx = 0\ny = 0\n\
+     program = \"p\"\n[[mote]]\nx = 0\ny = 0\nprogram = \"q_2\"\n";
 
 const A: Proc = Proc::Own(0);
 
@@ -217,6 +221,12 @@ fn reports_by_hand(rt: HostRuntime) -> Result<(), Fail> {
     write_reports(rt.alloc(), &mut output)?;
     same_bytes(
         output.as_slice(),
-        "mote 0 p\n0 start a\n0 start etimer\n0 start ctimer\n0 start radio\n5 leave a\n2 print a 192\n0 busy b\n0 halt\nmedium\nleft 0\nmote 0 p\n0 post 0 a msg 7\n0 post 3 all com 7\n2 post 1 ctimer timer 1\n0 full a msg 32\n0 take 32 a\n0 drop 0 radio\nmedium\nleft 0\nmote 0 p\n0 full all init 0\n0 full all poll 0\n0 full all exit 0\n0 full all continue 0\n0 full all exited 1\n0 full all packet 5\n0 full all f 9\nmedium\nleft 0\nmote 0 p\n0 send 0 5\n2 recv 2 0 7\n3 lost 0 8\n2 deaf 4 0\n2 collide 2 0\nmedium\nleft 0\nmote 0 p\n0 start a\n0 halt\nmote 1 q_2\n0 print c 65535\n1000000 leave c\n1000000 leave radio\nmedium\n2 1 0 9 0@5 3@lost\n7 0 40 65535\nleft 12\n",
+        "mote 0 p\n0 start a\n0 start etimer\n0 start ctimer\n0 start radio\n5 leave a\n2 print a 192\n0 busy b\n\
+         0 halt\nmedium\nleft 0\nmote 0 p\n0 post 0 a msg 7\n0 post 3 all com 7\n2 post 1 ctimer timer 1\n\
+         0 full a msg 32\n0 take 32 a\n0 drop 0 radio\nmedium\nleft 0\nmote 0 p\n0 full all init 0\n\
+         0 full all poll 0\n0 full all exit 0\n0 full all continue 0\n0 full all exited 1\n0 full all packet 5\n\
+         0 full all f 9\nmedium\nleft 0\nmote 0 p\n0 send 0 5\n2 recv 2 0 7\n3 lost 0 8\n2 deaf 4 0\n2 collide 2 0\n\
+         medium\nleft 0\nmote 0 p\n0 start a\n0 halt\nmote 1 q_2\n0 print c 65535\n1000000 leave c\n\
+         1000000 leave radio\nmedium\n2 1 0 9 0@5 3@lost\n7 0 40 65535\nleft 12\n",
     )
 }

@@ -183,6 +183,8 @@ fn workers_by_hand(rt: HostRuntime) -> Result<(), Fail> {
     write_workers(&rt, rt.alloc(), &mut text)?;
     same_text(
         text.as_str(),
-        "Ok([13, 11, 12]) 3 0|Err(Memory) 3 0|Err(Thread) 3 0|Err(Thread) 3 0|Err(Thread) 3 0|Err(Memory) 3 0|Err(Memory) 3 0|Err(Thread) 3 0|Err(Stopped) 3 0|Err(Thread) 2 1|Err(Memory) 2 1|Err(Thread) 2 1|Err(Thread) 1 1|Err(Thread) 2 1|Err(Thread) 3 1|Err(Thread) 4 1|",
+        "Ok([13, 11, 12]) 3 0|Err(Memory) 3 0|Err(Thread) 3 0|Err(Thread) 3 0|Err(Thread) 3 0|Err(Memory) 3 0|\
+         Err(Memory) 3 0|Err(Thread) 3 0|Err(Stopped) 3 0|Err(Thread) 2 1|Err(Memory) 2 1|Err(Thread) 2 1|\
+         Err(Thread) 1 1|Err(Thread) 2 1|Err(Thread) 3 1|Err(Thread) 4 1|",
     )
 }

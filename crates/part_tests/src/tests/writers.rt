@@ -16,7 +16,9 @@ use trace_printer::{PrintError, write_report};
 
 /// One mote, whose process prints and then yields for ever.
 const PRINT_THEN_YIELD: &str =
-    "version = 1\nend = 5\n[medium]\nrange = 10\nbase = 1\nper = 100\n[programs]\np = \"process a; autostart a; code a { body { print 1; yield; print 2; } }\"\n[[mote]]\nx = 0\ny = 0\nprogram = \"p\"\n";
+    "version = 1\nend = 5\n[medium]\nrange = 10\nbase = 1\nper = 100\n[programs]\n\
+     p = \"process a; autostart a; code a { body { print 1; yield; print 2; } }\"\n\
+     [[mote]]\nx = 0\ny = 0\nprogram = \"p\"\n";
 
 /// What its run reports behind the starts of the system processes.
 const OUTPUT: &str = "mote 0 p\n0 start a\n0 print a 1\nmedium\nleft 0\n";

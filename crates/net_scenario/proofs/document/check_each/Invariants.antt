@@ -6,4 +6,6 @@ use Rattle.net_scenario.proofs.document.check_each.Given as goal
 
 -- the first fault is that of the items to come
 abbrev pub invariant-loop-item : goal.invariant-loop-item
-invariant-loop-item l = first_some (keys_fault (known_in l.version (map rule_of l.keys))) (tables_in (items_view l.items)) ≡ first_some (keys_fault (known_in l.version (map rule_of l.keys))) (tables_in (items_view (drop l.item-index l.items)))
+invariant-loop-item l = first_some (keys_fault (known_in l.version (map rule_of l.keys)))
+    (tables_in (items_view l.items)) ≡ first_some (keys_fault (known_in l.version (map rule_of l.keys)))
+    (tables_in (items_view (drop l.item-index l.items)))

@@ -5,4 +5,5 @@ use Rattle.net_scenario.proofs.document.check_programs.Given as goal
 
 -- the first fault is that of the items to come
 abbrev pub invariant-loop-item : goal.invariant-loop-item
-invariant-loop-item l = first_some (program_fault (table_view l.programs)) (tables_in (items_view l.motes)) ≡ first_some (program_fault (table_view l.programs)) (tables_in (items_view (drop l.item-index l.motes)))
+invariant-loop-item l = first_some (program_fault (table_view l.programs)) (tables_in (items_view l.motes))
+    ≡ first_some (program_fault (table_view l.programs)) (tables_in (items_view (drop l.item-index l.motes)))

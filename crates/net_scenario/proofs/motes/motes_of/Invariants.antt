@@ -11,7 +11,11 @@ use Rattle.net_scenario.proofs.motes.motes_of.Given as goal
 -- no fault is to come, and the motes so far and those to come are all of them
 abbrev pub invariant-loop-item : goal.invariant-loop-item
 invariant-loop-item l = record {
-  read : first_some (unread_fault (map named_tree l.programs)) (tables_in (items_view (drop l.item-index l.items))) ≡ None;
-  value : map (mote_of_table (members_of l.queue) (map named_tree l.programs)) (tables_in (items_view l.items)) ≡ map (mote_told l.programs) l.motes.items ++ map (mote_of_table (members_of l.queue) (map named_tree l.programs)) (tables_in (items_view (drop l.item-index l.items)));
+  read : first_some (unread_fault (map named_tree l.programs)) (tables_in (items_view (drop l.item-index l.items)))
+      ≡ None;
+  value : map (mote_of_table (members_of l.queue) (map named_tree l.programs)) (tables_in (items_view l.items))
+      ≡ map (mote_told l.programs) l.motes.items ++ map
+      (mote_of_table (members_of l.queue) (map named_tree l.programs))
+      (tables_in (items_view (drop l.item-index l.items)));
   fits : IsTrue (list_all (is_mote_of (length l.programs)) l.motes.items);
 }

@@ -9,5 +9,6 @@ use Rattle.net_scenario.proofs.places.losses_of.Given as goal
 abbrev pub invariant-loop-item : goal.invariant-loop-item
 invariant-loop-item l = record {
   ruled : first_some (keys_fault loss_rules) (tables_in (items_view (drop l.item-index l.items))) ≡ None;
-  value : map loss_of (tables_in (items_view l.items)) ≡ l.losses.items ++ map loss_of (tables_in (items_view (drop l.item-index l.items)));
+  value : map loss_of (tables_in (items_view l.items)) ≡ l.losses.items
+      ++ map loss_of (tables_in (items_view (drop l.item-index l.items)));
 }

@@ -9,5 +9,6 @@ use Rattle.net_scenario.proofs.places.places_of.Given as goal
 abbrev pub invariant-loop-item : goal.invariant-loop-item
 invariant-loop-item l = record {
   ruled : first_some (keys_fault mote_rules) (tables_in (items_view (drop l.item-index l.items))) ≡ None;
-  value : map place_told (tables_in (items_view l.items)) ≡ l.places.items ++ map place_told (tables_in (items_view (drop l.item-index l.items)));
+  value : map place_told (tables_in (items_view l.items)) ≡ l.places.items
+      ++ map place_told (tables_in (items_view (drop l.item-index l.items)));
 }

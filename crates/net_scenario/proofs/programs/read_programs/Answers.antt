@@ -9,4 +9,5 @@ loop-name-preserved c =
     rw c.in_ok-push.ensures.items (read_one _ _ _ _ _ so_far read)
 
 pub returns-clause-in_order : goal.returns-clause-in_order
-returns-clause-in_order c = read_in_order c.args.table.now _ c.iter-name-items.ensures.ordered (read_all _ _ (rw c.in-None.ensures.steps.0 at c.loop-name.invariant))
+returns-clause-in_order c = read_in_order c.args.table.now _ c.iter-name-items.ensures.ordered
+    (read_all _ _ (rw c.in-None.ensures.steps.0 at c.loop-name.invariant))

@@ -11,7 +11,9 @@ overflow_cast-result c =
     omega (arith, read.1)
 
 pub returns-in-Some-clause-shortest : goal.returns-in-Some-clause-shortest
-returns-in-Some-clause-shortest c = (length_read _ _ _ (length_kept _ _ _ c.requires (sym c.in-Some.ensures)) c.natural_at.ensures).0
+returns-in-Some-clause-shortest c = (length_read _ _ _ (length_kept _ _ _ c.requires (sym c.in-Some.ensures))
+    c.natural_at.ensures).0
 
 pub returns-in-Some-clause-longest : goal.returns-in-Some-clause-longest
-returns-in-Some-clause-longest c = (length_read _ _ _ (length_kept _ _ _ c.requires (sym c.in-Some.ensures)) c.natural_at.ensures).1
+returns-in-Some-clause-longest c = (length_read _ _ _ (length_kept _ _ _ c.requires (sym c.in-Some.ensures))
+    c.natural_at.ensures).1

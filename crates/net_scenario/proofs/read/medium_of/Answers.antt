@@ -17,17 +17,30 @@ pub table_at-table-requires : goal.table_at-table-requires
 table_at-table-requires c = table_kept _ _ (keeps_all _ top_rules _ (faultless _ c.requires).top 2 (lit< tt) refl)
 
 pub natural_at-range-requires : goal.natural_at-range-requires
-natural_at-range-requires c = natural_kept 100000 _ _ (lit≤ tt) (keeps_all (version_of (table_view c.args.top.now)) medium_rules (table_view c.table_at-table.result.now) (rw c.table_at-table.ensures (faultless _ c.requires).medium) 0 (lit< tt) refl)
+natural_at-range-requires c = natural_kept 100000 _ _ (lit≤ tt)
+    (keeps_all (version_of (table_view c.args.top.now)) medium_rules (table_view c.table_at-table.result.now)
+    (rw c.table_at-table.ensures (faultless _ c.requires).medium) 0 (lit< tt) refl)
 
 pub natural_at-base-requires : goal.natural_at-base-requires
-natural_at-base-requires c = natural_kept 1000000 _ _ (lit≤ tt) (keeps_all (version_of (table_view c.args.top.now)) medium_rules (table_view c.table_at-table.result.now) (rw c.table_at-table.ensures (faultless _ c.requires).medium) 1 (lit< tt) refl)
+natural_at-base-requires c = natural_kept 1000000 _ _ (lit≤ tt)
+    (keeps_all (version_of (table_view c.args.top.now)) medium_rules (table_view c.table_at-table.result.now)
+    (rw c.table_at-table.ensures (faultless _ c.requires).medium) 1 (lit< tt) refl)
 
 pub natural_at-per-requires : goal.natural_at-per-requires
-natural_at-per-requires c = natural_kept 1000000 _ _ (lit≤ tt) (keeps_all (version_of (table_view c.args.top.now)) medium_rules (table_view c.table_at-table.result.now) (rw c.table_at-table.ensures (faultless _ c.requires).medium) 2 (lit< tt) refl)
+natural_at-per-requires c = natural_kept 1000000 _ _ (lit≤ tt)
+    (keeps_all (version_of (table_view c.args.top.now)) medium_rules (table_view c.table_at-table.result.now)
+    (rw c.table_at-table.ensures (faultless _ c.requires).medium) 2 (lit< tt) refl)
 
 pub new-requires : goal.new-requires
 new-requires c =
-    rw (c.deref.ensures.value, c.deref-2.ensures.value, c.in_ok-places.ensures, c.in_ok-losses.ensures, c.items_at.ensures, c.items_at-2.ensures)
+    rw (
+      c.deref.ensures.value,
+      c.deref-2.ensures.value,
+      c.in_ok-places.ensures,
+      c.in_ok-losses.ensures,
+      c.items_at.ensures,
+      c.items_at-2.ensures,
+    )
     (within_limits (table_view c.args.top.now) (faultless _ c.requires) _ _ _
     (rw c.table_at-table.ensures at c.natural_at-range.ensures)
     (rw c.table_at-table.ensures at c.natural_at-base.ensures)

@@ -19,10 +19,12 @@ motes_of-requires-clause-queue c = rw c.table_if_any-queue.ensures (faultless _ 
 
 pub motes_of-requires-clause-read : goal.motes_of-requires-clause-read
 motes_of-requires-clause-read c =
-    rw (c.deref.ensures.value, c.items_at.ensures) (all_read _ _ _ (rw c.table_at.ensures at c.in_ok-programs.ensures.read) (faultless _ c.requires).programs)
+    rw (c.deref.ensures.value, c.items_at.ensures)
+    (all_read _ _ _ (rw c.table_at.ensures at c.in_ok-programs.ensures.read) (faultless _ c.requires).programs)
 
 pub natural_at-end-requires : goal.natural_at-end-requires
-natural_at-end-requires c = natural_kept 1000000 _ _ (lit≤ tt) (keeps_all _ top_rules _ (faultless _ c.requires).top 1 (lit< tt) refl)
+natural_at-end-requires c = natural_kept 1000000 _ _ (lit≤ tt)
+    (keeps_all _ top_rules _ (faultless _ c.requires).top 1 (lit< tt) refl)
 
 pub table_at-requires-2 : goal.table_at-requires-2
 table_at-requires-2 c = table_kept _ _ (keeps_all _ top_rules _ (faultless _ c.requires).top 2 (lit< tt) refl)
@@ -32,22 +34,29 @@ new-requires-clause-early c = early_end (table_view c.args.top.now) (faultless _
 
 pub new-requires-clause-some : goal.new-requires-clause-some
 new-requires-clause-some c =
-    let motes = rw (c.deref.ensures.value, c.table_if_any-queue.ensures, c.items_at.ensures) at c.in_ok-motes.ensures.value in
-    rw (mote_count (table_view c.args.top.now) c.in_ok-programs.programs.items _ _ motes) (some_motes _ (faultless _ c.requires))
+    let motes = rw (c.deref.ensures.value, c.table_if_any-queue.ensures, c.items_at.ensures)
+    at c.in_ok-motes.ensures.value in
+    rw (mote_count (table_view c.args.top.now) c.in_ok-programs.programs.items _ _ motes)
+    (some_motes _ (faultless _ c.requires))
 
 pub new-requires-clause-few : goal.new-requires-clause-few
 new-requires-clause-few c =
-    let motes = rw (c.deref.ensures.value, c.table_if_any-queue.ensures, c.items_at.ensures) at c.in_ok-motes.ensures.value in
-    rw (mote_count (table_view c.args.top.now) c.in_ok-programs.programs.items _ _ motes) (few_motes _ (faultless _ c.requires))
+    let motes = rw (c.deref.ensures.value, c.table_if_any-queue.ensures, c.items_at.ensures)
+    at c.in_ok-motes.ensures.value in
+    rw (mote_count (table_view c.args.top.now) c.in_ok-programs.programs.items _ _ motes)
+    (few_motes _ (faultless _ c.requires))
 
 pub new-requires-clause-placed : goal.new-requires-clause-placed
 new-requires-clause-placed c =
-    let motes = rw (c.deref.ensures.value, c.table_if_any-queue.ensures, c.items_at.ensures) at c.in_ok-motes.ensures.value in
-    place_count (table_view c.args.top.now) _ c.in_ok-medium.ensures ∙ sym (mote_count (table_view c.args.top.now) c.in_ok-programs.programs.items _ _ motes)
+    let motes = rw (c.deref.ensures.value, c.table_if_any-queue.ensures, c.items_at.ensures)
+    at c.in_ok-motes.ensures.value in
+    place_count (table_view c.args.top.now) _ c.in_ok-medium.ensures
+    ∙ sym (mote_count (table_view c.args.top.now) c.in_ok-programs.programs.items _ _ motes)
 
 pub returns : goal.returns
 returns c =
-    let motes = rw (c.deref.ensures.value, c.table_if_any-queue.ensures, c.items_at.ensures) at c.in_ok-motes.ensures.value in
+    let motes = rw (c.deref.ensures.value, c.table_if_any-queue.ensures, c.items_at.ensures)
+    at c.in_ok-motes.ensures.value in
     rw c.new.ensures
     (made (table_view c.args.top.now) _ _ _ c.in_ok-programs.programs.items _
     (rw c.table_at.ensures at c.in_ok-programs.ensures.read)

@@ -8,4 +8,5 @@ use Rattle.program_printer.proofs.unread_code.codes.Given as goal
 
 abbrev pub invariant-loop-place : goal.invariant-loop-place
 invariant-loop-place l =
-    map token_of l.out.items ++ flat_map code_tokens (drop l.place (codes_of_tree (tree_of l.program))) ≡ map token_of l.fn.out.items ++ flat_map code_tokens (codes_of_tree (tree_of l.program))
+    map token_of l.out.items ++ flat_map code_tokens (drop l.place (codes_of_tree (tree_of l.program)))
+    ≡ map token_of l.fn.out.items ++ flat_map code_tokens (codes_of_tree (tree_of l.program))

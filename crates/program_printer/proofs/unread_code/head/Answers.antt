@@ -11,7 +11,9 @@ returns c =
     let program = c.args.program.now in
     on_ok c.receiver.result
     (λ m. five_added _ _ _ _ _ _ _ _ _ _ _ c.in_ok-listed.ensures
-    (c.in_ok-valued.ensures ∙ ap (λ vs. map token_of c.listed.new.out.items ++ flat_map (valued_tokens word.Semaphore) (zip program.semaphores vs)) c.deref.ensures.value)
+    (c.in_ok-valued.ensures ∙ ap (λ vs. map token_of c.listed.new.out.items ++ flat_map (valued_tokens word.Semaphore)
+    (zip program.semaphores vs)) c.deref.ensures.value)
     c.in_ok-processes.ensures
-    (c.in_ok-autostart.ensures ∙ ap (λ ns. map token_of c.processes.new.out.items ++ autostart_tokens (map (λ i. get_or program.processes i []) ns)) c.deref-2.ensures.value)
+    (c.in_ok-autostart.ensures ∙ ap (λ ns. map token_of c.processes.new.out.items
+    ++ autostart_tokens (map (λ i. get_or program.processes i []) ns)) c.deref-2.ensures.value)
     m) c.receiver.ensures

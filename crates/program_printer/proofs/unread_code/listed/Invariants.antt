@@ -6,4 +6,5 @@ use Rattle.program_printer.proofs.unread_code.listed.Given as goal
 
 abbrev pub invariant-loop-place : goal.invariant-loop-place
 invariant-loop-place l =
-    map token_of l.out.items ++ flat_map (listed_tokens l.keyword) (drop l.place l.names) ≡ map token_of l.fn.out.items ++ flat_map (listed_tokens l.keyword) l.names
+    map token_of l.out.items ++ flat_map (listed_tokens l.keyword) (drop l.place l.names) ≡ map token_of l.fn.out.items
+    ++ flat_map (listed_tokens l.keyword) l.names

@@ -8,4 +8,5 @@ use Rattle.program_printer.proofs.unread_code.processes.Given as goal
 
 abbrev pub invariant-loop-place : goal.invariant-loop-place
 invariant-loop-place l =
-    map token_of l.out.items ++ flat_map comma_tokens (drop l.place l.names) ≡ map token_of l.fn.out.items ++ (token.Keyword word.Process ∷ token.Name (get_or l.names 0 []) ∷ flat_map comma_tokens (drop 1 l.names))
+    map token_of l.out.items ++ flat_map comma_tokens (drop l.place l.names) ≡ map token_of l.fn.out.items
+    ++ (token.Keyword word.Process ∷ token.Name (get_or l.names 0 []) ∷ flat_map comma_tokens (drop 1 l.names))

@@ -6,4 +6,5 @@ use Rattle.program_printer.proofs.unread_code.valued.Given as goal
 
 abbrev pub invariant-loop-place : goal.invariant-loop-place
 invariant-loop-place l =
-    map token_of l.out.items ++ flat_map (valued_tokens l.keyword) (drop l.place (zip l.names l.values)) ≡ map token_of l.fn.out.items ++ flat_map (valued_tokens l.keyword) (zip l.names l.values)
+    map token_of l.out.items ++ flat_map (valued_tokens l.keyword) (drop l.place (zip l.names l.values))
+    ≡ map token_of l.fn.out.items ++ flat_map (valued_tokens l.keyword) (zip l.names l.values)

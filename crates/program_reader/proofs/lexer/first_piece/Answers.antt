@@ -14,8 +14,10 @@ returns-then-is_blank-clause-piece c = blank_front c.args.rest.now c.requires (s
 
 pub returns-then-is_word_byte-clause-piece : goal.returns-then-is_word_byte-clause-piece
 returns-then-is_word_byte-clause-piece c =
-    rw c.word_token.ensures (word_front c.args.rest.now c.word_len-len.result (sym c.if-is_word_byte.ensures) c.word_len-len.ensures.len)
+    rw c.word_token.ensures (word_front c.args.rest.now c.word_len-len.result (sym c.if-is_word_byte.ensures)
+    c.word_len-len.ensures.len)
 
 pub returns-then-starts_with-clause-piece : goal.returns-then-starts_with-clause-piece
 returns-then-starts_with-clause-piece c =
-    comment_front c.args.rest.now c.line_len.result _ (sym c.if-starts_with.ensures.value) (c.line_len.ensures.len ∙ ap (prefix_len (λ b. not (is_feed b))) (take_rest c.args.rest.now 2)) refl
+    comment_front c.args.rest.now c.line_len.result _ (sym c.if-starts_with.ensures.value)
+    (c.line_len.ensures.len ∙ ap (prefix_len (λ b. not (is_feed b))) (take_rest c.args.rest.now 2)) refl

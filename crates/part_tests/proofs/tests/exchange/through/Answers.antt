@@ -1,4 +1,5 @@
-use Rattle.std.proofs.Common.{◌≡◌, ◌≢◌, ℕ, zero, suc, ◌+◌, ◌<◌, ◌==◌, Bool, false, cond, List, [], ◌∷◌, length, filter, slice_index, refl, sym, ap, ◌∙◌, subst, ⊎_elim, arith, ne_eqb}
+use Rattle.std.proofs.Common.{◌≡◌, ◌≢◌, ℕ, zero, suc, ◌+◌, ◌<◌, ◌==◌, Bool, false, cond, List, [], ◌∷◌, length, filter}
+use Rattle.std.proofs.Common.{slice_index, refl, sym, ap, ◌∙◌, subst, ⊎_elim, arith, ne_eqb}
 use Rattle.std.proofs.lemmas.Bool.Decides.{eqb_tells}
 use Rattle.std.specs.List.{AllByRecursion as Each}
 use Rattle.radio_packet.specs.declared.copy.RadioCopy.{RadioCopy}
@@ -31,19 +32,22 @@ own : (s w : ℕ) (out : List RadioCopy) → (s == w) ≡ false → Each (Across
 own s w [] e h = refl
 own s w (x ∷ xs) e h =
     let other : (x.sender == s) ≡ false = ne_eqb x.sender s (λ k. differ s w e (sym k ∙ h.0.0)) in
-    from-cons s x xs ∙ (ap (λ (b : Bool). cond b (x ∷ filter (is_from_sender s) xs) (filter (is_from_sender s) xs)) other ∙ own s w xs e h.1)
+    from-cons s x xs ∙ (ap (λ (b : Bool). cond b (x ∷ filter (is_from_sender s) xs) (filter (is_from_sender s) xs))
+    other ∙ own s w xs e h.1)
 
 pub deliver-requires-clause-leaves : goal.deliver-requires-clause-leaves
 deliver-requires-clause-leaves g c =
     let w : ℕ = c.args.courier.worker in
     let same = c.in_ok-taken.ensures.collects.stays.worker in
     let across = subst (Each (Across w)) (sym c.in_ok-sent.ensures.items) c.requires.out in
-    let all = each_map (Across w) (Leaves (0 ∷ 1 ∷ []) (length c.args.inboxes.now) w) c.in_ok-sent.sent.items (leaves (length c.args.inboxes.now) w c.requires.two) across in
+    let all = each_map (Across w) (Leaves (0 ∷ 1 ∷ []) (length c.args.inboxes.now) w) c.in_ok-sent.sent.items
+    (leaves (length c.args.inboxes.now) w c.requires.two) across in
     subst (λ (k : ℕ). Each (Leaves (0 ∷ 1 ∷ []) (length c.args.inboxes.now) k) c.in_ok-sent.sent.items) (sym same) all
 
 pub returns : goal.returns
 returns g c t set_out =
     let across = subst (Each (Across c.args.courier.worker)) (sym c.in_ok-sent.ensures.items) c.requires.out in
-    returns_from c.args.inboxes.now (0 ∷ 1 ∷ []) (λ s. s) t c.args.courier c.collect.new.self c.deliver.new.self c.in_ok-taken.taken.items c.in_ok-sent.sent.items set_out
+    returns_from c.args.inboxes.now (0 ∷ 1 ∷ []) (λ s. s) t c.args.courier c.collect.new.self c.deliver.new.self
+    c.in_ok-taken.taken.items c.in_ok-sent.sent.items set_out
     c.in_ok-taken.ensures.collects c.in_ok-deliver.ensures.delivers c.in_ok-deliver.ensures.courier
     (λ s other. own s c.args.courier.worker c.in_ok-sent.sent.items other across)

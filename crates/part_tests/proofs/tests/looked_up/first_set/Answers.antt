@@ -8,6 +8,10 @@ use Rattle.part_tests.proofs.tests.looked_up.first_set.Goals as goal
 pub bounds-starts-from : goal.bounds-starts-from
 bounds-starts-from c =
     let below =
-    first_set (tree_of c.args.program.now) c.args.process (code_of c.process-code.result.now) (block_of c.block.result.now) c.statements.result.now c.in_ok-action.field-0.now c.in-Do.action c.in-Assign.variable c.in-Assign.field-1
-    c.names_are_declared.ensures.declared c.process-code.ensures (c.block.ensures ∙ c.body.ensures.value) c.statements.ensures c.in_ok-action.ensures.value c.in-Do.is c.in-Assign.is in
-    subst (λ n. n < length c.starts.result.now) (sym c.from.ensures) (subst (λ l. c.in-Assign.variable < l) (sym c.starts.ensures.paired) below)
+    first_set (tree_of c.args.program.now) c.args.process (code_of c.process-code.result.now)
+    (block_of c.block.result.now) c.statements.result.now c.in_ok-action.field-0.now c.in-Do.action
+    c.in-Assign.variable c.in-Assign.field-1
+    c.names_are_declared.ensures.declared c.process-code.ensures (c.block.ensures ∙ c.body.ensures.value)
+    c.statements.ensures c.in_ok-action.ensures.value c.in-Do.is c.in-Assign.is in
+    subst (λ n. n < length c.starts.result.now) (sym c.from.ensures)
+    (subst (λ l. c.in-Assign.variable < l) (sym c.starts.ensures.paired) below)

@@ -7,19 +7,29 @@ use Rattle.program_printer.proofs.unread.Scoped.+unread.Goals as goal
 pub block-returns : goal.block-returns
 block-returns t c =
     on_ok c.add-2.result
-    (λ m. block_added (name_in (names_in c.args.self.now)) c.args.block.now.statements.items c.statements.statement-index _ _ _ (omega (arith, c.statements-test.false, ap length c.deref-statement-items.ensures.value)) c.statements.invariant m)
+    (λ m. block_added (name_in (names_in c.args.self.now)) c.args.block.now.statements.items
+    c.statements.statement-index _ _ _ (omega (
+      arith,
+      c.statements-test.false,
+      ap length
+          c.deref-statement-items.ensures.value,
+    )) c.statements.invariant m)
     c.add-2.ensures
 
 pub statement-returns-in-None : goal.statement-returns-in-None
 statement-returns-in-None t c =
-    if_added (name_in (names_in c.args.self.now)) c.in-If.test c.in-If.then _ _ _ _ c.in-If.otherwise c.in-If.is c.in-None.is c.in_ok-with_value-in-If.ensures c.in_ok-block-in-If.ensures
+    if_added (name_in (names_in c.args.self.now)) c.in-If.test c.in-If.then _ _ _ _ c.in-If.otherwise c.in-If.is
+    c.in-None.is c.in_ok-with_value-in-If.ensures c.in_ok-block-in-If.ensures
 
 pub statement-returns-in_ok-add-in-Some : goal.statement-returns-in_ok-add-in-Some
 statement-returns-in_ok-add-in-Some t c =
     on_ok c.block-in-Some.result
-    (λ m. else_added (name_in (names_in c.args.self.now)) c.in-If.test c.in-If.then _ _ _ _ c.in-If.otherwise c.in-Some.block _ _ c.in-If.is c.in-Some.is c.in_ok-with_value-in-If.ensures c.in_ok-block-in-If.ensures c.in_ok-add-in-Some.ensures m)
+    (λ m. else_added (name_in (names_in c.args.self.now)) c.in-If.test c.in-If.then _ _ _ _ c.in-If.otherwise
+    c.in-Some.block _ _ c.in-If.is c.in-Some.is c.in_ok-with_value-in-If.ensures c.in_ok-block-in-If.ensures
+    c.in_ok-add-in-Some.ensures m)
     c.block-in-Some.ensures
 
 pub statement-returns-in_ok-with_value-in-While : goal.statement-returns-in_ok-with_value-in-While
 statement-returns-in_ok-with_value-in-While t c =
-    on_ok c.block-in-While.result (λ m. while_added (name_in (names_in c.args.self.now)) c.in-While.test c.in-While.block _ _ _ _ c.in-While.is c.in_ok-with_value-in-While.ensures m) c.block-in-While.ensures
+    on_ok c.block-in-While.result (λ m. while_added (name_in (names_in c.args.self.now)) c.in-While.test
+    c.in-While.block _ _ _ _ c.in-While.is c.in_ok-with_value-in-While.ensures m) c.block-in-While.ensures

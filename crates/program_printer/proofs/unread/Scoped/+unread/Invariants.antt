@@ -8,5 +8,7 @@ use Rattle.program_printer.proofs.unread.Scoped.+unread.Given as goal
 
 abbrev pub invariant-block-statements : goal.invariant-block-statements
 invariant-block-statements l =
-    map token_of l.out.items ++ flat_map (λ s. statement_tokens (statement_map (name_in (names_in l.self)) (statement_of s))) (drop l.statement-index l.block.statements.items)
-    ≡ map token_of l.fn.out.items ++ (OpenBrace ∷ flat_map (λ s. statement_tokens (statement_map (name_in (names_in l.self)) (statement_of s))) l.block.statements.items)
+    map token_of l.out.items ++ flat_map (λ s. statement_tokens
+    (statement_map (name_in (names_in l.self)) (statement_of s))) (drop l.statement-index l.block.statements.items)
+    ≡ map token_of l.fn.out.items ++ (OpenBrace ∷ flat_map
+    (λ s. statement_tokens (statement_map (name_in (names_in l.self)) (statement_of s))) l.block.statements.items)

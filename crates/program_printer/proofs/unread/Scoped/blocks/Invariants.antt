@@ -9,4 +9,5 @@ use Rattle.program_printer.proofs.unread.Scoped.blocks.Given as goal
 abbrev pub invariant-loop-place : goal.invariant-loop-place
 invariant-loop-place l =
     let items = zip l.names (map (block_with (names_in l.self)) (map tree_in l.blocks)) in
-    map token_of l.out.items ++ flat_map (named_tokens l.keyword) (drop l.place items) ≡ map token_of l.fn.out.items ++ flat_map (named_tokens l.keyword) items
+    map token_of l.out.items ++ flat_map (named_tokens l.keyword) (drop l.place items) ≡ map token_of l.fn.out.items
+    ++ flat_map (named_tokens l.keyword) items

@@ -14,8 +14,11 @@ returns c =
     let names = names_in c.args.self.now in
     on_ok c.blocks-3.result
     (λ m. four_added _ _ _ _ _ _ _ _ _
-    (c.in_ok-valued.ensures ∙ ap (λ vs. map token_of c.args.out.now.items ++ flat_map (valued_tokens word.Var) (zip code.variables vs)) c.deref.ensures.value)
+    (c.in_ok-valued.ensures ∙ ap (λ vs. map token_of c.args.out.now.items ++ flat_map (valued_tokens word.Var)
+    (zip code.variables vs)) c.deref.ensures.value)
     c.in_ok-listed.ensures
-    (c.in_ok-blocks.ensures ∙ ap (λ bs. map token_of c.listed.new.out.items ++ flat_map (named_tokens word.Ctimer) (zip code.ctimers (map (block_with names) (map tree_in bs)))) c.deref-2.ensures.value)
-    (m ∙ ap (λ bs. map token_of c.blocks-2.new.out.items ++ flat_map (named_tokens word.Thread) (zip code.threads (map (block_with names) (map tree_in bs)))) c.deref-3.ensures.value))
+    (c.in_ok-blocks.ensures ∙ ap (λ bs. map token_of c.listed.new.out.items ++ flat_map (named_tokens word.Ctimer)
+    (zip code.ctimers (map (block_with names) (map tree_in bs)))) c.deref-2.ensures.value)
+    (m ∙ ap (λ bs. map token_of c.blocks-2.new.out.items ++ flat_map (named_tokens word.Thread)
+    (zip code.threads (map (block_with names) (map tree_in bs)))) c.deref-3.ensures.value))
     c.blocks-3.ensures

@@ -8,4 +8,5 @@ use Rattle.program_reader.proofs.cursor.Cursor.accept.Goals as goal
 pub returns-in-Some-Keyword-clause-there : goal.returns-in-Some-Keyword-clause-there
 returns-in-Some-Keyword-clause-there c =
     let same : c.in-Some-Keyword.found ≡ c.args.keyword = same_true the_type tt _ _ (sym c.eq.ensures ∙ c.if-eq.true) in
-    sym c.peek.ensures ∙ ap (option_map token_of) c.in-Some-Keyword.is ∙ ap (λ z. Some (token_of z)) c.in-Some-Keyword.field-0-is ∙ ap (λ k. Some (token.Keyword k)) same
+    sym c.peek.ensures ∙ ap (option_map token_of) c.in-Some-Keyword.is ∙ ap (λ z. Some (token_of z))
+    c.in-Some-Keyword.field-0-is ∙ ap (λ k. Some (token.Keyword k)) same

@@ -2,7 +2,8 @@ use Rattle.std.proofs.Common.{◌<◌, ap, arith, rules}
 use Rattle.program_reader.specs.Steps.{scope_of}
 use Rattle.program_tree.specs.Tree.{expression_of, negation}
 use Rattle.program_reader.proofs.Runs.{same_names, renumbered, refitted}
-use Rattle.program_reader.proofs.ValueLaws.{negation_reads, negation_numbered, sides_read, binary_reads, binary_numbered}
+use Rattle.program_reader.proofs.ValueLaws.{negation_reads, negation_numbered, sides_read, binary_reads}
+use Rattle.program_reader.proofs.ValueLaws.{binary_numbered}
 use Rattle.program_reader.proofs.reader.Reader.+expression.Goals as goal
 
 pub negation-returns : goal.negation-returns
@@ -11,22 +12,28 @@ negation-returns t c = record {
   same = search rules;
   ok =
       let low : c.args.place.now.level < 32 = omega (arith, c.requires.shallow, c.if-place-eq-LEVELS.false) in
-      negation_reads _ _ _ (negation (expression_of c.in_ok-new.field-0.value)) _ _ _ _ c.inner.ensures.context (ap (λ e. negation (expression_of e)) c.in_ok-new.ensures.ok) c.requires.here low c.advance.ensures c.in_ok-operand.ensures.ok;
+      negation_reads _ _ _ (negation (expression_of c.in_ok-new.field-0.value)) _ _ _ _ c.inner.ensures.context
+      (ap (λ e. negation (expression_of e)) c.in_ok-new.ensures.ok) c.requires.here low c.advance.ensures
+      c.in_ok-operand.ensures.ok;
   numbered =
-      negation_numbered _ (negation (expression_of c.in_ok-new.field-0.value)) _ (ap (λ e. negation (expression_of e)) c.in_ok-new.ensures.ok) c.in_ok-operand.ensures.numbered;
+      negation_numbered _ (negation (expression_of c.in_ok-new.field-0.value)) _
+      (ap (λ e. negation (expression_of e)) c.in_ok-new.ensures.ok) c.in_ok-operand.ensures.numbered;
   fits = search rules;
   err = search rules;
 }
 
 pub sides-returns-clause-ok : goal.sides-returns-clause-ok
 sides-returns-clause-ok t c =
-    sides_read _ _ _ _ _ _ _ _ _ _ _ (ap scope_of c.in_ok-left.ensures.same) c.in_ok-left.ensures.ok c.in_ok-operator.ensures.ok c.in_ok-right.ensures.ok c.in_ok-sign.ensures.ok
+    sides_read _ _ _ _ _ _ _ _ _ _ _ (ap scope_of c.in_ok-left.ensures.same) c.in_ok-left.ensures.ok
+    c.in_ok-operator.ensures.ok c.in_ok-right.ensures.ok c.in_ok-sign.ensures.ok
 
 pub sides-returns-clause-right_numbered : goal.sides-returns-clause-right_numbered
-sides-returns-clause-right_numbered t c = renumbered _ _ _ _ (same_names _ _ c.in_ok-left.ensures.same) c.in_ok-right.ensures.numbered
+sides-returns-clause-right_numbered t c = renumbered _ _ _ _ (same_names _ _ c.in_ok-left.ensures.same)
+    c.in_ok-right.ensures.numbered
 
 pub sides-returns-clause-right_fits : goal.sides-returns-clause-right_fits
-sides-returns-clause-right_fits t c = refitted _ _ _ _ (same_names _ _ c.in_ok-left.ensures.same) c.in_ok-right.ensures.fits
+sides-returns-clause-right_fits t c = refitted _ _ _ _ (same_names _ _ c.in_ok-left.ensures.same)
+    c.in_ok-right.ensures.fits
 
 pub binary-returns : goal.binary-returns
 binary-returns t c = record {
@@ -34,8 +41,10 @@ binary-returns t c = record {
   same = search rules;
   ok =
       let low : c.args.place.now.level < 32 = omega (arith, c.requires.shallow, c.if-place-eq-LEVELS.false) in
-      binary_reads _ _ _ _ _ _ _ _ _ _ c.inner.ensures.context c.in_ok-joined.ensures c.requires.here low c.advance.ensures c.in_ok-sides.ensures.ok;
-  numbered = binary_numbered _ _ _ _ _ c.in_ok-joined.ensures c.in_ok-sides.ensures.left_numbered c.in_ok-sides.ensures.right_numbered;
+      binary_reads _ _ _ _ _ _ _ _ _ _ c.inner.ensures.context c.in_ok-joined.ensures c.requires.here low
+      c.advance.ensures c.in_ok-sides.ensures.ok;
+  numbered = binary_numbered _ _ _ _ _ c.in_ok-joined.ensures c.in_ok-sides.ensures.left_numbered
+      c.in_ok-sides.ensures.right_numbered;
   fits = search rules;
   err = search rules;
 }

@@ -23,7 +23,8 @@ abbrev pub invariant-block-statements : goal.invariant-block-statements
 invariant-block-statements l = record {
   no_longer : length l.self.cursor ≤ length l.fn.self.cursor;
   names : fixed l.self.scope ≡ fixed l.fn.self.scope;
-  front : HasFront (scope_of l.fn.self.scope) (scope_of l.self.scope) (context_of l.place).thread (context_of l.place) (map statement_of l.statements.items) l.fn.self.cursor l.self.cursor;
+  front : HasFront (scope_of l.fn.self.scope) (scope_of l.self.scope) (context_of l.place).thread (context_of l.place)
+      (map statement_of l.statements.items) l.fn.self.cursor l.self.cursor;
 }
 
 abbrev pub decreases-block-statements : goal.decreases-block-statements

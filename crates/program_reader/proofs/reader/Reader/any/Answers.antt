@@ -16,6 +16,7 @@ pub returns-in_err-sent-in_default-clause-err : goal.returns-in_err-sent-in_defa
 returns-in_err-sent-in_default-clause-err c = λ f e.
     let p = err_from_is_err_and c.from_residual.result c.from_residual.ensures.1 in
     let r : p.0 ≡ refusal.Fault f = cc (p.1, e) in
-    let q : ◌≡◌ {A = Result SentEvent Refusal} (Err c.in_err-sent-in_default.field-0.0) (Err (refusal.Fault f)) = ap Err (sym p.2 ∙ r) in
+    let q : ◌≡◌ {A = Result SentEvent Refusal} (Err c.in_err-sent-in_default.field-0.0) (Err (refusal.Fault f)) =
+    ap Err (sym p.2 ∙ r) in
     let other : IsOther form.any (first c.args.self.now.cursor) = search rules in
     λ more. any_passes _ _ more _ other ∙ c.in_err-sent-in_default.ensures.err f q more

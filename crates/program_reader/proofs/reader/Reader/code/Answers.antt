@@ -14,15 +14,19 @@ pub returns-in_err-content-clause-err : goal.returns-in_err-content-clause-err
 returns-in_err-content-clause-err c = λ f e xs more.
     let p = err_from_is_err_and c.from_residual-in_err-content.result c.from_residual-in_err-content.ensures.1 in
     let r : p.0 ≡ refusal.Fault f = cc (p.1, e) in
-    let q : ◌≡◌ {A = Result Content Refusal} (Err c.in_err-content.field-0.0) (Err (refusal.Fault f)) = ap Err (sym p.2 ∙ r) in
-    (c.in_ok-opening_of.ensures.ok (scope_of c.args.self.now.scope)).goes_on xs more ∙ c.in_err-content.ensures.err f q (codes_form xs more)
+    let q : ◌≡◌ {A = Result Content Refusal} (Err c.in_err-content.field-0.0) (Err (refusal.Fault f)) =
+    ap Err (sym p.2 ∙ r) in
+    (c.in_ok-opening_of.ensures.ok (scope_of c.args.self.now.scope)).goes_on xs more ∙ c.in_err-content.ensures.err f q
+    (codes_form xs more)
 
 pub returns-in_err-last_brace-clause-err : goal.returns-in_err-last_brace-clause-err
 returns-in_err-last_brace-clause-err c = λ f e xs more.
     let p = err_from_is_err_and c.from_residual-in_err-last_brace.result c.from_residual-in_err-last_brace.ensures.1 in
     let r : p.0 ≡ refusal.Fault f = cc (p.1, e) in
-    let q : ◌≡◌ {A = Result (Unit {0}) Refusal} (Err c.in_err-last_brace.field-0.0) (Err (refusal.Fault f)) = ap Err (sym p.2 ∙ r) in
-    (c.in_ok-opening_of.ensures.ok (scope_of c.args.self.now.scope)).goes_on xs more ∙ c.in_ok-content.ensures.ok.goes_on (codes_form xs more)
+    let q : ◌≡◌ {A = Result (Unit {0}) Refusal} (Err c.in_err-last_brace.field-0.0) (Err (refusal.Fault f)) =
+    ap Err (sym p.2 ∙ r) in
+    (c.in_ok-opening_of.ensures.ok (scope_of c.args.self.now.scope)).goes_on xs more
+    ∙ c.in_ok-content.ensures.ok.goes_on (codes_form xs more)
     ∙ c.in_err-last_brace.ensures.err f q (scope_of c.content.new.self.scope) (codes_form xs more)
 
 pub invariant_of-result : goal.invariant_of-result
@@ -31,15 +35,18 @@ invariant_of-result c =
     let own = c.leave-own.ensures in
     record {
       few_variables = c.leave-own.result.few_variables;
-      paired = paired c.leave-own.result.variables c.in_ok-content.content.starts.items r.variables (own.variables ∙ ap (λ z. z.variables) r.names) r.started;
+      paired = paired c.leave-own.result.variables c.in_ok-content.content.starts.items r.variables
+          (own.variables ∙ ap (λ z. z.variables) r.names) r.started;
       few_timers = c.leave-own.result.few_timers;
       each_callback =
           sym (length-map c.in_ok-content.content.callbacks.items tree_in)
-          ∙ blocks_paired c.leave-own.result.ctimers (map tree_in c.in_ok-content.content.callbacks.items) r.ctimers (own.ctimers ∙ r.last_timers) r.called;
+          ∙ blocks_paired c.leave-own.result.ctimers (map tree_in c.in_ok-content.content.callbacks.items) r.ctimers
+          (own.ctimers ∙ r.last_timers) r.called;
       few_threads = c.leave-own.result.few_threads;
       each_thread =
           sym (length-map c.in_ok-content.content.thread_blocks.items tree_in)
-          ∙ blocks_paired c.leave-own.result.threads (map tree_in c.in_ok-content.content.thread_blocks.items) r.threads (own.threads ∙ ap (λ z. z.threads) r.names) r.threaded;
+          ∙ blocks_paired c.leave-own.result.threads (map tree_in c.in_ok-content.content.thread_blocks.items)
+          r.threads (own.threads ∙ ap (λ z. z.threads) r.names) r.threaded;
       body_within = c.in_ok-content.ensures.body;
       callbacks_within = c.in_ok-content.ensures.callbacks;
       threads_within = c.in_ok-content.ensures.threads;
@@ -51,6 +58,9 @@ invariant_of-result c =
 pub returns-clause-ok : goal.returns-clause-ok
 returns-clause-ok c =
     let own = c.leave-own.ensures in
-    code_read _ c.args.process _ c.content.new.self.scope.etimers c.content.new.self.scope.ctimers _ _ _ _ _ _ (scope_of c.args.self.now.scope) (scope_of c.content.new.self.scope) (scope_of c.leave-own.new.self) _ _ _ _
-    (c.in_ok-opening_of.ensures.ok (scope_of c.args.self.now.scope)) c.in_ok-content.ensures.ok c.in_ok-last_brace.ensures.spelled (λ f. c.in_ok-last_brace.ensures.ok (scope_of c.content.new.self.scope) f) own.left
+    code_read _ c.args.process _ c.content.new.self.scope.etimers c.content.new.self.scope.ctimers _ _ _ _ _ _
+    (scope_of c.args.self.now.scope) (scope_of c.content.new.self.scope) (scope_of c.leave-own.new.self) _ _ _ _
+    (c.in_ok-opening_of.ensures.ok (scope_of c.args.self.now.scope)) c.in_ok-content.ensures.ok
+    c.in_ok-last_brace.ensures.spelled (λ f. c.in_ok-last_brace.ensures.ok (scope_of c.content.new.self.scope) f)
+    own.left
     (same_made _ _ _ _ _ _ _ _ _ _ _ _ _ _ _ _ _ own.variables own.first_timer own.etimers own.ctimers own.threads)

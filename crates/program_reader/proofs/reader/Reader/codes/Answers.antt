@@ -6,46 +6,73 @@ use Rattle.program_reader.specs.Steps.{scope_of}
 use Rattle.program_reader.specs.declared.fault.Refusal.{Refusal}
 use Rattle.program_reader.specs.declared.fault.Refusal.TheVariants as refusal
 use Rattle.program_tree.specs.declared.process_text.ProcessText.{ProcessText}
-use Rattle.program_reader.proofs.CodesLaws.{behind_variables, behind_threads, still_no_timers, first_empty, second_empty, same_processes, loop_goes, loop_fails, loop_ends}
+use Rattle.program_reader.proofs.CodesLaws.{behind_variables, behind_threads, still_no_timers, first_empty}
+use Rattle.program_reader.proofs.CodesLaws.{second_empty, same_processes, loop_goes, loop_fails, loop_ends}
 use Rattle.program_reader.proofs.reader.Reader.codes.Goals as goal
 
 pub code-requires-clause-own : goal.code-requires-clause-own
 code-requires-clause-own c = record {
-  variables = ap (λ n. n.variables) c.codes.invariant.read.names ∙ behind_variables (scope_of c.args.self.now.scope).names (values_of c.codes.invariant.read.shapes) c.requires.variables;
-  etimers = first_empty _ _ (still_no_timers (scope_of c.args.self.now.scope) (scope_of c.codes.self.scope) _ _ _ _ _ _ refl c.requires.etimers c.requires.ctimers c.codes.invariant.read);
-  ctimers = second_empty _ _ (still_no_timers (scope_of c.args.self.now.scope) (scope_of c.codes.self.scope) _ _ _ _ _ _ refl c.requires.etimers c.requires.ctimers c.codes.invariant.read);
-  threads = ap (λ n. n.threads) c.codes.invariant.read.names ∙ behind_threads (scope_of c.args.self.now.scope).names (values_of c.codes.invariant.read.shapes) c.requires.threads;
+  variables = ap (λ n. n.variables) c.codes.invariant.read.names
+      ∙ behind_variables (scope_of c.args.self.now.scope).names (values_of c.codes.invariant.read.shapes)
+      c.requires.variables;
+  etimers = first_empty _ _ (still_no_timers (scope_of c.args.self.now.scope) (scope_of c.codes.self.scope) _ _ _ _ _ _
+      refl c.requires.etimers c.requires.ctimers c.codes.invariant.read);
+  ctimers = second_empty _ _ (still_no_timers (scope_of c.args.self.now.scope) (scope_of c.codes.self.scope) _ _ _ _ _
+      _ refl c.requires.etimers c.requires.ctimers c.codes.invariant.read);
+  threads = ap (λ n. n.threads) c.codes.invariant.read.names ∙ behind_threads (scope_of c.args.self.now.scope).names
+      (values_of c.codes.invariant.read.shapes) c.requires.threads;
 }
 
 pub returns-in_err-code-clause-err : goal.returns-in_err-code-clause-err
 returns-in_err-code-clause-err c = λ f e.
     let p = err_from_is_err_and c.from_residual.result c.from_residual.ensures.1 in
     let r : p.0 ≡ refusal.Fault f = cc (p.1, e) in
-    let q : ◌≡◌ {A = Result ProcessText Refusal} (Err c.in_err-code.field-0.0) (Err (refusal.Fault f)) = ap Err (sym p.2 ∙ r) in
+    let q : ◌≡◌ {A = Result ProcessText Refusal} (Err c.in_err-code.field-0.0) (Err (refusal.Fault f)) =
+    ap Err (sym p.2 ∙ r) in
     let low : c.len-in-codes-2.result < length c.codes.self.scope.processes = omega arith in
-    let is : c.len-in-codes-2.result ≡ length c.codes.codes.items = omega (arith, c.len-in-codes-2.ensures, c.codes.codes.ok) in
-    loop_fails (scope_of c.args.self.now.scope) (scope_of c.codes.self.scope) c.codes.codes.items c.len-in-codes-2.result _ _ _ is c.codes.invariant.read low (c.in_err-code.ensures.err f q)
+    let is : c.len-in-codes-2.result ≡ length c.codes.codes.items =
+    omega (arith, c.len-in-codes-2.ensures, c.codes.codes.ok) in
+    loop_fails (scope_of c.args.self.now.scope) (scope_of c.codes.self.scope) c.codes.codes.items
+    c.len-in-codes-2.result _ _ _ is c.codes.invariant.read low (c.in_err-code.ensures.err f q)
 
 pub codes-smaller : goal.codes-smaller
 codes-smaller c =
-    let same = same_processes (scope_of c.args.self.now.scope) (scope_of c.codes.self.scope) _ _ _ _ c.codes.invariant.read in
+    let same = same_processes (scope_of c.args.self.now.scope) (scope_of c.codes.self.scope) _ _ _ _
+    c.codes.invariant.read in
     let low : length c.codes.codes.items < length c.codes.self.scope.processes = omega arith in
-    let more : length c.push.new.self.items ≡ length c.codes.codes.items + 1 = omega (arith, ap length c.in_ok-push.ensures.items, length-append c.codes.codes.items (c.in_ok-code.code ∷ [])) in
+    let more : length c.push.new.self.items ≡ length c.codes.codes.items + 1 =
+    omega (
+      arith,
+      ap length c.in_ok-push.ensures.items,
+      length-append c.codes.codes.items
+          (c.in_ok-code.code ∷ []),
+    ) in
     omega (arith, ap length same, low, more)
 
 pub codes-preserved : goal.codes-preserved
 codes-preserved c =
-    let same = same_processes (scope_of c.args.self.now.scope) (scope_of c.codes.self.scope) _ _ _ _ c.codes.invariant.read in
+    let same = same_processes (scope_of c.args.self.now.scope) (scope_of c.codes.self.scope) _ _ _ _
+    c.codes.invariant.read in
     let low : c.len-in-codes-2.result < length c.codes.self.scope.processes = omega arith in
-    let is : c.len-in-codes-2.result ≡ length c.codes.codes.items = omega (arith, c.len-in-codes-2.ensures, c.codes.codes.ok) in
-    let more : length c.push.new.self.items ≡ length c.codes.codes.items + 1 = omega (arith, ap length c.in_ok-push.ensures.items, length-append c.codes.codes.items (c.in_ok-code.code ∷ [])) in
+    let is : c.len-in-codes-2.result ≡ length c.codes.codes.items =
+    omega (arith, c.len-in-codes-2.ensures, c.codes.codes.ok) in
+    let more : length c.push.new.self.items ≡ length c.codes.codes.items + 1 =
+    omega (
+      arith,
+      ap length c.in_ok-push.ensures.items,
+      length-append c.codes.codes.items
+          (c.in_ok-code.code ∷ []),
+    ) in
     record {
       few = omega (arith, ap length same, low, more, is);
-      read = loop_goes (scope_of c.args.self.now.scope) (scope_of c.codes.self.scope) _ c.codes.codes.items _ c.in_ok-code.code c.len-in-codes-2.result _ _ _ is c.in_ok-push.ensures.items c.codes.invariant.read low c.in_ok-code.ensures.ok;
+      read = loop_goes (scope_of c.args.self.now.scope) (scope_of c.codes.self.scope) _ c.codes.codes.items _
+          c.in_ok-code.code c.len-in-codes-2.result _ _ _ is c.in_ok-push.ensures.items c.codes.invariant.read low
+          c.in_ok-code.ensures.ok;
     }
 
 pub returns-clause-ok : goal.returns-clause-ok
 returns-clause-ok c =
-    let same = same_processes (scope_of c.args.self.now.scope) (scope_of c.codes.self.scope) _ _ _ _ c.codes.invariant.read in
+    let same = same_processes (scope_of c.args.self.now.scope) (scope_of c.codes.self.scope) _ _ _ _
+    c.codes.invariant.read in
     let full : length c.args.self.now.scope.processes ≤ length c.codes.codes.items = omega (arith, ap length same) in
     loop_ends (scope_of c.args.self.now.scope) (scope_of c.codes.self.scope) _ _ _ _ full c.codes.invariant.read

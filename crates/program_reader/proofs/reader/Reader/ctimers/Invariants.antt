@@ -13,7 +13,8 @@ invariant-ctimers l = record {
   no_longer : length l.self.cursor ≤ length l.fn.self.cursor;
   etimers : l.self.scope.etimers ≡ l.fn.self.scope.etimers;
   within : All (λ b. IsWithinLimits (tree_in b)) l.blocks.items;
-  reads : HasBlocks a_timer from_ctimers ctimer_marks (map tree_in l.blocks.items) (scope_of l.fn.self.scope) (scope_of l.self.scope) l.fn.self.cursor l.self.cursor;
+  reads : HasBlocks a_timer from_ctimers ctimer_marks (map tree_in l.blocks.items) (scope_of l.fn.self.scope)
+      (scope_of l.self.scope) l.fn.self.cursor l.self.cursor;
 }
 
 abbrev pub decreases-ctimers : goal.decreases-ctimers

@@ -10,7 +10,8 @@ abbrev pub invariant-etimers : goal.invariant-etimers
 invariant-etimers l = record {
   no_longer : length l.self.cursor ≤ length l.fn.self.cursor;
   ctimers : l.self.scope.ctimers ≡ [];
-  reads : HasNames a_timer from_etimers etimer_marks (scope_of l.fn.self.scope) (scope_of l.self.scope) l.fn.self.cursor l.self.cursor;
+  reads : HasNames a_timer from_etimers etimer_marks (scope_of l.fn.self.scope) (scope_of l.self.scope)
+      l.fn.self.cursor l.self.cursor;
 }
 
 abbrev pub decreases-etimers : goal.decreases-etimers

@@ -9,7 +9,8 @@ use Rattle.program_reader.proofs.reader.Reader.events.Given as goal
 abbrev pub invariant-events : goal.invariant-events
 invariant-events l = record {
   no_longer : length l.self.cursor ≤ length l.fn.self.cursor;
-  reads : HasNames an_event from_events event_marks (scope_of l.fn.self.scope) (scope_of l.self.scope) l.fn.self.cursor l.self.cursor;
+  reads : HasNames an_event from_events event_marks (scope_of l.fn.self.scope) (scope_of l.self.scope) l.fn.self.cursor
+      l.self.cursor;
 }
 
 abbrev pub decreases-events : goal.decreases-events

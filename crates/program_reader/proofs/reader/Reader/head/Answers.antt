@@ -10,36 +10,47 @@ pub returns-in_err-events-clause-err : goal.returns-in_err-events-clause-err
 returns-in_err-events-clause-err c = λ f e.
     let p = err_from_is_err_and c.from_residual.result c.from_residual.ensures.1 in
     let r : p.0 ≡ refusal.Fault f = cc (p.1, e) in
-    let q : ◌≡◌ {A = Result (Unit {0}) Refusal} (Err c.in_err-events.field-0.0) (Err (refusal.Fault f)) = ap Err (sym p.2 ∙ r) in
+    let q : ◌≡◌ {A = Result (Unit {0}) Refusal} (Err c.in_err-events.field-0.0) (Err (refusal.Fault f)) =
+    ap Err (sym p.2 ∙ r) in
     λ more. c.in_err-events.ensures.err f q more
 
 pub returns-in_err-counts-clause-err : goal.returns-in_err-counts-clause-err
 returns-in_err-counts-clause-err c = λ f e.
     let p = err_from_is_err_and c.from_residual-in_err-counts.result c.from_residual-in_err-counts.ensures.1 in
     let r : p.0 ≡ refusal.Fault f = cc (p.1, e) in
-    let q : ◌≡◌ {A = Result (Vec ℕ Global) Refusal} (Err c.in_err-counts.field-0.0) (Err (refusal.Fault f)) = ap Err (sym p.2 ∙ r) in
+    let q : ◌≡◌ {A = Result (Vec ℕ Global) Refusal} (Err c.in_err-counts.field-0.0) (Err (refusal.Fault f)) =
+    ap Err (sym p.2 ∙ r) in
     λ more. c.in_ok-events.ensures.ok.1.goes_on more ∙ c.in_err-counts.ensures.err f q more
 
 pub returns-in_err-processes-clause-err : goal.returns-in_err-processes-clause-err
 returns-in_err-processes-clause-err c = λ f e.
     let p = err_from_is_err_and c.from_residual-in_err-processes.result c.from_residual-in_err-processes.ensures.1 in
     let r : p.0 ≡ refusal.Fault f = cc (p.1, e) in
-    let q : ◌≡◌ {A = Result (Unit {0}) Refusal} (Err c.in_err-processes.field-0.0) (Err (refusal.Fault f)) = ap Err (sym p.2 ∙ r) in
-    λ more. c.in_ok-events.ensures.ok.1.goes_on more ∙ c.in_ok-counts.ensures.ok.2.goes_on more ∙ c.in_err-processes.ensures.err f q more
+    let q : ◌≡◌ {A = Result (Unit {0}) Refusal} (Err c.in_err-processes.field-0.0) (Err (refusal.Fault f)) =
+    ap Err (sym p.2 ∙ r) in
+    λ more. c.in_ok-events.ensures.ok.1.goes_on more ∙ c.in_ok-counts.ensures.ok.2.goes_on more
+    ∙ c.in_err-processes.ensures.err f q more
 
 pub returns-in_err-autostart-clause-err : goal.returns-in_err-autostart-clause-err
 returns-in_err-autostart-clause-err c = λ f e.
     let p = err_from_is_err_and c.from_residual-in_err-autostart.result c.from_residual-in_err-autostart.ensures.1 in
     let r : p.0 ≡ refusal.Fault f = cc (p.1, e) in
-    let q : ◌≡◌ {A = Result (Vec ℕ Global) Refusal} (Err c.in_err-autostart.field-0.0) (Err (refusal.Fault f)) = ap Err (sym p.2 ∙ r) in
-    λ more. c.in_ok-events.ensures.ok.1.goes_on more ∙ c.in_ok-counts.ensures.ok.2.goes_on more ∙ c.in_ok-processes.ensures.ok.goes_on more ∙ c.in_err-autostart.ensures.err f q c.in_ok-processes.ensures.ok.first c.in_ok-processes.ensures.ok.others more
+    let q : ◌≡◌ {A = Result (Vec ℕ Global) Refusal} (Err c.in_err-autostart.field-0.0) (Err (refusal.Fault f)) =
+    ap Err (sym p.2 ∙ r) in
+    λ more. c.in_ok-events.ensures.ok.1.goes_on more ∙ c.in_ok-counts.ensures.ok.2.goes_on more
+    ∙ c.in_ok-processes.ensures.ok.goes_on more ∙ c.in_err-autostart.ensures.err f q
+    c.in_ok-processes.ensures.ok.first c.in_ok-processes.ensures.ok.others more
 
 pub returns-in_err-receiver-clause-err : goal.returns-in_err-receiver-clause-err
 returns-in_err-receiver-clause-err c = λ f e.
     let p = err_from_is_err_and c.from_residual-in_err-receiver.result c.from_residual-in_err-receiver.ensures.1 in
     let r : p.0 ≡ refusal.Fault f = cc (p.1, e) in
-    let q : ◌≡◌ {A = Result (Option ℕ) Refusal} (Err c.in_err-receiver.field-0.0) (Err (refusal.Fault f)) = ap Err (sym p.2 ∙ r) in
-    λ more. c.in_ok-events.ensures.ok.1.goes_on more ∙ c.in_ok-counts.ensures.ok.2.goes_on more ∙ c.in_ok-processes.ensures.ok.goes_on more ∙ c.in_ok-autostart.ensures.ok.goes_on c.in_ok-processes.ensures.ok.first c.in_ok-processes.ensures.ok.others more ∙ c.in_err-receiver.ensures.err f q c.in_ok-processes.ensures.ok.first c.in_ok-processes.ensures.ok.others more
+    let q : ◌≡◌ {A = Result (Option ℕ) Refusal} (Err c.in_err-receiver.field-0.0) (Err (refusal.Fault f)) =
+    ap Err (sym p.2 ∙ r) in
+    λ more. c.in_ok-events.ensures.ok.1.goes_on more ∙ c.in_ok-counts.ensures.ok.2.goes_on more
+    ∙ c.in_ok-processes.ensures.ok.goes_on more ∙ c.in_ok-autostart.ensures.ok.goes_on
+    c.in_ok-processes.ensures.ok.first c.in_ok-processes.ensures.ok.others more ∙ c.in_err-receiver.ensures.err f q
+    c.in_ok-processes.ensures.ok.first c.in_ok-processes.ensures.ok.others more
 
 pub returns-clause-ok : goal.returns-clause-ok
 returns-clause-ok c =
@@ -55,6 +66,8 @@ returns-clause-ok c =
       events = c.in_ok-events.ensures.ok;
       semaphores = c.in_ok-counts.ensures.ok;
       processes = c.in_ok-processes.ensures.ok;
-      starting = subst (λ z. ReadsAutostart (scope_of c.processes.new.self.scope) z c.in_ok-autostart.autostart.items c.processes.new.self.cursor c.autostart.new.self.cursor) same c.in_ok-autostart.ensures.ok;
-      receiving = subst (λ z. ReadsReceiver z c.in_ok-receiver.receiver c.autostart.new.self.cursor c.receiver.new.self.cursor) same c.in_ok-receiver.ensures.ok;
+      starting = subst (λ z. ReadsAutostart (scope_of c.processes.new.self.scope) z c.in_ok-autostart.autostart.items
+          c.processes.new.self.cursor c.autostart.new.self.cursor) same c.in_ok-autostart.ensures.ok;
+      receiving = subst (λ z. ReadsReceiver z c.in_ok-receiver.receiver c.autostart.new.self.cursor
+          c.receiver.new.self.cursor) same c.in_ok-receiver.ensures.ok;
     }

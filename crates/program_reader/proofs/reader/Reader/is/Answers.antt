@@ -12,7 +12,9 @@ returns c = record {
   no_longer = search rules;
   same = search rules;
   ok =
-      told_reads _ _ word.Is any (λ n. any_map (name_in n an_event) (any_of c.in_ok-event.event)) _ _ _ _ _ c.requires.here refl c.advance.ensures c.in_ok-sign.ensures.ok c.in_ok-event.ensures.ok c.in_ok-sign-2.ensures.ok;
+      told_reads _ _ word.Is any (λ n. any_map (name_in n an_event) (any_of c.in_ok-event.event)) _ _ _ _ _
+      c.requires.here refl c.advance.ensures c.in_ok-sign.ensures.ok c.in_ok-event.ensures.ok
+      c.in_ok-sign-2.ensures.ok;
   numbered = λ n h. ap is (c.in_ok-event.ensures.numbered n h);
   fits = c.in_ok-event.ensures.fits;
   err = search rules;

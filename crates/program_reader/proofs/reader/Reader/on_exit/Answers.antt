@@ -4,4 +4,7 @@ use Rattle.program_reader.proofs.reader.Reader.on_exit.Goals as goal
 
 pub returns-clause-ok : goal.returns-clause-ok
 returns-clause-ok c =
-    on_exit_read _ _ _ _ _ _ c.if-not-accept.ensures.there c.if-not-accept.ensures.read c.in_ok-block.ensures.ok (fixed_names c.flat_block.new.self.scope c.args.self.now.scope c.in_ok-block.ensures.names) (fixed_starting c.flat_block.new.self.scope c.args.self.now.scope c.in_ok-block.ensures.names) c.in_ok-block.ensures.numbered
+    on_exit_read _ _ _ _ _ _ c.if-not-accept.ensures.there c.if-not-accept.ensures.read c.in_ok-block.ensures.ok
+    (fixed_names c.flat_block.new.self.scope c.args.self.now.scope c.in_ok-block.ensures.names)
+    (fixed_starting c.flat_block.new.self.scope c.args.self.now.scope c.in_ok-block.ensures.names)
+    c.in_ok-block.ensures.numbered

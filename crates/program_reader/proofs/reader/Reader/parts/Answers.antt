@@ -12,8 +12,10 @@ use Rattle.program_reader.proofs.reader.Reader.parts.Goals as goal
 pub last_codes-requires : goal.last_codes-requires
 last_codes-requires c = record {
   variables = (no_own_names _ _ _ _ _ _ (head_read _ _ _ _ _ _ _ c.requires.fresh c.in_ok-head.ensures.ok)).0;
-  etimers = first_empty _ _ (no_own_names _ _ _ _ _ _ (head_read _ _ _ _ _ _ _ c.requires.fresh c.in_ok-head.ensures.ok)).1;
-  ctimers = second_empty _ _ (no_own_names _ _ _ _ _ _ (head_read _ _ _ _ _ _ _ c.requires.fresh c.in_ok-head.ensures.ok)).1;
+  etimers = first_empty _ _ (no_own_names _ _ _ _ _ _ (head_read _ _ _ _ _ _ _ c.requires.fresh
+      c.in_ok-head.ensures.ok)).1;
+  ctimers = second_empty _ _ (no_own_names _ _ _ _ _ _ (head_read _ _ _ _ _ _ _ c.requires.fresh
+      c.in_ok-head.ensures.ok)).1;
   threads = (no_own_names _ _ _ _ _ _ (head_read _ _ _ _ _ _ _ c.requires.fresh c.in_ok-head.ensures.ok)).2;
 }
 
@@ -21,18 +23,24 @@ pub returns-in_err-codes-clause-err : goal.returns-in_err-codes-clause-err
 returns-in_err-codes-clause-err c = λ f e.
     let p = err_from_is_err_and c.from_residual-in_err-codes.result c.from_residual-in_err-codes.ensures.1 in
     let r : p.0 ≡ refusal.Fault f = cc (p.1, e) in
-    let q : ◌≡◌ {A = Result (Vec ProcessText Global) Refusal} (Err c.in_err-codes.field-0.0) (Err (refusal.Fault f)) = ap Err (sym p.2 ∙ r) in
-    head_goes _ _ _ _ _ _ (head_read _ _ _ _ _ _ _ c.requires.fresh c.in_ok-head.ensures.ok) ∙ c.in_err-codes.ensures.err f q
+    let q : ◌≡◌ {A = Result (Vec ProcessText Global) Refusal} (Err c.in_err-codes.field-0.0) (Err (refusal.Fault f)) =
+    ap Err (sym p.2 ∙ r) in
+    head_goes _ _ _ _ _ _ (head_read _ _ _ _ _ _ _ c.requires.fresh c.in_ok-head.ensures.ok)
+    ∙ c.in_err-codes.ensures.err f q
 
 pub returns-clause-made : goal.returns-clause-made
 returns-clause-made c =
     let s = c.last_codes.new.self.scope in
-    let timed : c.in_ok-timers.timers.items ≡ all_timers (map code_of c.in_ok-codes.codes.items) = c.in_ok-timers.ensures ∙ ap (λ xs. all_timers (map code_of xs)) c.deref.ensures.value in
-    let read = all_read _ _ _ _ _ _ _ _ (head_read _ _ _ _ _ _ _ c.requires.fresh c.in_ok-head.ensures.ok) c.in_ok-codes.ensures.ok in
+    let timed : c.in_ok-timers.timers.items ≡ all_timers (map code_of c.in_ok-codes.codes.items) =
+    c.in_ok-timers.ensures ∙ ap (λ xs. all_timers (map code_of xs)) c.deref.ensures.value in
+    let read = all_read _ _ _ _ _ _ _ _ (head_read _ _ _ _ _ _ _ c.requires.fresh c.in_ok-head.ensures.ok)
+    c.in_ok-codes.ensures.ok in
     let low : s.first_timer ≤ 64 = omega (arith, s.few_timers) in
     is_made _ _ _ _ _ _ read _ timed c.requires.lexed s.few_events s.few_semaphores s.few_processes low
 
 pub returns-clause-tree : goal.returns-clause-tree
 returns-clause-tree c =
-    let timed : c.in_ok-timers.timers.items ≡ all_timers (map code_of c.in_ok-codes.codes.items) = c.in_ok-timers.ensures ∙ ap (λ xs. all_timers (map code_of xs)) c.deref.ensures.value in
-    is_tree _ _ _ _ _ _ (all_read _ _ _ _ _ _ _ _ (head_read _ _ _ _ _ _ _ c.requires.fresh c.in_ok-head.ensures.ok) c.in_ok-codes.ensures.ok) _ timed
+    let timed : c.in_ok-timers.timers.items ≡ all_timers (map code_of c.in_ok-codes.codes.items) =
+    c.in_ok-timers.ensures ∙ ap (λ xs. all_timers (map code_of xs)) c.deref.ensures.value in
+    is_tree _ _ _ _ _ _ (all_read _ _ _ _ _ _ _ _ (head_read _ _ _ _ _ _ _ c.requires.fresh c.in_ok-head.ensures.ok)
+    c.in_ok-codes.ensures.ok) _ timed

@@ -9,15 +9,19 @@ use Rattle.program_reader.proofs.reader.Reader.semaphores.Goals as goal
 pub semaphores-preserved : goal.semaphores-preserved
 semaphores-preserved c = record {
   no_longer = omega (arith, c.in_ok-with_value.ensures.no_longer);
-  reads = semaphores_more _ _ _ _ _ _ _ _ _ c.semaphores.invariant.reads c.semaphores-test.ensures.there c.semaphores-test.ensures.read c.in_ok-with_value.ensures.ok;
+  reads = semaphores_more _ _ _ _ _ _ _ _ _ c.semaphores.invariant.reads c.semaphores-test.ensures.there
+      c.semaphores-test.ensures.read c.in_ok-with_value.ensures.ok;
 }
 
 pub returns-in_err-with_value-clause-err : goal.returns-in_err-with_value-clause-err
 returns-in_err-with_value-clause-err c = λ f e more.
     let p = err_from_is_err_and c.from_residual.result c.from_residual.ensures.1 in
     let r : p.0 ≡ refusal.Fault f = cc (p.1, e) in
-    let q : ◌≡◌ {A = Result (Unit {0}) Refusal} (Err c.in_err-with_value.field-0.0) (Err (refusal.Fault f)) = ap Err (sym p.2 ∙ r) in
-    semaphores_fail _ _ _ _ _ _ _ more c.semaphores.invariant.reads c.semaphores-test.ensures.there c.semaphores-test.ensures.read (c.in_err-with_value.ensures.err f q (from_semaphores ∷ more))
+    let q : ◌≡◌ {A = Result (Unit {0}) Refusal} (Err c.in_err-with_value.field-0.0) (Err (refusal.Fault f)) =
+    ap Err (sym p.2 ∙ r) in
+    semaphores_fail _ _ _ _ _ _ _ more c.semaphores.invariant.reads c.semaphores-test.ensures.there
+    c.semaphores-test.ensures.read (c.in_err-with_value.ensures.err f q (from_semaphores ∷ more))
 
 pub returns-clause-ok : goal.returns-clause-ok
-returns-clause-ok c = all_semaphores _ _ _ _ _ _ c.semaphores.invariant.reads (c.semaphores-test.ensures.other refl) (c.semaphores-test.ensures.same refl)
+returns-clause-ok c = all_semaphores _ _ _ _ _ _ c.semaphores.invariant.reads (c.semaphores-test.ensures.other refl)
+    (c.semaphores-test.ensures.same refl)

@@ -9,7 +9,8 @@ use Rattle.program_reader.proofs.reader.Reader.semaphores.Given as goal
 abbrev pub invariant-semaphores : goal.invariant-semaphores
 invariant-semaphores l = record {
   no_longer : length l.self.cursor ≤ length l.fn.self.cursor;
-  reads : HasValues a_semaphore from_semaphores semaphore_marks l.values.items (scope_of l.fn.self.scope) (scope_of l.self.scope) l.fn.self.cursor l.self.cursor;
+  reads : HasValues a_semaphore from_semaphores semaphore_marks l.values.items (scope_of l.fn.self.scope)
+      (scope_of l.self.scope) l.fn.self.cursor l.self.cursor;
 }
 
 abbrev pub decreases-semaphores : goal.decreases-semaphores

@@ -4,7 +4,8 @@ use Rattle.program_reader.specs.Steps.{scope_of}
 use Rattle.program_reader.proofs.reader.Reader.starting_names.Given as goal
 
 abbrev pub invariant-names : goal.invariant-names
-invariant-names l = HasStarting (scope_of l.fn.self.scope) (scope_of l.self.scope) l.numbers.items l.fn.self.cursor l.self.cursor
+invariant-names l = HasStarting (scope_of l.fn.self.scope) (scope_of l.self.scope) l.numbers.items l.fn.self.cursor
+    l.self.cursor
 
 abbrev pub decreases-names : goal.decreases-names
 decreases-names l = length l.self.cursor

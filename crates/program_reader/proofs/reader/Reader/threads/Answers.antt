@@ -13,31 +13,44 @@ use Rattle.program_reader.proofs.reader.Reader.threads.Goals as goal
 
 pub threads-preserved : goal.threads-preserved
 threads-preserved c =
-    let pushed : map tree_in c.push.new.self.items ≡ map tree_in c.threads.blocks.items ++ tree_in c.in_ok-block.block ∷ [] =
-    ap (map tree_in) c.in_ok-push.ensures.items ∙ map-append tree_in c.threads.blocks.items (c.in_ok-block.block ∷ []) in
+    let pushed : map tree_in c.push.new.self.items ≡ map tree_in c.threads.blocks.items ++ tree_in c.in_ok-block.block
+    ∷ [] =
+    ap (map tree_in) c.in_ok-push.ensures.items ∙ map-append tree_in c.threads.blocks.items
+    (c.in_ok-block.block ∷ []) in
     record {
       no_longer = omega (arith, c.in_ok-block.ensures.no_longer);
       etimers = c.in_ok-block.ensures.timers.etimers ∙ c.threads.invariant.etimers;
       ctimers = c.in_ok-block.ensures.timers.ctimers ∙ c.threads.invariant.ctimers;
       counted =
-          ap (λ z. length z.threads) c.in_ok-block.ensures.ok.added ∙ length-append c.threads.self.scope.threads (c.in_ok-block.ensures.ok.name ∷ [])
-          ∙ ap (λ k. k + 1) c.threads.invariant.counted ∙ sym (ap length c.in_ok-push.ensures.items ∙ length-append c.threads.blocks.items (c.in_ok-block.block ∷ []));
+          ap (λ z. length z.threads) c.in_ok-block.ensures.ok.added ∙ length-append c.threads.self.scope.threads
+          (c.in_ok-block.ensures.ok.name ∷ [])
+          ∙ ap (λ k. k + 1) c.threads.invariant.counted
+          ∙ sym (ap length c.in_ok-push.ensures.items ∙ length-append c.threads.blocks.items
+          (c.in_ok-block.block ∷ []));
       earlier =
-          earlier_more (map tree_in c.threads.blocks.items) _ (tree_in c.in_ok-block.block) (length c.threads.self.scope.threads) c.threads.invariant.earlier
-          (c.threads.invariant.counted ∙ sym (length-map c.threads.blocks.items tree_in)) c.in_ok-block.ensures.earlier pushed;
+          earlier_more (map tree_in c.threads.blocks.items) _ (tree_in c.in_ok-block.block)
+          (length c.threads.self.scope.threads) c.threads.invariant.earlier
+          (c.threads.invariant.counted ∙ sym (length-map c.threads.blocks.items tree_in)) c.in_ok-block.ensures.earlier
+          pushed;
       within =
           subst (λ z. All (λ b. IsWithinLimits (tree_in b)) z) (sym c.in_ok-push.ensures.items)
-          (All-append (λ b. IsWithinLimits (tree_in b)) c.threads.blocks.items (c.in_ok-block.block ∷ []) c.threads.invariant.within
-          (All-cons (λ b. IsWithinLimits (tree_in b)) c.in_ok-block.block [] c.in_ok-block.ensures.within (All-nil (λ b. IsWithinLimits (tree_in b)))));
-      reads = thread_more _ _ _ _ _ _ _ _ _ _ c.threads.invariant.reads c.threads-test.ensures.there c.threads-test.ensures.read c.in_ok-block.ensures.ok pushed;
+          (All-append (λ b. IsWithinLimits (tree_in b)) c.threads.blocks.items (c.in_ok-block.block ∷ [])
+          c.threads.invariant.within
+          (All-cons (λ b. IsWithinLimits (tree_in b)) c.in_ok-block.block [] c.in_ok-block.ensures.within
+          (All-nil (λ b. IsWithinLimits (tree_in b)))));
+      reads = thread_more _ _ _ _ _ _ _ _ _ _ c.threads.invariant.reads c.threads-test.ensures.there
+          c.threads-test.ensures.read c.in_ok-block.ensures.ok pushed;
     }
 
 pub returns-in_err-block-clause-err : goal.returns-in_err-block-clause-err
 returns-in_err-block-clause-err c = λ f e more.
     let p = err_from_is_err_and c.from_residual.result c.from_residual.ensures.1 in
     let r : p.0 ≡ refusal.Fault f = cc (p.1, e) in
-    let q : ◌≡◌ {A = Result FlatBlock Refusal} (Err c.in_err-block.field-0.0) (Err (refusal.Fault f)) = ap Err (sym p.2 ∙ r) in
-    threads_fail _ _ _ _ _ _ _ more c.threads.invariant.reads c.threads-test.ensures.there c.threads-test.ensures.read (c.in_err-block.ensures.err f q)
+    let q : ◌≡◌ {A = Result FlatBlock Refusal} (Err c.in_err-block.field-0.0) (Err (refusal.Fault f)) =
+    ap Err (sym p.2 ∙ r) in
+    threads_fail _ _ _ _ _ _ _ more c.threads.invariant.reads c.threads-test.ensures.there c.threads-test.ensures.read
+    (c.in_err-block.ensures.err f q)
 
 pub returns-clause-ok : goal.returns-clause-ok
-returns-clause-ok c = thread_all _ _ _ _ _ _ c.threads.invariant.reads (c.threads-test.ensures.other refl) (c.threads-test.ensures.same refl)
+returns-clause-ok c = thread_all _ _ _ _ _ _ c.threads.invariant.reads (c.threads-test.ensures.other refl)
+    (c.threads-test.ensures.same refl)

@@ -17,7 +17,8 @@ invariant-threads l = record {
   counted : length l.self.scope.threads ≡ length l.blocks.items;
   earlier : threads_fit earlier_threads 0 (map tree_in l.blocks.items) ≡ true;
   within : All (λ b. IsWithinLimits (tree_in b)) l.blocks.items;
-  reads : HasBlocks a_thread from_threads thread_marks (map tree_in l.blocks.items) (scope_of l.fn.self.scope) (scope_of l.self.scope) l.fn.self.cursor l.self.cursor;
+  reads : HasBlocks a_thread from_threads thread_marks (map tree_in l.blocks.items) (scope_of l.fn.self.scope)
+      (scope_of l.self.scope) l.fn.self.cursor l.self.cursor;
 }
 
 abbrev pub decreases-threads : goal.decreases-threads

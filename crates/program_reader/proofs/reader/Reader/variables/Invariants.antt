@@ -11,7 +11,8 @@ invariant-variables l = record {
   no_longer : length l.self.cursor ≤ length l.fn.self.cursor;
   etimers : l.self.scope.etimers ≡ l.fn.self.scope.etimers;
   ctimers : l.self.scope.ctimers ≡ l.fn.self.scope.ctimers;
-  reads : HasValues a_variable from_variables variable_marks l.values.items (scope_of l.fn.self.scope) (scope_of l.self.scope) l.fn.self.cursor l.self.cursor;
+  reads : HasValues a_variable from_variables variable_marks l.values.items (scope_of l.fn.self.scope)
+      (scope_of l.self.scope) l.fn.self.cursor l.self.cursor;
 }
 
 abbrev pub decreases-variables : goal.decreases-variables

@@ -6,7 +6,11 @@ pub returns-in-Some-clause-place : goal.returns-in-Some-clause-place
 returns-in-Some-clause-place c = sym (place_left _ _ _ _ (sym c.place_of.ensures.place ∙ c.in-Some.is))
 
 pub returns-in_ok-place-in-None-clause-place : goal.returns-in_ok-place-in-None-clause-place
-returns-in_ok-place-in-None-clause-place c = sym (place_in_second _ _ _ _ _ (sym c.place_of.ensures.place ∙ c.in-None.is) (sym c.place_of-in-None.ensures.place ∙ c.in_ok-place-in-None.was) c.len.ensures)
+returns-in_ok-place-in-None-clause-place c = sym
+    (place_in_second _ _ _ _ _ (sym c.place_of.ensures.place ∙ c.in-None.is) (sym c.place_of-in-None.ensures.place
+    ∙ c.in_ok-place-in-None.was) c.len.ensures)
 
 pub returns-in_err-place-in-None-clause-place : goal.returns-in_err-place-in-None-clause-place
-returns-in_err-place-in-None-clause-place c = c.from_residual.ensures ∙ sym (place_in_neither _ _ _ (sym c.place_of.ensures.place ∙ c.in-None.is) (sym c.place_of-in-None.ensures.place ∙ c.in_err-place-in-None.was))
+returns-in_err-place-in-None-clause-place c =
+    c.from_residual.ensures ∙ sym (place_in_neither _ _ _ (sym c.place_of.ensures.place ∙ c.in-None.is)
+    (sym c.place_of-in-None.ensures.place ∙ c.in_err-place-in-None.was))
