@@ -245,7 +245,7 @@ gather_as v u w items counts k n pushed number c seen t r e num is sum =
     subst (λ (y : View × ℕ × Count × ℕ). IsTaker y.0 (set counts y.1 y.2) y.3) (λ i. (sym w' i, sym num i, sym is' i, sym sum' i)) end
 
 -- ---- for the answers
-byte_is : (b : Bool) → bool_byte b ≡ cond b 1 0
+pub byte_is : (b : Bool) → bool_byte b ≡ cond b 1 0
 byte_is true = refl
 byte_is false = refl
 
@@ -267,7 +267,7 @@ none_known v counts k t seen =
     known-is d.gathered d.taken [] (adds_of d s.0 s.1 [] s.2) ∙ tally-nil d.gathered
 
 -- what is kept of the sender of the item
-next_kept : (v : View) (counts : List Count) (k : ℕ) (x : Item) (rest : List Item) (c : Count) → IsTaker v counts k → SeenBy v (x ∷ rest) → c ≡ get_or counts x.sender c
+pub next_kept : (v : View) (counts : List Count) (k : ℕ) (x : Item) (rest : List Item) (c : Count) → IsTaker v counts k → SeenBy v (x ∷ rest) → c ≡ get_or counts x.sender c
     → c ≡ count (length (part x.sender (desk_in v).taken)) (is_gathered (desk_in v).gathered x.sender)
 next_kept v counts k x rest c t seen at =
     let below = next_below v counts k x rest t seen in
@@ -301,7 +301,7 @@ next_leaves v w counts k x rest c n t seen e at is =
     let kept = next_kept v counts k x rest c t seen at in
     took_as v w x rest counts k (k - n) n (count (c.taken + 1) c.gathered) seen e t d.0 (omega arith) (λ i. count ((kept i).taken + 1) (kept i).gathered)
 
-joined_seen : (v u w : View) (counts : List Count) (k pushed : ℕ) (items : List Item) → IsTaker v counts k → IsSender u pushed → w ≡ with_gathered v u → SeenBy w items → SoundWith (joined_desk (desk_in v) (post_in u)) items
+pub joined_seen : (v u w : View) (counts : List Count) (k pushed : ℕ) (items : List Item) → IsTaker v counts k → IsSender u pushed → w ≡ with_gathered v u → SeenBy w items → SoundWith (joined_desk (desk_in v) (post_in u)) items
 joined_seen v u w counts k pushed items t r e seen = seen_sound w (joined_desk (desk_in v) (post_in u)) items (joined_is v u w t.is r.is e) seen
 
 pub joined_index : (v u w : View) (counts : List Count) (k pushed number : ℕ) (items : List Item) → IsTaker v counts k → IsSender u pushed → number ≡ (post_in u).number → w ≡ with_gathered v u → SeenBy w items → number < length counts

@@ -6,9 +6,11 @@ ghost use Rattle.copy_inbox.specs.declared.inbox.InboxError.TheVariants.{Memory}
 ghost use Rattle.copy_inbox.specs.Items.{is_packet, Packets, part, BeginsWith, OfMade};
 ghost use Rattle.copy_inbox.specs.Gathered.{known_of, TookFronts, Whole, Later, NoOthers};
 ghost use Rattle.copy_inbox.specs.Views.{make_desk, make_post};
-ghost use Rattle.copy_inbox.specs.Handles.{InboxId, TakerView, SenderView, after_sender, after_pushing, after_gather, after_taking, TakesCopies, Empties, AllGathered, NoMarkLeft, TakesPackets, desk_in, post_in, IsTaker, IsSender, IsNextTaken};
+ghost use Rattle.copy_inbox.specs.Handles.{InboxId, TakerView, SenderView, after_sender, after_pushing, after_gather, after_taking, TakesCopies, Empties, AllGathered, NoMarkLeft, TakesPackets, desk_in, post_in, IsSender, IsNextTaken};
+ghost use Rattle.copy_inbox.specs.Kept.{KeepsCounts};
 
-use crate::count::Count;
+use crate::bell::Bell;
+use crate::count::{Count, count_taken, forget_first};
 use crate::items::{Carried, Item};
 use crate::rule::{Gathers, Makes, Marks, Pushes, Ruled, Takes, View};
 use crossbeam_queue::{RuledSegQueue, SegPass};
@@ -18,6 +20,7 @@ use std::error::Error;
 use std::fmt;
 use std::marker::Model;
 use std::sync::Wait;
+use std::time::Duration;
 
 // The most that one sender may push.
 const MOST: u64 = 1 << 62;
@@ -52,6 +55,7 @@ impl From<AllocError> for InboxError {
 /// has pushed, and what the taker has taken and gathered.
 pub struct Inbox {
     queue: RuledSegQueue<Item, View, Ruled>,
+    bell: Bell,
     alloc: Global,
 }
 
@@ -64,6 +68,9 @@ impl Model for Inbox {
 /// The one that makes and gathers the senders of an inbox, and takes what they push.
 pub struct Taker {
     pass: SegPass<Item, View>,
+    /// How many of its senders, the first ones, aren't counted any more.
+    first: u64,
+    /// The counts of its other senders.
     counts: Vec<Count>,
     known: u64,
 }
@@ -73,7 +80,7 @@ impl Model for Taker {
 
     ghost view = { λ t. record { inbox = record { web = t.pass.web; heap = t.pass.heap }; desk = desk_in t.pass.me.view.client } };
 
-    ghost invariant = { λ t. IsTaker t.pass.me.view.client t.counts.items t.known × (t.pass.me.hand ≡ None) × (t.pass.me.spare ≡ None) };
+    ghost invariant = { λ t. KeepsCounts t.pass.me.view.client t.first t.counts.items t.known × (t.pass.me.hand ≡ None) × (t.pass.me.spare ≡ None) };
 }
 
 /// One that pushes copies and marks into an inbox.
@@ -96,6 +103,7 @@ impl Drop for Taker {
     fn drop(self) {
         let Taker {
             pass: _,
+            first: _,
             counts: _,
             known: _,
         } = self;
@@ -130,13 +138,14 @@ impl Sender {
         inbox.queue.absorb::<Gathers>(&mut taker.pass, pass);
         // A look at the queue's length tells the proof that the rule holds, and that the counts fit.
         let _held = inbox.queue.len_as::<Takes, R>(rt, &mut taker.pass);
-        let index = number as usize;
+        let index = (number - taker.first) as usize;
         let count = taker.counts[index];
         taker.known += pushed - count.taken;
         taker.counts[index] = Count {
             taken: count.taken,
             gathered: true,
         };
+        forget_first(&mut taker.first, &mut taker.counts);
     }
 }
 
@@ -149,10 +158,16 @@ impl Inbox {
         let (queue, pass) = RuledSegQueue::with_rule(alloc)?;
         let taker = Taker {
             pass,
+            first: 0,
             counts: Vec::new(alloc),
             known: 0,
         };
-        Ok((Inbox { queue, alloc }, taker))
+        let inbox = Inbox {
+            queue,
+            bell: Bell::new(),
+            alloc,
+        };
+        Ok((inbox, taker))
     }
 
     /// As [`Inbox::make`], for an inbox with marks.
@@ -175,7 +190,7 @@ impl Inbox {
         ensures refused { OnErr result (taker.new ≡ taker.old) }
     {
         taker.counts.reserve(1)?;
-        let number = taker.counts.len() as u64;
+        let number = taker.first + taker.counts.len() as u64;
         let pass = self.queue.another::<Makes>(&mut taker.pass);
         taker.counts.push_reserved(Count {
             taken: 0,
@@ -217,7 +232,15 @@ impl Inbox {
         ensures refused { OnErr result (sender.new ≡ sender.old) }
     {
         self.push(rt, sender, Carried::Mark(window))
-            .map_err(|_| window)
+            .map_err(|_| window)?;
+        self.bell.ring();
+        Ok(())
+    }
+
+    /// Lets the taker sleep until so many marks have been pushed in all, but no longer than `longest`, and perhaps not
+    /// as long.
+    pub fn wait_for_marks<R: Wait>(&self, rt: &R, marks: u64, longest: Duration) {
+        self.bell.sleep(rt, marks, longest);
     }
 
     // Adds a copy, or a mark where the inbox has such, to what the sender has pushed.
@@ -277,13 +300,8 @@ impl Inbox {
         ensures none { IfNone result (known_of taker.old.desk.gathered taker.old.desk.taken ≡ 0) }
     {
         let item = self.queue.pop_as::<Takes, R>(rt, &mut taker.pass)?;
-        let index = item.sender as usize;
-        let count = taker.counts[index];
-        taker.known -= u64::from(count.gathered);
-        taker.counts[index] = Count {
-            taken: count.taken + 1,
-            gathered: count.gathered,
-        };
+        let gathered = count_taken(taker.first, &mut taker.counts, item.sender);
+        taker.known -= u64::from(gathered);
         Some(item)
     }
 
@@ -361,7 +379,11 @@ impl Inbox {
 
 impl Drop for Inbox {
     fn drop(self) {
-        let Self { queue, alloc: _ } = self;
+        let Self {
+            queue,
+            bell: _,
+            alloc: _,
+        } = self;
         queue.destroy();
     }
 }

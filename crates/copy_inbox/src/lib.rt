@@ -1,6 +1,7 @@
 //! An inbox: many threads push copies of packets into it, and one takes them. No copy is lost, doubled or made up.
 #![tactic(auto)]
 
+mod bell;
 mod count;
 mod inbox;
 mod items;

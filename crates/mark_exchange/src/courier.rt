@@ -10,6 +10,7 @@ ghost use Rattle.mark_exchange.specs.Marks.{Counts, AllPast};
 
 use crate::heard::no_marks;
 use crate::take::{MarkError, Standing, take_marks};
+use crate::wait::Waiting;
 use copy_exchange::Courier;
 use copy_inbox::{Inbox, InboxError};
 use radio_packet::RadioCopy;
@@ -23,6 +24,7 @@ pub struct MarkCourier {
     pub courier: Courier,
     /// By the senders' numbers.
     pub marks: Vec<u64>,
+    pub waiting: Waiting,
 }
 
 impl MarkCourier {
@@ -34,7 +36,11 @@ impl MarkCourier {
         ensures counts { IfOk result (λ made. Counts made.marks.items courier.taker.desk) }
     {
         let marks = no_marks(alloc, senders)?;
-        Ok(MarkCourier { courier, marks })
+        Ok(MarkCourier {
+            courier,
+            marks,
+            waiting: Waiting::new(),
+        })
     }
 
     /// Pushes the copies of a window, each to the worker of its receiver, and then the window's mark to each other
@@ -83,7 +89,11 @@ impl MarkCourier {
         ensures senders { self.new.courier.senders ≡ self.old.courier.senders }
         ensures undue { IfErr result (λ error. error ≡ Undue → TakesUndue standing.now.of.now standing.now.worker standing.now.from self.old.courier.taker self.new.courier.taker) }
     {
-        let MarkCourier { courier, marks } = self;
+        let MarkCourier {
+            courier,
+            marks,
+            waiting,
+        } = self;
         take_marks(
             rt,
             alloc,
@@ -93,6 +103,7 @@ impl MarkCourier {
             &mut courier.taker,
             marks,
             window,
+            waiting,
         )
     }
 }

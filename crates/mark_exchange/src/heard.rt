@@ -28,3 +28,15 @@ pub fn all_past(marks: &[u64], window: u64) -> bool
     }
     true
 }
+
+/// How many marks will have come of all senders together once of each more than this have.
+pub fn marks_wanted(marks: &[u64], window: u64) -> u64 {
+    let mut wanted: u64 = 0;
+    for count in marks {
+        wanted = wanted.wrapping_add(*count);
+        if *count <= window {
+            wanted = wanted.wrapping_add(1);
+        }
+    }
+    wanted
+}

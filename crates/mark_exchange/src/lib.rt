@@ -6,6 +6,8 @@ mod courier;
 mod heard;
 pub mod laws;
 mod take;
+mod wait;
 
 pub use courier::MarkCourier;
 pub use take::{MarkError, Standing};
+pub use wait::Waiting;

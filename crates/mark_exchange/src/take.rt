@@ -9,15 +9,12 @@ ghost use Rattle.mark_exchange.specs.Due.{IsDue, AddsCopy, Refuses, TakesDue, Ta
 ghost use Rattle.mark_exchange.specs.Marks.{Counts, AllPast};
 
 use crate::heard::all_past;
+use crate::wait::{Waiting, wait};
 use copy_inbox::{Carried, Inbox, Item, Taker};
 use radio_packet::RadioCopy;
 use std::alloc::{AllocError, AllocFailed, Global};
 use std::sync::Wait;
-use std::sync::atomic::{AtomicBool, Ordering};
-use std::thread;
-
-// How often a worker that finds nothing looks again before it yields the processor.
-const LOOKS: u32 = 100;
+use std::sync::atomic::AtomicBool;
 
 /// Why a worker took no further.
 #[derive(Clone, Copy, Debug, PartialEq, Eq)]
@@ -107,33 +104,6 @@ fn hear(
     Ok(())
 }
 
-/// A worker's wait for its next item.
-#[derive(Drop)]
-struct Waiting {
-    /// Whether it saw the flag set.
-    stopped: bool,
-    /// How often it has found nothing.
-    looks: u32,
-}
-
-/// After a look that found nothing: gives up where the flag is set, and else lets some time pass.
-fn wait(stop: &AtomicBool, waiting: &mut Waiting) -> Result<(), MarkError>
-    ensures seen { OnErr result (IsTrue waiting.new.stopped) }
-    ensures stopped { IfErr result (λ error. error ≡ Stopped) }
-{
-    waiting.stopped = stop.load(Ordering::SeqCst);
-    if waiting.stopped {
-        return Err(MarkError::Stopped);
-    }
-    if waiting.looks < LOOKS {
-        waiting.looks += 1;
-        std::hint::spin_loop();
-    } else {
-        thread::yield_now();
-    }
-    Ok(())
-}
-
 /// As [`take_marks`]; it notes whether it saw the flag set.
 fn take_waiting<R: Wait>(
     rt: &R,
@@ -160,11 +130,8 @@ fn take_waiting<R: Wait>(
             return Ok(arrived);
         }
         match inbox.take_next(rt, taker) {
-            Some(item) => {
-                hear(standing, marks, &mut arrived, item)?;
-                waiting.looks = 0;
-            }
-            None => wait(stop, waiting)?,
+            Some(item) => hear(standing, marks, &mut arrived, item)?,
+            None => wait(rt, inbox, stop, marks, window, waiting)?,
         }
     }
     unreachable!()
@@ -183,6 +150,7 @@ pub fn take_marks<R: Wait>(
     taker: &mut Taker,
     marks: &mut Vec<u64>,
     window: u64,
+    waiting: &mut Waiting,
 ) -> Result<Vec<RadioCopy>, MarkError>
     requires inbox { taker.old.inbox ≡ inbox.now }
     requires counts { Counts marks.old.items taker.old.desk }
@@ -191,19 +159,8 @@ pub fn take_marks<R: Wait>(
     ensures marked { OnOk result (AllPast window marks.new.items) }
     ensures undue { IfErr result (λ error. error ≡ Undue → TakesUndue standing.now.of.now standing.now.worker standing.now.from taker.old taker.new) }
 {
-    let mut waiting = Waiting {
-        stopped: false,
-        looks: 0,
-    };
+    waiting.begin();
     take_waiting(
-        rt,
-        alloc,
-        inbox,
-        stop,
-        standing,
-        taker,
-        marks,
-        window,
-        &mut waiting,
+        rt, alloc, inbox, stop, standing, taker, marks, window, waiting,
     )
 }

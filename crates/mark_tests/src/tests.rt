@@ -1,4 +1,4 @@
-//! Three workers with marks, by hand and in one thread: workers 0 and 1 push, and worker 2 takes. Mote 0 is worker 0's,
+//! Three workers with marks, by hand: workers 0 and 1 push, and worker 2 takes. Mote 0 is worker 0's,
 //! mote 1 worker 1's, and mote 2 worker 2's.
 
 ghost use Rattle.std.specs.Prelude.{◌≡◌, true, [], IfOk, IsTrue, OnOk};
@@ -11,8 +11,11 @@ use mark_exchange::{MarkCourier, Standing};
 use radio_packet::RadioCopy;
 use std::alloc::{AllocError, Global};
 use std::sync::Wait;
-use std::sync::atomic::AtomicBool;
+use std::sync::atomic::{AtomicBool, Ordering};
 use std::test::Fail;
+use std::thread;
+use std::thread::Threads;
+use std::time::{Clock, Duration};
 
 /// The worker of each mote.
 const OF: [u16; 3] = [0, 1, 2];
@@ -85,6 +88,7 @@ fn write_window<R: Wait>(
     text: &mut String,
     inbox: &Inbox,
     carrier: &mut MarkCourier,
+    stop: &AtomicBool,
     from: u64,
     window: u64,
 ) -> Result<bool, AllocError>
@@ -93,14 +97,12 @@ fn write_window<R: Wait>(
     ensures inbox { IfOk result (λ took. IsTrue took → carrier.new.courier.taker.inbox ≡ inbox.now) }
     ensures counts { IfOk result (λ took. IsTrue took → Counts carrier.new.marks.items carrier.new.courier.taker.desk) }
 {
-    // It is looked at only where a mark is missing.
-    let stop = AtomicBool::new(true);
     let standing = Standing {
         worker: 2,
         of: &OF,
         from,
     };
-    match carrier.take_window(rt, alloc, inbox, &stop, &standing, window) {
+    match carrier.take_window(rt, alloc, inbox, stop, &standing, window) {
         Ok(copies) => {
             for copy in copies.as_slice() {
                 write!(text, "{} {}, ", copy.at, copy.number)?;
@@ -130,18 +132,20 @@ fn write_windows<R: Wait>(
     requires marked { (first.old.post.marked ≡ true) × (second.old.post.marked ≡ true) }
     requires counts { Counts carrier.old.marks.items carrier.old.courier.taker.desk }
 {
+    // It is looked at only where a mark is missing.
+    let stop = AtomicBool::new(true);
     push_window(rt, inbox, first, Some(copy(5, 0)), 0)?;
     push_window(rt, inbox, first, Some(copy(9, 1)), 1)?;
     push_window(rt, inbox, second, None, 0)?;
-    if !write_window(rt, alloc, text, inbox, carrier, 5, 0)? {
+    if !write_window(rt, alloc, text, inbox, carrier, &stop, 5, 0)? {
         return Ok(());
     }
     push_window(rt, inbox, second, None, 1)?;
-    if !write_window(rt, alloc, text, inbox, carrier, 9, 1)? {
+    if !write_window(rt, alloc, text, inbox, carrier, &stop, 9, 1)? {
         return Ok(());
     }
     push_window(rt, inbox, first, Some(copy(9, 2)), 2)?;
-    write_window(rt, alloc, text, inbox, carrier, 10, 2)?;
+    write_window(rt, alloc, text, inbox, carrier, &stop, 10, 2)?;
     Ok(())
 }
 
@@ -165,8 +169,49 @@ fn write_stopped<R: Wait>(rt: &R, alloc: Global, text: &mut String) -> Result<()
     let (inbox, taker, mut first, _second) = make(alloc)?;
     let mut carrier = carrier(alloc, taker)?;
     push_window(rt, &inbox, &mut first, None, 0)?;
-    write_window(rt, alloc, text, &inbox, &mut carrier, 5, 0)?;
+    let stop = AtomicBool::new(true);
+    write_window(rt, alloc, text, &inbox, &mut carrier, &stop, 5, 0)?;
     Ok(())
+}
+
+/// Sets the flag after a while, in which a worker that waits has fallen asleep.
+fn set_late<R: Clock>(rt: &R, stop: &AtomicBool) {
+    thread::sleep(rt, Duration::from_millis(30));
+    stop.store(true, Ordering::SeqCst);
+}
+
+/// What is written where the mark of worker 1 is missing, and the flag is set while the worker sleeps.
+fn write_woken<R: Threads + Wait + Clock + Sync>(
+    rt: &R,
+    alloc: Global,
+    text: &mut String,
+) -> Result<(), InboxError> {
+    let (inbox, taker, mut first, _second) = make(alloc)?;
+    let mut carrier = carrier(alloc, taker)?;
+    push_window(rt, &inbox, &mut first, None, 0)?;
+    let stop = AtomicBool::new(false);
+    let (_, took) = thread::join(
+        rt,
+        || set_late(rt, &stop),
+        || write_window(rt, alloc, text, &inbox, &mut carrier, &stop, 5, 0),
+    );
+    took?;
+    Ok(())
+}
+
+/// Fails where the texts differ.
+fn same_text(text: &str, want: &str) -> Result<(), Fail> {
+    if text == want {
+        return Ok(());
+    }
+    Err(Fail::new(format_args!("{text} in place of {want}")))
+}
+
+#[test]
+fn a_sleeping_worker_sees_the_flag(rt: HostRuntime) -> Result<(), Fail> {
+    let mut text = String::new(rt.alloc());
+    write_woken(&rt, rt.alloc(), &mut text)?;
+    same_text(text.as_str(), "Stopped|")
 }
 
 #[test]
@@ -174,9 +219,5 @@ fn windows_by_hand(rt: HostRuntime) -> Result<(), Fail> {
     let mut text = String::new(rt.alloc());
     write_taken(&rt, rt.alloc(), &mut text)?;
     write_stopped(&rt, rt.alloc(), &mut text)?;
-    let want = "5 0, 9 1, marks|marks|Undue|Stopped|";
-    if text.as_str() == want {
-        return Ok(());
-    }
-    Err(Fail::new(format_args!("{text} in place of {want}")))
+    same_text(text.as_str(), "5 0, 9 1, marks|marks|Undue|Stopped|")
 }

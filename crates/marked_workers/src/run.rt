@@ -79,7 +79,11 @@ fn parted(alloc: Global, workers: Vec<MarkWorker>) -> Result<(Vec<Share>, Vec<Co
     let mut couriers = Vec::new(alloc);
     for worker in workers {
         let MarkWorker { share, carries } = worker;
-        let MarkCourier { courier, marks: _ } = carries;
+        let MarkCourier {
+            courier,
+            marks: _,
+            waiting: _,
+        } = carries;
         shares.push(share)?;
         couriers.push(courier)?;
     }

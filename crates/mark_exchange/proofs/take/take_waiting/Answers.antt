@@ -4,8 +4,8 @@ use Rattle.mark_exchange.specs.Marks.{Counts}
 use Rattle.mark_exchange.proofs.Counted.{takes_more}
 use Rattle.mark_exchange.proofs.take.take_waiting.Goals as goal
 
-pub loop-preserved-in-Some-take_next : goal.loop-preserved-in-Some-take_next
-loop-preserved-in-Some-take_next g c =
+pub loop-preserved-in-Continue-1 : goal.loop-preserved-in-Continue-1
+loop-preserved-in-Continue-1 g c =
     let item = c.in-Some-take_next.item in
     let told = c.in-Some-take_next.ensures in
     let heard = c.in_ok-hear-in-Some-take_next.ensures in

@@ -6,4 +6,4 @@ use Rattle.copy_inbox.proofs.inbox.Inbox.make_marked.Goals as goal
 pub another-nobody-requires-clause-rule : goal.another-nobody-requires-clause-rule
 another-nobody-requires-clause-rule c =
     let fresh = ap (λ t. t.desk.made) c.taker.view_is ∙ ap (λ d. d.made) c.in_ok-inbox.ensures.empty in
-    forks_marks_as _ _ (desk_in c.taker.inside.pass.me.view.client) c.taker.invariant.0.is fresh
+    forks_marks_as _ _ (desk_in c.taker.inside.pass.me.view.client) c.taker.invariant.0.taker.is fresh

@@ -3,61 +3,54 @@ use Rattle.copy_inbox.specs.declared.rule.Desk.{Desk}
 use Rattle.copy_inbox.specs.Gathered.{known_of}
 use Rattle.copy_inbox.specs.Handles.{desk_in, IsNextTaken}
 use Rattle.copy_inbox.proofs.Moves.{takes_as, learns}
-use Rattle.copy_inbox.proofs.Takers.{next_below, next_known, next_less, next_fits, next_leaves, none_known}
+use Rattle.copy_inbox.proofs.Kept.{next_made, next_few, next_down, keeps_taken}
+use Rattle.copy_inbox.proofs.Takers.{next_known, none_known}
 use Rattle.copy_inbox.proofs.inbox.Inbox.take_next.Goals as goal
 
 pub pop_as-requires-clause-rule : goal.pop_as-requires-clause-rule
-pop_as-requires-clause-rule g c = (takes_as _ _ (desk_in c.taker.inside.pass.me.view.client) c.taker.invariant.0.is, learns _ _)
+pop_as-requires-clause-rule g c = (takes_as _ _ (desk_in c.taker.inside.pass.me.view.client) c.taker.invariant.0.taker.is, learns _ _)
 
 pub returns-in_err-item-clause-none : goal.returns-in_err-item-clause-none
 returns-in_err-item-clause-none g c =
     let told = c.in_err-item.ensures.rule in
-    let none = none_known _ _ _ c.taker.invariant.0 told.1 in
+    let none = none_known _ _ _ c.taker.invariant.0.taker told.1 in
     let P : Desk → Type 0 = λ d. known_of d.gathered d.taken ≡ 0 in
     rw c.from_residual.ensures (subst P (ap (λ t. t.desk) c.taker.view_is) none)
 
-pub index-count-requires : goal.index-count-requires
-index-count-requires g c =
+pub count_taken-gathered-requires-clause-made : goal.count_taken-gathered-requires-clause-made
+count_taken-gathered-requires-clause-made g c =
     let told = c.in_ok-item.ensures.rule in
-    let below = next_below c.taker.inside.pass.me.view.client c.taker.inside.counts.items c.taker.inside.known c.in_ok-item.item told.0.1.0 c.taker.invariant.0 told.0.1.1 in
-    omega arith
+    next_made c.taker.inside.pass.me.view.client c.taker.inside.first c.taker.inside.counts.items c.taker.inside.known c.in_ok-item.item told.0.1.0 c.taker.invariant.0 told.0.1.1
+
+pub count_taken-gathered-requires-clause-few : goal.count_taken-gathered-requires-clause-few
+count_taken-gathered-requires-clause-few g c =
+    let told = c.in_ok-item.ensures.rule in
+    next_few c.taker.inside.pass.me.view.client c.taker.inside.first c.taker.inside.counts.items c.taker.inside.known c.in_ok-item.item told.0.1.0 c.taker.invariant.0 told.0.1.1
 
 pub overflow_sub-taker : goal.overflow_sub-taker
 overflow_sub-taker g c =
     let told = c.in_ok-item.ensures.rule in
-    next_less c.taker.inside.pass.me.view.client _ _ _ told.0.1.0 _ _ c.taker.invariant.0 told.0.1.1 c.index-count.ensures c.from.ensures
-
-pub overflow_add-count : goal.overflow_add-count
-overflow_add-count g c =
-    let told = c.in_ok-item.ensures.rule in
-    let few = next_fits c.taker.inside.pass.me.view.client _ _ _ told.0.1.0 _ c.taker.invariant.0 told.0.1.1 c.index-count.ensures in
-    omega arith
-
-pub index_mut-requires : goal.index_mut-requires
-index_mut-requires g c =
-    let told = c.in_ok-item.ensures.rule in
-    let below = next_below c.taker.inside.pass.me.view.client c.taker.inside.counts.items c.taker.inside.known c.in_ok-item.item told.0.1.0 c.taker.invariant.0 told.0.1.1 in
-    omega arith
+    next_down c.taker.inside.pass.me.view.client c.taker.inside.first _ c.taker.inside.known c.in_ok-item.item told.0.1.0 c.taker.invariant.0 told.0.1.1 _ _ _ c.count_taken-gathered.ensures c.from.ensures
 
 pub invariant_of-taker-2 : goal.invariant_of-taker-2
 invariant_of-taker-2 g c =
     let told = c.in_ok-item.ensures.rule in
     let queue = c.in_ok-item.ensures.queue in
-    (next_leaves c.taker.inside.pass.me.view.client _ _ _ _ told.0.1.0 _ _ c.taker.invariant.0 told.0.1.1 told.0.0 c.index-count.ensures c.from.ensures, queue.0.1, queue.0.2)
+    (keeps_taken c.taker.inside.pass.me.view.client c.taker.inside.first _ c.taker.inside.known c.in_ok-item.item told.0.1.0 c.taker.invariant.0 told.0.1.1 _ _ _ c.count_taken-gathered.ensures c.from.ensures _ told.0.0, queue.0.1, queue.0.2)
 
 pub returns-clause-next : goal.returns-clause-next
 returns-clause-next g c =
     let told = c.in_ok-item.ensures.rule in
-    let next = next_known c.taker.inside.pass.me.view.client c.in_ok-item.item told.0.1.0 c.taker.invariant.0.is told.0.1.1 in
+    let next = next_known c.taker.inside.pass.me.view.client c.in_ok-item.item told.0.1.0 c.taker.invariant.0.taker.is told.0.1.1 in
     let P : Desk → Type 0 = λ d. IsNextTaken d c.in_ok-item.item in
     subst P (ap (λ t. t.desk) c.taker.view_is) next
 
 pub returns-clause-begun : goal.returns-clause-begun
 returns-clause-begun g c =
     let told = c.in_ok-item.ensures.rule in
-    (next_leaves c.taker.inside.pass.me.view.client _ _ _ _ told.0.1.0 _ _ c.taker.invariant.0 told.0.1.1 told.0.0 c.index-count.ensures c.from.ensures).begun
+    (keeps_taken c.taker.inside.pass.me.view.client c.taker.inside.first _ c.taker.inside.known c.in_ok-item.item told.0.1.0 c.taker.invariant.0 told.0.1.1 _ _ _ c.count_taken-gathered.ensures c.from.ensures _ told.0.0).taker.begun
 
 pub returns-clause-made : goal.returns-clause-made
 returns-clause-made g c =
     let told = c.in_ok-item.ensures.rule in
-    (next_leaves c.taker.inside.pass.me.view.client _ _ _ _ told.0.1.0 _ _ c.taker.invariant.0 told.0.1.1 told.0.0 c.index-count.ensures c.from.ensures).of_made
+    (keeps_taken c.taker.inside.pass.me.view.client c.taker.inside.first _ c.taker.inside.known c.in_ok-item.item told.0.1.0 c.taker.invariant.0 told.0.1.1 _ _ _ c.count_taken-gathered.ensures c.from.ensures _ told.0.0).taker.of_made

@@ -18,7 +18,7 @@ loop-preserved g c =
 pub returns-clause-whole : goal.returns-clause-whole
 returns-clause-whole g c = λ all later.
     let P : TakerView → Type 0 = λ t. TookFronts t.desk.gathered t.desk.taken in
-    let begun = subst P c.taker.view_is c.taker.invariant.0.begun in
+    let begun = subst P c.taker.view_is c.taker.invariant.0.taker.begun in
     let end = c.loop-test.false in
     let top = c.loop.auto.counter-end in
     let known = c.loop.invariant.drained.later later (omega arith) in

@@ -1,0 +1,43 @@
+//! What wakes a taker that waits for marks.
+
+use std::sync::Wait;
+use std::sync::atomic::{AtomicU64, Ordering};
+use std::time::Duration;
+
+/// The marks of an inbox, counted, so that its taker can sleep until enough of them have come. No contract says that
+/// it is woken; it wakes by itself too.
+#[derive(Drop)]
+pub struct Bell {
+    /// How many marks were pushed.
+    marks: AtomicU64,
+    /// How many marks the taker waits for.
+    wanted: AtomicU64,
+}
+
+impl Bell {
+    pub fn new() -> Bell {
+        Bell {
+            marks: AtomicU64::new(0),
+            wanted: AtomicU64::new(0),
+        }
+    }
+
+    /// A mark was pushed.
+    pub fn ring(&self) {
+        let marks = self.marks.fetch_add(1, Ordering::SeqCst).wrapping_add(1);
+        if marks == self.wanted.load(Ordering::SeqCst) {
+            self.marks.wake_one();
+        }
+    }
+
+    /// Sleeps until so many marks were pushed, but no longer than `longest`, and perhaps not as long.
+    pub fn sleep<R: Wait>(&self, rt: &R, wanted: u64, longest: Duration) {
+        self.wanted.store(wanted, Ordering::SeqCst);
+        let marks = self.marks.load(Ordering::SeqCst);
+        if marks < wanted {
+            // A mark that comes in between changes the low half of the count, and then it doesn't sleep.
+            let low = (marks % (1 << 32)) as u32;
+            self.marks.park_timeout(rt, low, longest);
+        }
+    }
+}
