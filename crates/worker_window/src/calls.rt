@@ -81,11 +81,12 @@ pub fn gather(alloc: Global, agenda: &mut Agenda, until: u64) -> Result<CalledMo
         → Holds agenda.new.buckets (filter (is_not_before until) items)) }
 {
     let mut calls = CalledMotes::new(alloc);
+    let mut arrivals = Vec::new(alloc);
     while let Some((moment, mote)) = agenda.first() {
         if moment >= until {
             break;
         }
-        let arrivals = agenda.take_due(moment, mote)?;
+        agenda.take_due_into(moment, mote, &mut arrivals)?;
         calls.add(moment, mote, &arrivals)?;
     }
     Ok(calls)
