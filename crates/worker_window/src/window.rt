@@ -66,16 +66,17 @@ pub(crate) fn leave(
     calls: CalledMotes,
     rooms: &mut Rooms,
 ) -> Result<Vec<Resident>, AllocError>
-    requires here { (k : ℕ) → IsSome (copies_for calls.copies k) → IsSome (mote_here motes.old.items k) }
-    requires rising { (k : ℕ) (copies : List RadioCopy) → copies_for calls.copies k ≡ Some copies
+    requires here { (k : ℕ) → IsSome (copies_for calls.copies.items k) → IsSome (mote_here motes.old.items k) }
+    requires rising { (k : ℕ) (copies : List RadioCopy) → copies_for calls.copies.items k ≡ Some copies
         → is_rising copies ≡ true }
     ensures { IfOk result
-        (λ residents. MotesLeave until calls.copies motes.old.items motes.new.items residents.items wakes.new.items) }
+        (λ residents. MotesLeave until calls.copies.items motes.old.items motes.new.items residents.items
+        wakes.new.items) }
 {
     wakes.clear();
     let mut residents = Vec::with_capacity(calls.alloc, calls.copies.len())?;
-    let mut copies = calls.copies;
-    while let Some((number, copies)) = copies.pop_first() {
+    let mut calls = calls;
+    while let Some((number, copies)) = calls.pop() {
         let mote = take_mote(motes, number);
         wakes.push(wake_from(until, mote.wake()))?;
         residents.push(Resident {
@@ -199,8 +200,8 @@ pub(crate) fn send_all(
 }
 
 impl Share {
-    /// A mote comes back from its window: its next wake becomes pending in the place of this one, which is pending, if it
-    /// has one; its packets go out, and its lines and packets are kept. The copies for other workers' motes go away.
+    /// A mote comes back from its window: its next wake becomes pending in the place of the one that is, if one is; its
+    /// packets go out, and its lines and packets are kept. The copies for other workers' motes go away.
     fn take_back(
         &mut self,
         medium: &Medium,
@@ -257,7 +258,7 @@ impl Share {
     /// arrived from other workers, runs each mote that has something before `until` by the worker's future, and keeps
     /// the pending events of its own motes. The answer is the copies for other workers' motes, those of each mote in
     /// the order of sending. `of` tells the worker of each mote. The time goes with the turns of the window and the
-    /// copies that it takes and makes, and not with the motes.
+    /// copies that it takes and makes, but for a place for each mote up to the highest that has a turn.
     ///
     /// # Errors
     /// `Memory`, and `Thread` where the executor answered an error.

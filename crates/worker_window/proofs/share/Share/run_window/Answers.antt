@@ -30,7 +30,7 @@ pub leave-requires-clause-here : goal.leave-requires-clause-here
 leave-requires-clause-here g c =
     let kept = c.requires.ready.keeps in
     let base = subst (λ l. Holds c.put_copies.new.self.buckets (kept.agenda.items ++ map Packet l)) c.deref.ensures.value (c.in_ok-put_copies.ensures kept.agenda.items kept.agenda.holds) in
-    called_here (net_of c.args.net.now) c.args.of.now c.args.self.now (kept_of c.requires.ready) c.args.arrived.items c.requires.to_own c.requires.of c.args.until c.in_ok-calls.calls.copies (c.in_ok-calls.ensures.gathered _ base)
+    called_here (net_of c.args.net.now) c.args.of.now c.args.self.now (kept_of c.requires.ready) c.args.arrived.items c.requires.to_own c.requires.of c.args.until c.in_ok-calls.calls.copies.items (c.in_ok-calls.ensures.gathered _ base)
 
 pub leave-requires-clause-rising : goal.leave-requires-clause-rising
 leave-requires-clause-rising g c = λ k copies e.
@@ -42,7 +42,7 @@ pub run_share-requires-clause-there : goal.run_share-requires-clause-there
 run_share-requires-clause-there g c =
     let kept = c.requires.ready.keeps in
     let base = subst (λ l. Holds c.put_copies.new.self.buckets (kept.agenda.items ++ map Packet l)) c.deref.ensures.value (c.in_ok-put_copies.ensures kept.agenda.items kept.agenda.holds) in
-    in_net (net_of c.args.net.now) c.args.of.now c.args.self.now (kept_of c.requires.ready) c.args.arrived.items c.requires.to_own c.requires.of c.args.until c.in_ok-calls.calls.copies (c.in_ok-calls.ensures.gathered _ base)
+    in_net (net_of c.args.net.now) c.args.of.now c.args.self.now (kept_of c.requires.ready) c.args.arrived.items c.requires.to_own c.requires.of c.args.until c.in_ok-calls.calls.copies.items (c.in_ok-calls.ensures.gathered _ base)
     c.leave.new.motes.items c.in_ok-residents.residents.items c.leave.new.wakes.items c.in_ok-residents.ensures c.requires.ready.order
 
 pub run_share-requires-clause-go_on : goal.run_share-requires-clause-go_on
@@ -51,7 +51,7 @@ run_share-requires-clause-go_on g c =
     let r = c.requires.ready in
     let at = subst (λ l. Holds c.put_copies.new.self.buckets (r.keeps.agenda.items ++ map Packet l)) c.deref.ensures.value (c.in_ok-put_copies.ensures r.keeps.agenda.items r.keeps.agenda.holds) in
     let share : Share = record c.args.self.now { motes = c.leave.new.motes; agenda = c.gather.new.agenda; rooms = c.leave.new.rooms } in
-    go_on n c.args.of.now r.worker r.from c.args.until r.motes r.taken c.args.arrived.items c.args.self.now share r.keeps r.order r.come c.requires.of c.in_ok-calls.calls.copies
+    go_on n c.args.of.now r.worker r.from c.args.until r.motes r.taken c.args.arrived.items c.args.self.now share r.keeps r.order r.come c.requires.of c.in_ok-calls.calls.copies.items
     c.in_ok-residents.residents.items c.leave.new.wakes.items (c.in_ok-calls.ensures.gathered _ at) (c.in_ok-calls.ensures.rest _ at) c.in_ok-residents.ensures
 
 pub loop-out-init : goal.loop-out-init
@@ -67,14 +67,14 @@ loop-out-init g c =
       worker = refl;
       wakes = sym (zip_length (IsWakeOf c.args.until) _ _ left.told) ∙ zip_length (ResidentGives n c.args.until) _ _ c.in_ok-outs.ensures;
       fits =
-          all_fit n c.args.of.now c.args.self.now (kept_of c.requires.ready) c.args.arrived.items c.requires.to_own c.requires.of c.args.until c.in_ok-calls.calls.copies (c.in_ok-calls.ensures.gathered _ base)
+          all_fit n c.args.of.now c.args.self.now (kept_of c.requires.ready) c.args.arrived.items c.requires.to_own c.requires.of c.args.until c.in_ok-calls.calls.copies.items (c.in_ok-calls.ensures.gathered _ base)
           c.leave.new.motes.items c.in_ok-residents.residents.items c.leave.new.wakes.items left c.requires.ready.order c.in_ok-outs.outs.items c.in_ok-outs.ensures;
       go_out = subst (AllByRecursion (GoesOut n c.args.of.now c.args.self.now.worker)) (sym c.new-away.ensures.items) tt;
       coming = λ worker from motes taken keeps le short come.
           let at = subst (λ l. Holds c.put_copies.new.self.buckets (keeps.agenda.items ++ map Packet l)) c.deref.ensures.value (c.in_ok-put_copies.ensures keeps.agenda.items keeps.agenda.holds) in
           subst (λ l. Coming n c.args.of.now worker from c.args.until motes (taken ++ c.args.arrived.items) (inbox n c.args.of.now worker from c.args.until motes taken c.args.arrived.items c.args.self.now keeps le come) share c.in_ok-outs.outs.items c.leave.new.wakes.items l)
           (sym c.new-away.ensures.items)
-          (starts n c.args.of.now worker from c.args.until motes taken c.args.arrived.items c.args.self.now share keeps le come c.requires.of c.in_ok-calls.calls.copies c.in_ok-residents.residents.items c.leave.new.wakes.items
+          (starts n c.args.of.now worker from c.args.until motes taken c.args.arrived.items c.args.self.now share keeps le come c.requires.of c.in_ok-calls.calls.copies.items c.in_ok-residents.residents.items c.leave.new.wakes.items
           (c.in_ok-calls.ensures.gathered _ at) (c.in_ok-calls.ensures.rest _ at) left c.in_ok-outs.outs.items c.in_ok-outs.ensures (refl, refl, refl));
     }
 
