@@ -13,14 +13,14 @@ use Rattle.net_agenda.specs.NetSystem.{system_of}
 use Rattle.worker_window.specs.declared.share.Share.{Share}
 use Rattle.worker_cut.specs.Crossed.{is_own, copies_known}
 use Rattle.window_run.specs.Window.{number_of}
-use Rattle.worker_window.specs.Share.{Motes, Keeps, is_to_come}
+use Rattle.worker_window.specs.Share.{Motes, Keeps, is_to_come, wake_from}
 
 module _ (n : NetTold) (of : List ℕ) (worker : ℕ) (a b : Motes) (same : (k : ℕ) → is_own of worker k ≡ true → a k ≡ b k) where
   own_sends : (s : ℕ) → cond (is_own of worker s) (a s).sends [] ≡ cond {A = List Sent} (is_own of worker s) (b s).sends []
   own_sends s = elim (cases_Bool (is_own of worker s)) [ inl e ↦ rw e (ap (λ x. x.sends) (same s e)) | inr e ↦ rw e refl ]
 
-  own_wakes : (k : ℕ) → cond (is_own of worker k) (wake_items k (a k).wake) [] ≡ cond {A = List Item} (is_own of worker k) (wake_items k (b k).wake) []
-  own_wakes k = elim (cases_Bool (is_own of worker k)) [ inl e ↦ rw e (ap (λ x. wake_items k x.wake) (same k e)) | inr e ↦ rw e refl ]
+  own_wakes : (from k : ℕ) → cond (is_own of worker k) (wake_items k (wake_from from (a k).wake)) [] ≡ cond {A = List Item} (is_own of worker k) (wake_items k (wake_from from (b k).wake)) []
+  own_wakes from k = elim (cases_Bool (is_own of worker k)) [ inl e ↦ rw e (ap (λ x. wake_items k (wake_from from x.wake)) (same k e)) | inr e ↦ rw e refl ]
 
   pub own_copies_same : (s : ℕ) → is_own of worker s ≡ true → copies_by (system_of n) a s ≡ copies_by (system_of n) b s
   own_copies_same s e = ap (λ x. flat_map (system_of n).copies (cond (ltb s (system_of n).motes) x.sends [])) (same s e)
@@ -44,7 +44,7 @@ module _ (n : NetTold) (of : List ℕ) (worker : ℕ) (a b : Motes) (same : (k :
     agenda = record {
       items = h.agenda.items;
       holds = h.agenda.holds;
-      wakes = λ k. h.agenda.wakes k ∙ own_wakes k;
+      wakes = λ k. h.agenda.wakes k ∙ own_wakes from k;
       copies = λ s. h.agenda.copies s ∙ ap (filter (is_to_come (is_own of worker) from)) (known_same taken s);
     };
   }

@@ -1,9 +1,9 @@
 -- A mote comes back to its share.
-use Rattle.std.proofs.Common.{◌≡◌, ℕ, ◌+◌, ◌<◌, ◌≤◌, Bool, true, false, cond, not, ◌&&◌, ◌||◌, ltb, eqb, List, [], ◌∷◌, ◌++◌, length, map, get_or, refl, sym, ap, ◌∙◌, subst, inl, inr, arith, append-nil, Some, None, get_or-set_same, get_or-set_other}
+use Rattle.std.proofs.Common.{◌≡◌, ℕ, ◌+◌, ◌<◌, ◌≤◌, Bool, true, false, cond, not, ◌&&◌, ◌||◌, ltb, eqb, List, [], ◌∷◌, ◌++◌, length, map, get_or, refl, sym, ap, ◌∙◌, subst, inl, inr, arith, append-nil, Option, Some, None, get_or-set_same, get_or-set_other}
 use Rattle.std.specs.Prelude.{Vec}
 use Rattle.std.specs.List.{filter, flat_map, AllByRecursion}
 use Rattle.std.specs.declared.alloc.Global.{Global}
-use Rattle.std.proofs.lemmas.Bool.{cases_eq, eq-eqb, ne_eqb, false≢true, lt-ltb}
+use Rattle.std.proofs.lemmas.Bool.{cases_Bool, cases_eq, eq-eqb, eqb-true, ne_eqb, false≢true, lt-ltb}
 use Rattle.std.proofs.lemmas.Bool.Decides.{nat_tests}
 use Rattle.std.proofs.lemmas.List.{length-set}
 use Rattle.std.proofs.lemmas.List.Concat.{flat_map-append}
@@ -14,22 +14,24 @@ use Rattle.mote_node.specs.Wake.{wake_of}
 use Rattle.radio_packet.specs.declared.copy.RadioCopy.{RadioCopy}
 use Rattle.radio_medium.specs.Medium.{copies}
 use Rattle.mote_net.specs.Net.{NetTold}
-use Rattle.window_laws.specs.Agenda.{Item, Packet, is_wake_of, packets, wake_items}
+use Rattle.window_laws.specs.Agenda.{Item, Wake, Packet, is_wake_of, packets, wake_items}
 use Rattle.window_laws.specs.NetStep.{put}
 use Rattle.window_laws.specs.Windows.{LoneMote, WakesFrom, copies_by, is_from_sender, is_sent_by}
 use Rattle.window_laws.proofs.Agenda.{packets_append, packets_map, packets_wake, no_wake_in_packets, own_wake, other_wake}
-use Rattle.window_laws.proofs.Lists.{filter_none, filter_every, every_filter, every_weaker}
+use Rattle.window_laws.proofs.Lists.{filter_none, filter_every, filter_stronger, every_filter, every_passes, every_weaker}
 use Rattle.window_run.specs.declared.out.WindowOut.{WindowOut}
 use Rattle.net_agenda.specs.Buckets.{Holds}
+use Rattle.net_agenda.specs.Changes.{without_wakes}
 use Rattle.net_agenda.specs.NetSystem.{tree_at, system_of}
 use Rattle.worker_window.specs.declared.share.Share.{Share}
 use Rattle.worker_cut.specs.Crossed.{is_own, copies_known, leaves}
 use Rattle.window_run.specs.Window.{number_of}
-use Rattle.worker_window.specs.Share.{Motes, IsShare, HasToCome, node_at, mote_here, is_to_come}
+use Rattle.worker_window.specs.Share.{Motes, IsShare, HasToCome, node_at, mote_here, is_to_come, wake_from}
 use Rattle.worker_window.specs.Window.{copies_out}
 use Rattle.worker_window.specs.Leaving.{is_one_of, MoteReturns}
 use Rattle.worker_window.specs.Log.{packets_in}
 use Rattle.worker_window.proofs.Gives.{IsBack, ComesLate, come_late}
+use Rattle.worker_window.proofs.Items.{wake_still}
 use Rattle.worker_window.proofs.Left.{among_more}
 
 late : (at until : ℕ) → until ≤ at → not (ltb at until) ≡ true
@@ -52,6 +54,26 @@ or_none false = refl
 or_yes : (b : Bool) → (b || true) ≡ true
 or_yes true = refl
 or_yes false = refl
+
+packets_unwoken : (k : ℕ) (items : List Item) → packets (without_wakes k items) ≡ packets items
+packets_unwoken k [] = refl
+packets_unwoken k (Wake u j ∷ items) = elim (cases_Bool (eqb j k)) [ inl e ↦ rw e (packets_unwoken k items) | inr e ↦ rw e (packets_unwoken k items) ]
+packets_unwoken k (Packet c ∷ items) = ap (λ l. c ∷ l) (packets_unwoken k items)
+
+unwoken : (k : ℕ) (items : List Item) → filter (is_wake_of k) (without_wakes k items) ≡ []
+unwoken k items =
+    filter_none (is_wake_of k) (without_wakes k items) (every_weaker _ _ (λ item h. not_true (is_wake_of k item) h) (without_wakes k items) (every_passes (λ item. not (is_wake_of k item)) items))
+  where
+    not_true : (b : Bool) → not b ≡ true → b ≡ false
+    not_true true e = absurd (cc)
+    not_true false e = refl
+
+other_woken : (j k : ℕ) → (j ≡ k → ⊥) → (items : List Item) → filter (is_wake_of j) (without_wakes k items) ≡ filter (is_wake_of j) items
+other_woken j k ne items = filter_stronger (is_wake_of j) (λ item. not (is_wake_of k item)) other items
+  where
+    other : (item : Item) → is_wake_of j item ≡ true → not (is_wake_of k item) ≡ true
+    other (Wake t m) e = ap not (ne_eqb m k (λ f. ne (sym (eqb-true m j e) ∙ f)))
+    other (Packet c) e = absurd (false≢true e)
 
 module _ (n : NetTold) (of : List ℕ) (worker from until : ℕ) (before now : Motes) (taken : List RadioCopy) (inbox : ℕ → List RadioCopy) (placed : length n.radio.places ≡ length n.motes)
     (short : until ≤ from + (system_of n).lookahead) (others : List ℕ) (k : ℕ) (new : is_one_of k others ≡ false) (out : WindowOut) (back : IsBack n (is_own of worker) from until before inbox k out)
@@ -135,12 +157,16 @@ module _ (n : NetTold) (of : List ℕ) (worker from until : ℕ) (before now : M
           ap (λ l. cond (own s) (filter (leaves own) l) []) (copies_put s ne)
           ∙ sym (ap (λ l. copies_out n own now s ++ l) (from_others (leaves own) s ne) ∙ append-nil (copies_out n own now s))
 
-  module _ (old share : Share) (stands : IsShare n of worker away until now taken old) (gone later : List RadioCopy) (ret : MoteReturns n.radio of k out old share gone later) where
-    abbrev has : HasToCome n own away until now taken old.agenda.buckets
+  module _ (old share : Share) (stands : IsShare n of worker away until now taken old) (gone later : List RadioCopy)
+      (wake : Option ℕ) (pending : wake ≡ wake_from until (before k).wake) (ret : MoteReturns n.radio of k wake out old share gone later) where
+    abbrev has : HasToCome n own until now taken old.agenda.buckets
     has = stands.agenda
 
     abbrev items : List Item
-    items = (has.items ++ wake_items k out.wake) ++ map Packet sent_own
+    items = (without_wakes k has.items ++ wake_items k out.wake) ++ map Packet sent_own
+
+    awake : filter (is_wake_of k) has.items ≡ wake_items k wake
+    awake = has.wakes k ∙ (ap (λ b. cond b (wake_items k (wake_from until (now k).wake)) []) back.mine ∙ ap (wake_items k) (ap (λ m. wake_from until m.wake) waits ∙ sym pending))
 
     worker_own : filter (λ copy. is_own of old.worker copy.to) sent ≡ sent_own
     worker_own = ap (λ w. filter (λ copy. is_own of w copy.to) sent) stands.is_worker
@@ -154,32 +180,36 @@ module _ (n : NetTold) (of : List ℕ) (worker from until : ℕ) (before now : M
     mote_else : (j : ℕ) → (j ≡ k → ⊥) → mote_here share.motes.items j ≡ mote_here old.motes.items j
     mote_else j ne = ap (λ l. mote_here l j) ret.motes ∙ get_or-set_other old.motes.items k j (Some out.mote) None ne
 
-    wakes_are : (j : ℕ) → filter (is_wake_of j) items ≡ filter (is_wake_of j) has.items ++ filter (is_wake_of j) (wake_items k out.wake)
+    wakes_are : (j : ℕ) → filter (is_wake_of j) items ≡ filter (is_wake_of j) (without_wakes k has.items) ++ filter (is_wake_of j) (wake_items k out.wake)
     wakes_are j =
-        filter-append (is_wake_of j) (has.items ++ wake_items k out.wake) (map Packet sent_own)
-        ∙ (ap (λ l. filter (is_wake_of j) (has.items ++ wake_items k out.wake) ++ l) (no_wake_in_packets j sent_own)
-        ∙ (append-nil (filter (is_wake_of j) (has.items ++ wake_items k out.wake)) ∙ filter-append (is_wake_of j) has.items (wake_items k out.wake)))
+        filter-append (is_wake_of j) (without_wakes k has.items ++ wake_items k out.wake) (map Packet sent_own)
+        ∙ (ap (λ l. filter (is_wake_of j) (without_wakes k has.items ++ wake_items k out.wake) ++ l) (no_wake_in_packets j sent_own)
+        ∙ (append-nil (filter (is_wake_of j) (without_wakes k has.items ++ wake_items k out.wake)) ∙ filter-append (is_wake_of j) (without_wakes k has.items) (wake_items k out.wake)))
 
-    new_wakes : (j : ℕ) → filter (is_wake_of j) items ≡ cond (home j) (wake_items j (next j).wake) []
-    new_wakes = by_mote (λ j. filter (is_wake_of j) items ≡ cond (home j) (wake_items j (next j).wake) []) one other
+    new_wakes : (j : ℕ) → filter (is_wake_of j) items ≡ cond (own j) (wake_items j (wake_from until (next j).wake)) []
+    new_wakes = by_mote (λ j. filter (is_wake_of j) items ≡ cond (own j) (wake_items j (wake_from until (next j).wake)) []) one other
       where
-        one : filter (is_wake_of k) items ≡ cond (home k) (wake_items k (next k).wake) []
+        one : filter (is_wake_of k) items ≡ cond (own k) (wake_items k (wake_from until (next k).wake)) []
         one =
             wakes_are k
-            ∙ (ap (λ l. l ++ filter (is_wake_of k) (wake_items k out.wake)) (has.wakes k ∙ ap (λ b. cond b (wake_items k (now k).wake) []) away_k)
-            ∙ (own_wake k out.wake ∙ (ap (wake_items k) (back.wake ∙ ap (λ m. m.wake) (sym at_k)) ∙ ap (λ b. cond b (wake_items k (next k).wake) []) (sym home_k))))
+            ∙ (ap (λ l. l ++ filter (is_wake_of k) (wake_items k out.wake)) (unwoken k has.items)
+            ∙ (own_wake k out.wake
+            ∙ (ap (wake_items k) (back.wake ∙ (sym (wake_still until back.last.wake back.quiet) ∙ ap (λ m. wake_from until m.wake) (sym at_k)))
+            ∙ ap (λ b. cond b (wake_items k (wake_from until (next k).wake)) []) (sym back.mine))))
 
-        other : (j : ℕ) → (j ≡ k → ⊥) → filter (is_wake_of j) items ≡ cond (home j) (wake_items j (next j).wake) []
+        other : (j : ℕ) → (j ≡ k → ⊥) → filter (is_wake_of j) items ≡ cond (own j) (wake_items j (wake_from until (next j).wake)) []
         other j ne =
             wakes_are j
-            ∙ (ap (λ l. filter (is_wake_of j) has.items ++ l) (other_wake j k out.wake ne)
-            ∙ (append-nil (filter (is_wake_of j) has.items)
-            ∙ (has.wakes j ∙ (ap (λ b. cond b (wake_items j (now j).wake) []) (same_home j ne) ∙ ap (λ m. cond (home j) (wake_items j m.wake) []) (sym (elsewhere j ne))))))
+            ∙ (ap (λ l. filter (is_wake_of j) (without_wakes k has.items) ++ l) (other_wake j k out.wake ne)
+            ∙ (append-nil (filter (is_wake_of j) (without_wakes k has.items))
+            ∙ (other_woken j k ne has.items ∙ (has.wakes j ∙ ap (λ m. cond (own j) (wake_items j (wake_from until m.wake)) []) (sym (elsewhere j ne))))))
 
     packets_are : packets items ≡ packets has.items ++ sent_own
     packets_are =
-        packets_append (has.items ++ wake_items k out.wake) (map Packet sent_own)
-        ∙ (ap (λ l. l ++ packets (map Packet sent_own)) (packets_append has.items (wake_items k out.wake) ∙ (ap (λ l. packets has.items ++ l) (packets_wake k out.wake) ∙ append-nil (packets has.items)))
+        packets_append (without_wakes k has.items ++ wake_items k out.wake) (map Packet sent_own)
+        ∙ (ap (λ l. l ++ packets (map Packet sent_own))
+        (packets_append (without_wakes k has.items) (wake_items k out.wake)
+        ∙ (ap (λ l. packets (without_wakes k has.items) ++ l) (packets_wake k out.wake) ∙ (append-nil (packets (without_wakes k has.items)) ∙ packets_unwoken k has.items)))
         ∙ ap (λ l. packets has.items ++ l) (packets_map sent_own))
 
     new_copies : (s : ℕ) → filter (is_from_sender s) (packets items) ≡ filter (is_to_come own until) (copies_known (system_of n) own next taken s)
@@ -236,7 +266,7 @@ module _ (n : NetTold) (of : List ℕ) (worker from until : ℕ) (before now : M
       fates = ret.fates stands.fates;
       agenda = record {
         items = items;
-        holds = subst (λ l. Holds share.agenda.buckets ((has.items ++ wake_items k out.wake) ++ map Packet l)) worker_own (ret.agenda has.items has.holds);
+        holds = subst (λ l. Holds share.agenda.buckets ((without_wakes k has.items ++ wake_items k out.wake) ++ map Packet l)) worker_own (ret.agenda has.items has.holds awake);
         wakes = new_wakes;
         copies = new_copies;
       };

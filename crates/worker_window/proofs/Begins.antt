@@ -12,7 +12,7 @@ use Rattle.mote_node.specs.Node.{is_past}
 use Rattle.mote_node.specs.Wake.{wake_of}
 use Rattle.mote_net.specs.Net.{NetTold}
 use Rattle.window_laws.specs.Agenda.{Wake, packets, is_wake_of, wake_items, mote_of, up_to}
-use Rattle.window_laws.specs.Windows.{first_mote, is_from_sender, is_sent_by}
+use Rattle.window_laws.specs.Windows.{WakesFrom, first_mote, is_from_sender, is_sent_by}
 use Rattle.window_laws.proofs.Agenda.{first_wakes, packets_wakes}
 use Rattle.window_laws.proofs.Lists.{filter_filter}
 use Rattle.net_agenda.specs.Buckets.{Holds}
@@ -23,6 +23,7 @@ use Rattle.worker_cut.specs.Crossed.{is_own, copies_known}
 use Rattle.worker_window.specs.Log.{HaveFates, packets_in}
 use Rattle.worker_window.specs.Share.{node_at, mote_here, Keeps, is_to_come}
 use Rattle.worker_window.proofs.Behind.{not_begun}
+use Rattle.worker_window.proofs.Items.{all_wakes}
 
 -- a mote of the worker is one of the net
 pub own_there : (of : List ℕ) (worker k : ℕ) → is_own of worker k ≡ true → k < length of
@@ -65,6 +66,9 @@ module _ (n : NetTold) (of : List ℕ) (worker : ℕ) (long : length of ≡ leng
       ∙ (filter_filter (is_wake_of k) (λ item. own (mote_of item)) (map (λ k. Wake 0 k) (up_to (length n.motes)))
       ∙ (ap (filter (λ item. own (mote_of item))) (first_wakes (length n.motes) k) ∙ only_own own k (cond (ltb k (length n.motes)) (Some 0) None)))
 
+  quiet : (k : ℕ) → own k ≡ true → WakesFrom 0 (first_mote (system_of n) k).wake
+  quiet k mine = let e = wakes_at_0 k mine in rw e zero-le
+
   no_copies : (s : ℕ) → filter (is_from_sender s) (packets (map (λ k. Wake 0 k) (filter own (up_to (length n.motes))))) ≡ filter (is_to_come own 0) (copies_known (system_of n) own (first_mote (system_of n)) [] s)
   no_copies s =
       ap (filter (is_from_sender s)) (packets_wakes (filter own (up_to (length n.motes))))
@@ -84,11 +88,11 @@ module _ (n : NetTold) (of : List ℕ) (worker : ℕ) (long : length of ≡ leng
     numbers = λ k mine. ap (λ s. s.mote.state.mote) (first_state k) ∙ new_numbers n k;
     nodes = λ k mine. (let h = own_there of worker k mine in nodes k (omega arith) mine ∙ ap Some (sym (first_state k)));
     wakes = λ k mine. wakes_at_0 k mine ∙ (sym (new_wakes n k) ∙ ap wake_of (sym (first_state k)));
-    quiet = λ k mine. (let e = wakes_at_0 k mine in rw e zero-le);
+    quiet = quiet;
     behind = λ k mine. ap (λ s. is_past 0 s.last) (first_state k) ∙ not_begun n k 0;
     traces_kept = traced;
     traces = λ k mine d. (let h = own_there of worker k mine in traces k d (omega arith));
     log = λ s. ap (λ lines. filter (is_sent_by s) (packets_in lines)) log ∙ elim (cases_Bool (own s)) [ inl e ↦ rw e refl | inr e ↦ rw e refl ];
     fates = subst (HaveFates n.radio) (sym log) tt;
-    agenda = record { items = map (λ k. Wake 0 k) (filter own (up_to (length n.motes))); holds = holds; wakes = wakes; copies = no_copies };
+    agenda = record { items = map (λ k. Wake 0 k) (filter own (up_to (length n.motes))); holds = holds; wakes = λ k. wakes k ∙ sym (all_wakes own 0 (first_mote (system_of n)) quiet k); copies = no_copies };
   }

@@ -1,5 +1,5 @@
 -- A worker's window: the motes that are called leave, run and come back one after another.
-use Rattle.std.proofs.Common.{◌≡◌, ℕ, ◌+◌, ◌<◌, ◌≤◌, ◌^◌, Bool, true, false, cond, not, ◌&&◌, ◌||◌, eqb, List, [], ◌∷◌, ◌++◌, length, refl, sym, ap, ◌∙◌, subst, inl, inr, arith, append_assoc}
+use Rattle.std.proofs.Common.{◌≡◌, ℕ, ◌+◌, ◌<◌, ◌≤◌, ◌^◌, Bool, true, false, not, ◌&&◌, ◌||◌, eqb, List, [], ◌∷◌, ◌++◌, length, refl, sym, ap, ◌∙◌, subst, inl, inr, arith, append_assoc, Option}
 use Rattle.std.specs.List.{filter, flat_map, AllByRecursion, AllZip}
 use Rattle.std.proofs.lemmas.Bool.{cases_eq, eq-eqb, ne_eqb, false≢true}
 use Rattle.std.proofs.lemmas.List.Elements.{filter-append}
@@ -7,7 +7,6 @@ use Rattle.radio_packet.specs.declared.copy.RadioCopy.{RadioCopy}
 use Rattle.radio_medium.specs.Medium.{copies}
 use Rattle.radio_medium.proofs.Copies.{copies_later}
 use Rattle.mote_net.specs.Net.{NetTold}
-use Rattle.window_laws.specs.Agenda.{wake_items}
 use Rattle.window_laws.specs.Windows.{Alone, is_at, is_within, is_from_sender}
 use Rattle.window_laws.proofs.Lists.{every_append, every_weaker, every_filter, every_flat_map}
 use Rattle.window_run.specs.declared.out.WindowOut.{WindowOut}
@@ -15,7 +14,7 @@ use Rattle.window_run.specs.declared.share.Resident.{Resident}
 use Rattle.net_agenda.specs.NetSystem.{tree_at, system_of}
 use Rattle.worker_window.specs.declared.share.Share.{Share}
 use Rattle.worker_cut.specs.Crossed.{is_own, copies_known, leaves}
-use Rattle.worker_window.specs.Share.{Motes, IsShare}
+use Rattle.worker_window.specs.Share.{Motes, IsShare, wake_from}
 use Rattle.worker_window.specs.Window.{GoesOut, RunsWindow, copies_out}
 use Rattle.worker_window.specs.Leaving.{HasNumber, IsOutOfNet, MoteReturns, is_one_of, are_different, numbers_of}
 use Rattle.worker_window.proofs.Gives.{IsSentIn, IsBack, come_late}
@@ -60,8 +59,8 @@ zip_every P R Q f [] (o ∷ os) p z = absurd z
 zip_every P R Q f (r ∷ rs) [] p z = absurd z
 zip_every P R Q f (r ∷ rs) (o ∷ os) p z = (f r o p.0 z.0, zip_every P R Q f rs os p.1 z.1)
 
-pub zip_numbers : (P : Resident → Type 0) (R : Resident → WindowOut → Type 0) (Q : ℕ → WindowOut → Type 0) → ((r : Resident) (o : WindowOut) → P r → R r o → Q r.number o)
-    → (rs : List Resident) (os : List WindowOut) → AllByRecursion P rs → AllZip R rs os → AllZip Q (numbers_of rs) os
+pub zip_numbers : {X : Type 0} (P : Resident → Type 0) (R : Resident → X → Type 0) (Q : ℕ → X → Type 0) → ((r : Resident) (o : X) → P r → R r o → Q r.number o)
+    → (rs : List Resident) (os : List X) → AllByRecursion P rs → AllZip R rs os → AllZip Q (numbers_of rs) os
 zip_numbers P R Q f [] [] p z = tt
 zip_numbers P R Q f [] (o ∷ os) p z = absurd z
 zip_numbers P R Q f (r ∷ rs) [] p z = absurd z
@@ -84,16 +83,29 @@ last_of R (k ∷ ks) (y ∷ xs) x z =
     let l = last_of R ks xs x z.1 in
     record { front = k ∷ l.front; number = l.number; is = ap (λ m. k ∷ m) l.is; zip = (z.0, l.zip); last = l.last }
 
+zip_last : {X : Type 0} (R : ℕ → X → Type 0) (ks : List ℕ) (k : ℕ) (xs : List X) (x : X) → AllZip R (ks ++ k ∷ []) (xs ++ x ∷ []) → AllZip R ks xs × R k x
+zip_last R [] k [] x z = (tt, z.0)
+zip_last R [] k (y ∷ []) x z = absurd z.1
+zip_last R [] k (y ∷ w ∷ xs) x z = absurd z.1
+zip_last R (j ∷ []) k [] x z = absurd z.1
+zip_last R (j ∷ i ∷ ks) k [] x z = absurd z.1
+zip_last R (j ∷ ks) k (y ∷ xs) x z = let r = zip_last R ks k xs x z.1 in ((z.0, r.0), r.1)
+
 pub none_of : {X : Type 0} (R : ℕ → X → Type 0) (ks : List ℕ) → AllZip {B = X} R ks [] → ks ≡ []
 none_of R [] z = refl
 none_of R (k ∷ ks) z = absurd z
 
+-- of this mote this wake is pending
+abbrev pub IsPending : (until : ℕ) → Motes → (k : ℕ) → (wake : Option ℕ) → Type 0
+IsPending until motes k wake = wake ≡ wake_from until (motes k).wake
+
 -- some motes are still out
-pub record Coming (n : NetTold) (of : List ℕ) (worker from until : ℕ) (motes : Motes) (taken : List RadioCopy) (inbox : ℕ → List RadioCopy) (share : Share) (outs : List WindowOut) (away : List RadioCopy) : Type 0 where
+pub record Coming (n : NetTold) (of : List ℕ) (worker from until : ℕ) (motes : Motes) (taken : List RadioCopy) (inbox : ℕ → List RadioCopy) (share : Share) (outs : List WindowOut) (wakes : List (Option ℕ)) (away : List RadioCopy) : Type 0 where
   pub rest : List ℕ
   pub different : are_different rest ≡ true
   pub now : Motes
   pub backs : AllZip (IsBack n (is_own of worker) from until motes inbox) rest outs
+  pub pending : AllZip (IsPending until motes) rest wakes
   pub stands : IsShare n of worker (λ j. is_own of worker j && not (is_one_of j rest)) until now taken share
   pub waits : (k : ℕ) → is_one_of k rest ≡ true → now k ≡ motes k
   pub others : (k : ℕ) → is_own of worker k ≡ false → now k ≡ motes k
@@ -114,8 +126,8 @@ module _ (n : NetTold) (of : List ℕ) (worker from until : ℕ) (motes : Motes)
   abbrev mine : ℕ → Bool
   mine = is_own of worker
 
-  module _ (old share : Share) (outs more : List WindowOut) (out : WindowOut) (popped : outs ≡ more ++ out ∷ []) (before after : List RadioCopy) (coming : Coming n of worker from until motes taken inbox old outs before)
-      (returns : (k : ℕ) → HasNumber k out.mote → MoteReturns n.radio of k out old share before after) where
+  module _ (old share : Share) (outs more : List WindowOut) (out : WindowOut) (popped : outs ≡ more ++ out ∷ []) (wakes less : List (Option ℕ)) (wake : Option ℕ) (woken : wakes ≡ less ++ wake ∷ []) (before after : List RadioCopy)
+      (coming : Coming n of worker from until motes taken inbox old outs wakes before) (returns : (k : ℕ) → HasNumber k out.mote → MoteReturns n.radio of k wake out old share before after) where
     l : Last (IsBack n mine from until motes inbox) coming.rest more out
     l = last_of (IsBack n mine from until motes inbox) coming.rest more out (subst (AllZip (IsBack n mine from until motes inbox) coming.rest) popped coming.backs)
 
@@ -125,7 +137,10 @@ module _ (n : NetTold) (of : List ℕ) (worker from until : ℕ) (motes : Motes)
     abbrev k : ℕ
     k = l.number
 
-    ret : MoteReturns n.radio of k out old share before after
+    pending : AllZip (IsPending until motes) front less × IsPending until motes k wake
+    pending = zip_last (IsPending until motes) front k less wake (subst (λ ks. AllZip (IsPending until motes) ks (less ++ wake ∷ [])) l.is (subst (AllZip (IsPending until motes) coming.rest) woken coming.pending))
+
+    ret : MoteReturns n.radio of k wake out old share before after
     ret = returns k (record { tree = tree_at n k; node = l.last.last.state; is = l.last.node; number_is = l.last.number_is })
 
     d : (are_different front ≡ true) × (is_one_of k front ≡ false)
@@ -174,13 +189,14 @@ module _ (n : NetTold) (of : List ℕ) (worker from until : ℕ) (motes : Motes)
         (every_append _ before _ coming.late
         (every_filter _ _ (leaves mine) (λ copy h e. h.late) (flat_map (copies n.radio) out.sends.items) (come_late n from until placed short k out.sends.items l.last.sent)))
 
-    pub one_back : Coming n of worker from until motes taken inbox share more after
+    pub one_back : Coming n of worker from until motes taken inbox share more less after
     one_back = record {
       rest = front;
       different = d.0;
       now = after_it;
       backs = l.zip;
-      stands = is_back n of worker from until motes coming.now taken inbox placed short front k d.1 out l.last waited old share stands_then before after ret;
+      pending = pending.0;
+      stands = is_back n of worker from until motes coming.now taken inbox placed short front k d.1 out l.last waited old share stands_then before after wake pending.1 ret;
       waits = λ j e. (
           let ne : j ≡ k → ⊥ = λ f. false≢true (sym d.1 ∙ (ap (λ i. is_one_of i front) (sym f) ∙ e)) in
           else_same j ne ∙ coming.waits j (among_else j ne ∙ e));
@@ -200,10 +216,10 @@ module _ (n : NetTold) (of : List ℕ) (worker from until : ℕ) (motes : Motes)
   and_yes true = refl
   and_yes false = refl
 
-  pub all_back : (share : Share) (outs : List WindowOut) (away : List RadioCopy) → outs ≡ [] → Coming n of worker from until motes taken inbox share outs away
+  pub all_back : (share : Share) (outs : List WindowOut) (wakes : List (Option ℕ)) (away : List RadioCopy) → outs ≡ [] → Coming n of worker from until motes taken inbox share outs wakes away
       → ((k : ℕ) → all_mine k ≡ true → (t s : ℕ) → filter (is_from_sender s) (filter (is_at t) (inbox k)) ≡ filter (is_at t) (filter (is_within k from until) (copies_known (system_of n) all_mine motes taken s)))
       → RunsWindow n of worker from until motes taken share away
-  all_back share outs away e coming inboxes = record {
+  all_back share outs wakes away e coming inboxes = record {
     next = coming.now;
     runs = λ k h. record { inbox = inbox k; is_inbox = inboxes k h; alone = coming.alone k h (ap (is_one_of k) none) };
     others = coming.others;
@@ -219,12 +235,7 @@ module _ (n : NetTold) (of : List ℕ) (worker from until : ℕ) (motes : Motes)
       traces = coming.stands.traces;
       log = coming.stands.log;
       fates = coming.stands.fates;
-      agenda = record {
-        items = coming.stands.agenda.items;
-        holds = coming.stands.agenda.holds;
-        wakes = λ k. coming.stands.agenda.wakes k ∙ ap (λ b. cond b (wake_items k (coming.now k).wake) []) (here k);
-        copies = coming.stands.agenda.copies;
-      };
+      agenda = coming.stands.agenda;
     };
     out = coming.sent;
     late = coming.late;

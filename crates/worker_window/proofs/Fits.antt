@@ -12,7 +12,6 @@ use Rattle.window_laws.proofs.Lists.{every_weaker, every_append, every_map}
 use Rattle.window_run.specs.declared.out.WindowOut.{WindowOut}
 use Rattle.window_run.specs.declared.share.Resident.{Resident}
 use Rattle.window_run.specs.Shares.{ResidentGives, GivesList, AreInNet}
-use Rattle.net_agenda.specs.Buckets.{Buckets}
 use Rattle.net_agenda.specs.NetSystem.{tree_at}
 use Rattle.worker_window.specs.declared.share.Share.{Share}
 use Rattle.worker_window.specs.Calls.{CalledMotes, copies_for, Gathers}
@@ -59,7 +58,7 @@ module _ (n : NetTold) (of : List ℕ) (share : Share) (kept : IsKept n of share
   all_mine : AllByRecursion (λ item. mine (mote_of item) ≡ true) all_items
   all_mine =
       every_append _ kept.keeps.agenda.items (map Packet arrived)
-      (every_weaker _ _ (λ item h. h.0) kept.keeps.agenda.items (inside n mine mine kept.from kept.motes kept.taken share.agenda.buckets kept.keeps.agenda (λ k h. h) kept.keeps.quiet))
+      (every_weaker _ _ (λ item h. h.0) kept.keeps.agenda.items (inside n mine kept.from kept.motes kept.taken share.agenda.buckets kept.keeps.agenda))
       (every_map _ Packet arrived (every_weaker _ _ (λ c h. same_own c.to ∙ h) arrived to_own))
 
   module _ (until : ℕ) (calls : CalledMotes) (gathers : Gathers until all_items calls) where
@@ -69,7 +68,7 @@ module _ (n : NetTold) (of : List ℕ) (share : Share) (kept : IsKept n of share
     pub called_here : (k : ℕ) → IsSome (copies_for calls k) → IsSome (mote_here share.motes.items k)
     called_here k h = some_mote (tree_at n k) (mote_here share.motes.items k) _ (kept.keeps.nodes k (called_mine k (is_some_of (copies_for calls k) h)))
 
-    module _ (new : List (Option Mote)) (before after : Buckets) (residents : List Resident) (leaves : MotesLeave until calls share.motes.items new before after residents) (order : kept.from ≤ until) where
+    module _ (new : List (Option Mote)) (residents : List Resident) (wakes : List (Option ℕ)) (leaves : MotesLeave until calls share.motes.items new residents wakes) (order : kept.from ≤ until) where
       number_mine : (r : Resident) → IsCalled calls share.motes.items r → mine r.number ≡ true
       number_mine r called = called_mine r.number (ap is_some called.copies)
 

@@ -13,7 +13,7 @@ use Rattle.worker_window.specs.declared.share.Share.{Share}
 use Rattle.worker_cut.specs.Crossed.{is_own, copies_known}
 use Rattle.worker_window.specs.Share.{Motes, Keeps, is_to_come}
 use Rattle.worker_window.proofs.Behind.{past_later}
-use Rattle.worker_window.proofs.Items.{inside, wake_of_all, packets_of_all}
+use Rattle.worker_window.proofs.Items.{inside, all_wakes, wake_of_all, packets_of_all}
 
 -- the tests over plain numbers
 still_later : (own : Bool) (at from moment : ℕ) → from ≤ moment → (own && not (ltb at moment)) ≡ ((own && not (ltb at from)) && not (ltb at moment))
@@ -38,7 +38,7 @@ module _ (n : NetTold) (of : List ℕ) (worker from : ℕ) (motes : Motes) (take
   items = keeps.agenda.items
 
   pub none_sooner : AllByRecursion (λ item. from ≤ moment_of item) items
-  none_sooner = every_weaker _ _ (λ item h. h.1) items (inside n own own from motes taken share.agenda.buckets keeps.agenda (λ k h. h) keeps.quiet)
+  none_sooner = every_weaker _ _ (λ item h. h.1) items (inside n own from motes taken share.agenda.buckets keeps.agenda)
 
   pub first_from : (t m : ℕ) → IsLeast t m items → from ≤ t
   first_from t m least = any_every _ (comes_at t m) _ (λ item e h. let f = eqb-true (moment_of item) t (and_parts (eqb (moment_of item) t) (eqb (mote_of item) m) e).0 in omega arith) items least.is_there none_sooner
@@ -46,7 +46,7 @@ module _ (n : NetTold) (of : List ℕ) (worker from : ℕ) (motes : Motes) (take
   wake_then : (moment k : ℕ) → own k ≡ true → AllByRecursion (λ item. moment ≤ moment_of item) items → WakesFrom moment (motes k).wake
   wake_then moment k mine h =
       wakes_later moment k (motes k).wake
-      (subst (AllByRecursion (λ item. moment ≤ moment_of item)) (keeps.agenda.wakes k ∙ rw mine refl) (wake_of_all (λ item. moment ≤ moment_of item) items k h))
+      (subst (AllByRecursion (λ item. moment ≤ moment_of item)) (keeps.agenda.wakes k ∙ (all_wakes own from motes keeps.quiet k ∙ rw mine refl)) (wake_of_all (λ item. moment ≤ moment_of item) items k h))
 
   copies_then : (moment s : ℕ) → from ≤ moment → AllByRecursion (λ item. moment ≤ moment_of item) items
       → filter (is_from_sender s) (packets items) ≡ filter (is_to_come own moment) (copies_known (system_of n) own motes taken s)
@@ -69,7 +69,12 @@ module _ (n : NetTold) (of : List ℕ) (worker from : ℕ) (motes : Motes) (take
     traces = keeps.traces;
     log = keeps.log;
     fates = keeps.fates;
-    agenda = record { items = items; holds = keeps.agenda.holds; wakes = keeps.agenda.wakes; copies = λ s. copies_then moment s le h };
+    agenda = record {
+      items = items;
+      holds = keeps.agenda.holds;
+      wakes = λ k. keeps.agenda.wakes k ∙ (all_wakes own from motes keeps.quiet k ∙ sym (all_wakes own moment motes (λ j mine. wake_then moment j mine h) k));
+      copies = λ s. copies_then moment s le h;
+    };
   }
 
   pub least_later : (t m moment : ℕ) → IsLeast t m items → moment ≤ t → AllByRecursion (λ item. moment ≤ moment_of item) items

@@ -1,7 +1,7 @@
--- The items of a share's agenda: wakes of motes that are at home, and copies that are to come.
-use Rattle.std.proofs.Common.{◌≡◌, ℕ, ◌≤◌, Bool, true, false, cond, not, ◌&&◌, ltb, eqb, List, [], ◌∷◌, refl, sym, subst, inl, inr, arith, Option, Some, None}
+-- The items of a share's agenda: wakes of the worker's motes and copies for them, all still to come.
+use Rattle.std.proofs.Common.{◌≡◌, ℕ, ◌≤◌, Bool, true, false, cond, not, ◌&&◌, ltb, eqb, List, [], ◌∷◌, refl, sym, ap, subst, inl, inr, arith, Option, Some, None}
 use Rattle.std.specs.List.{filter, AllByRecursion}
-use Rattle.std.proofs.lemmas.Bool.{cases_Bool, eq-eqb, and_parts}
+use Rattle.std.proofs.lemmas.Bool.{cases_Bool, eq-eqb, and_parts, le-ltb}
 use Rattle.std.proofs.lemmas.Bool.Decides.{nat_tests}
 use Rattle.radio_packet.specs.declared.copy.RadioCopy.{RadioCopy}
 use Rattle.mote_net.specs.Net.{NetTold}
@@ -11,7 +11,7 @@ use Rattle.window_laws.proofs.Lists.{every_passes, every_weaker}
 use Rattle.net_agenda.specs.Buckets.{Buckets}
 use Rattle.net_agenda.specs.NetSystem.{system_of}
 use Rattle.worker_cut.specs.Crossed.{copies_known}
-use Rattle.worker_window.specs.Share.{Motes, HasToCome, is_to_come}
+use Rattle.worker_window.specs.Share.{Motes, HasToCome, is_to_come, wake_from}
 
 -- what holds of each mote's wakes and of each sender's copies holds of each item
 module _ (P : Item → Type 0) where
@@ -54,20 +54,36 @@ not_before a b h = grind (arith, nat_tests)
 pub to_come : (own : Bool) (at from : ℕ) → (own && not (ltb at from)) ≡ true → (own ≡ true) × (from ≤ at)
 to_come own at from h = let p = and_parts own (not (ltb at from)) h in (p.0, not_before at from p.1)
 
-module _ (n : NetTold) (own home : ℕ → Bool) (from : ℕ) (motes : Motes) (taken : List RadioCopy) (buckets : Buckets) (has : HasToCome n own home from motes taken buckets) where
+not_sooner : (a b : ℕ) → ltb a b ≡ false → b ≤ a
+not_sooner a b h = grind (arith, nat_tests)
+
+-- a wake that is still to come
+pub wake_still : (from : ℕ) (wake : Option ℕ) → WakesFrom from wake → wake_from from wake ≡ wake
+wake_still from None h = refl
+wake_still from (Some t) h = let e : ltb t from ≡ false = le-ltb t from h in rw e refl
+
+-- where all are still to come
+pub all_wakes : (own : ℕ → Bool) (from : ℕ) (motes : Motes) → ((k : ℕ) → own k ≡ true → WakesFrom from (motes k).wake) → (k : ℕ)
+    → cond (own k) (wake_items k (wake_from from (motes k).wake)) [] ≡ cond (own k) (wake_items k (motes k).wake) []
+all_wakes own from motes quiet k = of (own k) refl
+  where
+    of : (b : Bool) → own k ≡ b → cond b (wake_items k (wake_from from (motes k).wake)) [] ≡ cond b (wake_items k (motes k).wake) []
+    of true e = ap (wake_items k) (wake_still from (motes k).wake (quiet k e))
+    of false e = refl
+
+module _ (n : NetTold) (own : ℕ → Bool) (from : ℕ) (motes : Motes) (taken : List RadioCopy) (buckets : Buckets) (has : HasToCome n own from motes taken buckets) where
   -- an item is for a mote of the worker, and not before the moment
   abbrev pub IsInside : Item → Type 0
   IsInside item = (own (mote_of item) ≡ true) × (from ≤ moment_of item)
 
-  wake_inside : ((k : ℕ) → home k ≡ true → own k ≡ true) → ((k : ℕ) → home k ≡ true → WakesFrom from (motes k).wake) → (k : ℕ) (b : Bool) → home k ≡ b → (wake : Option ℕ) → (motes k).wake ≡ wake
-      → AllByRecursion IsInside (cond b (wake_items k wake) [])
-  wake_inside at_home quiet k false e wake f = tt
-  wake_inside at_home quiet k true e None f = tt
-  wake_inside at_home quiet k true e (Some t) f = ((at_home k e, subst (WakesFrom from) f (quiet k e)), tt)
+  wake_inside : (k : ℕ) (b : Bool) → own k ≡ b → (wake : Option ℕ) → AllByRecursion IsInside (cond b (wake_items k (wake_from from wake)) [])
+  wake_inside k false e wake = tt
+  wake_inside k true e None = tt
+  wake_inside k true e (Some t) = elim (cases_Bool (ltb t from)) [ inl f ↦ rw f tt | inr f ↦ rw f ((e, not_sooner t from f), tt) ]
 
-  pub inside : ((k : ℕ) → home k ≡ true → own k ≡ true) → ((k : ℕ) → home k ≡ true → WakesFrom from (motes k).wake) → AllByRecursion IsInside has.items
-  inside at_home quiet =
+  pub inside : AllByRecursion IsInside has.items
+  inside =
       every_item IsInside has.items
-      (λ k. subst (AllByRecursion IsInside) (sym (has.wakes k)) (wake_inside at_home quiet k (home k) refl (motes k).wake refl))
+      (λ k. subst (AllByRecursion IsInside) (sym (has.wakes k)) (wake_inside k (own k) refl (motes k).wake))
       (λ s. subst (AllByRecursion (λ c. IsInside (Packet c))) (sym (has.copies s))
       (every_weaker _ _ (λ c h. to_come (own c.to) c.at from h) _ (every_passes (is_to_come own from) (copies_known (system_of n) own motes taken s))))

@@ -1,27 +1,23 @@
 -- Motes leave a share one after another.
-use Rattle.std.proofs.Common.{◌⊎◌, ◌≡◌, ℕ, zero, suc, ◌<◌, Bool, true, false, cond, not, ◌&&◌, ◌||◌, eqb, List, [], ◌∷◌, ◌++◌, length, get_or, set, refl, sym, ap, ◌∙◌, subst, inl, inr, arith, Option, Some, None, is_some, get_or-set_same, get_or-set_other}
-use Rattle.std.specs.List.{filter, AllByRecursion}
+use Rattle.std.proofs.Common.{◌≡◌, ℕ, zero, suc, ◌<◌, Bool, true, false, cond, not, ◌||◌, eqb, List, [], ◌∷◌, ◌++◌, length, get_or, set, refl, sym, ap, ◌∙◌, subst, inl, inr, arith, Option, Some, None, is_some, get_or-set_same, get_or-set_other}
+use Rattle.std.specs.List.{AllByRecursion, AllZip}
 use Rattle.std.proofs.lemmas.Bool.{cases_Bool, cases_eq, eq-eqb, ne_eqb, eqb-true, false≢true, and_parts}
 use Rattle.std.proofs.lemmas.List.{map-append, length-set}
-use Rattle.program_tree.specs.Code.{Tree}
 use Rattle.mote_node.specs.declared.mote.Mote.{Mote}
-use Rattle.mote_node.specs.Public.{node_in, wake_in}
-use Rattle.window_laws.specs.Agenda.{Item, Wake, Packet, is_wake_of, wake_items}
-use Rattle.window_laws.proofs.Lists.{filter_stronger, filter_both, every_append}
+use Rattle.window_laws.proofs.Lists.{every_append}
 use Rattle.window_run.specs.declared.share.Resident.{Resident}
-use Rattle.net_agenda.specs.Buckets.{Buckets, Holds}
 use Rattle.worker_window.specs.Calls.{CalledMotes, copies_for}
-use Rattle.worker_window.specs.Share.{mote_here, node_at}
-use Rattle.worker_window.specs.Leaving.{wake_from, is_one_of, are_different, numbers_of, stays_without, IsCalled, AreAwake, MotesLeave}
+use Rattle.worker_window.specs.Share.{mote_here}
+use Rattle.worker_window.specs.Leaving.{is_one_of, are_different, numbers_of, IsCalled, IsWakeOf, MotesLeave}
 
 -- some of the motes that are called left, and the rest are still to leave
-pub record Left (until : ℕ) (calls rest : CalledMotes) (old now : List (Option Mote)) (before after : Buckets) (residents : List Resident) : Type 0 where
+pub record Left (until : ℕ) (calls rest : CalledMotes) (old now : List (Option Mote)) (residents : List Resident) (wakes : List (Option ℕ)) : Type 0 where
   pub different : are_different (numbers_of residents) ≡ true
   pub others : (k : ℕ) → copies_for rest k ≡ cond (is_one_of k (numbers_of residents)) None (copies_for calls k)
   pub called : AllByRecursion (IsCalled calls old) residents
   pub places : length now ≡ length old
   pub gone : (k : ℕ) → mote_here now k ≡ cond (is_one_of k (numbers_of residents)) None (mote_here old k)
-  pub agenda : (trees : ℕ → Tree) (items : List Item) → Holds before items → AreAwake until calls old trees items → Holds after (filter (stays_without (numbers_of residents)) items)
+  pub told : AllZip (IsWakeOf until) residents wakes
 
 some_within : {X : Type 0} (xs : List (Option X)) (k : ℕ) (x : X) → get_or xs k None ≡ Some x → k < length xs
 some_within [] k x e = absurd (none_is_not x e)
@@ -84,24 +80,33 @@ different_less (i ∷ ks) k d =
     right_no true b e = absurd (cc)
     right_no false b e = e
 
-pub none_left : (until : ℕ) (calls rest : CalledMotes) (motes : List (Option Mote)) (buckets : Buckets) (residents : List Resident) → residents ≡ [] → ((k : ℕ) → copies_for rest k ≡ copies_for calls k)
-    → Left until calls rest motes motes buckets buckets residents
-none_left until calls rest motes buckets residents e same =
-    subst (Left until calls rest motes motes buckets buckets) (sym e) (record {
+pub zip_length : {A B : Type 0} (R : A → B → Type 0) (xs : List A) (ys : List B) → AllZip R xs ys → length xs ≡ length ys
+zip_length R [] [] z = refl
+zip_length R [] (y ∷ ys) z = absurd z
+zip_length R (x ∷ xs) [] z = absurd z
+zip_length R (x ∷ xs) (y ∷ ys) z = ap suc (zip_length R xs ys z.1)
+
+-- one more of two lists
+pub zip_more : {A B : Type 0} (R : A → B → Type 0) (xs : List A) (ys : List B) (x : A) (y : B) → AllZip R xs ys → R x y → AllZip R (xs ++ x ∷ []) (ys ++ y ∷ [])
+zip_more R [] [] x y z r = (r, tt)
+zip_more R [] (b ∷ ys) x y z r = absurd z
+zip_more R (a ∷ xs) [] x y z r = absurd z
+zip_more R (a ∷ xs) (b ∷ ys) x y z r = (z.0, zip_more R xs ys x y z.1 r)
+
+pub none_left : (until : ℕ) (calls rest : CalledMotes) (motes : List (Option Mote)) (residents : List Resident) (wakes : List (Option ℕ)) → residents ≡ [] → wakes ≡ []
+    → ((k : ℕ) → copies_for rest k ≡ copies_for calls k) → Left until calls rest motes motes residents wakes
+none_left until calls rest motes residents wakes e f same =
+    subst (λ ws. Left until calls rest motes motes residents ws) (sym f)
+    (subst (λ rs. Left until calls rest motes motes rs []) (sym e) (record {
       different = refl;
       others = same;
       called = tt;
       places = refl;
       gone = λ k. refl;
-      agenda = λ trees items holds awake. subst (λ l. Holds buckets l) (sym (all_stay items)) holds;
-    })
-  where
-    all_stay : (items : List Item) → filter (stays_without []) items ≡ items
-    all_stay [] = refl
-    all_stay (Wake t m ∷ items) = ap (λ l. Wake t m ∷ l) (all_stay items)
-    all_stay (Packet c ∷ items) = ap (λ l. Packet c ∷ l) (all_stay items)
+      told = tt;
+    }))
 
-module _ (until : ℕ) (calls rest rest' : CalledMotes) (old now now' : List (Option Mote)) (before after after' : Buckets) (residents residents' : List Resident) (left : Left until calls rest old now before after residents)
+module _ (until : ℕ) (calls rest rest' : CalledMotes) (old now now' : List (Option Mote)) (residents residents' : List Resident) (wakes wakes' : List (Option ℕ)) (left : Left until calls rest old now residents wakes)
     (r : Resident) (pushed : residents' ≡ residents ++ r ∷ []) (popped : copies_for rest r.number ≡ Some r.copies.items)
     (updated : (k : ℕ) → copies_for rest' k ≡ cond (eqb r.number k) None (copies_for rest k)) where
   abbrev ks : List ℕ
@@ -140,8 +145,7 @@ module _ (until : ℕ) (calls rest rest' : CalledMotes) (old now now' : List (Op
   others' : (j : ℕ) → copies_for rest' j ≡ cond (is_one_of j (numbers_of residents')) None (copies_for calls j)
   others' j = updated j ∙ (ap (λ o. cond (eqb k j) None o) (left.others j) ∙ (none_more (is_one_of j ks) (eqb k j) (copies_for calls j) ∙ ap (λ b. cond b None (copies_for calls j)) (sym (among j))))
 
-  module _ (mote : mote_here now k ≡ Some r.mote) (put : now' ≡ set now k None) (wake : Option ℕ) (wakes : (t : Tree) → wake ≡ wake_from until (wake_in (node_in t r.mote)))
-      (dropped : (items : List Item) → Holds after items → filter (is_wake_of k) items ≡ wake_items k wake → Holds after' (filter (λ item. not (is_wake_of k item)) items)) where
+  module _ (mote : mote_here now k ≡ Some r.mote) (put : now' ≡ set now k None) (wake : Option ℕ) (told : IsWakeOf until r wake) (woken : wakes' ≡ wakes ++ wake ∷ []) where
     within : k < length now
     within = some_within now k r.mote mote
 
@@ -169,48 +173,26 @@ module _ (until : ℕ) (calls rest rest' : CalledMotes) (old now now' : List (Op
         no : (j : ℕ) → (j ≡ k → ⊥) → is_one_of j (numbers_of residents') ≡ is_one_of j ks
         no j ne = among j ∙ (ap (λ b. is_one_of j ks || b) (ne_eqb k j (λ f. ne (sym f))) ∙ or_none (is_one_of j ks))
 
-    stays : (item : Item) → stays_without (numbers_of residents') item ≡ (stays_without ks item && not (is_wake_of k item))
-    stays (Wake t m) = ap not (among m) ∙ flip (is_one_of m ks) (eqb k m) (eqb m k) (turn (cases_eq m k))
-      where
-        flip : (a b c : Bool) → b ≡ c → not (a || b) ≡ (not a && not c)
-        flip true b c e = refl
-        flip false b c e = ap not e
-
-        turn : (m ≡ k) ⊎ (m ≡ k → ⊥) → eqb k m ≡ eqb m k
-        turn (inl e) = eq-eqb k m (sym e) ∙ sym (eq-eqb m k e)
-        turn (inr ne) = ne_eqb k m (λ f. ne (sym f)) ∙ sym (ne_eqb m k ne)
-    stays (Packet c) = refl
-
-    own_stays : (item : Item) → is_wake_of k item ≡ true → stays_without ks item ≡ true
-    own_stays (Wake t m) e = ap (λ j. not (is_one_of j ks)) (eqb-true m k e) ∙ ap not new
-    own_stays (Packet c) e = refl
-
-    agenda' : (trees : ℕ → Tree) (items : List Item) → Holds before items → AreAwake until calls old trees items → Holds after' (filter (stays_without (numbers_of residents')) items)
-    agenda' trees items holds awake =
-        subst (λ l. Holds after' l) (filter_both (λ item. not (is_wake_of k item)) (stays_without ks) (stays_without (numbers_of residents')) stays items)
-        (dropped (filter (stays_without ks) items) (left.agenda trees items holds awake)
-        (filter_stronger (is_wake_of k) (stays_without ks) own_stays items
-        ∙ (awake k (ap is_some is_called) ∙ ap (wake_items k) (ap (λ o. wake_from until (wake_in (node_at (trees k) o))) (sym still_here ∙ mote) ∙ sym (wakes (trees k))))))
-
-    pub one_left : Left until calls rest' old now' before after' residents'
+    pub one_left : Left until calls rest' old now' residents' wakes'
     one_left = record {
       different = ap are_different numbers ∙ different_more ks k left.different new;
       others = others';
       called = subst (AllByRecursion (IsCalled calls old)) (sym pushed) (every_append _ residents (r ∷ []) left.called (record { mote = sym still_here ∙ mote; copies = is_called }, tt));
       places = ap length put ∙ (length-set now k None ∙ left.places);
       gone = gone';
-      agenda = agenda';
+      told = subst (λ rs. AllZip (IsWakeOf until) rs wakes') (sym pushed)
+          (subst (λ ws. AllZip (IsWakeOf until) (residents ++ r ∷ []) ws) (sym woken) (zip_more (IsWakeOf until) residents wakes r wake left.told told));
     }
 
-pub all_left : (until : ℕ) (calls rest : CalledMotes) (old now : List (Option Mote)) (before after : Buckets) (residents : List Resident) → Left until calls rest old now before after residents
-    → ((k : ℕ) → copies_for rest k ≡ None) → MotesLeave until calls old now before after residents
-all_left until calls rest old now before after residents left none = record {
+pub all_left : (until : ℕ) (calls rest : CalledMotes) (old now : List (Option Mote)) (residents : List Resident) (wakes : List (Option ℕ)) → Left until calls rest old now residents wakes
+    → ((k : ℕ) → copies_for rest k ≡ None) → MotesLeave until calls old now residents wakes
+all_left until calls rest old now residents wakes left none = record {
   different = left.different;
   all = λ k. each k (is_one_of k (numbers_of residents)) refl;
   called = left.called;
   places = left.places;
   gone = left.gone;
-  agenda = left.agenda;
+  told = left.told;
 }
   where
     called_one : (k : ℕ) (rs : List Resident) → AllByRecursion (IsCalled calls old) rs → is_one_of k (numbers_of rs) ≡ true → is_some (copies_for calls k) ≡ true

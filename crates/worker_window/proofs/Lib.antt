@@ -10,6 +10,7 @@ pub mod Items
 pub mod Left
 pub mod Lone
 pub mod Parts
+pub mod Places
 pub mod Rises
 pub mod Sends
 pub mod Starts

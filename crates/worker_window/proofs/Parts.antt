@@ -16,10 +16,10 @@ use Rattle.net_agenda.specs.NetSystem.{system_of}
 use Rattle.worker_window.specs.declared.share.Share.{Share}
 use Rattle.worker_window.specs.Calls.{is_not_before, calls_for, GathersFor}
 use Rattle.worker_cut.specs.Crossed.{is_own, copies_known}
-use Rattle.worker_window.specs.Share.{Motes, Keeps, is_to_come}
+use Rattle.worker_window.specs.Share.{Motes, Keeps, is_to_come, wake_from}
 use Rattle.worker_window.specs.Window.{ComesIn}
-use Rattle.worker_window.specs.Leaving.{is_one_of, stays_without}
-use Rattle.worker_window.proofs.Items.{inside, packets_of_all}
+use Rattle.worker_window.specs.Leaving.{is_one_of}
+use Rattle.worker_window.proofs.Items.{inside, all_wakes, packets_of_all}
 use Rattle.worker_window.proofs.Rises.{sorted_is_sorted}
 
 -- tests over plain numbers
@@ -58,9 +58,9 @@ any_of_filter q p (x ∷ xs) h =
       | inr e ↦ rw e (elim (cases_Bool (p x)) [ inl f ↦ (let g = rw (f, e) at h in any_of_filter q p xs g) | inr f ↦ (let g = rw f at h in any_of_filter q p xs g) ])
     ]
 
-same_both : {X : Type 0} (b : Bool) (x : X) → cond b x x ≡ x
-same_both true x = refl
-same_both false x = refl
+late_wakes : (until k : ℕ) (wake : Option ℕ) → filter (is_not_before until) (wake_items k wake) ≡ wake_items k (wake_from until wake)
+late_wakes until k None = refl
+late_wakes until k (Some t) = elim (cases_Bool (ltb t until)) [ inl e ↦ rw e refl | inr e ↦ rw e refl ]
 
 module _ (n : NetTold) (of : List ℕ) (worker from until : ℕ) (motes : Motes) (taken arrived : List RadioCopy) (share : Share) (keeps : Keeps n of worker from motes taken share)
     (le : from ≤ until) (come : AllByRecursion (ComesIn of worker from) arrived) where
@@ -99,7 +99,7 @@ module _ (n : NetTold) (of : List ℕ) (worker from until : ℕ) (motes : Motes)
   pub wakes_now : (k : ℕ) → filter (is_wake_of k) items ≡ cond (own k) (wake_items k (motes k).wake) []
   wakes_now k =
       filter-append (is_wake_of k) keeps.agenda.items (map Packet arrived)
-      ∙ (ap (λ l. filter (is_wake_of k) keeps.agenda.items ++ l) (no_wake_in_packets k arrived) ∙ (append-nil (filter (is_wake_of k) keeps.agenda.items) ∙ keeps.agenda.wakes k))
+      ∙ (ap (λ l. filter (is_wake_of k) keeps.agenda.items ++ l) (no_wake_in_packets k arrived) ∙ (append-nil (filter (is_wake_of k) keeps.agenda.items) ∙ (keeps.agenda.wakes k ∙ all_wakes own from motes keeps.quiet k)))
 
   -- each item is for a mote of the worker, at the moment or later
   abbrev pub IsIn : Item → Type 0
@@ -107,7 +107,7 @@ module _ (n : NetTold) (of : List ℕ) (worker from until : ℕ) (motes : Motes)
 
   pub all_in : AllByRecursion IsIn items
   all_in =
-      every_append IsIn keeps.agenda.items (map Packet arrived) (inside n own own from motes taken share.agenda.buckets keeps.agenda (λ k h. h) keeps.quiet)
+      every_append IsIn keeps.agenda.items (map Packet arrived) (inside n own from motes taken share.agenda.buckets keeps.agenda)
       (every_map IsIn Packet arrived (every_weaker _ _ (λ c h. (h.to, h.later)) arrived come))
 
   abbrev pub called : ℕ → Bool
@@ -171,43 +171,30 @@ module _ (n : NetTold) (of : List ℕ) (worker from until : ℕ) (motes : Motes)
       empty : inbox k ≡ []
       empty = sym (packets_filter (calls_for until k) items) ∙ ap packets (unfilled (filter (calls_for until k) items) (filled_any (calls_for until k) items ∙ idle))
 
+  -- what isn't before the window's end
+  abbrev pub later : List Item
+  later = filter (is_not_before until) items
+
+  pub later_wakes : (k : ℕ) → filter (is_wake_of k) later ≡ cond (own k) (wake_items k (wake_from until (motes k).wake)) []
+  later_wakes k =
+      filter_filter (is_wake_of k) (is_not_before until) items
+      ∙ (ap (filter (is_not_before until)) (wakes_now k) ∙ kept (own k))
+    where
+      kept : (b : Bool) → filter (is_not_before until) (cond b (wake_items k (motes k).wake) []) ≡ cond b (wake_items k (wake_from until (motes k).wake)) []
+      kept true = late_wakes until k (motes k).wake
+      kept false = refl
+
+  pub later_copies : (s : ℕ) → filter (is_from_sender s) (packets later) ≡ filter (is_to_come own until) (known s)
+  later_copies s =
+      ap (filter (is_from_sender s)) (packets_filter (is_not_before until) items)
+      ∙ (filter_filter (is_from_sender s) (λ c. not (ltb c.at until)) (packets items)
+      ∙ (ap (filter (λ c. not (ltb c.at until))) (known_now s)
+      ∙ filter_both (λ c. not (ltb c.at until)) (is_to_come own from) (is_to_come own until) (λ c. still_later (own c.to) c.at from until le) (known s)))
+
   -- once the motes that are called have left
   module _ (numbers : List ℕ) (all : (k : ℕ) → is_one_of k numbers ≡ called k) where
     abbrev pub home : ℕ → Bool
     home k = own k && not (is_one_of k numbers)
-
-    abbrev pub left : List Item
-    left = filter (stays_without numbers) (filter (is_not_before until) items)
-
-    pub left_wakes : (k : ℕ) → filter (is_wake_of k) left ≡ cond (home k) (wake_items k (motes k).wake) []
-    left_wakes k =
-        filter_filter (is_wake_of k) (stays_without numbers) (filter (is_not_before until) items)
-        ∙ (ap (filter (stays_without numbers)) (filter_filter (is_wake_of k) (is_not_before until) items ∙ ap (filter (is_not_before until)) (wakes_now k))
-        ∙ go (own k) refl (motes k).wake refl)
-      where
-        go : (b : Bool) → own k ≡ b → (wake : Option ℕ) → (motes k).wake ≡ wake
-            → filter (stays_without numbers) (filter (is_not_before until) (cond b (wake_items k wake) [])) ≡ cond (b && not (is_one_of k numbers)) (wake_items k wake) []
-        go false e wake f = refl
-        go true e None f = sym (same_both (not (is_one_of k numbers)) [])
-        go true e (Some t) f =
-            elim (cases_Bool (ltb t until)) [
-              | inl g ↦ (let a : is_one_of k numbers ≡ true = all k ∙ soon_called k t e f (soon g) in rw (g, a) refl)
-              | inr g ↦ rw g refl
-            ]
-          where
-            soon : ltb t until ≡ true → t < until
-            soon g = grind (arith, nat_tests)
-
-    pub left_copies : (s : ℕ) → filter (is_from_sender s) (packets left) ≡ filter (is_to_come own until) (known s)
-    left_copies s =
-        ap (filter (is_from_sender s)) (packets_filter (stays_without numbers) (filter (is_not_before until) items) ∙ (filter_every (λ c. true) _ (units (packets (filter (is_not_before until) items))) ∙ packets_filter (is_not_before until) items))
-        ∙ (filter_filter (is_from_sender s) (λ c. not (ltb c.at until)) (packets items)
-        ∙ (ap (filter (λ c. not (ltb c.at until))) (known_now s)
-        ∙ filter_both (λ c. not (ltb c.at until)) (is_to_come own from) (is_to_come own until) (λ c. still_later (own c.to) c.at from until le) (known s)))
-      where
-        units : (xs : List RadioCopy) → AllByRecursion (λ c. true ≡ true) xs
-        units [] = tt
-        units (x ∷ xs) = (refl, units xs)
 
     pub home_parts : (k : ℕ) → home k ≡ true → (own k ≡ true) × (called k ≡ false)
     home_parts k e = go (own k) (is_one_of k numbers) refl refl e

@@ -1,13 +1,18 @@
 -- Copies and packets go on their way one after another.
-use Rattle.std.proofs.Common.{◌≡◌, ℕ, ◌+◌, ◌<◌, Bool, List, [], ◌∷◌, ◌++◌, length, map, take, get_or, refl, sym, ap, ◌∙◌, append-nil, append_assoc, Option}
-use Rattle.std.specs.List.{filter, filter_map, flat_map}
+use Rattle.std.proofs.Common.{◌≡◌, ℕ, ◌+◌, ◌<◌, Bool, true, List, [], ◌∷◌, ◌++◌, length, map, take, get_or, refl, sym, ap, ◌∙◌, append-nil, append_assoc, Option, Some, None}
+use Rattle.std.specs.Prelude.{Result, Ok, Err}
+use Rattle.std.specs.Result.{OnOk}
+use Rattle.std.specs.List.{filter, filter_map, flat_map, list_all}
+use Rattle.std.proofs.lemmas.Bool.{and_parts}
 use Rattle.std.proofs.lemmas.List.{map-append, take_more}
 use Rattle.std.proofs.lemmas.List.Concat.{flat_map-append}
 use Rattle.std.proofs.lemmas.List.Elements.{filter-append, filter_map-append}
 use Rattle.radio_packet.specs.declared.copy.RadioCopy.{RadioCopy}
 use Rattle.radio_packet.specs.declared.fate.Fate.{Fate}
 use Rattle.radio_packet.specs.declared.sent.Sent.{Sent}
+use Rattle.radio_medium.specs.Medium.{copy_of}
 use Rattle.window_laws.specs.Agenda.{Item, Packet}
+use Rattle.worker_cut.specs.Crossed.{leaves}
 
 -- what is made of a list piece by piece
 module _ {A B : Type 0} (made : List A → List B) (splits : (xs ys : List A) → made (xs ++ ys) ≡ made xs ++ made ys) where
@@ -56,3 +61,31 @@ module _ (p : RadioCopy → Bool) where
 
     pub more_sent_away : (before : List RadioCopy) (sends : List Sent) (i : ℕ) (d : Sent) → i < length sends → (before ++ all (take i sends)) ++ filter p (copies (get_or sends i d)) ≡ before ++ all (take (i + 1) sends)
     more_sent_away before sends i d lt = ap (λ l. (before ++ all (take i sends)) ++ l) (one (get_or sends i d)) ∙ more all all_splits before sends i d lt
+
+-- where all fates are of copies for own motes, all copies stay
+module _ (own : ℕ → Bool) (sent : Sent) where
+  pub all_own : (fates : List Fate) → list_all (λ (fate : Fate). own fate.to) fates ≡ true → filter (λ (copy : RadioCopy). own copy.to) (filter_map (copy_of sent) fates) ≡ filter_map (copy_of sent) fates
+  all_own [] h = refl
+  all_own (fate ∷ fates) h =
+      let p = and_parts (own fate.to) (list_all (λ (fate : Fate). own fate.to) fates) h in
+      of fate.at p.0 (all_own fates p.1)
+    where
+      of : (at : Option ℕ) → own fate.to ≡ true → filter (λ (copy : RadioCopy). own copy.to) (filter_map (copy_of sent) fates) ≡ filter_map (copy_of sent) fates
+          → filter (λ (copy : RadioCopy). own copy.to) (filter_map (copy_of sent) (record { to = fate.to; at = at } ∷ fates)) ≡ filter_map (copy_of sent) (record { to = fate.to; at = at } ∷ fates)
+      of None e ih = ih
+      of (Some at) e ih = rw e (ap (λ l. record { at = at; to = fate.to; sender = sent.sender; number = sent.number; value = sent.value } ∷ l) ih)
+
+  pub none_away : (fates : List Fate) → list_all (λ (fate : Fate). own fate.to) fates ≡ true → filter (leaves own) (filter_map (copy_of sent) fates) ≡ []
+  none_away [] h = refl
+  none_away (fate ∷ fates) h =
+      let p = and_parts (own fate.to) (list_all (λ (fate : Fate). own fate.to) fates) h in
+      of fate.at p.0 (none_away fates p.1)
+    where
+      of : (at : Option ℕ) → own fate.to ≡ true → filter (leaves own) (filter_map (copy_of sent) fates) ≡ []
+          → filter (leaves own) (filter_map (copy_of sent) (record { to = fate.to; at = at } ∷ fates)) ≡ []
+      of None e ih = ih
+      of (Some at) e ih = rw e ih
+
+pub on_ok : {A E P : Type 0} (r : Result A E) → P → OnOk r P
+on_ok (Ok x) p = p
+on_ok (Err e) p = tt

@@ -1,42 +1,38 @@
 -- The motes that are called leave their share, and give what their windows say.
-use Rattle.std.proofs.Common.{◌≡◌, ℕ, ◌<◌, ◌≤◌, Bool, true, false, cond, not, ◌&&◌, ltb, eqb, List, [], ◌++◌, length, refl, sym, ap, ◌∙◌, subst, inl, inr, arith, append-nil, Option, Some, None, is_some, get_or}
+use Rattle.std.proofs.Common.{◌≡◌, ℕ, ◌<◌, ◌≤◌, Bool, true, false, cond, not, ◌&&◌, ltb, eqb, List, [], ◌++◌, length, refl, sym, ap, ◌∙◌, subst, arith, append-nil, Option, None, is_some, get_or}
 use Rattle.std.specs.List.{filter, list_any, AllByRecursion}
-use Rattle.std.proofs.lemmas.Bool.{cases_Bool, eqb-true, and_parts}
+use Rattle.std.proofs.lemmas.Bool.{eqb-true, and_parts}
 use Rattle.mote_node.specs.Public.{wake_in}
 use Rattle.mote_node.specs.Wake.{wake_of}
 use Rattle.radio_packet.specs.declared.copy.RadioCopy.{RadioCopy}
 use Rattle.mote_net.specs.Net.{NetTold}
-use Rattle.window_laws.specs.Agenda.{Item, moment_of, mote_of, is_wake_of, wake_items}
+use Rattle.window_laws.specs.Agenda.{Item, moment_of, mote_of}
 use Rattle.window_laws.specs.Windows.{is_sent_by, WakesFrom, IsQuiet}
-use Rattle.window_laws.proofs.Lists.{any_every, every_weaker, filter_filter}
+use Rattle.window_laws.proofs.Lists.{any_every, every_weaker}
 use Rattle.window_run.specs.declared.out.WindowOut.{WindowOut}
 use Rattle.window_run.specs.declared.share.Resident.{Resident}
 use Rattle.window_run.specs.Shares.{ResidentGives, ResidentGoesOn, GivesList, AreGoingOn}
 use Rattle.window_run.proofs.Ends.{not_before}
-use Rattle.net_agenda.specs.Buckets.{Buckets, Holds}
+use Rattle.net_agenda.specs.Buckets.{Holds}
 use Rattle.net_agenda.specs.NetSystem.{tree_at, system_of}
 use Rattle.worker_window.specs.declared.share.Share.{Share}
-use Rattle.worker_window.specs.Calls.{CalledMotes, copies_for, is_not_before, calls_for, Gathers}
+use Rattle.worker_window.specs.Calls.{CalledMotes, copies_for, calls_for, Gathers}
 use Rattle.worker_cut.specs.Crossed.{is_own}
 use Rattle.worker_window.specs.Log.{HaveFates, packets_in}
-use Rattle.worker_window.specs.Share.{Motes, IsShare, Keeps, node_at, mote_here}
+use Rattle.worker_window.specs.Share.{Motes, IsShare, Keeps, node_at, mote_here, wake_from}
 use Rattle.worker_window.specs.Window.{ComesIn, copies_out}
-use Rattle.worker_window.specs.Leaving.{IsCalled, MotesLeave, wake_from, is_one_of, numbers_of}
+use Rattle.worker_window.specs.Leaving.{IsCalled, IsWakeOf, MotesLeave, is_one_of, numbers_of}
 use Rattle.worker_window.proofs.Begins.{own_there}
 use Rattle.worker_window.proofs.Behind.{past_later}
 use Rattle.worker_window.proofs.Gives.{IsBack, back, gives_open, goes_open}
 use Rattle.worker_window.proofs.Lone.{quiet_alike}
-use Rattle.worker_window.proofs.Parts.{items, inbox, inbox_from, alike, idle_alone, all_in, left, left_wakes, left_copies, quiet_else, home_parts, wakes_now}
-use Rattle.worker_window.proofs.Comings.{Coming, zip_numbers}
+use Rattle.worker_window.proofs.Parts.{items, inbox, inbox_from, alike, idle_alone, all_in, later, later_wakes, later_copies, quiet_else, home_parts}
+use Rattle.worker_window.proofs.Comings.{Coming, IsPending, zip_numbers}
 
 -- who is called is inside
 pub called_in : (P : ℕ → Type 0) (until k : ℕ) (items : List Item) → AllByRecursion (λ item. P (mote_of item)) items → list_any (calls_for until k) items ≡ true → P k
 called_in P until k items all e =
     any_every (P k) (calls_for until k) _ (λ item f h. subst P (eqb-true (mote_of item) k (and_parts (ltb (moment_of item) until) (eqb (mote_of item) k) f).1) h) items e all
-
-late_wakes : (until k : ℕ) (wake : Option ℕ) → filter (is_not_before until) (wake_items k wake) ≡ wake_items k (wake_from until wake)
-late_wakes until k None = refl
-late_wakes until k (Some t) = elim (cases_Bool (ltb t until)) [ inl e ↦ rw e refl | inr e ↦ rw e refl ]
 
 -- the share once its motes left
 abbrev pub IsLeft : (old new : Share) → Type 0
@@ -44,9 +40,9 @@ IsLeft old new = (new.worker ≡ old.worker) × (new.traces.items ≡ old.traces
 
 module _ (n : NetTold) (of : List ℕ) (worker from until : ℕ) (motes : Motes) (taken arrived : List RadioCopy) (old new : Share) (keeps : Keeps n of worker from motes taken old)
     (le : from ≤ until) (come : AllByRecursion (ComesIn of worker from) arrived) (long : length of ≡ length n.motes)
-    (calls : CalledMotes) (before : Buckets) (residents : List Resident) (gathers : Gathers until (items n of worker from until motes taken arrived old keeps le come) calls)
-    (holds : Holds before (filter (is_not_before until) (items n of worker from until motes taken arrived old keeps le come)))
-    (leaves : MotesLeave until calls old.motes.items new.motes.items before new.agenda.buckets residents) where
+    (calls : CalledMotes) (residents : List Resident) (wakes : List (Option ℕ)) (gathers : Gathers until (items n of worker from until motes taken arrived old keeps le come) calls)
+    (holds : Holds new.agenda.buckets (later n of worker from until motes taken arrived old keeps le come))
+    (leaves : MotesLeave until calls old.motes.items new.motes.items residents wakes) where
   abbrev mine : ℕ → Bool
   mine = is_own of worker
 
@@ -62,15 +58,6 @@ module _ (n : NetTold) (of : List ℕ) (worker from until : ℕ) (motes : Motes)
   called_mine : (k : ℕ) → is_some (copies_for calls k) ≡ true → mine k ≡ true
   called_mine k e =
       called_in (λ k. mine k ≡ true) until k all_items (every_weaker _ _ (λ item h. h.0) all_items (all_in n of worker from until motes taken arrived old keeps le come)) (sym (gathers.called k) ∙ e)
-
-  awake : (k : ℕ) → is_some (copies_for calls k) ≡ true
-      → filter (is_wake_of k) (filter (is_not_before until) all_items) ≡ wake_items k (wake_from until (wake_in (node_at (tree_at n k) (mote_here old.motes.items k))))
-  awake k e =
-      let h = called_mine k e in
-      filter_filter (is_wake_of k) (is_not_before until) all_items
-      ∙ (ap (filter (is_not_before until)) (wakes_now n of worker from until motes taken arrived old keeps le come k ∙ ap (λ b. cond b (wake_items k (motes k).wake) []) h)
-      ∙ (late_wakes until k (motes k).wake
-      ∙ ap (λ w. wake_items k (wake_from until w)) (keeps.wakes k h ∙ ap wake_in (sym (keeps.nodes k h)))))
 
   abbrev home : ℕ → Bool
   home k = mine k && not (is_one_of k (numbers_of residents))
@@ -95,10 +82,10 @@ module _ (n : NetTold) (of : List ℕ) (worker from until : ℕ) (motes : Motes)
     log = λ s. ap (λ lines. filter (is_sent_by s) (packets_in lines)) same.2 ∙ keeps.log s;
     fates = subst (HaveFates n.radio) (sym same.2) keeps.fates;
     agenda = record {
-      items = left n of worker from until motes taken arrived old keeps le come (numbers_of residents) all;
-      holds = leaves.agenda (tree_at n) (filter (is_not_before until) all_items) holds awake;
-      wakes = left_wakes n of worker from until motes taken arrived old keeps le come (numbers_of residents) all;
-      copies = left_copies n of worker from until motes taken arrived old keeps le come (numbers_of residents) all;
+      items = later n of worker from until motes taken arrived old keeps le come;
+      holds = holds;
+      wakes = later_wakes n of worker from until motes taken arrived old keeps le come;
+      copies = later_copies n of worker from until motes taken arrived old keeps le come;
     };
   }
 
@@ -123,16 +110,24 @@ module _ (n : NetTold) (of : List ℕ) (worker from until : ℕ) (motes : Motes)
       goes_open n until r (motes k).state there (ap (node_at (tree_at n k)) (sym called.mote) ∙ keeps.nodes k h)
       (λ moment next. past_later from moment (not_before from moment wake r.copies.items quiet next.comes) (motes k).state.last (keeps.behind k h))
 
+  one_pending : (r : Resident) (wake : Option ℕ) → IsCalled calls old.motes.items r → IsWakeOf until r wake → IsPending until motes r.number wake
+  one_pending r wake called told =
+      let k = r.number in
+      let h = called_mine k (ap is_some called.copies) in
+      told (tree_at n k)
+      ∙ (ap (λ o. wake_from until (wake_in o)) (ap (node_at (tree_at n k)) (sym called.mote) ∙ keeps.nodes k h) ∙ ap (wake_from until) (sym (keeps.wakes k h)))
+
   -- nothing comes too late to the motes that are called
   pub go_on : AreGoingOn n until residents
   go_on = every_weaker (IsCalled calls old.motes.items) (ResidentGoesOn n until) one_goes_on residents leaves.called
 
-  pub starts : (outs : List WindowOut) → GivesList n until residents outs → IsLeft old new → Coming n of worker from until motes (taken ++ arrived) boxes new outs []
+  pub starts : (outs : List WindowOut) → GivesList n until residents outs → IsLeft old new → Coming n of worker from until motes (taken ++ arrived) boxes new outs wakes []
   starts outs gives same = record {
     rest = numbers_of residents;
     different = leaves.different;
     now = motes;
     backs = zip_numbers (IsCalled calls old.motes.items) (ResidentGives n until) (IsBack n mine from until motes boxes) one_gives residents outs leaves.called gives;
+    pending = zip_numbers (IsCalled calls old.motes.items) (IsWakeOf until) (IsPending until motes) one_pending residents wakes leaves.called leaves.told;
     stands = stands_left same;
     waits = λ k e. refl;
     others = λ k e. refl;

@@ -1,14 +1,16 @@
 -- Between two windows a share takes in copies that arrived.
-use Rattle.std.proofs.Common.{ℕ, ◌++◌, List, map, arith}
+use Rattle.std.proofs.Common.{◌∙◌, ℕ, ◌++◌, List, map, arith, sym}
 use Rattle.std.specs.List.{AllByRecursion}
 use Rattle.radio_packet.specs.declared.copy.RadioCopy.{RadioCopy}
 use Rattle.mote_net.specs.Net.{NetTold}
 use Rattle.net_agenda.specs.declared.agenda.Agenda.{Agenda}
 use Rattle.net_agenda.specs.Buckets.{Holds}
 use Rattle.window_laws.specs.Agenda.{Packet}
+use Rattle.worker_cut.specs.Crossed.{is_own}
 use Rattle.worker_window.specs.declared.share.Share.{Share}
 use Rattle.worker_window.specs.Share.{Motes, Keeps}
 use Rattle.worker_window.specs.Window.{ComesIn}
+use Rattle.worker_window.proofs.Items.{all_wakes}
 use Rattle.worker_window.proofs.Parts.{items, wakes_now, known_now}
 
 pub takes_in : (n : NetTold) (of : List ℕ) (worker from : ℕ) (motes : Motes) (taken arrived : List RadioCopy) (share : Share) (agenda : Agenda) (keeps : Keeps n of worker from motes taken share)
@@ -28,7 +30,7 @@ takes_in n of worker from motes taken arrived share agenda keeps come holds = re
   agenda = record {
     items = items n of worker from from motes taken arrived share keeps (omega arith) come;
     holds = holds;
-    wakes = wakes_now n of worker from from motes taken arrived share keeps (omega arith) come;
+    wakes = λ k. wakes_now n of worker from from motes taken arrived share keeps (omega arith) come k ∙ sym (all_wakes (is_own of worker) from motes keeps.quiet k);
     copies = known_now n of worker from from motes taken arrived share keeps (omega arith) come;
   };
 }

@@ -1,5 +1,5 @@
 -- One trace has lines more, and the others none.
-use Rattle.std.proofs.Common.{◌≡◌, ℕ, ◌<◌, ◌⊎◌, true, false, cond, eqb, List, [], ◌++◌, length, get_or, set, sym, ap, ◌∙◌, subst, inl, inr, append-nil, Vec, get_or-set_same, get_or-set_other}
+use Rattle.std.proofs.Common.{◌≡◌, ℕ, ◌<◌, ◌⊎◌, cond, eqb, List, [], ◌++◌, length, get_or, set, sym, ap, ◌∙◌, inl, inr, append-nil, Vec, get_or-set_same, get_or-set_other}
 use Rattle.std.specs.declared.alloc.Global.{Global}
 use Rattle.std.proofs.lemmas.Bool.{cases_eq, eq-eqb, ne_eqb}
 use Rattle.std.proofs.lemmas.List.{length-set}

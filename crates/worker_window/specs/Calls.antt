@@ -1,9 +1,7 @@
 -- The motes that a window calls, and the copies that come to each.
 use Rattle.std.specs.Prelude.{ℕ, ◌≡◌, Bool, true, not, ◌&&◌, ◌==◌, nat_lt, if◌then◌else◌}
-use Rattle.std.specs.Prelude.{List, [], Option, Some, is_some, option_map, Vec}
+use Rattle.std.specs.Prelude.{zero, suc, ◌<◌, List, [], ◌∷◌, length, Option, Some, None, is_some, option_map, Vec}
 use Rattle.std.specs.List.{filter, list_any}
-use Rattle.std.specs.Ordering.{nat_cmp}
-use Rattle.std.specs.BTreeMap.{BTreeMap, get}
 use Rattle.std.specs.declared.alloc.Global.{Global}
 use Rattle.radio_packet.specs.declared.copy.RadioCopy.{RadioCopy}
 use Rattle.window_laws.specs.Order.{in_order}
@@ -12,12 +10,21 @@ use Rattle.window_laws.specs.Windows.{is_at}
 use Rattle.window_run.specs.Window.{is_rising}
 use Rattle.net_agenda.specs.Buckets.{Buckets, Holds}
 
+-- a place for each mote, by number
 abbrev pub CalledMotes : Type 0
-CalledMotes = BTreeMap ℕ (Vec RadioCopy Global)
+CalledMotes = List (Option (Vec RadioCopy Global))
 
 -- the copies for a mote, if it is called
 abbrev pub copies_for : CalledMotes → (mote : ℕ) → Option (List RadioCopy)
-copies_for calls mote = option_map (λ copies. copies.items) (get nat_cmp calls mote)
+copies_for [] mote = None
+copies_for (place ∷ places) zero = option_map (λ copies. copies.items) place
+copies_for (place ∷ places) (suc mote) = copies_for places mote
+
+-- this mote, for which these are the copies, is called no more
+pub record TakesCall (mote : ℕ) (copies : List RadioCopy) (old new : CalledMotes) : Type 0 where
+  pub called : copies_for old mote ≡ Some copies
+  pub others : (k : ℕ) → copies_for new k ≡ (if mote == k then None else copies_for old k)
+  pub fewer : length new < length old
 
 -- not before this moment
 abbrev pub is_not_before : (until : ℕ) → Item → Bool

@@ -1,7 +1,7 @@
 -- Motes leave a share for a window, and come back.
-use Rattle.std.specs.Prelude.{ℕ, ◌≡◌, ◌<◌, ◌≤◌, ◌^◌, Bool, true, not, ◌&&◌, ◌==◌, nat_lt, if◌then◌else◌, List, []}
+use Rattle.std.specs.Prelude.{ℕ, ◌≡◌, ◌<◌, ◌≤◌, ◌^◌, Bool, true, not, ◌&&◌, ◌==◌, if◌then◌else◌, List, []}
 use Rattle.std.specs.Prelude.{◌∷◌, ◌++◌, length, map, Option, Some, None, is_some, slice_index_or, slice_set, Vec}
-use Rattle.std.specs.List.{filter, flat_map, list_any, AllByRecursion}
+use Rattle.std.specs.List.{filter, flat_map, list_any, AllByRecursion, AllZip}
 use Rattle.std.specs.declared.alloc.Global.{Global}
 use Rattle.program_tree.specs.Code.{Tree}
 use Rattle.trace_lines.specs.declared.line.Line.{Line}
@@ -10,20 +10,17 @@ use Rattle.mote_node.specs.Node.{Node}
 use Rattle.mote_node.specs.Public.{node_in, wake_in}
 use Rattle.radio_packet.specs.declared.copy.RadioCopy.{RadioCopy}
 use Rattle.radio_medium.specs.Medium.{Radio, copies}
-use Rattle.window_laws.specs.Agenda.{Item, Wake, Packet, is_wake_of, wake_items}
+use Rattle.window_laws.specs.Agenda.{Item, Packet, is_wake_of, wake_items}
 use Rattle.window_run.specs.declared.out.WindowOut.{WindowOut}
 use Rattle.window_run.specs.declared.share.Resident.{Resident}
-use Rattle.net_agenda.specs.Buckets.{Buckets, Holds}
+use Rattle.net_agenda.specs.Buckets.{Holds}
+use Rattle.net_agenda.specs.Changes.{without_wakes}
 use Rattle.worker_window.specs.declared.share.Share.{Share}
 use Rattle.worker_window.specs.Calls.{CalledMotes, copies_for}
 use Rattle.worker_window.specs.Log.{packets_in, HaveFates}
 use Rattle.worker_cut.specs.Crossed.{is_own, leaves}
 use Rattle.window_run.specs.Window.{number_of}
-use Rattle.worker_window.specs.Share.{mote_here, node_at}
-
-abbrev pub wake_from : (until : ℕ) → Option ℕ → Option ℕ
-wake_from until None = None
-wake_from until (Some wake) = if nat_lt wake until then None else Some wake
+use Rattle.worker_window.specs.Share.{mote_here, wake_from}
 
 abbrev pub is_one_of : (number : ℕ) → List ℕ → Bool
 is_one_of number numbers = list_any (λ other. other == number) numbers
@@ -35,32 +32,24 @@ are_different (k ∷ ks) = not (is_one_of k ks) && are_different ks
 abbrev pub numbers_of : List Resident → List ℕ
 numbers_of residents = map (λ resident. resident.number) residents
 
--- all but the wakes of these motes
-abbrev pub stays_without : List ℕ → Item → Bool
-stays_without numbers (Wake moment mote) = not (is_one_of mote numbers)
-stays_without numbers (Packet copy) = true
-
 -- a mote that was here, with the copies for it
 pub record IsCalled (calls : CalledMotes) (motes : List (Option Mote)) (resident : Resident) : Type 0 where
   pub mote : mote_here motes resident.number ≡ Some resident.mote
   pub copies : copies_for calls resident.number ≡ Some resident.copies.items
 
--- in the agenda these motes have the wakes that they tell, from a moment on
-abbrev pub AreAwake : (until : ℕ) → CalledMotes → List (Option Mote) → (trees : ℕ → Tree) → List Item → Type 0
-AreAwake until calls motes trees items =
-    (k : ℕ) → is_some (copies_for calls k) ≡ true → filter (is_wake_of k) items
-    ≡ wake_items k (wake_from until (wake_in (node_at (trees k) (mote_here motes k))))
+-- the wake that a mote tells, from a moment on
+abbrev pub IsWakeOf : (until : ℕ) → Resident → (wake : Option ℕ) → Type 0
+IsWakeOf until resident wake = (tree : Tree) → wake ≡ wake_from until (wake_in (node_in tree resident.mote))
 
--- the motes that are called left, with their wakes
-pub record MotesLeave (until : ℕ) (calls : CalledMotes) (old new : List (Option Mote)) (before after : Buckets)
-    (residents : List Resident) : Type 0 where
+-- the motes that are called left, and these are the wakes that they tell
+pub record MotesLeave (until : ℕ) (calls : CalledMotes) (old new : List (Option Mote)) (residents : List Resident)
+    (wakes : List (Option ℕ)) : Type 0 where
   pub different : are_different (numbers_of residents) ≡ true
   pub all : (k : ℕ) → is_one_of k (numbers_of residents) ≡ is_some (copies_for calls k)
   pub called : AllByRecursion (IsCalled calls old) residents
   pub places : length new ≡ length old
   pub gone : (k : ℕ) → mote_here new k ≡ (if is_one_of k (numbers_of residents) then None else mote_here old k)
-  pub agenda : (trees : ℕ → Tree) (items : List Item) → Holds before items → AreAwake until calls old trees items
-      → Holds after (filter (stays_without (numbers_of residents)) items)
+  pub told : AllZip (IsWakeOf until) residents wakes
 
 -- the mote has this number
 pub record HasNumber (number : ℕ) (mote : Mote) : Type 0 where
@@ -76,8 +65,8 @@ pub record IsOutOfNet (motes : ℕ) (out : WindowOut) : Type 0 where
   pub there : number < motes
   pub sends : AllByRecursion (λ sent. (sent.sender < motes) × (sent.at ≤ 2 ^ 40)) out.sends.items
 
--- a mote is back in its share
-pub record MoteReturns (radio : Radio) (of : List ℕ) (number : ℕ) (out : WindowOut) (old new : Share)
+-- a mote is back in its share, whose agenda had this wake of it
+pub record MoteReturns (radio : Radio) (of : List ℕ) (number : ℕ) (wake : Option ℕ) (out : WindowOut) (old new : Share)
     (before after : List RadioCopy) : Type 0 where
   pub worker : new.worker ≡ old.worker
   pub motes : new.motes.items ≡ slice_set old.motes.items number (Some out.mote)
@@ -86,7 +75,8 @@ pub record MoteReturns (radio : Radio) (of : List ℕ) (number : ℕ) (out : Win
       ≡ (slice_index_or old.traces.items k d).items ++ (if k == number then out.lines.items else [])
   pub log : packets_in new.log.items ≡ packets_in old.log.items ++ out.sends.items
   pub fates : HaveFates radio old.log.items → HaveFates radio new.log.items
-  pub agenda : (items : List Item) → Holds old.agenda.buckets items
-      → Holds new.agenda.buckets ((items ++ wake_items number out.wake)
+  pub agenda : (items : List Item) → Holds old.agenda.buckets items → filter (is_wake_of number) items
+      ≡ wake_items number wake
+      → Holds new.agenda.buckets ((without_wakes number items ++ wake_items number out.wake)
       ++ map Packet (filter (λ copy. is_own of old.worker copy.to) (flat_map (copies radio) out.sends.items)))
   pub away : after ≡ before ++ filter (leaves (is_own of old.worker)) (flat_map (copies radio) out.sends.items)

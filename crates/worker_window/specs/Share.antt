@@ -37,13 +37,19 @@ mote_here motes number = slice_index_or motes number None
 abbrev pub is_to_come : (own : ℕ → Bool) → (from : ℕ) → RadioCopy → Bool
 is_to_come own from copy = own copy.to && not (nat_lt copy.at from)
 
--- the agenda has the next wake of each mote that is at home, and of each sender all copies that are to come, in the
--- order of sending
-pub record HasToCome (n : NetTold) (own home : ℕ → Bool) (from : ℕ) (motes : Motes) (taken : List RadioCopy)
+-- a wake at this moment or later
+abbrev pub wake_from : (from : ℕ) → Option ℕ → Option ℕ
+wake_from from None = None
+wake_from from (Some wake) = if nat_lt wake from then None else Some wake
+
+-- the agenda has the next wake of each of the worker's motes, where that is still to come, and of each sender all
+-- copies that are to come, in the order of sending
+pub record HasToCome (n : NetTold) (own : ℕ → Bool) (from : ℕ) (motes : Motes) (taken : List RadioCopy)
     (buckets : Buckets) : Type 0 where
   pub items : List Item
   pub holds : Holds buckets items
-  pub wakes : (k : ℕ) → filter (is_wake_of k) items ≡ (if home k then wake_items k (motes k).wake else [])
+  pub wakes : (k : ℕ) → filter (is_wake_of k) items
+      ≡ (if own k then wake_items k (wake_from from (motes k).wake) else [])
   pub copies : (s : ℕ) → filter (is_from_sender s) (packets items)
       ≡ filter (is_to_come own from) (copies_known (system_of n) own motes taken s)
 
@@ -65,7 +71,7 @@ pub record IsShare (n : NetTold) (of : List ℕ) (worker : ℕ) (home : ℕ → 
   pub log : (s : ℕ) → filter (is_sent_by s) (packets_in share.log.items)
       ≡ (if is_own of worker s then (motes s).sends else [])
   pub fates : HaveFates n.radio share.log.items
-  pub agenda : HasToCome n (is_own of worker) home from motes taken share.agenda.buckets
+  pub agenda : HasToCome n (is_own of worker) from motes taken share.agenda.buckets
 
 -- with all of its motes at home, as between windows
 abbrev pub Keeps : NetTold → (of : List ℕ) → (worker from : ℕ) → Motes → (taken : List RadioCopy) → Share → Type 0

@@ -1,46 +1,84 @@
 //! Which motes have a turn in a window, and the copies that come to each.
 
-ghost use Rattle.std.specs.Prelude.{◌≡◌, ℕ, length, List, [], OnOk, IfOk, if◌then◌else◌};
-ghost use Rattle.std.specs.Prelude.{◌==◌, ◌++◌, Some, None, map, unwrap_or};
+ghost use Rattle.std.specs.Prelude.{◌≡◌, ◌<◌, ◌≤◌, ℕ, length, vec_len, List, [], OnOk, IfOk, MatchOption};
+ghost use Rattle.std.specs.Prelude.{if◌then◌else◌, ◌==◌, ◌++◌, ◌∷◌, Some, None, map, slice_set, unwrap_or};
 ghost use Rattle.std.specs.List.{filter};
 ghost use Rattle.net_agenda.specs.Buckets.{Buckets, Holds};
 ghost use Rattle.window_laws.specs.Agenda.{Item};
 ghost use Rattle.net_agenda.specs.Items.{copy_at};
-ghost use Rattle.worker_window.specs.Calls.{copies_for, is_not_before, Gathers, HasItems};
+ghost use Rattle.worker_window.specs.Calls.{copies_for, is_not_before, Gathers, HasItems, TakesCall};
 
 use net_agenda::Agenda;
 use radio_packet::{Arrival, RadioCopy};
 use std::alloc::{AllocError, Global};
-use std::collections::BTreeMap;
 
-/// The motes that have a turn in a window, by rising number, each with the copies that come to it.
+/// The motes that have a turn in a window, each with the copies that come to it. The place at the number of a mote has
+/// none where the mote isn't called.
 #[derive(Drop)]
 pub struct CalledMotes {
     pub alloc: Global,
-    pub copies: BTreeMap<u16, Vec<RadioCopy>>,
+    pub copies: Vec<Option<Vec<RadioCopy>>>,
+    ghost few: { vec_len copies ≤ 65536 },
 }
 
 impl CalledMotes {
     /// No mote.
     fn new(alloc: Global) -> CalledMotes
-        ensures { (mote : ℕ) → copies_for result.copies mote ≡ None }
+        ensures { (mote : ℕ) → copies_for result.copies.items mote ≡ None }
     {
         CalledMotes {
             alloc,
-            copies: BTreeMap::new(alloc),
+            copies: Vec::new(alloc),
+        }
+    }
+
+    /// Makes places up to that of a mote.
+    fn reach(&mut self, mote: u16) -> Result<(), AllocError>
+        ensures same { (k : ℕ) → copies_for self.new.copies.items k ≡ copies_for self.old.copies.items k }
+        ensures there { OnOk result (mote < length self.new.copies.items) }
+    {
+        while self.copies.len() <= usize::from(mote) {
+            self.copies.push(None)?;
+        }
+        Ok(())
+    }
+
+    /// Takes the copies out that have come to a mote so far.
+    fn take(&mut self, mote: u16) -> Vec<RadioCopy>
+        requires { mote < length self.old.copies.items }
+        ensures copies { result.items ≡ unwrap_or (copies_for self.old.copies.items mote) [] }
+        ensures others { self.new.copies.items ≡ slice_set self.old.copies.items mote None }
+    {
+        match self.copies[usize::from(mote)].take() {
+            Some(copies) => copies,
+            None => Vec::new(self.alloc),
         }
     }
 
     /// A mote is called at a moment, with the copies that arrive.
     fn add(&mut self, moment: u64, mote: u16, arrivals: &[Arrival]) -> Result<(), AllocError>
-        ensures { OnOk result ((k : ℕ) → copies_for self.new.copies k
-            ≡ (if mote == k then Some (unwrap_or (copies_for self.old.copies mote) []
-            ++ map (copy_at moment mote) arrivals.now) else copies_for self.old.copies k)) }
+        ensures { OnOk result ((k : ℕ) → copies_for self.new.copies.items k
+            ≡ (if mote == k then Some (unwrap_or (copies_for self.old.copies.items mote) []
+            ++ map (copy_at moment mote) arrivals.now) else copies_for self.old.copies.items k)) }
     {
-        let alloc = self.alloc;
-        let copies = self.copies.entry(mote)?.or_insert_with(|| Vec::new(alloc));
-        add_copies(copies, moment, mote, arrivals)?;
+        self.reach(mote)?;
+        let mut copies = self.take(mote);
+        add_copies(&mut copies, moment, mote, arrivals)?;
+        self.copies[usize::from(mote)] = Some(copies);
         Ok(())
+    }
+
+    /// Takes out the highest mote that is called.
+    pub fn pop(&mut self) -> Option<(u16, Vec<RadioCopy>)>
+        ensures { MatchOption result ((k : ℕ) → copies_for self.old.copies.items k ≡ None)
+            (λ p. TakesCall p.0 p.1.items self.old.copies.items self.new.copies.items) }
+    {
+        while let Some(place) = self.copies.pop() {
+            if let Some(copies) = place {
+                return Some((self.copies.len() as u16, copies));
+            }
+        }
+        None
     }
 }
 
@@ -57,6 +95,20 @@ fn copy_at(moment: u64, mote: u16, arrival: &Arrival) -> RadioCopy
     }
 }
 
+/// Appends the copy of a packet. It is made once there is room for it, so straight at its place.
+fn put_copy(
+    copies: &mut Vec<RadioCopy>,
+    moment: u64,
+    mote: u16,
+    arrival: &Arrival,
+) -> Result<(), AllocError>
+    ensures { OnOk result (copies.new.items ≡ copies.old.items ++ copy_at moment mote arrival.now ∷ []) }
+{
+    copies.reserve(1)?;
+    copies.push_reserved(copy_at(moment, mote, arrival));
+    Ok(())
+}
+
 /// Appends the copies of packets that arrive together.
 fn add_copies(
     copies: &mut Vec<RadioCopy>,
@@ -67,7 +119,7 @@ fn add_copies(
     ensures { OnOk result (copies.new.items ≡ copies.old.items ++ map (copy_at moment mote) arrivals.now) }
 {
     for arrival in arrivals {
-        copies.push(copy_at(moment, mote, arrival))?;
+        put_copy(copies, moment, mote, arrival)?;
     }
     Ok(())
 }
@@ -76,16 +128,17 @@ fn add_copies(
 pub fn gather(alloc: Global, agenda: &mut Agenda, until: u64) -> Result<CalledMotes, AllocError>
     requires { HasItems agenda.old.buckets }
     ensures gathered { IfOk result (λ calls. (items : List Item) → Holds agenda.old.buckets items
-        → Gathers until items calls.copies) }
+        → Gathers until items calls.copies.items) }
     ensures rest { OnOk result ((items : List Item) → Holds agenda.old.buckets items
         → Holds agenda.new.buckets (filter (is_not_before until) items)) }
 {
     let mut calls = CalledMotes::new(alloc);
+    let mut arrivals = Vec::new(alloc);
     while let Some((moment, mote)) = agenda.first() {
         if moment >= until {
             break;
         }
-        let arrivals = agenda.take_due(moment, mote)?;
+        agenda.take_due_into(moment, mote, &mut arrivals)?;
         calls.add(moment, mote, &arrivals)?;
     }
     Ok(calls)

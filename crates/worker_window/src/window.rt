@@ -2,7 +2,7 @@
 
 ghost use Rattle.std.specs.Prelude.{◌≡◌, ◌+◌, ◌<◌, ◌≤◌, ◌^◌, ◌++◌, ◌∷◌, ◌==◌, ℕ, true, [], length};
 ghost use Rattle.std.specs.Prelude.{map, List, Some, None, IfOk, OnOk, IsSome, slice_set};
-ghost use Rattle.std.specs.List.{filter, flat_map, AllByRecursion};
+ghost use Rattle.std.specs.List.{filter, flat_map, list_all, AllByRecursion};
 ghost use Rattle.radio_medium.specs.Medium.{copies};
 ghost use Rattle.window_laws.specs.Agenda.{Packet};
 ghost use Rattle.window_run.specs.Window.{is_rising};
@@ -12,11 +12,11 @@ ghost use Rattle.mote_net.specs.Net.{NetTold, net_of};
 ghost use Rattle.net_agenda.specs.NetSystem.{system_of};
 ghost use Rattle.radio_packet.specs.declared.copy.RadioCopy.{RadioCopy as CopyOfCode};
 ghost use Rattle.worker_cut.specs.Crossed.{is_own, leaves};
-ghost use Rattle.worker_window.specs.Share.{Motes, Keeps, mote_here};
+ghost use Rattle.worker_window.specs.Share.{Motes, Keeps, mote_here, wake_from};
 ghost use Rattle.worker_window.specs.Window.{CanRun, ComesIn, GoesOut, RunsWindow};
 ghost use Rattle.worker_window.specs.Log.{HaveFates, packets_in};
 ghost use Rattle.worker_window.specs.Sending.{copies_away, own_items};
-ghost use Rattle.worker_window.specs.Leaving.{wake_from, MotesLeave, HasNumber, IsOutOfNet, MoteReturns};
+ghost use Rattle.worker_window.specs.Leaving.{MotesLeave, HasNumber, IsOutOfNet, MoteReturns};
 
 use crate::calls::{CalledMotes, gather};
 use crate::rooms::Rooms;
@@ -48,7 +48,7 @@ fn wake_from(until: u64, wake: Option<u64>) -> Option<u64>
     }
 }
 
-/// Takes a mote that is here out of the share, with its wake.
+/// Takes a mote that is here out of the share.
 fn take_mote(motes: &mut Vec<Option<Mote>>, number: u16) -> Mote
     requires { IsSome (mote_here motes.old.items number) }
     ensures mote { mote_here motes.old.items number ≡ Some result }
@@ -57,26 +57,28 @@ fn take_mote(motes: &mut Vec<Option<Mote>>, number: u16) -> Mote
     motes[usize::from(number)].take().unwrap()
 }
 
-/// Takes the motes that are called out of the share, with their wakes.
+/// Takes the motes that are called out of the share. Their wakes that aren't before `until`, which the agenda keeps,
+/// take the place of what the list has.
 pub(crate) fn leave(
     motes: &mut Vec<Option<Mote>>,
-    agenda: &mut Agenda,
+    wakes: &mut Vec<Option<u64>>,
     until: u64,
     calls: CalledMotes,
     rooms: &mut Rooms,
 ) -> Result<Vec<Resident>, AllocError>
-    requires here { (k : ℕ) → IsSome (copies_for calls.copies k) → IsSome (mote_here motes.old.items k) }
-    requires rising { (k : ℕ) (copies : List RadioCopy) → copies_for calls.copies k ≡ Some copies
+    requires here { (k : ℕ) → IsSome (copies_for calls.copies.items k) → IsSome (mote_here motes.old.items k) }
+    requires rising { (k : ℕ) (copies : List RadioCopy) → copies_for calls.copies.items k ≡ Some copies
         → is_rising copies ≡ true }
     ensures { IfOk result
-        (λ residents. MotesLeave until calls.copies motes.old.items motes.new.items agenda.old.buckets
-        agenda.new.buckets residents.items) }
+        (λ residents. MotesLeave until calls.copies.items motes.old.items motes.new.items residents.items
+        wakes.new.items) }
 {
+    wakes.clear();
     let mut residents = Vec::with_capacity(calls.alloc, calls.copies.len())?;
-    let mut copies = calls.copies;
-    while let Some((number, copies)) = copies.pop_first() {
+    let mut calls = calls;
+    while let Some((number, copies)) = calls.pop() {
         let mote = take_mote(motes, number);
-        agenda.drop_wake(wake_from(until, mote.wake()), number)?;
+        wakes.push(wake_from(until, mote.wake()))?;
         residents.push(Resident {
             number,
             mote,
@@ -85,6 +87,14 @@ pub(crate) fn leave(
         })?;
     }
     Ok(residents)
+}
+
+/// Takes the last of the wakes.
+fn last_wake(wakes: &mut Vec<Option<u64>>) -> Option<u64>
+    requires { 0 < length wakes.old.items }
+    ensures { wakes.old.items ≡ wakes.new.items ++ result ∷ [] }
+{
+    wakes.pop().unwrap()
 }
 
 /// A copy goes on its way: one for a mote of the worker becomes a pending event, another goes away.
@@ -133,6 +143,13 @@ fn send_fate(
     send_copy(of, worker, &copy, agenda, away)
 }
 
+/// Whether all of these fates are of copies for motes of the worker.
+fn are_own(of: &[u16], worker: u16, fates: &[Fate]) -> bool
+    ensures { result ≡ list_all (λ fate. is_own of.now worker fate.to) fates.now }
+{
+    fates.iter().all(|fate| is_own(of, worker, fate.to))
+}
+
 /// The copies of a packet with these fates go on their way.
 fn send_fates(
     of: &[u16],
@@ -146,6 +163,9 @@ fn send_fates(
         (own_items of.now worker sent.now fates.now)) }
     ensures away { OnOk result (away.new.items ≡ away.old.items ++ copies_away of.now worker sent.now fates.now) }
 {
+    if are_own(of, worker, fates) {
+        return agenda.put_fates(sent, fates);
+    }
     for fate in fates {
         send_fate(of, worker, sent, fate, agenda, away)?;
     }
@@ -180,12 +200,13 @@ pub(crate) fn send_all(
 }
 
 impl Share {
-    /// A mote comes back from its window: its next wake becomes pending, its packets go out, and its lines and packets
-    /// are kept. The copies for other workers' motes go away.
+    /// A mote comes back from its window: its next wake becomes pending in the place of the one that is, if one is; its
+    /// packets go out, and its lines and packets are kept. The copies for other workers' motes go away.
     fn take_back(
         &mut self,
         medium: &Medium,
         of: &[u16],
+        pending: Option<u64>,
         out: WindowOut,
         away: &mut Vec<RadioCopy>,
     ) -> Result<(), AllocError>
@@ -193,7 +214,7 @@ impl Share {
         requires traces { IsOutOfNet (length self.old.traces.items) out }
         requires places { IsOutOfNet (length medium.now.places) out }
         ensures { OnOk result ((number : ℕ) → HasNumber number out.mote
-            → MoteReturns medium.now of.now number out self.old self.new away.old.items away.new.items) }
+            → MoteReturns medium.now of.now number pending out self.old self.new away.old.items away.new.items) }
     {
         let number = out.mote.number();
         let WindowOut {
@@ -203,7 +224,7 @@ impl Share {
             wake,
         } = out;
         let mut room = WindowRoom { lines, sends };
-        self.agenda.put_next_wake(wake, number)?;
+        self.agenda.move_wake(pending, wake, number)?;
         send_all(
             medium,
             of,
@@ -237,7 +258,7 @@ impl Share {
     /// arrived from other workers, runs each mote that has something before `until` by the worker's future, and keeps
     /// the pending events of its own motes. The answer is the copies for other workers' motes, those of each mote in
     /// the order of sending. `of` tells the worker of each mote. The time goes with the turns of the window and the
-    /// copies that it takes and makes, and not with the motes.
+    /// copies that it takes and makes, but for a place for each mote up to the highest that has a turn.
     ///
     /// # Errors
     /// `Memory`, and `Thread` where the executor answered an error.
@@ -268,13 +289,8 @@ impl Share {
     {
         self.agenda.put_copies(&arrived)?;
         let calls = gather(self.alloc, &mut self.agenda, until)?;
-        let residents = leave(
-            &mut self.motes,
-            &mut self.agenda,
-            until,
-            calls,
-            &mut self.rooms,
-        )?;
+        let mut wakes = Vec::new(self.alloc);
+        let residents = leave(&mut self.motes, &mut wakes, until, calls, &mut self.rooms)?;
         let called = window_run::Residents {
             worker: self.worker,
             residents,
@@ -282,7 +298,8 @@ impl Share {
         let mut outs = run_share(rt, self.alloc, net, called, until, gate)?;
         let mut away = Vec::new(self.alloc);
         while let Some(out) = outs.pop() {
-            self.take_back(net.medium(), of, out, &mut away)?;
+            let pending = last_wake(&mut wakes);
+            self.take_back(net.medium(), of, pending, out, &mut away)?;
         }
         Ok(away)
     }

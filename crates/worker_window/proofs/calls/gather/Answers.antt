@@ -5,26 +5,26 @@ use Rattle.worker_window.proofs.calls.gather.Goals as goal
 use Rattle.worker_window.proofs.calls.gather.Goals.{in-Some+then-moment-until, in_default}
 
 pub loop-moment-init : goal.loop-moment-init
-loop-moment-init c = λ items holds. none_yet c.args.until items c.new-calls.result.copies c.args.agenda.now.buckets holds c.new-calls.ensures
+loop-moment-init c = λ items holds. none_yet c.args.until items c.new-calls.result.copies.items c.args.agenda.now.buckets holds c.new-calls.ensures
 
 pub loop-moment-smaller : goal.loop-moment-smaller
 loop-moment-smaller c =
     let part = c.loop-moment.invariant c.requires.items c.requires.holds in
     let fits = rw c.in-Some.is at c.first.type_inv in
     let low : c.in-Some.mote < 65536 = omega (arith, fits.1) in
-    bucket_later c.args.until c.requires.items c.loop-moment.calls.copies c.loop-moment.agenda.buckets c.take_due.new.self.buckets part c.in-Some.moment c.in-Some.mote
-    (c.in-Some.ensures.least part.rest part.holds) c.if-moment-until.false low (sym c.in-Some.ensures.first) (c.take_due.ensures.rest part.rest part.holds)
+    bucket_later c.args.until c.requires.items c.loop-moment.calls.copies.items c.loop-moment.agenda.buckets c.take_due_into.new.self.buckets part c.in-Some.moment c.in-Some.mote
+    (c.in-Some.ensures.least part.rest part.holds) c.if-moment-until.false low (sym c.in-Some.ensures.first) (c.take_due_into.ensures.rest part.rest part.holds)
 
 pub loop-moment-preserved : goal.loop-moment-preserved
 loop-moment-preserved c = λ items holds.
     let part = c.loop-moment.invariant items holds in
-    one_bucket c.args.until items c.loop-moment.calls.copies c.add.new.self.copies c.loop-moment.agenda.buckets c.take_due.new.self.buckets part c.in-Some.moment c.in-Some.mote
-    (c.in-Some.ensures.least part.rest part.holds) c.if-moment-until.false c.in_ok-arrivals.arrivals.items (c.in_ok-arrivals.ensures.copies part.rest part.holds) (c.take_due.ensures.rest part.rest part.holds) (rw (sym c.deref.ensures.value) c.in_ok-add.ensures)
+    one_bucket c.args.until items c.loop-moment.calls.copies.items c.add.new.self.copies.items c.loop-moment.agenda.buckets c.take_due_into.new.self.buckets part c.in-Some.moment c.in-Some.mote
+    (c.in-Some.ensures.least part.rest part.holds) c.if-moment-until.false c.take_due_into.new.arrivals.items (c.in_ok-take_due_into.ensures.copies part.rest part.holds) (c.take_due_into.ensures.rest part.rest part.holds) (rw (sym c.deref.ensures.value) c.in_ok-add.ensures)
 
 pub returns-clause-gathered : goal.returns-clause-gathered
 returns-clause-gathered c = λ items holds.
     let part = c.loop-moment.invariant items holds in
-    gathers c.args.until items c.loop-moment.calls.copies c.loop-moment.agenda.buckets part
+    gathers c.args.until items c.loop-moment.calls.copies.items c.loop-moment.agenda.buckets part
     (elim c.match-first.branch [
       | in-Some+then-moment-until w ↦ least_over c.args.until w.in-Some.moment w.in-Some.mote part.rest (w.in-Some.ensures.least part.rest part.holds) w.if-moment-until.true
       | in_default w ↦ empty_over c.args.until part.rest (w.in_default.ensures.least part.rest part.holds)
@@ -34,7 +34,7 @@ pub returns-clause-rest : goal.returns-clause-rest
 returns-clause-rest c = λ items holds.
     let part = c.loop-moment.invariant items holds in
     subst (λ l. Holds c.loop-moment.agenda.buckets l)
-    (rest_is c.args.until items c.loop-moment.calls.copies c.loop-moment.agenda.buckets part
+    (rest_is c.args.until items c.loop-moment.calls.copies.items c.loop-moment.agenda.buckets part
     (elim c.match-first.branch [
       | in-Some+then-moment-until w ↦ least_over c.args.until w.in-Some.moment w.in-Some.mote part.rest (w.in-Some.ensures.least part.rest part.holds) w.if-moment-until.true
       | in_default w ↦ empty_over c.args.until part.rest (w.in_default.ensures.least part.rest part.holds)

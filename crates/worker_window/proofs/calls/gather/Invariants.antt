@@ -6,7 +6,7 @@ use Rattle.worker_window.proofs.Gathers.{Part}
 use Rattle.worker_window.proofs.calls.gather.Given as goal
 
 abbrev pub invariant-loop-moment : goal.invariant-loop-moment
-invariant-loop-moment l = (items : List Item) → Holds l.fn.agenda.buckets items → Part l.until items l.calls.copies l.agenda.buckets
+invariant-loop-moment l = (items : List Item) → Holds l.fn.agenda.buckets items → Part l.until items l.calls.copies.items l.agenda.buckets
 
 abbrev pub decreases-loop-moment : goal.decreases-loop-moment
 decreases-loop-moment l = turns_left 65536 l.until (first_key l.agenda.buckets)

@@ -3,7 +3,7 @@ use Rattle.std.specs.List.{filter, filter_map, flat_map}
 use Rattle.std.proofs.lemmas.List.{map-append, take_all}
 use Rattle.radio_packet.specs.declared.copy.RadioCopy.{RadioCopy}
 use Rattle.radio_packet.specs.declared.sent.Sent.{Sent}
-use Rattle.radio_medium.specs.Medium.{copies, copy_of, fates}
+use Rattle.radio_medium.specs.Medium.{copies, copy_of}
 use Rattle.window_laws.specs.Agenda.{Packet}
 use Rattle.window_laws.proofs.Lists.{every_append}
 use Rattle.net_agenda.specs.Buckets.{Holds}

@@ -1,12 +1,15 @@
-use Rattle.std.proofs.Common.{◌∙◌, ◌++◌, ◌∷◌, [], ap, get_or, subst, take, None}
+use Rattle.std.proofs.Common.{◌∙◌, ◌++◌, ◌∷◌, [], ap, append-nil, get_or, map, subst, sym, take, None}
+use Rattle.std.specs.Result.{OnOk}
 use Rattle.std.proofs.lemmas.List.{take_all}
 use Rattle.radio_packet.specs.declared.copy.RadioCopy.{RadioCopy}
 use Rattle.radio_packet.specs.declared.fate.Fate.{Fate}
 use Rattle.radio_medium.specs.Medium.{copy_of}
+use Rattle.window_laws.specs.Agenda.{Packet}
 use Rattle.net_agenda.specs.Buckets.{Holds}
+use Rattle.net_agenda.specs.Changes.{Adds}
 use Rattle.worker_cut.specs.Crossed.{is_own, leaves}
 use Rattle.worker_window.specs.Sending.{copies_away, own_items}
-use Rattle.worker_window.proofs.Sends.{more_own, more_away}
+use Rattle.worker_window.proofs.Sends.{more_own, more_away, all_own, none_away, on_ok}
 use Rattle.worker_window.proofs.window.send_fates.Goals as goal
 
 abbrev none : Fate
@@ -32,3 +35,14 @@ pub returns-clause-own : goal.returns-clause-own
 returns-clause-own c = λ items holds.
     subst (λ l. Holds c.loop-fate.agenda.buckets (items ++ own_items c.args.of.now c.args.worker c.args.sent.now l)) (take_all c.loop-fate.fate-index c.args.fates.now c.loop-fate-test.false)
     (c.loop-fate.invariant.own items holds)
+
+pub returns-then-are_own-clause-own : goal.returns-then-are_own-clause-own
+returns-then-are_own-clause-own c =
+    subst (λ l. OnOk c.put_fates.result (Adds c.args.agenda.now.buckets c.put_fates.new.self.buckets (map Packet l)))
+    (sym (all_own (is_own c.args.of.now c.args.worker) c.args.sent.now c.args.fates.now (sym c.are_own.ensures ∙ c.if-are_own.true))) c.put_fates.ensures
+
+pub returns-then-are_own-clause-away : goal.returns-then-are_own-clause-away
+returns-then-are_own-clause-away c =
+    on_ok c.put_fates.result
+    (sym (ap (λ l. c.args.away.now.items ++ l) (none_away (is_own c.args.of.now c.args.worker) c.args.sent.now c.args.fates.now (sym c.are_own.ensures ∙ c.if-are_own.true))
+    ∙ append-nil c.args.away.now.items))

@@ -1,6 +1,6 @@
 use Rattle.std.proofs.Common.{◌≡◌, ◌∙◌, ◌++◌, ℕ, length, map, ap, refl, sym, subst, arith, IsSome}
 use Rattle.std.specs.List.{AllByRecursion, filter, flat_map}
-use Rattle.std.proofs.lemmas.List.{length-set, nil_from_length}
+use Rattle.std.proofs.lemmas.List.{length-append, length-set, nil_from_length}
 use Rattle.radio_medium.specs.Medium.{Radio, copies}
 use Rattle.mote_net.specs.Net.{net_of}
 use Rattle.window_laws.specs.Agenda.{Packet}
@@ -10,8 +10,10 @@ use Rattle.net_agenda.proofs.Gathered.{zero_from}
 use Rattle.worker_window.specs.declared.share.Share.{Share}
 use Rattle.worker_cut.specs.Crossed.{is_own, leaves}
 use Rattle.worker_window.specs.Window.{GoesOut}
-use Rattle.worker_window.specs.Leaving.{HasNumber, MoteReturns}
+use Rattle.window_run.specs.Shares.{ResidentGives}
+use Rattle.worker_window.specs.Leaving.{HasNumber, IsWakeOf, MoteReturns}
 use Rattle.worker_window.proofs.Parts.{inbox, inbox_is}
+use Rattle.worker_window.proofs.Left.{zip_length}
 use Rattle.worker_window.proofs.Comings.{Coming, IsFitOwn, fits, go_out, one_back, all_back}
 use Rattle.worker_window.proofs.Starts.{starts, go_on}
 use Rattle.worker_window.proofs.Fits.{kept_of, called_here, in_net, all_fit, every_split}
@@ -28,7 +30,7 @@ pub leave-requires-clause-here : goal.leave-requires-clause-here
 leave-requires-clause-here g c =
     let kept = c.requires.ready.keeps in
     let base = subst (λ l. Holds c.put_copies.new.self.buckets (kept.agenda.items ++ map Packet l)) c.deref.ensures.value (c.in_ok-put_copies.ensures kept.agenda.items kept.agenda.holds) in
-    called_here (net_of c.args.net.now) c.args.of.now c.args.self.now (kept_of c.requires.ready) c.args.arrived.items c.requires.to_own c.requires.of c.args.until c.in_ok-calls.calls.copies (c.in_ok-calls.ensures.gathered _ base)
+    called_here (net_of c.args.net.now) c.args.of.now c.args.self.now (kept_of c.requires.ready) c.args.arrived.items c.requires.to_own c.requires.of c.args.until c.in_ok-calls.calls.copies.items (c.in_ok-calls.ensures.gathered _ base)
 
 pub leave-requires-clause-rising : goal.leave-requires-clause-rising
 leave-requires-clause-rising g c = λ k copies e.
@@ -40,17 +42,17 @@ pub run_share-requires-clause-there : goal.run_share-requires-clause-there
 run_share-requires-clause-there g c =
     let kept = c.requires.ready.keeps in
     let base = subst (λ l. Holds c.put_copies.new.self.buckets (kept.agenda.items ++ map Packet l)) c.deref.ensures.value (c.in_ok-put_copies.ensures kept.agenda.items kept.agenda.holds) in
-    in_net (net_of c.args.net.now) c.args.of.now c.args.self.now (kept_of c.requires.ready) c.args.arrived.items c.requires.to_own c.requires.of c.args.until c.in_ok-calls.calls.copies (c.in_ok-calls.ensures.gathered _ base)
-    c.leave.new.motes.items c.gather.new.agenda.buckets c.leave.new.agenda.buckets c.in_ok-residents.residents.items c.in_ok-residents.ensures c.requires.ready.order
+    in_net (net_of c.args.net.now) c.args.of.now c.args.self.now (kept_of c.requires.ready) c.args.arrived.items c.requires.to_own c.requires.of c.args.until c.in_ok-calls.calls.copies.items (c.in_ok-calls.ensures.gathered _ base)
+    c.leave.new.motes.items c.in_ok-residents.residents.items c.leave.new.wakes.items c.in_ok-residents.ensures c.requires.ready.order
 
 pub run_share-requires-clause-go_on : goal.run_share-requires-clause-go_on
 run_share-requires-clause-go_on g c =
     let n = net_of c.args.net.now in
     let r = c.requires.ready in
     let at = subst (λ l. Holds c.put_copies.new.self.buckets (r.keeps.agenda.items ++ map Packet l)) c.deref.ensures.value (c.in_ok-put_copies.ensures r.keeps.agenda.items r.keeps.agenda.holds) in
-    let share : Share = record c.args.self.now { motes = c.leave.new.motes; agenda = c.leave.new.agenda; rooms = c.leave.new.rooms } in
-    go_on n c.args.of.now r.worker r.from c.args.until r.motes r.taken c.args.arrived.items c.args.self.now share r.keeps r.order r.come c.requires.of c.in_ok-calls.calls.copies c.gather.new.agenda.buckets
-    c.in_ok-residents.residents.items (c.in_ok-calls.ensures.gathered _ at) (c.in_ok-calls.ensures.rest _ at) c.in_ok-residents.ensures
+    let share : Share = record c.args.self.now { motes = c.leave.new.motes; agenda = c.gather.new.agenda; rooms = c.leave.new.rooms } in
+    go_on n c.args.of.now r.worker r.from c.args.until r.motes r.taken c.args.arrived.items c.args.self.now share r.keeps r.order r.come c.requires.of c.in_ok-calls.calls.copies.items
+    c.in_ok-residents.residents.items c.leave.new.wakes.items (c.in_ok-calls.ensures.gathered _ at) (c.in_ok-calls.ensures.rest _ at) c.in_ok-residents.ensures
 
 pub loop-out-init : goal.loop-out-init
 loop-out-init g c =
@@ -58,22 +60,29 @@ loop-out-init g c =
     let kept = c.requires.ready.keeps in
     let base = subst (λ l. Holds c.put_copies.new.self.buckets (kept.agenda.items ++ map Packet l)) c.deref.ensures.value (c.in_ok-put_copies.ensures kept.agenda.items kept.agenda.holds) in
     let left = c.in_ok-residents.ensures in
-    let share : Share = record c.args.self.now { motes = c.leave.new.motes; agenda = c.leave.new.agenda; rooms = c.leave.new.rooms } in
+    let share : Share = record c.args.self.now { motes = c.leave.new.motes; agenda = c.gather.new.agenda; rooms = c.leave.new.rooms } in
     record {
       motes = left.places ∙ kept.places;
       traces = kept.traces_kept;
       worker = refl;
+      wakes = sym (zip_length (IsWakeOf c.args.until) _ _ left.told) ∙ zip_length (ResidentGives n c.args.until) _ _ c.in_ok-outs.ensures;
       fits =
-          all_fit n c.args.of.now c.args.self.now (kept_of c.requires.ready) c.args.arrived.items c.requires.to_own c.requires.of c.args.until c.in_ok-calls.calls.copies (c.in_ok-calls.ensures.gathered _ base)
-          c.leave.new.motes.items c.gather.new.agenda.buckets c.leave.new.agenda.buckets c.in_ok-residents.residents.items left c.requires.ready.order c.in_ok-outs.outs.items c.in_ok-outs.ensures;
+          all_fit n c.args.of.now c.args.self.now (kept_of c.requires.ready) c.args.arrived.items c.requires.to_own c.requires.of c.args.until c.in_ok-calls.calls.copies.items (c.in_ok-calls.ensures.gathered _ base)
+          c.leave.new.motes.items c.in_ok-residents.residents.items c.leave.new.wakes.items left c.requires.ready.order c.in_ok-outs.outs.items c.in_ok-outs.ensures;
       go_out = subst (AllByRecursion (GoesOut n c.args.of.now c.args.self.now.worker)) (sym c.new-away.ensures.items) tt;
       coming = λ worker from motes taken keeps le short come.
           let at = subst (λ l. Holds c.put_copies.new.self.buckets (keeps.agenda.items ++ map Packet l)) c.deref.ensures.value (c.in_ok-put_copies.ensures keeps.agenda.items keeps.agenda.holds) in
-          subst (λ l. Coming n c.args.of.now worker from c.args.until motes (taken ++ c.args.arrived.items) (inbox n c.args.of.now worker from c.args.until motes taken c.args.arrived.items c.args.self.now keeps le come) share c.in_ok-outs.outs.items l)
+          subst (λ l. Coming n c.args.of.now worker from c.args.until motes (taken ++ c.args.arrived.items) (inbox n c.args.of.now worker from c.args.until motes taken c.args.arrived.items c.args.self.now keeps le come) share c.in_ok-outs.outs.items c.leave.new.wakes.items l)
           (sym c.new-away.ensures.items)
-          (starts n c.args.of.now worker from c.args.until motes taken c.args.arrived.items c.args.self.now share keeps le come c.requires.of c.in_ok-calls.calls.copies c.gather.new.agenda.buckets c.in_ok-residents.residents.items
+          (starts n c.args.of.now worker from c.args.until motes taken c.args.arrived.items c.args.self.now share keeps le come c.requires.of c.in_ok-calls.calls.copies.items c.in_ok-residents.residents.items c.leave.new.wakes.items
           (c.in_ok-calls.ensures.gathered _ at) (c.in_ok-calls.ensures.rest _ at) left c.in_ok-outs.outs.items c.in_ok-outs.ensures (refl, refl, refl));
     }
+
+pub last_wake-pending-requires : goal.last_wake-pending-requires
+last_wake-pending-requires g c =
+    let e = c.loop-out.invariant.wakes in
+    let more = ap length c.in-Some.ensures.items ∙ length-append c.pop.new.self.items _ in
+    omega arith
 
 pub take_back-requires-clause-motes : goal.take_back-requires-clause-motes
 take_back-requires-clause-motes g c =
@@ -110,20 +119,26 @@ loop-out-preserved g c =
     let split = every_split P c.pop.new.self.items out (subst (AllByRecursion P) c.in-Some.ensures.items inv.fits) in
     let fit = split.1 in
     let placed : length n.radio.places ≡ length n.motes = ap (λ (r : Radio). length r.places) (sym c.medium.ensures.value) ∙ c.medium.ensures.placed in
-    let returns : (k : ℕ) → HasNumber k out.mote → MoteReturns n.radio of k out c.loop-out.self c.take_back.new.self c.loop-out.away.items c.take_back.new.away.items = λ k numbered.
-    subst (λ (r : Radio). MoteReturns r of k out c.loop-out.self c.take_back.new.self c.loop-out.away.items c.take_back.new.away.items) c.medium.ensures.value (c.in_ok-take_back.ensures k numbered) in
+    let returns : (k : ℕ) → HasNumber k out.mote → MoteReturns n.radio of k c.last_wake-pending.result out c.loop-out.self c.take_back.new.self c.loop-out.away.items c.take_back.new.away.items = λ k numbered.
+    subst (λ (r : Radio). MoteReturns r of k c.last_wake-pending.result out c.loop-out.self c.take_back.new.self c.loop-out.away.items c.take_back.new.away.items) c.medium.ensures.value (c.in_ok-take_back.ensures k numbered) in
     let one = returns fit.number fit.numbered in
     record {
       motes = ap length one.motes ∙ (length-set c.loop-out.self.motes.items fit.number _ ∙ inv.motes);
       traces = one.traces_kept ∙ inv.traces;
       worker = one.worker ∙ inv.worker;
+      wakes = (
+          let e = inv.wakes in
+          let more = ap length c.in-Some.ensures.items ∙ length-append c.pop.new.self.items _ in
+          let less = ap length c.last_wake-pending.ensures ∙ length-append c.last_wake-pending.new.wakes.items _ in
+          omega arith);
       fits = split.0;
       go_out =
           subst (AllByRecursion (GoesOut n of self.worker)) (sym (one.away ∙ ap (λ w. c.loop-out.away.items ++ filter (leaves (is_own of w)) (flat_map (copies n.radio) out.sends.items)) inv.worker))
           (every_append _ c.loop-out.away.items _ inv.go_out (go_out n of self.worker c.args.until out placed fit));
       coming = λ worker from motes taken keeps le short come.
           one_back n of worker from c.args.until motes (taken ++ c.args.arrived.items) (inbox n of worker from c.args.until motes taken c.args.arrived.items self keeps le come) placed short
-          c.loop-out.self c.take_back.new.self c.loop-out.outs.items c.pop.new.self.items out c.in-Some.ensures.items c.loop-out.away.items c.take_back.new.away.items
+          c.loop-out.self c.take_back.new.self c.loop-out.outs.items c.pop.new.self.items out c.in-Some.ensures.items
+          c.loop-out.wakes.items c.last_wake-pending.new.wakes.items c.last_wake-pending.result c.last_wake-pending.ensures c.loop-out.away.items c.take_back.new.away.items
           (inv.coming worker from motes taken keeps le short come) returns;
     }
 
@@ -135,5 +150,5 @@ returns-clause-window g c = λ worker from motes taken keeps le short come.
     let zero = zero_from _ (λ p. subst IsSome c.in_default.is (c.pop.ensures.variant.1 p)) in
     let none = nil_from_length c.loop-out.outs.items (omega (arith, zero, c.loop-out.outs.ok.0)) in
     all_back n of worker from c.args.until motes (taken ++ c.args.arrived.items) (inbox n of worker from c.args.until motes taken c.args.arrived.items self keeps le come)
-    c.loop-out.self c.loop-out.outs.items c.loop-out.away.items none (c.loop-out.invariant.coming worker from motes taken keeps le short come)
+    c.loop-out.self c.loop-out.outs.items c.loop-out.wakes.items c.loop-out.away.items none (c.loop-out.invariant.coming worker from motes taken keeps le short come)
     (inbox_is n of worker from c.args.until motes taken c.args.arrived.items self keeps le come)

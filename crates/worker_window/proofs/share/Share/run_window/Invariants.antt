@@ -14,11 +14,12 @@ invariant-loop-out g l = let n = net_of l.net in record {
   motes : length l.self.motes.items ≡ length n.motes;
   traces : length l.self.traces.items ≡ length n.motes;
   worker : l.self.worker ≡ l.fn.self.worker;
+  wakes : length l.wakes.items ≡ length l.outs.items;
   fits : AllByRecursion (IsFitOwn n l.of l.fn.self.worker l.until) l.outs.items;
   go_out : AllByRecursion (GoesOut n l.of l.fn.self.worker) l.away.items;
   coming : (worker from : ℕ) (motes : Motes) (taken : List RadioCopy) (keeps : Keeps n l.of worker from motes taken l.fn.self) (le : from ≤ l.until) → l.until ≤ from + (system_of n).lookahead
       → (come : AllByRecursion (ComesIn l.of worker from) l.fn.arrived.items)
-      → Coming n l.of worker from l.until motes (taken ++ l.fn.arrived.items) (inbox n l.of worker from l.until motes taken l.fn.arrived.items l.fn.self keeps le come) l.self l.outs.items l.away.items;
+      → Coming n l.of worker from l.until motes (taken ++ l.fn.arrived.items) (inbox n l.of worker from l.until motes taken l.fn.arrived.items l.fn.self keeps le come) l.self l.outs.items l.wakes.items l.away.items;
 }
 
 abbrev pub decreases-loop-out : goal.decreases-loop-out

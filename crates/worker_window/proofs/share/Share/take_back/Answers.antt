@@ -2,8 +2,9 @@ use Rattle.std.proofs.Common.{◌≡◌, ◌∙◌, ◌++◌, ◌<◌, cond, eqb
 use Rattle.std.specs.List.{filter, flat_map}
 use Rattle.radio_packet.specs.declared.sent.Sent.{Sent}
 use Rattle.radio_medium.specs.Medium.{copies}
-use Rattle.window_laws.specs.Agenda.{Packet, wake_items}
+use Rattle.window_laws.specs.Agenda.{Packet, is_wake_of, wake_items}
 use Rattle.net_agenda.specs.Buckets.{Holds}
+use Rattle.net_agenda.specs.Changes.{without_wakes}
 use Rattle.worker_cut.specs.Crossed.{is_own, leaves}
 use Rattle.worker_window.specs.Log.{packets_in}
 use Rattle.worker_window.proofs.Traces.{as_many, lines_added}
@@ -27,8 +28,10 @@ returns c = λ number numbered.
           ∙ ap (λ m. (get_or old.traces.items k d).items ++ cond (eqb k m) out.lines.items []) same;
       log = c.in_ok-send_all.ensures.log ∙ ap (λ (l : List Sent). packets_in old.log.items ++ l) c.deref.ensures.value;
       fates = c.in_ok-send_all.ensures.fates;
-      agenda = λ items holds.
-          subst (λ (l : List Sent). Holds c.send_all.new.agenda.buckets ((items ++ wake_items number out.wake) ++ map Packet (filter (λ copy. is_own c.args.of.now old.worker copy.to) (flat_map (copies c.args.medium.now) l)))) c.deref.ensures.value
-          (c.in_ok-send_all.ensures.own _ (subst (λ m. Holds c.put_next_wake.new.self.buckets (items ++ wake_items m out.wake)) same (c.in_ok-put_next_wake.ensures items holds)));
+      agenda = λ items holds pending.
+          subst (λ (l : List Sent). Holds c.send_all.new.agenda.buckets ((without_wakes number items ++ wake_items number out.wake) ++ map Packet (filter (λ copy. is_own c.args.of.now old.worker copy.to) (flat_map (copies c.args.medium.now) l)))) c.deref.ensures.value
+          (c.in_ok-send_all.ensures.own _
+          (subst (λ m. Holds c.move_wake.new.self.buckets (without_wakes m items ++ wake_items m out.wake)) same
+          (c.in_ok-move_wake.ensures items holds (subst (λ m. filter (is_wake_of m) items ≡ wake_items m c.args.pending) (sym same) pending))));
       away = c.in_ok-send_all.ensures.away ∙ ap (λ (l : List Sent). c.args.away.now.items ++ filter (leaves (is_own c.args.of.now old.worker)) (flat_map (copies c.args.medium.now) l)) c.deref.ensures.value;
     }
