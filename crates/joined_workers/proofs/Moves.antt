@@ -11,15 +11,15 @@ use Rattle.copy_inbox.specs.Items.{copies_of}
 use Rattle.worker_window.specs.declared.share.Share.{Share}
 use Rattle.worker_window.specs.Share.{Keeps}
 use Rattle.worker_window.specs.Window.{RunsWindow, ComesIn}
-use Rattle.joined_workers.specs.declared.crew.Crew.{Crew}
+use Rattle.all_workers.specs.declared.workers.Workers.{Workers}
 use Rattle.joined_workers.specs.declared.worker.Worker.{Worker}
-use Rattle.joined_workers.specs.Crew.{IsAt, IsWorkerAt}
+use Rattle.all_workers.specs.Workers.{IsAt, IsWorkerAt}
 use Rattle.joined_workers.specs.Laws.{RunsAll, manned_by}
 use Rattle.joined_workers.specs.Worker.{RunsWorker}
-use Rattle.joined_workers.proofs.Lookups.{there, read, mapped, paired, beside, as_long}
+use Rattle.all_workers.proofs.Lookups.{there, read, mapped, paired, beside, as_long}
 use Rattle.joined_workers.proofs.Ready.{arrived_come, numbered}
 
-module _ (n : NetTold) (of : List ℕ) (from until : ℕ) (old new : Crew) (at : IsAt n of from old) (all : RunsAll n of until old new) where
+module _ (n : NetTold) (of : List ℕ) (from until : ℕ) (old new : Workers) (at : IsAt n of from old) (all : RunsAll n of until old new) where
   -- one worker of the window: what it had, and what it has
   pub record Piece (v : ℕ) : Type 0 where
     pub share : Share

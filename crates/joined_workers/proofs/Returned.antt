@@ -14,13 +14,13 @@ use Rattle.copy_exchange.proofs.Windows.{returns_from}
 use Rattle.worker_window.specs.declared.share.Share.{Share}
 use Rattle.worker_cut.specs.Crossed.{is_own}
 use Rattle.worker_window.specs.Window.{GoesOut}
-use Rattle.joined_workers.specs.declared.crew.Crew.{Crew}
+use Rattle.all_workers.specs.declared.workers.Workers.{Workers}
 use Rattle.joined_workers.specs.declared.worker.Worker.{Worker}
-use Rattle.joined_workers.specs.Crew.{IsAt}
+use Rattle.all_workers.specs.Workers.{IsAt}
 use Rattle.joined_workers.specs.Laws.{manned_by}
 use Rattle.joined_workers.specs.Worker.{RunsWorker}
-use Rattle.joined_workers.proofs.Lookups.{read, as_long}
-use Rattle.joined_workers.proofs.Step.{own_of}
+use Rattle.all_workers.proofs.Lookups.{read, as_long}
+use Rattle.all_workers.proofs.Step.{own_of}
 
 -- a mote that is another worker's sent nothing of what went out
 none_from : (n : NetTold) (of : List ℕ) (w s : ℕ) → (slice_index of s == w) ≡ false → (sent : List RadioCopy) → Each (GoesOut n of w) sent → filter (is_from_sender s) sent ≡ []
@@ -53,7 +53,7 @@ module _ (n : NetTold) (of : List ℕ) (until : ℕ) (inboxes : List InboxId) wh
   all_back (t ∷ ts) (s ∷ ss) (c ∷ cs) [] set_out long ran = absurd ran
   all_back (t ∷ ts) (s ∷ ss) (c ∷ cs) (d ∷ ds) set_out long ran = (one_back t s c d set_out.0 ran.0, all_back ts ss cs ds set_out.1 (omega arith) ran.1)
 
-module _ (n : NetTold) (of : List ℕ) (from until : ℕ) (old : Crew) (at : IsAt n of from old) (couriers : List Courier) (done : List Worker)
+module _ (n : NetTold) (of : List ℕ) (from until : ℕ) (old : Workers) (at : IsAt n of from old) (couriers : List Courier) (done : List Worker)
     (together : Together old.inboxes.items couriers) (set_out : AllZip SetsOut old.takers.items couriers)
     (ran : AllZip (RunsWorker n of old.inboxes.items until) (map manned_by (zip old.shares.items couriers)) done) where
   couriers_long : length couriers ≡ length old.shares.items

@@ -9,9 +9,10 @@ use Rattle.copy_exchange.specs.declared.courier.Courier.{Courier}
 use Rattle.copy_exchange.specs.Couriers.{Together, SetsOut, ComesHome}
 use Rattle.copy_exchange.specs.Inboxes.{Settled}
 use Rattle.worker_window.specs.declared.share.Share.{Share}
-use Rattle.joined_workers.specs.declared.crew.Crew.{Crew}
+use Rattle.all_workers.specs.declared.workers.Workers.{Workers}
 use Rattle.joined_workers.specs.declared.worker.Worker.{Worker}
-use Rattle.joined_workers.specs.Crew.{IsAt, IsNextOfAll, FirstOfAll}
+use Rattle.all_workers.specs.Workers.{IsAt}
+use Rattle.joined_workers.specs.Next.{IsNextOfAll, FirstOfAll}
 use Rattle.joined_workers.specs.Worker.{RunsWorker}
 
 -- each worker with its share and its courier
@@ -19,7 +20,7 @@ abbrev pub manned_by : Share × Courier → Worker
 manned_by p = record { share = p.0; courier = p.1; first_out = None }
 
 -- the couriers set out together, each worker ran through the window with its own, and all came home
-pub record RunsAll (n : NetTold) (of : List ℕ) (until : ℕ) (old new : Crew) : Type 0 where
+pub record RunsAll (n : NetTold) (of : List ℕ) (until : ℕ) (old new : Workers) : Type 0 where
   pub couriers : List Courier
   pub done : List Worker
   pub together : Together old.inboxes.items couriers
@@ -33,10 +34,10 @@ pub record RunsAll (n : NetTold) (of : List ℕ) (until : ℕ) (old new : Crew) 
 
 -- a window that begins where the workers stand, and is no longer than the lookahead, leads to its end
 abbrev pub WindowMovesOn : Type 0
-WindowMovesOn = (n : NetTold) → RunsForward (system_of n) → (of : List ℕ) (from until : ℕ) (old new : Crew) → IsAt n of from old → from < until → until ≤ from + (system_of n).lookahead
+WindowMovesOn = (n : NetTold) → RunsForward (system_of n) → (of : List ℕ) (from until : ℕ) (old new : Workers) → IsAt n of from old → from < until → until ≤ from + (system_of n).lookahead
     → RunsAll n of until old new → IsAt n of until new
 
 -- the next moment at which something comes isn't sooner than where the workers stand, and until then they stand
 abbrev pub StandsUntilNext : Type 0
-StandsUntilNext = (n : NetTold) → RunsForward (system_of n) → (of : List ℕ) (from : ℕ) (crew : Crew) (next : Option ℕ) → IsAt n of from crew → IsNextOfAll crew.first_out crew.shares.items next
+StandsUntilNext = (n : NetTold) → RunsForward (system_of n) → (of : List ℕ) (from : ℕ) (crew : Workers) (next : Option ℕ) → IsAt n of from crew → IsNextOfAll crew.first_out crew.shares.items next
     → WakesFrom from next × ((moment : ℕ) → from ≤ moment → WakesFrom moment next → IsAt n of moment crew)

@@ -1,20 +1,21 @@
 //! One window of all workers, each in a thread of its own.
 
-ghost use Rattle.std.specs.Prelude.{◌≡◌, ◌≢◌, ℕ, ◌+◌, ◌^◌, ◌<◌, ◌≤◌, true, length, map, IfErr, IfOk};
+ghost use Rattle.std.specs.Prelude.{◌≡◌, ℕ, ◌+◌, ◌^◌, ◌<◌, ◌≤◌, length, map, IfErr, IfOk};
 ghost use Rattle.std.specs.List.{AllByRecursion as Each, AllZip, zip};
 ghost use Rattle.fork_join.specs.declared.work.Refused.TheVariants.{Memory};
 ghost use Rattle.mote_net.specs.Net.{net_of};
 ghost use Rattle.net_agenda.specs.NetSystem.{system_of};
 ghost use Rattle.window_laws.specs.System.{RunsForward};
-ghost use Rattle.copy_exchange.specs.Couriers.{AllReturn, ComesHome, HasMarks, HasPushedNothing, SetsOut, Together};
+ghost use Rattle.copy_exchange.specs.Couriers.{AllReturn, ComesHome};
 ghost use Rattle.copy_exchange.specs.Inboxes.{IsPlain, Settled};
-ghost use Rattle.joined_workers.specs.Crew.{IsAt};
+ghost use Rattle.all_workers.specs.Workers.{IsAt};
 ghost use Rattle.joined_workers.specs.Laws.{RunsAll, manned_by};
 ghost use Rattle.joined_workers.specs.Worker.{IsReady, RunsWorker};
 
-use crate::crew::{Crew, first_of_all};
+use crate::next::first_of_all;
 use crate::worker::{CrewWindow, Runner, Worker};
-use copy_exchange::{Courier, couriers, gathered};
+use all_workers::{Workers, set_out};
+use copy_exchange::{Courier, gathered};
 use copy_inbox::{Inbox, Taker};
 use fork_join::{Refused, fork_join};
 use mote_net::Net;
@@ -24,26 +25,6 @@ use std::sync::Wait;
 use std::thread::Threads;
 use window_run::Gate;
 use worker_window::Share;
-
-/// Before a window: a courier for each worker. Out of memory is the one error.
-pub fn set_out(
-    alloc: Global,
-    inboxes: &[Inbox],
-    takers: Vec<Taker>,
-) -> Result<Vec<Courier>, Refused>
-    requires few { length inboxes.now ≤ 2 ^ 16 }
-    requires settled { Settled inboxes.now takers.items }
-    ensures together { IfOk result (λ couriers. Together inboxes.now couriers.items) }
-    ensures set_out { IfOk result (λ couriers. AllZip SetsOut takers.items couriers.items) }
-    ensures nothing { IfOk result (λ couriers. Each HasPushedNothing couriers.items) }
-    ensures marked { IfOk result (λ couriers. Each (λ taker. taker.desk.marked ≡ true) takers.items → Each HasMarks couriers.items) }
-    ensures refused { IfErr result (λ reason. reason ≡ Memory) }
-{
-    match couriers(alloc, inboxes, takers) {
-        Ok(couriers) => Ok(couriers),
-        Err(_) => Err(Refused::Memory),
-    }
-}
 
 /// After a window: each worker's taker, which has gathered what was delivered to it. Out of memory is the one error.
 fn come_home<R: Wait>(
@@ -117,80 +98,78 @@ where
     fork_join(rt, alloc, workers, &Runner { rt, gate, window })
 }
 
-impl Crew {
-    /// Runs all workers through one window: the couriers set out, each worker runs in its thread, and all come home.
-    fn run_all<R, G>(
-        self,
-        rt: &R,
-        alloc: Global,
-        net: &Net,
-        of: &[u16],
-        until: u64,
-        gate: &G,
-    ) -> Result<Crew, Refused>
-    where
-        R: Threads + Wait + RandomSource + AllocGlobal + Sync,
-        G: Gate + Sync,
-        requires early { until ≤ 2 ^ 40 }
-        requires few { length self.inboxes.items ≤ 16 }
-        requires stands { (from : ℕ) × IsAt (net_of net.now) of.now from self × (from ≤ until) }
-        requires plain { Each IsPlain self.takers.items }
-        ensures runs { IfOk result (RunsAll (net_of net.now) of.now until self) }
-        ensures plain { IfOk result (λ crew. Each IsPlain crew.takers.items) }
-    {
-        let Crew {
-            shares,
-            inboxes,
-            takers,
-            first_out: _,
-        } = self;
-        let couriers = set_out(alloc, &inboxes, takers)?;
-        let workers = manned(alloc, shares, couriers)?;
-        let window = CrewWindow {
-            net,
-            of,
-            inboxes: &inboxes,
-            until,
-        };
-        let done = run_together(rt, alloc, workers, window, gate)?;
-        let first_out = first_of_all(&done);
-        let (shares, couriers) = parted(alloc, done)?;
-        let takers = come_home(rt, alloc, &inboxes, couriers)?;
-        Ok(Crew {
-            shares,
-            inboxes,
-            takers,
-            first_out,
-        })
-    }
+/// Runs all workers through one window: the couriers set out, each worker runs in its thread, and all come home.
+fn run_all<R, G>(
+    rt: &R,
+    alloc: Global,
+    net: &Net,
+    of: &[u16],
+    until: u64,
+    gate: &G,
+    crew: Workers,
+) -> Result<Workers, Refused>
+where
+    R: Threads + Wait + RandomSource + AllocGlobal + Sync,
+    G: Gate + Sync,
+    requires early { until ≤ 2 ^ 40 }
+    requires few { length crew.inboxes.items ≤ 16 }
+    requires stands { (from : ℕ) × IsAt (net_of net.now) of.now from crew × (from ≤ until) }
+    requires plain { Each IsPlain crew.takers.items }
+    ensures runs { IfOk result (RunsAll (net_of net.now) of.now until crew) }
+    ensures plain { IfOk result (λ done. Each IsPlain done.takers.items) }
+{
+    let Workers {
+        shares,
+        inboxes,
+        takers,
+        first_out: _,
+    } = crew;
+    let couriers = set_out(alloc, &inboxes, takers)?;
+    let workers = manned(alloc, shares, couriers)?;
+    let window = CrewWindow {
+        net,
+        of,
+        inboxes: &inboxes,
+        until,
+    };
+    let done = run_together(rt, alloc, workers, window, gate)?;
+    let first_out = first_of_all(&done);
+    let (shares, couriers) = parted(alloc, done)?;
+    let takers = come_home(rt, alloc, &inboxes, couriers)?;
+    Ok(Workers {
+        shares,
+        inboxes,
+        takers,
+        first_out,
+    })
+}
 
-    /// One window: each worker takes in what was sent to it, runs its motes up to `until`, and delivers what they sent, all in
-    /// threads of their own; then all senders are gathered. It does no more than `run_all`, and stands beside it for the prover alone:
-    /// here what the workers did becomes a step of the run, by the law of windows.
-    ///
-    /// # Errors
-    /// That of the first worker that has one; `Thread` where a thread couldn't be started, or the gate refused it; and `Memory`.
-    pub(crate) fn run_window<R, G>(
-        self,
-        rt: &R,
-        alloc: Global,
-        net: &Net,
-        of: &[u16],
-        until: u64,
-        gate: &G,
-    ) -> Result<Crew, Refused>
-    where
-        R: Threads + Wait + RandomSource + AllocGlobal + Sync,
-        G: Gate + Sync,
-        requires early { until ≤ 2 ^ 40 }
-        requires few { length self.inboxes.items ≤ 16 }
-        requires stands { (from : ℕ) × IsAt (net_of net.now) of.now from self × (from ≤ until) }
-        requires plain { Each IsPlain self.takers.items }
-        ensures runs { IfOk result (RunsAll (net_of net.now) of.now until self) }
-        ensures moves { let n = net_of net.now in RunsForward (system_of n) → IfOk result (λ done. (from : ℕ) → IsAt n of.now from self → from < until → until ≤ from + (system_of n).lookahead → IsAt n of.now until done) }
-        ensures inboxes { IfOk result (λ done. done.inboxes.items ≡ self.inboxes.items) }
-        ensures plain { IfOk result (λ done. Each IsPlain done.takers.items) }
-    {
-        self.run_all(rt, alloc, net, of, until, gate)
-    }
+/// One window: each worker takes in what was sent to it, runs its motes up to `until`, and delivers what they sent, all in
+/// threads of their own; then all senders are gathered. It does no more than `run_all`, and stands beside it for the prover alone:
+/// here what the workers did becomes a step of the run, by the law of windows.
+///
+/// # Errors
+/// That of the first worker that has one; `Thread` where a thread couldn't be started, or the gate refused it; and `Memory`.
+pub(crate) fn run_window<R, G>(
+    rt: &R,
+    alloc: Global,
+    net: &Net,
+    of: &[u16],
+    until: u64,
+    gate: &G,
+    crew: Workers,
+) -> Result<Workers, Refused>
+where
+    R: Threads + Wait + RandomSource + AllocGlobal + Sync,
+    G: Gate + Sync,
+    requires early { until ≤ 2 ^ 40 }
+    requires few { length crew.inboxes.items ≤ 16 }
+    requires stands { (from : ℕ) × IsAt (net_of net.now) of.now from crew × (from ≤ until) }
+    requires plain { Each IsPlain crew.takers.items }
+    ensures runs { IfOk result (RunsAll (net_of net.now) of.now until crew) }
+    ensures moves { let n = net_of net.now in RunsForward (system_of n) → IfOk result (λ done. (from : ℕ) → IsAt n of.now from crew → from < until → until ≤ from + (system_of n).lookahead → IsAt n of.now until done) }
+    ensures inboxes { IfOk result (λ done. done.inboxes.items ≡ crew.inboxes.items) }
+    ensures plain { IfOk result (λ done. Each IsPlain done.takers.items) }
+{
+    run_all(rt, alloc, net, of, until, gate, crew)
 }

@@ -1,13 +1,14 @@
 //! One worker in one window.
 
-ghost use Rattle.std.specs.Prelude.{◌≡◌, ◌≢◌, ℕ, ◌≤◌, IfErr, IfOk, IfSome};
+ghost use Rattle.std.specs.Prelude.{◌≢◌, ℕ, IfErr, IfOk};
 ghost use Rattle.fork_join.specs.declared.work.Refused.TheVariants.{Stopped};
 ghost use Rattle.mote_net.specs.Net.{net_of};
 ghost use Rattle.radio_packet.specs.declared.copy.RadioCopy.{RadioCopy};
 ghost use Rattle.window_laws.specs.Windows.{WakesFrom};
-ghost use Rattle.joined_workers.specs.Refusals.{refused_of};
-ghost use Rattle.joined_workers.specs.Worker.{IsReady, RunsWorker, IsFirstOf, IsNotBefore};
+ghost use Rattle.joined_workers.specs.Worker.{IsReady, RunsWorker, IsFirstOf};
+ghost use Rattle.all_workers.specs.Workers.{IsNotBefore};
 
+use all_workers::refused;
 use copy_exchange::Courier;
 use copy_inbox::Inbox;
 use fork_join::{Refused, Work};
@@ -15,7 +16,7 @@ use mote_net::Net;
 use radio_packet::RadioCopy;
 use std::random::RandomSource;
 use std::sync::Wait;
-use window_run::{Gate, ShareError};
+use window_run::Gate;
 use worker_window::Share;
 
 /// A worker: its share of the net, and the courier of its copies.
@@ -81,16 +82,6 @@ fn first_of(copies: &[RadioCopy]) -> Option<u64>
         first = sooner(Some(copy.at), first);
     }
     first
-}
-
-/// Why a worker gave up whose motes gave up in a window.
-pub fn refused(error: ShareError) -> Refused
-    ensures { result ≡ refused_of error }
-{
-    match error {
-        ShareError::Memory => Refused::Memory,
-        ShareError::Thread => Refused::Thread,
-    }
 }
 
 /// Has a worker take in what other workers sent in earlier windows, while they may already send more; run its motes through the

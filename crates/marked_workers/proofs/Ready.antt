@@ -15,11 +15,11 @@ use Rattle.copy_exchange.proofs.Open.{made_for_others}
 use Rattle.mark_exchange.specs.declared.courier.MarkCourier.{MarkCourier}
 use Rattle.worker_window.specs.declared.share.Share.{Share}
 use Rattle.worker_window.specs.Share.{Keeps}
-use Rattle.joined_workers.specs.Start.{AreFirst}
-use Rattle.joined_workers.specs.Worker.{IsCut}
-use Rattle.joined_workers.proofs.Lookups.{there, inside, read, beside, as_long, each_at, each_from, same_found}
-use Rattle.joined_workers.proofs.Ready.{numbered}
-use Rattle.joined_workers.proofs.Starts.{fresh_at}
+use Rattle.all_workers.specs.Start.{AreFirst}
+use Rattle.all_workers.specs.Workers.{IsCut}
+use Rattle.all_workers.proofs.Lookups.{there, inside, read, beside, as_long, each_at, each_from, same_found}
+use Rattle.all_workers.proofs.Numbered.{numbered}
+use Rattle.all_workers.proofs.Starts.{fresh_at}
 use Rattle.marked_workers.specs.Run.{CanCarry, CarriesFor, courier_of, manned_by}
 use Rattle.marked_workers.specs.Thread.{IsManned}
 

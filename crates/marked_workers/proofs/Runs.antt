@@ -18,11 +18,11 @@ use Rattle.copy_exchange.proofs.Gathers.{gather_is}
 use Rattle.copy_exchange.proofs.Homes.{same_workers}
 use Rattle.copy_exchange.proofs.Open.{SendersOfOthers, are_senders, sender_of, sender_is}
 use Rattle.worker_window.specs.declared.share.Share.{Share}
-use Rattle.joined_workers.specs.declared.crew.Crew.{Crew}
-use Rattle.joined_workers.specs.Crew.{IsAt}
-use Rattle.joined_workers.specs.Worker.{IsCut}
-use Rattle.joined_workers.proofs.Lookups.{there, read, mapped, beside, as_long}
-use Rattle.joined_workers.proofs.Ready.{numbered}
+use Rattle.all_workers.specs.declared.workers.Workers.{Workers}
+use Rattle.all_workers.specs.Workers.{IsAt}
+use Rattle.all_workers.specs.Workers.{IsCut}
+use Rattle.all_workers.proofs.Lookups.{there, read, mapped, beside, as_long}
+use Rattle.all_workers.proofs.Numbered.{numbered}
 use Rattle.marked_workers.specs.declared.worker.MarkWorker.{MarkWorker}
 use Rattle.marked_workers.specs.Bounds.{windows_of}
 use Rattle.marked_workers.specs.Crew.{EndsMarked, EndAllMarked}
@@ -58,7 +58,7 @@ module _ (n : NetTold) (of : List ℕ) (width windows : ℕ) (inboxes : List Inb
       → map (λ (c : Courier). c.worker) (map courier_of ys) ≡ range_with_len 0 (length inboxes)
   all_back xs ys together ran = same_workers (map courier_of xs) (map courier_of ys) (all_stay xs ys ran) ∙ together.workers
 
-module _ (n : NetTold) (of : List ℕ) (width : ℕ) (old new : Crew) (cut : IsCut (length n.motes) (length new.inboxes.items) of) (ran : RunsAllMarked n of width old new) where
+module _ (n : NetTold) (of : List ℕ) (width : ℕ) (old new : Workers) (cut : IsCut (length n.motes) (length new.inboxes.items) of) (ran : RunsAllMarked n of width old new) where
   abbrev ids : List InboxId
   ids = new.inboxes.items
 
@@ -163,7 +163,7 @@ module _ (n : NetTold) (of : List ℕ) (width : ℕ) (old new : Crew) (cut : IsC
 
 -- all workers stand at the end, where no window was longer than the lookahead
 pub ended : (n : NetTold) → RunsForward (system_of n) → (of : List ℕ) (width : ℕ) → 0 < width → width ≤ (system_of n).lookahead
-    → (old new : Crew) → IsCut (length n.motes) (length old.inboxes.items) of → RunsAllMarked n of width old new → IsAt n of (suc n.end) new × Each (λ (t : TakerView). Whole t.desk.gathered t.desk.taken) new.takers.items
+    → (old new : Workers) → IsCut (length n.motes) (length old.inboxes.items) of → RunsAllMarked n of width old new → IsAt n of (suc n.end) new × Each (λ (t : TakerView). Whole t.desk.gathered t.desk.taken) new.takers.items
 ended n fine of width wide short old new cut ran =
     let cut_now : IsCut (length n.motes) (length new.inboxes.items) of = subst (λ (l : List InboxId). IsCut (length n.motes) (length l) of) (sym ran.inboxes) cut in
     ends n fine of width (windows_of width n.end) short (are_windows width n.end wide) new (ends_marked n of width old new cut_now ran)

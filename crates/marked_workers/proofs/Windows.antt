@@ -22,8 +22,8 @@ use Rattle.mark_exchange.specs.Due.{IsDue}
 use Rattle.mark_exchange.proofs.Delivered.{takes_stays, takes_seated}
 use Rattle.worker_window.specs.Share.{Keeps}
 use Rattle.worker_window.specs.Window.{CanRun, ComesIn, GoesOut, RunsWindow}
-use Rattle.joined_workers.specs.Worker.{IsCut}
-use Rattle.joined_workers.proofs.Working.{leaves_sent}
+use Rattle.all_workers.specs.Workers.{IsCut}
+use Rattle.all_workers.proofs.Sent.{leaves_sent}
 use Rattle.marked_workers.specs.declared.worker.MarkWorker.{MarkWorker}
 use Rattle.marked_workers.specs.Bounds.{bound, windows_of, AreWindows}
 use Rattle.marked_workers.specs.Story.{RunsMarked}

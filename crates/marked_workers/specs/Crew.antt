@@ -8,9 +8,9 @@ use Rattle.copy_inbox.specs.Gathered.{Whole}
 use Rattle.copy_inbox.specs.Items.{part, BeginsWith}
 use Rattle.copy_inbox.specs.Handles.{InboxId, TakerView, SenderView}
 use Rattle.worker_window.specs.declared.share.Share.{Share}
-use Rattle.joined_workers.specs.declared.crew.Crew.{Crew}
-use Rattle.joined_workers.specs.Crew.{IsAt}
-use Rattle.joined_workers.specs.Worker.{IsCut}
+use Rattle.all_workers.specs.declared.workers.Workers.{Workers}
+use Rattle.all_workers.specs.Workers.{IsAt}
+use Rattle.all_workers.specs.Workers.{IsCut}
 use Rattle.marked_workers.specs.Bounds.{AreWindows}
 use Rattle.copy_exchange.specs.Couriers.{pushed_list}
 use Rattle.marked_workers.specs.Senders.{AreSenders, after_all}
@@ -28,7 +28,7 @@ pub record EndsMarked (n : NetTold) (of : List ℕ) (width windows workers : ℕ
   pub gathered : taker ≡ after_all before senders
 
 -- all workers
-pub record EndAllMarked (n : NetTold) (of : List ℕ) (width windows : ℕ) (crew : Crew) : Type 0 where
+pub record EndAllMarked (n : NetTold) (of : List ℕ) (width windows : ℕ) (crew : Workers) : Type 0 where
   pub cut : IsCut (length n.motes) (length crew.inboxes.items) of
   pub shares : length crew.shares.items ≡ length crew.inboxes.items
   pub takers : length crew.takers.items ≡ length crew.inboxes.items
@@ -42,5 +42,5 @@ pub record EndAllMarked (n : NetTold) (of : List ℕ) (width windows : ℕ) (cre
 -- windows, and each has taken all that was pushed to it, every mark too.
 abbrev pub MarkedWindowsLeadToTheEnd : Type 0
 MarkedWindowsLeadToTheEnd = (n : NetTold) → RunsForward (system_of n) → (of : List ℕ) (width windows : ℕ) → width ≤ (system_of n).lookahead → AreWindows width n.end windows
-    → (crew : Crew) → EndAllMarked n of width windows crew
+    → (crew : Workers) → EndAllMarked n of width windows crew
     → IsAt n of (suc n.end) crew × Each (λ (t : TakerView). Whole t.desk.gathered t.desk.taken) crew.takers.items

@@ -8,7 +8,7 @@ use Rattle.copy_exchange.specs.Steps.{GathersBack}
 use Rattle.mark_exchange.specs.declared.courier.MarkCourier.{MarkCourier}
 use Rattle.mark_exchange.specs.Marks.{Counts}
 use Rattle.worker_window.specs.declared.share.Share.{Share}
-use Rattle.joined_workers.specs.declared.crew.Crew.{Crew}
+use Rattle.all_workers.specs.declared.workers.Workers.{Workers}
 use Rattle.marked_workers.specs.declared.worker.MarkWorker.{MarkWorker}
 use Rattle.marked_workers.specs.Bounds.{windows_of}
 use Rattle.marked_workers.specs.Thread.{HasRun}
@@ -29,7 +29,7 @@ abbrev pub courier_of : MarkWorker → Courier
 courier_of w = w.carries.courier
 
 -- all workers set out together, each ran all windows in its thread, and their senders were then gathered
-pub record RunsAllMarked (n : NetTold) (of : List ℕ) (width : ℕ) (old new : Crew) : Type 0 where
+pub record RunsAllMarked (n : NetTold) (of : List ℕ) (width : ℕ) (old new : Workers) : Type 0 where
   pub first : List MarkWorker
   pub done : List MarkWorker
   pub together : Together new.inboxes.items (map courier_of first)

@@ -12,7 +12,7 @@ use Rattle.mark_exchange.specs.Due.{TakesDue}
 use Rattle.mark_exchange.specs.Marks.{AllPast, Counts}
 use Rattle.worker_window.specs.Share.{Keeps, Motes}
 use Rattle.worker_window.specs.Window.{ComesIn, GoesOut, RunsWindow}
-use Rattle.joined_workers.specs.Worker.{IsCut}
+use Rattle.all_workers.specs.Workers.{IsCut}
 use Rattle.marked_workers.specs.declared.worker.MarkWorker.{MarkWorker}
 use Rattle.marked_workers.specs.Story.{RunsMarked}
 

@@ -9,20 +9,20 @@ ghost use Rattle.copy_inbox.specs.Gathered.{Whole};
 ghost use Rattle.copy_exchange.specs.Couriers.{IsSeated};
 ghost use Rattle.copy_exchange.specs.Inboxes.{IsFresh};
 ghost use Rattle.copy_exchange.specs.Steps.{GathersBack};
-ghost use Rattle.joined_workers.specs.Crew.{IsAt};
-ghost use Rattle.joined_workers.specs.Run.{length_of_window};
-ghost use Rattle.joined_workers.specs.Start.{AreFirst};
-ghost use Rattle.joined_workers.specs.Worker.{IsCut};
+ghost use Rattle.all_workers.specs.Workers.{IsAt};
+ghost use Rattle.all_workers.specs.WindowLength.{length_of_window};
+ghost use Rattle.all_workers.specs.Start.{AreFirst};
+ghost use Rattle.all_workers.specs.Workers.{IsCut};
 ghost use Rattle.marked_workers.specs.Bounds.{windows_of};
 ghost use Rattle.marked_workers.specs.Run.{CanCarry, CarriesFor, RunsAllMarked, manned_by, courier_of};
 ghost use Rattle.marked_workers.specs.Thread.{IsManned, HasRun};
 
 use crate::thread::MarkRunner;
 use crate::worker::{CrewRun, MarkWorker};
+use all_workers::{Workers, lookahead_of, set_out, window_length};
 use copy_exchange::{Courier, gather_back};
 use copy_inbox::{Inbox, Taker};
 use fork_join::{Refused, fork_join};
-use joined_workers::{Crew, lookahead_of, set_out, window_length};
 use mark_exchange::MarkCourier;
 use mote_net::Net;
 use std::alloc::{AllocGlobal, Global};
@@ -131,8 +131,8 @@ fn run_threads<R, G>(
     of: &[u16],
     width: u64,
     gate: &G,
-    crew: Crew,
-) -> Result<Crew, Refused>
+    crew: Workers,
+) -> Result<Workers, Refused>
 where
     R: Threads + Wait + RandomSource + AllocGlobal + Sync,
     G: Gate + Sync,
@@ -145,7 +145,7 @@ where
     requires first { AreFirst (net_of net.now) of.now (length crew.inboxes.items) crew.shares.items }
     ensures { IfOk result (RunsAllMarked (net_of net.now) of.now width crew) }
 {
-    let Crew {
+    let Workers {
         shares,
         inboxes,
         takers,
@@ -166,7 +166,7 @@ where
     let done = run_together(rt, alloc, workers, run, gate)?;
     let (shares, couriers) = parted(alloc, done)?;
     let takers = come_home(rt, alloc, &inboxes, couriers)?;
-    Ok(Crew {
+    Ok(Workers {
         shares,
         inboxes,
         takers,
@@ -188,8 +188,8 @@ pub fn run_marked<R, G>(
     of: &[u16],
     longest: u32,
     gate: &G,
-    crew: Crew,
-) -> Result<Crew, Refused>
+    crew: Workers,
+) -> Result<Workers, Refused>
 where
     R: Threads + Wait + RandomSource + AllocGlobal + Sync,
     G: Gate + Sync,

@@ -7,15 +7,15 @@ ghost use Rattle.net_agenda.specs.NetSystem.{system_of};
 ghost use Rattle.copy_exchange.specs.Couriers.{HasMarks, IsSeated};
 ghost use Rattle.mark_exchange.specs.Marks.{Counts};
 ghost use Rattle.worker_window.specs.Window.{CanRun};
-ghost use Rattle.joined_workers.specs.Worker.{IsCut};
+ghost use Rattle.all_workers.specs.Workers.{IsCut};
 ghost use Rattle.marked_workers.specs.Bounds.{bound, windows_of};
 ghost use Rattle.marked_workers.specs.Refusals.{refused_of};
 ghost use Rattle.marked_workers.specs.declared.worker.MarkWorker.{MarkWorker as MarkWorkerOfCode};
 ghost use Rattle.marked_workers.specs.Thread.{IsManned, SendsWindow, TakesWindow, HasRun};
 
 use crate::worker::{CrewRun, MarkWorker};
+use all_workers::{refused, window_end};
 use fork_join::{Refused, Work};
-use joined_workers::{refused, window_end};
 use mark_exchange::{MarkError, Standing};
 use std::alloc::AllocGlobal;
 use std::random::RandomSource;

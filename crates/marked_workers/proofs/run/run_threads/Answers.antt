@@ -1,7 +1,7 @@
 use Rattle.std.proofs.Common.{rules, ◌≡◌, length, map, refl, vec_len, arith}
 use Rattle.std.specs.List.{zip}
 use Rattle.mote_net.specs.Net.{net_of}
-use Rattle.joined_workers.proofs.Starts.{all_settled}
+use Rattle.all_workers.proofs.Starts.{all_settled}
 use Rattle.marked_workers.specs.Bounds.{windows_of}
 use Rattle.marked_workers.specs.Run.{manned_by}
 use Rattle.marked_workers.proofs.Ready.{can_carry, ready, together_first, none_gathered_first}

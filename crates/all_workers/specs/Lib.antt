@@ -1,0 +1,5 @@
+pub mod Held
+pub mod Refusals
+pub mod Start
+pub mod WindowLength
+pub mod Workers
