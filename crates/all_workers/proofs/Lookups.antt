@@ -89,3 +89,9 @@ module _ {X : Type 0} where
   pub same_tests : (p q : X → Bool) (xs : List X) → Each (λ x. p x ≡ q x) xs → filter p xs ≡ filter q xs
   same_tests p q [] h = refl
   same_tests p q (x ∷ xs) h = let ih = same_tests p q xs h.1 in rw h.0 (ap (λ l. cond (q x) (x ∷ l) l) ih)
+
+module _ {X Y Z : Type 0} (P : Z → Type 0) (f : X × Y → Z) where
+  pub each_zipped : (xs : List X) (ys : List Y) → ((i : ℕ) (x : X) (y : Y) → slice_get xs i ≡ Some x → slice_get ys i ≡ Some y → P (f (x, y))) → Each P (map f (zip xs ys))
+  each_zipped [] ys h = tt
+  each_zipped (x ∷ xs) [] h = tt
+  each_zipped (x ∷ xs) (y ∷ ys) h = (h 0 x y refl refl, each_zipped xs ys (λ i a b e g. h (suc i) a b e g))

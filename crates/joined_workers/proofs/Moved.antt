@@ -20,9 +20,10 @@ use Rattle.worker_window.specs.declared.share.Share.{Share}
 use Rattle.worker_window.specs.Share.{Motes, Keeps}
 use Rattle.worker_window.specs.Window.{RunsOwn, GoesOut, copies_out}
 use Rattle.all_workers.specs.declared.workers.Workers.{Workers}
-use Rattle.joined_workers.specs.declared.worker.Worker.{Worker}
+use Rattle.all_workers.specs.declared.worker.Worker.{Worker}
 use Rattle.all_workers.specs.Workers.{IsAt, IsWorkerAt}
-use Rattle.joined_workers.specs.Laws.{RunsAll, manned_by}
+use Rattle.all_workers.specs.Worker.{worker_of}
+use Rattle.joined_workers.specs.Laws.{RunsAll}
 use Rattle.all_workers.specs.Workers.{IsCut, IsNotBefore}
 use Rattle.joined_workers.specs.Worker.{IsFirstOf}
 use Rattle.all_workers.proofs.Choose.{choose}
@@ -144,8 +145,8 @@ module _ (n : NetTold) (fine : RunsForward (system_of n)) (of : List ℕ) (from 
 
   done_long : length all.done ≡ workers
   done_long =
-      as_long _ (map manned_by (zip old.shares.items all.couriers)) all.done all.ran
-      ∙ (map_long manned_by (zip old.shares.items all.couriers) ∙ (zip_long old.shares.items all.couriers couriers_long ∙ at.shares))
+      as_long _ (map worker_of (zip old.shares.items all.couriers)) all.done all.ran
+      ∙ (map_long worker_of (zip old.shares.items all.couriers) ∙ (zip_long old.shares.items all.couriers couriers_long ∙ at.shares))
 
   -- of what went to a worker, what one mote sent
   to_one : (v s : ℕ) → filter (is_from_sender s) (delivered_to (map (λ (w : Worker). w.courier) all.done) v) ≡ out_to v s

@@ -6,7 +6,7 @@ use Rattle.radio_packet.specs.declared.copy.RadioCopy.{RadioCopy}
 use Rattle.window_laws.specs.Windows.{WakesFrom}
 use Rattle.window_laws.proofs.Lists.{every_append, every_weaker}
 use Rattle.worker_window.specs.declared.share.Share.{Share}
-use Rattle.joined_workers.specs.declared.worker.Worker.{Worker}
+use Rattle.all_workers.specs.declared.worker.Worker.{Worker}
 use Rattle.all_workers.specs.Workers.{IsNotBefore}
 use Rattle.joined_workers.specs.Next.{FirstOfAll, IsNextOfAll}
 use Rattle.worker_window.specs.Next.{TellsNext}

@@ -1,5 +1,5 @@
 -- Laws of a window of all workers.
-use Rattle.std.specs.Prelude.{ℕ, ◌≡◌, ◌+◌, ◌<◌, ◌≤◌, List, map, Option, None}
+use Rattle.std.specs.Prelude.{ℕ, ◌≡◌, ◌+◌, ◌<◌, ◌≤◌, List, map, Option}
 use Rattle.std.specs.List.{zip, AllZip}
 use Rattle.mote_net.specs.Net.{NetTold}
 use Rattle.window_laws.specs.System.{RunsForward}
@@ -8,16 +8,12 @@ use Rattle.net_agenda.specs.NetSystem.{system_of}
 use Rattle.copy_exchange.specs.declared.courier.Courier.{Courier}
 use Rattle.copy_exchange.specs.Couriers.{Together, SetsOut, ComesHome}
 use Rattle.copy_exchange.specs.Inboxes.{Settled}
-use Rattle.worker_window.specs.declared.share.Share.{Share}
 use Rattle.all_workers.specs.declared.workers.Workers.{Workers}
-use Rattle.joined_workers.specs.declared.worker.Worker.{Worker}
+use Rattle.all_workers.specs.declared.worker.Worker.{Worker}
+use Rattle.all_workers.specs.Worker.{worker_of}
 use Rattle.all_workers.specs.Workers.{IsAt}
 use Rattle.joined_workers.specs.Next.{IsNextOfAll, FirstOfAll}
 use Rattle.joined_workers.specs.Worker.{RunsWorker}
-
--- each worker with its share and its courier
-abbrev pub manned_by : Share × Courier → Worker
-manned_by p = record { share = p.0; courier = p.1; first_out = None }
 
 -- the couriers set out together, each worker ran through the window with its own, and all came home
 pub record RunsAll (n : NetTold) (of : List ℕ) (until : ℕ) (old new : Workers) : Type 0 where
@@ -25,7 +21,7 @@ pub record RunsAll (n : NetTold) (of : List ℕ) (until : ℕ) (old new : Worker
   pub done : List Worker
   pub together : Together old.inboxes.items couriers
   pub set_out : AllZip SetsOut old.takers.items couriers
-  pub ran : AllZip (RunsWorker n of old.inboxes.items until) (map manned_by (zip old.shares.items couriers)) done
+  pub ran : AllZip (RunsWorker n of old.inboxes.items until) (map worker_of (zip old.shares.items couriers)) done
   pub shares : new.shares.items ≡ map (λ worker. worker.share) done
   pub home : AllZip (ComesHome (map (λ (worker : Worker). worker.courier) done)) (map (λ (worker : Worker). worker.courier) done) new.takers.items
   pub settled : Settled new.inboxes.items new.takers.items

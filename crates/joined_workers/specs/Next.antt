@@ -6,7 +6,7 @@ use Rattle.window_laws.specs.Windows.{WakesFrom}
 use Rattle.worker_window.specs.declared.share.Share.{Share}
 use Rattle.worker_window.specs.Next.{TellsNext}
 use Rattle.all_workers.specs.Workers.{IsNotBefore}
-use Rattle.joined_workers.specs.declared.worker.Worker.{Worker}
+use Rattle.all_workers.specs.declared.worker.Worker.{Worker}
 
 -- when the first copy arrives of all that these workers delivered, each of which tells its own first
 pub record FirstOfAll (workers : List Worker) (first : Option ℕ) : Type 0 where

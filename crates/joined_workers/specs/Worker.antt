@@ -14,7 +14,7 @@ use Rattle.worker_cut.specs.Crossed.{is_own}
 use Rattle.worker_window.specs.Share.{Motes, Keeps}
 use Rattle.worker_window.specs.Window.{CanRun, RunsWindow, GoesOut, ComesIn}
 use Rattle.all_workers.specs.Workers.{IsCut, IsNotBefore}
-use Rattle.joined_workers.specs.declared.worker.Worker.{Worker}
+use Rattle.all_workers.specs.declared.worker.Worker.{Worker}
 
 -- a worker that can run through a window: its share is that of the worker of its courier, its inbox has no marks, all that was sent
 -- to it is for its motes, and what it takes in comes no sooner than its share stands

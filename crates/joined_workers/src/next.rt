@@ -4,8 +4,8 @@ ghost use Rattle.std.specs.Prelude.{◌≡◌};
 ghost use Rattle.worker_window.specs.Next.{TellsNext};
 ghost use Rattle.joined_workers.specs.Next.{IsNextOfAll, FirstOfAll};
 
-use crate::worker::{Worker, sooner};
-use all_workers::Workers;
+use crate::worker::sooner;
+use all_workers::{Worker, Workers};
 use worker_window::Share;
 
 /// The moment of what is to come first to a worker's motes: a wrapper that gives the proof of the loop over all shares

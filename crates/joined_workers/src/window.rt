@@ -1,7 +1,7 @@
 //! One window of all workers, each in a thread of its own.
 
-ghost use Rattle.std.specs.Prelude.{◌≡◌, ℕ, ◌+◌, ◌^◌, ◌<◌, ◌≤◌, length, map, IfErr, IfOk};
-ghost use Rattle.std.specs.List.{AllByRecursion as Each, AllZip, zip};
+ghost use Rattle.std.specs.Prelude.{◌≡◌, ℕ, ◌+◌, ◌^◌, ◌<◌, ◌≤◌, length, IfErr, IfOk};
+ghost use Rattle.std.specs.List.{AllByRecursion as Each, AllZip};
 ghost use Rattle.fork_join.specs.declared.work.Refused.TheVariants.{Memory};
 ghost use Rattle.mote_net.specs.Net.{net_of};
 ghost use Rattle.net_agenda.specs.NetSystem.{system_of};
@@ -9,12 +9,12 @@ ghost use Rattle.window_laws.specs.System.{RunsForward};
 ghost use Rattle.copy_exchange.specs.Couriers.{AllReturn, ComesHome};
 ghost use Rattle.copy_exchange.specs.Inboxes.{IsPlain, Settled};
 ghost use Rattle.all_workers.specs.Workers.{IsAt};
-ghost use Rattle.joined_workers.specs.Laws.{RunsAll, manned_by};
+ghost use Rattle.joined_workers.specs.Laws.{RunsAll};
 ghost use Rattle.joined_workers.specs.Worker.{IsReady, RunsWorker};
 
 use crate::next::first_of_all;
-use crate::worker::{CrewWindow, Runner, Worker};
-use all_workers::{Workers, set_out};
+use crate::worker::{CrewWindow, Runner};
+use all_workers::{Worker, Workers, parted, set_out, workers_of};
 use copy_exchange::{Courier, gathered};
 use copy_inbox::{Inbox, Taker};
 use fork_join::{Refused, fork_join};
@@ -24,7 +24,6 @@ use std::random::RandomSource;
 use std::sync::Wait;
 use std::thread::Threads;
 use window_run::Gate;
-use worker_window::Share;
 
 /// After a window: each worker's taker, which has gathered what was delivered to it. Out of memory is the one error.
 fn come_home<R: Wait>(
@@ -43,42 +42,6 @@ fn come_home<R: Wait>(
         Ok(takers) => Ok(takers),
         Err(_) => Err(Refused::Memory),
     }
-}
-
-/// Each worker with its share and its courier.
-fn manned(alloc: Global, shares: Vec<Share>, couriers: Vec<Courier>) -> Result<Vec<Worker>, Refused>
-    ensures workers { IfOk result (λ workers. workers.items ≡ map manned_by (zip shares.items couriers.items)) }
-    ensures refused { IfErr result (λ reason. reason ≡ Memory) }
-{
-    let mut workers = Vec::new(alloc);
-    for (share, courier) in shares.into_iter().zip(couriers) {
-        workers.push(Worker {
-            share,
-            courier,
-            first_out: None,
-        })?;
-    }
-    Ok(workers)
-}
-
-/// The workers' shares, and their couriers.
-fn parted(alloc: Global, workers: Vec<Worker>) -> Result<(Vec<Share>, Vec<Courier>), Refused>
-    ensures shares { IfOk result (λ r. r.0.items ≡ map (λ worker. worker.share) workers.items) }
-    ensures couriers { IfOk result (λ r. r.1.items ≡ map (λ worker. worker.courier) workers.items) }
-    ensures refused { IfErr result (λ reason. reason ≡ Memory) }
-{
-    let mut shares = Vec::new(alloc);
-    let mut couriers = Vec::new(alloc);
-    for worker in workers {
-        let Worker {
-            share,
-            courier,
-            first_out: _,
-        } = worker;
-        shares.push(share)?;
-        couriers.push(courier)?;
-    }
-    Ok((shares, couriers))
 }
 
 /// Has each worker run through the window in a thread of its own.
@@ -125,7 +88,7 @@ where
         first_out: _,
     } = crew;
     let couriers = set_out(alloc, &inboxes, takers)?;
-    let workers = manned(alloc, shares, couriers)?;
+    let workers = workers_of(alloc, shares, couriers)?;
     let window = CrewWindow {
         net,
         of,

@@ -8,8 +8,7 @@ ghost use Rattle.window_laws.specs.Windows.{WakesFrom};
 ghost use Rattle.joined_workers.specs.Worker.{IsReady, RunsWorker, IsFirstOf};
 ghost use Rattle.all_workers.specs.Workers.{IsNotBefore};
 
-use all_workers::refused;
-use copy_exchange::Courier;
+use all_workers::{Worker, refused};
 use copy_inbox::Inbox;
 use fork_join::{Refused, Work};
 use mote_net::Net;
@@ -17,16 +16,6 @@ use radio_packet::RadioCopy;
 use std::random::RandomSource;
 use std::sync::Wait;
 use window_run::Gate;
-use worker_window::Share;
-
-/// A worker: its share of the net, and the courier of its copies.
-#[derive(Drop)]
-pub struct Worker {
-    pub share: Share,
-    pub courier: Courier,
-    /// When the first of the copies that it delivered in its window arrives.
-    pub first_out: Option<u64>,
-}
 
 /// What all workers of a window have in common.
 #[derive(Clone, Copy)]

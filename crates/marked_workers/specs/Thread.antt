@@ -1,5 +1,5 @@
 -- What a worker's thread makes of its worker: in each window, and in all of them.
-use Rattle.std.specs.Prelude.{ℕ, ◌≡◌, ◌+◌, ◌≤◌, List, [], ◌++◌, length}
+use Rattle.std.specs.Prelude.{ℕ, ◌≡◌, suc, ◌+◌, ◌≤◌, List, [], ◌++◌, length}
 use Rattle.std.specs.List.{AllByRecursion as Each}
 use Rattle.radio_packet.specs.declared.copy.RadioCopy.{RadioCopy}
 use Rattle.mote_net.specs.Net.{NetTold}
@@ -13,10 +13,28 @@ use Rattle.mark_exchange.specs.Marks.{AllPast, Counts}
 use Rattle.worker_window.specs.Share.{Keeps, Motes}
 use Rattle.worker_window.specs.Window.{ComesIn, GoesOut, RunsWindow}
 use Rattle.all_workers.specs.Workers.{IsCut}
+use Rattle.all_workers.specs.declared.worker.Worker.{Worker}
 use Rattle.marked_workers.specs.declared.worker.MarkWorker.{MarkWorker}
 use Rattle.marked_workers.specs.Story.{RunsMarked}
 
--- a worker before its first window
+-- A worker before its first window: its share is as it began, on its inbox a sender of each other worker was made, and
+-- nothing was pushed or taken.
+pub record IsFirst (n : NetTold) (of : List ℕ) (inboxes : List InboxId) (w : Worker) : Type 0 where
+  pub cut : IsCut (length n.motes) (length inboxes) of
+  pub keeps : Keeps n of w.courier.worker 0 (first_mote (system_of n)) [] w.share
+  pub seated : IsSeated inboxes w.courier
+  pub marked : HasMarks w.courier
+  pub made : suc w.courier.taker.desk.made ≡ length inboxes
+  pub none_taken : w.courier.taker.desk.taken ≡ []
+  pub none_gathered : w.courier.taker.desk.gathered ≡ []
+  pub none_pushed : HasPushedNothing w.courier
+
+-- the same worker, with counts of marks
+pub record IsSame (w : Worker) (m : MarkWorker) : Type 0 where
+  pub share : m.share ≡ w.share
+  pub courier : m.carries.courier ≡ w.courier
+
+-- a worker in its thread before its first window
 pub record IsManned (n : NetTold) (of : List ℕ) (inboxes : List InboxId) (w : MarkWorker) : Type 0 where
   pub cut : IsCut (length n.motes) (length inboxes) of
   pub keeps : Keeps n of w.carries.courier.worker 0 (first_mote (system_of n)) [] w.share
@@ -54,3 +72,9 @@ pub record HasRun (n : NetTold) (of : List ℕ) (width windows : ℕ) (inboxes :
   pub seated : IsSeated inboxes now.carries.courier
   pub marked : HasMarks now.carries.courier
   pub counts : Counts now.carries.marks.items now.carries.courier.taker.desk
+
+-- all that a worker's thread does: it ran so many windows
+pub record RunsAllWindows (n : NetTold) (of : List ℕ) (width windows : ℕ) (inboxes : List InboxId) (first now : Worker) : Type 0 where
+  pub stays : Stays first.courier now.courier
+  pub promise : RunsMarked n of width windows (length inboxes) first.courier.worker now.share now.courier.taker.desk (pushed_to now.courier)
+  pub seated : IsSeated inboxes now.courier

@@ -1,7 +1,7 @@
 //! The run of all workers, each in one thread from its first window to its last.
 
 ghost use Rattle.std.specs.Prelude.{◌≡◌, ◌<◌, ◌≤◌, suc, true, length, map, IfErr, IfOk};
-ghost use Rattle.std.specs.List.{AllByRecursion as Each, AllZip, range_with_len, zip};
+ghost use Rattle.std.specs.List.{AllByRecursion as Each, AllZip, range_with_len};
 ghost use Rattle.fork_join.specs.declared.work.Refused.TheVariants.{Memory};
 ghost use Rattle.mote_net.specs.Net.{net_of};
 ghost use Rattle.net_agenda.specs.NetSystem.{system_of};
@@ -14,16 +14,15 @@ ghost use Rattle.all_workers.specs.WindowLength.{length_of_window};
 ghost use Rattle.all_workers.specs.Start.{AreFirst};
 ghost use Rattle.all_workers.specs.Workers.{IsCut};
 ghost use Rattle.marked_workers.specs.Bounds.{windows_of};
-ghost use Rattle.marked_workers.specs.Run.{CanCarry, CarriesFor, RunsAllMarked, manned_by, courier_of};
-ghost use Rattle.marked_workers.specs.Thread.{IsManned, HasRun};
+ghost use Rattle.marked_workers.specs.Run.{RunsAllMarked};
+ghost use Rattle.marked_workers.specs.Thread.{IsFirst, RunsAllWindows};
 
 use crate::thread::MarkRunner;
-use crate::worker::{CrewRun, MarkWorker};
-use all_workers::{Workers, lookahead_of, set_out, window_length};
+use crate::worker::CrewRun;
+use all_workers::{Worker, Workers, lookahead_of, parted, set_out, window_length, workers_of};
 use copy_exchange::{Courier, gather_back};
 use copy_inbox::{Inbox, Taker};
 use fork_join::{Refused, fork_join};
-use mark_exchange::MarkCourier;
 use mote_net::Net;
 use std::alloc::{AllocGlobal, Global};
 use std::random::RandomSource;
@@ -31,60 +30,6 @@ use std::sync::Wait;
 use std::sync::atomic::AtomicBool;
 use std::thread::Threads;
 use window_run::Gate;
-use worker_window::Share;
-
-/// What each worker carries: its courier, with a count of marks for each sender on its inbox.
-fn carriers(
-    alloc: Global,
-    couriers: Vec<Courier>,
-    senders: usize,
-) -> Result<Vec<MarkCourier>, Refused>
-    requires { Each (CanCarry senders) couriers.items }
-    ensures carriers { IfOk result (λ carriers. AllZip CarriesFor couriers.items carriers.items) }
-    ensures refused { IfErr result (λ reason. reason ≡ Memory) }
-{
-    let mut carriers = Vec::new(alloc);
-    for courier in couriers {
-        let Ok(carrier) = MarkCourier::new(alloc, courier, senders) else {
-            return Err(Refused::Memory);
-        };
-        carriers.push(carrier)?;
-    }
-    Ok(carriers)
-}
-
-/// Each worker with its share and what it carries.
-fn manned(
-    alloc: Global,
-    shares: Vec<Share>,
-    carriers: Vec<MarkCourier>,
-) -> Result<Vec<MarkWorker>, Refused>
-    ensures workers { IfOk result (λ workers. workers.items ≡ map manned_by (zip shares.items carriers.items)) }
-    ensures refused { IfErr result (λ reason. reason ≡ Memory) }
-{
-    let mut workers = Vec::new(alloc);
-    for (share, carries) in shares.into_iter().zip(carriers) {
-        workers.push(MarkWorker { share, carries })?;
-    }
-    Ok(workers)
-}
-
-/// The workers' shares, and their couriers.
-fn parted(alloc: Global, workers: Vec<MarkWorker>) -> Result<(Vec<Share>, Vec<Courier>), Refused>
-    ensures shares { IfOk result (λ r. r.0.items ≡ map (λ worker. worker.share) workers.items) }
-    ensures couriers { IfOk result (λ r. r.1.items ≡ map courier_of workers.items) }
-    ensures refused { IfErr result (λ reason. reason ≡ Memory) }
-{
-    let mut shares = Vec::new(alloc);
-    let mut couriers = Vec::new(alloc);
-    for worker in workers {
-        let MarkWorker { share, carries } = worker;
-        let MarkCourier { courier, marks: _ } = carries;
-        shares.push(share)?;
-        couriers.push(courier)?;
-    }
-    Ok((shares, couriers))
-}
 
 /// At the end: each worker's taker, which has gathered the senders on its inbox. Out of memory is the one error.
 fn come_home<R: Wait>(
@@ -108,17 +53,17 @@ fn come_home<R: Wait>(
 fn run_together<R, G>(
     rt: &R,
     alloc: Global,
-    workers: Vec<MarkWorker>,
+    workers: Vec<Worker>,
     run: CrewRun<'_>,
     gate: &G,
-) -> Result<Vec<MarkWorker>, Refused>
+) -> Result<Vec<Worker>, Refused>
 where
     R: Threads + Wait + RandomSource + AllocGlobal + Sync,
     G: Gate + Sync,
     requires wide { 0 < run.width }
     requires short { run.width ≤ (system_of (net_of run.net.now)).lookahead }
-    requires manned { Each (IsManned (net_of run.net.now) run.of.now run.inboxes.now) workers.items }
-    ensures { let n = net_of run.entry.net.now in IfOk result (λ done. AllZip (HasRun n run.entry.of.now run.entry.width (windows_of run.entry.width n.end) run.entry.inboxes.now) workers.items done.items) }
+    requires first { Each (IsFirst (net_of run.net.now) run.of.now run.inboxes.now) workers.items }
+    ensures { let n = net_of run.entry.net.now in IfOk result (λ done. AllZip (RunsAllWindows n run.entry.of.now run.entry.width (windows_of run.entry.width n.end) run.entry.inboxes.now) workers.items done.items) }
 {
     fork_join(rt, alloc, workers, &MarkRunner { rt, gate, run })
 }
@@ -152,9 +97,7 @@ where
         first_out: _,
     } = crew;
     let couriers = set_out(alloc, &inboxes, takers)?;
-    let others = inboxes.len().saturating_sub(1);
-    let carriers = carriers(alloc, couriers, others)?;
-    let workers = manned(alloc, shares, carriers)?;
+    let workers = workers_of(alloc, shares, couriers)?;
     let stop = AtomicBool::new(false);
     let run = CrewRun {
         net,
