@@ -9,4 +9,5 @@ use Rattle.worker_window.specs.Share.{Keeps}
 -- the shares of so many workers, in order, in which each mote wakes at 0
 pub record AreFirst (n : NetTold) (of : List ℕ) (workers : ℕ) (shares : List Share) : Type 0 where
   pub count : length shares ≡ workers
-  pub each : (worker : ℕ) (share : Share) → worker < workers → Keeps n of worker 0 (first_mote (system_of n)) [] (slice_index_or shares worker share)
+  pub each : (worker : ℕ) (share : Share) → worker < workers
+      → Keeps n of worker 0 (first_mote (system_of n)) [] (slice_index_or shares worker share)

@@ -22,7 +22,8 @@ pub fn set_out(
     ensures together { IfOk result (λ couriers. Together inboxes.now couriers.items) }
     ensures set_out { IfOk result (λ couriers. AllZip SetsOut takers.items couriers.items) }
     ensures nothing { IfOk result (λ couriers. Each HasPushedNothing couriers.items) }
-    ensures marked { IfOk result (λ couriers. Each (λ taker. taker.desk.marked ≡ true) takers.items → Each HasMarks couriers.items) }
+    ensures marked { IfOk result
+        (λ couriers. Each (λ taker. taker.desk.marked ≡ true) takers.items → Each HasMarks couriers.items) }
     ensures refused { IfErr result (λ reason. reason ≡ Memory) }
 {
     match couriers(alloc, inboxes, takers) {

@@ -27,7 +27,8 @@ pub record RunsNext (n : NetTold) (of : List ℕ) (length : ℕ) (old new : Work
 -- so many of these, one after another
 abbrev pub RunsWindows : NetTold → List ℕ → (length windows : ℕ) → (old new : Workers) → Type 0
 RunsWindows n of length zero old new = new ≡ old
-RunsWindows n of length (suc k) old new = (between : Workers) × RunsWindows n of length k old between × RunsNext n of length between new
+RunsWindows n of length (suc k) old new =
+    (between : Workers) × RunsWindows n of length k old between × RunsNext n of length between new
 
 -- all of them: then nothing comes up to the end
 pub record RunsToEnd (n : NetTold) (of : List ℕ) (length : ℕ) (old new : Workers) : Type 0 where

@@ -21,7 +21,8 @@ use std::sync::Wait;
 use std::thread::Threads;
 use window_run::Gate;
 
-/// Where the next window begins: at the least moment at which something comes, or after the end, where nothing comes up to the end.
+/// Where the next window begins: at the least moment at which something comes, or after the end, where nothing comes up
+/// to the end.
 fn window_start(crew: &Workers, end: u64) -> u64
     requires { end ≤ latest_end }
     ensures value { BeginsAt end crew.now result }
@@ -34,13 +35,13 @@ fn window_start(crew: &Workers, end: u64) -> u64
     }
 }
 
-/// Runs the crew window by window to the end of the net. A window begins at the least moment at which something comes and ends
-/// before the lesser of that moment plus the lookahead (or plus `longest`, where that is above 0 and less) and end + 1. `of` tells
-/// the worker of each mote. The inboxes have no marks.
+/// Runs all workers window by window to the end of the net. A window begins at the least moment at which something comes
+/// and ends before the lesser of that moment plus the lookahead (or plus `longest`, where that is above 0 and less) and
+/// end + 1. `of` tells the worker of each mote. The inboxes have no marks.
 ///
 /// # Errors
-/// `Memory`, or `Thread` where a thread couldn't be started, the gate refused a start, or the executor answered an error: that of
-/// the lowest worker that has one.
+/// `Memory`, or `Thread` where a thread couldn't be started, the gate refused a start, or the executor answered an
+/// error: that of the lowest worker that has one.
 pub fn run_windows<R, G>(
     rt: &R,
     alloc: Global,
@@ -58,7 +59,8 @@ where
     requires plain { Each IsPlain crew.takers.items }
     ensures at { let n = net_of net.now in IfOk result (λ done. IsAt n of.now (suc n.end) done) }
     ensures inboxes { IfOk result (λ done. done.inboxes.items ≡ crew.inboxes.items) }
-    ensures windows { let n = net_of net.now in IfOk result (RunsToEnd n of.now (length_of_window (system_of n).lookahead longest) crew) }
+    ensures windows { let n = net_of net.now in
+        IfOk result (RunsToEnd n of.now (length_of_window (system_of n).lookahead longest) crew) }
 {
     let end = net.end();
     let length = window_length(lookahead_of(net), longest);

@@ -56,12 +56,14 @@ where
     R: Threads + Wait + RandomSource + AllocGlobal + Sync,
     G: Gate + Sync,
     requires { Each (IsReady (net_of window.net.now) window.of.now window.inboxes.now window.until) workers.items }
-    ensures { IfOk result (λ done. AllZip (RunsWorker (net_of window.entry.net.now) window.entry.of.now window.entry.inboxes.now window.entry.until) workers.items done.items) }
+    ensures { let n = net_of window.entry.net.now in IfOk result (λ done. AllZip
+        (RunsWorker n window.entry.of.now window.entry.inboxes.now window.entry.until) workers.items done.items) }
 {
     fork_join(rt, alloc, workers, &Runner { rt, gate, window })
 }
 
-/// Runs all workers through one window: the couriers set out, each worker runs in its thread, and all come home.
+/// Runs all workers through one window: senders are created, each worker runs in its thread, and the senders are
+/// collected.
 fn run_all<R, G>(
     rt: &R,
     alloc: Global,
@@ -107,12 +109,13 @@ where
     })
 }
 
-/// One window: each worker takes in what was sent to it, runs its motes up to `until`, and delivers what they sent, all in
-/// threads of their own; then all senders are gathered. It does no more than `run_all`, and stands beside it for the prover alone:
-/// here what the workers did becomes a step of the run, by the law of windows.
+/// One window: each worker takes in what was sent to it, runs its motes up to `until`, and delivers what they sent, all
+/// in threads of their own; then all senders are gathered. It is a wrapper of `run_all` in whose proof what the workers
+/// did becomes a step of the run, by the law of windows.
 ///
 /// # Errors
-/// That of the first worker that has one; `Thread` where a thread couldn't be started, or the gate refused it; and `Memory`.
+/// That of the first worker that has one; `Thread` where a thread couldn't be started, or the gate refused it; and
+/// `Memory`.
 pub(crate) fn run_window<R, G>(
     rt: &R,
     alloc: Global,
@@ -130,7 +133,9 @@ where
     requires stands { (from : ℕ) × IsAt (net_of net.now) of.now from crew × (from ≤ until) }
     requires plain { Each IsPlain crew.takers.items }
     ensures runs { IfOk result (RunsAll (net_of net.now) of.now until crew) }
-    ensures moves { let n = net_of net.now in RunsForward (system_of n) → IfOk result (λ done. (from : ℕ) → IsAt n of.now from crew → from < until → until ≤ from + (system_of n).lookahead → IsAt n of.now until done) }
+    ensures moves { let n = net_of net.now in RunsForward (system_of n) → IfOk result
+        (λ done. (from : ℕ) → IsAt n of.now from crew → from < until → until ≤ from + (system_of n).lookahead
+        → IsAt n of.now until done) }
     ensures inboxes { IfOk result (λ done. done.inboxes.items ≡ crew.inboxes.items) }
     ensures plain { IfOk result (λ done. Each IsPlain done.takers.items) }
 {

@@ -73,8 +73,8 @@ fn first_of(copies: &[RadioCopy]) -> Option<u64>
     first
 }
 
-/// Has a worker take in what other workers sent in earlier windows, while they may already send more; run its motes through the
-/// window; and deliver what they sent to the motes of others.
+/// Has a worker take in what other workers sent in earlier windows, while they may already send more; run its motes
+/// through the window; and deliver what they sent to the motes of others.
 fn run_worker<R: Wait + RandomSource + AllocGlobal, G: Gate>(
     rt: &R,
     gate: &G,
@@ -82,7 +82,8 @@ fn run_worker<R: Wait + RandomSource + AllocGlobal, G: Gate>(
     worker: Worker,
 ) -> Result<Worker, Refused>
     requires { IsReady (net_of window.now.net.now) window.now.of.now window.now.inboxes.now window.now.until worker }
-    ensures runs { IfOk result (RunsWorker (net_of window.now.net.now) window.now.of.now window.now.inboxes.now window.now.until worker) }
+    ensures runs { IfOk result (RunsWorker
+        (net_of window.now.net.now) window.now.of.now window.now.inboxes.now window.now.until worker) }
     // No worker waits for another within a window.
     ensures refused { IfErr result (λ reason. reason ≢ Stopped) }
 {
@@ -111,9 +112,11 @@ fn run_worker<R: Wait + RandomSource + AllocGlobal, G: Gate>(
 }
 
 impl<R: Wait + RandomSource + AllocGlobal, G: Gate> Work<Worker> for Runner<'_, R, G> {
-    ghost ready = { λ w worker. IsReady (net_of w.window.net.now) w.window.of.now w.window.inboxes.now w.window.until worker };
+    ghost ready = { λ w worker. IsReady
+        (net_of w.window.net.now) w.window.of.now w.window.inboxes.now w.window.until worker };
 
-    ghost makes = { λ w old new. RunsWorker (net_of w.window.net.now) w.window.of.now w.window.inboxes.now w.window.until old new };
+    ghost makes = { λ w old new. RunsWorker
+        (net_of w.window.net.now) w.window.of.now w.window.inboxes.now w.window.until old new };
 
     fn work(&self, worker: Worker) -> Result<Worker, Refused> {
         run_worker(self.rt, self.gate, &self.window, worker)

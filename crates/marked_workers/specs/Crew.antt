@@ -19,7 +19,8 @@ use Rattle.marked_workers.specs.Story.{RunsMarked}
 -- One worker when all threads are joined: it ran all windows as it promised, and then gathered the senders on its
 -- inbox, of each of which it had taken a beginning of what was pushed. `sender inbox worker` is the sender of a
 -- worker on an inbox.
-pub record EndsMarked (n : NetTold) (of : List ℕ) (width windows workers : ℕ) (sender : (inbox worker : ℕ) → Option SenderView) (worker : ℕ) (share : Share) (taker : TakerView) : Type 0 where
+pub record EndsMarked (n : NetTold) (of : List ℕ) (width windows workers : ℕ)
+    (sender : (inbox worker : ℕ) → Option SenderView) (worker : ℕ) (share : Share) (taker : TakerView) : Type 0 where
   pub before : TakerView
   pub promise : RunsMarked n of width windows workers worker share before.desk (λ v. pushed_list (sender v worker))
   pub senders : List SenderView
@@ -32,15 +33,18 @@ pub record EndAllMarked (n : NetTold) (of : List ℕ) (width windows : ℕ) (cre
   pub cut : IsCut (length n.motes) (length crew.inboxes.items) of
   pub shares : length crew.shares.items ≡ length crew.inboxes.items
   pub takers : length crew.takers.items ≡ length crew.inboxes.items
-  pub its : (worker : ℕ) (id : InboxId) (taker : TakerView) → worker < length crew.inboxes.items → (slice_index_or crew.takers.items worker taker).inbox ≡ slice_index_or crew.inboxes.items worker id
+  pub its : (worker : ℕ) (id : InboxId) (taker : TakerView) → worker < length crew.inboxes.items
+      → (slice_index_or crew.takers.items worker taker).inbox ≡ slice_index_or crew.inboxes.items worker id
   pub first_out : crew.first_out ≡ None
   pub sender : (inbox worker : ℕ) → Option SenderView
   pub each : (worker : ℕ) → worker < length crew.inboxes.items → (share : Share) (taker : TakerView)
-      → EndsMarked n of width windows (length crew.inboxes.items) sender worker (slice_index_or crew.shares.items worker share) (slice_index_or crew.takers.items worker taker)
+      → EndsMarked n of width windows (length crew.inboxes.items) sender worker
+      (slice_index_or crew.shares.items worker share) (slice_index_or crew.takers.items worker taker)
 
 -- However the threads took turns, all workers stand at the end, as if all copies had changed hands between the
 -- windows, and each has taken all that was pushed to it, every mark too.
 abbrev pub MarkedWindowsLeadToTheEnd : Type 0
-MarkedWindowsLeadToTheEnd = (n : NetTold) → RunsForward (system_of n) → (of : List ℕ) (width windows : ℕ) → width ≤ (system_of n).lookahead → AreWindows width n.end windows
+MarkedWindowsLeadToTheEnd = (n : NetTold) → RunsForward (system_of n) → (of : List ℕ) (width windows : ℕ)
+    → width ≤ (system_of n).lookahead → AreWindows width n.end windows
     → (crew : Workers) → EndAllMarked n of width windows crew
     → IsAt n of (suc n.end) crew × Each (λ (t : TakerView). Whole t.desk.gathered t.desk.taken) crew.takers.items

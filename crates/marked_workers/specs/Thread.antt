@@ -49,7 +49,8 @@ pub record IsManned (n : NetTold) (of : List ℕ) (inboxes : List InboxId) (w : 
 pub record SendsWindow (n : NetTold) (of : List ℕ) (workers window until : ℕ) (old new : MarkWorker) : Type 0 where
   pub sent : List RadioCopy
   pub runs : (worker from : ℕ) (motes : Motes) (taken : List RadioCopy) → Keeps n of worker from motes taken old.share
-      → from ≤ until → until ≤ from + (system_of n).lookahead → RunsWindow n of worker from until motes taken new.share sent
+      → from ≤ until → until ≤ from + (system_of n).lookahead
+      → RunsWindow n of worker from until motes taken new.share sent
   pub out : Each (GoesOut n of old.share.worker) sent
   pub pushes : PushesWindow of workers window old.carries.courier new.carries.courier sent
   pub marks : new.carries.marks ≡ old.carries.marks
@@ -62,19 +63,24 @@ pub record TakesWindow (of : List ℕ) (window until : ℕ) (old new : MarkWorke
   pub past : AllPast window new.carries.marks.items
   pub worker : new.carries.courier.worker ≡ old.carries.courier.worker
   pub senders : new.carries.courier.senders ≡ old.carries.courier.senders
-  pub keeps : (n : NetTold) (whose : List ℕ) (worker from : ℕ) (motes : Motes) (taken : List RadioCopy) → Keeps n whose worker from motes taken old.share
+  pub keeps : (n : NetTold) (whose : List ℕ) (worker from : ℕ) (motes : Motes) (taken : List RadioCopy)
+      → Keeps n whose worker from motes taken old.share
       → Each (ComesIn whose worker from) arrived → Keeps n whose worker from motes (taken ++ arrived) new.share
 
 -- a worker, since its first window, behind so many windows
-pub record HasRun (n : NetTold) (of : List ℕ) (width windows : ℕ) (inboxes : List InboxId) (first now : MarkWorker) : Type 0 where
+pub record HasRun (n : NetTold) (of : List ℕ) (width windows : ℕ) (inboxes : List InboxId)
+    (first now : MarkWorker) : Type 0 where
   pub stays : Stays first.carries.courier now.carries.courier
-  pub promise : RunsMarked n of width windows (length inboxes) first.carries.courier.worker now.share now.carries.courier.taker.desk (pushed_to now.carries.courier)
+  pub promise : RunsMarked n of width windows (length inboxes) first.carries.courier.worker now.share
+      now.carries.courier.taker.desk (pushed_to now.carries.courier)
   pub seated : IsSeated inboxes now.carries.courier
   pub marked : HasMarks now.carries.courier
   pub counts : Counts now.carries.marks.items now.carries.courier.taker.desk
 
 -- all that a worker's thread does: it ran so many windows
-pub record RunsAllWindows (n : NetTold) (of : List ℕ) (width windows : ℕ) (inboxes : List InboxId) (first now : Worker) : Type 0 where
+pub record RunsAllWindows (n : NetTold) (of : List ℕ) (width windows : ℕ) (inboxes : List InboxId)
+    (first now : Worker) : Type 0 where
   pub stays : Stays first.courier now.courier
-  pub promise : RunsMarked n of width windows (length inboxes) first.courier.worker now.share now.courier.taker.desk (pushed_to now.courier)
+  pub promise : RunsMarked n of width windows (length inboxes) first.courier.worker now.share
+      now.courier.taker.desk (pushed_to now.courier)
   pub seated : IsSeated inboxes now.courier

@@ -63,7 +63,8 @@ where
     requires wide { 0 < run.width }
     requires short { run.width ≤ (system_of (net_of run.net.now)).lookahead }
     requires first { Each (IsFirst (net_of run.net.now) run.of.now run.inboxes.now) workers.items }
-    ensures { let n = net_of run.entry.net.now in IfOk result (λ done. AllZip (RunsAllWindows n run.entry.of.now run.entry.width (windows_of run.entry.width n.end) run.entry.inboxes.now) workers.items done.items) }
+    ensures { let n = net_of run.entry.net.now in IfOk result (λ done. AllZip (RunsAllWindows n run.entry.of.now
+        run.entry.width (windows_of run.entry.width n.end) run.entry.inboxes.now) workers.items done.items) }
 {
     fork_join(rt, alloc, workers, &MarkRunner { rt, gate, run })
 }
@@ -117,7 +118,7 @@ where
     })
 }
 
-/// Runs the crew to the end of the net, each worker in one thread for the whole run. All windows but the last are of
+/// Runs all workers to the end of the net, each in one thread for the whole run. All windows but the last are of
 /// one length: the lookahead, or `longest`, where that is above 0 and less. `of` tells the worker of each mote. The
 /// inboxes have marks, and nothing is left in them.
 ///
@@ -144,8 +145,10 @@ where
     ensures at { let n = net_of net.now in IfOk result (λ done. IsAt n of.now (suc n.end) done) }
     ensures inboxes { IfOk result (λ done. done.inboxes.items ≡ crew.inboxes.items) }
     // Each worker ran all windows of this length.
-    ensures windows { let n = net_of net.now in IfOk result (RunsAllMarked n of.now (length_of_window (system_of n).lookahead longest) crew) }
-    ensures all_taken { IfOk result (λ done. Each (λ taker. Whole taker.desk.gathered taker.desk.taken) done.takers.items) }
+    ensures windows { let n = net_of net.now in
+        IfOk result (RunsAllMarked n of.now (length_of_window (system_of n).lookahead longest) crew) }
+    ensures all_taken { IfOk result
+        (λ done. Each (λ taker. Whole taker.desk.gathered taker.desk.taken) done.takers.items) }
 {
     let width = window_length(lookahead_of(net), longest);
     run_threads(rt, alloc, net, of, width, gate, crew)

@@ -11,7 +11,8 @@ ghost use Rattle.all_workers.specs.Workers.{IsCut};
 ghost use Rattle.marked_workers.specs.Bounds.{bound, windows_of};
 ghost use Rattle.marked_workers.specs.Refusals.{refused_of};
 ghost use Rattle.marked_workers.specs.declared.worker.MarkWorker.{MarkWorker as MarkWorkerOfCode};
-ghost use Rattle.marked_workers.specs.Thread.{IsFirst, IsManned, IsSame, SendsWindow, TakesWindow, HasRun, RunsAllWindows};
+ghost use Rattle.marked_workers.specs.Thread.{IsFirst, IsManned, IsSame, HasRun, RunsAllWindows};
+ghost use Rattle.marked_workers.specs.Thread.{SendsWindow, TakesWindow};
 
 use crate::worker::{CrewRun, MarkWorker};
 use all_workers::{Worker, refused, window_end};
@@ -54,7 +55,8 @@ fn send_window<R: Wait + RandomSource + AllocGlobal, G: Gate>(
     requires ready { CanRun (net_of run.now.net.now) run.now.of.now until worker.old.share [] }
     requires seated { IsSeated run.now.inboxes.now worker.old.carries.courier }
     requires marked { HasMarks worker.old.carries.courier }
-    ensures sends { OnOk result (SendsWindow (net_of run.now.net.now) run.now.of.now (length run.now.inboxes.now) window until worker.old worker.new) }
+    ensures sends { OnOk result (SendsWindow (net_of run.now.net.now) run.now.of.now (length run.now.inboxes.now)
+        window until worker.old worker.new) }
     ensures seated { OnOk result (IsSeated run.now.inboxes.now worker.new.carries.courier) }
     ensures refused { IfErr result (λ reason. reason ≢ Stopped) }
 {
@@ -131,8 +133,11 @@ fn run_one<R: Wait + RandomSource + AllocGlobal, G: Gate>(
     requires there { window < windows_of run.now.width (net_of run.now.net.now).end }
     requires until { until ≡ bound run.now.width (net_of run.now.net.now).end (suc window) }
     requires cut { IsCut (length (net_of run.now.net.now).motes) (length run.now.inboxes.now) run.now.of.now }
-    requires stands { (first : MarkWorkerOfCode) × HasRun (net_of run.now.net.now) run.now.of.now run.now.width window run.now.inboxes.now first worker.old }
-    ensures { let n = net_of run.now.net.now in OnOk result (run.now.width ≤ (system_of n).lookahead → (first : MarkWorkerOfCode) → HasRun n run.now.of.now run.now.width window run.now.inboxes.now first worker.old
+    requires stands { (first : MarkWorkerOfCode) × HasRun (net_of run.now.net.now) run.now.of.now run.now.width
+        window run.now.inboxes.now first worker.old }
+    ensures { let n = net_of run.now.net.now in OnOk result (run.now.width ≤ (system_of n).lookahead
+        → (first : MarkWorkerOfCode)
+        → HasRun n run.now.of.now run.now.width window run.now.inboxes.now first worker.old
         → HasRun n run.now.of.now run.now.width (suc window) run.now.inboxes.now first worker.new) }
 {
     send_window(rt, gate, run, worker, window, until)?;
@@ -222,9 +227,11 @@ fn run_through<R: Wait + RandomSource + AllocGlobal, G: Gate>(
 }
 
 impl<R: Wait + RandomSource + AllocGlobal, G: Gate> Work<Worker> for MarkRunner<'_, R, G> {
-    ghost ready = { λ w worker. (0 < w.run.width) × (w.run.width ≤ (system_of (net_of w.run.net.now)).lookahead) × IsFirst (net_of w.run.net.now) w.run.of.now w.run.inboxes.now worker };
+    ghost ready = { λ w worker. (0 < w.run.width) × (w.run.width ≤ (system_of (net_of w.run.net.now)).lookahead)
+        × IsFirst (net_of w.run.net.now) w.run.of.now w.run.inboxes.now worker };
 
-    ghost makes = { λ w old new. let n = net_of w.run.net.now in RunsAllWindows n w.run.of.now w.run.width (windows_of w.run.width n.end) w.run.inboxes.now old new };
+    ghost makes = { λ w old new. let n = net_of w.run.net.now in RunsAllWindows n w.run.of.now w.run.width
+        (windows_of w.run.width n.end) w.run.inboxes.now old new };
 
     fn work(&self, worker: Worker) -> Result<Worker, Refused> {
         let done = run_through(self.rt, self.gate, &self.run, worker);
