@@ -6,12 +6,12 @@
 pub mod laws;
 mod refusal;
 mod senders;
-mod window_length;
+mod windows;
 mod worker;
 mod workers;
 
 pub use refusal::refused;
 pub use senders::set_out;
-pub use window_length::{lookahead_of, window_end, window_length};
+pub use windows::{lookahead_of, window_end, window_length};
 pub use worker::{Worker, parted, workers_of};
 pub use workers::Workers;

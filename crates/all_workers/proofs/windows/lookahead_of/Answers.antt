@@ -3,7 +3,7 @@ use Rattle.radio_medium.specs.Medium.{Radio, lookahead, medium_fault}
 use Rattle.mote_net.specs.Net.{net_of}
 use Rattle.net_agenda.specs.NetSystem.{system_of}
 use Rattle.net_agenda.proofs.Systems.{system_is}
-use Rattle.all_workers.proofs.window_length.lookahead_of.Goals as goal
+use Rattle.all_workers.proofs.windows.lookahead_of.Goals as goal
 
 pub returns-clause-value : goal.returns-clause-value
 unfolding system_of
