@@ -19,17 +19,19 @@ use Rattle.worker_cut.specs.Laws.{HasGathered}
 use Rattle.worker_window.specs.declared.share.Share.{Share}
 use Rattle.worker_window.specs.Share.{Motes, Keeps}
 use Rattle.worker_window.specs.Window.{RunsOwn, GoesOut, copies_out}
-use Rattle.joined_workers.specs.declared.crew.Crew.{Crew}
-use Rattle.joined_workers.specs.declared.worker.Worker.{Worker}
-use Rattle.joined_workers.specs.Crew.{IsAt, IsWorkerAt}
-use Rattle.joined_workers.specs.Laws.{RunsAll, manned_by}
-use Rattle.joined_workers.specs.Worker.{IsCut, IsNotBefore, IsFirstOf}
-use Rattle.joined_workers.proofs.Choose.{choose}
-use Rattle.joined_workers.proofs.Lookups.{there, read, mapped, as_long, inside, each_from, each_at, zip_long, map_long, none_of, one_of, same_found}
+use Rattle.all_workers.specs.declared.workers.Workers.{Workers}
+use Rattle.all_workers.specs.declared.worker.Worker.{Worker}
+use Rattle.all_workers.specs.Workers.{IsAt, IsWorkerAt}
+use Rattle.all_workers.specs.Worker.{worker_of}
+use Rattle.joined_workers.specs.Laws.{RunsAll}
+use Rattle.all_workers.specs.Workers.{IsCut, IsNotBefore}
+use Rattle.joined_workers.specs.Worker.{IsFirstOf}
+use Rattle.all_workers.proofs.Choose.{choose}
+use Rattle.all_workers.proofs.Lookups.{there, read, mapped, as_long, inside, each_from, each_at, zip_long, map_long, none_of, one_of, same_found}
 use Rattle.joined_workers.proofs.Moves.{Piece, piece, window}
-use Rattle.joined_workers.proofs.Same.{keeps_same}
-use Rattle.joined_workers.proofs.Step.{next, next_is, led_next, out_of, told_next, sent_late}
-use Rattle.joined_workers.proofs.Working.{each_of_every}
+use Rattle.all_workers.proofs.Same.{keeps_same}
+use Rattle.all_workers.proofs.Step.{next, next_is, led_next, out_of, told_next, sent_late}
+use Rattle.joined_workers.proofs.Arrived.{each_of_every}
 
 -- what a window made of one worker's part
 record Told : Type 0 where
@@ -38,7 +40,7 @@ record Told : Type 0 where
   gathered : List RadioCopy
   sent : List RadioCopy
 
-module _ (n : NetTold) (fine : RunsForward (system_of n)) (of : List ℕ) (from until : ℕ) (old new : Crew) (at : IsAt n of from old) (up : from < until) (short : until ≤ from + (system_of n).lookahead) (all : RunsAll n of until old new) where
+module _ (n : NetTold) (fine : RunsForward (system_of n)) (of : List ℕ) (from until : ℕ) (old new : Workers) (at : IsAt n of from old) (up : from < until) (short : until ≤ from + (system_of n).lookahead) (all : RunsAll n of until old new) where
   abbrev workers : ℕ
   workers = length old.inboxes.items
 
@@ -143,8 +145,8 @@ module _ (n : NetTold) (fine : RunsForward (system_of n)) (of : List ℕ) (from 
 
   done_long : length all.done ≡ workers
   done_long =
-      as_long _ (map manned_by (zip old.shares.items all.couriers)) all.done all.ran
-      ∙ (map_long manned_by (zip old.shares.items all.couriers) ∙ (zip_long old.shares.items all.couriers couriers_long ∙ at.shares))
+      as_long _ (map worker_of (zip old.shares.items all.couriers)) all.done all.ran
+      ∙ (map_long worker_of (zip old.shares.items all.couriers) ∙ (zip_long old.shares.items all.couriers couriers_long ∙ at.shares))
 
   -- of what went to a worker, what one mote sent
   to_one : (v s : ℕ) → filter (is_from_sender s) (delivered_to (map (λ (w : Worker). w.courier) all.done) v) ≡ out_to v s

@@ -11,15 +11,17 @@ use Rattle.copy_inbox.specs.Items.{copies_of}
 use Rattle.worker_window.specs.declared.share.Share.{Share}
 use Rattle.worker_window.specs.Share.{Keeps}
 use Rattle.worker_window.specs.Window.{RunsWindow, ComesIn}
-use Rattle.joined_workers.specs.declared.crew.Crew.{Crew}
-use Rattle.joined_workers.specs.declared.worker.Worker.{Worker}
-use Rattle.joined_workers.specs.Crew.{IsAt, IsWorkerAt}
-use Rattle.joined_workers.specs.Laws.{RunsAll, manned_by}
+use Rattle.all_workers.specs.declared.workers.Workers.{Workers}
+use Rattle.all_workers.specs.declared.worker.Worker.{Worker}
+use Rattle.all_workers.specs.Workers.{IsAt, IsWorkerAt}
+use Rattle.all_workers.specs.Worker.{worker_of}
+use Rattle.joined_workers.specs.Laws.{RunsAll}
 use Rattle.joined_workers.specs.Worker.{RunsWorker}
-use Rattle.joined_workers.proofs.Lookups.{there, read, mapped, paired, beside, as_long}
-use Rattle.joined_workers.proofs.Ready.{arrived_come, numbered}
+use Rattle.all_workers.proofs.Lookups.{there, read, mapped, paired, beside, as_long}
+use Rattle.all_workers.proofs.Numbered.{numbered}
+use Rattle.joined_workers.proofs.Ready.{arrived_come}
 
-module _ (n : NetTold) (of : List ℕ) (from until : ℕ) (old new : Crew) (at : IsAt n of from old) (all : RunsAll n of until old new) where
+module _ (n : NetTold) (of : List ℕ) (from until : ℕ) (old new : Workers) (at : IsAt n of from old) (all : RunsAll n of until old new) where
   -- one worker of the window: what it had, and what it has
   pub record Piece (v : ℕ) : Type 0 where
     pub share : Share
@@ -32,7 +34,7 @@ module _ (n : NetTold) (of : List ℕ) (from until : ℕ) (old new : Crew) (at :
     pub here : IsWorkerAt n of from at.motes old.first_out v share taker
     pub set_out : SetsOut taker courier
     pub number : courier.worker ≡ v
-    pub ran : RunsWorker n of old.inboxes.items until (manned_by (share, courier)) done
+    pub ran : RunsWorker n of old.inboxes.items until (worker_of (share, courier)) done
     pub came : ComesHome (map (λ (worker : Worker). worker.courier) all.done) done.courier home
 
   takers_long : length old.takers.items ≡ length old.inboxes.items
@@ -43,7 +45,7 @@ module _ (n : NetTold) (of : List ℕ) (from until : ℕ) (old new : Crew) (at :
       let s = there old.shares.items v (subst (λ l. v < l) (sym at.shares) h) in
       let t = there old.takers.items v (subst (λ l. v < l) (sym takers_long) h) in
       let c = beside SetsOut old.takers.items all.couriers all.set_out v t.0 t.1 in
-      let d = beside _ _ all.done all.ran v (manned_by (s.0, c.0)) (mapped manned_by (zip old.shares.items all.couriers) v (s.0, c.0) (paired old.shares.items all.couriers v s.0 c.0 s.1 c.1)) in
+      let d = beside _ _ all.done all.ran v (worker_of (s.0, c.0)) (mapped worker_of (zip old.shares.items all.couriers) v (s.0, c.0) (paired old.shares.items all.couriers v s.0 c.0 s.1 c.1)) in
       let g = beside _ _ new.takers.items all.home v d.0.courier (mapped (λ (worker : Worker). worker.courier) all.done v d.0 d.1) in
       let is_share = read old.shares.items v s.0 s.0 s.1 in
       let is_taker = read old.takers.items v t.0 t.0 t.1 in

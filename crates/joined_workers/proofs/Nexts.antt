@@ -6,9 +6,9 @@ use Rattle.radio_packet.specs.declared.copy.RadioCopy.{RadioCopy}
 use Rattle.window_laws.specs.Windows.{WakesFrom}
 use Rattle.window_laws.proofs.Lists.{every_append, every_weaker}
 use Rattle.worker_window.specs.declared.share.Share.{Share}
-use Rattle.joined_workers.specs.declared.worker.Worker.{Worker}
-use Rattle.joined_workers.specs.Worker.{IsNotBefore}
-use Rattle.joined_workers.specs.Crew.{FirstOfAll, IsNextOfAll}
+use Rattle.all_workers.specs.declared.worker.Worker.{Worker}
+use Rattle.all_workers.specs.Workers.{IsNotBefore}
+use Rattle.joined_workers.specs.Next.{FirstOfAll, IsNextOfAll}
 use Rattle.worker_window.specs.Next.{TellsNext}
 
 pub taken_all : {X : Type 0} (xs : List X) (i : ℕ) → length xs ≤ i → i ≤ length xs → take i xs ≡ xs

@@ -17,18 +17,15 @@ use Rattle.worker_window.specs.declared.share.Share.{Share}
 use Rattle.worker_window.specs.Share.{Motes}
 use Rattle.worker_window.specs.Window.{ComesIn}
 use Rattle.worker_cut.specs.Crossed.{is_own}
-use Rattle.joined_workers.specs.declared.crew.Crew.{Crew}
-use Rattle.joined_workers.specs.Crew.{IsAt, IsWorkerAt}
-use Rattle.joined_workers.specs.Laws.{manned_by}
-use Rattle.joined_workers.specs.Worker.{IsReady, IsNotBefore}
-use Rattle.joined_workers.proofs.Lookups.{there, inside, read, mapped, beside, as_long, each_at, same_found}
-use Rattle.joined_workers.proofs.Working.{every_of_each, arrived_have, foreign}
-
-module _ {X Y Z : Type 0} (P : Z → Type 0) (f : X × Y → Z) where
-  each_zipped : (xs : List X) (ys : List Y) → ((i : ℕ) (x : X) (y : Y) → slice_get xs i ≡ Some x → slice_get ys i ≡ Some y → P (f (x, y))) → Each P (map f (zip xs ys))
-  each_zipped [] ys h = tt
-  each_zipped (x ∷ xs) [] h = tt
-  each_zipped (x ∷ xs) (y ∷ ys) h = (h 0 x y refl refl, each_zipped xs ys (λ i a b e g. h (suc i) a b e g))
+use Rattle.all_workers.specs.declared.workers.Workers.{Workers}
+use Rattle.all_workers.specs.Workers.{IsAt, IsWorkerAt}
+use Rattle.all_workers.specs.Worker.{worker_of}
+use Rattle.joined_workers.specs.Worker.{IsReady}
+use Rattle.all_workers.specs.Workers.{IsNotBefore}
+use Rattle.all_workers.proofs.Lookups.{there, inside, read, beside, as_long, each_at, each_zipped, same_found}
+use Rattle.all_workers.proofs.Sent.{every_of_each}
+use Rattle.all_workers.proofs.Numbered.{numbered}
+use Rattle.joined_workers.proofs.Arrived.{arrived_have, foreign}
 
 -- lists that begin alike go on alike
 goes_on : (xs ys zs : List RadioCopy) → xs ++ ys ≡ xs ++ zs → ys ≡ zs
@@ -65,15 +62,9 @@ module _ (n : NetTold) (of : List ℕ) (from : ℕ) (motes : Motes) (first : Opt
   pub arrived_come : Each (ComesIn of v from) arrived
   arrived_come = every_weaker _ _ (λ c g. record { to = g.0.0; sender = g.0.1; later = g.1 }) _ (every_both (λ (c : RadioCopy). (is_own of v c.to ≡ true) × (is_own of v c.sender ≡ false)) (λ (c : RadioCopy). from ≤ c.at) arrived all_foreign all_later)
 
--- each courier is that of the worker at its place
-pub numbered : (workers : ℕ) (couriers : List Courier) → map (λ (c : Courier). c.worker) couriers ≡ range_with_len 0 workers → (v : ℕ) → v < workers → (c : Courier) → slice_get couriers v ≡ Some c → c.worker ≡ v
-numbered workers couriers e v h c f =
-    sym (read (map (λ (x : Courier). x.worker) couriers) v c.worker 0 (mapped (λ (x : Courier). x.worker) couriers v c f))
-    ∙ (ap (λ l. get_or l v 0) e ∙ (get_or-range_with_len 0 workers v 0 h ∙ omega arith))
-
-module _ (n : NetTold) (of : List ℕ) (from until : ℕ) (old : Crew) (at : IsAt n of from old) (up : from ≤ until) (early : until ≤ 2 ^ 40) (plain : Each IsPlain old.takers.items)
+module _ (n : NetTold) (of : List ℕ) (from until : ℕ) (old : Workers) (at : IsAt n of from old) (up : from ≤ until) (early : until ≤ 2 ^ 40) (plain : Each IsPlain old.takers.items)
     (couriers : List Courier) (together : Together old.inboxes.items couriers) (set_out : AllZip SetsOut old.takers.items couriers) where
-  one_ready : (v : ℕ) (s : Share) (c : Courier) → slice_get old.shares.items v ≡ Some s → slice_get couriers v ≡ Some c → IsReady n of old.inboxes.items until (manned_by (s, c))
+  one_ready : (v : ℕ) (s : Share) (c : Courier) → slice_get old.shares.items v ≡ Some s → slice_get couriers v ≡ Some c → IsReady n of old.inboxes.items until (worker_of (s, c))
   one_ready v s c e f =
       let h : v < length old.inboxes.items = subst (λ l. v < l) at.shares (inside old.shares.items v s e) in
       let t = there old.takers.items v (subst (λ l. v < l) (sym (as_long _ old.inboxes.items old.takers.items at.settled)) h) in
@@ -102,5 +93,5 @@ module _ (n : NetTold) (of : List ℕ) (from until : ℕ) (old : Crew) (at : IsA
             (subst (λ l. Each (λ (x : RadioCopy). is_own of v x.to ≡ true) l) (sym (ap copies_in set.same_gathered)) own);
       }
 
-  pub ready : Each (IsReady n of old.inboxes.items until) (map manned_by (zip old.shares.items couriers))
-  ready = each_zipped (IsReady n of old.inboxes.items until) manned_by old.shares.items couriers one_ready
+  pub ready : Each (IsReady n of old.inboxes.items until) (map worker_of (zip old.shares.items couriers))
+  ready = each_zipped (IsReady n of old.inboxes.items until) worker_of old.shares.items couriers one_ready

@@ -14,13 +14,13 @@ use Rattle.copy_exchange.proofs.Windows.{returns_from}
 use Rattle.worker_window.specs.declared.share.Share.{Share}
 use Rattle.worker_cut.specs.Crossed.{is_own}
 use Rattle.worker_window.specs.Window.{GoesOut}
-use Rattle.joined_workers.specs.declared.crew.Crew.{Crew}
-use Rattle.joined_workers.specs.declared.worker.Worker.{Worker}
-use Rattle.joined_workers.specs.Crew.{IsAt}
-use Rattle.joined_workers.specs.Laws.{manned_by}
+use Rattle.all_workers.specs.declared.workers.Workers.{Workers}
+use Rattle.all_workers.specs.declared.worker.Worker.{Worker}
+use Rattle.all_workers.specs.Workers.{IsAt}
+use Rattle.all_workers.specs.Worker.{worker_of}
 use Rattle.joined_workers.specs.Worker.{RunsWorker}
-use Rattle.joined_workers.proofs.Lookups.{read, as_long}
-use Rattle.joined_workers.proofs.Step.{own_of}
+use Rattle.all_workers.proofs.Lookups.{read, as_long}
+use Rattle.all_workers.proofs.Step.{own_of}
 
 -- a mote that is another worker's sent nothing of what went out
 none_from : (n : NetTold) (of : List ℕ) (w s : ℕ) → (slice_index of s == w) ≡ false → (sent : List RadioCopy) → Each (GoesOut n of w) sent → filter (is_from_sender s) sent ≡ []
@@ -37,13 +37,13 @@ none_from n of w s other sent out = filter_none (is_from_sender s) sent (every_w
             absurd (false≢true (sym other ∙ eq-eqb (slice_index of s) w its))
 
 module _ (n : NetTold) (of : List ℕ) (until : ℕ) (inboxes : List InboxId) where
-  one_back : (t : TakerView) (s : Share) (c : Courier) (d : Worker) → SetsOut t c → RunsWorker n of inboxes until (manned_by (s, c)) d → Returns inboxes (slice_index of) c d.courier
+  one_back : (t : TakerView) (s : Share) (c : Courier) (d : Worker) → SetsOut t c → RunsWorker n of inboxes until (worker_of (s, c)) d → Returns inboxes (slice_index of) c d.courier
   one_back t s c d set_out ran =
       returns_from inboxes of (slice_index of) t c ran.between d.courier ran.arrived ran.sent set_out ran.collects ran.delivers ran.courier
       (λ k other. none_from n of c.worker k other ran.sent ran.out)
 
   all_back : (takers : List TakerView) (shares : List Share) (couriers : List Courier) (done : List Worker) → AllZip SetsOut takers couriers → length couriers ≡ length shares
-      → AllZip (RunsWorker n of inboxes until) (map manned_by (zip shares couriers)) done → AllZip (Returns inboxes (slice_index of)) couriers (map (λ (worker : Worker). worker.courier) done)
+      → AllZip (RunsWorker n of inboxes until) (map worker_of (zip shares couriers)) done → AllZip (Returns inboxes (slice_index of)) couriers (map (λ (worker : Worker). worker.courier) done)
   all_back [] [] [] [] set_out long ran = tt
   all_back [] [] [] (d ∷ ds) set_out long ran = absurd ran
   all_back [] (s ∷ ss) [] ds set_out long ran = absurd (omega arith)
@@ -53,9 +53,9 @@ module _ (n : NetTold) (of : List ℕ) (until : ℕ) (inboxes : List InboxId) wh
   all_back (t ∷ ts) (s ∷ ss) (c ∷ cs) [] set_out long ran = absurd ran
   all_back (t ∷ ts) (s ∷ ss) (c ∷ cs) (d ∷ ds) set_out long ran = (one_back t s c d set_out.0 ran.0, all_back ts ss cs ds set_out.1 (omega arith) ran.1)
 
-module _ (n : NetTold) (of : List ℕ) (from until : ℕ) (old : Crew) (at : IsAt n of from old) (couriers : List Courier) (done : List Worker)
+module _ (n : NetTold) (of : List ℕ) (from until : ℕ) (old : Workers) (at : IsAt n of from old) (couriers : List Courier) (done : List Worker)
     (together : Together old.inboxes.items couriers) (set_out : AllZip SetsOut old.takers.items couriers)
-    (ran : AllZip (RunsWorker n of old.inboxes.items until) (map manned_by (zip old.shares.items couriers)) done) where
+    (ran : AllZip (RunsWorker n of old.inboxes.items until) (map worker_of (zip old.shares.items couriers)) done) where
   couriers_long : length couriers ≡ length old.shares.items
   couriers_long = as_long _ old.takers.items couriers set_out ∙ (as_long _ old.inboxes.items old.takers.items at.settled ∙ sym at.shares)
 

@@ -5,8 +5,8 @@ use Rattle.mote_net.specs.Net.{NetTold}
 use Rattle.window_laws.specs.System.{RunsForward}
 use Rattle.window_laws.specs.Windows.{WakesFrom}
 use Rattle.net_agenda.specs.NetSystem.{system_of}
-use Rattle.joined_workers.specs.declared.crew.Crew.{Crew}
-use Rattle.joined_workers.specs.Crew.{IsAt}
+use Rattle.all_workers.specs.declared.workers.Workers.{Workers}
+use Rattle.all_workers.specs.Workers.{IsAt}
 use Rattle.joined_workers.specs.Run.{BeginsAt, start_of_window}
 use Rattle.joined_workers.proofs.Stands.{comes_no_sooner, stands}
 
@@ -18,7 +18,7 @@ quiet : (end : ℕ) (next : Option ℕ) → WakesFrom (start_of_window end next)
 quiet end None = tt
 quiet end (Some moment) = min-le_left moment (end + 1)
 
-module _ (n : NetTold) (of : List ℕ) (reached end : ℕ) (crew : Crew) (from : ℕ) (at : IsAt n of reached crew) (low : reached ≤ end + 1) (begins : BeginsAt end crew from) where
+module _ (n : NetTold) (of : List ℕ) (reached end : ℕ) (crew : Workers) (from : ℕ) (at : IsAt n of reached crew) (low : reached ≤ end + 1) (begins : BeginsAt end crew from) where
   pub begins_later : reached ≤ from
   begins_later = subst (λ m. reached ≤ m) (sym begins.start) (no_sooner reached end begins.next (comes_no_sooner n of reached crew begins.next at begins.is) low)
 

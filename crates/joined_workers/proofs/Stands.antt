@@ -14,12 +14,13 @@ use Rattle.worker_cut.specs.Crossed.{is_own, is_to, copies_known}
 use Rattle.worker_cut.proofs.Windows.{idle, receivers}
 use Rattle.worker_window.specs.declared.share.Share.{Share}
 use Rattle.worker_window.specs.Share.{Keeps, is_to_come}
-use Rattle.joined_workers.specs.declared.crew.Crew.{Crew}
-use Rattle.joined_workers.specs.Crew.{IsAt, IsWorkerAt, IsNextOfAll}
+use Rattle.all_workers.specs.declared.workers.Workers.{Workers}
+use Rattle.all_workers.specs.Workers.{IsAt, IsWorkerAt}
+use Rattle.joined_workers.specs.Next.{IsNextOfAll}
 use Rattle.worker_window.specs.Next.{TellsNext}
-use Rattle.joined_workers.specs.Worker.{IsNotBefore}
-use Rattle.joined_workers.proofs.Lookups.{there, read, inside, as_long, each_at, each_from}
-use Rattle.joined_workers.proofs.Step.{own_by, some_worker}
+use Rattle.all_workers.specs.Workers.{IsNotBefore}
+use Rattle.all_workers.proofs.Lookups.{there, read, inside, as_long, each_at, each_from}
+use Rattle.all_workers.proofs.Step.{own_by, some_worker}
 
 not_sooner : (moment : ℕ) (first : Option ℕ) (c : RadioCopy) → WakesFrom moment first → IsNotBefore first c → moment ≤ c.at
 not_sooner moment None c w h = absurd h
@@ -54,7 +55,7 @@ by_some : (workers : ℕ) (A : ℕ → RadioCopy → Type 0) (Q : RadioCopy → 
 by_some workers A Q [] h k = tt
 by_some workers A Q (x ∷ xs) h k = ((h k.0.0 k.0.1).0 k.0.2, by_some workers A Q xs (λ v l. (h v l).1) k.1)
 
-module _ (n : NetTold) (fine : RunsForward (system_of n)) (of : List ℕ) (from moment : ℕ) (crew : Crew) (next : Option ℕ) (at : IsAt n of from crew) (is : IsNextOfAll crew.first_out crew.shares.items next) (le : from ≤ moment) (wakes : WakesFrom moment next) where
+module _ (n : NetTold) (fine : RunsForward (system_of n)) (of : List ℕ) (from moment : ℕ) (crew : Workers) (next : Option ℕ) (at : IsAt n of from crew) (is : IsNextOfAll crew.first_out crew.shares.items next) (le : from ≤ moment) (wakes : WakesFrom moment next) where
   abbrev workers : ℕ
   workers = length crew.inboxes.items
 
@@ -141,7 +142,7 @@ module _ (n : NetTold) (fine : RunsForward (system_of n)) (of : List ℕ) (from 
           subst (λ x. IsWorkerAt n of moment at.motes crew.first_out v x (get_or crew.takers.items v taker)) (sym (read crew.shares.items v p.share share p.share_at))
           (subst (λ x. IsWorkerAt n of moment at.motes crew.first_out v p.share x) (sym (read crew.takers.items v p.taker taker p.taker_at)) (record { keeps = keeps_on v p; gathered = p.here.gathered; waits = p.here.waits }))
 
-module _ (n : NetTold) (of : List ℕ) (from : ℕ) (crew : Crew) (next : Option ℕ) (at : IsAt n of from crew) (is : IsNextOfAll crew.first_out crew.shares.items next) where
+module _ (n : NetTold) (of : List ℕ) (from : ℕ) (crew : Workers) (next : Option ℕ) (at : IsAt n of from crew) (is : IsNextOfAll crew.first_out crew.shares.items next) where
   takers_here : length crew.takers.items ≡ length crew.inboxes.items
   takers_here = as_long _ crew.inboxes.items crew.takers.items at.settled
 

@@ -1,5 +1,5 @@
 -- Laws of a window of all workers.
-use Rattle.std.specs.Prelude.{ℕ, ◌≡◌, ◌+◌, ◌<◌, ◌≤◌, List, map, Option, None}
+use Rattle.std.specs.Prelude.{ℕ, ◌≡◌, ◌+◌, ◌<◌, ◌≤◌, List, map, Option}
 use Rattle.std.specs.List.{zip, AllZip}
 use Rattle.mote_net.specs.Net.{NetTold}
 use Rattle.window_laws.specs.System.{RunsForward}
@@ -8,35 +8,36 @@ use Rattle.net_agenda.specs.NetSystem.{system_of}
 use Rattle.copy_exchange.specs.declared.courier.Courier.{Courier}
 use Rattle.copy_exchange.specs.Couriers.{Together, SetsOut, ComesHome}
 use Rattle.copy_exchange.specs.Inboxes.{Settled}
-use Rattle.worker_window.specs.declared.share.Share.{Share}
-use Rattle.joined_workers.specs.declared.crew.Crew.{Crew}
-use Rattle.joined_workers.specs.declared.worker.Worker.{Worker}
-use Rattle.joined_workers.specs.Crew.{IsAt, IsNextOfAll, FirstOfAll}
+use Rattle.all_workers.specs.declared.workers.Workers.{Workers}
+use Rattle.all_workers.specs.declared.worker.Worker.{Worker}
+use Rattle.all_workers.specs.Worker.{worker_of}
+use Rattle.all_workers.specs.Workers.{IsAt}
+use Rattle.joined_workers.specs.Next.{IsNextOfAll, FirstOfAll}
 use Rattle.joined_workers.specs.Worker.{RunsWorker}
 
--- each worker with its share and its courier
-abbrev pub manned_by : Share × Courier → Worker
-manned_by p = record { share = p.0; courier = p.1; first_out = None }
-
--- the couriers set out together, each worker ran through the window with its own, and all came home
-pub record RunsAll (n : NetTold) (of : List ℕ) (until : ℕ) (old new : Crew) : Type 0 where
+-- The senders of all workers were created together, each worker ran through the window with its own, and then all
+-- senders were gathered.
+pub record RunsAll (n : NetTold) (of : List ℕ) (until : ℕ) (old new : Workers) : Type 0 where
   pub couriers : List Courier
   pub done : List Worker
   pub together : Together old.inboxes.items couriers
   pub set_out : AllZip SetsOut old.takers.items couriers
-  pub ran : AllZip (RunsWorker n of old.inboxes.items until) (map manned_by (zip old.shares.items couriers)) done
+  pub ran : AllZip (RunsWorker n of old.inboxes.items until) (map worker_of (zip old.shares.items couriers)) done
   pub shares : new.shares.items ≡ map (λ worker. worker.share) done
-  pub home : AllZip (ComesHome (map (λ (worker : Worker). worker.courier) done)) (map (λ (worker : Worker). worker.courier) done) new.takers.items
+  pub home : AllZip (ComesHome (map (λ (worker : Worker). worker.courier) done))
+      (map (λ (worker : Worker). worker.courier) done) new.takers.items
   pub settled : Settled new.inboxes.items new.takers.items
   pub inboxes : new.inboxes.items ≡ old.inboxes.items
   pub first : FirstOfAll done new.first_out
 
 -- a window that begins where the workers stand, and is no longer than the lookahead, leads to its end
 abbrev pub WindowMovesOn : Type 0
-WindowMovesOn = (n : NetTold) → RunsForward (system_of n) → (of : List ℕ) (from until : ℕ) (old new : Crew) → IsAt n of from old → from < until → until ≤ from + (system_of n).lookahead
+WindowMovesOn = (n : NetTold) → RunsForward (system_of n) → (of : List ℕ) (from until : ℕ) (old new : Workers)
+    → IsAt n of from old → from < until → until ≤ from + (system_of n).lookahead
     → RunsAll n of until old new → IsAt n of until new
 
 -- the next moment at which something comes isn't sooner than where the workers stand, and until then they stand
 abbrev pub StandsUntilNext : Type 0
-StandsUntilNext = (n : NetTold) → RunsForward (system_of n) → (of : List ℕ) (from : ℕ) (crew : Crew) (next : Option ℕ) → IsAt n of from crew → IsNextOfAll crew.first_out crew.shares.items next
+StandsUntilNext = (n : NetTold) → RunsForward (system_of n) → (of : List ℕ) (from : ℕ) (crew : Workers)
+    → (next : Option ℕ) → IsAt n of from crew → IsNextOfAll crew.first_out crew.shares.items next
     → WakesFrom from next × ((moment : ℕ) → from ≤ moment → WakesFrom moment next → IsAt n of moment crew)

@@ -1,7 +1,4 @@
-pub mod Crew
-pub mod Held
 pub mod Laws
-pub mod Refusals
+pub mod Next
 pub mod Run
-pub mod Start
 pub mod Worker

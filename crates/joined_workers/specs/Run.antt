@@ -1,43 +1,37 @@
 -- The windows of a run: where they begin, and where they end.
-use Rattle.std.specs.Prelude.{ℕ, zero, suc, ◌≡◌, ◌+◌, ◌<◌, ◌≤◌, min, nat_lt, ◌&&◌, if◌then◌else◌, List, Option, Some, None}
+use Rattle.std.specs.Prelude.{ℕ, zero, suc, ◌≡◌, ◌+◌, ◌<◌, ◌≤◌, min, List, Option, Some, None}
 use Rattle.mote_net.specs.Net.{NetTold}
-use Rattle.joined_workers.specs.declared.crew.Crew.{Crew}
-use Rattle.joined_workers.specs.Crew.{IsNextOfAll}
+use Rattle.all_workers.specs.declared.workers.Workers.{Workers}
+use Rattle.all_workers.specs.WindowLength.{end_of_window}
+use Rattle.joined_workers.specs.Next.{IsNextOfAll}
 use Rattle.joined_workers.specs.Laws.{RunsAll}
-
--- a window lasts as long as the lookahead, or less where a shorter length is told
-abbrev pub length_of_window : (lookahead longest : ℕ) → ℕ
-length_of_window lookahead longest = if nat_lt 0 longest && nat_lt longest lookahead then longest else lookahead
 
 -- it begins when something comes, or after the end, where nothing comes up to the end
 abbrev pub start_of_window : (end : ℕ) → (next : Option ℕ) → ℕ
 start_of_window end None = end + 1
 start_of_window end (Some moment) = min moment (end + 1)
 
--- the moment before which it ends
-abbrev pub end_of_window : (end length from : ℕ) → ℕ
-end_of_window end length from = min (from + length) (end + 1)
-
 -- where the next window of these workers begins
-pub record BeginsAt (end : ℕ) (crew : Crew) (from : ℕ) : Type 0 where
+pub record BeginsAt (end : ℕ) (crew : Workers) (from : ℕ) : Type 0 where
   pub next : Option ℕ
   pub is : IsNextOfAll crew.first_out crew.shares.items next
   pub start : from ≡ start_of_window end next
 
 -- one window of all workers, which begins when something comes and may last so long
-pub record RunsNext (n : NetTold) (of : List ℕ) (length : ℕ) (old new : Crew) : Type 0 where
+pub record RunsNext (n : NetTold) (of : List ℕ) (length : ℕ) (old new : Workers) : Type 0 where
   pub from : ℕ
   pub begins : BeginsAt n.end old from
   pub there : from ≤ n.end
   pub runs : RunsAll n of (end_of_window n.end length from) old new
 
 -- so many of these, one after another
-abbrev pub RunsWindows : NetTold → List ℕ → (length windows : ℕ) → (old new : Crew) → Type 0
+abbrev pub RunsWindows : NetTold → List ℕ → (length windows : ℕ) → (old new : Workers) → Type 0
 RunsWindows n of length zero old new = new ≡ old
-RunsWindows n of length (suc k) old new = (between : Crew) × RunsWindows n of length k old between × RunsNext n of length between new
+RunsWindows n of length (suc k) old new =
+    (between : Workers) × RunsWindows n of length k old between × RunsNext n of length between new
 
 -- all of them: then nothing comes up to the end
-pub record RunsToEnd (n : NetTold) (of : List ℕ) (length : ℕ) (old new : Crew) : Type 0 where
+pub record RunsToEnd (n : NetTold) (of : List ℕ) (length : ℕ) (old new : Workers) : Type 0 where
   pub windows : ℕ
   pub runs : RunsWindows n of length windows old new
   pub next : ℕ

@@ -1,5 +1,5 @@
 -- One worker in one window.
-use Rattle.std.specs.Prelude.{ℕ, ◌≡◌, ◌+◌, ◌<◌, ◌≤◌, ◌^◌, true, List, length, Option, Some, None}
+use Rattle.std.specs.Prelude.{ℕ, ◌≡◌, ◌+◌, ◌≤◌, ◌^◌, true, List, length, Option}
 use Rattle.std.specs.List.{AllByRecursion as Each}
 use Rattle.radio_packet.specs.declared.copy.RadioCopy.{RadioCopy}
 use Rattle.mote_net.specs.Net.{NetTold}
@@ -13,27 +13,21 @@ use Rattle.copy_exchange.specs.Inboxes.{IsPlain}
 use Rattle.worker_cut.specs.Crossed.{is_own}
 use Rattle.worker_window.specs.Share.{Motes, Keeps}
 use Rattle.worker_window.specs.Window.{CanRun, RunsWindow, GoesOut, ComesIn}
-use Rattle.joined_workers.specs.declared.worker.Worker.{Worker}
+use Rattle.all_workers.specs.Workers.{IsCut, IsNotBefore}
+use Rattle.all_workers.specs.declared.worker.Worker.{Worker}
 
--- each mote has one of so many workers
-pub record IsCut (motes workers : ℕ) (of : List ℕ) : Type 0 where
-  pub len : length of ≡ motes
-  pub there : Each (λ worker. worker < workers) of
-
--- a worker that can run through a window: its share is that of the worker of its courier, its inbox has no marks, all that was sent
--- to it is for its motes, and what it takes in comes no sooner than its share stands
+-- A worker that can run through a window: its share and its courier are those of one worker, its inbox has no marks, all
+-- that was sent to it is for its motes, and what it takes in comes no sooner than its share stands.
 pub record IsReady (n : NetTold) (of : List ℕ) (inboxes : List InboxId) (until : ℕ) (worker : Worker) : Type 0 where
   pub early : until ≤ 2 ^ 40
   pub cut : IsCut (length n.motes) (length inboxes) of
-  pub takes_in : (between : Courier) (arrived : List RadioCopy) → Collects worker.courier between arrived → CanRun n of until worker.share arrived
+  pub takes_in : (between : Courier) (arrived : List RadioCopy) → Collects worker.courier between arrived
+      → CanRun n of until worker.share arrived
   pub same : worker.share.worker ≡ worker.courier.worker
   pub courier : IsCourier inboxes worker.courier
   pub plain : IsPlain worker.courier.taker
-  pub own : Each (λ (copy : RadioCopy). is_own of worker.courier.worker copy.to ≡ true) (gathered_by worker.courier.taker)
-
-abbrev pub IsNotBefore : (first : Option ℕ) → RadioCopy → Type 0
-IsNotBefore None copy = ⊥
-IsNotBefore (Some moment) copy = moment ≤ copy.at
+  pub own : Each (λ (copy : RadioCopy). is_own of worker.courier.worker copy.to ≡ true)
+      (gathered_by worker.courier.taker)
 
 -- the moment at which the first of these copies arrives, if there are any
 pub record IsFirstOf (copies : List RadioCopy) (first : Option ℕ) : Type 0 where
@@ -48,8 +42,10 @@ pub record RunsWorker (n : NetTold) (of : List ℕ) (inboxes : List InboxId) (un
   pub collects : Collects old.courier between arrived
   pub delivers : Delivers of between new.courier sent
   pub courier : IsCourier inboxes new.courier
-  pub runs : (from : ℕ) (motes : Motes) → Keeps n of old.courier.worker from motes (taken_by old.courier.taker) old.share
-      → from ≤ until → until ≤ from + (system_of n).lookahead → Each (ComesIn of old.courier.worker from) arrived
+  pub runs : (from : ℕ) (motes : Motes)
+      → Keeps n of old.courier.worker from motes (taken_by old.courier.taker) old.share
+      → from ≤ until → until ≤ from + (system_of n).lookahead
+      → Each (ComesIn of old.courier.worker from) arrived
       → RunsWindow n of old.courier.worker from until motes (taken_by new.courier.taker) new.share sent
   pub out : Each (GoesOut n of old.courier.worker) sent
   pub first : IsFirstOf sent new.first_out

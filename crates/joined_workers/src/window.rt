@@ -1,20 +1,21 @@
 //! One window of all workers, each in a thread of its own.
 
-ghost use Rattle.std.specs.Prelude.{◌≡◌, ◌≢◌, ℕ, ◌+◌, ◌^◌, ◌<◌, ◌≤◌, true, length, map, IfErr, IfOk};
-ghost use Rattle.std.specs.List.{AllByRecursion as Each, AllZip, zip};
+ghost use Rattle.std.specs.Prelude.{◌≡◌, ℕ, ◌+◌, ◌^◌, ◌<◌, ◌≤◌, length, IfErr, IfOk};
+ghost use Rattle.std.specs.List.{AllByRecursion as Each, AllZip};
 ghost use Rattle.fork_join.specs.declared.work.Refused.TheVariants.{Memory};
 ghost use Rattle.mote_net.specs.Net.{net_of};
 ghost use Rattle.net_agenda.specs.NetSystem.{system_of};
 ghost use Rattle.window_laws.specs.System.{RunsForward};
-ghost use Rattle.copy_exchange.specs.Couriers.{AllReturn, ComesHome, HasMarks, HasPushedNothing, SetsOut, Together};
+ghost use Rattle.copy_exchange.specs.Couriers.{AllReturn, ComesHome};
 ghost use Rattle.copy_exchange.specs.Inboxes.{IsPlain, Settled};
-ghost use Rattle.joined_workers.specs.Crew.{IsAt};
-ghost use Rattle.joined_workers.specs.Laws.{RunsAll, manned_by};
+ghost use Rattle.all_workers.specs.Workers.{IsAt};
+ghost use Rattle.joined_workers.specs.Laws.{RunsAll};
 ghost use Rattle.joined_workers.specs.Worker.{IsReady, RunsWorker};
 
-use crate::crew::{Crew, first_of_all};
-use crate::worker::{CrewWindow, Runner, Worker};
-use copy_exchange::{Courier, couriers, gathered};
+use crate::next::first_of_all;
+use crate::worker::{CrewWindow, Runner};
+use all_workers::{Worker, Workers, parted, set_out, workers_of};
+use copy_exchange::{Courier, gathered};
 use copy_inbox::{Inbox, Taker};
 use fork_join::{Refused, fork_join};
 use mote_net::Net;
@@ -23,27 +24,6 @@ use std::random::RandomSource;
 use std::sync::Wait;
 use std::thread::Threads;
 use window_run::Gate;
-use worker_window::Share;
-
-/// Before a window: a courier for each worker. Out of memory is the one error.
-pub fn set_out(
-    alloc: Global,
-    inboxes: &[Inbox],
-    takers: Vec<Taker>,
-) -> Result<Vec<Courier>, Refused>
-    requires few { length inboxes.now ≤ 2 ^ 16 }
-    requires settled { Settled inboxes.now takers.items }
-    ensures together { IfOk result (λ couriers. Together inboxes.now couriers.items) }
-    ensures set_out { IfOk result (λ couriers. AllZip SetsOut takers.items couriers.items) }
-    ensures nothing { IfOk result (λ couriers. Each HasPushedNothing couriers.items) }
-    ensures marked { IfOk result (λ couriers. Each (λ taker. taker.desk.marked ≡ true) takers.items → Each HasMarks couriers.items) }
-    ensures refused { IfErr result (λ reason. reason ≡ Memory) }
-{
-    match couriers(alloc, inboxes, takers) {
-        Ok(couriers) => Ok(couriers),
-        Err(_) => Err(Refused::Memory),
-    }
-}
 
 /// After a window: each worker's taker, which has gathered what was delivered to it. Out of memory is the one error.
 fn come_home<R: Wait>(
@@ -64,42 +44,6 @@ fn come_home<R: Wait>(
     }
 }
 
-/// Each worker with its share and its courier.
-fn manned(alloc: Global, shares: Vec<Share>, couriers: Vec<Courier>) -> Result<Vec<Worker>, Refused>
-    ensures workers { IfOk result (λ workers. workers.items ≡ map manned_by (zip shares.items couriers.items)) }
-    ensures refused { IfErr result (λ reason. reason ≡ Memory) }
-{
-    let mut workers = Vec::new(alloc);
-    for (share, courier) in shares.into_iter().zip(couriers) {
-        workers.push(Worker {
-            share,
-            courier,
-            first_out: None,
-        })?;
-    }
-    Ok(workers)
-}
-
-/// The workers' shares, and their couriers.
-fn parted(alloc: Global, workers: Vec<Worker>) -> Result<(Vec<Share>, Vec<Courier>), Refused>
-    ensures shares { IfOk result (λ r. r.0.items ≡ map (λ worker. worker.share) workers.items) }
-    ensures couriers { IfOk result (λ r. r.1.items ≡ map (λ worker. worker.courier) workers.items) }
-    ensures refused { IfErr result (λ reason. reason ≡ Memory) }
-{
-    let mut shares = Vec::new(alloc);
-    let mut couriers = Vec::new(alloc);
-    for worker in workers {
-        let Worker {
-            share,
-            courier,
-            first_out: _,
-        } = worker;
-        shares.push(share)?;
-        couriers.push(courier)?;
-    }
-    Ok((shares, couriers))
-}
-
 /// Has each worker run through the window in a thread of its own.
 fn run_together<R, G>(
     rt: &R,
@@ -112,85 +56,88 @@ where
     R: Threads + Wait + RandomSource + AllocGlobal + Sync,
     G: Gate + Sync,
     requires { Each (IsReady (net_of window.net.now) window.of.now window.inboxes.now window.until) workers.items }
-    ensures { IfOk result (λ done. AllZip (RunsWorker (net_of window.entry.net.now) window.entry.of.now window.entry.inboxes.now window.entry.until) workers.items done.items) }
+    ensures { let n = net_of window.entry.net.now in IfOk result (λ done. AllZip
+        (RunsWorker n window.entry.of.now window.entry.inboxes.now window.entry.until) workers.items done.items) }
 {
     fork_join(rt, alloc, workers, &Runner { rt, gate, window })
 }
 
-impl Crew {
-    /// Runs all workers through one window: the couriers set out, each worker runs in its thread, and all come home.
-    fn run_all<R, G>(
-        self,
-        rt: &R,
-        alloc: Global,
-        net: &Net,
-        of: &[u16],
-        until: u64,
-        gate: &G,
-    ) -> Result<Crew, Refused>
-    where
-        R: Threads + Wait + RandomSource + AllocGlobal + Sync,
-        G: Gate + Sync,
-        requires early { until ≤ 2 ^ 40 }
-        requires few { length self.inboxes.items ≤ 16 }
-        requires stands { (from : ℕ) × IsAt (net_of net.now) of.now from self × (from ≤ until) }
-        requires plain { Each IsPlain self.takers.items }
-        ensures runs { IfOk result (RunsAll (net_of net.now) of.now until self) }
-        ensures plain { IfOk result (λ crew. Each IsPlain crew.takers.items) }
-    {
-        let Crew {
-            shares,
-            inboxes,
-            takers,
-            first_out: _,
-        } = self;
-        let couriers = set_out(alloc, &inboxes, takers)?;
-        let workers = manned(alloc, shares, couriers)?;
-        let window = CrewWindow {
-            net,
-            of,
-            inboxes: &inboxes,
-            until,
-        };
-        let done = run_together(rt, alloc, workers, window, gate)?;
-        let first_out = first_of_all(&done);
-        let (shares, couriers) = parted(alloc, done)?;
-        let takers = come_home(rt, alloc, &inboxes, couriers)?;
-        Ok(Crew {
-            shares,
-            inboxes,
-            takers,
-            first_out,
-        })
-    }
+/// Runs all workers through one window: senders are created, each worker runs in its thread, and the senders are
+/// collected.
+fn run_all<R, G>(
+    rt: &R,
+    alloc: Global,
+    net: &Net,
+    of: &[u16],
+    until: u64,
+    gate: &G,
+    crew: Workers,
+) -> Result<Workers, Refused>
+where
+    R: Threads + Wait + RandomSource + AllocGlobal + Sync,
+    G: Gate + Sync,
+    requires early { until ≤ 2 ^ 40 }
+    requires few { length crew.inboxes.items ≤ 16 }
+    requires stands { (from : ℕ) × IsAt (net_of net.now) of.now from crew × (from ≤ until) }
+    requires plain { Each IsPlain crew.takers.items }
+    ensures runs { IfOk result (RunsAll (net_of net.now) of.now until crew) }
+    ensures plain { IfOk result (λ done. Each IsPlain done.takers.items) }
+{
+    let Workers {
+        shares,
+        inboxes,
+        takers,
+        first_out: _,
+    } = crew;
+    let couriers = set_out(alloc, &inboxes, takers)?;
+    let workers = workers_of(alloc, shares, couriers)?;
+    let window = CrewWindow {
+        net,
+        of,
+        inboxes: &inboxes,
+        until,
+    };
+    let done = run_together(rt, alloc, workers, window, gate)?;
+    let first_out = first_of_all(&done);
+    let (shares, couriers) = parted(alloc, done)?;
+    let takers = come_home(rt, alloc, &inboxes, couriers)?;
+    Ok(Workers {
+        shares,
+        inboxes,
+        takers,
+        first_out,
+    })
+}
 
-    /// One window: each worker takes in what was sent to it, runs its motes up to `until`, and delivers what they sent, all in
-    /// threads of their own; then all senders are gathered. It does no more than `run_all`, and stands beside it for the prover alone:
-    /// here what the workers did becomes a step of the run, by the law of windows.
-    ///
-    /// # Errors
-    /// That of the first worker that has one; `Thread` where a thread couldn't be started, or the gate refused it; and `Memory`.
-    pub(crate) fn run_window<R, G>(
-        self,
-        rt: &R,
-        alloc: Global,
-        net: &Net,
-        of: &[u16],
-        until: u64,
-        gate: &G,
-    ) -> Result<Crew, Refused>
-    where
-        R: Threads + Wait + RandomSource + AllocGlobal + Sync,
-        G: Gate + Sync,
-        requires early { until ≤ 2 ^ 40 }
-        requires few { length self.inboxes.items ≤ 16 }
-        requires stands { (from : ℕ) × IsAt (net_of net.now) of.now from self × (from ≤ until) }
-        requires plain { Each IsPlain self.takers.items }
-        ensures runs { IfOk result (RunsAll (net_of net.now) of.now until self) }
-        ensures moves { let n = net_of net.now in RunsForward (system_of n) → IfOk result (λ done. (from : ℕ) → IsAt n of.now from self → from < until → until ≤ from + (system_of n).lookahead → IsAt n of.now until done) }
-        ensures inboxes { IfOk result (λ done. done.inboxes.items ≡ self.inboxes.items) }
-        ensures plain { IfOk result (λ done. Each IsPlain done.takers.items) }
-    {
-        self.run_all(rt, alloc, net, of, until, gate)
-    }
+/// One window: each worker takes in what was sent to it, runs its motes up to `until`, and delivers what they sent, all
+/// in threads of their own; then all senders are gathered. It is a wrapper of `run_all` in whose proof what the workers
+/// did becomes a step of the run, by the law of windows.
+///
+/// # Errors
+/// That of the first worker that has one; `Thread` where a thread couldn't be started, or the gate refused it; and
+/// `Memory`.
+pub(crate) fn run_window<R, G>(
+    rt: &R,
+    alloc: Global,
+    net: &Net,
+    of: &[u16],
+    until: u64,
+    gate: &G,
+    crew: Workers,
+) -> Result<Workers, Refused>
+where
+    R: Threads + Wait + RandomSource + AllocGlobal + Sync,
+    G: Gate + Sync,
+    requires early { until ≤ 2 ^ 40 }
+    requires few { length crew.inboxes.items ≤ 16 }
+    requires stands { (from : ℕ) × IsAt (net_of net.now) of.now from crew × (from ≤ until) }
+    requires plain { Each IsPlain crew.takers.items }
+    ensures runs { IfOk result (RunsAll (net_of net.now) of.now until crew) }
+    ensures moves { let n = net_of net.now in RunsForward (system_of n) → IfOk result
+        (λ done. (from : ℕ) → IsAt n of.now from crew → from < until → until ≤ from + (system_of n).lookahead
+        → IsAt n of.now until done) }
+    ensures inboxes { IfOk result (λ done. done.inboxes.items ≡ crew.inboxes.items) }
+    ensures plain { IfOk result (λ done. Each IsPlain done.takers.items) }
+{
+    run_all(rt, alloc, net, of, until, gate, crew)
 }

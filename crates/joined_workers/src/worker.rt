@@ -1,31 +1,21 @@
 //! One worker in one window.
 
-ghost use Rattle.std.specs.Prelude.{◌≡◌, ◌≢◌, ℕ, ◌≤◌, IfErr, IfOk, IfSome};
+ghost use Rattle.std.specs.Prelude.{◌≢◌, ℕ, IfErr, IfOk};
 ghost use Rattle.fork_join.specs.declared.work.Refused.TheVariants.{Stopped};
 ghost use Rattle.mote_net.specs.Net.{net_of};
 ghost use Rattle.radio_packet.specs.declared.copy.RadioCopy.{RadioCopy};
 ghost use Rattle.window_laws.specs.Windows.{WakesFrom};
-ghost use Rattle.joined_workers.specs.Refusals.{refused_of};
-ghost use Rattle.joined_workers.specs.Worker.{IsReady, RunsWorker, IsFirstOf, IsNotBefore};
+ghost use Rattle.joined_workers.specs.Worker.{IsReady, RunsWorker, IsFirstOf};
+ghost use Rattle.all_workers.specs.Workers.{IsNotBefore};
 
-use copy_exchange::Courier;
+use all_workers::{Worker, refused};
 use copy_inbox::Inbox;
 use fork_join::{Refused, Work};
 use mote_net::Net;
 use radio_packet::RadioCopy;
 use std::random::RandomSource;
 use std::sync::Wait;
-use window_run::{Gate, ShareError};
-use worker_window::Share;
-
-/// A worker: its share of the net, and the courier of its copies.
-#[derive(Drop)]
-pub struct Worker {
-    pub share: Share,
-    pub courier: Courier,
-    /// When the first of the copies that it delivered in its window arrives.
-    pub first_out: Option<u64>,
-}
+use window_run::Gate;
 
 /// What all workers of a window have in common.
 #[derive(Clone, Copy)]
@@ -83,18 +73,8 @@ fn first_of(copies: &[RadioCopy]) -> Option<u64>
     first
 }
 
-/// Why a worker gave up whose motes gave up in a window.
-pub fn refused(error: ShareError) -> Refused
-    ensures { result ≡ refused_of error }
-{
-    match error {
-        ShareError::Memory => Refused::Memory,
-        ShareError::Thread => Refused::Thread,
-    }
-}
-
-/// Has a worker take in what other workers sent in earlier windows, while they may already send more; run its motes through the
-/// window; and deliver what they sent to the motes of others.
+/// Has a worker take in what other workers sent in earlier windows, while they may already send more; run its motes
+/// through the window; and deliver what they sent to the motes of others.
 fn run_worker<R: Wait + RandomSource + AllocGlobal, G: Gate>(
     rt: &R,
     gate: &G,
@@ -102,7 +82,8 @@ fn run_worker<R: Wait + RandomSource + AllocGlobal, G: Gate>(
     worker: Worker,
 ) -> Result<Worker, Refused>
     requires { IsReady (net_of window.now.net.now) window.now.of.now window.now.inboxes.now window.now.until worker }
-    ensures runs { IfOk result (RunsWorker (net_of window.now.net.now) window.now.of.now window.now.inboxes.now window.now.until worker) }
+    ensures runs { IfOk result (RunsWorker
+        (net_of window.now.net.now) window.now.of.now window.now.inboxes.now window.now.until worker) }
     // No worker waits for another within a window.
     ensures refused { IfErr result (λ reason. reason ≢ Stopped) }
 {
@@ -131,9 +112,11 @@ fn run_worker<R: Wait + RandomSource + AllocGlobal, G: Gate>(
 }
 
 impl<R: Wait + RandomSource + AllocGlobal, G: Gate> Work<Worker> for Runner<'_, R, G> {
-    ghost ready = { λ w worker. IsReady (net_of w.window.net.now) w.window.of.now w.window.inboxes.now w.window.until worker };
+    ghost ready = { λ w worker. IsReady
+        (net_of w.window.net.now) w.window.of.now w.window.inboxes.now w.window.until worker };
 
-    ghost makes = { λ w old new. RunsWorker (net_of w.window.net.now) w.window.of.now w.window.inboxes.now w.window.until old new };
+    ghost makes = { λ w old new. RunsWorker
+        (net_of w.window.net.now) w.window.of.now w.window.inboxes.now w.window.until old new };
 
     fn work(&self, worker: Worker) -> Result<Worker, Refused> {
         run_worker(self.rt, self.gate, &self.window, worker)

@@ -6,7 +6,7 @@ use Rattle.std.proofs.lemmas.Option.{slice_get_within}
 use Rattle.std.proofs.lemmas.Bool.Decides.{eqb_tells}
 use Rattle.std.proofs.lemmas.Map.Steps.{length-le_from_distinct_below}
 use Rattle.mote_net.specs.Net.{NetTold}
-use Rattle.joined_workers.proofs.Lookups.{there}
+use Rattle.all_workers.proofs.Lookups.{there}
 use Rattle.marked_workers.specs.All.{AllRan}
 use Rattle.marked_workers.proofs.Pairs.{numbered_at}
 use Rattle.mark_run_laws.specs.Plan.{number_of}

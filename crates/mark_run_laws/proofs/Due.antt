@@ -6,7 +6,7 @@ use Rattle.window_laws.proofs.Lists.{every_filter, every_passes}
 use Rattle.worker_cut.specs.Crossed.{is_own, is_to}
 use Rattle.copy_inbox.specs.declared.items.Carried.TheVariants.{Packet}
 use Rattle.worker_window.specs.Window.{GoesOut}
-use Rattle.joined_workers.proofs.Step.{own_of}
+use Rattle.all_workers.proofs.Step.{own_of}
 use Rattle.mark_laws.specs.State.{State}
 use Rattle.mark_laws.specs.Steps.{MayTake}
 use Rattle.mark_laws.specs.Laws.{IsReached}

@@ -9,8 +9,8 @@ use Rattle.mark_exchange.specs.Pushes.{marks_in}
 use Rattle.mark_laws.specs.State.{State, IsPair}
 use Rattle.mark_laws.specs.Steps.{MayTake, IsAtEnd}
 use Rattle.mark_laws.specs.Laws.{IsReached}
-use Rattle.joined_workers.specs.declared.crew.Crew.{Crew}
-use Rattle.joined_workers.specs.Worker.{IsCut}
+use Rattle.all_workers.specs.declared.workers.Workers.{Workers}
+use Rattle.all_workers.specs.Workers.{IsCut}
 use Rattle.marked_workers.specs.All.{AllRan}
 use Rattle.marked_workers.specs.Bounds.{bound, windows_of}
 use Rattle.marked_workers.specs.Run.{RunsAllMarked}
@@ -19,7 +19,7 @@ use Rattle.mark_run_laws.specs.Plan.{plan_of, number_of, state_of, RanWindow}
 
 -- what the contract of `run_marked` says of a run is enough
 abbrev pub EachRunHasAll : Type 0
-EachRunHasAll = (n : NetTold) (of : List ℕ) (width : ℕ) (old new : Crew)
+EachRunHasAll = (n : NetTold) (of : List ℕ) (width : ℕ) (old new : Workers)
     → IsCut (length n.motes) (length old.inboxes.items) of → RunsAllMarked n of width old new
     → AllRan n of width (windows_of width n.end) (length new.inboxes.items)
 

@@ -21,12 +21,12 @@ use Rattle.mark_exchange.specs.Pushes.{packets_in}
 use Rattle.mark_exchange.proofs.Early.{packets_pushes}
 use Rattle.worker_window.specs.declared.share.Share.{Share}
 use Rattle.worker_window.specs.Share.{Motes, Keeps}
-use Rattle.joined_workers.specs.declared.crew.Crew.{Crew}
-use Rattle.joined_workers.specs.Crew.{IsAt, IsWorkerAt}
-use Rattle.joined_workers.proofs.Choose.{choose}
-use Rattle.joined_workers.proofs.Lookups.{there, inside, read, same_found, each_at, each_from}
-use Rattle.joined_workers.proofs.Same.{keeps_same}
-use Rattle.joined_workers.proofs.Step.{own_of, own_by}
+use Rattle.all_workers.specs.declared.workers.Workers.{Workers}
+use Rattle.all_workers.specs.Workers.{IsAt, IsWorkerAt}
+use Rattle.all_workers.proofs.Choose.{choose}
+use Rattle.all_workers.proofs.Lookups.{there, inside, read, same_found, each_at, each_from}
+use Rattle.all_workers.proofs.Same.{keeps_same}
+use Rattle.all_workers.proofs.Step.{own_of, own_by}
 use Rattle.marked_workers.specs.Bounds.{bound, AreWindows}
 use Rattle.marked_workers.specs.Crew.{EndsMarked, EndAllMarked}
 use Rattle.copy_exchange.specs.Couriers.{pushed_list}
@@ -39,7 +39,7 @@ use Rattle.marked_workers.proofs.Seen.{nobodys, sent_so_far, of_worker, of_nobod
 use Rattle.marked_workers.proofs.Settles.{pair_taken, all_taken, one, after_is, gathered_all, whole_then, no_mark, stands, same_of_each}
 use Rattle.marked_workers.proofs.Stages.{stage, own_stage, Reached, reached}
 
-module _ (n : NetTold) (of : List ℕ) (width windows : ℕ) (crew : Crew) (h : EndAllMarked n of width windows crew) where
+module _ (n : NetTold) (of : List ℕ) (width windows : ℕ) (crew : Workers) (h : EndAllMarked n of width windows crew) where
   abbrev workers : ℕ
   workers = length crew.inboxes.items
 
@@ -208,5 +208,5 @@ module _ (n : NetTold) (of : List ℕ) (width windows : ℕ) (crew : Crew) (h : 
         subst (λ (x : TakerView). Whole x.desk.gathered x.desk.taken) (same_found (slice_get crew.takers.items v) p.taker t p.taker_at e) (whole_at v low))
 
 pub ends : (n : NetTold) → RunsForward (system_of n) → (of : List ℕ) (width windows : ℕ) → width ≤ (system_of n).lookahead → AreWindows width n.end windows
-    → (crew : Crew) → EndAllMarked n of width windows crew → IsAt n of (suc n.end) crew × Each (λ (t : TakerView). Whole t.desk.gathered t.desk.taken) crew.takers.items
+    → (crew : Workers) → EndAllMarked n of width windows crew → IsAt n of (suc n.end) crew × Each (λ (t : TakerView). Whole t.desk.gathered t.desk.taken) crew.takers.items
 ends n fine of width windows short are crew all = (all_at_end n of width windows crew all fine short are, all_whole n of width windows crew all fine short are)

@@ -12,32 +12,24 @@ use Rattle.copy_exchange.specs.Couriers.{HasMarks, HasPushedNothing, IsCourier, 
 use Rattle.copy_exchange.specs.Inboxes.{IsFresh}
 use Rattle.copy_exchange.proofs.Delivered.{seated}
 use Rattle.copy_exchange.proofs.Open.{made_for_others}
-use Rattle.mark_exchange.specs.declared.courier.MarkCourier.{MarkCourier}
 use Rattle.worker_window.specs.declared.share.Share.{Share}
 use Rattle.worker_window.specs.Share.{Keeps}
-use Rattle.joined_workers.specs.Start.{AreFirst}
-use Rattle.joined_workers.specs.Worker.{IsCut}
-use Rattle.joined_workers.proofs.Lookups.{there, inside, read, beside, as_long, each_at, each_from, same_found}
-use Rattle.joined_workers.proofs.Ready.{numbered}
-use Rattle.joined_workers.proofs.Starts.{fresh_at}
-use Rattle.marked_workers.specs.Run.{CanCarry, CarriesFor, courier_of, manned_by}
-use Rattle.marked_workers.specs.Thread.{IsManned}
-
-module _ {X Y Z : Type 0} (P : Z → Type 0) (f : X × Y → Z) where
-  each_zipped : (xs : List X) (ys : List Y) → ((i : ℕ) (x : X) (y : Y) → slice_get xs i ≡ Some x → slice_get ys i ≡ Some y → P (f (x, y))) → Each P (map f (zip xs ys))
-  each_zipped [] ys h = tt
-  each_zipped (x ∷ xs) [] h = tt
-  each_zipped (x ∷ xs) (y ∷ ys) h = (h 0 x y refl refl, each_zipped xs ys (λ i a b e g. h (suc i) a b e g))
+use Rattle.all_workers.specs.Start.{AreFirst}
+use Rattle.all_workers.specs.Workers.{IsCut}
+use Rattle.all_workers.specs.Worker.{worker_of}
+use Rattle.all_workers.proofs.Lookups.{there, inside, read, beside, as_long, each_at, each_from, each_zipped, same_found}
+use Rattle.all_workers.proofs.Numbered.{numbered}
+use Rattle.all_workers.proofs.Starts.{fresh_at}
+use Rattle.marked_workers.specs.Run.{couriers_of}
+use Rattle.marked_workers.specs.Thread.{IsFirst}
 
 -- each worker has the courier that was made for it
-same_couriers : (shares : List Share) (couriers : List Courier) (carriers : List MarkCourier) → length couriers ≡ length shares → AllZip CarriesFor couriers carriers
-    → map courier_of (map manned_by (zip shares carriers)) ≡ couriers
-same_couriers [] [] [] long h = refl
-same_couriers [] [] (m ∷ ms) long h = refl
-same_couriers [] (c ∷ cs) ms long h = absurd (omega arith)
-same_couriers (s ∷ ss) [] ms long h = absurd (omega arith)
-same_couriers (s ∷ ss) (c ∷ cs) [] long h = absurd h
-same_couriers (s ∷ ss) (c ∷ cs) (m ∷ ms) long h = (λ i. h.0.0 i ∷ same_couriers ss cs ms (omega arith) h.1 i)
+same_couriers : (shares : List Share) (couriers : List Courier) → length couriers ≡ length shares
+    → couriers_of (map worker_of (zip shares couriers)) ≡ couriers
+same_couriers [] [] long = refl
+same_couriers [] (c ∷ cs) long = absurd (omega arith)
+same_couriers (s ∷ ss) [] long = absurd (omega arith)
+same_couriers (s ∷ ss) (c ∷ cs) long = ap (λ l. c ∷ l) (same_couriers ss cs (omega arith))
 
 -- couriers that set out, of takers that have neither taken nor gathered anything
 module _ (inboxes : List InboxId) (takers : List TakerView) (fresh : AllZip IsFresh inboxes takers) (couriers : List Courier) (together : Together inboxes couriers) (set_out : AllZip SetsOut takers couriers) where
@@ -70,43 +62,34 @@ module _ (inboxes : List InboxId) (takers : List TakerView) (fresh : AllZip IsFr
   all_none_gathered : Each (λ (c : Courier). c.taker.desk.gathered ≡ []) couriers
   all_none_gathered = each_from (λ (c : Courier). c.taker.desk.gathered ≡ []) couriers none_gathered
 
-  pub can_carry : (others : ℕ) → ((made : ℕ) → suc made ≡ length inboxes → made ≡ others) → Each (CanCarry others) couriers
-  can_carry others all = each_from (CanCarry others) couriers (λ v c at. (
-    all c.taker.desk.made (made_for_others inboxes couriers together v c at (none_gathered v c at)),
-    none_taken v c at,
-  ))
-
   module _ (n : NetTold) (of : List ℕ) (cut : IsCut (length n.motes) (length inboxes) of) (shares : List Share) (first : AreFirst n of (length inboxes) shares)
-      (nothing : Each HasPushedNothing couriers) (marked : Each HasMarks couriers) (carriers : List MarkCourier) (carry : AllZip CarriesFor couriers carriers) where
-    one_ready : (v : ℕ) (s : Share) (m : MarkCourier) → slice_get shares v ≡ Some s → slice_get carriers v ≡ Some m → IsManned n of inboxes (manned_by (s, m))
-    one_ready v s m at_share at_carrier =
+      (nothing : Each HasPushedNothing couriers) (marked : Each HasMarks couriers) where
+    one_ready : (v : ℕ) (s : Share) (c : Courier) → slice_get shares v ≡ Some s → slice_get couriers v ≡ Some c → IsFirst n of inboxes (worker_of (s, c))
+    one_ready v s c at_share at_courier =
         let low : v < length inboxes = subst (λ l. v < l) first.count (inside shares v s at_share) in
-        let c = there couriers v (subst (λ l. v < l) (sym couriers_long) low) in
-        let b = beside CarriesFor couriers carriers carry v c.0 c.1 in
-        let carries : CarriesFor c.0 m = subst (CarriesFor c.0) (same_found (slice_get carriers v) b.0 m b.1 at_carrier) b.2 in
-        let number : c.0.worker ≡ v = numbered (length inboxes) couriers together.workers v low c.0 c.1 in
-        subst (λ (x : Courier). IsManned n of inboxes (record { share = s; carries = record m { courier = x } })) (sym carries.0) (record {
+        let number : c.worker ≡ v = numbered (length inboxes) couriers together.workers v low c at_courier in
+        record {
           cut = cut;
           keeps = subst (λ w. Keeps n of w 0 (first_mote (system_of n)) [] s) (sym number)
               (subst (λ x. Keeps n of v 0 (first_mote (system_of n)) [] x) (read shares v s s at_share) (first.each v s low));
-          seated = seated inboxes c.0 (each_at (IsCourier inboxes) couriers v c.0 together.each c.1);
-          marked = each_at HasMarks couriers v c.0 marked c.1;
-          counts = carries.1;
-          none_taken = none_taken v c.0 c.1;
-          none_gathered = none_gathered v c.0 c.1;
-          none_pushed = each_at HasPushedNothing couriers v c.0 nothing c.1;
-        })
+          seated = seated inboxes c (each_at (IsCourier inboxes) couriers v c together.each at_courier);
+          marked = each_at HasMarks couriers v c marked at_courier;
+          made = made_for_others inboxes couriers together v c at_courier (none_gathered v c at_courier);
+          none_taken = none_taken v c at_courier;
+          none_gathered = none_gathered v c at_courier;
+          none_pushed = each_at HasPushedNothing couriers v c nothing at_courier;
+        }
 
-    pub ready : Each (IsManned n of inboxes) (map manned_by (zip shares carriers))
-    ready = each_zipped (IsManned n of inboxes) manned_by shares carriers one_ready
+    pub ready : Each (IsFirst n of inboxes) (map worker_of (zip shares couriers))
+    ready = each_zipped (IsFirst n of inboxes) worker_of shares couriers one_ready
 
   -- the couriers of the workers that were made of them
-  module _ (shares : List Share) (count : length shares ≡ length inboxes) (carriers : List MarkCourier) (carry : AllZip CarriesFor couriers carriers) where
-    set_out_with : map courier_of (map manned_by (zip shares carriers)) ≡ couriers
-    set_out_with = same_couriers shares couriers carriers (couriers_long ∙ sym count) carry
+  module _ (shares : List Share) (count : length shares ≡ length inboxes) where
+    set_out_with : couriers_of (map worker_of (zip shares couriers)) ≡ couriers
+    set_out_with = same_couriers shares couriers (couriers_long ∙ sym count)
 
-    pub together_first : Together inboxes (map courier_of (map manned_by (zip shares carriers)))
+    pub together_first : Together inboxes (couriers_of (map worker_of (zip shares couriers)))
     together_first = subst (Together inboxes) (sym set_out_with) together
 
-    pub none_gathered_first : Each (λ (c : Courier). c.taker.desk.gathered ≡ []) (map courier_of (map manned_by (zip shares carriers)))
+    pub none_gathered_first : Each (λ (c : Courier). c.taker.desk.gathered ≡ []) (couriers_of (map worker_of (zip shares couriers)))
     none_gathered_first = subst (Each (λ (c : Courier). c.taker.desk.gathered ≡ [])) (sym set_out_with) all_none_gathered

@@ -18,18 +18,18 @@ use Rattle.copy_exchange.proofs.Gathers.{gather_is}
 use Rattle.copy_exchange.proofs.Homes.{same_workers}
 use Rattle.copy_exchange.proofs.Open.{SendersOfOthers, are_senders, sender_of, sender_is}
 use Rattle.worker_window.specs.declared.share.Share.{Share}
-use Rattle.joined_workers.specs.declared.crew.Crew.{Crew}
-use Rattle.joined_workers.specs.Crew.{IsAt}
-use Rattle.joined_workers.specs.Worker.{IsCut}
-use Rattle.joined_workers.proofs.Lookups.{there, read, mapped, beside, as_long}
-use Rattle.joined_workers.proofs.Ready.{numbered}
-use Rattle.marked_workers.specs.declared.worker.MarkWorker.{MarkWorker}
+use Rattle.all_workers.specs.declared.workers.Workers.{Workers}
+use Rattle.all_workers.specs.Workers.{IsAt}
+use Rattle.all_workers.specs.Workers.{IsCut}
+use Rattle.all_workers.proofs.Lookups.{there, read, mapped, beside, as_long}
+use Rattle.all_workers.proofs.Numbered.{numbered}
+use Rattle.all_workers.specs.declared.worker.Worker.{Worker}
 use Rattle.marked_workers.specs.Bounds.{windows_of}
 use Rattle.marked_workers.specs.Crew.{EndsMarked, EndAllMarked}
-use Rattle.marked_workers.specs.Run.{RunsAllMarked, courier_of}
+use Rattle.marked_workers.specs.Run.{RunsAllMarked, couriers_of}
 use Rattle.marked_workers.specs.Senders.{AreSenders, after_all}
 use Rattle.marked_workers.specs.Story.{RunsMarked}
-use Rattle.marked_workers.specs.Thread.{HasRun}
+use Rattle.marked_workers.specs.Thread.{RunsAllWindows}
 use Rattle.marked_workers.proofs.Bounds.{are_windows}
 use Rattle.marked_workers.proofs.Ends.{ends}
 
@@ -41,35 +41,35 @@ of_others : (workers worker : ℕ) (sender : ℕ → Option SenderView) (made : 
 of_others workers worker sender made senders h = record { numbered = h.numbered; made_is = h.made_is; others = h.others; of_worker = h.of_worker; worker_of = h.worker_of }
 
 module _ (n : NetTold) (of : List ℕ) (width windows : ℕ) (inboxes : List InboxId) where
-  all_stay : (xs ys : List MarkWorker) → AllZip (HasRun n of width windows inboxes) xs ys → AllZip Stays (map courier_of xs) (map courier_of ys)
+  all_stay : (xs ys : List Worker) → AllZip (RunsAllWindows n of width windows inboxes) xs ys → AllZip Stays (couriers_of xs) (couriers_of ys)
   all_stay [] [] h = tt
   all_stay [] (y ∷ ys) h = h
   all_stay (x ∷ xs) [] h = h
   all_stay (x ∷ xs) (y ∷ ys) h = (h.0.stays, all_stay xs ys h.1)
 
-  pub all_seated : (xs ys : List MarkWorker) → AllZip (HasRun n of width windows inboxes) xs ys → Each (IsSeated inboxes) (map courier_of ys)
+  pub all_seated : (xs ys : List Worker) → AllZip (RunsAllWindows n of width windows inboxes) xs ys → Each (IsSeated inboxes) (couriers_of ys)
   all_seated [] [] h = tt
   all_seated [] (y ∷ ys) h = absurd h
   all_seated (x ∷ xs) [] h = tt
   all_seated (x ∷ xs) (y ∷ ys) h = (h.0.seated, all_seated xs ys h.1)
 
   -- the couriers are back, each that of its worker
-  pub all_back : (xs ys : List MarkWorker) → Together inboxes (map courier_of xs) → AllZip (HasRun n of width windows inboxes) xs ys
-      → map (λ (c : Courier). c.worker) (map courier_of ys) ≡ range_with_len 0 (length inboxes)
-  all_back xs ys together ran = same_workers (map courier_of xs) (map courier_of ys) (all_stay xs ys ran) ∙ together.workers
+  pub all_back : (xs ys : List Worker) → Together inboxes (couriers_of xs) → AllZip (RunsAllWindows n of width windows inboxes) xs ys
+      → map (λ (c : Courier). c.worker) (couriers_of ys) ≡ range_with_len 0 (length inboxes)
+  all_back xs ys together ran = same_workers (couriers_of xs) (couriers_of ys) (all_stay xs ys ran) ∙ together.workers
 
-module _ (n : NetTold) (of : List ℕ) (width : ℕ) (old new : Crew) (cut : IsCut (length n.motes) (length new.inboxes.items) of) (ran : RunsAllMarked n of width old new) where
+module _ (n : NetTold) (of : List ℕ) (width : ℕ) (old new : Workers) (cut : IsCut (length n.motes) (length new.inboxes.items) of) (ran : RunsAllMarked n of width old new) where
   abbrev ids : List InboxId
   ids = new.inboxes.items
 
   abbrev set_out : List Courier
-  set_out = map courier_of ran.first
+  set_out = couriers_of ran.first
 
   abbrev back : List Courier
-  back = map courier_of ran.done
+  back = couriers_of ran.done
 
   first_long : length ran.first ≡ length ids
-  first_long = sym (length-map ran.first courier_of) ∙ (sym (length-map set_out (λ (c : Courier). c.worker)) ∙ (ap length ran.together.workers ∙ length-range_with_len 0 (length ids)))
+  first_long = sym (length-map ran.first (λ (x : Worker). x.courier)) ∙ (sym (length-map set_out (λ (c : Courier). c.worker)) ∙ (ap length ran.together.workers ∙ length-range_with_len 0 (length ids)))
 
   done_long : length ran.done ≡ length ids
   done_long = as_long _ ran.first ran.done ran.ran ∙ first_long
@@ -81,64 +81,64 @@ module _ (n : NetTold) (of : List ℕ) (width : ℕ) (old new : Crew) (cut : IsC
   seated = all_seated n of width (windows_of width n.end) ids ran.first ran.done ran.ran
 
   -- one worker, its number, and its taker
-  module _ (v : ℕ) (low : v < length ids) (w : MarkWorker) (at_first : slice_get ran.first v ≡ Some w) (d : MarkWorker) (at_done : slice_get ran.done v ≡ Some d)
-      (has_run : HasRun n of width (windows_of width n.end) ids w d) (t : TakerView) (at_taker : slice_get new.takers.items v ≡ Some t) where
-    its : w.carries.courier.worker ≡ v
-    its = numbered (length ids) set_out ran.together.workers v low w.carries.courier (mapped courier_of ran.first v w at_first)
+  module _ (v : ℕ) (low : v < length ids) (w : Worker) (at_first : slice_get ran.first v ≡ Some w) (d : Worker) (at_done : slice_get ran.done v ≡ Some d)
+      (has_run : RunsAllWindows n of width (windows_of width n.end) ids w d) (t : TakerView) (at_taker : slice_get new.takers.items v ≡ Some t) where
+    its : w.courier.worker ≡ v
+    its = numbered (length ids) set_out ran.together.workers v low w.courier (mapped (λ (x : Worker). x.courier) ran.first v w at_first)
 
-    at_back : slice_get back v ≡ Some d.carries.courier
-    at_back = mapped courier_of ran.done v d at_done
+    at_back : slice_get back v ≡ Some d.courier
+    at_back = mapped (λ (x : Worker). x.courier) ran.done v d at_done
 
-    taker_is : t ≡ after_all d.carries.courier.taker (senders_to back v)
-    taker_is = ran.back.taker v d.carries.courier t at_back at_taker ∙ same_after d.carries.courier.taker (senders_to back v)
+    taker_is : t ≡ after_all d.courier.taker (senders_to back v)
+    taker_is = ran.back.taker v d.courier t at_back at_taker ∙ same_after d.courier.taker (senders_to back v)
 
-    taker_inbox : t.inbox ≡ d.carries.courier.taker.inbox
-    taker_inbox = ap (λ (x : TakerView). x.inbox) (ran.back.taker v d.carries.courier t at_back at_taker ∙ gather_is d.carries.courier.taker (senders_to back v))
+    taker_inbox : t.inbox ≡ d.courier.taker.inbox
+    taker_inbox = ap (λ (x : TakerView). x.inbox) (ran.back.taker v d.courier t at_back at_taker ∙ gather_is d.courier.taker (senders_to back v))
 
-    its_inbox : slice_get ids v ≡ Some d.carries.courier.taker.inbox
-    its_inbox = subst (λ k. slice_get ids k ≡ Some d.carries.courier.taker.inbox) (has_run.stays.worker ∙ its) has_run.seated.taker
+    its_inbox : slice_get ids v ≡ Some d.courier.taker.inbox
+    its_inbox = subst (λ k. slice_get ids k ≡ Some d.courier.taker.inbox) (has_run.stays.worker ∙ its) has_run.seated.taker
 
-    pushed_same : (u : ℕ) → pushed_to d.carries.courier u ≡ pushed_list (sender_of back u v)
-    pushed_same u = ap pushed_list (sym (sender_is back u v d.carries.courier at_back))
+    pushed_same : (u : ℕ) → pushed_to d.courier u ≡ pushed_list (sender_of back u v)
+    pushed_same u = ap pushed_list (sym (sender_is back u v d.courier at_back))
 
-    promise : RunsMarked n of width (windows_of width n.end) (length ids) v d.share d.carries.courier.taker.desk (λ u. pushed_list (sender_of back u v))
-    promise = subst (λ k. RunsMarked n of width (windows_of width n.end) (length ids) k d.share d.carries.courier.taker.desk (λ u. pushed_list (sender_of back u v))) its
-        (subst (λ (p : ℕ → List Carried). RunsMarked n of width (windows_of width n.end) (length ids) w.carries.courier.worker d.share d.carries.courier.taker.desk p) (λ i u. pushed_same u i) has_run.promise)
+    promise : RunsMarked n of width (windows_of width n.end) (length ids) v d.share d.courier.taker.desk (λ u. pushed_list (sender_of back u v))
+    promise = subst (λ k. RunsMarked n of width (windows_of width n.end) (length ids) k d.share d.courier.taker.desk (λ u. pushed_list (sender_of back u v))) its
+        (subst (λ (p : ℕ → List Carried). RunsMarked n of width (windows_of width n.end) (length ids) w.courier.worker d.share d.courier.taker.desk p) (λ i u. pushed_same u i) has_run.promise)
 
     pub one_ends : EndsMarked n of width (windows_of width n.end) (length ids) (sender_of back) v d.share t
     one_ends = record {
-      before = d.carries.courier.taker;
+      before = d.courier.taker;
       promise = promise;
       senders = senders_to back v;
-      are_senders = of_others (length ids) v (sender_of back v) d.carries.courier.taker.desk.made (senders_to back v) (are_senders ids set_out back ran.together ran.none_gathered stays seated v d.carries.courier at_back);
-      begun = every_weaker (λ (s : SenderView). TellsOf d.carries.courier.taker.desk s.post) (λ (s : SenderView). BeginsWith s.post.pushed (part s.post.number d.carries.courier.taker.desk.taken)) (λ s h. h.begun) (senders_to back v) (ran.back.told v d.carries.courier at_back);
+      are_senders = of_others (length ids) v (sender_of back v) d.courier.taker.desk.made (senders_to back v) (are_senders ids set_out back ran.together ran.none_gathered stays seated v d.courier at_back);
+      begun = every_weaker (λ (s : SenderView). TellsOf d.courier.taker.desk s.post) (λ (s : SenderView). BeginsWith s.post.pushed (part s.post.number d.courier.taker.desk.taken)) (λ s h. h.begun) (senders_to back v) (ran.back.told v d.courier at_back);
       gathered = taker_is;
     }
 
   takers_long : length new.takers.items ≡ length ids
-  takers_long = ran.back.count ∙ (length-map ran.done courier_of ∙ done_long)
+  takers_long = ran.back.count ∙ (length-map ran.done (λ (x : Worker). x.courier) ∙ done_long)
 
   -- what stands at a worker's place
   pub record Stands (v : ℕ) : Type 0 where
-    pub w : MarkWorker
+    pub w : Worker
     pub at_first : slice_get ran.first v ≡ Some w
-    pub d : MarkWorker
+    pub d : Worker
     pub at_done : slice_get ran.done v ≡ Some d
-    pub has_run : HasRun n of width (windows_of width n.end) ids w d
+    pub has_run : RunsAllWindows n of width (windows_of width n.end) ids w d
     pub t : TakerView
     pub at_taker : slice_get new.takers.items v ≡ Some t
 
   stands : (v : ℕ) → v < length ids → Stands v
   stands v low =
       let w = there ran.first v (subst (λ l. v < l) (sym first_long) low) in
-      let d = beside (HasRun n of width (windows_of width n.end) ids) ran.first ran.done ran.ran v w.0 w.1 in
+      let d = beside (RunsAllWindows n of width (windows_of width n.end) ids) ran.first ran.done ran.ran v w.0 w.1 in
       let t = there new.takers.items v (subst (λ l. v < l) (sym takers_long) low) in
       record { w = w.0; at_first = w.1; d = d.0; at_done = d.1; has_run = d.2; t = t.0; at_taker = t.1 }
 
   each_ends : (v : ℕ) → v < length ids → (share : Share) (taker : TakerView) → EndsMarked n of width (windows_of width n.end) (length ids) (sender_of back) v (get_or new.shares.items v share) (get_or new.takers.items v taker)
   each_ends v low share taker =
       let s = stands v low in
-      let at_share : slice_get new.shares.items v ≡ Some s.d.share = ap (λ l. slice_get l v) ran.shares ∙ mapped (λ (w : MarkWorker). w.share) ran.done v s.d s.at_done in
+      let at_share : slice_get new.shares.items v ≡ Some s.d.share = ap (λ l. slice_get l v) ran.shares ∙ mapped (λ (w : Worker). w.share) ran.done v s.d s.at_done in
       subst (λ x. EndsMarked n of width (windows_of width n.end) (length ids) (sender_of back) v x (get_or new.takers.items v taker)) (sym (read new.shares.items v s.d.share share at_share))
       (subst (λ x. EndsMarked n of width (windows_of width n.end) (length ids) (sender_of back) v s.d.share x) (sym (read new.takers.items v s.t taker s.at_taker))
       (one_ends v low s.w s.at_first s.d s.at_done s.has_run s.t s.at_taker))
@@ -148,12 +148,12 @@ module _ (n : NetTold) (of : List ℕ) (width : ℕ) (old new : Crew) (cut : IsC
       let s = stands v low in
       ap (λ (x : TakerView). x.inbox) (read new.takers.items v s.t taker s.at_taker)
       ∙ (taker_inbox v low s.w s.at_first s.d s.at_done s.has_run s.t s.at_taker
-      ∙ sym (read ids v s.d.carries.courier.taker.inbox id (its_inbox v low s.w s.at_first s.d s.at_done s.has_run s.t s.at_taker)))
+      ∙ sym (read ids v s.d.courier.taker.inbox id (its_inbox v low s.w s.at_first s.d s.at_done s.has_run s.t s.at_taker)))
 
   pub ends_marked : EndAllMarked n of width (windows_of width n.end) new
   ends_marked = record {
     cut = cut;
-    shares = ap length ran.shares ∙ (length-map ran.done (λ (w : MarkWorker). w.share) ∙ done_long);
+    shares = ap length ran.shares ∙ (length-map ran.done (λ (w : Worker). w.share) ∙ done_long);
     takers = takers_long;
     its = each_its;
     first_out = ran.first_out;
@@ -163,7 +163,7 @@ module _ (n : NetTold) (of : List ℕ) (width : ℕ) (old new : Crew) (cut : IsC
 
 -- all workers stand at the end, where no window was longer than the lookahead
 pub ended : (n : NetTold) → RunsForward (system_of n) → (of : List ℕ) (width : ℕ) → 0 < width → width ≤ (system_of n).lookahead
-    → (old new : Crew) → IsCut (length n.motes) (length old.inboxes.items) of → RunsAllMarked n of width old new → IsAt n of (suc n.end) new × Each (λ (t : TakerView). Whole t.desk.gathered t.desk.taken) new.takers.items
+    → (old new : Workers) → IsCut (length n.motes) (length old.inboxes.items) of → RunsAllMarked n of width old new → IsAt n of (suc n.end) new × Each (λ (t : TakerView). Whole t.desk.gathered t.desk.taken) new.takers.items
 ended n fine of width wide short old new cut ran =
     let cut_now : IsCut (length n.motes) (length new.inboxes.items) of = subst (λ (l : List InboxId). IsCut (length n.motes) (length l) of) (sym ran.inboxes) cut in
     ends n fine of width (windows_of width n.end) short (are_windows width n.end wide) new (ends_marked n of width old new cut_now ran)

@@ -12,9 +12,9 @@ use Rattle.copy_inbox.specs.Items.{copies_of, part}
 use Rattle.copy_exchange.proofs.Parts.{from}
 use Rattle.mark_exchange.specs.Pushes.{packets_in, sent_before}
 use Rattle.mark_exchange.proofs.Early.{early_is_unseen}
-use Rattle.joined_workers.specs.Worker.{IsCut}
-use Rattle.joined_workers.proofs.Lookups.{each_at}
-use Rattle.joined_workers.proofs.Step.{own_by}
+use Rattle.all_workers.specs.Workers.{IsCut}
+use Rattle.all_workers.proofs.Lookups.{each_at}
+use Rattle.all_workers.proofs.Step.{own_by}
 use Rattle.marked_workers.specs.Bounds.{bound, AreWindows}
 use Rattle.marked_workers.specs.All.{AllRan}
 use Rattle.marked_workers.proofs.Bounds.{no_sooner}

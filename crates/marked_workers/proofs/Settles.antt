@@ -20,8 +20,8 @@ use Rattle.copy_exchange.proofs.Parts.{from}
 use Rattle.mark_exchange.specs.Pushes.{packets_in, pushes, marks_in}
 use Rattle.mark_exchange.proofs.Early.{packets_pushes}
 use Rattle.mark_exchange.proofs.Whole.{all_is_taken}
-use Rattle.joined_workers.specs.Worker.{IsCut}
-use Rattle.joined_workers.proofs.Lookups.{each_at, each_from}
+use Rattle.all_workers.specs.Workers.{IsCut}
+use Rattle.all_workers.proofs.Lookups.{each_at, each_from}
 use Rattle.marked_workers.specs.Senders.{AreSenders, after_all}
 use Rattle.marked_workers.specs.All.{AllRan}
 use Rattle.marked_workers.proofs.Lists.{none_before}

@@ -15,11 +15,11 @@ use Rattle.copy_exchange.proofs.Parts.{from, from-append}
 use Rattle.mark_exchange.specs.Pushes.{sent_before}
 use Rattle.worker_window.specs.Share.{Motes}
 use Rattle.worker_window.specs.Window.{RunsOwn, copies_out}
-use Rattle.joined_workers.specs.Worker.{IsCut}
-use Rattle.joined_workers.proofs.Lookups.{each_at}
-use Rattle.joined_workers.proofs.Same.{own_copies_same}
-use Rattle.joined_workers.proofs.Starts.{none_crossed}
-use Rattle.joined_workers.proofs.Step.{own_of, led_next, told_next}
+use Rattle.all_workers.specs.Workers.{IsCut}
+use Rattle.all_workers.proofs.Lookups.{each_at}
+use Rattle.all_workers.proofs.Same.{own_copies_same}
+use Rattle.all_workers.proofs.Starts.{none_crossed}
+use Rattle.all_workers.proofs.Step.{own_of, led_next, told_next}
 use Rattle.marked_workers.specs.Bounds.{bound, AreWindows}
 use Rattle.marked_workers.specs.All.{AllRan}
 use Rattle.marked_workers.proofs.Bounds.{at_first, begins_before, no_wider}

@@ -17,17 +17,21 @@ use Rattle.copy_inbox.proofs.Parts.{part-append, part-else}
 use Rattle.copy_exchange.specs.Couriers.{IsSeated, Reaches, Stays, pushed_list, pushed_to}
 use Rattle.copy_exchange.proofs.Delivered.{stays_on}
 use Rattle.copy_exchange.proofs.Marked.{marks_stay, stays_same}
+use Rattle.copy_exchange.specs.declared.courier.Courier.{Courier}
+use Rattle.mark_exchange.specs.declared.courier.MarkCourier.{MarkCourier}
+use Rattle.mark_exchange.specs.Marks.{Counts}
 use Rattle.mark_exchange.specs.Pushes.{marks_in}
 use Rattle.mark_exchange.specs.Due.{IsDue}
 use Rattle.mark_exchange.proofs.Delivered.{takes_stays, takes_seated}
 use Rattle.worker_window.specs.Share.{Keeps}
 use Rattle.worker_window.specs.Window.{CanRun, ComesIn, GoesOut, RunsWindow}
-use Rattle.joined_workers.specs.Worker.{IsCut}
-use Rattle.joined_workers.proofs.Working.{leaves_sent}
+use Rattle.all_workers.specs.Workers.{IsCut}
+use Rattle.all_workers.proofs.Sent.{leaves_sent}
+use Rattle.all_workers.specs.declared.worker.Worker.{Worker}
 use Rattle.marked_workers.specs.declared.worker.MarkWorker.{MarkWorker}
 use Rattle.marked_workers.specs.Bounds.{bound, windows_of, AreWindows}
 use Rattle.marked_workers.specs.Story.{RunsMarked}
-use Rattle.marked_workers.specs.Thread.{IsManned, SendsWindow, TakesWindow, HasRun}
+use Rattle.marked_workers.specs.Thread.{IsFirst, IsManned, IsSame, SendsWindow, TakesWindow, HasRun, RunsAllWindows}
 use Rattle.marked_workers.proofs.Bounds.{are_windows, begins_before, no_wider}
 use Rattle.marked_workers.proofs.Promise.{promise_first, promise_next}
 
@@ -47,6 +51,32 @@ of_made_more made xs ys h more s le = part-append s xs ys ∙ (ap (λ l. l ++ pa
 
 due_comes : (of : List ℕ) (worker from : ℕ) (copies : List RadioCopy) → Each (IsDue of worker from) copies → Each (ComesIn of worker from) copies
 due_comes of worker from copies h = every_weaker _ _ (λ c d. record { to = d.to; sender = d.sender; later = d.later }) copies h
+
+-- a worker before its first window, with its counts of marks
+pub manned : (n : NetTold) (of : List ℕ) (inboxes : List InboxId) (w : Worker) (m : MarkCourier) → IsFirst n of inboxes w → m.courier ≡ w.courier
+    → Counts m.marks.items w.courier.taker.desk → IsManned n of inboxes (record { share = w.share; carries = m })
+manned n of inboxes w m first same counts =
+    subst (λ (x : Courier). IsManned n of inboxes (record { share = w.share; carries = record m { courier = x } })) (sym same) (record {
+      cut = first.cut;
+      keeps = first.keeps;
+      seated = first.seated;
+      marked = first.marked;
+      counts = counts;
+      none_taken = first.none_taken;
+      none_gathered = first.none_gathered;
+      none_pushed = first.none_pushed;
+    })
+
+-- and behind all its windows, without them
+pub told_of : (n : NetTold) (of : List ℕ) (width windows : ℕ) (inboxes : List InboxId) (w d : Worker) (m e : MarkWorker) → IsSame w m → IsSame d e
+    → HasRun n of width windows inboxes m e → RunsAllWindows n of width windows inboxes w d
+told_of n of width windows inboxes w d m e before after ran = record {
+  stays = subst (λ x. Stays x d.courier) before.courier (subst (Stays m.carries.courier) after.courier ran.stays);
+  promise = subst (λ (x : Courier). RunsMarked n of width windows (length inboxes) x.worker d.share d.courier.taker.desk (pushed_to d.courier)) before.courier
+      (subst (λ (x : Courier). RunsMarked n of width windows (length inboxes) m.carries.courier.worker d.share x.taker.desk (pushed_to x)) after.courier
+      (subst (λ s. RunsMarked n of width windows (length inboxes) m.carries.courier.worker s e.carries.courier.taker.desk (pushed_to e.carries.courier)) after.share ran.promise));
+  seated = subst (IsSeated inboxes) after.courier ran.seated;
+}
 
 -- before its first window
 pub no_window : (n : NetTold) (of : List ℕ) (width : ℕ) (inboxes : List InboxId) (w : MarkWorker) → IsManned n of inboxes w → HasRun n of width 0 inboxes w w

@@ -17,6 +17,8 @@ pub record AllRan (n : NetTold) (of : List ℕ) (width windows workers : ℕ) : 
   pub sender : (inbox worker : ℕ) → Option SenderView
   pub senders : (inbox : ℕ) → List SenderView
   pub story : ℕ → Story
-  pub ran : (v : ℕ) → v < workers → RunsWindows n of width windows workers v (made v) (taken v) (λ u. pushed_list (sender u v)) (story v)
+  pub ran : (v : ℕ) → v < workers
+      → RunsWindows n of width windows workers v (made v) (taken v) (λ u. pushed_list (sender u v)) (story v)
   pub are_senders : (u : ℕ) → u < workers → AreSenders workers u (sender u) (made u) (senders u)
-  pub begun : (u : ℕ) → u < workers → Each (λ (s : SenderView). BeginsWith s.post.pushed (part s.post.number (taken u))) (senders u)
+  pub begun : (u : ℕ) → u < workers
+      → Each (λ (s : SenderView). BeginsWith s.post.pushed (part s.post.number (taken u))) (senders u)

@@ -8,9 +8,9 @@ use Rattle.copy_inbox.specs.Gathered.{Whole}
 use Rattle.copy_inbox.specs.Items.{part, BeginsWith}
 use Rattle.copy_inbox.specs.Handles.{InboxId, TakerView, SenderView}
 use Rattle.worker_window.specs.declared.share.Share.{Share}
-use Rattle.joined_workers.specs.declared.crew.Crew.{Crew}
-use Rattle.joined_workers.specs.Crew.{IsAt}
-use Rattle.joined_workers.specs.Worker.{IsCut}
+use Rattle.all_workers.specs.declared.workers.Workers.{Workers}
+use Rattle.all_workers.specs.Workers.{IsAt}
+use Rattle.all_workers.specs.Workers.{IsCut}
 use Rattle.marked_workers.specs.Bounds.{AreWindows}
 use Rattle.copy_exchange.specs.Couriers.{pushed_list}
 use Rattle.marked_workers.specs.Senders.{AreSenders, after_all}
@@ -19,7 +19,8 @@ use Rattle.marked_workers.specs.Story.{RunsMarked}
 -- One worker when all threads are joined: it ran all windows as it promised, and then gathered the senders on its
 -- inbox, of each of which it had taken a beginning of what was pushed. `sender inbox worker` is the sender of a
 -- worker on an inbox.
-pub record EndsMarked (n : NetTold) (of : List ℕ) (width windows workers : ℕ) (sender : (inbox worker : ℕ) → Option SenderView) (worker : ℕ) (share : Share) (taker : TakerView) : Type 0 where
+pub record EndsMarked (n : NetTold) (of : List ℕ) (width windows workers : ℕ)
+    (sender : (inbox worker : ℕ) → Option SenderView) (worker : ℕ) (share : Share) (taker : TakerView) : Type 0 where
   pub before : TakerView
   pub promise : RunsMarked n of width windows workers worker share before.desk (λ v. pushed_list (sender v worker))
   pub senders : List SenderView
@@ -28,19 +29,22 @@ pub record EndsMarked (n : NetTold) (of : List ℕ) (width windows workers : ℕ
   pub gathered : taker ≡ after_all before senders
 
 -- all workers
-pub record EndAllMarked (n : NetTold) (of : List ℕ) (width windows : ℕ) (crew : Crew) : Type 0 where
+pub record EndAllMarked (n : NetTold) (of : List ℕ) (width windows : ℕ) (crew : Workers) : Type 0 where
   pub cut : IsCut (length n.motes) (length crew.inboxes.items) of
   pub shares : length crew.shares.items ≡ length crew.inboxes.items
   pub takers : length crew.takers.items ≡ length crew.inboxes.items
-  pub its : (worker : ℕ) (id : InboxId) (taker : TakerView) → worker < length crew.inboxes.items → (slice_index_or crew.takers.items worker taker).inbox ≡ slice_index_or crew.inboxes.items worker id
+  pub its : (worker : ℕ) (id : InboxId) (taker : TakerView) → worker < length crew.inboxes.items
+      → (slice_index_or crew.takers.items worker taker).inbox ≡ slice_index_or crew.inboxes.items worker id
   pub first_out : crew.first_out ≡ None
   pub sender : (inbox worker : ℕ) → Option SenderView
   pub each : (worker : ℕ) → worker < length crew.inboxes.items → (share : Share) (taker : TakerView)
-      → EndsMarked n of width windows (length crew.inboxes.items) sender worker (slice_index_or crew.shares.items worker share) (slice_index_or crew.takers.items worker taker)
+      → EndsMarked n of width windows (length crew.inboxes.items) sender worker
+      (slice_index_or crew.shares.items worker share) (slice_index_or crew.takers.items worker taker)
 
 -- However the threads took turns, all workers stand at the end, as if all copies had changed hands between the
 -- windows, and each has taken all that was pushed to it, every mark too.
 abbrev pub MarkedWindowsLeadToTheEnd : Type 0
-MarkedWindowsLeadToTheEnd = (n : NetTold) → RunsForward (system_of n) → (of : List ℕ) (width windows : ℕ) → width ≤ (system_of n).lookahead → AreWindows width n.end windows
-    → (crew : Crew) → EndAllMarked n of width windows crew
+MarkedWindowsLeadToTheEnd = (n : NetTold) → RunsForward (system_of n) → (of : List ℕ) (width windows : ℕ)
+    → width ≤ (system_of n).lookahead → AreWindows width n.end windows
+    → (crew : Workers) → EndAllMarked n of width windows crew
     → IsAt n of (suc n.end) crew × Each (λ (t : TakerView). Whole t.desk.gathered t.desk.taken) crew.takers.items

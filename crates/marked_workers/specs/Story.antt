@@ -24,28 +24,34 @@ pub record Story : Type 0 where
   pub sent : ℕ → List RadioCopy
 
 -- one window of the worker's motes, on the copies that it had taken by then
-pub record RunsMotes (n : NetTold) (of : List ℕ) (worker from until : ℕ) (motes next : Motes) (taken sent : List RadioCopy) : Type 0 where
+pub record RunsMotes (n : NetTold) (of : List ℕ) (worker from until : ℕ) (motes next : Motes)
+    (taken sent : List RadioCopy) : Type 0 where
   pub runs : (k : ℕ) → is_own of worker k ≡ true → RunsOwn n (is_own of worker) from until motes next taken k
-  pub out : (s : ℕ) → copies_out n (is_own of worker) next s ≡ copies_out n (is_own of worker) motes s ++ filter (is_from_sender s) sent
+  pub out : (s : ℕ) → copies_out n (is_own of worker) next s
+      ≡ copies_out n (is_own of worker) motes s ++ filter (is_from_sender s) sent
   pub goes : Each (GoesOut n of worker) sent
   pub late : Each (λ (copy : RadioCopy). until ≤ copy.at) sent
 
 -- So many windows of one worker, from the first moment on. Before each window it had taken, of each sender that was
 -- made on its inbox, the marks of all windows before. What it pushed to another worker is, window by window, the
 -- copies for that worker's motes and then the mark.
-pub record RunsWindows (n : NetTold) (of : List ℕ) (width windows workers worker made : ℕ) (taken : List Item) (pushed : ℕ → List Carried) (story : Story) : Type 0 where
+pub record RunsWindows (n : NetTold) (of : List ℕ) (width windows workers worker made : ℕ) (taken : List Item)
+    (pushed : ℕ → List Carried) (story : Story) : Type 0 where
   pub first : story.motes 0 ≡ first_mote (system_of n)
   pub nothing : story.taken 0 ≡ []
   pub all : story.taken windows ≡ taken
   pub goes_on : (k : ℕ) → k < windows → (more : List Item) × (story.taken (suc k) ≡ story.taken k ++ more)
   pub marks_lead : (k : ℕ) → k ≤ windows → (sender : ℕ) → sender < made → k ≤ marks_in (part sender (story.taken k))
   pub of_made : OfMade made taken
-  pub runs : (k : ℕ) → k < windows → RunsMotes n of worker (bound width n.end k) (bound width n.end (suc k)) (story.motes k) (story.motes (suc k)) (copies_of (story.taken k)) (story.sent k)
-  pub pushes_then : (v : ℕ) → v < workers → v ≢ worker → pushed v ≡ pushes windows (λ k. filter (is_to of v) (story.sent k))
+  pub runs : (k : ℕ) → k < windows → RunsMotes n of worker (bound width n.end k) (bound width n.end (suc k))
+      (story.motes k) (story.motes (suc k)) (copies_of (story.taken k)) (story.sent k)
+  pub pushes_then : (v : ℕ) → v < workers → v ≢ worker
+      → pushed v ≡ pushes windows (λ k. filter (is_to of v) (story.sent k))
 
 -- The promise: there were such windows, and the share keeps the motes at their end. The taker has taken all this, and
 -- gathered nobody.
-pub record RunsMarked (n : NetTold) (of : List ℕ) (width windows workers worker : ℕ) (share : Share) (desk : Desk) (pushed : ℕ → List Carried) : Type 0 where
+pub record RunsMarked (n : NetTold) (of : List ℕ) (width windows workers worker : ℕ) (share : Share) (desk : Desk)
+    (pushed : ℕ → List Carried) : Type 0 where
   pub story : Story
   pub ran : RunsWindows n of width windows workers worker desk.made desk.taken pushed story
   pub keeps : Keeps n of worker (bound width n.end windows) (story.motes windows) (copies_of desk.taken) share

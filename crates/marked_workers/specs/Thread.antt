@@ -1,5 +1,5 @@
 -- What a worker's thread makes of its worker: in each window, and in all of them.
-use Rattle.std.specs.Prelude.{ℕ, ◌≡◌, ◌+◌, ◌≤◌, List, [], ◌++◌, length}
+use Rattle.std.specs.Prelude.{ℕ, ◌≡◌, suc, ◌+◌, ◌≤◌, List, [], ◌++◌, length}
 use Rattle.std.specs.List.{AllByRecursion as Each}
 use Rattle.radio_packet.specs.declared.copy.RadioCopy.{RadioCopy}
 use Rattle.mote_net.specs.Net.{NetTold}
@@ -12,11 +12,29 @@ use Rattle.mark_exchange.specs.Due.{TakesDue}
 use Rattle.mark_exchange.specs.Marks.{AllPast, Counts}
 use Rattle.worker_window.specs.Share.{Keeps, Motes}
 use Rattle.worker_window.specs.Window.{ComesIn, GoesOut, RunsWindow}
-use Rattle.joined_workers.specs.Worker.{IsCut}
+use Rattle.all_workers.specs.Workers.{IsCut}
+use Rattle.all_workers.specs.declared.worker.Worker.{Worker}
 use Rattle.marked_workers.specs.declared.worker.MarkWorker.{MarkWorker}
 use Rattle.marked_workers.specs.Story.{RunsMarked}
 
--- a worker before its first window
+-- A worker before its first window: its share is as it began, on its inbox a sender of each other worker was made, and
+-- nothing was pushed or taken.
+pub record IsFirst (n : NetTold) (of : List ℕ) (inboxes : List InboxId) (w : Worker) : Type 0 where
+  pub cut : IsCut (length n.motes) (length inboxes) of
+  pub keeps : Keeps n of w.courier.worker 0 (first_mote (system_of n)) [] w.share
+  pub seated : IsSeated inboxes w.courier
+  pub marked : HasMarks w.courier
+  pub made : suc w.courier.taker.desk.made ≡ length inboxes
+  pub none_taken : w.courier.taker.desk.taken ≡ []
+  pub none_gathered : w.courier.taker.desk.gathered ≡ []
+  pub none_pushed : HasPushedNothing w.courier
+
+-- the same worker, with counts of marks
+pub record IsSame (w : Worker) (m : MarkWorker) : Type 0 where
+  pub share : m.share ≡ w.share
+  pub courier : m.carries.courier ≡ w.courier
+
+-- a worker in its thread before its first window
 pub record IsManned (n : NetTold) (of : List ℕ) (inboxes : List InboxId) (w : MarkWorker) : Type 0 where
   pub cut : IsCut (length n.motes) (length inboxes) of
   pub keeps : Keeps n of w.carries.courier.worker 0 (first_mote (system_of n)) [] w.share
@@ -31,7 +49,8 @@ pub record IsManned (n : NetTold) (of : List ℕ) (inboxes : List InboxId) (w : 
 pub record SendsWindow (n : NetTold) (of : List ℕ) (workers window until : ℕ) (old new : MarkWorker) : Type 0 where
   pub sent : List RadioCopy
   pub runs : (worker from : ℕ) (motes : Motes) (taken : List RadioCopy) → Keeps n of worker from motes taken old.share
-      → from ≤ until → until ≤ from + (system_of n).lookahead → RunsWindow n of worker from until motes taken new.share sent
+      → from ≤ until → until ≤ from + (system_of n).lookahead
+      → RunsWindow n of worker from until motes taken new.share sent
   pub out : Each (GoesOut n of old.share.worker) sent
   pub pushes : PushesWindow of workers window old.carries.courier new.carries.courier sent
   pub marks : new.carries.marks ≡ old.carries.marks
@@ -44,13 +63,24 @@ pub record TakesWindow (of : List ℕ) (window until : ℕ) (old new : MarkWorke
   pub past : AllPast window new.carries.marks.items
   pub worker : new.carries.courier.worker ≡ old.carries.courier.worker
   pub senders : new.carries.courier.senders ≡ old.carries.courier.senders
-  pub keeps : (n : NetTold) (whose : List ℕ) (worker from : ℕ) (motes : Motes) (taken : List RadioCopy) → Keeps n whose worker from motes taken old.share
+  pub keeps : (n : NetTold) (whose : List ℕ) (worker from : ℕ) (motes : Motes) (taken : List RadioCopy)
+      → Keeps n whose worker from motes taken old.share
       → Each (ComesIn whose worker from) arrived → Keeps n whose worker from motes (taken ++ arrived) new.share
 
 -- a worker, since its first window, behind so many windows
-pub record HasRun (n : NetTold) (of : List ℕ) (width windows : ℕ) (inboxes : List InboxId) (first now : MarkWorker) : Type 0 where
+pub record HasRun (n : NetTold) (of : List ℕ) (width windows : ℕ) (inboxes : List InboxId)
+    (first now : MarkWorker) : Type 0 where
   pub stays : Stays first.carries.courier now.carries.courier
-  pub promise : RunsMarked n of width windows (length inboxes) first.carries.courier.worker now.share now.carries.courier.taker.desk (pushed_to now.carries.courier)
+  pub promise : RunsMarked n of width windows (length inboxes) first.carries.courier.worker now.share
+      now.carries.courier.taker.desk (pushed_to now.carries.courier)
   pub seated : IsSeated inboxes now.carries.courier
   pub marked : HasMarks now.carries.courier
   pub counts : Counts now.carries.marks.items now.carries.courier.taker.desk
+
+-- all that a worker's thread does: it ran so many windows
+pub record RunsAllWindows (n : NetTold) (of : List ℕ) (width windows : ℕ) (inboxes : List InboxId)
+    (first now : Worker) : Type 0 where
+  pub stays : Stays first.courier now.courier
+  pub promise : RunsMarked n of width windows (length inboxes) first.courier.worker now.share
+      now.courier.taker.desk (pushed_to now.courier)
+  pub seated : IsSeated inboxes now.courier

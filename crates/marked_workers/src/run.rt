@@ -1,7 +1,7 @@
 //! The run of all workers, each in one thread from its first window to its last.
 
 ghost use Rattle.std.specs.Prelude.{◌≡◌, ◌<◌, ◌≤◌, suc, true, length, map, IfErr, IfOk};
-ghost use Rattle.std.specs.List.{AllByRecursion as Each, AllZip, range_with_len, zip};
+ghost use Rattle.std.specs.List.{AllByRecursion as Each, AllZip, range_with_len};
 ghost use Rattle.fork_join.specs.declared.work.Refused.TheVariants.{Memory};
 ghost use Rattle.mote_net.specs.Net.{net_of};
 ghost use Rattle.net_agenda.specs.NetSystem.{system_of};
@@ -9,21 +9,20 @@ ghost use Rattle.copy_inbox.specs.Gathered.{Whole};
 ghost use Rattle.copy_exchange.specs.Couriers.{IsSeated};
 ghost use Rattle.copy_exchange.specs.Inboxes.{IsFresh};
 ghost use Rattle.copy_exchange.specs.Steps.{GathersBack};
-ghost use Rattle.joined_workers.specs.Crew.{IsAt};
-ghost use Rattle.joined_workers.specs.Run.{length_of_window};
-ghost use Rattle.joined_workers.specs.Start.{AreFirst};
-ghost use Rattle.joined_workers.specs.Worker.{IsCut};
+ghost use Rattle.all_workers.specs.Workers.{IsAt};
+ghost use Rattle.all_workers.specs.WindowLength.{length_of_window};
+ghost use Rattle.all_workers.specs.Start.{AreFirst};
+ghost use Rattle.all_workers.specs.Workers.{IsCut};
 ghost use Rattle.marked_workers.specs.Bounds.{windows_of};
-ghost use Rattle.marked_workers.specs.Run.{CanCarry, CarriesFor, RunsAllMarked, manned_by, courier_of};
-ghost use Rattle.marked_workers.specs.Thread.{IsManned, HasRun};
+ghost use Rattle.marked_workers.specs.Run.{RunsAllMarked};
+ghost use Rattle.marked_workers.specs.Thread.{IsFirst, RunsAllWindows};
 
 use crate::thread::MarkRunner;
-use crate::worker::{CrewRun, MarkWorker};
+use crate::worker::CrewRun;
+use all_workers::{Worker, Workers, lookahead_of, parted, set_out, window_length, workers_of};
 use copy_exchange::{Courier, gather_back};
 use copy_inbox::{Inbox, Taker};
 use fork_join::{Refused, fork_join};
-use joined_workers::{Crew, lookahead_of, set_out, window_length};
-use mark_exchange::MarkCourier;
 use mote_net::Net;
 use std::alloc::{AllocGlobal, Global};
 use std::random::RandomSource;
@@ -31,64 +30,6 @@ use std::sync::Wait;
 use std::sync::atomic::AtomicBool;
 use std::thread::Threads;
 use window_run::Gate;
-use worker_window::Share;
-
-/// What each worker carries: its courier, with a count of marks for each sender on its inbox.
-fn carriers(
-    alloc: Global,
-    couriers: Vec<Courier>,
-    senders: usize,
-) -> Result<Vec<MarkCourier>, Refused>
-    requires { Each (CanCarry senders) couriers.items }
-    ensures carriers { IfOk result (λ carriers. AllZip CarriesFor couriers.items carriers.items) }
-    ensures refused { IfErr result (λ reason. reason ≡ Memory) }
-{
-    let mut carriers = Vec::new(alloc);
-    for courier in couriers {
-        let Ok(carrier) = MarkCourier::new(alloc, courier, senders) else {
-            return Err(Refused::Memory);
-        };
-        carriers.push(carrier)?;
-    }
-    Ok(carriers)
-}
-
-/// Each worker with its share and what it carries.
-fn manned(
-    alloc: Global,
-    shares: Vec<Share>,
-    carriers: Vec<MarkCourier>,
-) -> Result<Vec<MarkWorker>, Refused>
-    ensures workers { IfOk result (λ workers. workers.items ≡ map manned_by (zip shares.items carriers.items)) }
-    ensures refused { IfErr result (λ reason. reason ≡ Memory) }
-{
-    let mut workers = Vec::new(alloc);
-    for (share, carries) in shares.into_iter().zip(carriers) {
-        workers.push(MarkWorker { share, carries })?;
-    }
-    Ok(workers)
-}
-
-/// The workers' shares, and their couriers.
-fn parted(alloc: Global, workers: Vec<MarkWorker>) -> Result<(Vec<Share>, Vec<Courier>), Refused>
-    ensures shares { IfOk result (λ r. r.0.items ≡ map (λ worker. worker.share) workers.items) }
-    ensures couriers { IfOk result (λ r. r.1.items ≡ map courier_of workers.items) }
-    ensures refused { IfErr result (λ reason. reason ≡ Memory) }
-{
-    let mut shares = Vec::new(alloc);
-    let mut couriers = Vec::new(alloc);
-    for worker in workers {
-        let MarkWorker { share, carries } = worker;
-        let MarkCourier {
-            courier,
-            marks: _,
-            waiting: _,
-        } = carries;
-        shares.push(share)?;
-        couriers.push(courier)?;
-    }
-    Ok((shares, couriers))
-}
 
 /// At the end: each worker's taker, which has gathered the senders on its inbox. Out of memory is the one error.
 fn come_home<R: Wait>(
@@ -112,17 +53,18 @@ fn come_home<R: Wait>(
 fn run_together<R, G>(
     rt: &R,
     alloc: Global,
-    workers: Vec<MarkWorker>,
+    workers: Vec<Worker>,
     run: CrewRun<'_>,
     gate: &G,
-) -> Result<Vec<MarkWorker>, Refused>
+) -> Result<Vec<Worker>, Refused>
 where
     R: Threads + Wait + RandomSource + AllocGlobal + Sync,
     G: Gate + Sync,
     requires wide { 0 < run.width }
     requires short { run.width ≤ (system_of (net_of run.net.now)).lookahead }
-    requires manned { Each (IsManned (net_of run.net.now) run.of.now run.inboxes.now) workers.items }
-    ensures { let n = net_of run.entry.net.now in IfOk result (λ done. AllZip (HasRun n run.entry.of.now run.entry.width (windows_of run.entry.width n.end) run.entry.inboxes.now) workers.items done.items) }
+    requires first { Each (IsFirst (net_of run.net.now) run.of.now run.inboxes.now) workers.items }
+    ensures { let n = net_of run.entry.net.now in IfOk result (λ done. AllZip (RunsAllWindows n run.entry.of.now
+        run.entry.width (windows_of run.entry.width n.end) run.entry.inboxes.now) workers.items done.items) }
 {
     fork_join(rt, alloc, workers, &MarkRunner { rt, gate, run })
 }
@@ -135,8 +77,8 @@ fn run_threads<R, G>(
     of: &[u16],
     width: u64,
     gate: &G,
-    crew: Crew,
-) -> Result<Crew, Refused>
+    crew: Workers,
+) -> Result<Workers, Refused>
 where
     R: Threads + Wait + RandomSource + AllocGlobal + Sync,
     G: Gate + Sync,
@@ -149,16 +91,14 @@ where
     requires first { AreFirst (net_of net.now) of.now (length crew.inboxes.items) crew.shares.items }
     ensures { IfOk result (RunsAllMarked (net_of net.now) of.now width crew) }
 {
-    let Crew {
+    let Workers {
         shares,
         inboxes,
         takers,
         first_out: _,
     } = crew;
     let couriers = set_out(alloc, &inboxes, takers)?;
-    let others = inboxes.len().saturating_sub(1);
-    let carriers = carriers(alloc, couriers, others)?;
-    let workers = manned(alloc, shares, carriers)?;
+    let workers = workers_of(alloc, shares, couriers)?;
     let stop = AtomicBool::new(false);
     let run = CrewRun {
         net,
@@ -170,7 +110,7 @@ where
     let done = run_together(rt, alloc, workers, run, gate)?;
     let (shares, couriers) = parted(alloc, done)?;
     let takers = come_home(rt, alloc, &inboxes, couriers)?;
-    Ok(Crew {
+    Ok(Workers {
         shares,
         inboxes,
         takers,
@@ -178,7 +118,7 @@ where
     })
 }
 
-/// Runs the crew to the end of the net, each worker in one thread for the whole run. All windows but the last are of
+/// Runs all workers to the end of the net, each in one thread for the whole run. All windows but the last are of
 /// one length: the lookahead, or `longest`, where that is above 0 and less. `of` tells the worker of each mote. The
 /// inboxes have marks, and nothing is left in them.
 ///
@@ -192,8 +132,8 @@ pub fn run_marked<R, G>(
     of: &[u16],
     longest: u32,
     gate: &G,
-    crew: Crew,
-) -> Result<Crew, Refused>
+    crew: Workers,
+) -> Result<Workers, Refused>
 where
     R: Threads + Wait + RandomSource + AllocGlobal + Sync,
     G: Gate + Sync,
@@ -205,8 +145,10 @@ where
     ensures at { let n = net_of net.now in IfOk result (λ done. IsAt n of.now (suc n.end) done) }
     ensures inboxes { IfOk result (λ done. done.inboxes.items ≡ crew.inboxes.items) }
     // Each worker ran all windows of this length.
-    ensures windows { let n = net_of net.now in IfOk result (RunsAllMarked n of.now (length_of_window (system_of n).lookahead longest) crew) }
-    ensures all_taken { IfOk result (λ done. Each (λ taker. Whole taker.desk.gathered taker.desk.taken) done.takers.items) }
+    ensures windows { let n = net_of net.now in
+        IfOk result (RunsAllMarked n of.now (length_of_window (system_of n).lookahead longest) crew) }
+    ensures all_taken { IfOk result
+        (λ done. Each (λ taker. Whole taker.desk.gathered taker.desk.taken) done.takers.items) }
 {
     let width = window_length(lookahead_of(net), longest);
     run_threads(rt, alloc, net, of, width, gate, crew)

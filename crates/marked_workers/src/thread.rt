@@ -1,23 +1,24 @@
 //! A worker in its thread: all windows of the run, one after another.
 
 ghost use Rattle.std.specs.Prelude.{◌≡◌, ◌≢◌, ℕ, ◌^◌, ◌<◌, ◌≤◌, suc, [], length, IfErr, IfOk, OnOk};
-ghost use Rattle.fork_join.specs.declared.work.Refused.TheVariants.{Stopped, Thread};
+ghost use Rattle.fork_join.specs.declared.work.Refused.TheVariants.{Memory, Stopped, Thread};
 ghost use Rattle.mote_net.specs.Net.{net_of};
 ghost use Rattle.net_agenda.specs.NetSystem.{system_of};
 ghost use Rattle.copy_exchange.specs.Couriers.{HasMarks, IsSeated};
 ghost use Rattle.mark_exchange.specs.Marks.{Counts};
 ghost use Rattle.worker_window.specs.Window.{CanRun};
-ghost use Rattle.joined_workers.specs.Worker.{IsCut};
+ghost use Rattle.all_workers.specs.Workers.{IsCut};
 ghost use Rattle.marked_workers.specs.Bounds.{bound, windows_of};
 ghost use Rattle.marked_workers.specs.Refusals.{refused_of};
 ghost use Rattle.marked_workers.specs.declared.worker.MarkWorker.{MarkWorker as MarkWorkerOfCode};
-ghost use Rattle.marked_workers.specs.Thread.{IsManned, SendsWindow, TakesWindow, HasRun};
+ghost use Rattle.marked_workers.specs.Thread.{IsFirst, IsManned, IsSame, HasRun, RunsAllWindows};
+ghost use Rattle.marked_workers.specs.Thread.{SendsWindow, TakesWindow};
 
 use crate::worker::{CrewRun, MarkWorker};
+use all_workers::{Worker, refused, window_end};
 use fork_join::{Refused, Work};
-use joined_workers::{refused, window_end};
-use mark_exchange::{MarkError, Standing};
-use std::alloc::AllocGlobal;
+use mark_exchange::{MarkCourier, MarkError, Standing};
+use std::alloc::{AllocGlobal, Global};
 use std::random::RandomSource;
 use std::sync::Wait;
 use std::sync::atomic::Ordering;
@@ -54,7 +55,8 @@ fn send_window<R: Wait + RandomSource + AllocGlobal, G: Gate>(
     requires ready { CanRun (net_of run.now.net.now) run.now.of.now until worker.old.share [] }
     requires seated { IsSeated run.now.inboxes.now worker.old.carries.courier }
     requires marked { HasMarks worker.old.carries.courier }
-    ensures sends { OnOk result (SendsWindow (net_of run.now.net.now) run.now.of.now (length run.now.inboxes.now) window until worker.old worker.new) }
+    ensures sends { OnOk result (SendsWindow (net_of run.now.net.now) run.now.of.now (length run.now.inboxes.now)
+        window until worker.old worker.new) }
     ensures seated { OnOk result (IsSeated run.now.inboxes.now worker.new.carries.courier) }
     ensures refused { IfErr result (λ reason. reason ≢ Stopped) }
 {
@@ -131,8 +133,11 @@ fn run_one<R: Wait + RandomSource + AllocGlobal, G: Gate>(
     requires there { window < windows_of run.now.width (net_of run.now.net.now).end }
     requires until { until ≡ bound run.now.width (net_of run.now.net.now).end (suc window) }
     requires cut { IsCut (length (net_of run.now.net.now).motes) (length run.now.inboxes.now) run.now.of.now }
-    requires stands { (first : MarkWorkerOfCode) × HasRun (net_of run.now.net.now) run.now.of.now run.now.width window run.now.inboxes.now first worker.old }
-    ensures { let n = net_of run.now.net.now in OnOk result (run.now.width ≤ (system_of n).lookahead → (first : MarkWorkerOfCode) → HasRun n run.now.of.now run.now.width window run.now.inboxes.now first worker.old
+    requires stands { (first : MarkWorkerOfCode) × HasRun (net_of run.now.net.now) run.now.of.now run.now.width
+        window run.now.inboxes.now first worker.old }
+    ensures { let n = net_of run.now.net.now in OnOk result (run.now.width ≤ (system_of n).lookahead
+        → (first : MarkWorkerOfCode)
+        → HasRun n run.now.of.now run.now.width window run.now.inboxes.now first worker.old
         → HasRun n run.now.of.now run.now.width (suc window) run.now.inboxes.now first worker.new) }
 {
     send_window(rt, gate, run, worker, window, until)?;
@@ -143,7 +148,7 @@ fn run_one<R: Wait + RandomSource + AllocGlobal, G: Gate>(
 ///
 /// # Errors
 /// `Memory`; `Thread` where the executor answered an error; `Stopped` where it stopped because another worker failed.
-fn run_through<R: Wait + RandomSource + AllocGlobal, G: Gate>(
+fn run_windows<R: Wait + RandomSource + AllocGlobal, G: Gate>(
     rt: &R,
     gate: &G,
     run: &CrewRun<'_>,
@@ -152,7 +157,8 @@ fn run_through<R: Wait + RandomSource + AllocGlobal, G: Gate>(
     requires wide { 0 < run.now.width }
     requires short { run.now.width ≤ (system_of (net_of run.now.net.now)).lookahead }
     requires manned { IsManned (net_of run.now.net.now) run.now.of.now run.now.inboxes.now worker }
-    ensures { let n = net_of run.now.net.now in IfOk result (HasRun n run.now.of.now run.now.width (windows_of run.now.width n.end) run.now.inboxes.now worker) }
+    ensures { let n = net_of run.now.net.now in IfOk result
+        (HasRun n run.now.of.now run.now.width (windows_of run.now.width n.end) run.now.inboxes.now worker) }
 {
     let end = run.net.end();
     let mut worker = worker;
@@ -167,12 +173,67 @@ fn run_through<R: Wait + RandomSource + AllocGlobal, G: Gate>(
     Ok(worker)
 }
 
-impl<R: Wait + RandomSource + AllocGlobal, G: Gate> Work<MarkWorker> for MarkRunner<'_, R, G> {
-    ghost ready = { λ w worker. (0 < w.run.width) × (w.run.width ≤ (system_of (net_of w.run.net.now)).lookahead) × IsManned (net_of w.run.net.now) w.run.of.now w.run.inboxes.now worker };
+/// The worker with a count of marks for each sender on its inbox.
+fn with_marks(alloc: Global, run: &CrewRun<'_>, worker: Worker) -> Result<MarkWorker, Refused>
+    requires { IsFirst (net_of run.now.net.now) run.now.of.now run.now.inboxes.now worker }
+    ensures same { IfOk result (IsSame worker) }
+    ensures manned { IfOk result (IsManned (net_of run.now.net.now) run.now.of.now run.now.inboxes.now) }
+    ensures refused { IfErr result (λ reason. reason ≡ Memory) }
+{
+    let Worker {
+        share,
+        courier,
+        first_out: _,
+    } = worker;
+    let others = run.inboxes.len().saturating_sub(1);
+    match MarkCourier::new(alloc, courier, others) {
+        Ok(carries) => Ok(MarkWorker { share, carries }),
+        Err(_) => Err(Refused::Memory),
+    }
+}
 
-    ghost makes = { λ w old new. let n = net_of w.run.net.now in HasRun n w.run.of.now w.run.width (windows_of w.run.width n.end) w.run.inboxes.now old new };
+/// The worker without its counts of marks. It took all copies that were delivered.
+fn without_marks(worker: MarkWorker) -> Worker
+    ensures { IsSame result worker }
+{
+    let MarkWorker { share, carries } = worker;
+    let MarkCourier { courier, marks: _, waiting: _ } = carries;
+    Worker {
+        share,
+        courier,
+        first_out: None,
+    }
+}
 
-    fn work(&self, worker: MarkWorker) -> Result<MarkWorker, Refused> {
+/// All that a worker does in its thread.
+///
+/// # Errors
+/// As [`run_windows`].
+fn run_through<R: Wait + RandomSource + AllocGlobal, G: Gate>(
+    rt: &R,
+    gate: &G,
+    run: &CrewRun<'_>,
+    worker: Worker,
+) -> Result<Worker, Refused>
+    requires wide { 0 < run.now.width }
+    requires short { run.now.width ≤ (system_of (net_of run.now.net.now)).lookahead }
+    requires first { IsFirst (net_of run.now.net.now) run.now.of.now run.now.inboxes.now worker }
+    ensures { let n = net_of run.now.net.now in IfOk result
+        (RunsAllWindows n run.now.of.now run.now.width (windows_of run.now.width n.end) run.now.inboxes.now worker) }
+{
+    let worker = with_marks(rt.alloc(), run, worker)?;
+    let done = run_windows(rt, gate, run, worker)?;
+    Ok(without_marks(done))
+}
+
+impl<R: Wait + RandomSource + AllocGlobal, G: Gate> Work<Worker> for MarkRunner<'_, R, G> {
+    ghost ready = { λ w worker. (0 < w.run.width) × (w.run.width ≤ (system_of (net_of w.run.net.now)).lookahead)
+        × IsFirst (net_of w.run.net.now) w.run.of.now w.run.inboxes.now worker };
+
+    ghost makes = { λ w old new. let n = net_of w.run.net.now in RunsAllWindows n w.run.of.now w.run.width
+        (windows_of w.run.width n.end) w.run.inboxes.now old new };
+
+    fn work(&self, worker: Worker) -> Result<Worker, Refused> {
         let done = run_through(self.rt, self.gate, &self.run, worker);
         // The other workers wait for marks that won't come.
         if done.is_err() {
@@ -181,8 +242,8 @@ impl<R: Wait + RandomSource + AllocGlobal, G: Gate> Work<MarkWorker> for MarkRun
         done
     }
 
-    fn may_start(&self, worker: &MarkWorker) -> bool {
-        self.gate.start(worker.carries.courier.worker)
+    fn may_start(&self, worker: &Worker) -> bool {
+        self.gate.start(worker.courier.worker)
     }
 
     fn give_up(&self) {

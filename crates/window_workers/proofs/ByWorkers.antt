@@ -23,9 +23,9 @@ use Rattle.copy_exchange.specs.Desks.{taken_by, gathered_by}
 use Rattle.worker_cut.proofs.Carried.{carried}
 use Rattle.worker_cut.proofs.Windows.{coming, coming_pending, senders}
 use Rattle.worker_window.specs.declared.share.Ended.{Ended}
-use Rattle.joined_workers.specs.declared.crew.Crew.{Crew}
-use Rattle.joined_workers.specs.Crew.{IsAt, IsWorkerAt}
-use Rattle.joined_workers.proofs.Lookups.{there, read, zip_inside, zip_long}
+use Rattle.all_workers.specs.declared.workers.Workers.{Workers}
+use Rattle.all_workers.specs.Workers.{IsAt, IsWorkerAt}
+use Rattle.all_workers.proofs.Lookups.{there, read, zip_inside, zip_long}
 use Rattle.net_report.specs.declared.Report.{Report}
 use Rattle.net_report.specs.Report.{Packet, ReportTold, lines_in, told_line, report_of}
 use Rattle.window_workers.specs.Carried.{Pair, packets_told, HasCarried, AllCarried}
@@ -41,7 +41,7 @@ use Rattle.window_workers.proofs.Waiting.{taken_by_end}
 abbrev told_of : List (List Line) → List Packet → ℕ → ReportTold
 told_of traces log left = record { traces = traces; log = log; left = left }
 
-module _ (n : NetTold) (fault : medium_fault n.radio ≡ None) (placed : length n.radio.places ≡ length n.motes) (of : List ℕ) (crew : Crew) (at : IsAt n of (suc n.end) crew) (ended : List Ended) (ends : AllZip TellsWhatItKept crew.shares.items ended) where
+module _ (n : NetTold) (fault : medium_fault n.radio ≡ None) (placed : length n.radio.places ≡ length n.motes) (of : List ℕ) (crew : Workers) (at : IsAt n of (suc n.end) crew) (ended : List Ended) (ends : AllZip TellsWhatItKept crew.shares.items ended) where
   fine : RunsForward (system_of n)
   fine = system_is n fault placed
 

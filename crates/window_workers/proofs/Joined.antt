@@ -25,10 +25,10 @@ use Rattle.worker_cut.proofs.Windows.{at_the_end, coming, receivers}
 use Rattle.worker_window.specs.declared.share.Share.{Share}
 use Rattle.worker_window.specs.declared.share.Ended.{Ended}
 use Rattle.worker_window.specs.Ended.{TellsAtEnd}
-use Rattle.joined_workers.specs.declared.crew.Crew.{Crew}
-use Rattle.joined_workers.specs.Crew.{IsAt, IsWorkerAt}
-use Rattle.joined_workers.proofs.Lookups.{there, inside, read, beside, as_long, none_of, one_of}
-use Rattle.joined_workers.proofs.Step.{own_by, some_worker}
+use Rattle.all_workers.specs.declared.workers.Workers.{Workers}
+use Rattle.all_workers.specs.Workers.{IsAt, IsWorkerAt}
+use Rattle.all_workers.proofs.Lookups.{there, inside, read, beside, as_long, none_of, one_of}
+use Rattle.all_workers.proofs.Step.{own_by, some_worker}
 use Rattle.net_report.specs.Report.{lines_in}
 use Rattle.window_workers.specs.Carried.{Pair}
 use Rattle.worker_window.specs.Log.{HaveFates, packets_in}
@@ -46,7 +46,7 @@ nobody of s i h = ap (λ o. option_map_or (λ w. eqb w i) o false) (beyond of s 
 not_mine : (of : List ℕ) (s w i : ℕ) → slice_get of s ≡ Some w → (i ≡ w → ⊥) → is_own of i s ≡ false
 not_mine of s w i e ne = ap (λ o. option_map_or (λ w. eqb w i) o false) e ∙ ne_eqb w i (λ q. ne (sym q))
 
-module _ (n : NetTold) (fine : RunsForward (system_of n)) (of : List ℕ) (crew : Crew) (at : IsAt n of (suc n.end) crew) (ended : List Ended) (ends : AllZip TellsWhatItKept crew.shares.items ended) where
+module _ (n : NetTold) (fine : RunsForward (system_of n)) (of : List ℕ) (crew : Workers) (at : IsAt n of (suc n.end) crew) (ended : List Ended) (ends : AllZip TellsWhatItKept crew.shares.items ended) where
   abbrev workers : ℕ
   workers = length crew.inboxes.items
 

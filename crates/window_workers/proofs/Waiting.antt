@@ -17,8 +17,8 @@ use Rattle.worker_cut.specs.Crossed.{is_own, is_to, copies_known}
 use Rattle.worker_cut.proofs.Windows.{coming}
 use Rattle.worker_window.specs.declared.share.Share.{Share}
 use Rattle.worker_window.specs.Share.{Motes, is_to_come}
-use Rattle.joined_workers.specs.Crew.{IsWorkerAt}
-use Rattle.joined_workers.proofs.Waiting.{same_copies, rest_later, waiting, gathered_is, to_come_is}
+use Rattle.all_workers.specs.Workers.{IsWorkerAt}
+use Rattle.all_workers.proofs.Waiting.{same_copies, rest_later, waiting, gathered_is, to_come_is}
 use Rattle.serial_run.specs.Counted.{is_by}
 
 is_late : (end at : ℕ) → suc end ≤ at → not (ltb end at) ≡ false

@@ -6,9 +6,9 @@ ghost use Rattle.kernel_laws.specs.Going.{IsInOrder};
 ghost use Rattle.mote_net.specs.Net.{net_of};
 ghost use Rattle.copy_inbox.specs.Gathered.{Whole, known_of};
 ghost use Rattle.copy_exchange.specs.Inboxes.{IsFresh, IsSettled};
-ghost use Rattle.joined_workers.specs.Crew.{IsAt};
-ghost use Rattle.joined_workers.specs.Start.{AreFirst};
-ghost use Rattle.joined_workers.specs.Worker.{IsCut};
+ghost use Rattle.all_workers.specs.Workers.{IsAt};
+ghost use Rattle.all_workers.specs.Start.{AreFirst};
+ghost use Rattle.all_workers.specs.Workers.{IsCut};
 ghost use Rattle.net_report.specs.Report.{report_of};
 ghost use Rattle.window_workers.specs.Carried.{AllCarried};
 ghost use Rattle.window_workers.specs.Fits.{cut_fault, IsAnswerTo};
@@ -22,9 +22,10 @@ use crate::medium_log::medium_log;
 use crate::refusal::of_refused;
 use crate::sync::SyncKind;
 use crate::traces::joined_traces;
+use all_workers::Workers;
 use copy_exchange::{make_inboxes, paired, parted};
 use copy_inbox::{Inbox, Taker};
-use joined_workers::{Crew, run_windows};
+use joined_workers::run_windows;
 use marked_workers::run_marked;
 use mote_net::Net;
 use net_report::Report;
@@ -41,7 +42,7 @@ fn told(
     alloc: Global,
     net: &Net,
     of: &[u16],
-    crew: Crew,
+    crew: Workers,
 ) -> Result<(Report, Vec<(Inbox, Taker)>), RunError>
     requires { let n = net_of net.now in IsAt n of.now (suc n.end) crew }
     ensures report { IfOk result (λ r. IsReportOf (net_of net.now) (report_of r.0)) }
@@ -54,7 +55,7 @@ fn told(
     // Each wake and each copy comes later than the turn that makes it, so the windows of all motes are those of one
     // run. The call's clauses say that the medium is without fault; what it returns isn't used.
     let _ahead = net.medium().lookahead(net.end());
-    let Crew {
+    let Workers {
         shares,
         inboxes,
         takers,
@@ -84,8 +85,8 @@ fn run_crew<R, G>(
     longest: u32,
     sync: SyncKind,
     gate: &G,
-    crew: Crew,
-) -> Result<Crew, RunError>
+    crew: Workers,
+) -> Result<Workers, RunError>
 where
     R: Threads + Wait + RandomSource + AllocGlobal + Sync,
     G: Gate + Sync,
@@ -162,7 +163,7 @@ where
     let Ok((inboxes, takers)) = parted(alloc, pairs) else {
         return Err(RunError::Memory);
     };
-    let Ok(crew) = Crew::start(alloc, net, of, inboxes, takers) else {
+    let Ok(crew) = Workers::start(alloc, net, of, inboxes, takers) else {
         return Err(RunError::Memory);
     };
     let crew = run_crew(rt, alloc, net, of, cut.longest, sync, gate, crew)?;

@@ -1,9 +1,10 @@
 use Rattle.std.proofs.Common.{◌≡◌, ◌∙◌, ℕ, suc, ◌<◌, ◌≤◌, ap, sym, refl, subst, arith}
 use Rattle.mote_net.specs.Net.{net_of}
 use Rattle.net_agenda.specs.NetSystem.{system_of}
-use Rattle.joined_workers.specs.declared.crew.Crew.{Crew}
+use Rattle.all_workers.specs.declared.workers.Workers.{Workers}
 use Rattle.joined_workers.specs.Laws.{RunsAll}
-use Rattle.joined_workers.specs.Run.{BeginsAt, RunsNext, end_of_window, length_of_window}
+use Rattle.joined_workers.specs.Run.{BeginsAt, RunsNext}
+use Rattle.all_workers.specs.WindowLength.{end_of_window, length_of_window}
 use Rattle.joined_workers.proofs.Runs.{begins_later, short_enough, stands_there}
 use Rattle.joined_workers.proofs.run.run_windows.Goals as goal
 

@@ -3,8 +3,9 @@ use Rattle.mote_net.specs.Net.{net_of}
 use Rattle.std.specs.List.{AllByRecursion as Each}
 use Rattle.copy_exchange.specs.Inboxes.{IsPlain}
 use Rattle.net_agenda.specs.NetSystem.{system_of}
-use Rattle.joined_workers.specs.Crew.{IsAt}
-use Rattle.joined_workers.specs.Run.{BeginsAt, RunsWindows, length_of_window}
+use Rattle.all_workers.specs.Workers.{IsAt}
+use Rattle.joined_workers.specs.Run.{BeginsAt, RunsWindows}
+use Rattle.all_workers.specs.WindowLength.{length_of_window}
 use Rattle.joined_workers.proofs.run.run_windows.Given as goal
 
 abbrev pub invariant-windows : goal.invariant-windows

@@ -5,7 +5,8 @@ use Rattle.mote_net.specs.Net.{net_of}
 use Rattle.copy_exchange.specs.Desks.{taken_by, gathered_by}
 use Rattle.worker_cut.specs.Crossed.{is_own}
 use Rattle.worker_window.specs.Window.{RunsWindow, GoesOut}
-use Rattle.joined_workers.proofs.Working.{arrived_have, leaves_sent}
+use Rattle.all_workers.proofs.Sent.{leaves_sent}
+use Rattle.joined_workers.proofs.Arrived.{arrived_have}
 use Rattle.joined_workers.specs.Worker.{IsFirstOf}
 use Rattle.joined_workers.proofs.worker.run_worker.Goals as goal
 

@@ -5,8 +5,8 @@ use Rattle.mote_net.specs.Net.{net_of}
 use Rattle.net_agenda.specs.NetSystem.{system_of}
 use Rattle.copy_inbox.specs.Gathered.{Whole}
 use Rattle.copy_inbox.specs.Handles.{TakerView}
-use Rattle.joined_workers.specs.Crew.{IsAt}
-use Rattle.joined_workers.specs.Run.{length_of_window}
+use Rattle.all_workers.specs.Workers.{IsAt}
+use Rattle.all_workers.specs.WindowLength.{length_of_window}
 use Rattle.marked_workers.specs.Run.{RunsAllMarked}
 use Rattle.marked_workers.proofs.Runs.{ended}
 use Rattle.marked_workers.proofs.run.run_marked.Goals as goal

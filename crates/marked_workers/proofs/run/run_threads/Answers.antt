@@ -1,32 +1,23 @@
-use Rattle.std.proofs.Common.{rules, ◌≡◌, length, map, refl, vec_len, arith}
+use Rattle.std.proofs.Common.{map, refl}
 use Rattle.std.specs.List.{zip}
 use Rattle.mote_net.specs.Net.{net_of}
-use Rattle.joined_workers.proofs.Starts.{all_settled}
+use Rattle.all_workers.specs.Worker.{worker_of}
+use Rattle.all_workers.proofs.Starts.{all_settled}
 use Rattle.marked_workers.specs.Bounds.{windows_of}
-use Rattle.marked_workers.specs.Run.{manned_by}
-use Rattle.marked_workers.proofs.Ready.{can_carry, ready, together_first, none_gathered_first}
+use Rattle.marked_workers.proofs.Ready.{ready, together_first, none_gathered_first}
 use Rattle.marked_workers.proofs.Runs.{all_back, all_seated}
 use Rattle.marked_workers.proofs.run.run_threads.Goals as goal
 
 pub set_out-requires-clause-settled : goal.set_out-requires-clause-settled
 set_out-requires-clause-settled g c = rw c.deref.ensures.value (all_settled c.args.crew.inboxes.items c.args.crew.takers.items c.requires.fresh)
 
-pub carriers-requires : goal.carriers-requires
-carriers-requires g c =
-    let ids = c.args.crew.inboxes.items in
-    let together = rw c.deref.ensures.value at c.in_ok-couriers.ensures.together in
-    let long : vec_len c.args.crew.inboxes ≡ length c.args.crew.inboxes.items = search rules in
-    let len = c.len.ensures in
-    let others = c.saturating_sub-others.ensures in
-    can_carry ids c.args.crew.takers.items c.requires.fresh c.in_ok-couriers.couriers.items together c.in_ok-couriers.ensures.set_out c.saturating_sub-others.result (λ made h. omega arith)
-
-pub run_together-requires-clause-manned : goal.run_together-requires-clause-manned
-run_together-requires-clause-manned g c κs within =
+pub run_together-requires-clause-first : goal.run_together-requires-clause-first
+run_together-requires-clause-first g c κs within =
     let ids = c.args.crew.inboxes.items in
     let together = rw c.deref.ensures.value at c.in_ok-couriers.ensures.together in
     rw (c.deref-2.ensures.value, c.in_ok-workers.ensures.workers)
     (ready ids c.args.crew.takers.items c.requires.fresh c.in_ok-couriers.couriers.items together c.in_ok-couriers.ensures.set_out (net_of c.args.net.now) c.args.of.now c.requires.cut c.args.crew.shares.items c.requires.first
-    c.in_ok-couriers.ensures.nothing (c.in_ok-couriers.ensures.marked c.requires.marked) c.in_ok-carriers.carriers.items c.in_ok-carriers.ensures.carriers)
+    c.in_ok-couriers.ensures.nothing (c.in_ok-couriers.ensures.marked c.requires.marked))
 
 pub come_home-requires-clause-workers : goal.come_home-requires-clause-workers
 come_home-requires-clause-workers g c =
@@ -36,7 +27,7 @@ come_home-requires-clause-workers g c =
     let ran = rw (c.deref-2.ensures.value, c.in_ok-workers.ensures.workers) at c.in_ok-done.ensures in
     rw (c.deref-3.ensures.value, c.in_ok-shares.ensures.couriers)
     (all_back n c.args.of.now c.args.width (windows_of c.args.width n.end) ids _ c.in_ok-done.done.items
-    (together_first ids c.args.crew.takers.items c.requires.fresh c.in_ok-couriers.couriers.items together c.in_ok-couriers.ensures.set_out c.args.crew.shares.items c.requires.first.count c.in_ok-carriers.carriers.items c.in_ok-carriers.ensures.carriers)
+    (together_first ids c.args.crew.takers.items c.requires.fresh c.in_ok-couriers.couriers.items together c.in_ok-couriers.ensures.set_out c.args.crew.shares.items c.requires.first.count)
     ran)
 
 pub come_home-requires-clause-seated : goal.come_home-requires-clause-seated
@@ -44,17 +35,17 @@ come_home-requires-clause-seated g c =
     let n = net_of c.args.net.now in
     let ran = rw (c.deref-2.ensures.value, c.in_ok-workers.ensures.workers) at c.in_ok-done.ensures in
     rw (c.deref-3.ensures.value, c.in_ok-shares.ensures.couriers)
-    (all_seated n c.args.of.now c.args.width (windows_of c.args.width n.end) c.args.crew.inboxes.items (map manned_by (zip c.args.crew.shares.items c.in_ok-carriers.carriers.items)) c.in_ok-done.done.items ran)
+    (all_seated n c.args.of.now c.args.width (windows_of c.args.width n.end) c.args.crew.inboxes.items (map worker_of (zip c.args.crew.shares.items c.in_ok-couriers.couriers.items)) c.in_ok-done.done.items ran)
 
 pub returns : goal.returns
 returns g c =
     let ids = c.args.crew.inboxes.items in
     let together = rw c.deref.ensures.value at c.in_ok-couriers.ensures.together in
     record {
-      first = map manned_by (zip c.args.crew.shares.items c.in_ok-carriers.carriers.items);
+      first = map worker_of (zip c.args.crew.shares.items c.in_ok-couriers.couriers.items);
       done = c.in_ok-done.done.items;
-      together = together_first ids c.args.crew.takers.items c.requires.fresh c.in_ok-couriers.couriers.items together c.in_ok-couriers.ensures.set_out c.args.crew.shares.items c.requires.first.count c.in_ok-carriers.carriers.items c.in_ok-carriers.ensures.carriers;
-      none_gathered = none_gathered_first ids c.args.crew.takers.items c.requires.fresh c.in_ok-couriers.couriers.items together c.in_ok-couriers.ensures.set_out c.args.crew.shares.items c.requires.first.count c.in_ok-carriers.carriers.items c.in_ok-carriers.ensures.carriers;
+      together = together_first ids c.args.crew.takers.items c.requires.fresh c.in_ok-couriers.couriers.items together c.in_ok-couriers.ensures.set_out c.args.crew.shares.items c.requires.first.count;
+      none_gathered = none_gathered_first ids c.args.crew.takers.items c.requires.fresh c.in_ok-couriers.couriers.items together c.in_ok-couriers.ensures.set_out c.args.crew.shares.items c.requires.first.count;
       ran = rw (c.deref-2.ensures.value, c.in_ok-workers.ensures.workers) at c.in_ok-done.ensures;
       shares = c.in_ok-shares.ensures.shares;
       back = rw c.in_ok-shares.ensures.couriers at c.in_ok-takers.ensures.back;

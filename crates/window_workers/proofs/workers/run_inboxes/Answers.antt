@@ -9,8 +9,8 @@ use Rattle.mote_net.specs.Net.{net_of}
 use Rattle.copy_inbox.specs.Gathered.{known_of}
 use Rattle.copy_inbox.specs.Handles.{InboxId, TakerView}
 use Rattle.copy_exchange.specs.Inboxes.{IsFresh}
-use Rattle.joined_workers.specs.Start.{AreFirst}
-use Rattle.joined_workers.specs.Worker.{IsCut}
+use Rattle.all_workers.specs.Start.{AreFirst}
+use Rattle.all_workers.specs.Workers.{IsCut}
 use Rattle.net_report.specs.declared.Report.{Report}
 use Rattle.net_report.specs.Report.{report_of}
 use Rattle.window_workers.specs.Carried.{Pair, AllCarried}

@@ -1,0 +1,11 @@
+pub mod Choose
+pub mod Held
+pub mod Lookups
+pub mod NetCrossing
+pub mod Numbered
+pub mod ProgramCrossing
+pub mod Same
+pub mod Sent
+pub mod Starts
+pub mod Step
+pub mod Waiting

@@ -1,0 +1,38 @@
+-- What a worker sends leaves it, and what holds of each sender's copies.
+use Rattle.std.proofs.Common.{◌≡◌, ℕ, zero, suc, ◌<◌, true, eqb, List, [], ◌∷◌, length, refl, sym, subst, arith, inl, inr}
+use Rattle.std.specs.Prelude.{slice_index}
+use Rattle.std.specs.List.{filter, AllByRecursion as Each}
+use Rattle.std.proofs.lemmas.Bool.{cases_Bool, eq-eqb}
+use Rattle.radio_packet.specs.declared.copy.RadioCopy.{RadioCopy}
+use Rattle.mote_net.specs.Net.{NetTold}
+use Rattle.copy_exchange.specs.Couriers.{Leaves}
+use Rattle.window_laws.specs.Windows.{is_from_sender}
+use Rattle.worker_window.specs.Window.{GoesOut}
+use Rattle.window_laws.proofs.Lists.{every_weaker}
+use Rattle.all_workers.specs.Workers.{IsCut}
+
+module _ (P : RadioCopy → Type 0) where
+  rest_of_each : (x : RadioCopy) (xs : List RadioCopy) → ((s : ℕ) → Each P (filter (is_from_sender s) (x ∷ xs)))
+      → (s : ℕ) → Each P (filter (is_from_sender s) xs)
+  rest_of_each x xs h s = elim (cases_Bool (eqb x.sender s)) [ inl e ↦ (let g = rw e at (h s) in g.1) | inr e ↦ (let g = rw e at (h s) in g) ]
+
+  pub every_of_each : (xs : List RadioCopy) → ((s : ℕ) → Each P (filter (is_from_sender s) xs)) → Each P xs
+  every_of_each [] h = tt
+  every_of_each (x ∷ xs) h =
+      let e : eqb x.sender x.sender ≡ true = eq-eqb x.sender x.sender refl in
+      let g = rw e at (h x.sender) in
+      (g.0, every_of_each xs (rest_of_each x xs h))
+
+there_at : (of : List ℕ) (k workers : ℕ) → k < length of → Each (λ w. w < workers) of → slice_index of k < workers
+there_at [] k workers h all = absurd (omega arith)
+there_at (x ∷ of) zero workers h all = all.0
+there_at (x ∷ of) (suc k) workers h all = there_at of k workers (omega arith) all.1
+
+pub leaves_sent : (n : NetTold) (of : List ℕ) (workers worker : ℕ) (sent : List RadioCopy)
+    → IsCut (length n.motes) workers of → Each (GoesOut n of worker) sent → Each (Leaves of workers worker) sent
+leaves_sent n of workers worker sent cut out = every_weaker _ _ one sent out
+  where
+    one : (c : RadioCopy) → GoesOut n of worker c → Leaves of workers worker c
+    one c g =
+        let h : c.to < length of = subst (λ l. c.to < l) (sym cut.len) g.there in
+        record { there = h; its_worker = there_at of c.to workers h cut.there; other = g.to }

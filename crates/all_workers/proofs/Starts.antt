@@ -1,0 +1,88 @@
+-- The workers before the first window.
+use Rattle.std.proofs.Common.{◌≡◌, Bool, ℕ, zero, suc, ◌<◌, ltb, eqb, List, [], ◌∷◌, length, get_or, refl, sym, ap, subst, arith, inl, inr, None}
+use Rattle.std.specs.List.{filter, AllZip}
+use Rattle.std.proofs.lemmas.Bool.{cases_Bool, eq-eqb}
+use Rattle.radio_packet.specs.declared.copy.RadioCopy.{RadioCopy}
+use Rattle.mote_net.specs.Net.{NetTold}
+use Rattle.net_agenda.specs.NetSystem.{system_of}
+use Rattle.window_laws.specs.System.{System}
+use Rattle.window_laws.specs.Windows.{first_mote, copies_by, Last}
+use Rattle.copy_inbox.specs.declared.items.Item.{Item}
+use Rattle.copy_inbox.specs.Items.{copies_of, part}
+use Rattle.copy_inbox.specs.Handles.{InboxId, TakerView, PacketsLeft}
+use Rattle.copy_inbox.specs.Views.{make_desk}
+use Rattle.copy_exchange.specs.Desks.{IsOrderly}
+use Rattle.copy_exchange.specs.Inboxes.{IsFresh, IsSettled, Settled}
+use Rattle.worker_cut.specs.Crossed.{is_own, is_to, crossed}
+use Rattle.worker_window.specs.declared.share.Share.{Share}
+use Rattle.worker_window.specs.Share.{Keeps}
+use Rattle.all_workers.specs.declared.workers.Workers.{Workers}
+use Rattle.all_workers.specs.Workers.{IsAt, IsWorkerAt}
+use Rattle.all_workers.specs.Start.{AreFirst}
+use Rattle.all_workers.specs.Workers.{IsCut}
+
+-- where no sender has a part there is nothing
+no_parts : (rest : List Item) → ((s : ℕ) → part s rest ≡ []) → rest ≡ []
+no_parts [] h = refl
+no_parts (x ∷ rest) h = let e = rw (eq-eqb x.sender x.sender refl) at (h x.sender) in cc
+
+stands_first : (marked : Bool) → IsOrderly (make_desk marked 0 [] [])
+stands_first marked = record {
+  in_order = λ rest is s. ap (λ l. filter (λ (c : RadioCopy). eqb c.sender s) (copies_of l)) (no_parts rest (λ u. is.1 u refl));
+  begun = tt;
+  unseen = λ s e. refl;
+  apart = tt;
+  later = λ u low e. tt;
+  numbers = tt;
+}
+
+settled_first : (inbox : InboxId) (t : TakerView) → IsFresh inbox t → IsSettled inbox t
+settled_first inbox t fresh = record {
+  its = fresh.0;
+  stands = subst IsOrderly (sym fresh.1) (stands_first t.desk.marked);
+  all = λ s low. absurd (let e = ap (λ d. d.made) fresh.1 in omega arith);
+  no_mark = subst PacketsLeft (sym fresh.1) tt;
+}
+
+pub all_settled : (inboxes : List InboxId) (takers : List TakerView) → AllZip IsFresh inboxes takers → Settled inboxes takers
+all_settled [] [] h = tt
+all_settled [] (t ∷ ts) h = h
+all_settled (i ∷ is) [] h = h
+all_settled (i ∷ is) (t ∷ ts) h = (settled_first i t h.0, all_settled is ts h.1)
+
+pub fresh_at : (inboxes : List InboxId) (takers : List TakerView) → AllZip IsFresh inboxes takers → (v : ℕ) (d : TakerView) → v < length inboxes
+    → (get_or takers v d).desk ≡ make_desk (get_or takers v d).desk.marked 0 [] []
+fresh_at [] ts h v d low = absurd (omega arith)
+fresh_at (i ∷ is) [] h v d low = absurd h
+fresh_at (i ∷ is) (t ∷ ts) h zero d low = h.0.1
+fresh_at (i ∷ is) (t ∷ ts) h (suc v) d low = fresh_at is ts h.1 v d (omega arith)
+
+none_sent : {S L : Type 0} (system : System S L) (s : ℕ) → copies_by system (first_mote system) s ≡ []
+none_sent system s = elim (cases_Bool (ltb s system.motes)) [ inl e ↦ rw e refl | inr e ↦ rw e refl ]
+
+pub none_crossed : {S L : Type 0} (system : System S L) (of : List ℕ) (v s : ℕ) → crossed system of (first_mote system) v s ≡ []
+none_crossed system of v s =
+    elim (cases_Bool (is_own of v s)) [ inl e ↦ rw e refl | inr e ↦ rw e (ap (filter (is_to of v)) (none_sent system s)) ]
+
+first_worker : (n : NetTold) (of : List ℕ) (v : ℕ) (share : Share) (taker : TakerView) (marked : Bool) → Keeps n of v 0 (first_mote (system_of n)) [] share
+    → taker.desk ≡ make_desk marked 0 [] []
+    → IsWorkerAt n of 0 (first_mote (system_of n)) None v share taker
+first_worker n of v share taker marked keeps fresh = record {
+  keeps = subst (λ d. Keeps n of v 0 (first_mote (system_of n)) (copies_of d.taken) share) (sym fresh) keeps;
+  gathered = λ s. let e = none_crossed (system_of n) of v s in rw fresh (sym e);
+  waits = λ s. record { rest = []; all = rw fresh refl; later = tt };
+}
+
+pub starts : (n : NetTold) (of : List ℕ) (crew : Workers) → IsCut (length n.motes) (length crew.inboxes.items) of → AllZip IsFresh crew.inboxes.items crew.takers.items
+    → AreFirst n of (length crew.inboxes.items) crew.shares.items → crew.first_out ≡ None → IsAt n of 0 crew
+starts n of crew cut fresh shares none = record {
+  motes = first_mote (system_of n);
+  led = Last;
+  cut = cut;
+  shares = shares.count;
+  settled = all_settled crew.inboxes.items crew.takers.items fresh;
+  first = rw none tt;
+  each = λ v low share taker.
+      subst (λ o. IsWorkerAt n of 0 (first_mote (system_of n)) o v (get_or crew.shares.items v share) (get_or crew.takers.items v taker)) (sym none)
+      (first_worker n of v _ _ _ (shares.each v share low) (fresh_at crew.inboxes.items crew.takers.items fresh v taker low));
+}

@@ -1,0 +1,6 @@
+use Rattle.mote_net.specs.Net.{net_of}
+use Rattle.all_workers.specs.Start.{AreFirst}
+use Rattle.all_workers.proofs.workers.first_shares.Given as goal
+
+abbrev pub invariant-loop-worker : goal.invariant-loop-worker
+invariant-loop-worker l = AreFirst (net_of l.net) l.of l.worker l.shares.items

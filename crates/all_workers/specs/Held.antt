@@ -1,0 +1,37 @@
+-- Where the copies of the agenda are at the start of a window.
+use Rattle.std.specs.Prelude.{ℕ, suc, ◌<◌, List, ◌++◌, length, slice_index_or, IsPermutation}
+use Rattle.std.specs.List.{flat_map}
+use Rattle.trace_lines.specs.declared.line.Line.{Line}
+use Rattle.mote_node.specs.Node.{Node}
+use Rattle.radio_packet.specs.declared.copy.RadioCopy.{RadioCopy}
+use Rattle.mote_net.specs.Net.{NetTold}
+use Rattle.window_laws.specs.System.{RunsForward}
+use Rattle.window_laws.specs.Agenda.{Item, packets, up_to}
+use Rattle.window_laws.specs.NetStep.{NetState, Run, boot}
+use Rattle.net_agenda.specs.Buckets.{Holds}
+use Rattle.net_agenda.specs.NetSystem.{system_of}
+use Rattle.copy_inbox.specs.Handles.{TakerView}
+use Rattle.copy_exchange.specs.Desks.{taken_by, gathered_by}
+use Rattle.worker_window.specs.declared.share.Share.{Share}
+use Rattle.all_workers.specs.declared.workers.Workers.{Workers}
+use Rattle.all_workers.specs.Workers.{IsAt}
+
+-- the copies that one worker holds, together with those that lie in its inbox: gathered, and not taken yet
+pub record AreWith (share : Share) (taker : TakerView) (copies : List RadioCopy) : Type 0 where
+  pub items : List Item
+  pub holds : Holds share.agenda.buckets items
+  pub waiting : List RadioCopy
+  pub gathered : IsPermutation (gathered_by taker) (taken_by taker ++ waiting)
+  pub both : IsPermutation copies (packets items ++ waiting)
+
+-- Where the workers stand before a moment, the copies of the net's agenda behind all turns before it are those that the
+-- workers hold together with those in the inboxes, each once.
+abbrev pub AgendaIsHeld : Type 0
+AgendaIsHeld = (n : NetTold) → RunsForward (system_of n) → (of : List ℕ) (end : ℕ) (crew : Workers)
+    → IsAt n of (suc end) crew
+    → (net : NetState Node Line) → Run (system_of n) end (boot (system_of n)) net
+    → (parts : ℕ → List RadioCopy)
+    × ((worker : ℕ) → worker < length crew.inboxes.items → (share : Share) (taker : TakerView)
+    → AreWith (slice_index_or crew.shares.items worker share) (slice_index_or crew.takers.items worker taker)
+    (parts worker))
+    × IsPermutation (packets net.agenda) (flat_map parts (up_to (length crew.inboxes.items)))

@@ -1,0 +1,51 @@
+-- The workers of a net between two windows.
+use Rattle.std.specs.Prelude.{ℕ, ◌≡◌, ◌<◌, ◌≤◌, ◌++◌, List, length, slice_index_or, Option, Some, None}
+use Rattle.std.specs.List.{filter, AllByRecursion as Each}
+use Rattle.radio_packet.specs.declared.copy.RadioCopy.{RadioCopy}
+use Rattle.mote_net.specs.Net.{NetTold}
+use Rattle.window_laws.specs.Windows.{first_mote, Windows, WakesFrom, is_from_sender}
+use Rattle.net_agenda.specs.NetSystem.{system_of}
+use Rattle.worker_cut.specs.Laws.{HasGathered}
+use Rattle.copy_inbox.specs.Handles.{TakerView}
+use Rattle.copy_exchange.specs.Desks.{taken_by, gathered_by}
+use Rattle.copy_exchange.specs.Inboxes.{Settled}
+use Rattle.worker_window.specs.declared.share.Share.{Share}
+use Rattle.worker_window.specs.Share.{Motes, Keeps}
+use Rattle.all_workers.specs.declared.workers.Workers.{Workers}
+
+-- each mote has one of so many workers
+pub record IsCut (motes workers : ℕ) (of : List ℕ) : Type 0 where
+  pub len : length of ≡ motes
+  pub there : Each (λ worker. worker < workers) of
+
+-- the copy arrives at this moment or later; where there is no moment, there is no such copy
+abbrev pub IsNotBefore : (first : Option ℕ) → RadioCopy → Type 0
+IsNotBefore None copy = ⊥
+IsNotBefore (Some moment) copy = moment ≤ copy.at
+
+-- of what a worker gathered of one mote, it took a front; the rest lies in its inbox, and arrives no sooner than at
+-- this moment
+pub record Waits (first : Option ℕ) (sender : ℕ) (taker : TakerView) : Type 0 where
+  pub rest : List RadioCopy
+  pub all : filter (is_from_sender sender) (gathered_by taker) ≡ filter (is_from_sender sender) (taken_by taker) ++ rest
+  pub later : Each (IsNotBefore first) rest
+
+-- One worker, where the motes have come: its share keeps its motes, and it gathered, of each mote of another worker,
+-- all copies for its own.
+pub record IsWorkerAt (n : NetTold) (of : List ℕ) (from : ℕ) (motes : Motes) (first : Option ℕ) (worker : ℕ)
+    (share : Share) (taker : TakerView) : Type 0 where
+  pub keeps : Keeps n of worker from motes (taken_by taker) share
+  pub gathered : HasGathered (system_of n) of motes worker (gathered_by taker)
+  pub waits : (sender : ℕ) → Waits first sender taker
+
+-- The workers stand before a moment: the windows up to it led the motes there, and each worker has its part of it.
+pub record IsAt (n : NetTold) (of : List ℕ) (from : ℕ) (workers : Workers) : Type 0 where
+  pub motes : Motes
+  pub led : Windows (system_of n) 0 from (first_mote (system_of n)) motes
+  pub cut : IsCut (length n.motes) (length workers.inboxes.items) of
+  pub shares : length workers.shares.items ≡ length workers.inboxes.items
+  pub settled : Settled workers.inboxes.items workers.takers.items
+  pub first : WakesFrom from workers.first_out
+  pub each : (worker : ℕ) → worker < length workers.inboxes.items → (share : Share) (taker : TakerView)
+      → IsWorkerAt n of from motes workers.first_out worker
+      (slice_index_or workers.shares.items worker share) (slice_index_or workers.takers.items worker taker)

@@ -1,0 +1,17 @@
+//! Why a worker gave up.
+
+ghost use Rattle.std.specs.Prelude.{◌≡◌};
+ghost use Rattle.all_workers.specs.Refusals.{refused_of};
+
+use fork_join::Refused;
+use window_run::ShareError;
+
+/// Why a worker gave up whose motes gave up in a window.
+pub fn refused(error: ShareError) -> Refused
+    ensures { result ≡ refused_of error }
+{
+    match error {
+        ShareError::Memory => Refused::Memory,
+        ShareError::Thread => Refused::Thread,
+    }
+}

@@ -1,0 +1,46 @@
+//! How long a window is.
+
+ghost use Rattle.std.specs.Prelude.{◌≡◌, ◌+◌, ◌<◌, ◌≤◌};
+ghost use Rattle.mote_net.specs.Limits.{latest_end};
+ghost use Rattle.mote_net.specs.Net.{net_of};
+ghost use Rattle.net_agenda.specs.NetSystem.{system_of};
+ghost use Rattle.window_laws.specs.System.{RunsForward};
+ghost use Rattle.all_workers.specs.WindowLength.{end_of_window, length_of_window};
+
+use mote_net::Net;
+
+/// The lookahead of a net. Every net runs forward: its wakes and copies come later than the turns that make them.
+pub fn lookahead_of(net: &Net) -> u64
+    ensures value { result ≡ (system_of (net_of net.now)).lookahead }
+    ensures forward { RunsForward (system_of (net_of net.now)) }
+{
+    net.medium().lookahead(net.end())
+}
+
+/// How long a window lasts: as long as the lookahead, or `longest`, where that is above 0 and less.
+pub fn window_length(lookahead: u64, longest: u32) -> u64
+    requires { 0 < lookahead }
+    ensures value { result ≡ length_of_window lookahead longest }
+    ensures above_zero { 0 < result }
+    ensures within { result ≤ lookahead }
+    ensures told { 0 < longest → longest < lookahead → result ≡ longest }
+{
+    let longest = u64::from(longest);
+    if longest == 0 || lookahead <= longest {
+        return lookahead;
+    }
+    longest
+}
+
+/// The moment before which a window ends that begins at or before the end and may last so long.
+pub fn window_end(from: u64, length: u64, end: u64) -> u64
+    requires above_zero { 0 < length }
+    requires early { end ≤ latest_end }
+    requires from { from ≤ end }
+    ensures value { result ≡ end_of_window end length from }
+    ensures later { from < result }
+    ensures short { result ≤ from + length }
+    ensures within { result ≤ end + 1 }
+{
+    from + length.min(end + 1 - from)
+}

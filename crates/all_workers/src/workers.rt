@@ -1,0 +1,72 @@
+//! All workers between two windows, and before the first.
+
+ghost use Rattle.std.specs.Prelude.{◌≡◌, ◌≤◌, length, IfOk, IfErr};
+ghost use Rattle.std.specs.List.{AllZip};
+ghost use Rattle.fork_join.specs.declared.work.Refused.TheVariants.{Memory};
+ghost use Rattle.mote_net.specs.Net.{net_of};
+ghost use Rattle.copy_exchange.specs.Inboxes.{IsFresh};
+ghost use Rattle.all_workers.specs.Start.{AreFirst};
+ghost use Rattle.all_workers.specs.Workers.{IsAt, IsCut};
+
+use copy_inbox::{Inbox, Taker};
+use fork_join::Refused;
+use mote_net::Net;
+use std::alloc::Global;
+use worker_window::Share;
+
+/// The workers of a net: their shares, their inboxes with the takers, and when the first of the copies arrives that lie
+/// in the inboxes.
+#[derive(Drop)]
+pub struct Workers {
+    pub shares: Vec<Share>,
+    pub inboxes: Vec<Inbox>,
+    pub takers: Vec<Taker>,
+    pub first_out: Option<u64>,
+}
+
+/// The shares of so many workers: each mote wakes at 0.
+fn first_shares(alloc: Global, net: &Net, of: &[u16], workers: u16) -> Result<Vec<Share>, Refused>
+    requires { length of.now ≡ length (net_of net.now).motes }
+    ensures first { let n = net_of net.now in IfOk result (λ shares. AreFirst n of.now workers shares.items) }
+    ensures err { IfErr result (λ e. e ≡ Memory) }
+{
+    let mut shares = Vec::new(alloc);
+    for worker in 0..workers {
+        let share = Share::new(alloc, net, of, worker)?;
+        shares.push(share)?;
+    }
+    Ok(shares)
+}
+
+impl Workers {
+    /// The workers before the motes' first turns: each mote wakes at 0, and nothing lies in the inboxes. `of` tells the
+    /// worker of each mote.
+    ///
+    /// # Errors
+    /// `Memory` alone.
+    pub fn start(
+        alloc: Global,
+        net: &Net,
+        of: &[u16],
+        inboxes: Vec<Inbox>,
+        takers: Vec<Taker>,
+    ) -> Result<Workers, Refused>
+        requires few { length inboxes.items ≤ 16 }
+        requires cut { IsCut (length (net_of net.now).motes) (length inboxes.items) of.now }
+        requires fresh { AllZip IsFresh inboxes.items takers.items }
+        ensures at { IfOk result (λ workers. IsAt (net_of net.now) of.now 0 workers) }
+        ensures first { IfOk result
+            (λ workers. AreFirst (net_of net.now) of.now (length inboxes.items) workers.shares.items) }
+        ensures inboxes { IfOk result (λ workers. workers.inboxes.items ≡ inboxes.items) }
+        ensures takers { IfOk result (λ workers. workers.takers.items ≡ takers.items) }
+        ensures err { IfErr result (λ e. e ≡ Memory) }
+    {
+        let shares = first_shares(alloc, net, of, inboxes.len() as u16)?;
+        Ok(Workers {
+            shares,
+            inboxes,
+            takers,
+            first_out: None,
+        })
+    }
+}

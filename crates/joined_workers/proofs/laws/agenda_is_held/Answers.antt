@@ -1,5 +1,0 @@
-use Rattle.joined_workers.proofs.Held.{agenda_is_held}
-use Rattle.joined_workers.proofs.laws.agenda_is_held.Goals as goal
-
-pub returns : goal.returns
-returns c = agenda_is_held

@@ -1,0 +1,54 @@
+//! What is to come first.
+
+ghost use Rattle.std.specs.Prelude.{◌≡◌};
+ghost use Rattle.worker_window.specs.Next.{TellsNext};
+ghost use Rattle.joined_workers.specs.Next.{IsNextOfAll, FirstOfAll};
+
+use crate::worker::sooner;
+use all_workers::{Worker, Workers};
+use worker_window::Share;
+
+/// The moment of what is to come first to a worker's motes: a wrapper that gives the proof of the loop over all shares
+/// one clause.
+fn next_of(share: &Share) -> Option<u64>
+    ensures { TellsNext share.now result }
+{
+    share.next()
+}
+
+/// When the first of the copies arrives that a worker delivered: a wrapper that gives the proof of the loop over all
+/// workers one clause.
+fn first_out_of(worker: &Worker) -> Option<u64>
+    ensures { result ≡ worker.now.first_out }
+{
+    worker.first_out
+}
+
+/// When the first of the copies arrives that these workers delivered.
+pub fn first_of_all(workers: &[Worker]) -> Option<u64>
+    ensures { FirstOfAll workers.now result }
+{
+    let mut first = None;
+    for worker in workers {
+        first = sooner(first_out_of(worker), first);
+    }
+    first
+}
+
+/// When something comes first to one of these shares, or out of an inbox.
+fn next_of_all(first_out: Option<u64>, shares: &[Share]) -> Option<u64>
+    ensures { IsNextOfAll first_out shares.now result }
+{
+    let mut next = first_out;
+    for share in shares {
+        next = sooner(next_of(share), next);
+    }
+    next
+}
+
+/// The moment of what is to come first, in the shares or the inboxes, if anything is.
+pub fn next_moment(crew: &Workers) -> Option<u64>
+    ensures { IsNextOfAll crew.now.first_out crew.now.shares.items result }
+{
+    next_of_all(crew.first_out, &crew.shares)
+}
