@@ -10,7 +10,8 @@ use Rattle.copy_exchange.specs.Desks.{taken_by}
 use Rattle.copy_inbox.specs.Items.{copies_of}
 use Rattle.worker_window.specs.declared.share.Share.{Share}
 use Rattle.worker_window.specs.Share.{Keeps}
-use Rattle.worker_window.specs.Window.{RunsWindow, ComesIn}
+use Rattle.worker_window.specs.Window.{RunsWindow}
+use Rattle.worker_cut.specs.Crossed.{IsDue}
 use Rattle.all_workers.specs.declared.workers.Workers.{Workers}
 use Rattle.all_workers.specs.declared.worker.Worker.{Worker}
 use Rattle.all_workers.specs.Workers.{IsAt, IsWorkerAt}
@@ -68,7 +69,7 @@ module _ (n : NetTold) (of : List ℕ) (from until : ℕ) (old new : Workers) (a
     taken_same : taken_by p.courier.taker ≡ taken_by p.taker
     taken_same = ap copies_of p.set_out.same_taken
 
-    pub comes : Each (ComesIn of v from) p.ran.arrived
+    pub comes : Each (IsDue of v from) p.ran.arrived
     comes = arrived_come n of from at.motes old.first_out v p.share p.taker p.here at.first p.courier p.set_out p.ran.between p.ran.arrived p.ran.collects
 
     pub window : RunsWindow n of v from until at.motes (taken_by p.done.courier.taker) p.done.share p.ran.sent
@@ -77,4 +78,4 @@ module _ (n : NetTold) (of : List ℕ) (from until : ℕ) (old new : Workers) (a
         (p.ran.runs from at.motes
         (subst (λ w. Keeps n of w from at.motes (taken_by p.courier.taker) p.share) (sym p.number) (subst (λ t. Keeps n of v from at.motes t p.share) (sym taken_same) p.here.keeps))
         up short
-        (subst (λ w. Each (ComesIn of w from) p.ran.arrived) (sym p.number) comes))
+        (subst (λ w. Each (IsDue of w from) p.ran.arrived) (sym p.number) comes))

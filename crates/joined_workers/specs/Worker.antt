@@ -10,9 +10,9 @@ use Rattle.copy_exchange.specs.declared.courier.Courier.{Courier}
 use Rattle.copy_exchange.specs.Couriers.{IsCourier, Collects, Delivers}
 use Rattle.copy_exchange.specs.Desks.{taken_by, gathered_by}
 use Rattle.copy_exchange.specs.Inboxes.{IsPlain}
-use Rattle.worker_cut.specs.Crossed.{is_own}
+use Rattle.worker_cut.specs.Crossed.{is_own, IsDue}
 use Rattle.worker_window.specs.Share.{Motes, Keeps}
-use Rattle.worker_window.specs.Window.{CanRun, RunsWindow, GoesOut, ComesIn}
+use Rattle.worker_window.specs.Window.{CanRun, RunsWindow, GoesOut}
 use Rattle.all_workers.specs.Workers.{IsCut, IsNotBefore}
 use Rattle.all_workers.specs.declared.worker.Worker.{Worker}
 
@@ -45,7 +45,7 @@ pub record RunsWorker (n : NetTold) (of : List ℕ) (inboxes : List InboxId) (un
   pub runs : (from : ℕ) (motes : Motes)
       → Keeps n of old.courier.worker from motes (taken_by old.courier.taker) old.share
       → from ≤ until → until ≤ from + (system_of n).lookahead
-      → Each (ComesIn of old.courier.worker from) arrived
+      → Each (IsDue of old.courier.worker from) arrived
       → RunsWindow n of old.courier.worker from until motes (taken_by new.courier.taker) new.share sent
   pub out : Each (GoesOut n of old.courier.worker) sent
   pub first : IsFirstOf sent new.first_out

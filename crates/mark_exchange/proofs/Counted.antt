@@ -13,7 +13,8 @@ use Rattle.copy_inbox.specs.Handles.{TakerView, after_taking, IsNextTaken, desk_
 use Rattle.copy_inbox.proofs.Parts.{part-append, part-here, part-else}
 use Rattle.copy_exchange.proofs.Lists.{each_join}
 use Rattle.copy_exchange.proofs.Parts.{copies-append}
-use Rattle.mark_exchange.specs.Due.{IsDue, IsUndue, AddsCopy, TakesDue, TakesUndue}
+use Rattle.mark_exchange.specs.Due.{IsUndue, AddsCopy, TakesDue, TakesUndue}
+use Rattle.worker_cut.specs.Crossed.{IsDue}
 use Rattle.mark_exchange.specs.Marks.{marks_of, Counts, AreNone}
 use Rattle.mark_exchange.specs.Pushes.{marks_in}
 use Rattle.mark_exchange.proofs.Whole.{marks_append}

@@ -2,19 +2,13 @@
 use Rattle.std.specs.Prelude.{◌≡◌, ℕ, ◌<◌, ◌≤◌, true, false, List, [], ◌∷◌, ◌++◌}
 use Rattle.std.specs.List.{AllByRecursion as Each}
 use Rattle.radio_packet.specs.declared.copy.RadioCopy.{RadioCopy}
-use Rattle.worker_cut.specs.Crossed.{is_own}
+use Rattle.worker_cut.specs.Crossed.{IsDue}
 use Rattle.copy_inbox.specs.declared.items.Carried.TheVariants.{Packet}
 use Rattle.copy_inbox.specs.declared.items.Item.{Item}
 use Rattle.copy_inbox.specs.Items.{copies_of}
 use Rattle.copy_inbox.specs.Handles.{TakerView, after_taking}
 use Rattle.mark_exchange.specs.declared.take.MarkError.{MarkError}
 use Rattle.mark_exchange.specs.declared.take.MarkError.TheVariants.{Memory, Stopped, Undue}
-
--- the copy is for a mote of this worker, from a mote of another, and comes at this moment or later
-pub record IsDue (of : List ℕ) (worker from : ℕ) (copy : RadioCopy) : Type 0 where
-  pub to : is_own of worker copy.to ≡ true
-  pub sender : is_own of worker copy.sender ≡ false
-  pub later : from ≤ copy.at
 
 -- the item carries a copy that isn't due
 abbrev pub IsUndue : (of : List ℕ) → (worker from : ℕ) → Item → Type 0

@@ -3,9 +3,9 @@
 ghost use Rattle.std.specs.Prelude.{◌≡◌, ◌↔◌, IfOk, IfErr, OnOk, OnErr, IsTrue};
 ghost use Rattle.copy_inbox.specs.declared.rule.Desk.{Desk};
 ghost use Rattle.copy_inbox.specs.Handles.{IsNextTaken, desk_with};
-ghost use Rattle.worker_cut.specs.Crossed.{is_own};
+ghost use Rattle.worker_cut.specs.Crossed.{is_own, IsDue};
 ghost use Rattle.mark_exchange.specs.declared.take.MarkError.TheVariants.{Stopped, Undue};
-ghost use Rattle.mark_exchange.specs.Due.{IsDue, AddsCopy, Refuses, TakesDue, TakesUndue};
+ghost use Rattle.mark_exchange.specs.Due.{AddsCopy, Refuses, TakesDue, TakesUndue};
 ghost use Rattle.mark_exchange.specs.Marks.{Counts, AllPast};
 
 use crate::heard::all_past;

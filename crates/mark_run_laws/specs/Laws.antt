@@ -4,7 +4,7 @@ use Rattle.radio_packet.specs.declared.copy.RadioCopy.{RadioCopy}
 use Rattle.mote_net.specs.Net.{NetTold}
 use Rattle.copy_inbox.specs.declared.items.Carried.TheVariants.{Packet}
 use Rattle.copy_inbox.specs.Items.{part}
-use Rattle.mark_exchange.specs.Due.{IsDue}
+use Rattle.worker_cut.specs.Crossed.{IsDue}
 use Rattle.mark_exchange.specs.Pushes.{marks_in}
 use Rattle.mark_laws.specs.State.{State, IsPair}
 use Rattle.mark_laws.specs.Steps.{MayTake, IsAtEnd}

@@ -6,7 +6,7 @@ use Rattle.radio_packet.specs.declared.copy.RadioCopy.{RadioCopy}
 use Rattle.mote_net.specs.Net.{NetTold}
 use Rattle.window_laws.proofs.Lists.{every_weaker}
 use Rattle.net_agenda.specs.NetSystem.{system_of}
-use Rattle.worker_cut.specs.Crossed.{is_to}
+use Rattle.worker_cut.specs.Crossed.{is_to, IsDue}
 use Rattle.copy_inbox.specs.declared.items.Carried.{Carried}
 use Rattle.copy_inbox.specs.declared.items.Carried.TheVariants.{Packet, Mark}
 use Rattle.copy_inbox.specs.declared.items.Item.{Item}
@@ -21,10 +21,9 @@ use Rattle.copy_exchange.specs.declared.courier.Courier.{Courier}
 use Rattle.mark_exchange.specs.declared.courier.MarkCourier.{MarkCourier}
 use Rattle.mark_exchange.specs.Marks.{Counts}
 use Rattle.mark_exchange.specs.Pushes.{marks_in}
-use Rattle.mark_exchange.specs.Due.{IsDue}
 use Rattle.mark_exchange.proofs.Delivered.{takes_stays, takes_seated}
 use Rattle.worker_window.specs.Share.{Keeps}
-use Rattle.worker_window.specs.Window.{CanRun, ComesIn, GoesOut, RunsWindow}
+use Rattle.worker_window.specs.Window.{CanRun, GoesOut, RunsWindow}
 use Rattle.all_workers.specs.Workers.{IsCut}
 use Rattle.all_workers.proofs.Sent.{leaves_sent}
 use Rattle.all_workers.specs.declared.worker.Worker.{Worker}
@@ -48,9 +47,6 @@ none_of_others made (x ∷ xs) h s le =
 
 of_made_more : (made : ℕ) (xs ys : List Item) → OfMade made xs → Each (λ (x : Item). x.sender < made) ys → OfMade made (xs ++ ys)
 of_made_more made xs ys h more s le = part-append s xs ys ∙ (ap (λ l. l ++ part s ys) (h s le) ∙ none_of_others made ys more s le)
-
-due_comes : (of : List ℕ) (worker from : ℕ) (copies : List RadioCopy) → Each (IsDue of worker from) copies → Each (ComesIn of worker from) copies
-due_comes of worker from copies h = every_weaker _ _ (λ c d. record { to = d.to; sender = d.sender; later = d.later }) copies h
 
 -- a worker before its first window, with its counts of marks
 pub manned : (n : NetTold) (of : List ℕ) (inboxes : List InboxId) (w : Worker) (m : MarkCourier) → IsFirst n of inboxes w → m.courier ≡ w.courier
@@ -155,8 +151,8 @@ module _ (n : NetTold) (of : List ℕ) (width k until : ℕ) (inboxes : List Inb
         ap (λ s. pushed_list (get_or s.items v None)) takes.senders
         ∙ sends.pushes.pushes v there (ap (λ w. v == w) stands.stays.worker ∙ ne_eqb v worker other)
 
-    arrived_come : Each (ComesIn of worker until) takes.arrived
-    arrived_come = due_comes of worker until takes.arrived (subst (λ w. Each (IsDue of w until) takes.arrived) (sends.pushes.stays.worker ∙ stands.stays.worker) takes.took.due)
+    arrived_come : Each (IsDue of worker until) takes.arrived
+    arrived_come = subst (λ w. Each (IsDue of w until) takes.arrived) (sends.pushes.stays.worker ∙ stands.stays.worker) takes.took.due
 
     keeps : Keeps n of worker until ran.next (copies_of desk.taken ++ copies_of more) new.share
     keeps = subst (λ l. Keeps n of worker until ran.next (copies_of desk.taken ++ l) new.share) takes.took.arrived

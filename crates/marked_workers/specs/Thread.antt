@@ -11,7 +11,8 @@ use Rattle.mark_exchange.specs.Delivers.{PushesWindow}
 use Rattle.mark_exchange.specs.Due.{TakesDue}
 use Rattle.mark_exchange.specs.Marks.{AllPast, Counts}
 use Rattle.worker_window.specs.Share.{Keeps, Motes}
-use Rattle.worker_window.specs.Window.{ComesIn, GoesOut, RunsWindow}
+use Rattle.worker_window.specs.Window.{GoesOut, RunsWindow}
+use Rattle.worker_cut.specs.Crossed.{IsDue}
 use Rattle.all_workers.specs.Workers.{IsCut}
 use Rattle.all_workers.specs.declared.worker.Worker.{Worker}
 use Rattle.marked_workers.specs.declared.worker.MarkWorker.{MarkWorker}
@@ -65,7 +66,7 @@ pub record TakesWindow (of : List ℕ) (window until : ℕ) (old new : MarkWorke
   pub senders : new.carries.courier.senders ≡ old.carries.courier.senders
   pub keeps : (n : NetTold) (whose : List ℕ) (worker from : ℕ) (motes : Motes) (taken : List RadioCopy)
       → Keeps n whose worker from motes taken old.share
-      → Each (ComesIn whose worker from) arrived → Keeps n whose worker from motes (taken ++ arrived) new.share
+      → Each (IsDue whose worker from) arrived → Keeps n whose worker from motes (taken ++ arrived) new.share
 
 -- a worker, since its first window, behind so many windows
 pub record HasRun (n : NetTold) (of : List ℕ) (width windows : ℕ) (inboxes : List InboxId)

@@ -197,7 +197,11 @@ fn without_marks(worker: MarkWorker) -> Worker
     ensures { IsSame result worker }
 {
     let MarkWorker { share, carries } = worker;
-    let MarkCourier { courier, marks: _, waiting: _ } = carries;
+    let MarkCourier {
+        courier,
+        marks: _,
+        waiting: _,
+    } = carries;
     Worker {
         share,
         courier,

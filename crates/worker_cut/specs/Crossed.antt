@@ -1,5 +1,5 @@
 -- Who has which mote, and what crosses from one worker to another.
-use Rattle.std.specs.Prelude.{ℕ, Bool, false, not, ◌==◌, if◌then◌else◌, List, []}
+use Rattle.std.specs.Prelude.{ℕ, ◌≡◌, ◌≤◌, Bool, true, false, not, ◌==◌, if◌then◌else◌, List, []}
 use Rattle.std.specs.List.{filter, slice_get}
 use Rattle.std.specs.Option.{option_map_or}
 use Rattle.radio_packet.specs.declared.copy.RadioCopy.{RadioCopy}
@@ -17,6 +17,12 @@ is_to of worker copy = is_own of worker copy.to
 -- the copy is for a mote of another worker
 abbrev pub leaves : (own : ℕ → Bool) → RadioCopy → Bool
 leaves own copy = not (own copy.to)
+
+-- the copy is for a mote of this worker, from a mote of another, and comes at this moment or later
+pub record IsDue (of : List ℕ) (worker from : ℕ) (copy : RadioCopy) : Type 0 where
+  pub to : is_own of worker copy.to ≡ true
+  pub sender : is_own of worker copy.sender ≡ false
+  pub later : from ≤ copy.at
 
 -- what this mote has sent for motes of the worker, where it is another worker's
 abbrev pub crossed : {S L : Type 0} → System S L → (of : List ℕ) → (motes : (number : ℕ) → LoneMote S L) → (worker sender : ℕ) → List RadioCopy

@@ -5,7 +5,7 @@ use Rattle.radio_packet.specs.declared.copy.RadioCopy.{RadioCopy}
 use Rattle.mote_net.specs.Net.{NetTold}
 use Rattle.window_laws.specs.Windows.{Alone, copies_by, is_at, is_from_sender, is_within}
 use Rattle.net_agenda.specs.NetSystem.{system_of}
-use Rattle.worker_cut.specs.Crossed.{leaves, is_own, copies_known}
+use Rattle.worker_cut.specs.Crossed.{leaves, is_own, copies_known, IsDue}
 use Rattle.worker_window.specs.declared.share.Share.{Share}
 use Rattle.worker_window.specs.Share.{Motes, Keeps}
 
@@ -43,12 +43,6 @@ pub record GoesOut (n : NetTold) (of : List ℕ) (worker : ℕ) (copy : RadioCop
   pub to : is_own of worker copy.to ≡ false
   pub there : copy.to < length n.motes
 
--- to a mote of this worker from one of another, at this moment or later
-pub record ComesIn (of : List ℕ) (worker from : ℕ) (copy : RadioCopy) : Type 0 where
-  pub to : is_own of worker copy.to ≡ true
-  pub sender : is_own of worker copy.sender ≡ false
-  pub later : from ≤ copy.at
-
 -- The share can run through a window up to this bound: it is that of some worker at some moment, before which none of
 -- the copies comes that arrived from other workers.
 pub record CanRun (n : NetTold) (of : List ℕ) (until : ℕ) (share : Share) (arrived : List RadioCopy) : Type 0 where
@@ -58,4 +52,4 @@ pub record CanRun (n : NetTold) (of : List ℕ) (until : ℕ) (share : Share) (a
   pub taken : List RadioCopy
   pub keeps : Keeps n of worker from motes taken share
   pub order : from ≤ until
-  pub come : Each (ComesIn of worker from) arrived
+  pub come : Each (IsDue of worker from) arrived

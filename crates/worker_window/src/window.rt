@@ -11,9 +11,9 @@ ghost use Rattle.worker_window.specs.Calls.{copies_for};
 ghost use Rattle.mote_net.specs.Net.{NetTold, net_of};
 ghost use Rattle.net_agenda.specs.NetSystem.{system_of};
 ghost use Rattle.radio_packet.specs.declared.copy.RadioCopy.{RadioCopy as CopyOfCode};
-ghost use Rattle.worker_cut.specs.Crossed.{is_own, leaves};
+ghost use Rattle.worker_cut.specs.Crossed.{is_own, leaves, IsDue};
 ghost use Rattle.worker_window.specs.Share.{Motes, Keeps, mote_here, wake_from};
-ghost use Rattle.worker_window.specs.Window.{CanRun, ComesIn, GoesOut, RunsWindow};
+ghost use Rattle.worker_window.specs.Window.{CanRun, GoesOut, RunsWindow};
 ghost use Rattle.worker_window.specs.Log.{HaveFates, packets_in};
 ghost use Rattle.worker_window.specs.Sending.{copies_away, own_items};
 ghost use Rattle.worker_window.specs.Leaving.{MotesLeave, HasNumber, IsOutOfNet, MoteReturns};
@@ -247,7 +247,7 @@ impl Share {
     pub fn take_in(&mut self, arrived: &[RadioCopy]) -> Result<(), AllocError>
         ensures { OnOk result ((n : NetTold) (of : List ℕ) (worker from : ℕ) (motes : Motes) (taken : List CopyOfCode)
             → Keeps n of worker from motes taken self.old
-            → AllByRecursion (ComesIn of worker from) arrived.now
+            → AllByRecursion (IsDue of worker from) arrived.now
             → Keeps n of worker from motes (taken ++ arrived.now) self.new) }
     {
         self.agenda.put_copies(arrived)?;
@@ -282,7 +282,7 @@ impl Share {
             IfOk result (λ sent. (worker from : ℕ) (motes : Motes) (taken : List CopyOfCode)
             → Keeps n of.now worker from motes taken self.old
             → from ≤ until → until ≤ from + (system_of n).lookahead
-            → AllByRecursion (ComesIn of.now worker from) arrived.items
+            → AllByRecursion (IsDue of.now worker from) arrived.items
             → RunsWindow n of.now worker from until motes (taken ++ arrived.items) self.new sent.items) }
         ensures out { let n = net_of net.now in IfOk result
             (λ sent. AllByRecursion (GoesOut n of.now self.old.worker) sent.items) }
