@@ -17,6 +17,6 @@ class Lines(unittest.TestCase):
             self.assertTrue(files, kind)
             long = ['%s:%d' % (path.relative_to(here.TOP), number) for path in files
                     for number, line in enumerate(path.read_text('utf-8').splitlines(), 1)
-                    # (a row of a table and a picture can't be broken)
-                    if len(line) > LONGEST[kind] and not line.startswith(('|', '!['))]
+                    # (a row of a table, a picture, an attribute and a text can't be broken)
+                    if len(line) > LONGEST[kind] and not line.lstrip().startswith(('|', '![', '#[', '"'))]
             self.assertEqual(long, [], kind)

@@ -1,5 +1,6 @@
 -- What a courier carries to and fro in one window.
-use Rattle.std.specs.Prelude.{◌≡◌, ℕ, ◌+◌, ◌<◌, ◌≤◌, ◌==◌, Bool, true, false, List, [], ◌∷◌, ◌++◌, length, map, filter, slice_get, slice_index, slice_index_or, Option, Some, None}
+use Rattle.std.specs.Prelude.{◌≡◌, ℕ, ◌+◌, ◌<◌, ◌≤◌, ◌==◌, Bool, true, false, List, [], ◌∷◌, ◌++◌, length, map, filter}
+use Rattle.std.specs.Prelude.{slice_get, slice_index, slice_index_or, Option, Some, None}
 use Rattle.std.specs.List.{AllByRecursion as Each, AllZip, filter_map, flat_map, range_with_len}
 use Rattle.std.specs.Option.{IsSomeAnd}
 use Rattle.radio_packet.specs.declared.copy.RadioCopy.{RadioCopy}
@@ -119,7 +120,8 @@ pub record Reaches (of : List ℕ) (workers : ℕ) (copy : RadioCopy) : Type 0 w
 pub record PushesOut (of : List ℕ) (old new : Courier) (copies : List RadioCopy) : Type 0 where
   pub stays : Stays old new
   pub taker : new.taker ≡ old.taker
-  pub pushes : (v : ℕ) → (v == old.worker) ≡ false → pushed_to new v ≡ pushed_to old v ++ map Packet (filter (is_to of v) copies)
+  pub pushes : (v : ℕ) → (v == old.worker) ≡ false
+      → pushed_to new v ≡ pushed_to old v ++ map Packet (filter (is_to of v) copies)
 
 -- it pushed the mark of this window to each other of so many workers, and nothing else
 pub record PushesMarks (workers window : ℕ) (old new : Courier) : Type 0 where

@@ -1,5 +1,6 @@
 -- The steps before a window and after it, inbox by inbox.
-use Rattle.std.specs.Prelude.{◌≡◌, ◌≢◌, ℕ, ◌<◌, ◌==◌, Bool, false, cond, List, [], ◌∷◌, ◌++◌, length, slice_get, slice_index_or, Option, Some, None}
+use Rattle.std.specs.Prelude.{◌≡◌, ◌≢◌, ℕ, ◌<◌, ◌==◌, Bool, false, cond, List, [], ◌∷◌, ◌++◌, length, slice_get}
+use Rattle.std.specs.Prelude.{slice_index_or, Option, Some, None}
 use Rattle.std.specs.List.{AllByRecursion as Each}
 use Rattle.copy_inbox.specs.declared.items.Carried.{Carried}
 use Rattle.copy_inbox.specs.declared.items.Carried.TheVariants.{Mark}
@@ -14,7 +15,8 @@ use Rattle.copy_exchange.specs.Couriers.{Stays, sender_to, senders_to, pushed_to
 -- each taker is that of the inbox at its place
 pub record AreTakersOf (inboxes : List InboxId) (takers : List TakerView) : Type 0 where
   pub count : length takers ≡ length inboxes
-  pub its : (v : ℕ) (id : InboxId) (t : TakerView) → v < length inboxes → (slice_index_or takers v t).inbox ≡ slice_index_or inboxes v id
+  pub its : (v : ℕ) (id : InboxId) (t : TakerView) → v < length inboxes
+      → (slice_index_or takers v t).inbox ≡ slice_index_or inboxes v id
 
 abbrev pub at_place : List (Option SenderView) → (v : ℕ) → Option SenderView
 at_place senders v = slice_index_or senders v None
@@ -30,8 +32,10 @@ opened_sender own t = cond own None (Some (record { inbox = t.inbox; post = make
 pub record Opens (worker : ℕ) (old new : List TakerView) (senders : List (Option SenderView)) : Type 0 where
   pub takers : length new ≡ length old
   pub count : length senders ≡ length old
-  pub taker : (v : ℕ) (t : TakerView) → v < length old → slice_index_or new v t ≡ opened_taker (v == worker) (slice_index_or old v t)
-  pub sender : (v : ℕ) (t : TakerView) → v < length old → at_place senders v ≡ opened_sender (v == worker) (slice_index_or old v t)
+  pub taker : (v : ℕ) (t : TakerView) → v < length old
+      → slice_index_or new v t ≡ opened_taker (v == worker) (slice_index_or old v t)
+  pub sender : (v : ℕ) (t : TakerView) → v < length old
+      → at_place senders v ≡ opened_sender (v == worker) (slice_index_or old v t)
 
 -- ---- a worker's senders are gathered
 abbrev pub gather_into : TakerView → Option SenderView → TakerView
@@ -41,7 +45,8 @@ gather_into t (Some s) = after_gather t s.post
 -- each sender is one of the inbox at its place
 pub record AreSendersOn (inboxes : List InboxId) (senders : List (Option SenderView)) : Type 0 where
   pub count : length senders ≡ length inboxes
-  pub its : (v : ℕ) (id : InboxId) (s : SenderView) → v < length inboxes → at_place senders v ≡ Some s → s.inbox ≡ slice_index_or inboxes v id
+  pub its : (v : ℕ) (id : InboxId) (s : SenderView) → v < length inboxes → at_place senders v ≡ Some s
+      → s.inbox ≡ slice_index_or inboxes v id
 
 -- what a taker learns of a sender that it gathers: what it took of it is the beginning of what it pushed, and that is
 -- packets where there are no marks
@@ -51,7 +56,8 @@ pub record TellsOf (d : Desk) (p : Post) : Type 0 where
 
 pub record GathersRow (old new : List TakerView) (senders : List (Option SenderView)) : Type 0 where
   pub takers : length new ≡ length old
-  pub taker : (v : ℕ) (t : TakerView) → v < length old → slice_index_or new v t ≡ gather_into (slice_index_or old v t) (at_place senders v)
+  pub taker : (v : ℕ) (t : TakerView) → v < length old
+      → slice_index_or new v t ≡ gather_into (slice_index_or old v t) (at_place senders v)
   pub told : (v : ℕ) (t : TakerView) (s : SenderView) → v < length old → at_place senders v ≡ Some s
       → TellsOf (slice_index_or old v t).desk s.post
 
@@ -63,8 +69,10 @@ gather_posts t (s ∷ senders) = gather_posts (after_gather t s.post) senders
 -- the taker of each courier has gathered all senders on its inbox, in the order of their couriers
 pub record GathersBack (couriers : List Courier) (takers : List TakerView) : Type 0 where
   pub count : length takers ≡ length couriers
-  pub taker : (v : ℕ) (c : Courier) (t : TakerView) → slice_get couriers v ≡ Some c → slice_get takers v ≡ Some t → t ≡ gather_posts c.taker (senders_to couriers v)
-  pub told : (v : ℕ) (c : Courier) → slice_get couriers v ≡ Some c → Each (λ (s : SenderView). TellsOf c.taker.desk s.post) (senders_to couriers v)
+  pub taker : (v : ℕ) (c : Courier) (t : TakerView) → slice_get couriers v ≡ Some c → slice_get takers v ≡ Some t
+      → t ≡ gather_posts c.taker (senders_to couriers v)
+  pub told : (v : ℕ) (c : Courier) → slice_get couriers v ≡ Some c
+      → Each (λ (s : SenderView). TellsOf c.taker.desk s.post) (senders_to couriers v)
 
 -- ---- a mark goes through one sender
 abbrev pub pushed_with_mark : Option SenderView → (window : ℕ) → List Carried

@@ -2,7 +2,8 @@
 
 ghost use Rattle.std.specs.Prelude.{[], ◌∷◌, ◌<◌, true, length, IfOk, IfSome, OnOk, OnErr, ◌≡◌};
 ghost use Rattle.std.specs.List.{AllByRecursion as Each};
-ghost use Rattle.copy_exchange.specs.Couriers.{IsCourier, IsSeated, HasMarks, Collects, Delivers, Leaves, Reaches, PushesOut, PushesMarks, sender_to};
+ghost use Rattle.copy_exchange.specs.Couriers.{IsCourier, IsSeated, HasMarks, Collects, Delivers, Leaves, Reaches};
+ghost use Rattle.copy_exchange.specs.Couriers.{PushesOut, PushesMarks, sender_to};
 ghost use Rattle.copy_exchange.specs.Inboxes.{IsPlain};
 ghost use Rattle.copy_exchange.specs.Steps.{MarksOne};
 
@@ -62,8 +63,8 @@ impl Courier {
         inbox.drain(rt, &mut self.taker, known)
     }
 
-    /// Delivers each copy, in order, to the worker of its receiver, `of` being the worker of each mote. A copy that comes
-    /// back is [`InboxError::Memory`]; what was delivered before it stays.
+    /// Delivers each copy, in order, to the worker of its receiver, `of` being the worker of each mote. A copy that
+    /// comes back is [`InboxError::Memory`]; what was delivered before it stays.
     pub fn deliver<R: Wait>(
         &mut self,
         rt: &R,

@@ -2,9 +2,11 @@
 
 ghost use Rattle.std.specs.Prelude.{◌≡◌, ◌≤◌, ◌^◌, true, length, map, IfOk, IfSome, OnOk};
 ghost use Rattle.std.specs.List.{AllByRecursion as Each, AllZip, range_with_len};
-ghost use Rattle.copy_exchange.specs.Couriers.{IsSeated, Together, SetsOut, HasMarks, HasPushedNothing, AllReturn, ComesHome};
+ghost use Rattle.copy_exchange.specs.Couriers.{IsSeated, Together, SetsOut, HasMarks, HasPushedNothing, AllReturn};
+ghost use Rattle.copy_exchange.specs.Couriers.{ComesHome};
 ghost use Rattle.copy_exchange.specs.Inboxes.{IsPlain, Settled};
-ghost use Rattle.copy_exchange.specs.Steps.{AreTakersOf, Opens, opened_taker, opened_sender, AreSendersOn, gather_into, GathersRow, GathersBack, TellsOf};
+ghost use Rattle.copy_exchange.specs.Steps.{AreTakersOf, Opens, opened_taker, opened_sender, AreSendersOn};
+ghost use Rattle.copy_exchange.specs.Steps.{gather_into, GathersRow, GathersBack, TellsOf};
 
 use crate::courier::Courier;
 use copy_inbox::{Inbox, InboxError, Sender, Taker};
@@ -22,7 +24,8 @@ pub fn couriers(
     ensures together { IfOk result (λ couriers. Together inboxes.now couriers.items) }
     ensures set_out { IfOk result (λ couriers. AllZip SetsOut takers.items couriers.items) }
     ensures nothing { IfOk result (λ couriers. Each HasPushedNothing couriers.items) }
-    ensures marked { IfOk result (λ couriers. Each (λ taker. taker.desk.marked ≡ true) takers.items → Each HasMarks couriers.items) }
+    ensures marked { IfOk result
+        (λ couriers. Each (λ taker. taker.desk.marked ≡ true) takers.items → Each HasMarks couriers.items) }
 {
     let mut takers = takers;
     let mut rows = Vec::with_capacity(alloc, inboxes.len())?;
@@ -71,8 +74,8 @@ fn sender_on(inbox: &Inbox, taker: &mut Taker, own: bool) -> Result<Option<Sende
     Ok(Some(sender))
 }
 
-/// After a window, when all couriers are back: each worker's taker gathers what was delivered to it. The inboxes have no
-/// marks.
+/// After a window, when all couriers are back: each worker's taker gathers what was delivered to it. The inboxes have
+/// no marks.
 pub fn gathered<R: Wait>(
     rt: &R,
     alloc: Global,

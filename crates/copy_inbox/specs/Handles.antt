@@ -1,5 +1,6 @@
 -- What a contract sees of an inbox, its taker and its senders, and what is true of each taker and sender.
-use Rattle.std.specs.Prelude.{◌≡◌, ℕ, ◌+◌, ◌<◌, ◌≤◌, ◌^◌, true, false, cond, ◌⊎◌, List, [], ◌∷◌, ◌++◌, length, slice_index_or}
+use Rattle.std.specs.Prelude.{◌≡◌, ℕ, ◌+◌, ◌<◌, ◌≤◌, ◌^◌, true, false, cond, ◌⊎◌, List, [], ◌∷◌, ◌++◌, length}
+use Rattle.std.specs.Prelude.{slice_index_or}
 use Rattle.std.specs.List.{AllByRecursion as Each}
 use Rattle.std.specs.declared.alloc.Global.{Global}
 use Rattle.crossbeam_queue.specs.SegTies.{SegId}
@@ -32,16 +33,26 @@ pub record SenderView : Type 0 where
 
 -- ---- what each call does to a taker
 abbrev pub after_sender : TakerView → TakerView
-after_sender t = record { inbox = t.inbox; desk = make_desk t.desk.marked (t.desk.made + 1) t.desk.taken t.desk.gathered }
+after_sender t = record {
+  inbox = t.inbox;
+  desk = make_desk t.desk.marked (t.desk.made + 1) t.desk.taken t.desk.gathered;
+}
 
 abbrev pub after_pushing : Post → Carried → Post
 after_pushing p what = make_post p.marked p.number (p.pushed ++ what ∷ [])
 
 abbrev pub after_gather : TakerView → Post → TakerView
-after_gather t p = record { inbox = t.inbox; desk = make_desk t.desk.marked t.desk.made t.desk.taken (make_gathered p.number t.desk.made p.pushed ∷ t.desk.gathered) }
+after_gather t p = record {
+  inbox = t.inbox;
+  desk = make_desk t.desk.marked t.desk.made t.desk.taken
+      (make_gathered p.number t.desk.made p.pushed ∷ t.desk.gathered);
+}
 
 abbrev pub after_taking : TakerView → List Item → TakerView
-after_taking t xs = record { inbox = t.inbox; desk = make_desk t.desk.marked t.desk.made (t.desk.taken ++ xs) t.desk.gathered }
+after_taking t xs = record {
+  inbox = t.inbox;
+  desk = make_desk t.desk.marked t.desk.made (t.desk.taken ++ xs) t.desk.gathered;
+}
 
 -- there are packets, of which these are the copies, that went to the end of what was taken
 abbrev pub TakesCopies : TakerView → TakerView → List RadioCopy → Type 0
@@ -62,7 +73,8 @@ NoMarkLeft d = (d.marked ≡ false) ⊎ PacketsLeft d
 -- there are packets, of which these are the copies, that are the rest of what was pushed: with what was taken they make
 -- the whole of each gathered sender, and nothing else
 abbrev pub Empties : Desk → List RadioCopy → Type 0
-Empties d copies = (rest : List Item) × ArePackets rest copies × Whole d.gathered (d.taken ++ rest) × OfMade d.made (d.taken ++ rest)
+Empties d copies = (rest : List Item) × ArePackets rest copies × Whole d.gathered (d.taken ++ rest)
+    × OfMade d.made (d.taken ++ rest)
 
 -- ---- what is true of every taker and sender, by what its pass knows and what it keeps
 abbrev pub desk_in : View → Desk
@@ -93,7 +105,8 @@ pub record IsSender (v : View) (count : ℕ) : Type 0 where
   pub counted : count ≡ length (post_in v).pushed
   pub few : count ≤ 2 ^ 62
 
--- all that the taker may take is packets: the inbox has no marks, or each sender is gathered and what is left is packets
+-- all that the taker may take is packets: the inbox has no marks, or each sender is gathered and what is left is
+-- packets
 abbrev pub TakesPackets : Desk → Type 0
 TakesPackets d = (d.marked ≡ false) ⊎ (AllGathered d × PacketsLeft d)
 
@@ -106,7 +119,8 @@ pub record IsNextTaken (d : Desk) (x : Item) : Type 0 where
   pub number : x.sender < d.made
   pub few : length (part x.sender (d.taken ++ x ∷ [])) ≤ 2 ^ 62
   -- one less is known where its sender was gathered
-  pub known : known_of d.gathered d.taken ≡ cond (is_gathered d.gathered x.sender) 1 0 + known_of d.gathered (d.taken ++ x ∷ [])
+  pub known : known_of d.gathered d.taken
+      ≡ cond (is_gathered d.gathered x.sender) 1 0 + known_of d.gathered (d.taken ++ x ∷ [])
   -- it is a packet where nothing else can come, and then nothing else comes after it
   pub packet : TakesPackets d → (is_packet x.what ≡ true) × TakesPackets (desk_with d x)
   -- its sender was gathered where something is known and no sender that isn't gathered can stand before that

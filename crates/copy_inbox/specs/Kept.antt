@@ -1,5 +1,6 @@
 -- What a taker keeps of its senders: a count of each but the first ones, which were gathered.
-use Rattle.std.specs.Prelude.{◌≡◌, ℕ, ◌+◌, ◌-◌, ◌^◌, ◌<◌, ◌≤◌, ◌⊎◌, Bool, true, List, length, drop, slice_index_or, slice_set}
+use Rattle.std.specs.Prelude.{◌≡◌, ℕ, ◌+◌, ◌-◌, ◌^◌, ◌<◌, ◌≤◌, ◌⊎◌, Bool, true, List, length, drop, slice_index_or}
+use Rattle.std.specs.Prelude.{slice_set}
 use Rattle.copy_inbox.specs.declared.count.Count.{Count}
 use Rattle.copy_inbox.specs.declared.rule.View.{View}
 use Rattle.copy_inbox.specs.Gathered.{is_gathered}
@@ -19,9 +20,11 @@ pub record KeepsCounts (v : View) (first : ℕ) (kept : List Count) (known : ℕ
 pub record CountsTaken (first sender : ℕ) (old new : List Count) (gathered : Bool) : Type 0 where
   pub forgotten : sender < first → (new ≡ old) × (gathered ≡ true)
   pub counted : first ≤ sender → (c : Count) × (c ≡ slice_index_or old (sender - first) c)
-      × (new ≡ slice_set old (sender - first) (record { taken = c.taken + 1; gathered = c.gathered })) × (gathered ≡ c.gathered)
+      × (new ≡ slice_set old (sender - first) (record { taken = c.taken + 1; gathered = c.gathered }))
+      × (gathered ≡ c.gathered)
 
 -- the first count goes where its sender was gathered, or nothing changes
 abbrev pub Forgets : (first : ℕ) → List Count → (first_new : ℕ) → List Count → Type 0
 Forgets first old first_new new = ((first_new ≡ first) × (new ≡ old))
-    ⊎ ((first_new ≡ first + 1) × (first < 2 ^ 62) × (0 < length old) × (new ≡ drop 1 old) × ((c : Count) → (slice_index_or old 0 c).gathered ≡ true))
+    ⊎ ((first_new ≡ first + 1) × (first < 2 ^ 62) × (0 < length old) × (new ≡ drop 1 old)
+    × ((c : Count) → (slice_index_or old 0 c).gathered ≡ true))

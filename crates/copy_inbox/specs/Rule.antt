@@ -18,23 +18,26 @@ abbrev pub Behind : ℕ → ℕ → List Item → Type 0
 Behind s made [] = Unit {0}
 Behind s made (x ∷ xs) = (made ≤ x.sender → part s (x ∷ xs) ≡ []) × Behind s made xs
 
--- a pass that is the taker's is the one, and a pass that is a sender's is the one of its number; whether there are marks,
--- both know alike
+-- a pass that is the taker's is the one, and a pass that is a sender's is the one of its number; whether there are
+-- marks, both know alike
 abbrev pub PassFits : ℕ → (ℕ → Option ℕ) → Desk → (ℕ → List Carried) → ℕ → View → Type 0
 PassFits taker seat d pushed pass (Taking e) = (pass ≡ taker) × (e ≡ d)
-PassFits taker seat d pushed pass (Sending p) = (seat p.number ≡ Some pass) × (p.pushed ≡ pushed p.number) × (p.marked ≡ d.marked)
+PassFits taker seat d pushed pass (Sending p) =
+    (seat p.number ≡ Some pass) × (p.pushed ≡ pushed p.number) × (p.marked ≡ d.marked)
 PassFits taker seat d pushed pass Spent = Unit {0}
 
 -- of a gathered sender: it was made, its pass is spent, the taker knows all that it pushed, and in the queue no item of
 -- a sender that was made later stands before one of its own
-pub record Joined (made : ℕ) (seat : ℕ → Option ℕ) (pushed : ℕ → List Carried) (items : List Item) (g : Gathered) : Type 0 where
+pub record Joined (made : ℕ) (seat : ℕ → Option ℕ) (pushed : ℕ → List Carried) (items : List Item)
+    (g : Gathered) : Type 0 where
   pub was_made : g.number < made
   pub spent : seat g.number ≡ None
   pub all : pushed g.number ≡ g.pushed
   pub behind : Behind g.number g.made items
 
--- The items of each sender in what was taken, followed by the queue, are what it pushed, in order, and there are no other items.
--- Each sender that was made has a pass, or is gathered. Where there are no marks, all that was pushed is packets.
+-- The items of each sender in what was taken, followed by the queue, are what it pushed, in order, and there are no
+-- other items. Each sender that was made has a pass, or is gathered. Where there are no marks, all that was pushed is
+-- packets.
 pub record Sound (d : Desk) (seat : ℕ → Option ℕ) (pushed : ℕ → List Carried) (items : List Item) : Type 0 where
   pub parts : (s : ℕ) → part s (d.taken ++ items) ≡ pushed s
   pub few : (s : ℕ) → length (pushed s) ≤ 2 ^ 62
@@ -44,8 +47,9 @@ pub record Sound (d : Desk) (seat : ℕ → Option ℕ) (pushed : ℕ → List C
   pub apart : Apart d.gathered
   pub plain : d.marked ≡ false → (s : ℕ) → Packets (pushed s)
 
--- The rule: of the items in the queue, the oldest first, and of the view of each pass. One pass is the taker's, and its
--- view is what was taken and gathered; `seat` has the pass of each sender that isn't gathered, whose view is what it pushed.
+-- The rule: of the items in the queue, the oldest first, and of the view of each pass. One pass is the taker's, and
+-- its view is what was taken and gathered; `seat` has the pass of each sender that isn't gathered, whose view is what
+-- it pushed.
 pub record InboxRule (items : List Item) (views : List View) : Type 0 where
   pub taker : ℕ
   pub seat : ℕ → Option ℕ
@@ -53,7 +57,8 @@ pub record InboxRule (items : List Item) (views : List View) : Type 0 where
   pub pushed : ℕ → List Carried
   pub sound : Sound desk_of seat pushed items
   pub taking : get_elem? views taker ≡ some (Taking desk_of)
-  pub sending : (s pass : ℕ) → seat s ≡ Some pass → get_elem? views pass ≡ some (Sending (make_post desk_of.marked s (pushed s)))
+  pub sending : (s pass : ℕ) → seat s ≡ Some pass
+      → get_elem? views pass ≡ some (Sending (make_post desk_of.marked s (pushed s)))
   pub fits : (pass : ℕ) (v : View) → get_elem? views pass ≡ some v → PassFits taker seat desk_of pushed pass v
 
 -- ---- what a step tells the pass that takes it

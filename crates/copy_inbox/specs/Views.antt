@@ -43,7 +43,8 @@ no_sender v = Spent
 
 -- a join: the taker gathers the sender, whose pass is spent
 abbrev pub with_gathered : View → View → View
-with_gathered (Taking d) (Sending p) = Taking (make_desk d.marked d.made d.taken (make_gathered p.number d.made p.pushed ∷ d.gathered))
+with_gathered (Taking d) (Sending p) =
+    Taking (make_desk d.marked d.made d.taken (make_gathered p.number d.made p.pushed ∷ d.gathered))
 with_gathered (Taking d) (Taking e) = Taking d
 with_gathered (Taking d) Spent = Taking d
 with_gathered (Sending p) w = Sending p

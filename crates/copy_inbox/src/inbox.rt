@@ -1,12 +1,15 @@
 //! The inbox, its taker and its senders.
 
-ghost use Rattle.std.specs.Prelude.{◌≡◌, ◌≤◌, true, false, [], ◌∷◌, ◌++◌, length, Some, None, codes, IfOk, OnOk, OnErr, IfErr, IfSome, IfNone};
+ghost use Rattle.std.specs.Prelude.{◌≡◌, ◌≤◌, true, false, [], ◌∷◌, ◌++◌, length, Some, None, codes, IfOk, OnOk};
+ghost use Rattle.std.specs.Prelude.{OnErr, IfErr, IfSome, IfNone};
 ghost use Rattle.copy_inbox.specs.declared.items.Carried.TheVariants.{Packet, Mark};
 ghost use Rattle.copy_inbox.specs.declared.inbox.InboxError.TheVariants.{Memory};
 ghost use Rattle.copy_inbox.specs.Items.{is_packet, Packets, part, BeginsWith, OfMade};
 ghost use Rattle.copy_inbox.specs.Gathered.{known_of, TookFronts, Whole, Later, NoOthers};
 ghost use Rattle.copy_inbox.specs.Views.{make_desk, make_post};
-ghost use Rattle.copy_inbox.specs.Handles.{InboxId, TakerView, SenderView, after_sender, after_pushing, after_gather, after_taking, TakesCopies, Empties, AllGathered, NoMarkLeft, TakesPackets, desk_in, post_in, IsSender, IsNextTaken};
+ghost use Rattle.copy_inbox.specs.Handles.{InboxId, TakerView, SenderView, after_sender, after_pushing, after_gather};
+ghost use Rattle.copy_inbox.specs.Handles.{after_taking, TakesCopies, Empties, AllGathered, NoMarkLeft, TakesPackets};
+ghost use Rattle.copy_inbox.specs.Handles.{desk_in, post_in, IsSender, IsNextTaken};
 ghost use Rattle.copy_inbox.specs.Kept.{KeepsCounts};
 
 use crate::bell::Bell;
@@ -51,8 +54,8 @@ impl From<AllocError> for InboxError {
 }
 
 /// An inbox. Its senders push copies of packets from any thread, and marks where it has such, and its one taker takes
-/// them. What lies in it no contract can say, since another thread may push at any moment; a contract says what a sender
-/// has pushed, and what the taker has taken and gathered.
+/// them. What lies in it no contract can say, since another thread may push at any moment; a contract says what a
+/// sender has pushed, and what the taker has taken and gathered.
 pub struct Inbox {
     queue: RuledSegQueue<Item, View, Ruled>,
     bell: Bell,
@@ -78,9 +81,13 @@ pub struct Taker {
 impl Model for Taker {
     ghost Value = { TakerView };
 
-    ghost view = { λ t. record { inbox = record { web = t.pass.web; heap = t.pass.heap }; desk = desk_in t.pass.me.view.client } };
+    ghost view = { λ t. record {
+      inbox = record { web = t.pass.web; heap = t.pass.heap };
+      desk = desk_in t.pass.me.view.client;
+    } };
 
-    ghost invariant = { λ t. KeepsCounts t.pass.me.view.client t.first t.counts.items t.known × (t.pass.me.hand ≡ None) × (t.pass.me.spare ≡ None) };
+    ghost invariant = { λ t. KeepsCounts t.pass.me.view.client t.first t.counts.items t.known
+        × (t.pass.me.hand ≡ None) × (t.pass.me.spare ≡ None) };
 }
 
 /// One that pushes copies and marks into an inbox.
@@ -93,9 +100,13 @@ pub struct Sender {
 impl Model for Sender {
     ghost Value = { SenderView };
 
-    ghost view = { λ s. record { inbox = record { web = s.pass.web; heap = s.pass.heap }; post = post_in s.pass.me.view.client } };
+    ghost view = { λ s. record {
+      inbox = record { web = s.pass.web; heap = s.pass.heap };
+      post = post_in s.pass.me.view.client;
+    } };
 
-    ghost invariant = { λ s. IsSender s.pass.me.view.client s.pushed × (s.number ≡ (post_in s.pass.me.view.client).number) × (s.pass.me.hand ≡ None) × (s.pass.me.spare ≡ None) };
+    ghost invariant = { λ s. IsSender s.pass.me.view.client s.pushed
+        × (s.number ≡ (post_in s.pass.me.view.client).number) × (s.pass.me.hand ≡ None) × (s.pass.me.spare ≡ None) };
 }
 
 /// By hand, so that a taker is dropped by one call: the check of a function that owns one sees no more of it.
@@ -221,8 +232,8 @@ impl Inbox {
             .map_err(|_| copy)
     }
 
-    /// Adds the mark of a window to what the sender has pushed. The number comes back where memory was refused, or after
-    /// 2^62 pushes, and then nothing has changed.
+    /// Adds the mark of a window to what the sender has pushed. The number comes back where memory was refused, or
+    /// after 2^62 pushes, and then nothing has changed.
     pub fn push_mark<R: Wait>(&self, rt: &R, sender: &mut Sender, window: u64) -> Result<(), u64>
         requires inbox { sender.old.inbox ≡ self.now }
         requires marked { sender.old.post.marked ≡ true }
@@ -291,7 +302,8 @@ impl Inbox {
     pub fn take_next<R: Wait>(&self, rt: &R, taker: &mut Taker) -> Option<Item>
         requires { taker.old.inbox ≡ self.now }
         ensures inbox { taker.new.inbox ≡ taker.old.inbox }
-        ensures still { (taker.new.desk.made ≡ taker.old.desk.made) × (taker.new.desk.gathered ≡ taker.old.desk.gathered) }
+        ensures still { (taker.new.desk.made ≡ taker.old.desk.made)
+            × (taker.new.desk.gathered ≡ taker.old.desk.gathered) }
         ensures taken { IfSome result (λ x. taker.new ≡ after_taking taker.old (x ∷ [])) }
         ensures next { IfSome result (λ x. IsNextTaken taker.old.desk x) }
         ensures begun { TookFronts taker.new.desk.gathered taker.new.desk.taken }
@@ -305,8 +317,8 @@ impl Inbox {
         Some(item)
     }
 
-    /// Takes the `n` copies at the front of an inbox without marks. The memory for them is asked for first, so a refusal
-    /// changes nothing.
+    /// Takes the `n` copies at the front of an inbox without marks. The memory for them is asked for first, so a
+    /// refusal changes nothing.
     pub fn drain<R: Wait>(
         &self,
         rt: &R,
@@ -322,10 +334,15 @@ impl Inbox {
         ensures made { OnOk result (OfMade taker.new.desk.made taker.new.desk.taken) }
 
         // All that is known, where no sender that isn't gathered can stand before it.
-        ensures whole { OnOk result (n ≡ known_of taker.old.desk.gathered taker.old.desk.taken → Later taker.old.desk.made taker.old.desk.gathered → Whole taker.new.desk.gathered taker.new.desk.taken) }
+        ensures whole { OnOk result
+            (n ≡ known_of taker.old.desk.gathered taker.old.desk.taken
+            → Later taker.old.desk.made taker.old.desk.gathered → Whole taker.new.desk.gathered taker.new.desk.taken) }
 
         // And then it is of gathered senders alone.
-        ensures others { OnOk result (n ≡ known_of taker.old.desk.gathered taker.old.desk.taken → Later taker.old.desk.made taker.old.desk.gathered → NoOthers taker.old.desk.gathered taker.old.desk.taken taker.new.desk.taken) }
+        ensures others { OnOk result
+            (n ≡ known_of taker.old.desk.gathered taker.old.desk.taken
+            → Later taker.old.desk.made taker.old.desk.gathered
+            → NoOthers taker.old.desk.gathered taker.old.desk.taken taker.new.desk.taken) }
 
         ensures refused { OnErr result (taker.new ≡ taker.old) }
     {
@@ -346,8 +363,13 @@ impl Inbox {
         ensures taken { IfOk result (λ copies. TakesCopies taker.old taker.new copies.items) }
         ensures begun { OnOk result (TookFronts taker.new.desk.gathered taker.new.desk.taken) }
         ensures made { OnOk result (OfMade taker.new.desk.made taker.new.desk.taken) }
-        ensures whole { OnOk result (n ≡ known_of taker.old.desk.gathered taker.old.desk.taken → Later taker.old.desk.made taker.old.desk.gathered → Whole taker.new.desk.gathered taker.new.desk.taken) }
-        ensures others { OnOk result (n ≡ known_of taker.old.desk.gathered taker.old.desk.taken → Later taker.old.desk.made taker.old.desk.gathered → NoOthers taker.old.desk.gathered taker.old.desk.taken taker.new.desk.taken) }
+        ensures whole { OnOk result
+            (n ≡ known_of taker.old.desk.gathered taker.old.desk.taken
+            → Later taker.old.desk.made taker.old.desk.gathered → Whole taker.new.desk.gathered taker.new.desk.taken) }
+        ensures others { OnOk result
+            (n ≡ known_of taker.old.desk.gathered taker.old.desk.taken
+            → Later taker.old.desk.made taker.old.desk.gathered
+            → NoOthers taker.old.desk.gathered taker.old.desk.taken taker.new.desk.taken) }
         ensures refused { OnErr result (taker.new ≡ taker.old) }
     {
         let mut copies = Vec::with_capacity(self.alloc, n as usize)?;

@@ -1,7 +1,8 @@
 //! Laws of the delivery of events. Each is a theorem, stated as the contract of an empty function.
 
 ghost use Rattle.delivery_laws.specs.Laws.{DeliveryHandsOn, DeliveryHaltsLast, DeliveryStartsTheUnlisted};
-ghost use Rattle.delivery_laws.specs.Traces.{TracesThatDoNot, TracesThatHandOn, TracesThatPass, TracesThatBreakTheOthers};
+ghost use Rattle.delivery_laws.specs.Traces.{TracesThatDoNot, TracesThatHandOn, TracesThatPass};
+ghost use Rattle.delivery_laws.specs.Traces.{TracesThatBreakTheOthers};
 
 /// Each trace of the delivery machine has handed its events on.
 pub fn delivery_hands_on()

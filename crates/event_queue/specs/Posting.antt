@@ -7,7 +7,8 @@ use Rattle.event_queue.specs.Queue.{Queue}
 -- events that were accepted one after another, the first of them with this serial
 abbrev pub posted_from : (serial : ℕ) → List Waiting → List Posted
 posted_from serial [] = []
-posted_from serial (w ∷ ws) = record { serial = serial; target = w.target; event = w.event } ∷ posted_from (serial + 1) ws
+posted_from serial (w ∷ ws) =
+    record { serial = serial; target = w.target; event = w.event } ∷ posted_from (serial + 1) ws
 
 -- the queue in which these wait, after so many that were taken
 abbrev pub queue_of : List Waiting → (taken capacity : ℕ) → Queue

@@ -1,6 +1,7 @@
 //! A queue of posted events, over a ring whose room is made once.
 
-ghost use Rattle.std.specs.Prelude.{◌≡◌, ◌+◌, ◌^◌, ◌<◌, ◌≤◌, ◌↔◌, [], ◌∷◌, length, IsNone, IfNone, IfSome, IsErr, IfOk, OnOk, OnErr, Some, codes};
+ghost use Rattle.std.specs.Prelude.{◌≡◌, ◌+◌, ◌^◌, ◌<◌, ◌≤◌, ◌↔◌, [], ◌∷◌, length, IsNone, IfNone, IfSome, IsErr};
+ghost use Rattle.std.specs.Prelude.{IfOk, OnOk, OnErr, Some, codes};
 ghost use Rattle.event_queue.specs.Queue.{empty_queue, with_posted, without_front};
 
 use circular_buffer::HeapCircularBuffer;
@@ -57,11 +58,12 @@ impl Model for EventQueue {
 
     ghost view = { λ q. queue_of q.waiting.items q.taken q.waiting.capacity };
 
-    ghost invariant = { λ q. (length q.waiting.items ≤ q.waiting.capacity) × (q.taken + length q.waiting.items ≤ 2 ^ 62) };
+    ghost invariant = { λ q. (length q.waiting.items ≤ q.waiting.capacity)
+        × (q.taken + length q.waiting.items ≤ 2 ^ 62) };
 }
 
-/// Takes the oldest that waits. The only one is taken from the back, so a ring that is emptied each time stays at its first
-/// slots, which are at hand.
+/// Takes the oldest that waits. The only one is taken from the back, so a ring that is emptied each time stays at its
+/// first slots, which are at hand.
 #[inline(always)]
 #[tactic(auto, using(crate::proofs::Only::only_first))]
 fn take_oldest(waiting: &mut HeapCircularBuffer<Waiting>) -> Option<Waiting>

@@ -11,8 +11,11 @@ Handle W T = PromisedHandle (Result T Refused) (Promised W T)
 
 -- each is what its thread promised
 abbrev pub AllKept : {W T : Type 0} → (W → T → T → Type 0) → List (Handle W T) → List T → Type 0
-AllKept makes handles done = AllZip (λ handle worker. makes handle.promise.work.value handle.promise.worker.value worker) handles done
+AllKept makes handles done = AllZip
+    (λ handle worker. makes handle.promise.work.value handle.promise.worker.value worker) handles done
 
 -- each thread was promised for its worker
 abbrev pub AllPromised : {W T : Type 0} → W → List T → List (Handle W T) → Type 0
-AllPromised work workers handles = AllZip (λ worker handle. (handle.promise.work.value ≡ work) × (handle.promise.worker.value ≡ worker)) workers handles
+AllPromised work workers handles =
+    AllZip (λ worker handle. (handle.promise.work.value ≡ work) × (handle.promise.worker.value ≡ worker))
+    workers handles

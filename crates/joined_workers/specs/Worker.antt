@@ -16,8 +16,8 @@ use Rattle.worker_window.specs.Window.{CanRun, RunsWindow, GoesOut}
 use Rattle.all_workers.specs.Workers.{IsCut, IsNotBefore}
 use Rattle.all_workers.specs.declared.worker.Worker.{Worker}
 
--- A worker that can run through a window: its share and its courier are those of one worker, its inbox has no marks, all
--- that was sent to it is for its motes, and what it takes in comes no sooner than its share stands.
+-- A worker that can run through a window: its share and its courier are those of one worker, its inbox has no marks,
+-- all that was sent to it is for its motes, and what it takes in comes no sooner than its share stands.
 pub record IsReady (n : NetTold) (of : List ℕ) (inboxes : List InboxId) (until : ℕ) (worker : Worker) : Type 0 where
   pub early : until ≤ 2 ^ 40
   pub cut : IsCut (length n.motes) (length inboxes) of

@@ -35,9 +35,9 @@ fn window_start(crew: &Workers, end: u64) -> u64
     }
 }
 
-/// Runs all workers window by window to the end of the net. A window begins at the least moment at which something comes
-/// and ends before the lesser of that moment plus the lookahead (or plus `longest`, where that is above 0 and less) and
-/// end + 1. `of` tells the worker of each mote. The inboxes have no marks.
+/// Runs all workers window by window to the end of the net. A window begins at the least moment at which something
+/// comes and ends before the lesser of that moment plus the lookahead (or plus `longest`, where that is above 0 and
+/// less) and end + 1. `of` tells the worker of each mote. The inboxes have no marks.
 ///
 /// # Errors
 /// `Memory`, or `Thread` where a thread couldn't be started, the gate refused a start, or the executor answered an

@@ -57,7 +57,8 @@ impl MarkCourier {
         requires seated { IsSeated inboxes.now self.old.courier }
         requires marked { HasMarks self.old.courier }
         requires reaches { Each (Reaches of.now (length inboxes.now)) copies.now }
-        ensures pushes { OnOk result (PushesWindow of.now (length inboxes.now) window self.old.courier self.new.courier copies.now) }
+        ensures pushes { OnOk result
+            (PushesWindow of.now (length inboxes.now) window self.old.courier self.new.courier copies.now) }
         ensures seated { OnOk result (IsSeated inboxes.now self.new.courier) }
         ensures counts { OnOk result (self.new.marks ≡ self.old.marks) }
     {
@@ -69,8 +70,8 @@ impl MarkCourier {
     /// before, and gives the copies. `stop` is the flag that a worker sets which fails.
     ///
     /// # Errors
-    /// `Memory`; `Stopped` where the flag was seen set while a mark was missing; `Undue` where a copy came that isn't for
-    /// a mote of this worker from a mote of another, or that arrives before this worker's next window.
+    /// `Memory`; `Stopped` where the flag was seen set while a mark was missing; `Undue` where a copy came that isn't
+    /// for a mote of this worker from a mote of another, or that arrives before this worker's next window.
     pub fn take_window<R: Wait>(
         &mut self,
         rt: &R,
@@ -82,12 +83,15 @@ impl MarkCourier {
     ) -> Result<Vec<RadioCopy>, MarkError>
         requires inbox { self.old.courier.taker.inbox ≡ inbox.now }
         requires counts { Counts self.old.marks.items self.old.courier.taker.desk }
-        ensures took { IfOk result (λ copies. TakesDue standing.now.of.now standing.now.worker standing.now.from self.old.courier.taker self.new.courier.taker copies.items) }
+        ensures took { IfOk result (λ copies. TakesDue standing.now.of.now standing.now.worker standing.now.from
+            self.old.courier.taker self.new.courier.taker copies.items) }
         ensures counts { OnOk result (Counts self.new.marks.items self.new.courier.taker.desk) }
         ensures marked { OnOk result (AllPast window self.new.marks.items) }
         ensures worker { self.new.courier.worker ≡ self.old.courier.worker }
         ensures senders { self.new.courier.senders ≡ self.old.courier.senders }
-        ensures undue { IfErr result (λ error. error ≡ Undue → TakesUndue standing.now.of.now standing.now.worker standing.now.from self.old.courier.taker self.new.courier.taker) }
+        ensures undue { IfErr result
+            (λ error. error ≡ Undue → TakesUndue standing.now.of.now standing.now.worker standing.now.from
+            self.old.courier.taker self.new.courier.taker) }
     {
         let MarkCourier {
             courier,

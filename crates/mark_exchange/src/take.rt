@@ -88,8 +88,10 @@ fn hear(
     item: Item,
 ) -> Result<(), MarkError>
     requires { (d : Desk) × Counts marks.old.items d × IsNextTaken d item }
-    ensures counts { OnOk result ((d : Desk) → Counts marks.old.items d → IsNextTaken d item → Counts marks.new.items (desk_with d item)) }
-    ensures arrived { OnOk result (AddsCopy standing.now.of.now standing.now.worker standing.now.from item arrived.old.items arrived.new.items) }
+    ensures counts { OnOk result
+        ((d : Desk) → Counts marks.old.items d → IsNextTaken d item → Counts marks.new.items (desk_with d item)) }
+    ensures arrived { OnOk result
+        (AddsCopy standing.now.of.now standing.now.worker standing.now.from item arrived.old.items arrived.new.items) }
     ensures refused { IfErr result (Refuses standing.now.of.now standing.now.worker standing.now.from item) }
 {
     match item.what {
@@ -118,11 +120,14 @@ fn take_waiting<R: Wait>(
 ) -> Result<Vec<RadioCopy>, MarkError>
     requires inbox { taker.old.inbox ≡ inbox.now }
     requires counts { Counts marks.old.items taker.old.desk }
-    ensures took { IfOk result (λ copies. TakesDue standing.now.of.now standing.now.worker standing.now.from taker.old taker.new copies.items) }
+    ensures took { IfOk result (λ copies. TakesDue standing.now.of.now standing.now.worker standing.now.from taker.old
+        taker.new copies.items) }
     ensures counts { OnOk result (Counts marks.new.items taker.new.desk) }
     ensures marked { OnOk result (AllPast window marks.new.items) }
     ensures stopped { IfErr result (λ error. error ≡ Stopped → IsTrue waiting.new.stopped) }
-    ensures undue { IfErr result (λ error. error ≡ Undue → TakesUndue standing.now.of.now standing.now.worker standing.now.from taker.old taker.new) }
+    ensures undue { IfErr result
+        (λ error. error ≡ Undue → TakesUndue standing.now.of.now standing.now.worker standing.now.from taker.old
+        taker.new) }
 {
     let mut arrived = Vec::new(alloc);
     for _ in rt.forever() {
@@ -154,10 +159,13 @@ pub fn take_marks<R: Wait>(
 ) -> Result<Vec<RadioCopy>, MarkError>
     requires inbox { taker.old.inbox ≡ inbox.now }
     requires counts { Counts marks.old.items taker.old.desk }
-    ensures took { IfOk result (λ copies. TakesDue standing.now.of.now standing.now.worker standing.now.from taker.old taker.new copies.items) }
+    ensures took { IfOk result (λ copies. TakesDue standing.now.of.now standing.now.worker standing.now.from taker.old
+        taker.new copies.items) }
     ensures counts { OnOk result (Counts marks.new.items taker.new.desk) }
     ensures marked { OnOk result (AllPast window marks.new.items) }
-    ensures undue { IfErr result (λ error. error ≡ Undue → TakesUndue standing.now.of.now standing.now.worker standing.now.from taker.old taker.new) }
+    ensures undue { IfErr result
+        (λ error. error ≡ Undue → TakesUndue standing.now.of.now standing.now.worker standing.now.from taker.old
+        taker.new) }
 {
     waiting.begin();
     take_waiting(

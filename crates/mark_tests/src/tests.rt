@@ -128,7 +128,8 @@ fn write_windows<R: Wait>(
     first: &mut Sender,
     second: &mut Sender,
 ) -> Result<(), InboxError>
-    requires inbox { (carrier.old.courier.taker.inbox ≡ inbox.now) × (first.old.inbox ≡ inbox.now) × (second.old.inbox ≡ inbox.now) }
+    requires inbox { (carrier.old.courier.taker.inbox ≡ inbox.now) × (first.old.inbox ≡ inbox.now)
+        × (second.old.inbox ≡ inbox.now) }
     requires marked { (first.old.post.marked ≡ true) × (second.old.post.marked ≡ true) }
     requires counts { Counts carrier.old.marks.items carrier.old.courier.taker.desk }
 {

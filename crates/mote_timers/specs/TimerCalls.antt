@@ -1,10 +1,12 @@
 -- Calls of a `Timers`, one after another.
-use Rattle.std.specs.Prelude.{◌≡◌, ℕ, ◌+◌, ◌≤◌, ◌<◌, ◌↔◌, nat_eq, List, [], ◌∷◌, length, Some, None, IsTrue, IsSome, IsSomeAnd}
+use Rattle.std.specs.Prelude.{◌≡◌, ℕ, ◌+◌, ◌≤◌, ◌<◌, ◌↔◌, nat_eq, List, [], ◌∷◌, length, Some, None, IsTrue, IsSome}
+use Rattle.std.specs.Prelude.{IsSomeAnd}
 use Rattle.std.specs.List.{IsDistinct}
 use Rattle.program_tree.specs.declared.event.Proc.{Proc}
 use Rattle.mote_timers.specs.Numbers.{is_member}
 use Rattle.mote_timers.specs.Timer.{expiration}
-use Rattle.mote_timers.specs.TimerLists.{TimerLists, timer_at, new_timers, set_timer, reset_timer, restart_timer, stop_timer, purge_timers, first_due, next_expiration_of}
+use Rattle.mote_timers.specs.TimerLists.{TimerLists, timer_at, new_timers, set_timer, reset_timer, restart_timer}
+use Rattle.mote_timers.specs.TimerLists.{stop_timer, purge_timers, first_due, next_expiration_of}
 
 -- a call that may change something, with its arguments
 pub data TimerCall : Type 0 where
@@ -82,4 +84,5 @@ DueFromSet =
 
 -- the next expiration is the first moment at which a timer on the list is due
 abbrev pub DueFromNextExpiration : Type 0
-DueFromNextExpiration = (s : TimerLists) (moment : ℕ) → IsSome (first_due s moment None) ↔ IsSomeAnd (next_expiration_of s) (λ first. first ≤ moment)
+DueFromNextExpiration = (s : TimerLists) (moment : ℕ)
+    → IsSome (first_due s moment None) ↔ IsSomeAnd (next_expiration_of s) (λ first. first ≤ moment)

@@ -1,5 +1,6 @@
 -- The timers of a mote with its timer list, and what each call makes of them.
-use Rattle.std.specs.Prelude.{◌≡◌, ℕ, ◌≤◌, ◌^◌, ◌==◌, min, not, List, [], ◌∷◌, All, length, map, filter, find, replicate, slice_index_or, slice_set, Option, Some, None, IsSome}
+use Rattle.std.specs.Prelude.{◌≡◌, ℕ, ◌≤◌, ◌^◌, ◌==◌, min, not, List, [], ◌∷◌, All, length, map, filter, find}
+use Rattle.std.specs.Prelude.{replicate, slice_index_or, slice_set, Option, Some, None, IsSome}
 use Rattle.std.specs.List.{after_first}
 use Rattle.std.specs.Option.{option_map_or}
 use Rattle.program_tree.specs.declared.event.Proc.{Proc}
@@ -35,13 +36,15 @@ set_timer s id owner interval now = with_timer s id (record { start = now; inter
 
 -- from the moment at which it was due, up to the latest start
 unfoldable pub reset_timer : TimerLists → ℕ → Proc → TimerLists
-reset_timer s id owner = with_timer s id (record { start = min (expiration t) (2 ^ 62); interval = t.interval; owner = Some owner })
+reset_timer s id owner = with_timer s id
+    (record { start = min (expiration t) (2 ^ 62); interval = t.interval; owner = Some owner })
   where
     t : Timer
     t = timer_at s.timers id
 
 unfoldable pub restart_timer : TimerLists → ℕ → Proc → ℕ → TimerLists
-restart_timer s id owner now = with_timer s id (record { start = now; interval = (timer_at s.timers id).interval; owner = Some owner })
+restart_timer s id owner now =
+    with_timer s id (record { start = now; interval = (timer_at s.timers id).interval; owner = Some owner })
 
 -- the timer is off the list, and has no owner
 unfoldable pub stop_timer : TimerLists → ℕ → TimerLists
@@ -52,7 +55,10 @@ stop_timer s id = record {
 
 -- the timers of the process are off the list, and keep their owner
 unfoldable pub purge_timers : TimerLists → Proc → TimerLists
-purge_timers s p = record { timers = s.timers; listed = filter (λ id. not (is_owned_by p (timer_at s.timers id))) s.listed }
+purge_timers s p = record {
+  timers = s.timers;
+  listed = filter (λ id. not (is_owned_by p (timer_at s.timers id))) s.listed;
+}
 
 -- what stands behind a member, or the whole list
 abbrev pub behind : Option ℕ → List ℕ → List ℕ

@@ -1,6 +1,7 @@
 //! Laws of the timers. Each is the contract of a function that does nothing.
 
-ghost use Rattle.mote_timers.specs.TimerCalls.{ListedOnce, KeepsTimers, DueFromExpiration, DueFromSet, DueFromNextExpiration};
+ghost use Rattle.mote_timers.specs.TimerCalls.{ListedOnce, KeepsTimers, DueFromExpiration, DueFromSet};
+ghost use Rattle.mote_timers.specs.TimerCalls.{DueFromNextExpiration};
 
 /// Whatever calls came, a timer stands on the timer list at most once, and so a walk along it comes to an end.
 pub fn listed_once()

@@ -1,10 +1,13 @@
 //! The timers of a mote and its timer list.
 
-ghost use Rattle.std.specs.Prelude.{◌≡◌, ◌<◌, ◌≤◌, ◌^◌, ◌↔◌, ℕ, IsTrue, IsNone, IsSome, IfOk, IfSome, nat_eq, All, length, min, map, find, position, ◌==◌, option_map};
+ghost use Rattle.std.specs.Prelude.{◌≡◌, ◌<◌, ◌≤◌, ◌^◌, ◌↔◌, ℕ, IsTrue, IsNone, IsSome, IfOk, IfSome, nat_eq, All};
+ghost use Rattle.std.specs.Prelude.{length, min, map, find, position, ◌==◌, option_map};
 ghost use Rattle.std.specs.List.{IsDistinct};
 ghost use Rattle.std.specs.Option.{ForSome, option_map_or};
 ghost use Rattle.mote_timers.specs.Numbers.{is_member};
-ghost use Rattle.mote_timers.specs.TimerLists.{new_timers, timer_at, set_timer, reset_timer, restart_timer, stop_timer, purge_timers, behind, first_due, next_expiration_of, least, with_timer};
+ghost use Rattle.mote_timers.specs.TimerLists.{new_timers, timer_at, set_timer, reset_timer, restart_timer};
+ghost use Rattle.mote_timers.specs.TimerLists.{stop_timer, purge_timers, behind, first_due, next_expiration_of, least};
+ghost use Rattle.mote_timers.specs.TimerLists.{with_timer};
 ghost use Rattle.mote_timers.specs.Timer.{expiration, is_due, is_owned_by};
 
 use crate::number_list::NumberList;
@@ -118,7 +121,8 @@ impl Timers {
         ensures first { option_map (λ due. due.0) result ≡ first_due self.now now after }
         ensures owner { IfSome result (λ due. (timer_at self.now.timers due.0).owner ≡ Some due.1) }
         ensures listed { IfSome result (λ due. IsTrue (is_member due.0 self.now.listed)) }
-        ensures nearer_end { IfSome result (λ due. length (behind (Some due.0) self.now.listed) < length (behind after self.now.listed)) }
+        ensures nearer_end { IfSome result
+            (λ due. length (behind (Some due.0) self.now.listed) < length (behind after self.now.listed)) }
     {
         let id = first_due_behind(&self.timers, self.listed.as_slice(), after, now)?;
         let owner = self.timers[usize::from(id)].owner.unwrap();

@@ -46,8 +46,9 @@ impl fmt::Display for KernelError {
 impl Error for KernelError {}
 
 /// The process kernel of a mote (`process.c`, `etimer.c` and `ctimer.c` of Contiki). It is booted once and then run,
-/// always with the same program. All its memory is taken by `new`, but for the lines and packets of its runs. Where such
-/// an allocation fails, what `out` had stays, perhaps with more appended to it, and the kernel fails from then on.
+/// always with the same program. All its memory is taken by `new`, but for the lines and packets of its runs. Where
+/// such an allocation fails, what `out` had stays, perhaps with more appended to it, and the kernel fails from then
+/// on.
 pub struct Kernel {
     booted: bool,
     halted: bool,

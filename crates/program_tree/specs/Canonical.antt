@@ -155,7 +155,8 @@ gap braces t rest =
 -- the text of tokens before which so many braces are open
 abbrev pub text_from : (braces : ℕ) → List Token → List ℕ
 text_from braces [] = []
-text_from braces (t ∷ rest) = spelling t ++ (gap (braces_behind braces t) t rest ++ text_from (braces_behind braces t) rest)
+text_from braces (t ∷ rest) =
+    spelling t ++ (gap (braces_behind braces t) t rest ++ text_from (braces_behind braces t) rest)
 
 abbrev pub canonical_text : List Token → List ℕ
 canonical_text ts = text_from 0 ts

@@ -3,9 +3,9 @@ use Rattle.std.specs.Prelude.{ℕ, ◌+◌, ◌-◌, nat_le, if◌then◌else◌
 use Rattle.program_tree.specs.Tree.{Body}
 use Rattle.program_tree.specs.declared.timer.Timer.{Timer}
 
--- What a process runs: its number; the names and first values of its variables, in order; the number of its first timer, the names of
--- its event timers and, after them, of its callback timers with their blocks; its threads with their blocks; the blocks
--- that are run before the body at POLL and EXIT, where it has them; and the body.
+-- What a process runs: its number; the names and first values of its variables, in order; the number of its first
+-- timer, the names of its event timers and, after them, of its callback timers with their blocks; its threads with
+-- their blocks; the blocks that are run before the body at POLL and EXIT, where it has them; and the body.
 pub record Code : Type 0 where
   pub number : ℕ
   pub variables : List (List ℕ)
@@ -21,7 +21,8 @@ pub record Code : Type 0 where
   pub body : Body ℕ
 
 -- The names of the declared events; those of the semaphores and their first counts; the processes in order, those that
--- start at boot, and the one that radio packets go to; the code of each process; and the timers of both kinds, in order.
+-- start at boot, and the one that radio packets go to; the code of each process; and the timers of both kinds, in
+-- order.
 pub record Tree : Type 0 where
   pub events : List (List ℕ)
   pub semaphores : List (List ℕ)
@@ -35,7 +36,8 @@ pub record Tree : Type 0 where
 -- the block of a callback timer, by its number in the program
 abbrev pub callback_at : Code → (timer : ℕ) → Option (Body ℕ)
 callback_at c timer =
-    if nat_le (c.first_timer + length c.etimers) timer then slice_get c.callbacks (timer - (c.first_timer + length c.etimers)) else None
+    if nat_le (c.first_timer + length c.etimers) timer then slice_get c.callbacks
+    (timer - (c.first_timer + length c.etimers)) else None
 
 -- the name of a declared event, by its number
 abbrev pub declared_name : Tree → (number : ℕ) → Option (List ℕ)

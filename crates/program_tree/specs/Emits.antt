@@ -1,7 +1,8 @@
 -- What the flattener adds to the code.
 use Rattle.std.specs.Prelude.{◌≡◌, ℕ, ◌+◌, List, [], ◌∷◌, ◌++◌, length}
 use Rattle.program_tree.specs.declared.instruction.Instruction.{Instruction}
-use Rattle.program_tree.specs.Tree.{Statement, Body, Otherwise, end, next, nothing, otherwise, size, statement_size, other_size}
+use Rattle.program_tree.specs.Tree.{Statement, Body, Otherwise, end, next, nothing, otherwise, size, statement_size}
+use Rattle.program_tree.specs.Tree.{other_size}
 use Rattle.program_tree.specs.Flat.{rests, statement_rests, other_rests, rest_in, Leads}
 
 -- where a block is entered whose first statement has this place, if it has one
@@ -18,13 +19,15 @@ abbrev pub LeadFrom : (all : List (List (Statement ℕ))) → (place : ℕ) → 
 LeadFrom all place [] = Unit {0}
 LeadFrom all place (i ∷ is) = Leads (rest_in all) i (rest_in all place) × LeadFrom all (place + 1) is
 
--- Code to which instructions are added: wherever their rests stand among all rests, they have the local property, provided
--- that the rest at `after` is what follows.
-pub record Adds (added : (rest : List (Statement ℕ)) → List (List (Statement ℕ))) (count after : ℕ) (old new : List Instruction) : Type 0 where
+-- Code to which instructions are added: wherever their rests stand among all rests, they have the local property,
+-- provided that the rest at `after` is what follows.
+pub record Adds (added : (rest : List (Statement ℕ)) → List (List (Statement ℕ))) (count after : ℕ)
+    (old new : List Instruction) : Type 0 where
   pub more : List Instruction
   pub extends : new ≡ old ++ more
   pub counts : length more ≡ count
-  pub leads : (all left right : List (List (Statement ℕ))) (rest : List (Statement ℕ)) → all ≡ left ++ added rest ++ right → length left ≡ length old
+  pub leads : (all left right : List (List (Statement ℕ))) (rest : List (Statement ℕ))
+      → all ≡ left ++ added rest ++ right → length left ≡ length old
       → rest_in all after ≡ rest → LeadFrom all (length old) more
 
 abbrev pub Emits : Body ℕ → (after : ℕ) → (old new : List Instruction) → Type 0
@@ -44,5 +47,6 @@ pub record EmitsFirst (b later : Body ℕ) (after : ℕ) (old new : List Instruc
   pub added : (rest : List (Statement ℕ)) → List (List (Statement ℕ))
   pub long : (rest : List (Statement ℕ)) → length (added rest) ≡ length more
   pub splits : (rest : List (Statement ℕ)) → rests b rest ≡ added rest ++ rests later rest
-  pub leads : (all left right : List (List (Statement ℕ))) (rest : List (Statement ℕ)) → all ≡ left ++ rests b rest ++ right → length left ≡ length old
+  pub leads : (all left right : List (List (Statement ℕ))) (rest : List (Statement ℕ))
+      → all ≡ left ++ rests b rest ++ right → length left ≡ length old
       → rest_in all after ≡ rest → LeadFrom all (length old) more

@@ -1,5 +1,5 @@
--- Events as programs name them: by a keyword, or by the name of a declaration. Which of them may stand where is what their
--- types say.
+-- Events as programs name them: by a keyword, or by the name of a declaration. Which of them may stand where is what
+-- their types say.
 use Rattle.std.specs.Prelude.{ℕ, ◌+◌}
 use Rattle.program_tree.specs.Events.{system_number}
 use Rattle.program_tree.specs.declared.event.SystemEvent.TheVariants as event

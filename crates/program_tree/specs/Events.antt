@@ -1,7 +1,8 @@
 -- Events by their numbers, as in `process.h`.
 use Rattle.std.specs.Prelude.{ℕ, List, codes}
 use Rattle.program_tree.specs.declared.event.SystemEvent.{SystemEvent}
-use Rattle.program_tree.specs.declared.event.SystemEvent.TheVariants.{Init, Poll, Exit, Continue, Msg, Exited, Timer, Com, Packet}
+use Rattle.program_tree.specs.declared.event.SystemEvent.TheVariants.{Init, Poll, Exit, Continue, Msg, Exited, Timer}
+use Rattle.program_tree.specs.declared.event.SystemEvent.TheVariants.{Com, Packet}
 
 abbrev pub system_number : SystemEvent → ℕ
 system_number Init = 0x81

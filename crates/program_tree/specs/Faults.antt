@@ -1,8 +1,10 @@
 -- Which tokens are a program, and the first fault of those that are not.
-use Rattle.std.specs.Prelude.{◌≡◌, ℕ, ◌+◌, ◌<◌, nat_lt, nat_le, List, [], ◌∷◌, ◌++◌, length, Bool, true, false, not, ◌&&◌, ◌||◌, IsTrue, Option, Some, None, ◌⊎◌}
+use Rattle.std.specs.Prelude.{◌≡◌, ℕ, ◌+◌, ◌<◌, nat_lt, nat_le, List, [], ◌∷◌, ◌++◌, length, Bool, true, false, not}
+use Rattle.std.specs.Prelude.{◌&&◌, ◌||◌, IsTrue, Option, Some, None, ◌⊎◌}
 use Rattle.std.specs.Str.{bytes_eq}
 use Rattle.program_tree.specs.InScope.{Names, no_names, with_new, outside, is_a, is_among, is_in_scope}
-use Rattle.program_tree.specs.Grammar.{Role, new, uses, spawns, starts, value, opens, leaves, Begun, none_begins, statement, wait, Mark, tokens, program_marks}
+use Rattle.program_tree.specs.Grammar.{Role, new, uses, spawns, starts, value, opens, leaves, Begun, none_begins}
+use Rattle.program_tree.specs.Grammar.{statement, wait, Mark, tokens, program_marks}
 use Rattle.program_tree.specs.Kinds.{kind_number}
 use Rattle.program_tree.specs.Shapes.{Name, ProgramShape}
 use Rattle.program_tree.specs.Tokens as token
@@ -10,7 +12,9 @@ use Rattle.program_tree.specs.Tokens.{Token}
 use Rattle.program_tree.specs.Tree.{Class, an_event, a_semaphore, a_process, a_variable, a_timer, a_thread}
 use Rattle.program_tree.specs.declared.keyword.Keyword.TheVariants.{Process}
 use Rattle.program_tree.specs.declared.error.ReadErrorKind.{ReadErrorKind}
-use Rattle.program_tree.specs.declared.error.ReadErrorKind.TheVariants.{BadToken, Unexpected, UnknownName, NameTwice, NumberTooLarge, WaitInSimpleBlock, TooDeep, TooMany, NoProcess, BadTarget}
+use Rattle.program_tree.specs.declared.error.ReadErrorKind.TheVariants.{BadToken, Unexpected, UnknownName, NameTwice}
+use Rattle.program_tree.specs.declared.error.ReadErrorKind.TheVariants.{NumberTooLarge, WaitInSimpleBlock, TooDeep}
+use Rattle.program_tree.specs.declared.error.ReadErrorKind.TheVariants.{TooMany, NoProcess, BadTarget}
 
 -- the names in scope after some marks, those that `autostart` lists, and how many statements have begun
 pub record Scope : Type 0 where
@@ -87,7 +91,8 @@ breaks k s m = role_breaks k s m.role || begun_breaks k s m.begins
 -- some program has the next token of rest after the tokens before, or ends where rest does
 abbrev pub CanFollow : (before rest : List Token) → Type 0
 CanFollow before [] = (p : ProgramShape) × (tokens (program_marks p []) ≡ before)
-CanFollow before (t ∷ rest) = (p : ProgramShape) × (more : List Token) × (tokens (program_marks p []) ≡ before ++ (t ∷ more))
+CanFollow before (t ∷ rest) =
+    (p : ProgramShape) × (more : List Token) × (tokens (program_marks p []) ≡ before ++ (t ∷ more))
 
 -- the text ends where `process` could stand
 abbrev pub LacksProcess : (before rest : List Token) → Type 0
@@ -117,7 +122,8 @@ IsFault k before rest = Breach k before rest
 pub record IsTold (k : ReadErrorKind) (before rest : List Token) : Type 0 where
   pub here : IsFault k before rest
   pub least : (j : ReadErrorKind) → kind_number j < kind_number k → IsFault j before rest → ⊥
-  pub earliest : (b r : List Token) (j : ReadErrorKind) → before ++ rest ≡ b ++ r → length b < length before → IsFault j b r → ⊥
+  pub earliest : (b r : List Token) (j : ReadErrorKind) → before ++ rest ≡ b ++ r → length b < length before
+      → IsFault j b r → ⊥
 
 -- the tokens of a program, at which no rule is broken
 pub record IsProgram (p : ProgramShape) (text : List Token) : Type 0 where
@@ -126,4 +132,5 @@ pub record IsProgram (p : ProgramShape) (text : List Token) : Type 0 where
 
 -- the reported error, with the number of tokens from its token on
 abbrev pub IsToldAt : ReadErrorKind → (left : ℕ) → List Token → Type 0
-IsToldAt k left text = (before : List Token) × (rest : List Token) × (text ≡ before ++ rest) × (length rest ≡ left) × IsTold k before rest
+IsToldAt k left text = (before : List Token) × (rest : List Token) × (text ≡ before ++ rest) × (length rest ≡ left)
+    × IsTold k before rest

@@ -2,10 +2,12 @@
 use Rattle.std.specs.Prelude.{◌≡◌, ℕ, ◌≤◌, List, [], ◌∷◌, ◌++◌, length, Some, slice_get, slice_index_or}
 use Rattle.program_tree.specs.declared.instruction.Instruction.{Instruction}
 use Rattle.program_tree.specs.declared.instruction.Instruction.TheVariants.{Act, Branch, Loop}
-use Rattle.program_tree.specs.Tree.{Expression, Statement, Body, Otherwise, does, branch, while, end, next, nothing, otherwise, listed, other_block, expression_of, action_of}
+use Rattle.program_tree.specs.Tree.{Expression, Statement, Body, Otherwise, does, branch, while, end, next, nothing}
+use Rattle.program_tree.specs.Tree.{otherwise, listed, other_block, expression_of, action_of}
 
--- Each statement has a place, in the order of the text: the statements of an inner block stand after the one that it belongs
--- to. The rest at a place is what is left to do there: its statement, those after it in its block, and what follows that block.
+-- Each statement has a place, in the order of the text: the statements of an inner block stand after the one that it
+-- belongs to. The rest at a place is what is left to do there: its statement, those after it in its block, and what
+-- follows that block.
 abbrev mutual
   pub rests : Body ℕ → (after : List (Statement ℕ)) → List (List (Statement ℕ))
   rests end after = []
@@ -29,13 +31,17 @@ unfoldable pub rest_at : Body ℕ → (place : ℕ) → List (Statement ℕ)
 rest_at b place = rest_in (rests b []) place
 
 -- an `if` stands here, and leads to the rests that its two outcomes leave
-abbrev pub Branches : (at : ℕ → List (Statement ℕ)) → Expression ℕ → (then other : ℕ) → (here : List (Statement ℕ)) → Type 0
-Branches at c then other (branch d inner else ∷ after) = (d ≡ c) × (at then ≡ listed inner ++ after) × (at other ≡ other_block else ++ after)
+abbrev pub Branches : (at : ℕ → List (Statement ℕ)) → Expression ℕ → (then other : ℕ) → (here : List (Statement ℕ))
+    → Type 0
+Branches at c then other (branch d inner else ∷ after) =
+    (d ≡ c) × (at then ≡ listed inner ++ after) × (at other ≡ other_block else ++ after)
 Branches at c then other here = ⊥
 
 -- and a `while`
-abbrev pub Loops : (at : ℕ → List (Statement ℕ)) → Expression ℕ → (body after : ℕ) → (here : List (Statement ℕ)) → Type 0
-Loops at c body after (while d inner ∷ rest) = (d ≡ c) × (at after ≡ rest) × (at body ≡ listed inner ++ while d inner ∷ rest)
+abbrev pub Loops : (at : ℕ → List (Statement ℕ)) → Expression ℕ → (body after : ℕ) → (here : List (Statement ℕ))
+    → Type 0
+Loops at c body after (while d inner ∷ rest) =
+    (d ≡ c) × (at after ≡ rest) × (at body ≡ listed inner ++ while d inner ∷ rest)
 Loops at c body after here = ⊥
 
 -- The local property of an instruction: it is that of the first statement of the rest here, and it leads to the rests

@@ -2,7 +2,12 @@
 use Rattle.std.specs.Prelude.{Bool, true, false}
 use Rattle.program_tree.specs.Tree.{Class, a_semaphore, a_process, a_timer, a_thread}
 use Rattle.program_tree.specs.declared.keyword.Keyword.{Keyword}
-use Rattle.program_tree.specs.declared.keyword.Keyword.TheVariants.{Print, Send, If, Else, While, WaitUntil, WaitWhile, Yield, YieldUntil, Spawn, Restart, Exit, Pause, Acquire, Signal, Post, Broadcast, Synch, Poll, Start, Kill, Set, Reset, RestartTimer, Stop, Data, From, Now, Own, Is, Fired, Expired, Gone, Running, Count}
+use Rattle.program_tree.specs.declared.keyword.Keyword.TheVariants.{Print, Send, If, Else, While, WaitUntil, WaitWhile}
+use Rattle.program_tree.specs.declared.keyword.Keyword.TheVariants.{Yield, YieldUntil, Spawn, Restart, Exit, Pause}
+use Rattle.program_tree.specs.declared.keyword.Keyword.TheVariants.{Acquire, Signal, Post, Broadcast, Synch, Poll}
+use Rattle.program_tree.specs.declared.keyword.Keyword.TheVariants.{Start, Kill, Set, Reset, RestartTimer, Stop, Data}
+use Rattle.program_tree.specs.declared.keyword.Keyword.TheVariants.{From, Now, Own, Is, Fired, Expired, Gone, Running}
+use Rattle.program_tree.specs.declared.keyword.Keyword.TheVariants.{Count}
 
 -- one token: a name of a class, or an event. `cast` is one that may go to all, `sent` one that may go to a process, and
 -- `any` one that may come.

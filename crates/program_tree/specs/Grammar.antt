@@ -1,18 +1,26 @@
 -- The grammar: how each shape is spelled, as tokens with the parts that they play.
 use Rattle.std.specs.Prelude.{ℕ, ◌+◌, List, [], ◌∷◌, map, Bool, true, false, Option, Some, None, if◌then◌else◌, ◌&&◌}
 use Rattle.program_tree.specs.Forms as form
-use Rattle.program_tree.specs.Forms.{Operand, Form, ends, tells, takes, values, Beginning, action, beginning, waits, Word, no_value, alone, tells_of, word_of}
+use Rattle.program_tree.specs.Forms.{Operand, Form, ends, tells, takes, values, Beginning, action, beginning, waits}
+use Rattle.program_tree.specs.Forms.{Word, no_value, alone, tells_of, word_of}
 use Rattle.program_tree.specs.EventNames as event
 use Rattle.program_tree.specs.EventNames.{CastEvent, SentEvent, AnyEvent}
-use Rattle.program_tree.specs.Shapes.{Name, OperandShape, WordShape, FormShape, ActionShape, Valued, Named, CodeShape, ProgramShape}
+use Rattle.program_tree.specs.Shapes.{Name, OperandShape, WordShape, FormShape, ActionShape, Valued, Named, CodeShape}
+use Rattle.program_tree.specs.Shapes.{ProgramShape}
 use Rattle.program_tree.specs.Tokens as token
 use Rattle.program_tree.specs.Tokens.{Token}
 use Rattle.program_tree.specs.Tree as tree
-use Rattle.program_tree.specs.Tree.{Class, an_event, a_semaphore, a_process, a_variable, a_timer, a_thread, Expression, number, variable, sender, moment, mote, is, fired, expired, gone, running, count, negation, binary, Action, assign, print, send, wait_until, wait_while, yield, yield_until, spawn, restart, exit, pause, acquire, signal, post, broadcast, synch, poll, start, kill, set, reset, restart_timer, stop, Statement, does, branch, while, Body, end, next, Otherwise, nothing, otherwise}
+use Rattle.program_tree.specs.Tree.{Class, an_event, a_semaphore, a_process, a_variable, a_timer, a_thread, Expression}
+use Rattle.program_tree.specs.Tree.{number, variable, sender, moment, mote, is, fired, expired, gone, running, count}
+use Rattle.program_tree.specs.Tree.{negation, binary, Action, assign, print, send, wait_until, wait_while, yield}
+use Rattle.program_tree.specs.Tree.{yield_until, spawn, restart, exit, pause, acquire, signal, post, broadcast, synch}
+use Rattle.program_tree.specs.Tree.{poll, start, kill, set, reset, restart_timer, stop, Statement, does, branch, while}
+use Rattle.program_tree.specs.Tree.{Body, end, next, Otherwise, nothing, otherwise}
 use Rattle.program_tree.specs.declared.keyword.Keyword.{Keyword}
 use Rattle.program_tree.specs.declared.keyword.Keyword.TheVariants as word
 
--- where a block or an expression stands: below so many levels, in a simple block or not, and in the block of which thread
+-- where a block or an expression stands: below so many levels, in a simple block or not, and in the block of which
+-- thread
 pub record Context : Type 0 where
   pub level : ℕ
   pub simple : Bool
@@ -84,7 +92,11 @@ abbrev pub target : Name → Mark
 target x = record { token = token.Name x; role = uses a_variable x; begins = statement }
 
 abbrev pub begins_with : Context → Keyword → Mark
-begins_with c k = record { token = token.Keyword k; role = plain; begins = if c.simple && waits k then wait else statement }
+begins_with c k = record {
+  token = token.Keyword k;
+  role = plain;
+  begins = if c.simple && waits k then wait else statement;
+}
 
 -- Each is spelled so, where it stands there, and then come the marks `after` it.
 
@@ -140,7 +152,8 @@ expression_marks c (running p) after = value_marks c word.Running p after
 expression_marks c (count s) after = value_marks c word.Count s after
 expression_marks c (negation e) after = opening token.Bang (c.level + 1) ∷ expression_marks (inner c) e after
 expression_marks c (binary o a b) after =
-    opening token.Open (c.level + 1) ∷ expression_marks (inner c) a (sign (token.Op o) ∷ expression_marks (inner c) b (sign token.Close ∷ after))
+    opening token.Open (c.level + 1)
+    ∷ expression_marks (inner c) a (sign (token.Op o) ∷ expression_marks (inner c) b (sign token.Close ∷ after))
 
 abbrev pub into_marks : Option Name → (after : List Mark) → List Mark
 into_marks None after = sign token.Semicolon ∷ after
@@ -189,9 +202,11 @@ abbrev mutual
   pub statement_marks : Context → Statement Name → (after : List Mark) → List Mark
   statement_marks c (does a) after = action_marks c a after
   statement_marks c (branch e a o) after =
-      begins_with c word.If ∷ expression_marks c e (opening token.OpenBrace (c.level + 1) ∷ items_marks (inner c) a (else_marks c o after))
+      begins_with c word.If ∷ expression_marks c e
+      (opening token.OpenBrace (c.level + 1) ∷ items_marks (inner c) a (else_marks c o after))
   statement_marks c (while e a) after =
-      begins_with c word.While ∷ expression_marks c e (opening token.OpenBrace (c.level + 1) ∷ items_marks (inner c) a after)
+      begins_with c word.While ∷ expression_marks c e
+      (opening token.OpenBrace (c.level + 1) ∷ items_marks (inner c) a after)
 
   -- the statements of a block, and its closing brace
   pub items_marks : Context → Body Name → (after : List Mark) → List Mark
@@ -200,7 +215,8 @@ abbrev mutual
 
   pub else_marks : Context → Otherwise Name → (after : List Mark) → List Mark
   else_marks c nothing after = after
-  else_marks c (otherwise b) after = key word.Else ∷ opening token.OpenBrace (c.level + 1) ∷ items_marks (inner c) b after
+  else_marks c (otherwise b) after =
+      key word.Else ∷ opening token.OpenBrace (c.level + 1) ∷ items_marks (inner c) b after
 
 abbrev pub block_marks : Context → Body Name → (after : List Mark) → List Mark
 block_marks c b after = opening token.OpenBrace (c.level + 1) ∷ items_marks (inner c) b after
@@ -210,19 +226,23 @@ block_marks c b after = opening token.OpenBrace (c.level + 1) ∷ items_marks (i
 abbrev pub variable_marks : List Valued → (after : List Mark) → List Mark
 variable_marks [] after = after
 variable_marks (v ∷ vs) after =
-    key word.Var ∷ (named v.0 (new a_variable v.0) ∷ (sign token.Equals ∷ (valued v.1 ∷ (sign token.Semicolon ∷ variable_marks vs after))))
+    key word.Var ∷ (named v.0 (new a_variable v.0)
+    ∷ (sign token.Equals ∷ (valued v.1 ∷ (sign token.Semicolon ∷ variable_marks vs after))))
 
 abbrev pub etimer_marks : List Name → (after : List Mark) → List Mark
 etimer_marks [] after = after
-etimer_marks (x ∷ xs) after = key word.Etimer ∷ (named x (new a_timer x) ∷ (sign token.Semicolon ∷ etimer_marks xs after))
+etimer_marks (x ∷ xs) after =
+    key word.Etimer ∷ (named x (new a_timer x) ∷ (sign token.Semicolon ∷ etimer_marks xs after))
 
 abbrev pub ctimer_marks : List Named → (after : List Mark) → List Mark
 ctimer_marks [] after = after
-ctimer_marks (t ∷ ts) after = key word.Ctimer ∷ (named t.0 (new a_timer t.0) ∷ block_marks at_simple t.1 (ctimer_marks ts after))
+ctimer_marks (t ∷ ts) after =
+    key word.Ctimer ∷ (named t.0 (new a_timer t.0) ∷ block_marks at_simple t.1 (ctimer_marks ts after))
 
 abbrev pub thread_marks : List Named → (after : List Mark) → List Mark
 thread_marks [] after = after
-thread_marks (t ∷ ts) after = key word.Thread ∷ (named t.0 (new a_thread t.0) ∷ block_marks (at_thread t.0) t.1 (thread_marks ts after))
+thread_marks (t ∷ ts) after =
+    key word.Thread ∷ (named t.0 (new a_thread t.0) ∷ block_marks (at_thread t.0) t.1 (thread_marks ts after))
 
 -- `onpoll` or `onexit`
 abbrev pub handler_marks : Keyword → Option (Body Name) → (after : List Mark) → List Mark
@@ -257,7 +277,8 @@ event_marks (x ∷ xs) after = key word.Event ∷ (named x (new an_event x) ∷ 
 abbrev pub semaphore_marks : List Valued → (after : List Mark) → List Mark
 semaphore_marks [] after = after
 semaphore_marks (v ∷ vs) after =
-    key word.Semaphore ∷ (named v.0 (new a_semaphore v.0) ∷ (sign token.Equals ∷ (valued v.1 ∷ (sign token.Semicolon ∷ semaphore_marks vs after))))
+    key word.Semaphore ∷ (named v.0 (new a_semaphore v.0)
+    ∷ (sign token.Equals ∷ (valued v.1 ∷ (sign token.Semicolon ∷ semaphore_marks vs after))))
 
 -- the further names of the process line, each after a comma, and its semicolon
 abbrev pub process_marks : List (Name × CodeShape) → (after : List Mark) → List Mark

@@ -1,11 +1,12 @@
 -- The names in scope, by what they stand for.
-use Rattle.std.specs.Prelude.{ℕ, ◌+◌, ◌-◌, List, [], ◌∷◌, ◌++◌, length, Bool, ◌||◌, Option, Some, None, is_some, slice_index_or}
+use Rattle.std.specs.Prelude.{ℕ, ◌+◌, ◌-◌, List, [], ◌∷◌, ◌++◌, length, Bool, ◌||◌, Option, Some, None, is_some}
+use Rattle.std.specs.Prelude.{slice_index_or}
 use Rattle.program_tree.specs.Names.{place_of}
 use Rattle.program_tree.specs.Shapes.{Name}
 use Rattle.program_tree.specs.Tree.{Class, an_event, a_semaphore, a_process, a_variable, a_timer, a_thread}
 
--- Each in the order of declaration; those of variables, timers and threads are the names of one code, before whose timers the
--- program has so many others.
+-- Each in the order of declaration; those of variables, timers and threads are the names of one code, before whose
+-- timers the program has so many others.
 pub record Names : Type 0 where
   pub events : List Name
   pub semaphores : List Name
@@ -16,7 +17,15 @@ pub record Names : Type 0 where
   pub threads : List Name
 
 abbrev pub no_names : Names
-no_names = record { events = []; semaphores = []; processes = []; variables = []; first_timer = 0; timers = []; threads = [] }
+no_names = record {
+  events = [];
+  semaphores = [];
+  processes = [];
+  variables = [];
+  first_timer = 0;
+  timers = [];
+  threads = [];
+}
 
 abbrev pub names_of : Names → Class → List Name
 names_of n an_event = n.events
@@ -46,10 +55,11 @@ abbrev pub is_a : Names → Class → Name → Bool
 is_a n c x = is_among (names_of n c) x
 
 abbrev pub is_in_scope : Names → Name → Bool
-is_in_scope n x = is_a n an_event x || is_a n a_semaphore x || is_a n a_process x || is_a n a_variable x || is_a n a_timer x || is_a n a_thread x
+is_in_scope n x = is_a n an_event x || is_a n a_semaphore x || is_a n a_process x || is_a n a_variable x
+    || is_a n a_timer x || is_a n a_thread x
 
--- The number of a name: its place among those of its class, but timers are numbered through the program. That of a name which
--- isn't there is never asked for.
+-- The number of a name: its place among those of its class, but timers are numbered through the program. That of a
+-- name which isn't there is never asked for.
 abbrev pub or_zero : Option ℕ → ℕ
 or_zero None = 0
 or_zero (Some i) = i

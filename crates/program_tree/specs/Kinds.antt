@@ -1,7 +1,9 @@
 -- The kinds of faults by their numbers.
 use Rattle.std.specs.Prelude.{ℕ}
 use Rattle.program_tree.specs.declared.error.ReadErrorKind.{ReadErrorKind}
-use Rattle.program_tree.specs.declared.error.ReadErrorKind.TheVariants.{BadToken, Unexpected, UnknownName, NameTwice, NumberTooLarge, WaitInSimpleBlock, TooDeep, TooMany, NoProcess, BadTarget, Memory}
+use Rattle.program_tree.specs.declared.error.ReadErrorKind.TheVariants.{BadToken, Unexpected, UnknownName, NameTwice}
+use Rattle.program_tree.specs.declared.error.ReadErrorKind.TheVariants.{NumberTooLarge, WaitInSimpleBlock, TooDeep}
+use Rattle.program_tree.specs.declared.error.ReadErrorKind.TheVariants.{TooMany, NoProcess, BadTarget, Memory}
 
 abbrev pub kind_number : ReadErrorKind → ℕ
 kind_number BadToken = 1

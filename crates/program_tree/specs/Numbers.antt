@@ -57,7 +57,11 @@ codes_of p = p.first.1 ∷ values_of p.others
 
 -- the names of the whole program
 abbrev pub program_names : ProgramShape → Names
-program_names p = record no_names { events = p.events; semaphores = named_of p.semaphores; processes = p.first.0 ∷ named_of p.others }
+program_names p = record no_names {
+  events = p.events;
+  semaphores = named_of p.semaphores;
+  processes = p.first.0 ∷ named_of p.others;
+}
 
 abbrev pub tree_of_shape : ProgramShape → Tree
 tree_of_shape p = record {

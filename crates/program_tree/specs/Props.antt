@@ -5,7 +5,8 @@ use Rattle.program_tree.specs.EventNames.{CastEvent, SentEvent, AnyEvent}
 use Rattle.program_tree.specs.declared.tree.Operator.{Operator}
 use Rattle.program_tree.specs.declared.instruction.Instruction.{Instruction}
 use Rattle.program_tree.specs.declared.instruction.Instruction.TheVariants.{Act, Branch, Loop}
-use Rattle.program_tree.specs.Tree.{Expression, Action, Statement, Body, does, branch, while, Expression-set, Statement-set}
+use Rattle.program_tree.specs.Tree.{Expression, Action, Statement, Body, does, branch, while, Expression-set}
+use Rattle.program_tree.specs.Tree.{Statement-set}
 use Rattle.program_tree.specs.Flat.{Branches, Loops, Leads, IsFlat}
 
 cast_set : IsSet (CastEvent ℕ)
@@ -29,13 +30,15 @@ action_set = hlevel (props, expression_set, cast_set, sent_set)
 statement_set : IsSet (Statement ℕ)
 statement_set = hlevel (props, Statement-set, expression_set, action_set)
 
-Branches-prop : (at : ℕ → List (Statement ℕ)) (c : Expression ℕ) (then other : ℕ) (here : List (Statement ℕ)) → IsProp (Branches at c then other here)
+Branches-prop : (at : ℕ → List (Statement ℕ)) (c : Expression ℕ) (then other : ℕ) (here : List (Statement ℕ))
+    → IsProp (Branches at c then other here)
 Branches-prop at c then other [] = hlevel props
 Branches-prop at c then other (does a ∷ rest) = hlevel props
 Branches-prop at c then other (branch d a o ∷ rest) = hlevel (props, expression_set, statement_set)
 Branches-prop at c then other (while d a ∷ rest) = hlevel props
 
-Loops-prop : (at : ℕ → List (Statement ℕ)) (c : Expression ℕ) (body after : ℕ) (here : List (Statement ℕ)) → IsProp (Loops at c body after here)
+Loops-prop : (at : ℕ → List (Statement ℕ)) (c : Expression ℕ) (body after : ℕ) (here : List (Statement ℕ))
+    → IsProp (Loops at c body after here)
 Loops-prop at c body after [] = hlevel props
 Loops-prop at c body after (does a ∷ rest) = hlevel props
 Loops-prop at c body after (branch d a o ∷ rest) = hlevel props

@@ -2,7 +2,12 @@
 use Rattle.std.specs.Prelude.{ℕ, ◌+◌, nat_lt, Bool, true, ◌&&◌, List, [], ◌∷◌, Option, None, Some}
 use Rattle.program_tree.specs.EventNames as event
 use Rattle.program_tree.specs.EventNames.{CastEvent, SentEvent, AnyEvent}
-use Rattle.program_tree.specs.Tree.{Class, an_event, a_semaphore, a_process, a_variable, a_timer, a_thread, Expression, variable, is, fired, expired, gone, running, count, negation, binary, Action, assign, print, send, wait_until, wait_while, yield, yield_until, spawn, restart, exit, pause, acquire, signal, post, broadcast, synch, poll, start, kill, set, reset, restart_timer, stop, Statement, does, branch, while, Body, end, next, Otherwise, nothing, otherwise}
+use Rattle.program_tree.specs.Tree.{Class, an_event, a_semaphore, a_process, a_variable, a_timer, a_thread, Expression}
+use Rattle.program_tree.specs.Tree.{variable, is, fired, expired, gone, running, count, negation, binary, Action}
+use Rattle.program_tree.specs.Tree.{assign, print, send, wait_until, wait_while, yield, yield_until, spawn, restart}
+use Rattle.program_tree.specs.Tree.{exit, pause, acquire, signal, post, broadcast, synch, poll, start, kill, set}
+use Rattle.program_tree.specs.Tree.{reset, restart_timer, stop, Statement, does, branch, while, Body, end, next}
+use Rattle.program_tree.specs.Tree.{Otherwise, nothing, otherwise}
 
 -- which numbers of a class stand for something
 abbrev pub Within : Type 0

@@ -14,7 +14,12 @@ abbrev pub names_of_tree : Tree → Names
 names_of_tree t = record no_names { events = t.events; semaphores = t.semaphores; processes = t.processes }
 
 abbrev pub names_of_code : Names → Code → Names
-names_of_code n c = record n { variables = c.variables; first_timer = c.first_timer; timers = c.etimers ++ c.ctimers; threads = c.threads }
+names_of_code n c = record n {
+  variables = c.variables;
+  first_timer = c.first_timer;
+  timers = c.etimers ++ c.ctimers;
+  threads = c.threads;
+}
 
 abbrev pub block_with : Names → Body ℕ → Body Name
 block_with n b = body_map (name_in n) b
@@ -39,7 +44,18 @@ codes_of_tree t = zip t.processes (map (code_shape (names_of_tree t)) t.codes)
 
 -- stands for the first process where there is none, as in no program
 abbrev pub no_code : Name × CodeShape
-no_code = ([], record { variables = []; etimers = []; ctimers = []; threads = []; on_poll = None; on_exit = None; body = end })
+no_code = (
+  [],
+  record {
+    variables = [];
+    etimers = [];
+    ctimers = [];
+    threads = [];
+    on_poll = None;
+    on_exit = None;
+    body = end;
+  },
+)
 
 abbrev pub shape_of : Tree → ProgramShape
 shape_of t = record {

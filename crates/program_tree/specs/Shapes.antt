@@ -1,6 +1,7 @@
 -- The shapes of programs: their trees, over names as they are written.
 use Rattle.std.specs.Prelude.{ℕ, List, Option}
-use Rattle.program_tree.specs.Forms.{Operand, name, cast, sent, any, Form, ends, tells, takes, values, Beginning, action, Word, no_value, alone, tells_of}
+use Rattle.program_tree.specs.Forms.{Operand, name, cast, sent, any, Form, ends, tells, takes, values, Beginning}
+use Rattle.program_tree.specs.Forms.{action, Word, no_value, alone, tells_of}
 use Rattle.program_tree.specs.EventNames.{CastEvent, SentEvent, AnyEvent}
 use Rattle.program_tree.specs.Tree.{Expression, Body}
 

@@ -1,8 +1,11 @@
 -- A text as its pieces, and the tokens that they are.
-use Rattle.std.specs.Prelude.{◌≡◌, ◌≢◌, ℕ, ◌+◌, Bool, true, false, ◌||◌, ◌==◌, nat_eq, List, [], ◌∷◌, ◌++◌, codes, count_by, find, filter_map, Option, Some, None, option_map}
+use Rattle.std.specs.Prelude.{◌≡◌, ◌≢◌, ℕ, ◌+◌, Bool, true, false, ◌||◌, ◌==◌, nat_eq, List, [], ◌∷◌, ◌++◌, codes}
+use Rattle.std.specs.Prelude.{count_by, find, filter_map, Option, Some, None, option_map}
 use Rattle.std.specs.List.{list_all, list_any, starts_with, cons_option}
-use Rattle.program_tree.specs.declared.tree.Operator.TheVariants.{Add, Subtract, Multiply, Divide, Remainder, Equal, Unequal, Less, AtMost, Greater, AtLeast, And, Or}
-use Rattle.program_tree.specs.Tokens.{Token, Semicolon, Comma, Equals, Bang, Open, Close, OpenBrace, CloseBrace, Op, Bad}
+use Rattle.program_tree.specs.declared.tree.Operator.TheVariants.{Add, Subtract, Multiply, Divide, Remainder, Equal}
+use Rattle.program_tree.specs.declared.tree.Operator.TheVariants.{Unequal, Less, AtMost, Greater, AtLeast, And, Or}
+use Rattle.program_tree.specs.Tokens.{Token, Semicolon, Comma, Equals, Bang, Open, Close, OpenBrace, CloseBrace, Op}
+use Rattle.program_tree.specs.Tokens.{Bad}
 use Rattle.program_tree.specs.Words.{begins, is_word_byte, word_token}
 
 -- LF
@@ -80,7 +83,8 @@ abbrev pub FitsBefore : List ℕ → Piece → Type 0
 FitsBefore rest (Blank byte) = is_blank byte ≡ true
 FitsBefore rest (Comment bytes) = (list_any is_feed bytes ≡ false) × (ends_line rest ≡ true)
 FitsBefore rest (Word bytes) = (bytes ≢ []) × (list_all is_word_byte bytes ≡ true) × (begins is_word_byte rest ≡ false)
-FitsBefore rest (Sign bytes token) = (sign_at (bytes ++ rest) ≡ Some (bytes, token)) × (begins_comment (bytes ++ rest) ≡ false)
+FitsBefore rest (Sign bytes token) =
+    (sign_at (bytes ++ rest) ≡ Some (bytes, token)) × (begins_comment (bytes ++ rest) ≡ false)
 FitsBefore rest (Other byte) = (is_blank byte ≡ false) × (is_word_byte byte ≡ false) × (sign_at (byte ∷ rest) ≡ None)
 
 -- the text that the pieces are
@@ -99,7 +103,8 @@ tokens_of pieces = filter_map token_at pieces
 abbrev pub lines_from : ℕ → List Piece → List ℕ
 lines_from line [] = line ∷ []
 lines_from line (piece ∷ pieces) =
-    cons_option (option_map (λ token. line) (token_at piece)) (lines_from (line + count_by is_feed (bytes_of piece)) pieces)
+    cons_option (option_map (λ token. line) (token_at piece))
+    (lines_from (line + count_by is_feed (bytes_of piece)) pieces)
 
 -- a text has these tokens, on these lines; the last line is that of its end
 pub record IsLexed (text : List ℕ) (tokens : List Token) (lines : List ℕ) : Type 0 where

@@ -1,9 +1,11 @@
--- The trees of a program over its names: names as they are written, or the numbers that they stand for. What the types of
--- `src/tree.rt` stand for are trees over numbers.
+-- The trees of a program over its names: names as they are written, or the numbers that they stand for. What the types
+-- of `src/tree.rt` stand for are trees over numbers.
 use Rattle.std.specs.Prelude.{ℕ, suc, ◌+◌, ◌≤◌, max, List, [], ◌∷◌, map, Option, Some, None, option_map}
-use Rattle.program_tree.specs.EventNames.{CastEvent, SentEvent, AnyEvent, cast_of, sent_of, any_of, cast_map, sent_map, any_map}
+use Rattle.program_tree.specs.EventNames.{CastEvent, SentEvent, AnyEvent, cast_of, sent_of, any_of, cast_map, sent_map}
+use Rattle.program_tree.specs.EventNames.{any_map}
 use Rattle.program_tree.specs.declared.tree.Operator.{Operator}
-use Rattle.program_tree.specs.declared.tree.Expr.{Expr, Number, Variable, Word, Sender, Moment, Mote, Is, Fired, Expired, Gone, Running, Count, Not', Binary'}
+use Rattle.program_tree.specs.declared.tree.Expr.{Expr, Number, Variable, Word, Sender, Moment, Mote, Is, Fired}
+use Rattle.program_tree.specs.declared.tree.Expr.{Expired, Gone, Running, Count, Not', Binary'}
 use Rattle.program_tree.specs.declared.tree.Action.{Action as ActionRead}
 use Rattle.program_tree.specs.declared.tree.Action.TheVariants as read
 use Rattle.program_tree.specs.declared.tree.Stmt.{Stmt}
@@ -231,7 +233,8 @@ action_map f exit = exit
 action_map f pause = pause
 action_map f (acquire s) = acquire (f a_semaphore s)
 action_map f (signal s) = signal (f a_semaphore s)
-action_map f (post p e w i) = post (f a_process p) (sent_map (f an_event) e) (expression_map f w) (option_map (f a_variable) i)
+action_map f (post p e w i) =
+    post (f a_process p) (sent_map (f an_event) e) (expression_map f w) (option_map (f a_variable) i)
 action_map f (broadcast e w i) = broadcast (cast_map (f an_event) e) (expression_map f w) (option_map (f a_variable) i)
 action_map f (synch p e w) = synch (f a_process p) (sent_map (f an_event) e) (expression_map f w)
 action_map f (poll p) = poll (f a_process p)

@@ -21,12 +21,13 @@ pub enum ReadErrorKind {
     WaitInSimpleBlock = 6,
     /// A brace, `!` or `(` that opens the 33rd level.
     TooDeep = 7,
-    /// The 65th process, semaphore or timer, the 118th event, the 65th variable or 8th thread of a process, or the first token of
-    /// the 4,097th statement.
+    /// The 65th process, semaphore or timer, the 118th event, the 65th variable or 8th thread of a process, or the
+    /// first token of the 4,097th statement.
     TooMany = 8,
     /// The text ends where `process` should stand.
     NoProcess = 9,
-    /// A name of another class than the place takes, as a process's in the place of a variable, or the spawning of the very thread that stands there.
+    /// A name of another class than the place takes, as a process's in the place of a variable, or the spawning of the
+    /// very thread that stands there.
     BadTarget = 10,
     /// A growth was refused; the line is 0.
     Memory = 11,

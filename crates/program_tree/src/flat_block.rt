@@ -9,7 +9,8 @@ use crate::instruction::Instruction;
 use crate::tree::Block;
 use std::alloc::{AllocError, Global};
 
-/// A block with its flat code. The crates that read and print programs speak of the tree, and a thread follows the code.
+/// A block with its flat code. The crates that read and print programs speak of the tree, and a thread follows the
+/// code.
 #[derive(Drop)]
 pub struct FlatBlock {
     block: Block,

@@ -100,7 +100,8 @@ fn add_other(
     alloc: Global,
 ) -> Result<(), AllocError>
     requires { length code.old.items + other_size (otherwise_of (option_map block_of other.now)) < 2 ^ 16 }
-    ensures { OnOk result (EmitsOther (otherwise_of (option_map block_of other.now)) after code.old.items code.new.items) }
+    ensures { OnOk result (EmitsOther
+        (otherwise_of (option_map block_of other.now)) after code.old.items code.new.items) }
 {
     match other {
         None => Ok(()),

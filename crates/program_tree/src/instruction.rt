@@ -4,8 +4,8 @@ use crate::tree::{Action, Expr};
 /// The place after the last statement of a block. No block has as many statements.
 pub(crate) const END: u16 = u16::MAX;
 
-/// A statement in flat code, with the places where a thread goes on after it. A place is the number of a statement in its
-/// block, from 0, in the order of the text.
+/// A statement in flat code, with the places where a thread goes on after it. A place is the number of a statement in
+/// its block, from 0, in the order of the text.
 #[derive(Drop)]
 pub enum Instruction {
     /// A statement without blocks, and the place after it.

@@ -1,4 +1,5 @@
-//! What a program of motes is: the trees of texts, the names that they share with the kernel, and the words of the notation.
+//! What a program of motes is: the trees of texts, the names that they share with the kernel, and the words of the
+//! notation.
 #![tactic(auto)]
 
 pub mod class;

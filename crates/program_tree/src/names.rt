@@ -1,5 +1,6 @@
 //! Names in the order of their declaration.
-ghost use Rattle.std.specs.Prelude.{◌≡◌, ◌==◌, ◌<◌, ◌≤◌, ◌++◌, [], ◌∷◌, List, length, None, OnOk, OnErr, IfSome, slice_index_or, map, string_bytes};
+ghost use Rattle.std.specs.Prelude.{◌≡◌, ◌==◌, ◌<◌, ◌≤◌, ◌++◌, [], ◌∷◌, List, length, None, OnOk, OnErr, IfSome};
+ghost use Rattle.std.specs.Prelude.{slice_index_or, map, string_bytes};
 ghost use Rattle.program_tree.specs.Names.{place_of};
 
 use indexmap::IndexSet;

@@ -1,6 +1,7 @@
 //! A program.
 //!
-//! The crates that read and print programs see its fields. Its ghost fields hold of each value, so each is the program of a text.
+//! The crates that read and print programs see its fields. Its ghost fields hold of each value, so each is the program
+//! of a text.
 ghost use Rattle.std.specs.Prelude.{◌≡◌, ◌<◌, ◌≤◌, length, map, slice_get, Some, IfSome, option_map};
 ghost use Rattle.std.specs.Option.{ForSome};
 ghost use Rattle.std.specs.List.{All};

@@ -23,8 +23,8 @@ pub enum Operator {
     Or,
 }
 
-/// An expression. Variables have the numbers of their declarations in the process, processes and semaphores those of their
-/// declarations in the program, and timers of both kinds are numbered together through the program.
+/// An expression. Variables have the numbers of their declarations in the process, processes and semaphores those of
+/// their declarations in the program, and timers of both kinds are numbered together through the program.
 #[derive(Drop)]
 pub enum Expr {
     Number(u16),

@@ -25,7 +25,12 @@ RunAwayIsForGood =
     → let a : Advanced = advanced_of code event looks r variables units in
     a.step ≡ Runaway
     → (next : Event) (seen : Looks) (changed : List ℕ) (more : ℕ)
-    → advanced_of code next seen a.remainder changed more ≡ record { step = Runaway; remainder = a.remainder; variables = changed; units = more }
+    → advanced_of code next seen a.remainder changed more ≡ record {
+      step = Runaway;
+      remainder = a.remainder;
+      variables = changed;
+      units = more;
+    }
 
 -- an operation costs a unit at least, and no step makes units
 abbrev pub OperationsCostWork : Type 0

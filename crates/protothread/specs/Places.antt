@@ -41,7 +41,10 @@ pub record Caller : Type 0 where
 -- the threads that are spawned, from the outermost on
 abbrev pub callers_in : Code → Body ℕ → List Call → List Caller
 callers_in code b [] = []
-callers_in code b (c ∷ cs) = record { thread = c.thread; rest = rest_at b c.next } ∷ callers_in code (thread_body code c.thread) cs
+callers_in code b (c ∷ cs) = record {
+  thread = c.thread;
+  rest = rest_at b c.next;
+} ∷ callers_in code (thread_body code c.thread) cs
 
 -- where a thread stands by where the innermost of its spawned threads stands
 abbrev pub nested : List Caller → Place → Place

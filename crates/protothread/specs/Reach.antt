@@ -18,7 +18,8 @@ use Rattle.protothread.specs.declared.calls.Call.{Call}
 use Rattle.protothread.specs.Looks.{Looks}
 use Rattle.protothread.specs.Calls.{CanSpawn, SpawnsSo}
 use Rattle.protothread.specs.Remainder.{at, thread_block, whole_of}
-use Rattle.protothread.specs.Step.{Reached, goes_on, operates, answers, spawner_reached, performed, reached, advanced_of, continued, PaysFor}
+use Rattle.protothread.specs.Step.{Reached, goes_on, operates, answers, spawner_reached, performed, reached}
+use Rattle.protothread.specs.Step.{advanced_of, continued, PaysFor}
 use Rattle.protothread.specs.Places.{Caller, nested, body_of_thread, callers_of, thread_place, remainder_of}
 
 -- the block of the innermost of the threads
@@ -32,12 +33,16 @@ made_of [] vars r = r
 made_of (c ∷ cs) vars r = spawner_reached c.thread c.rest vars (made_of cs vars r)
 
 -- what a deed at the statement `s`, where a thread stands before the rest, makes of the thread
-abbrev pub performed_at : Code → Thread → (variables : List ℕ) → (s : Statement ℕ) → (rest : List (Statement ℕ)) → Deed → Reached
-performed_at code t vars s rest d = made_of (callers_of code t) vars (performed code (listed (body_of_thread code t)) vars s rest d)
+abbrev pub performed_at : Code → Thread → (variables : List ℕ) → (s : Statement ℕ) → (rest : List (Statement ℕ))
+    → Deed → Reached
+performed_at code t vars s rest d =
+    made_of (callers_of code t) vars (performed code (listed (body_of_thread code t)) vars s rest d)
 
 -- what the statement `s`, where a thread stands before the rest, makes of it
-abbrev pub reached_at : Code → Thread → (variables : List ℕ) → Event → Looks → (s : Statement ℕ) → (rest : List (Statement ℕ)) → Reached
-reached_at code t vars event looks s rest = reached code (whole_of code t.part) vars event looks (nested (callers_of code t) (at t.is_yielded s rest))
+abbrev pub reached_at : Code → Thread → (variables : List ℕ) → Event → Looks → (s : Statement ℕ)
+    → (rest : List (Statement ℕ)) → Reached
+reached_at code t vars event looks s rest =
+    reached code (whole_of code t.part) vars event looks (nested (callers_of code t) (at t.is_yielded s rest))
 
 -- a deed of a statement spawns the thread that the statement names
 abbrev pub IsDoneBy : Statement ℕ → Deed → Type 0
@@ -55,7 +60,8 @@ pub record StandsIn (code : Code) (t : Thread) (flat : List Instruction) : Type 
   pub earlier : SpawnsSo t.calls (body_of_thread code t)
 
 -- a thread that did a statement goes on where it now stands
-pub record GoesOnAt (code : Code) (flat : List Instruction) (made : Reached) (old new : Thread) (after : List ℕ) : Type 0 where
+pub record GoesOnAt (code : Code) (flat : List Instruction) (made : Reached) (old new : Thread)
+    (after : List ℕ) : Type 0 where
   pub part : new.part ≡ old.part
   pub inside : StandsIn code new flat
   pub made_so : made ≡ goes_on after (thread_place code new)
@@ -67,7 +73,8 @@ pub record OperatesSo (code : Code) (made : Reached) (o : Op) (old new : Thread)
   pub made_so : made ≡ operates o new.mark (thread_place code new)
 
 -- it gives up control
-pub record AnswersSo (code : Code) (made : Reached) (answer : PtState) (old new : Thread) (vars after : List ℕ) : Type 0 where
+pub record AnswersSo (code : Code) (made : Reached) (answer : PtState) (old new : Thread)
+    (vars after : List ℕ) : Type 0 where
   pub part : new.part ≡ old.part
   pub mark : new.mark ≡ AtRest
   pub variables : after ≡ vars
@@ -84,13 +91,19 @@ pub record GoesOnFrom (old new : Thread) (units left : ℕ) : Type 0 where
   pub same : new ≡ old
   pub none_made : left ≤ units
   pub goes_on_so : (code : Code) (event : Event) (looks : Looks) (vars : List ℕ)
-      → advanced_of code event looks (remainder_of code old) vars units ≡ continued code old.part event looks (thread_place code old) vars left
+      → advanced_of code event looks (remainder_of code old) vars units
+      ≡ continued code old.part event looks (thread_place code old) vars left
 
 -- a thread that stops before it comes there
 pub record StopsAtOnce (answer : Step) (old new : Thread) (units left : ℕ) : Type 0 where
   pub pays : PaysFor answer units left
   pub stops_so : (code : Code) (event : Event) (looks : Looks) (vars : List ℕ)
-      → advanced_of code event looks (remainder_of code old) vars units ≡ record { step = answer; remainder = remainder_of code new; variables = vars; units = left }
+      → advanced_of code event looks (remainder_of code old) vars units ≡ record {
+        step = answer;
+        remainder = remainder_of code new;
+        variables = vars;
+        units = left;
+      }
 
 abbrev pub Resumes : Option Step → (old new : Thread) → (units left : ℕ) → Type 0
 Resumes None old new units left = GoesOnFrom old new units left

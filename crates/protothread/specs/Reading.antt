@@ -1,5 +1,5 @@
--- What a thread's block says, read by its structure: the reading knows statements, blocks, threads and what is seen, and
--- nothing of how a thread keeps its place.
+-- What a thread's block says, read by its structure: the reading knows statements, blocks, threads and what is seen,
+-- and nothing of how a thread keeps its place.
 use Rattle.std.specs.Prelude.{ℕ, ◌≡◌, true, false, List, [], ◌∷◌, ◌++◌, slice_set, Option, None, Some, if◌then◌else◌}
 use Rattle.program_tree.specs.declared.event.Event.{Event}
 use Rattle.program_tree.specs.declared.event.Proc.TheVariants.{Own}
@@ -7,7 +7,8 @@ use Rattle.program_tree.specs.declared.event.SystemEvent.TheVariants.{Continue}
 use Rattle.program_tree.specs.declared.event.Target.TheVariants.{One}
 use Rattle.program_tree.specs.Events.{system_number}
 use Rattle.program_tree.specs.EventNames.{sent, cast, continue}
-use Rattle.program_tree.specs.Tree.{Expression, is, Action, yield, yield_until, spawn, restart, exit, pause, Statement, does, branch, while, Body, Otherwise, listed}
+use Rattle.program_tree.specs.Tree.{Expression, is, Action, yield, yield_until, spawn, restart, exit, pause, Statement}
+use Rattle.program_tree.specs.Tree.{does, branch, while, Body, Otherwise, listed}
 use Rattle.program_tree.specs.Code.{Code}
 use Rattle.protothread.specs.declared.state.PtState.{PtState}
 use Rattle.protothread.specs.declared.state.PtState.TheVariants.{Waiting}
@@ -20,8 +21,8 @@ use Rattle.protothread.specs.Value.{value, holds}
 use Rattle.protothread.specs.Remainder.{thread_block}
 use Rattle.protothread.specs.Step.{deed_of, other_block}
 
--- What a thread is shown each time that it is advanced: what its last operation answered, the event, and what it sees of
--- its mote, which each operation may change.
+-- What a thread is shown each time that it is advanced: what its last operation answered, the event, and what it sees
+-- of its mote, which each operation may change.
 pub record Sight : Type 0 where
   pub answer : ℕ
   pub event : Event
@@ -32,8 +33,8 @@ pub data Happening : Type 0 where
   operates : Op → Happening
   gives_up : PtState → Happening
 
--- What became of statements: they were done; or they were left, since the thread restarts or exits. The thread goes on in
--- the sight `now`, before the later ones. Or it stands in them, and no sight is left.
+-- What became of statements: they were done; or they were left, since the thread restarts or exits. The thread goes on
+-- in the sight `now`, before the later ones. Or it stands in them, and no sight is left.
 pub data Completion : Type 0 where
   done : (now : Sight) → (later : List Sight) → (variables : List ℕ) → Completion
   restarts : (now : Sight) → (later : List Sight) → (variables : List ℕ) → Completion
@@ -66,7 +67,8 @@ abbrev pub meaning : Expression ℕ → Sight → (variables : List ℕ) → ℕ
 meaning e now vars = value vars now.event now.looks e
 
 -- once it has yielded, a thread goes on in the first sight in which the condition holds, and yields in each before
-pub data Awaits (yields : PtState) (c : Expression ℕ) : (now : Sight) → (later : List Sight) → (variables : List ℕ) → List Happening → Completion → Type 0 where
+pub data Awaits (yields : PtState) (c : Expression ℕ) : (now : Sight) → (later : List Sight) → (variables : List ℕ)
+    → List Happening → Completion → Type 0 where
   met : (now : Sight) (later : List Sight) (vars : List ℕ) → holds (meaning c now vars) ≡ true
       → Awaits yields c now later vars [] (done now later vars)
   again : (now next : Sight) (later : List Sight) (vars : List ℕ) (h : List Happening) (out : Completion)
@@ -76,17 +78,22 @@ pub data Awaits (yields : PtState) (c : Expression ℕ) : (now : Sight) → (lat
       → Awaits yields c now [] vars (gives_up yields ∷ []) (stands vars)
 
 mutual
-  -- What one statement does. `yields` is what the part's caller is answered where the thread yields: YIELDED, and from a
-  -- spawned thread WAITING.
-  pub data Reads (code : Code) : (yields : PtState) → Statement ℕ → (now : Sight) → (later : List Sight) → (variables : List ℕ) → List Happening → Completion → Type 0 where
+  -- What one statement does. `yields` is what the part's caller is answered where the thread yields: YIELDED, and from
+  -- a spawned thread WAITING.
+  pub data Reads (code : Code) : (yields : PtState) → Statement ℕ → (now : Sight) → (later : List Sight)
+      → (variables : List ℕ) → List Happening → Completion → Type 0 where
     passes : (y : PtState) (a : Action ℕ) (now : Sight) (later : List Sight) (vars : List ℕ)
         → deed code a now vars ≡ Passes → Reads code y (does a) now later vars [] (done now later vars)
     assigns : (y : PtState) (a : Action ℕ) (i v : ℕ) (now : Sight) (later : List Sight) (vars : List ℕ)
-        → deed code a now vars ≡ Assigns i v → Reads code y (does a) now later vars [] (done now later (slice_set vars i v))
-    performs : (y : PtState) (a : Action ℕ) (o : Op) (into : Option ℕ) (now : Sight) (later : List Sight) (vars : List ℕ)
-        → deed code a now vars ≡ Operates o into → Reads code y (does a) now later vars (operates o ∷ []) (resumed into later vars)
+        → deed code a now vars ≡ Assigns i v
+        → Reads code y (does a) now later vars [] (done now later (slice_set vars i v))
+    performs : (y : PtState) (a : Action ℕ) (o : Op) (into : Option ℕ) (now : Sight) (later : List Sight)
+        (vars : List ℕ)
+        → deed code a now vars ≡ Operates o into
+        → Reads code y (does a) now later vars (operates o ∷ []) (resumed into later vars)
     -- WAITING, and then the statement again in the next sight: `wait_until`, `wait_while` and `acquire`
-    waits : (y : PtState) (a : Action ℕ) (now next : Sight) (later : List Sight) (vars : List ℕ) (h : List Happening) (out : Completion)
+    waits : (y : PtState) (a : Action ℕ) (now next : Sight) (later : List Sight) (vars : List ℕ) (h : List Happening)
+        (out : Completion)
         → deed code a now vars ≡ Waits → Reads code y (does a) next later vars h out
         → Reads code y (does a) now (next ∷ later) vars (gives_up Waiting ∷ h) out
     waits_last : (y : PtState) (a : Action ℕ) (now : Sight) (vars : List ℕ)
@@ -94,27 +101,35 @@ mutual
     -- control is given up once
     yields : (y : PtState) (now : Sight) (later : List Sight) (vars : List ℕ)
         → Reads code y (does yield) now later vars (gives_up y ∷ []) (resumed None later vars)
-    yields_until : (y : PtState) (c : Expression ℕ) (now next : Sight) (later : List Sight) (vars : List ℕ) (h : List Happening) (out : Completion)
+    yields_until : (y : PtState) (c : Expression ℕ) (now next : Sight) (later : List Sight) (vars : List ℕ)
+        (h : List Happening) (out : Completion)
         → Awaits y c next later vars h out
         → Reads code y (does (yield_until c)) now (next ∷ later) vars (gives_up y ∷ h) out
     yields_until_last : (y : PtState) (c : Expression ℕ) (now : Sight) (vars : List ℕ)
         → Reads code y (does (yield_until c)) now [] vars (gives_up y ∷ []) (stands vars)
     -- CONTINUE to its own process, and then as `yield_until is(continue)`
-    pauses : (y : PtState) (now next second : Sight) (later : List Sight) (vars : List ℕ) (h : List Happening) (out : Completion)
+    pauses : (y : PtState) (now next second : Sight) (later : List Sight) (vars : List ℕ) (h : List Happening)
+        (out : Completion)
         → Awaits y (is (sent (cast continue))) second later vars h out
-        → Reads code y (does pause) now (next ∷ second ∷ later) vars (operates (Post (One (Own code.number)) (system_number Continue) 0) ∷ gives_up y ∷ h) out
+        → Reads code y (does pause) now (next ∷ second ∷ later) vars
+        (operates (Post (One (Own code.number)) (system_number Continue) 0) ∷ gives_up y ∷ h) out
     pauses_last : (y : PtState) (now next : Sight) (vars : List ℕ)
-        → Reads code y (does pause) now (next ∷ []) vars (operates (Post (One (Own code.number)) (system_number Continue) 0) ∷ gives_up y ∷ []) (stands vars)
+        → Reads code y (does pause) now (next ∷ []) vars
+        (operates (Post (One (Own code.number)) (system_number Continue) 0) ∷ gives_up y ∷ []) (stands vars)
     posts_last : (y : PtState) (now : Sight) (vars : List ℕ)
-        → Reads code y (does pause) now [] vars (operates (Post (One (Own code.number)) (system_number Continue) 0) ∷ []) (stands vars)
+        → Reads code y (does pause) now [] vars
+        (operates (Post (One (Own code.number)) (system_number Continue) 0) ∷ []) (stands vars)
     -- the block of the thread, in the same call; it goes on behind the spawn where that ends or exits
-    spawn_ends : (y : PtState) (t : ℕ) (now : Sight) (later : List Sight) (vars : List ℕ) (h : List Happening) (call : Sight) (calls : List Sight) (changed : List ℕ)
+    spawn_ends : (y : PtState) (t : ℕ) (now : Sight) (later : List Sight) (vars : List ℕ) (h : List Happening)
+        (call : Sight) (calls : List Sight) (changed : List ℕ)
         → ReadsThread code Waiting (thread_block code t) now later vars h (done call calls changed)
         → Reads code y (does (spawn t)) now later vars h (done call calls changed)
-    spawn_exits : (y : PtState) (t : ℕ) (now : Sight) (later : List Sight) (vars : List ℕ) (h : List Happening) (call : Sight) (calls : List Sight) (changed : List ℕ)
+    spawn_exits : (y : PtState) (t : ℕ) (now : Sight) (later : List Sight) (vars : List ℕ) (h : List Happening)
+        (call : Sight) (calls : List Sight) (changed : List ℕ)
         → ReadsThread code Waiting (thread_block code t) now later vars h (exits call calls changed)
         → Reads code y (does (spawn t)) now later vars h (done call calls changed)
-    spawn_stands : (y : PtState) (t : ℕ) (now : Sight) (later : List Sight) (vars : List ℕ) (h : List Happening) (changed : List ℕ)
+    spawn_stands : (y : PtState) (t : ℕ) (now : Sight) (later : List Sight) (vars : List ℕ) (h : List Happening)
+        (changed : List ℕ)
         → ReadsThread code Waiting (thread_block code t) now later vars h (stands changed)
         → Reads code y (does (spawn t)) now later vars h (stands changed)
     restarted : (y : PtState) (now next : Sight) (later : List Sight) (vars : List ℕ)
@@ -124,31 +139,42 @@ mutual
     exited : (y : PtState) (now : Sight) (later : List Sight) (vars : List ℕ)
         → Reads code y (does exit) now later vars [] (exits now later vars)
     -- the block that the condition chooses
-    chooses : (y : PtState) (c : Expression ℕ) (a : Body ℕ) (o : Otherwise ℕ) (now : Sight) (later : List Sight) (vars : List ℕ) (h : List Happening) (out : Completion)
+    chooses : (y : PtState) (c : Expression ℕ) (a : Body ℕ) (o : Otherwise ℕ) (now : Sight) (later : List Sight)
+        (vars : List ℕ) (h : List Happening) (out : Completion)
         → ReadsAll code y (if holds (meaning c now vars) then listed a else other_block o) now later vars h out
         → Reads code y (branch c a o) now later vars h out
     -- the body, and then the loop again
-    repeats : (y : PtState) (c : Expression ℕ) (a : Body ℕ) (now : Sight) (later : List Sight) (vars : List ℕ) (h : List Happening) (out : Completion)
+    repeats : (y : PtState) (c : Expression ℕ) (a : Body ℕ) (now : Sight) (later : List Sight) (vars : List ℕ)
+        (h : List Happening) (out : Completion)
         → holds (meaning c now vars) ≡ true → ReadsAll code y (listed a ++ while c a ∷ []) now later vars h out
         → Reads code y (while c a) now later vars h out
     leaves : (y : PtState) (c : Expression ℕ) (a : Body ℕ) (now : Sight) (later : List Sight) (vars : List ℕ)
         → holds (meaning c now vars) ≡ false → Reads code y (while c a) now later vars [] (done now later vars)
 
   -- what statements do, one after another, up to one that isn't done
-  pub data ReadsAll (code : Code) : (yields : PtState) → List (Statement ℕ) → (now : Sight) → (later : List Sight) → (variables : List ℕ) → List Happening → Completion → Type 0 where
-    nothing_left : (y : PtState) (now : Sight) (later : List Sight) (vars : List ℕ) → ReadsAll code y [] now later vars [] (done now later vars)
-    in_turn : (y : PtState) (s : Statement ℕ) (ss : List (Statement ℕ)) (now : Sight) (later : List Sight) (vars : List ℕ) (h k : List Happening)
+  pub data ReadsAll (code : Code) : (yields : PtState) → List (Statement ℕ) → (now : Sight) → (later : List Sight)
+      → (variables : List ℕ) → List Happening → Completion → Type 0 where
+    nothing_left : (y : PtState) (now : Sight) (later : List Sight) (vars : List ℕ)
+        → ReadsAll code y [] now later vars [] (done now later vars)
+    in_turn : (y : PtState) (s : Statement ℕ) (ss : List (Statement ℕ)) (now : Sight) (later : List Sight)
+        (vars : List ℕ) (h k : List Happening)
         (call : Sight) (calls : List Sight) (changed : List ℕ) (out : Completion)
         → Reads code y s now later vars h (done call calls changed) → ReadsAll code y ss call calls changed k out
         → ReadsAll code y (s ∷ ss) now later vars (h ++ k) out
-    breaks_off : (y : PtState) (s : Statement ℕ) (ss : List (Statement ℕ)) (now : Sight) (later : List Sight) (vars : List ℕ) (h : List Happening) (out : Completion)
+    breaks_off : (y : PtState) (s : Statement ℕ) (ss : List (Statement ℕ)) (now : Sight) (later : List Sight)
+        (vars : List ℕ) (h : List Happening) (out : Completion)
         → (IsDone out → ⊥) → Reads code y s now later vars h out → ReadsAll code y (s ∷ ss) now later vars h out
 
   -- what a thread does whose block this is: after a `restart` the whole block again
-  pub data ReadsThread (code : Code) : (yields : PtState) → List (Statement ℕ) → (now : Sight) → (later : List Sight) → (variables : List ℕ) → List Happening → Completion → Type 0 where
-    once : (y : PtState) (block : List (Statement ℕ)) (now : Sight) (later : List Sight) (vars : List ℕ) (h : List Happening) (out : Completion)
-        → (Restarts out → ⊥) → ReadsAll code y block now later vars h out → ReadsThread code y block now later vars h out
-    anew : (y : PtState) (block : List (Statement ℕ)) (now : Sight) (later : List Sight) (vars : List ℕ) (h k : List Happening)
+  pub data ReadsThread (code : Code) : (yields : PtState) → List (Statement ℕ) → (now : Sight) → (later : List Sight)
+      → (variables : List ℕ) → List Happening → Completion → Type 0 where
+    once : (y : PtState) (block : List (Statement ℕ)) (now : Sight) (later : List Sight) (vars : List ℕ)
+        (h : List Happening) (out : Completion)
+        → (Restarts out → ⊥) → ReadsAll code y block now later vars h out
+        → ReadsThread code y block now later vars h out
+    anew : (y : PtState) (block : List (Statement ℕ)) (now : Sight) (later : List Sight) (vars : List ℕ)
+        (h k : List Happening)
         (call : Sight) (calls : List Sight) (changed : List ℕ) (out : Completion)
-        → ReadsAll code y block now later vars h (restarts call calls changed) → ReadsThread code y block call calls changed k out
+        → ReadsAll code y block now later vars h (restarts call calls changed)
+        → ReadsThread code y block call calls changed k out
         → ReadsThread code y block now later vars (h ++ k) out

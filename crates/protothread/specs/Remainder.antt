@@ -7,8 +7,8 @@ use Rattle.protothread.specs.declared.part.Part.TheVariants as part
 use Rattle.protothread.specs.declared.thread.Mark.{Mark}
 use Rattle.protothread.specs.declared.thread.Mark.TheVariants.{AtRest}
 
--- Where a thread stands: at its end; at a statement, which may have yielded, before the others that are left, those of the
--- innermost block first; or at the spawn of a thread, which stands somewhere itself, before the others.
+-- Where a thread stands: at its end; at a statement, which may have yielded, before the others that are left, those of
+-- the innermost block first; or at the spawn of a thread, which stands somewhere itself, before the others.
 pub data Place : Type 0 where
   ended : Place
   at : (is_yielded : Bool) → Statement ℕ → (rest : List (Statement ℕ)) → Place

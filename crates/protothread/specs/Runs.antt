@@ -10,24 +10,36 @@ use Rattle.protothread.specs.declared.step.Step.TheVariants as step
 use Rattle.protothread.specs.State.{state_number}
 use Rattle.protothread.specs.Remainder.{Remainder, whole_of, fresh_of}
 use Rattle.protothread.specs.Step.{advanced_of, answered_of}
-use Rattle.protothread.specs.Reading.{Sight, Happening, operates, gives_up, Completion, done, exits, stands, ReadsThread}
+use Rattle.protothread.specs.Reading.{Sight, Happening, operates, gives_up, Completion, done, exits, stands}
+use Rattle.protothread.specs.Reading.{ReadsThread}
 
 -- with some units of work, that thread answers this step and leaves this remainder and these variables
-abbrev pub Steps : Code → Sight → Remainder → (variables : List ℕ) → Step → (next : Remainder) → (changed : List ℕ) → Type 0
+abbrev pub Steps : Code → Sight → Remainder → (variables : List ℕ) → Step → (next : Remainder) → (changed : List ℕ)
+    → Type 0
 Steps code now r vars answer next changed =
-    (units : ℕ) × (left : ℕ) × (advanced_of code now.event now.looks r vars units ≡ record { step = answer; remainder = next; variables = changed; units = left })
+    (units : ℕ) × (left : ℕ) × (advanced_of code now.event now.looks r vars units ≡ record {
+      step = answer;
+      remainder = next;
+      variables = changed;
+      units = left;
+    })
 
-pub data Runs (code : Code) : Remainder → (variables : List ℕ) → (now : Sight) → (later : List Sight) → List Happening → Completion → Type 0 where
-  -- An operation, whose answer the thread is told before it is advanced again. Nothing but a variable behind `into` hears it.
-  operated : (r next : Remainder) (vars changed : List ℕ) (now resumed : Sight) (later : List Sight) (o : Op) (h : List Happening) (out : Completion)
+pub data Runs (code : Code) : Remainder → (variables : List ℕ) → (now : Sight) → (later : List Sight) → List Happening
+    → Completion → Type 0 where
+  -- An operation, whose answer the thread is told before it is advanced again. Nothing but a variable behind `into`
+  -- hears it.
+  operated : (r next : Remainder) (vars changed : List ℕ) (now resumed : Sight) (later : List Sight) (o : Op)
+      (h : List Happening) (out : Completion)
       → Steps code now r vars (step.Op o) next changed
-      → Runs code (answered_of next changed resumed.answer).remainder (answered_of next changed resumed.answer).variables resumed later h out
+      → Runs code (answered_of next changed resumed.answer).remainder
+      (answered_of next changed resumed.answer).variables resumed later h out
       → Runs code r vars now (resumed ∷ later) (operates o ∷ h) out
   operated_last : (r next : Remainder) (vars changed : List ℕ) (now : Sight) (o : Op)
       → Steps code now r vars (step.Op o) next changed
       → Runs code r vars now [] (operates o ∷ []) (stands changed)
   -- an answer 0 or 1
-  gave_up : (r next : Remainder) (vars changed : List ℕ) (now resumed : Sight) (later : List Sight) (answer : PtState) (h : List Happening) (out : Completion)
+  gave_up : (r next : Remainder) (vars changed : List ℕ) (now resumed : Sight) (later : List Sight) (answer : PtState)
+      (h : List Happening) (out : Completion)
       → Steps code now r vars (step.Done answer) next changed → state_number answer < 2
       → Runs code next changed resumed later h out
       → Runs code r vars now (resumed ∷ later) (gives_up answer ∷ h) out
@@ -43,5 +55,7 @@ pub data Runs (code : Code) : Remainder → (variables : List ℕ) → (now : Si
 -- the runs of a fresh thread are what the text of its part says
 abbrev pub RunsAreTheText : Type 0
 RunsAreTheText =
-    (code : Code) (part : Part) (vars : List ℕ) (now : Sight) (later : List Sight) (h : List Happening) (out : Completion)
-    → Runs code (fresh_of code part) vars now later h out ↔ ReadsThread code Yielded (whole_of code part) now later vars h out
+    (code : Code) (part : Part) (vars : List ℕ) (now : Sight) (later : List Sight) (h : List Happening)
+    (out : Completion)
+    → Runs code (fresh_of code part) vars now later h out
+    ↔ ReadsThread code Yielded (whole_of code part) now later vars h out

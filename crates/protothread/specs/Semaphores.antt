@@ -24,4 +24,5 @@ signalled (signals ∷ us) = 1 + signalled us
 -- the count is the first one and the signals, less what was taken, modulo 65,536
 abbrev pub CountsAreSignalsLessTakes : Type 0
 CountsAreSignalsLessTakes =
-    (start : ℕ) (uses : List Use) (count : ℕ) → Counts start uses count → (count + taken uses) % 2 ^ 16 ≡ (start + signalled uses) % 2 ^ 16
+    (start : ℕ) (uses : List Use) (count : ℕ) → Counts start uses count
+    → (count + taken uses) % 2 ^ 16 ≡ (start + signalled uses) % 2 ^ 16

@@ -1,10 +1,13 @@
 -- The step of a protothread: from its remainder to its next operation or its answer.
-use Rattle.std.specs.Prelude.{ℕ, zero, suc, ◌-◌, ◌==◌, nat_lt, Bool, true, false, not, ◌&&◌, if◌then◌else◌, List, [], ◌∷◌, ◌++◌, None, Some, slice_set, slice_index, ◌<◌, ◌≤◌}
+use Rattle.std.specs.Prelude.{ℕ, zero, suc, ◌-◌, ◌==◌, nat_lt, Bool, true, false, not, ◌&&◌, if◌then◌else◌, List, []}
+use Rattle.std.specs.Prelude.{◌∷◌, ◌++◌, None, Some, slice_set, slice_index, ◌<◌, ◌≤◌}
 use Rattle.program_tree.specs.declared.event.Event.{Event}
 use Rattle.program_tree.specs.declared.event.Proc.TheVariants.{Own}
 use Rattle.program_tree.specs.declared.event.SystemEvent.TheVariants.{Continue}
 use Rattle.program_tree.specs.declared.event.Target.TheVariants.{One, All}
-use Rattle.program_tree.specs.Tree.{Action, assign, print, send, wait_until, wait_while, yield, yield_until, spawn, restart, exit, pause, acquire, signal, post, broadcast, synch, poll, start, kill, set, reset, restart_timer, stop, Statement, does, branch, while, listed}
+use Rattle.program_tree.specs.Tree.{Action, assign, print, send, wait_until, wait_while, yield, yield_until, spawn}
+use Rattle.program_tree.specs.Tree.{restart, exit, pause, acquire, signal, post, broadcast, synch, poll, start, kill}
+use Rattle.program_tree.specs.Tree.{set, reset, restart_timer, stop, Statement, does, branch, while, listed}
 pub use Rattle.program_tree.specs.Tree.{other_block}
 use Rattle.program_tree.specs.Code.{Code}
 use Rattle.program_tree.specs.Events.{system_number}
@@ -15,14 +18,16 @@ use Rattle.protothread.specs.declared.part.Part.{Part}
 use Rattle.protothread.specs.declared.thread.Mark.{Mark}
 use Rattle.protothread.specs.declared.thread.Mark.TheVariants.{AtRest, UnderWay, Pausing, RunAway}
 use Rattle.protothread.specs.declared.deed.Deed.{Deed}
-use Rattle.protothread.specs.declared.deed.Deed.TheVariants.{Passes, Assigns, Operates, Pauses, Waits, Yields, Spawns, Restarts, Exits}
+use Rattle.protothread.specs.declared.deed.Deed.TheVariants.{Passes, Assigns, Operates, Pauses, Waits, Yields, Spawns}
+use Rattle.protothread.specs.declared.deed.Deed.TheVariants.{Restarts, Exits}
 use Rattle.protothread.specs.declared.step.Op.{Op}
 use Rattle.protothread.specs.declared.step.Op.TheVariants as op
 use Rattle.protothread.specs.declared.step.Step.{Step}
 use Rattle.protothread.specs.declared.step.Step.TheVariants as step
 use Rattle.protothread.specs.Looks.{Looks}
 use Rattle.protothread.specs.Value.{value, holds}
-use Rattle.protothread.specs.Remainder.{Place, ended, at, within, before, settled, Remainder, thread_block, whole_of, fresh_of}
+use Rattle.protothread.specs.Remainder.{Place, ended, at, within, before, settled, Remainder, thread_block, whole_of}
+use Rattle.protothread.specs.Remainder.{fresh_of}
 
 -- a step, and the remainder, the variables and the units of work that it leaves
 pub record Advanced : Type 0 where
@@ -35,8 +40,8 @@ pub record Advanced : Type 0 where
 abbrev pub passes_where : Bool → (other : Deed) → Deed
 passes_where test other = if test then Passes else other
 
--- What a statement without blocks does in a process of this number, when it is reached, or when the thread is resumed at it
--- because it has yielded. A `pause` posts CONTINUE to its own process, and then waits for a CONTINUE.
+-- What a statement without blocks does in a process of this number, when it is reached, or when the thread is resumed
+-- at it because it has yielded. A `pause` posts CONTINUE to its own process, and then waits for a CONTINUE.
 abbrev pub deed_of : (process : ℕ) → (is_yielded : Bool) → (variables : List ℕ) → Event → Looks → Action ℕ → Deed
 deed_of process yielded vars event looks (assign i e) = Assigns i (value vars event looks e)
 deed_of process yielded vars event looks (print e) = Operates (op.Print (value vars event looks e)) None
@@ -44,12 +49,14 @@ deed_of process yielded vars event looks (send e) = Operates (op.Send (value var
 deed_of process yielded vars event looks (wait_until c) = passes_where (holds (value vars event looks c)) Waits
 deed_of process yielded vars event looks (wait_while c) = passes_where (not (holds (value vars event looks c))) Waits
 deed_of process yielded vars event looks yield = passes_where yielded Yields
-deed_of process yielded vars event looks (yield_until c) = passes_where (yielded && holds (value vars event looks c)) Yields
+deed_of process yielded vars event looks (yield_until c) =
+    passes_where (yielded && holds (value vars event looks c)) Yields
 deed_of process yielded vars event looks (spawn t) = Spawns t
 deed_of process yielded vars event looks restart = Restarts
 deed_of process yielded vars event looks exit = Exits
 deed_of process yielded vars event looks pause =
-    if yielded then passes_where (event.number == system_number Continue) Yields else Pauses (op.Post (One (Own process)) (system_number Continue) 0)
+    if yielded then passes_where (event.number == system_number Continue) Yields else Pauses
+    (op.Post (One (Own process)) (system_number Continue) 0)
 deed_of process yielded vars event looks (acquire s) =
     if slice_index looks.counts s == 0 then Waits else Operates (op.Take s) None
 deed_of process yielded vars event looks (signal s) = Operates (op.Signal s) None
@@ -75,7 +82,8 @@ pub data Reached : Type 0 where
   answers : PtState → Place → Reached
 
 -- what a deed makes of the thread whose block is `whole`, at the statement `s` before the rest
-abbrev pub performed : Code → (whole : List (Statement ℕ)) → (variables : List ℕ) → (s : Statement ℕ) → (rest : List (Statement ℕ)) → Deed → Reached
+abbrev pub performed : Code → (whole : List (Statement ℕ)) → (variables : List ℕ) → (s : Statement ℕ)
+    → (rest : List (Statement ℕ)) → Deed → Reached
 performed code whole vars s rest Passes = goes_on vars (before false rest)
 performed code whole vars s rest (Assigns i v) = goes_on (slice_set vars i v) (before false rest)
 performed code whole vars s rest (Operates o into) = operates o (UnderWay into) (before false rest)
@@ -87,7 +95,8 @@ performed code whole vars s rest (Spawns t) = goes_on vars (within t (before fal
 performed code whole vars s rest Restarts = answers Waiting (before false whole)
 performed code whole vars s rest Exits = answers Exited (before false whole)
 
-abbrev pub statement_reached : Code → (whole : List (Statement ℕ)) → (is_yielded : Bool) → (variables : List ℕ) → Event → Looks → (s : Statement ℕ) → (rest : List (Statement ℕ)) → Reached
+abbrev pub statement_reached : Code → (whole : List (Statement ℕ)) → (is_yielded : Bool) → (variables : List ℕ)
+    → Event → Looks → (s : Statement ℕ) → (rest : List (Statement ℕ)) → Reached
 statement_reached code whole yielded vars event looks (does a) rest =
     performed code whole vars (does a) rest (deed_of code.number yielded vars event looks a)
 statement_reached code whole yielded vars event looks (branch c a o) rest =
@@ -95,7 +104,8 @@ statement_reached code whole yielded vars event looks (branch c a o) rest =
 statement_reached code whole yielded vars event looks (while c a) rest =
     goes_on vars (before false (if holds (value vars event looks c) then listed a ++ while c a ∷ rest else rest))
 
--- what its thread makes of a spawn: while it answers 0 or 1 the spawner answers 0, and on 2 or 3 the spawner goes on behind
+-- what its thread makes of a spawn: while it answers 0 or 1 the spawner answers 0, and on 2 or 3 the spawner goes on
+-- behind
 abbrev pub spawner_reached : (thread : ℕ) → (rest : List (Statement ℕ)) → (variables : List ℕ) → Reached → Reached
 spawner_reached thread rest vars (goes_on changed p) = goes_on changed (within thread p rest)
 spawner_reached thread rest vars (operates o mark p) = operates o mark (within thread p rest)
@@ -117,15 +127,30 @@ abbrev pub continued : Code → Part → Event → Looks → Place → (variable
 continued code part event looks place vars zero =
     elim (settled place) [
       | ended ↦ record { step = step.Done Ended; remainder = fresh_of code part; variables = vars; units = 0 }
-      | p ↦ record { step = step.Runaway; remainder = record { part = part; mark = RunAway; place = p }; variables = vars; units = 0 }
+      | p ↦ record {
+        step = step.Runaway;
+        remainder = record { part = part; mark = RunAway; place = p };
+        variables = vars;
+        units = 0;
+      }
     ]
 continued code part event looks place vars (suc units) =
     elim (settled place) [
       | ended ↦ record { step = step.Done Ended; remainder = fresh_of code part; variables = vars; units = suc units }
       | p ↦ elim (reached code (whole_of code part) vars event looks p) [
         | goes_on changed q ↦ continued code part event looks q changed units
-        | operates o mark q ↦ record { step = step.Op o; remainder = record { part = part; mark = mark; place = q }; variables = vars; units = units }
-        | answers a q ↦ record { step = step.Done a; remainder = record { part = part; mark = AtRest; place = q }; variables = vars; units = units }
+        | operates o mark q ↦ record {
+          step = step.Op o;
+          remainder = record { part = part; mark = mark; place = q };
+          variables = vars;
+          units = units;
+        }
+        | answers a q ↦ record {
+          step = step.Done a;
+          remainder = record { part = part; mark = AtRest; place = q };
+          variables = vars;
+          units = units;
+        }
       ]
     ]
 
@@ -139,16 +164,26 @@ abbrev pub yield_answer : Place → PtState
 yield_answer (within t p rest) = Waiting
 yield_answer p = Yielded
 
--- A step of a thread with this remainder. A call of a thread at rest pays a unit for each spawn that it passes. Behind the
--- post of a `pause` control is given up, and one that has run away stays so.
+-- A step of a thread with this remainder. A call of a thread at rest pays a unit for each spawn that it passes. Behind
+-- the post of a `pause` control is given up, and one that has run away stays so.
 unfoldable pub advanced_of : Code → Event → Looks → Remainder → (variables : List ℕ) → (units : ℕ) → Advanced
 advanced_of code event looks r vars units =
     elim r.mark [
       | AtRest ↦
-          if nat_lt units (passed r.place) then record { step = step.Runaway; remainder = record r { mark = RunAway }; variables = vars; units = 0 }
+          if nat_lt units (passed r.place) then record {
+            step = step.Runaway;
+            remainder = record r { mark = RunAway };
+            variables = vars;
+            units = 0;
+          }
           else continued code r.part event looks r.place vars (units - passed r.place)
       | UnderWay into ↦ continued code r.part event looks r.place vars units
-      | Pausing ↦ record { step = step.Done (yield_answer r.place); remainder = record r { mark = AtRest }; variables = vars; units = units }
+      | Pausing ↦ record {
+        step = step.Done (yield_answer r.place);
+        remainder = record r { mark = AtRest };
+        variables = vars;
+        units = units;
+      }
       | RunAway ↦ record { step = step.Runaway; remainder = r; variables = vars; units = units }
     ]
 

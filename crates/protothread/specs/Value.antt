@@ -1,13 +1,16 @@
 -- The value of an expression, a number of 16 bits.
-use Rattle.std.specs.Prelude.{ℕ, ◌+◌, ◌-◌, ◌*◌, ◌/◌, ◌%◌, ◌^◌, ◌==◌, nat_lt, nat_le, Bool, not, ◌&&◌, ◌||◌, if◌then◌else◌, List, slice_index}
+use Rattle.std.specs.Prelude.{ℕ, ◌+◌, ◌-◌, ◌*◌, ◌/◌, ◌%◌, ◌^◌, ◌==◌, nat_lt, nat_le, Bool, not, ◌&&◌, ◌||◌}
+use Rattle.std.specs.Prelude.{if◌then◌else◌, List, slice_index}
 use Rattle.std.specs.List.{list_any}
 use Rattle.program_tree.specs.declared.event.SystemEvent.TheVariants as system
 use Rattle.program_tree.specs.declared.event.Event.{Event}
 use Rattle.program_tree.specs.declared.tree.Operator.{Operator}
-use Rattle.program_tree.specs.declared.tree.Operator.TheVariants.{Add, Subtract, Multiply, Divide, Remainder, Equal, Unequal, Less, AtMost, Greater, AtLeast, And, Or}
+use Rattle.program_tree.specs.declared.tree.Operator.TheVariants.{Add, Subtract, Multiply, Divide, Remainder, Equal}
+use Rattle.program_tree.specs.declared.tree.Operator.TheVariants.{Unequal, Less, AtMost, Greater, AtLeast, And, Or}
 use Rattle.program_tree.specs.Events.{system_number}
 use Rattle.program_tree.specs.EventNames.{any_number}
-use Rattle.program_tree.specs.Tree.{Expression, number, variable, word, sender, moment, mote, is, fired, expired, gone, running, count, negation, binary}
+use Rattle.program_tree.specs.Tree.{Expression, number, variable, word, sender, moment, mote, is, fired, expired, gone}
+use Rattle.program_tree.specs.Tree.{running, count, negation, binary}
 use Rattle.protothread.specs.Looks.{Looks}
 
 -- the answer of a test as a value

@@ -5,8 +5,8 @@ ghost use Rattle.protothread.specs.Calls.{CanSpawn, IsLast};
 use arrayvec::ArrayVec;
 use std::marker::Model;
 
-/// How many threads can stand in one another: the one that a part spawns, and those that spawn one another in it, each of
-/// them one of the process's 7 and before the one around it.
+/// How many threads can stand in one another: the one that a part spawns, and those that spawn one another in it, each
+/// of them one of the process's 7 and before the one around it.
 const DEPTH: usize = 8;
 
 /// A thread that was spawned, and the place where its spawner goes on after the spawn.

@@ -1,5 +1,6 @@
 //! Laws of the step of a protothread. Each is the contract of a function with an empty body.
-ghost use Rattle.protothread.specs.Laws.{ControlIsGivenUpAtWaits, MoreUnitsChangeNothing, OperationsCostWork, RunAwayIsForGood};
+ghost use Rattle.protothread.specs.Laws.{ControlIsGivenUpAtWaits, MoreUnitsChangeNothing, OperationsCostWork};
+ghost use Rattle.protothread.specs.Laws.{RunAwayIsForGood};
 ghost use Rattle.protothread.specs.Runs.{RunsAreTheText};
 ghost use Rattle.protothread.specs.Semaphores.{CountsAreSignalsLessTakes};
 
@@ -19,8 +20,8 @@ pub fn operations_cost_work()
     ensures { OperationsCostWork }
 {}
 
-/// A step answers 0 or 1 only where the thread, or the innermost of those that it spawned, waits or has restarted, and the
-/// next call goes on from there.
+/// A step answers 0 or 1 only where the thread, or the innermost of those that it spawned, waits or has restarted, and
+/// the next call goes on from there.
 pub fn control_is_given_up_at_waits()
     ensures { ControlIsGivenUpAtWaits }
 {}
@@ -30,10 +31,10 @@ pub fn counts_are_signals_less_takes()
     ensures { CountsAreSignalsLessTakes }
 {}
 
-/// The runs of a fresh thread are exactly what the block of its part says, read by its structure: the same operations and
-/// answers in the same order, over whatever it is shown each time that it is advanced. Spawned threads are read as blocks of
-/// their own: a `restart` or `exit` is that thread's alone, and while it yields or waits its spawner answers WAITING. The
-/// reading knows statements, blocks and threads, and nothing of how a thread keeps its place.
+/// The runs of a fresh thread are exactly what the block of its part says, read by its structure: the same operations
+/// and answers in the same order, over whatever it is shown each time that it is advanced. Spawned threads are read as
+/// blocks of their own: a `restart` or `exit` is that thread's alone, and while it yields or waits its spawner answers
+/// WAITING. The reading knows statements, blocks and threads, and nothing of how a thread keeps its place.
 pub fn runs_are_the_text()
     ensures { RunsAreTheText }
 {}

@@ -32,7 +32,8 @@ fn code_of_block(block: Option<&FlatBlock>) -> &[Instruction]
 /// The flat code of a thread of the process, none where there is no such thread.
 pub(crate) fn thread_code(text: &ProcessText, thread: u8) -> &[Instruction]
     ensures flat { IsFlat (thread_body (code_of text.now) thread) result.now }
-    ensures earlier { block_fits (earlier_threads (before_number thread)) (thread_body (code_of text.now) thread) ≡ true }
+    ensures earlier { block_fits (earlier_threads (before_number thread)) (thread_body (code_of text.now) thread)
+        ≡ true }
 {
     code_of_block(text.thread(thread))
 }

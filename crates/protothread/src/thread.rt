@@ -25,7 +25,8 @@ use program_tree::{Event, Expr, Instruction, ProcessText};
 enum Mark {
     /// It answered `Done`, or is fresh.
     AtRest,
-    /// It answered an operation. Where that is a post that this variable is told the answer of, it hasn't been told yet.
+    /// It answered an operation. Where that is a post that this variable is told the answer of, it hasn't been told
+    /// yet.
     UnderWay(Option<u8>),
     /// It answered the post of a `pause`, and now gives up control.
     Pausing,
@@ -33,8 +34,8 @@ enum Mark {
     RunAway,
 }
 
-/// A thread: the part that it runs, and where it stands. The position is a place in the flat code of the innermost of the
-/// threads that it has spawned, and each of these keeps the place where its spawner goes on.
+/// A thread: the part that it runs, and where it stands. The position is a place in the flat code of the innermost of
+/// the threads that it has spawned, and each of these keeps the place where its spawner goes on.
 #[derive(Drop)]
 pub struct Thread {
     part: Part,
@@ -137,9 +138,12 @@ impl Thread {
         requires earlier { DeedCanSpawn self.old.calls deed }
         ensures kept { length vars.new ≡ length vars.old }
         ensures calls { length self.new.calls ≤ length self.old.calls + 1 }
-        ensures reaches { (s : Statement ℕ) (rest : List (Statement ℕ)) → rest_at (body_of_thread (code_of text.now) self.old) self.old.position ≡ s ∷ rest
+        ensures reaches { (s : Statement ℕ) (rest : List (Statement ℕ))
+            → rest_at (body_of_thread (code_of text.now) self.old) self.old.position ≡ s ∷ rest
             → rest_at (body_of_thread (code_of text.now) self.old) next ≡ rest
-            → Reaches (code_of text.now) (performed_at (code_of text.now) self.old vars.old s rest deed) result self.old self.new vars.old vars.new }
+            → Reaches (code_of text.now)
+            (performed_at (code_of text.now) self.old vars.old s rest deed) result self.old self.new vars.old
+            vars.new }
     {
         match deed {
             Deed::Passes => {
@@ -204,11 +208,15 @@ impl Thread {
         look: &L,
     ) -> Reach<'a>
         requires inside { StandsIn (code_of text.now) self.old flat.now }
-        requires leads { Leads (rest_at (body_of_thread (code_of text.now) self.old)) instruction.now (rest_at (body_of_thread (code_of text.now) self.old) self.old.position) }
+        requires leads { Leads (rest_at (body_of_thread (code_of text.now) self.old)) instruction.now
+            (rest_at (body_of_thread (code_of text.now) self.old) self.old.position) }
         ensures kept { length vars.new ≡ length vars.old }
         ensures calls { length self.new.calls ≤ length self.old.calls + 1 }
-        ensures reaches { (s : Statement ℕ) (rest : List (Statement ℕ)) → rest_at (body_of_thread (code_of text.now) self.old) self.old.position ≡ s ∷ rest
-            → Reaches (code_of text.now) (reached_at (code_of text.now) self.old vars.old event.now (L.looks look.now) s rest) result self.old self.new vars.old vars.new }
+        ensures reaches { (s : Statement ℕ) (rest : List (Statement ℕ))
+            → rest_at (body_of_thread (code_of text.now) self.old) self.old.position ≡ s ∷ rest
+            → Reaches (code_of text.now)
+            (reached_at (code_of text.now) self.old vars.old event.now
+            (L.looks look.now) s rest) result self.old self.new vars.old vars.new }
     {
         match instruction {
             Instruction::Act(action, next) => {
@@ -226,8 +234,8 @@ impl Thread {
         }
     }
 
-    /// Comes back to where the thread stands, and pays for the spawns that a new call passes. There is a step at once where
-    /// they can't be paid, after the post of a `pause`, and where the thread has run away.
+    /// Comes back to where the thread stands, and pays for the spawns that a new call passes. There is a step at once
+    /// where they can't be paid, after the post of a `pause`, and where the thread has run away.
     #[tactic(auto, unfolding(crate::specs::Step::advanced_of))]
     fn resume(&mut self, fuel: &mut Fuel) -> Option<Step>
         ensures { Resumes result self.old self.new fuel.old fuel.new }
@@ -249,10 +257,10 @@ impl Thread {
         }
     }
 
-    /// Goes on up to the next operation or answer. Each statement that the thread reaches costs a unit of work, and so do
-    /// each further test of a `while`, each spawn that a call passes on its way to where the thread stands, and the
-    /// statement where it stands when it is resumed, each time. After the answers `Exited` and `Ended` the thread is fresh;
-    /// once it has run away, it answers `Runaway` for good.
+    /// Goes on up to the next operation or answer. Each statement that the thread reaches costs a unit of work, and so
+    /// do each further test of a `while`, each spawn that a call passes on its way to where the thread stands, and the
+    /// statement where it stands when it is resumed, each time. After the answers `Exited` and `Ended` the thread is
+    /// fresh; once it has run away, it answers `Runaway` for good.
     ///
     /// The text is the same at each call, and the variables are made from it.
     #[inline(always)]
@@ -265,7 +273,13 @@ impl Thread {
         look: &L,
         fuel: &mut Fuel,
     ) -> Step
-        ensures exact { advanced_of (code_of text.now) event.now (L.looks look.now) (remainder_of (code_of text.now) self.old) vars.old fuel.old ≡ record { step = result; remainder = remainder_of (code_of text.now) self.new; variables = vars.new; units = fuel.new } }
+        ensures exact { advanced_of (code_of text.now) event.now (L.looks look.now)
+            (remainder_of (code_of text.now) self.old) vars.old fuel.old ≡ record {
+              step = result;
+              remainder = remainder_of (code_of text.now) self.new;
+              variables = vars.new;
+              units = fuel.new;
+            } }
         ensures pays { PaysFor result fuel.old fuel.new }
         // It has as many variables as before, so that `Vars::get` may ask for the same ones.
         ensures kept { length vars.new ≡ length vars.old }
@@ -301,10 +315,12 @@ impl Thread {
         }
     }
 
-    /// Tells the thread the answer of its post, 0 where the event was accepted and 1 where the queue was full. The variable
-    /// named after `into` gets it, if there is one.
+    /// Tells the thread the answer of its post, 0 where the event was accepted and 1 where the queue was full. The
+    /// variable named after `into` gets it, if there is one.
     pub fn answer(&mut self, vars: &mut Vars, answer: u16)
-        ensures exact { (code : Code) → answered_of (remainder_of code self.old) vars.old answer ≡ record { remainder = remainder_of code self.new; variables = vars.new } }
+        ensures exact { (code : Code)
+            → answered_of (remainder_of code self.old) vars.old answer
+            ≡ record { remainder = remainder_of code self.new; variables = vars.new } }
         ensures kept { length vars.new ≡ length vars.old }
     {
         if let Mark::UnderWay(into) = self.mark {

@@ -57,7 +57,8 @@ fn is_running<L: Look>(look: &L, process: u8) -> bool
 /// The value of a number or a variable, which most operands are.
 #[inline(always)]
 fn plain_value(operand: &Expr, vars: &Vars) -> Option<u16>
-    ensures { (event : Event) (looks : Looks) → IfSome result (λ found. found ≡ value vars.now event looks (expression_of operand.now)) }
+    ensures { (event : Event) (looks : Looks)
+        → IfSome result (λ found. found ≡ value vars.now event looks (expression_of operand.now)) }
 {
     match operand {
         Expr::Number(number) => Some(*number),
@@ -69,7 +70,8 @@ fn plain_value(operand: &Expr, vars: &Vars) -> Option<u16>
 /// The value of a number, a variable or the event's word.
 #[inline(always)]
 fn plain_or_word(operand: &Expr, vars: &Vars, event: &Event) -> Option<u16>
-    ensures { (looks : Looks) → IfSome result (λ found. found ≡ value vars.now event.now looks (expression_of operand.now)) }
+    ensures { (looks : Looks) → IfSome result
+        (λ found. found ≡ value vars.now event.now looks (expression_of operand.now)) }
 {
     match operand {
         Expr::Number(number) => Some(*number),
@@ -79,11 +81,12 @@ fn plain_or_word(operand: &Expr, vars: &Vars, event: &Event) -> Option<u16>
     }
 }
 
-/// The value of an expression of no more than one operator, by the variables and the event alone. It takes no call, so that
-/// what most statements evaluate costs little.
+/// The value of an expression of no more than one operator, by the variables and the event alone. It takes no call, so
+/// that what most statements evaluate costs little.
 #[inline(always)]
 fn short_value(expression: &Expr, vars: &Vars, event: &Event) -> Option<u16>
-    ensures { (looks : Looks) → IfSome result (λ found. found ≡ value vars.now event.now looks (expression_of expression.now)) }
+    ensures { (looks : Looks) → IfSome result
+        (λ found. found ≡ value vars.now event.now looks (expression_of expression.now)) }
 {
     match expression {
         Expr::Number(number) => Some(*number),
@@ -103,7 +106,8 @@ fn short_value(expression: &Expr, vars: &Vars, event: &Event) -> Option<u16>
 /// The same, by a call.
 #[inline(never)]
 fn short_value_by_call(expression: &Expr, vars: &Vars, event: &Event) -> Option<u16>
-    ensures { (looks : Looks) → IfSome result (λ found. found ≡ value vars.now event.now looks (expression_of expression.now)) }
+    ensures { (looks : Looks) → IfSome result
+        (λ found. found ≡ value vars.now event.now looks (expression_of expression.now)) }
 {
     short_value(expression, vars, event)
 }

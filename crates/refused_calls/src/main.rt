@@ -1,6 +1,6 @@
-//! What kernels and motes answer once an allocation has failed. `tools/refuse_memory` has each allocation of this program
-//! fail in turn: it prints the same, wherever a call answers as it has to, or ends with status 1 where it came to no
-//! kernel or mote.
+//! What kernels and motes answer once an allocation has failed. `tools/refuse_memory` has each allocation of this
+//! program fail in turn: it prints the same, wherever a call answers as it has to, or ends with status 1 where it came
+//! to no kernel or mote.
 #![tactic(auto)]
 
 use mote_node::{Mote, MoteError};

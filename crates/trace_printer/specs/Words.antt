@@ -30,8 +30,8 @@ abbrev pub target_word : Tree → Target → List ℕ
 target_word t (One p) = process_word t p
 target_word t All = codes "all"
 
--- The word of an event by its number, or the name under which the program declares it. An event that is none of these has
--- the empty word.
+-- The word of an event by its number, or the name under which the program declares it. An event that is none of these
+-- has the empty word.
 abbrev pub event_word : Tree → ℕ → List ℕ
 event_word t e =
     if e == system_number event.Init then system_word event.Init

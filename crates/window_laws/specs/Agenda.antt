@@ -1,5 +1,6 @@
 -- The agenda of a net: one list of what is to come, the motes' wakes and the copies of packets on their way.
-use Rattle.std.specs.Prelude.{ℕ, zero, suc, ◌≡◌, Bool, true, false, not, ◌&&◌, ◌||◌, ◌==◌, nat_lt, List, [], ◌∷◌, ◌++◌, Option, Some, None}
+use Rattle.std.specs.Prelude.{ℕ, zero, suc, ◌≡◌, Bool, true, false, not, ◌&&◌, ◌||◌, ◌==◌, nat_lt, List, [], ◌∷◌, ◌++◌}
+use Rattle.std.specs.Prelude.{Option, Some, None}
 use Rattle.std.specs.List.{list_any, AllByRecursion}
 use Rattle.radio_packet.specs.declared.copy.RadioCopy.{RadioCopy}
 
@@ -39,7 +40,8 @@ is_left moment mote item = not (comes_at moment mote item || is_wake_of mote ite
 
 -- not before this moment, and at this moment not before this mote
 abbrev pub is_from : (moment mote : ℕ) → Item → Bool
-is_from moment mote item = nat_lt moment (moment_of item) || ((moment_of item == moment) && not (nat_lt (mote_of item) mote))
+is_from moment mote item = nat_lt moment (moment_of item)
+    || ((moment_of item == moment) && not (nat_lt (mote_of item) mote))
 
 -- the least moment and mote of an agenda
 pub record IsLeast (moment mote : ℕ) (agenda : List Item) : Type 0 where

@@ -4,7 +4,8 @@ use Rattle.std.specs.List.{filter, flat_map, AllByRecursion}
 use Rattle.radio_packet.specs.declared.sent.Sent.{Sent}
 use Rattle.window_laws.specs.System.{Turned, System}
 use Rattle.window_laws.specs.Order.{in_order}
-use Rattle.window_laws.specs.Agenda.{Item, Wake, Packet, moment_of, comes_at, is_left, packets, wake_items, IsLeast, up_to}
+use Rattle.window_laws.specs.Agenda.{Item, Wake, Packet, moment_of, comes_at, is_left, packets, wake_items, IsLeast}
+use Rattle.window_laws.specs.Agenda.{up_to}
 
 -- the state and the trace of each mote, what is to come, and the packets that were sent, in order
 pub record NetState (S L : Type 0) : Type 0 where
@@ -15,7 +16,12 @@ pub record NetState (S L : Type 0) : Type 0 where
 
 -- before its first turn each mote wakes at 0
 abbrev pub boot : {S L : Type 0} → System S L → NetState S L
-boot system = record { states = system.first; traces = λ mote. []; agenda = map (λ mote. Wake 0 mote) (up_to system.motes); log = [] }
+boot system = record {
+  states = system.first;
+  traces = λ mote. [];
+  agenda = map (λ mote. Wake 0 mote) (up_to system.motes);
+  log = [];
+}
 
 -- one part of a family changed
 abbrev pub put : {X : Type 0} → (ℕ → X) → ℕ → X → ℕ → X
@@ -40,7 +46,8 @@ after_turn system moment mote net turned = record {
 
 -- the turn of a mote on the copies that are due
 abbrev pub turned_at : {S L : Type 0} → System S L → (moment mote : ℕ) → NetState S L → Turned S L
-turned_at system moment mote net = system.turn mote (net.states mote) moment (in_order (packets (filter (comes_at moment mote) net.agenda)))
+turned_at system moment mote net =
+    system.turn mote (net.states mote) moment (in_order (packets (filter (comes_at moment mote) net.agenda)))
 
 -- the net after that turn
 abbrev pub turn_at : {S L : Type 0} → System S L → (moment mote : ℕ) → NetState S L → NetState S L
@@ -50,4 +57,5 @@ turn_at system moment mote net = after_turn system moment mote net (turned_at sy
 pub data Run {S L : Type 0} (system : System S L) (end : ℕ) : NetState S L → NetState S L → Type 0 where
   Done : {net : NetState S L} → AllByRecursion (λ item. end < moment_of item) net.agenda → Run system end net net
   Turn : {net last : NetState S L} (moment mote : ℕ)
-      → IsLeast moment mote net.agenda → moment ≤ end → Run system end (turn_at system moment mote net) last → Run system end net last
+      → IsLeast moment mote net.agenda → moment ≤ end → Run system end (turn_at system moment mote net) last
+      → Run system end net last

@@ -8,7 +8,8 @@ use Rattle.window_laws.specs.Agenda.{packets, up_to}
 use Rattle.window_laws.specs.NetStep.{NetState, Run, boot}
 
 -- the traces, the packets sent and the number of copies left at the end of the run
-pub record IsReport {S L : Type 0} (system : System S L) (end : ℕ) (traces : List (List L)) (log : List Sent) (left : ℕ) : Type 0 where
+pub record IsReport {S L : Type 0} (system : System S L) (end : ℕ) (traces : List (List L)) (log : List Sent)
+    (left : ℕ) : Type 0 where
   pub net : NetState S L
   pub run : Run system end (boot system) net
   pub traces_are : traces ≡ map net.traces (up_to system.motes)
@@ -17,7 +18,8 @@ pub record IsReport {S L : Type 0} (system : System S L) (end : ℕ) (traces : L
 
 -- a net has at most one run
 abbrev pub RunIsOne : {S L : Type 0} → System S L → Type 0
-RunIsOne {S} {L} system = (end : ℕ) (a b : NetState S L) → Run system end (boot system) a → Run system end (boot system) b → b ≡ a
+RunIsOne {S} {L} system = (end : ℕ) (a b : NetState S L) → Run system end (boot system) a
+    → Run system end (boot system) b → b ≡ a
 
 -- a net that runs forward has a run
 abbrev pub RunIsThere : {S L : Type 0} → System S L → Type 0
@@ -25,5 +27,6 @@ RunIsThere {S} {L} system = RunsForward system → (end : ℕ) → (net : NetSta
 
 -- where the numbers of each mote's packets rise, the packets of a run sorted by moment, sender and number are its log
 abbrev pub LogIsInOrder : {S L : Type 0} → System S L → Type 0
-LogIsInOrder {S} {L} system = RunsForward system → (end : ℕ) (net : NetState S L) → Run system end (boot system) net → NumbersRise net.log
+LogIsInOrder {S} {L} system =
+    RunsForward system → (end : ℕ) (net : NetState S L) → Run system end (boot system) net → NumbersRise net.log
     → (log : List Sent) → IsPermutation net.log log → IsSortedBy is_sooner log → log ≡ net.log

@@ -11,7 +11,8 @@ pub record Turned (S L : Type 0) : Type 0 where
   pub sends : List Sent
   pub wake : Option ℕ
 
--- how many motes there are, the first state of each, its turn on copies in order, the copies of a packet, and the lookahead
+-- how many motes there are, the first state of each, its turn on copies in order, the copies of a packet, and the
+-- lookahead
 pub record System (S L : Type 0) : Type 0 where
   pub motes : ℕ
   pub first : (mote : ℕ) → S
@@ -28,8 +29,10 @@ pub record IsCopyOf {S L : Type 0} (system : System S L) (sent : Sent) (copy : R
   pub to : copy.to < system.motes
   pub later : sent.at + system.lookahead ≤ copy.at
 
--- A net runs forward: each wake comes later than the turn that makes it, and each copy by the lookahead at least, which isn't 0.
+-- A net runs forward: each wake comes later than the turn that makes it, and each copy by the lookahead at least,
+-- which isn't 0.
 pub record RunsForward {S L : Type 0} (system : System S L) : Type 0 where
   pub some_lookahead : 0 < system.lookahead
-  pub wakes_later : (mote : ℕ) (state : S) (moment : ℕ) (given : List RadioCopy) → IsLater moment (system.turn mote state moment given).wake
+  pub wakes_later : (mote : ℕ) (state : S) (moment : ℕ) (given : List RadioCopy)
+      → IsLater moment (system.turn mote state moment given).wake
   pub copies_later : (sent : Sent) → AllByRecursion (IsCopyOf system sent) (system.copies sent)

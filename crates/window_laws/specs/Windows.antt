@@ -1,5 +1,6 @@
 -- The same net, run window by window, each mote alone in a window.
-use Rattle.std.specs.Prelude.{◌≡◌, ℕ, suc, ◌+◌, ◌<◌, ◌≤◌, Bool, true, false, if◌then◌else◌, not, ◌&&◌, ◌||◌, ◌==◌, nat_lt, List, [], ◌++◌, length, map, Option, Some, None}
+use Rattle.std.specs.Prelude.{◌≡◌, ℕ, suc, ◌+◌, ◌<◌, ◌≤◌, Bool, true, false, if◌then◌else◌, not, ◌&&◌, ◌||◌, ◌==◌}
+use Rattle.std.specs.Prelude.{nat_lt, List, [], ◌++◌, length, map, Option, Some, None}
 use Rattle.std.specs.List.{filter, flat_map, list_any, AllByRecursion}
 use Rattle.radio_packet.specs.declared.sent.Sent.{Sent}
 use Rattle.radio_packet.specs.declared.copy.RadioCopy.{RadioCopy}
@@ -52,20 +53,25 @@ pub record IsQuiet (moment : ℕ) (wake : Option ℕ) (inbox : List RadioCopy) :
   pub no_wake : WakesFrom moment wake
   pub no_copies : AllByRecursion (λ copy. moment ≤ copy.at) inbox
 
--- A mote alone, up to a bound: while the lesser of its wake and the least moment of a copy is below the bound, it turns at that
--- moment on all copies of the moment, in order.
-pub data Alone {S L : Type 0} (system : System S L) (number bound : ℕ) : (inbox : List RadioCopy) → (mote last : LoneMote S L) → Type 0 where
-  Rests : {inbox : List RadioCopy} {mote : LoneMote S L} → IsQuiet bound mote.wake inbox → Alone system number bound inbox mote mote
+-- A mote alone, up to a bound: while the lesser of its wake and the least moment of a copy is below the bound, it
+-- turns at that moment on all copies of the moment, in order.
+pub data Alone {S L : Type 0} (system : System S L) (number bound : ℕ) : (inbox : List RadioCopy)
+    → (mote last : LoneMote S L) → Type 0 where
+  Rests : {inbox : List RadioCopy} {mote : LoneMote S L} → IsQuiet bound mote.wake inbox
+      → Alone system number bound inbox mote mote
   Turns : {inbox : List RadioCopy} {mote last : LoneMote S L} (moment : ℕ)
-      → IsQuiet moment mote.wake inbox → (wakes_at moment mote.wake || list_any (is_at moment) inbox) ≡ true → moment < bound
-      → Alone system number bound (filter (λ copy. not (is_at moment copy)) inbox) (own_turn system moment number mote (in_order (filter (is_at moment) inbox))) last
+      → IsQuiet moment mote.wake inbox → (wakes_at moment mote.wake || list_any (is_at moment) inbox) ≡ true
+      → moment < bound
+      → Alone system number bound (filter (λ copy. not (is_at moment copy)) inbox)
+      (own_turn system moment number mote (in_order (filter (is_at moment) inbox))) last
       → Alone system number bound inbox mote last
 
 -- the packets that this mote has sent so far, and their copies
 abbrev pub sends_by : {S L : Type 0} → System S L → (motes : (number : ℕ) → LoneMote S L) → (sender : ℕ) → List Sent
 sends_by system motes sender = if nat_lt sender system.motes then (motes sender).sends else []
 
-abbrev pub copies_by : {S L : Type 0} → System S L → (motes : (number : ℕ) → LoneMote S L) → (sender : ℕ) → List RadioCopy
+abbrev pub copies_by : {S L : Type 0} → System S L → (motes : (number : ℕ) → LoneMote S L) → (sender : ℕ)
+    → List RadioCopy
 copies_by system motes sender = flat_map system.copies (sends_by system motes sender)
 
 abbrev pub is_from_sender : (sender : ℕ) → RadioCopy → Bool
@@ -75,20 +81,24 @@ is_from_sender sender copy = copy.sender == sender
 abbrev pub is_within : (number from bound : ℕ) → RadioCopy → Bool
 is_within number from bound copy = (copy.to == number) && (not (nat_lt copy.at from) && nat_lt copy.at bound)
 
--- What a mote is given for a window: at each moment of the window, of each sender, the copies for it that earlier windows sent, in
--- the order of sending; in any mixture otherwise.
-abbrev pub IsInbox : {S L : Type 0} → System S L → (from bound : ℕ) → (motes : (number : ℕ) → LoneMote S L) → (number : ℕ) → List RadioCopy → Type 0
+-- What a mote is given for a window: at each moment of the window, of each sender, the copies for it that earlier
+-- windows sent, in the order of sending; in any mixture otherwise.
+abbrev pub IsInbox : {S L : Type 0} → System S L → (from bound : ℕ) → (motes : (number : ℕ) → LoneMote S L)
+    → (number : ℕ) → List RadioCopy → Type 0
 IsInbox system from bound motes number inbox = (moment sender : ℕ)
-    → filter (is_from_sender sender) (filter (is_at moment) inbox) ≡ filter (is_at moment) (filter (is_within number from bound) (copies_by system motes sender))
+    → filter (is_from_sender sender) (filter (is_at moment) inbox)
+    ≡ filter (is_at moment) (filter (is_within number from bound) (copies_by system motes sender))
 
 -- what a window makes of one mote: alone, on some such inbox
-pub record RunsAlone {S L : Type 0} (system : System S L) (from bound : ℕ) (motes next : (number : ℕ) → LoneMote S L) (number : ℕ) : Type 0 where
+pub record RunsAlone {S L : Type 0} (system : System S L) (from bound : ℕ) (motes next : (number : ℕ) → LoneMote S L)
+    (number : ℕ) : Type 0 where
   pub inbox : List RadioCopy
   pub is_inbox : IsInbox system from bound motes number inbox
   pub alone : Alone system number bound inbox (motes number) (next number)
 
 -- windows one after another up to the end, none longer than the lookahead
-pub data Windows {S L : Type 0} (system : System S L) : (from end : ℕ) → (motes last : (number : ℕ) → LoneMote S L) → Type 0 where
+pub data Windows {S L : Type 0} (system : System S L) : (from end : ℕ) → (motes last : (number : ℕ) → LoneMote S L)
+    → Type 0 where
   Last : {end : ℕ} {motes : (number : ℕ) → LoneMote S L} → Windows system end end motes motes
   Window : {from end : ℕ} {motes last : (number : ℕ) → LoneMote S L} (bound : ℕ) (next : (number : ℕ) → LoneMote S L)
       → from < bound → bound ≤ from + system.lookahead
@@ -99,19 +109,24 @@ abbrev pub is_sent_by : (sender : ℕ) → Sent → Bool
 is_sent_by sender sent = sent.sender == sender
 
 -- the packets of all motes joined in any way, those of each in the order in which it sent them
-abbrev pub IsJoined : {S L : Type 0} → System S L → (motes : (number : ℕ) → LoneMote S L) → (joined : List Sent) → Type 0
+abbrev pub IsJoined : {S L : Type 0} → System S L → (motes : (number : ℕ) → LoneMote S L) → (joined : List Sent)
+    → Type 0
 IsJoined system motes joined = (sender : ℕ) → filter (is_sent_by sender) joined ≡ sends_by system motes sender
 
 -- the copies that arrive after the end joined in any way, those of each sender in the order of sending
-abbrev pub IsLeft : {S L : Type 0} → System S L → (end : ℕ) → (motes : (number : ℕ) → LoneMote S L) → (rest : List RadioCopy) → Type 0
-IsLeft system end motes rest = (sender : ℕ) → filter (is_from_sender sender) rest ≡ filter (λ copy. nat_lt end copy.at) (copies_by system motes sender)
+abbrev pub IsLeft : {S L : Type 0} → System S L → (end : ℕ) → (motes : (number : ℕ) → LoneMote S L)
+    → (rest : List RadioCopy) → Type 0
+IsLeft system end motes rest =
+    (sender : ℕ) → filter (is_from_sender sender) rest
+    ≡ filter (λ copy. nat_lt end copy.at) (copies_by system motes sender)
 
 -- packets sorted by moment, then sender; those of one mote at one moment keep their order
 abbrev pub as_log : List Sent → List Sent
 as_log sends = sorted_by (λ sent. sent.at) (λ sent. sent.sender) sends
 
 -- the net at the end of its run, and the motes at the end of the last window, have the same to tell
-pub record IsSame {S L : Type 0} (system : System S L) (end : ℕ) (net : NetState S L) (motes : (number : ℕ) → LoneMote S L) : Type 0 where
+pub record IsSame {S L : Type 0} (system : System S L) (end : ℕ) (net : NetState S L)
+    (motes : (number : ℕ) → LoneMote S L) : Type 0 where
   pub lines : (number : ℕ) → number < system.motes → net.traces number ≡ (motes number).lines
   pub log : (joined : List Sent) → IsJoined system motes joined → net.log ≡ as_log joined
   pub left : (rest : List RadioCopy) → IsLeft system end motes rest → length (packets net.agenda) ≡ length rest
@@ -119,7 +134,8 @@ pub record IsSame {S L : Type 0} (system : System S L) (end : ℕ) (net : NetSta
 -- Windows commute: whatever the windows from 0 to the end, the net has a run, and its end is the same.
 abbrev pub WindowsCommute : {S L : Type 0} → System S L → Type 0
 WindowsCommute {S} {L} system = RunsForward system → (end : ℕ) (motes : (number : ℕ) → LoneMote S L)
-    → Windows system 0 (suc end) (first_mote system) motes → (net : NetState S L) × Run system end (boot system) net × IsSame system end net motes
+    → Windows system 0 (suc end) (first_mote system) motes
+    → (net : NetState S L) × Run system end (boot system) net × IsSame system end net motes
 
 -- so whoever ran the windows, and joined packets and copies in whatever way, has the report of the run
 abbrev pub WindowsReport : {S L : Type 0} → System S L → Type 0
@@ -130,4 +146,6 @@ WindowsReport {S} {L} system = RunsForward system → (end : ℕ) (motes : (numb
 
 -- a net that runs forward has windows up to any end
 abbrev pub WindowsAreThere : {S L : Type 0} → System S L → Type 0
-WindowsAreThere {S} {L} system = RunsForward system → (end : ℕ) → (motes : (number : ℕ) → LoneMote S L) × Windows system 0 end (first_mote system) motes
+WindowsAreThere {S} {L} system =
+    RunsForward system → (end : ℕ)
+    → (motes : (number : ℕ) → LoneMote S L) × Windows system 0 end (first_mote system) motes

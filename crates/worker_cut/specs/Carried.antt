@@ -10,5 +10,6 @@ abbrev pub crosses_to : (of : List ℕ) → (worker : ℕ) → RadioCopy → Boo
 crosses_to of worker copy = not (is_own of worker copy.sender) && is_own of worker copy.to
 
 -- of the copies of these packets, those that cross to this worker, each once and no others
-abbrev pub AreThoseTo : (copies : Sent → List RadioCopy) → (of : List ℕ) → (worker : ℕ) → (log : List Sent) → List RadioCopy → Type 0
+abbrev pub AreThoseTo : (copies : Sent → List RadioCopy) → (of : List ℕ) → (worker : ℕ) → (log : List Sent)
+    → List RadioCopy → Type 0
 AreThoseTo copies of worker log got = IsPermutation (filter (crosses_to of worker) (flat_map copies log)) got

@@ -4,29 +4,40 @@ use Rattle.std.specs.List.{filter}
 use Rattle.radio_packet.specs.declared.sent.Sent.{Sent}
 use Rattle.radio_packet.specs.declared.copy.RadioCopy.{RadioCopy}
 use Rattle.window_laws.specs.System.{System, RunsForward}
-use Rattle.window_laws.specs.Windows.{LoneMote, first_mote, Windows, is_at, is_from_sender, is_within, IsInbox, IsJoined, as_log}
+use Rattle.window_laws.specs.Windows.{LoneMote, first_mote, Windows, is_at, is_from_sender, is_within, IsInbox}
+use Rattle.window_laws.specs.Windows.{IsJoined, as_log}
 use Rattle.worker_cut.specs.Crossed.{is_own, crossed, copies_known}
 use Rattle.worker_cut.specs.Carried.{AreThoseTo}
 
 -- this worker gathered, of each mote, what the mote has sent across to it
-abbrev pub HasGathered : {S L : Type 0} → System S L → (of : List ℕ) → (motes : (number : ℕ) → LoneMote S L) → (worker : ℕ) → List RadioCopy → Type 0
-HasGathered system of motes worker gathered = (sender : ℕ) → filter (is_from_sender sender) gathered ≡ crossed system of motes worker sender
+abbrev pub HasGathered : {S L : Type 0} → System S L → (of : List ℕ) → (motes : (number : ℕ) → LoneMote S L)
+    → (worker : ℕ) → List RadioCopy → Type 0
+HasGathered system of motes worker gathered =
+    (sender : ℕ) → filter (is_from_sender sender) gathered ≡ crossed system of motes worker sender
 
 -- what was taken is, of each mote, what was gathered
 abbrev pub HasTaken : (gathered taken : List RadioCopy) → Type 0
 HasTaken gathered taken = (sender : ℕ) → filter (is_from_sender sender) taken ≡ filter (is_from_sender sender) gathered
 
 -- at each moment of the window, of each mote, the copies for this mote that its worker has
-abbrev pub IsFromSources : {S L : Type 0} → System S L → (own : ℕ → Bool) → (from bound : ℕ) → (motes : (number : ℕ) → LoneMote S L) → (taken : List RadioCopy) → (number : ℕ) → (inbox : List RadioCopy) → Type 0
+abbrev pub IsFromSources : {S L : Type 0} → System S L → (own : ℕ → Bool) → (from bound : ℕ)
+    → (motes : (number : ℕ) → LoneMote S L) → (taken : List RadioCopy) → (number : ℕ)
+    → (inbox : List RadioCopy) → Type 0
 IsFromSources system own from bound motes taken number inbox = (moment sender : ℕ)
-    → filter (is_from_sender sender) (filter (is_at moment) inbox) ≡ filter (is_at moment) (filter (is_within number from bound) (copies_known system own motes taken sender))
+    → filter (is_from_sender sender) (filter (is_at moment) inbox)
+    ≡ filter (is_at moment) (filter (is_within number from bound) (copies_known system own motes taken sender))
 
 abbrev pub InboxIsWhole : {S L : Type 0} → System S L → Type 0
-InboxIsWhole {S} {L} system = (of : List ℕ) (motes : (number : ℕ) → LoneMote S L) (gathered taken : List RadioCopy) (worker number from bound : ℕ) → is_own of worker number ≡ true
+InboxIsWhole {S} {L} system =
+    (of : List ℕ) (motes : (number : ℕ) → LoneMote S L) (gathered taken : List RadioCopy) (worker number from bound : ℕ)
+    → is_own of worker number ≡ true
     → HasGathered system of motes worker gathered → HasTaken gathered taken
-    → (inbox : List RadioCopy) → IsFromSources system (is_own of worker) from bound motes taken number inbox → IsInbox system from bound motes number inbox
+    → (inbox : List RadioCopy) → IsFromSources system (is_own of worker) from bound motes taken number inbox
+    → IsInbox system from bound motes number inbox
 
 abbrev pub CrossedOnce : {S L : Type 0} → System S L → Type 0
-CrossedOnce {S} {L} system = RunsForward system → (of : List ℕ) (from : ℕ) (motes : (number : ℕ) → LoneMote S L) → Windows system 0 from (first_mote system) motes
-    → (worker : ℕ) (gathered : List RadioCopy) (joined : List Sent) → IsJoined system motes joined → HasGathered system of motes worker gathered
+CrossedOnce {S} {L} system = RunsForward system → (of : List ℕ) (from : ℕ) (motes : (number : ℕ) → LoneMote S L)
+    → Windows system 0 from (first_mote system) motes
+    → (worker : ℕ) (gathered : List RadioCopy) (joined : List Sent) → IsJoined system motes joined
+    → HasGathered system of motes worker gathered
     → AreThoseTo system.copies of worker (as_log joined) gathered

@@ -24,8 +24,8 @@ fn in_blocks(mote: u16, motes: u16, workers: u16) -> u16
 }
 
 impl Cut {
-    /// Gives each worker motes that follow one another, as many as each other worker or one more or less: mote i goes to the
-    /// worker `i * workers / motes`.
+    /// Gives each worker motes that follow one another, as many as each other worker or one more or less: mote i goes
+    /// to the worker `i * workers / motes`.
     pub fn block(alloc: Global, motes: u16, workers: u16) -> Result<Cut, AllocError>
         requires motes { 0 < motes }
         requires workers { 0 < workers }
