@@ -1,6 +1,6 @@
 //! The engine of one mote's window.
 
-ghost use Rattle.std.specs.Prelude.{◌≡◌, ◌≤◌, ◌^◌, true, Some, map, vec_len};
+ghost use Rattle.std.specs.Prelude.{◌≡◌, ◌≤◌, ◌^◌, ◌++◌, true, Some, map, vec_len};
 ghost use Rattle.std.specs.Prelude.{IfErr, IfSome, MatchOption, OnOk, None, []};
 ghost use Rattle.std.specs.List.{take_while};
 ghost use Rattle.program_tree.specs.Program.{tree_of};
@@ -17,6 +17,7 @@ use process_kernel::Line;
 use program_tree::Program;
 use radio_packet::{Arrival, RadioCopy, Sent};
 use std::alloc::{AllocError, Global};
+use std::mem;
 
 /// A mote in its window, with the copies that come to it there.
 pub struct OwnWindow<'a> {
@@ -136,8 +137,8 @@ impl<'a> OwnWindow<'a> {
         self.wake = self
             .mote
             .turn_into(self.program, moment, &room.arrivals, &mut room.out)?;
-        self.lines.append(&mut room.out.lines)?;
-        self.sends.append(&mut room.out.sends)?;
+        move_to(&mut self.lines, &mut room.out.lines)?;
+        move_to(&mut self.sends, &mut room.out.sends)?;
         Ok(())
     }
 
@@ -165,6 +166,18 @@ impl<'a> OwnWindow<'a> {
             wake,
         }
     }
+}
+
+/// Moves all to the end of a list. Where that is empty the two change places, so nothing is copied.
+fn move_to<T>(list: &mut Vec<T>, more: &mut Vec<T>) -> Result<(), AllocError>
+    ensures { OnOk result (list.new.items ≡ list.old.items ++ more.old.items) }
+{
+    if list.is_empty() {
+        mem::swap(list, more);
+        return Ok(());
+    }
+    list.append(more)?;
+    Ok(())
 }
 
 /// The lesser of the wake and the first copy's moment.
@@ -204,7 +217,8 @@ fn take_arrivals(
         if copy.at != moment {
             return Ok(());
         }
-        arrivals.push(arrival(copy))?;
+        arrivals.reserve(1)?;
+        arrivals.push_reserved(arrival(copy));
     }
     Ok(())
 }

@@ -11,8 +11,8 @@ loop-copy-preserved c =
     let copies = c.args.copies.now in
     let i = c.loop-copy.copy-index in
     record {
-      taken = c.in_ok-push.ensures.items
-          ∙ (ap (λ l. l ++ c.arrival.result ∷ []) c.loop-copy.invariant.taken
+      taken = c.push_reserved.ensures.items
+          ∙ (ap (λ l. l ++ c.arrival.result ∷ []) (c.reserve.ensures.items ∙ c.loop-copy.invariant.taken)
           ∙ (ap (λ a. map arrival_of (take i copies) ++ a ∷ []) c.arrival.ensures ∙ sym (ap (map arrival_of) (take_more copies i _ c.loop-copy-test.true) ∙ map-append arrival_of (take i copies) _)));
       pass = pass_more (is_at c.args.moment) copies i _ c.loop-copy-test.true c.loop-copy.invariant.pass (eq-eqb _ _ c.if-copy-moment.false);
     }
