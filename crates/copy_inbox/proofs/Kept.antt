@@ -10,9 +10,9 @@ use Rattle.copy_inbox.specs.declared.count.Count.{Count}
 use Rattle.copy_inbox.specs.declared.rule.View.{View}
 use Rattle.copy_inbox.specs.Items.{part}
 use Rattle.copy_inbox.specs.Gathered.{is_gathered, known_of}
-use Rattle.copy_inbox.specs.Views.{new_taker, with_one_more, with_marks, with_gathered, with_taken}
+use Rattle.copy_inbox.specs.Views.{new_taker, with_one_more, with_gathered, with_taken}
 use Rattle.copy_inbox.specs.Rule.{SeenBy}
-use Rattle.copy_inbox.specs.Handles.{desk_in, post_in, IsTaker, IsSender}
+use Rattle.copy_inbox.specs.Handles.{desk_in, post_in, IsSender}
 use Rattle.copy_inbox.specs.Kept.{KeepsCounts, CountsTaken, Forgets}
 use Rattle.copy_inbox.proofs.Takers.{count, byte_is, more_as, took_as, joined_desk, joined_is, joined_seen, joined_leaves, joined_index, next_below, next_known, next_kept, next_fits}
 
