@@ -17,7 +17,7 @@ use Rattle.mark_run_laws.specs.Laws.{EachRunHasAll, RunsEndAtEnd, MarksLeadOn}
 pub each_run_has_all : EachRunHasAll
 each_run_has_all n of width old new cut ran =
     let cut_now : IsCut (length n.motes) (length new.inboxes.items) of = subst (λ (l : List InboxId). IsCut (length n.motes) (length l) of) (sym ran.inboxes) cut in
-    (all_ran n of width (windows_of width n.end) new (ends_marked n of width old new cut_now ran)).0
+    all_ran n of width (windows_of width n.end) new (ends_marked n of width old new cut_now ran)
 
 module _ (n : NetTold) (of : List ℕ) (width windows workers : ℕ) (all : AllRan n of width windows workers) (v u : ℕ) (lv : v < workers) (lu : u < workers) (ne : v ≡ u → ⊥) where
   -- the number of a worker's sender is the one by which the other knows it

@@ -14,7 +14,7 @@ use Rattle.copy_inbox.specs.Handles.{InboxId, TakerView, SenderView, AllGathered
 use Rattle.copy_inbox.specs.Views.{make_desk}
 use Rattle.copy_exchange.specs.Desks.{taken_by, gathered_by, IsOrderly}
 use Rattle.copy_exchange.specs.Inboxes.{IsSettled}
-use Rattle.copy_exchange.proofs.Gathers.{OneOf, with_joined}
+use Rattle.copy_exchange.proofs.Gathers.{OneOf, with_joined, gather_is}
 use Rattle.copy_exchange.proofs.Homes.{zip_each}
 use Rattle.copy_exchange.proofs.Parts.{from}
 use Rattle.mark_exchange.specs.Pushes.{packets_in}
@@ -32,11 +32,11 @@ use Rattle.marked_workers.specs.Crew.{EndsMarked, EndAllMarked}
 use Rattle.copy_exchange.specs.Couriers.{pushed_list}
 use Rattle.marked_workers.specs.Senders.{AreSenders}
 use Rattle.marked_workers.specs.Story.{Story, RunsWindows}
-use Rattle.marked_workers.specs.All.{AllRan}
+use Rattle.marked_workers.specs.All.{AllRan, HasGathered, IsOfTakers}
 use Rattle.marked_workers.proofs.Bounds.{at_the_end}
 use Rattle.marked_workers.proofs.Pairs.{not_other, pair, copies_from, copies_none}
 use Rattle.marked_workers.proofs.Seen.{nobodys, sent_so_far, of_worker, of_nobody}
-use Rattle.marked_workers.proofs.Settles.{pair_taken, all_taken, one, after_is, gathered_all, whole_then, no_mark, stands, same_of_each}
+use Rattle.marked_workers.proofs.Settles.{pair_taken, all_taken, one, gathered_all, whole_then, no_mark, stands, same_of_each}
 use Rattle.marked_workers.proofs.Stages.{stage, own_stage, Reached, reached}
 
 module _ (n : NetTold) (of : List ℕ) (width windows : ℕ) (crew : Workers) (h : EndAllMarked n of width windows crew) where
@@ -58,6 +58,7 @@ module _ (n : NetTold) (of : List ℕ) (width windows : ℕ) (crew : Workers) (h
     keeps : Keeps n of v (bound width n.end windows) (z.story.motes windows) (copies_of z.desk.taken) share
     are_senders : AreSenders workers v (h.sender v) z.desk.made z.senders
     begun : Each (λ (s : SenderView). BeginsWith s.post.pushed (part s.post.number z.desk.taken)) z.senders
+    gathers : HasGathered z.desk.made z.desk.taken z.senders taker
     inbox : InboxId
     taker_is : taker ≡ record { inbox = inbox; desk = with_joined z.senders (record z.desk { gathered = [] }) }
 
@@ -77,10 +78,17 @@ module _ (n : NetTold) (of : List ℕ) (width windows : ℕ) (crew : Workers) (h
           keeps = e.promise.keeps;
           are_senders = e.are_senders;
           begun = e.begun;
+          gathers = record {
+            before = e.before;
+            is_made = refl;
+            is_taken = refl;
+            nobody = e.promise.nobody;
+            gathered = e.gathered;
+          };
           inbox = e.before.inbox;
           taker_is =
               e.gathered
-              ∙ (after_is e.before e.senders
+              ∙ (gather_is e.before e.senders
               ∙ ap (λ g. record { inbox = e.before.inbox; desk = with_joined e.senders (record e.before.desk { gathered = g }) }) e.promise.nobody);
         },
       )
@@ -107,9 +115,14 @@ module _ (n : NetTold) (of : List ℕ) (width windows : ℕ) (crew : Workers) (h
     begun = λ u low. (parts.1 u low).begun;
   }
 
+  is_of_takers : IsOfTakers all crew.takers.items
+  is_of_takers v low t is =
+      let p = parts.1 v low in
+      subst (HasGathered (all.made v) (all.taken v) (all.senders v)) (same_found (slice_get crew.takers.items v) p.taker t p.taker_at is) p.gathers
+
   -- what all workers did
-  pub all_ran : (a : AllRan n of width windows (length crew.inboxes.items)) × (a.sender ≡ h.sender)
-  all_ran = (all, refl)
+  pub all_ran : (a : AllRan n of width windows (length crew.inboxes.items)) × IsOfTakers a crew.takers.items
+  all_ran = (all, is_of_takers)
 
   module _ (fine : RunsForward (system_of n)) (short : width ≤ (system_of n).lookahead) (are : AreWindows width n.end windows) where
     abbrev motes : Motes

@@ -27,15 +27,11 @@ use Rattle.all_workers.specs.declared.worker.Worker.{Worker}
 use Rattle.marked_workers.specs.Bounds.{windows_of}
 use Rattle.marked_workers.specs.Crew.{EndsMarked, EndAllMarked}
 use Rattle.marked_workers.specs.Run.{RunsAllMarked, couriers_of}
-use Rattle.marked_workers.specs.Senders.{AreSenders, after_all}
+use Rattle.marked_workers.specs.Senders.{AreSenders}
 use Rattle.marked_workers.specs.Story.{RunsMarked}
 use Rattle.marked_workers.specs.Thread.{RunsAllWindows}
 use Rattle.marked_workers.proofs.Bounds.{are_windows}
 use Rattle.marked_workers.proofs.Ends.{ends}
-
-same_after : (t : TakerView) (ss : List SenderView) → gather_posts t ss ≡ after_all t ss
-same_after t [] = refl
-same_after t (s ∷ ss) = same_after (after_gather t s.post) ss
 
 of_others : (workers worker : ℕ) (sender : ℕ → Option SenderView) (made : ℕ) (senders : List SenderView) → SendersOfOthers workers worker sender made senders → AreSenders workers worker sender made senders
 of_others workers worker sender made senders h = record { numbered = h.numbered; made_is = h.made_is; others = h.others; of_worker = h.of_worker; worker_of = h.worker_of }
@@ -89,8 +85,8 @@ module _ (n : NetTold) (of : List ℕ) (width : ℕ) (old new : Workers) (cut : 
     at_back : slice_get back v ≡ Some d.courier
     at_back = mapped (λ (x : Worker). x.courier) ran.done v d at_done
 
-    taker_is : t ≡ after_all d.courier.taker (senders_to back v)
-    taker_is = ran.back.taker v d.courier t at_back at_taker ∙ same_after d.courier.taker (senders_to back v)
+    taker_is : t ≡ gather_posts d.courier.taker (senders_to back v)
+    taker_is = ran.back.taker v d.courier t at_back at_taker
 
     taker_inbox : t.inbox ≡ d.courier.taker.inbox
     taker_inbox = ap (λ (x : TakerView). x.inbox) (ran.back.taker v d.courier t at_back at_taker ∙ gather_is d.courier.taker (senders_to back v))

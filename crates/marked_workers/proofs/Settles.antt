@@ -22,7 +22,7 @@ use Rattle.mark_exchange.proofs.Early.{packets_pushes}
 use Rattle.mark_exchange.proofs.Whole.{all_is_taken}
 use Rattle.all_workers.specs.Workers.{IsCut}
 use Rattle.all_workers.proofs.Lookups.{each_at, each_from}
-use Rattle.marked_workers.specs.Senders.{AreSenders, after_all}
+use Rattle.marked_workers.specs.Senders.{AreSenders}
 use Rattle.marked_workers.specs.All.{AllRan}
 use Rattle.marked_workers.proofs.Lists.{none_before}
 use Rattle.marked_workers.proofs.Pairs.{sent_to, none_sent, not_other, Pair, pair}
@@ -123,10 +123,6 @@ stands_before d = record {
 joined_each : (P : Gathered → Type 0) (made : ℕ) (ss : List SenderView) (gs : List Gathered) → Each (λ (a : SenderView). P (as_gathered made a)) ss → Each P gs → Each P (joined made ss gs)
 joined_each P made [] gs h k = k
 joined_each P made (a ∷ ss) gs h k = joined_each P made ss (as_gathered made a ∷ gs) h.1 (h.0, k)
-
-pub after_is : (t : TakerView) (ss : List SenderView) → after_all t ss ≡ record { inbox = t.inbox; desk = with_joined ss t.desk }
-after_is t [] = refl
-after_is t (s ∷ ss) = after_is (after_gather t s.post) ss
 
 module _ (workers worker : ℕ) (sender : ℕ → Option SenderView) (d : Desk) (ss : List SenderView) (are : AreSenders workers worker sender d.made ss) (of_made : OfMade d.made d.taken)
     (begun : Each (λ (a : SenderView). BeginsWith a.post.pushed (part a.post.number d.taken)) ss) (whole : Each (λ (a : SenderView). part a.post.number d.taken ≡ a.post.pushed) ss) (one : (s : ℕ) → OneOf s ss) where

@@ -1,11 +1,12 @@
 -- What all workers did in a run with marks, worker by worker.
-use Rattle.std.specs.Prelude.{ℕ, ◌<◌, List, Option}
+use Rattle.std.specs.Prelude.{◌≡◌, ℕ, ◌<◌, List, [], slice_get, Option, Some}
 use Rattle.std.specs.List.{AllByRecursion as Each}
 use Rattle.mote_net.specs.Net.{NetTold}
 use Rattle.copy_inbox.specs.declared.items.Item.{Item}
 use Rattle.copy_inbox.specs.Items.{part, BeginsWith}
-use Rattle.copy_inbox.specs.Handles.{SenderView}
+use Rattle.copy_inbox.specs.Handles.{SenderView, TakerView}
 use Rattle.copy_exchange.specs.Couriers.{pushed_list}
+use Rattle.copy_exchange.specs.Steps.{gather_posts}
 use Rattle.marked_workers.specs.Senders.{AreSenders}
 use Rattle.marked_workers.specs.Story.{Story, RunsWindows}
 
@@ -22,3 +23,17 @@ pub record AllRan (n : NetTold) (of : List ℕ) (width windows workers : ℕ) : 
   pub are_senders : (u : ℕ) → u < workers → AreSenders workers u (sender u) (made u) (senders u)
   pub begun : (u : ℕ) → u < workers
       → Each (λ (s : SenderView). BeginsWith s.post.pushed (part s.post.number (taken u))) (senders u)
+
+-- a taker that had taken these items, of so many senders, and then gathered these
+pub record HasGathered (made : ℕ) (taken : List Item) (senders : List SenderView) (taker : TakerView) : Type 0 where
+  pub before : TakerView
+  pub is_made : before.desk.made ≡ made
+  pub is_taken : before.desk.taken ≡ taken
+  pub nobody : before.desk.gathered ≡ []
+  pub gathered : taker ≡ gather_posts before senders
+
+-- Just that was taken by these takers, and just those senders are gathered.
+abbrev pub IsOfTakers : {n : NetTold} {of : List ℕ} {width windows workers : ℕ}
+    → AllRan n of width windows workers → List TakerView → Type 0
+IsOfTakers {n} {of} {width} {windows} {workers} all takers = (v : ℕ) → v < workers → (taker : TakerView)
+    → slice_get takers v ≡ Some taker → HasGathered (all.made v) (all.taken v) (all.senders v) taker

@@ -13,7 +13,8 @@ use Rattle.all_workers.specs.Workers.{IsAt}
 use Rattle.all_workers.specs.Workers.{IsCut}
 use Rattle.marked_workers.specs.Bounds.{AreWindows}
 use Rattle.copy_exchange.specs.Couriers.{pushed_list}
-use Rattle.marked_workers.specs.Senders.{AreSenders, after_all}
+use Rattle.copy_exchange.specs.Steps.{gather_posts}
+use Rattle.marked_workers.specs.Senders.{AreSenders}
 use Rattle.marked_workers.specs.Story.{RunsMarked}
 
 -- One worker when all threads are joined: it ran all windows as it promised, and then gathered the senders on its
@@ -26,7 +27,7 @@ pub record EndsMarked (n : NetTold) (of : List ℕ) (width windows workers : ℕ
   pub senders : List SenderView
   pub are_senders : AreSenders workers worker (sender worker) before.desk.made senders
   pub begun : Each (λ (s : SenderView). BeginsWith s.post.pushed (part s.post.number before.desk.taken)) senders
-  pub gathered : taker ≡ after_all before senders
+  pub gathered : taker ≡ gather_posts before senders
 
 -- all workers
 pub record EndAllMarked (n : NetTold) (of : List ℕ) (width windows : ℕ) (crew : Workers) : Type 0 where

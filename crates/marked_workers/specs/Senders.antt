@@ -1,7 +1,7 @@
 -- The senders on one worker's inbox, for all windows of the run, and their gathering at the end.
-use Rattle.std.specs.Prelude.{ℕ, ◌≡◌, ◌≢◌, suc, ◌<◌, List, [], ◌∷◌, length, map, slice_get, Option, Some}
+use Rattle.std.specs.Prelude.{ℕ, ◌≡◌, ◌≢◌, suc, ◌<◌, List, length, map, slice_get, Option, Some}
 use Rattle.std.specs.List.{range_with_len}
-use Rattle.copy_inbox.specs.Handles.{TakerView, SenderView, after_gather}
+use Rattle.copy_inbox.specs.Handles.{SenderView}
 
 -- one sender of each other worker, numbered from 0, and no others
 pub record AreSenders (workers worker : ℕ) (sender : (other : ℕ) → Option SenderView) (made : ℕ)
@@ -13,8 +13,3 @@ pub record AreSenders (workers worker : ℕ) (sender : (other : ℕ) → Option 
       → (s : SenderView) × (sender v ≡ Some s) × (slice_get senders s.post.number ≡ Some s)
   pub worker_of : (j : ℕ) (s : SenderView) → slice_get senders j ≡ Some s
       → (v : ℕ) × (v < workers) × (v ≢ worker) × (sender v ≡ Some s)
-
--- the taker once it gathered these, one after another
-abbrev pub after_all : TakerView → List SenderView → TakerView
-after_all t [] = t
-after_all t (s ∷ senders) = after_all (after_gather t s.post) senders
