@@ -37,9 +37,9 @@ fn boot(
     Ok(())
 }
 
-/// A packet goes into the receive ring, or is lost where that is full. The answer is whether it went there.
+/// Appends a packet to the receive ring, or loses it if the ring is full; returns whether it was appended.
 #[tactic(auto, unfolding(crate::specs::Arrivals::hear))]
-fn hear(
+fn hear_or_lose(
     kernel: &mut Kernel,
     moment: u64,
     packet: Arrival,
@@ -71,7 +71,7 @@ fn hear_all(
 {
     let mut any = false;
     for packet in packets {
-        let heard = hear(kernel, moment, *packet, out)?;
+        let heard = hear_or_lose(kernel, moment, *packet, out)?;
         any = any || heard;
     }
     if any {
