@@ -10,8 +10,8 @@ use Rattle.program_tree.specs.declared.timer.Timer.{Timer as TimerOfProgram}
 use Rattle.program_tree.specs.Code.{Code}
 use Rattle.event_queue.specs.declared.queue.Posted.{Posted}
 use Rattle.protothread.specs.declared.part.Part.TheVariants.{OnPoll, OnExit, Callback}
-use Rattle.protothread.specs.declared.state.PtState.{PtState}
-use Rattle.protothread.specs.declared.state.PtState.TheVariants.{Yielded, Ended}
+use Rattle.protothread.specs.declared.answer.PtState.{PtState}
+use Rattle.protothread.specs.declared.answer.PtState.TheVariants.{Yielded, Ended}
 use Rattle.protothread.specs.declared.step.Op.{Op}
 use Rattle.protothread.specs.declared.step.Op.TheVariants as op
 use Rattle.protothread.specs.declared.step.Step.{Step}

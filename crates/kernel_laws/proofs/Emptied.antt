@@ -3,7 +3,7 @@ use Rattle.std.proofs.Common.{ℕ, suc, ◌≡◌, ◌+◌, ◌-◌, ◌==◌, �
 use Rattle.std.proofs.lemmas.List.Elements.{All-head, All-tail}
 use Rattle.program_tree.specs.declared.event.Proc.TheVariants.{Radio}
 use Rattle.program_tree.specs.declared.event.SystemEvent.TheVariants.{Poll, Exit}
-use Rattle.protothread.specs.declared.state.PtState.TheVariants.{Yielded}
+use Rattle.protothread.specs.declared.answer.PtState.TheVariants.{Yielded}
 use Rattle.process_kernel.specs.declared.process.ProcessState.TheVariants.{Called}
 use Rattle.radio_packet.specs.declared.arrival.Arrival.{Arrival}
 use Rattle.trace_lines.specs.declared.line.Line.{Line}

@@ -12,8 +12,8 @@ use Rattle.program_tree.specs.Code.{Code}
 use Rattle.mote_timers.specs.Timer.{is_due}
 use Rattle.mote_timers.specs.TimerLists.{TimerLists, timer_at}
 use Rattle.protothread.specs.declared.part.Part.TheVariants.{OnPoll, OnExit, Callback}
-use Rattle.protothread.specs.declared.state.PtState.{PtState}
-use Rattle.protothread.specs.declared.state.PtState.TheVariants.{Yielded, Ended}
+use Rattle.protothread.specs.declared.answer.PtState.{PtState}
+use Rattle.protothread.specs.declared.answer.PtState.TheVariants.{Yielded, Ended}
 use Rattle.protothread.specs.declared.step.Op.{Op}
 use Rattle.protothread.specs.declared.step.Op.TheVariants as op
 use Rattle.protothread.specs.declared.step.Step.{Step}

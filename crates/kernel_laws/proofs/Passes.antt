@@ -12,7 +12,7 @@ use Rattle.program_tree.specs.Events.{system_number}
 use Rattle.mote_timers.specs.Numbers.{is_member}
 use Rattle.mote_timers.specs.Timer.{is_due}
 use Rattle.mote_timers.specs.TimerLists.{timer_at}
-use Rattle.protothread.specs.declared.state.PtState.TheVariants.{Yielded}
+use Rattle.protothread.specs.declared.answer.PtState.TheVariants.{Yielded}
 use Rattle.process_kernel.specs.declared.process.ProcessState.TheVariants.{Running, Called}
 use Rattle.process_kernel.specs.State.{State, Outcome, Went, Ends, Goes, ◌>>=◌}
 use Rattle.process_kernel.specs.Processes.{is_running, with_state}

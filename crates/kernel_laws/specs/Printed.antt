@@ -7,7 +7,7 @@ use Rattle.program_tree.specs.declared.event.SystemEvent.TheVariants.{Init}
 use Rattle.program_tree.specs.Tree.{Action, assign, print, spawn, post, broadcast, Statement, does, branch, while, Body}
 use Rattle.program_tree.specs.Tree.{end, next, Otherwise, nothing, otherwise, listed}
 use Rattle.program_tree.specs.Code.{Code, Tree}
-use Rattle.protothread.specs.declared.state.PtState.TheVariants.{Yielded}
+use Rattle.protothread.specs.declared.answer.PtState.TheVariants.{Yielded}
 use Rattle.protothread.specs.declared.step.Op.TheVariants as op
 use Rattle.protothread.specs.Reading.{Sight, Happening, operates, gives_up, Completion, done, restarts, exits, stands}
 use Rattle.protothread.specs.Reading.{ReadsThread}

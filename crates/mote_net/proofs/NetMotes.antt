@@ -5,12 +5,12 @@ use Rattle.std.proofs.lemmas.Bool.{and_parts}
 use Rattle.std.specs.List.{list_all}
 use borrow.Author.Tests.{ltb-true, leb-true}
 use Rattle.program_tree.specs.Program.{tree_of}
-use Rattle.mote_net.specs.declared.net.Mote.{Mote}
+use Rattle.mote_net.specs.declared.net.MoteSetup.{MoteSetup as SetupOfCode}
 use Rattle.mote_net.specs.declared.programs.NamedProgram.{NamedProgram}
 use Rattle.mote_net.specs.Programs.{NamedTree, named_tree}
 use Rattle.mote_net.specs.Motes.{is_mote_of}
 use Rattle.mote_net.specs.Limits.{shortest_queue, longest_queue}
-use Rattle.mote_net.specs.Net.{mote_told, program_at}
+use Rattle.mote_net.specs.Net.{setup_of, program_at}
 
 pub slice_get-map : {X Y : Type 0} (f : X → Y) (xs : List X) (i : ℕ) (d : X) → i < length xs → slice_get (map f xs) i ≡ Some (f (get_or xs i d))
 slice_get-map f [] i d h = absurd (omega arith)
@@ -29,32 +29,32 @@ all_at test (x ∷ xs) zero d h lt = (and_parts _ _ h).0
 all_at test (x ∷ xs) (suc i) d h lt = all_at test xs i d (and_parts _ _ h).1 (omega arith)
 
 -- the mote at an index
-pub mote_at : (ps : List NamedProgram) (ms : List Mote) (i : ℕ) (m : Mote) → i < length (map (mote_told ps) ms) → m ≡ get_or ms i m
-    → slice_get (map (mote_told ps) ms) i ≡ Some (mote_told ps m)
+pub mote_at : (ps : List NamedProgram) (ms : List SetupOfCode) (i : ℕ) (m : SetupOfCode) → i < length (map (setup_of ps) ms) → m ≡ get_or ms i m
+    → slice_get (map (setup_of ps) ms) i ≡ Some (setup_of ps m)
 mote_at ps ms i m there m-is =
-    let lt : i < length ms = rw (length-map ms (mote_told ps)) at there in
-    slice_get-map (mote_told ps) ms i m lt ∙ ap (λ (k : Mote). Some (mote_told ps k)) (sym m-is)
+    let lt : i < length ms = rw (length-map ms (setup_of ps)) at there in
+    slice_get-map (setup_of ps) ms i m lt ∙ ap (λ (k : SetupOfCode). Some (setup_of ps k)) (sym m-is)
 
 -- what holds of each mote holds of the one at an index
-pub mote_fits : (ps : List NamedProgram) (ms : List Mote) (i : ℕ) (m : Mote) → IsTrue (list_all (is_mote_of (length ps)) ms)
-    → i < length (map (mote_told ps) ms) → m ≡ get_or ms i m → is_mote_of (length ps) m ≡ true
+pub mote_fits : (ps : List NamedProgram) (ms : List SetupOfCode) (i : ℕ) (m : SetupOfCode) → IsTrue (list_all (is_mote_of (length ps)) ms)
+    → i < length (map (setup_of ps) ms) → m ≡ get_or ms i m → is_mote_of (length ps) m ≡ true
 mote_fits ps ms i m all there m-is =
-    let lt : i < length ms = rw (length-map ms (mote_told ps)) at there in
-    ap (λ (k : Mote). is_mote_of (length ps) k) m-is ∙ all_at (λ (n : Mote). is_mote_of (length ps) n) ms i m all lt
+    let lt : i < length ms = rw (length-map ms (setup_of ps)) at there in
+    ap (λ (k : SetupOfCode). is_mote_of (length ps) k) m-is ∙ all_at (λ (n : SetupOfCode). is_mote_of (length ps) n) ms i m all lt
 
-pub program_within : (n : ℕ) (m : Mote) → is_mote_of n m ≡ true → m.program < n
+pub program_within : (n : ℕ) (m : SetupOfCode) → is_mote_of n m ≡ true → m.program < n
 program_within n m h = ltb-true _ _ (and_parts _ _ h).0
 
-pub queue_at_least : (n : ℕ) (m : Mote) → is_mote_of n m ≡ true → shortest_queue ≤ m.queue
+pub queue_at_least : (n : ℕ) (m : SetupOfCode) → is_mote_of n m ≡ true → shortest_queue ≤ m.queue
 queue_at_least n m h = leb-true _ _ (and_parts _ _ (and_parts _ _ h).1).0
 
-pub queue_at_most : (n : ℕ) (m : Mote) → is_mote_of n m ≡ true → m.queue ≤ longest_queue
+pub queue_at_most : (n : ℕ) (m : SetupOfCode) → is_mote_of n m ≡ true → m.queue ≤ longest_queue
 queue_at_most n m h = leb-true _ _ (and_parts _ _ (and_parts _ _ h).1).1
 
 -- the mote at an index and its program
-pub program_of_mote : (ps : List NamedProgram) (ms : List Mote) (i : ℕ) (m : Mote) (p : NamedProgram)
-    → IsTrue (list_all (is_mote_of (length ps)) ms) → i < length (map (mote_told ps) ms) → m ≡ get_or ms i m → p ≡ get_or ps m.program p
-    → slice_get (map (mote_told ps) ms) i ≡ Some (record { program = p.name; tree = tree_of p.program; queue = m.queue })
+pub program_of_mote : (ps : List NamedProgram) (ms : List SetupOfCode) (i : ℕ) (m : SetupOfCode) (p : NamedProgram)
+    → IsTrue (list_all (is_mote_of (length ps)) ms) → i < length (map (setup_of ps) ms) → m ≡ get_or ms i m → p ≡ get_or ps m.program p
+    → slice_get (map (setup_of ps) ms) i ≡ Some (record { program = p.name; tree = tree_of p.program; queue = m.queue })
 program_of_mote ps ms i m p all there m-is p-is =
     let place : m.program < length ps = program_within _ m (mote_fits ps ms i m all there m-is) in
     mote_at ps ms i m there m-is

@@ -2,13 +2,13 @@
 use Rattle.std.specs.Prelude.{ℕ, Bool, List, [], map, slice_get, None, option_map, unwrap_or}
 use Rattle.program_tree.specs.Code.{Tree}
 use Rattle.radio_medium.specs.Medium.{Radio}
-use Rattle.mote_net.specs.declared.net.Mote.{Mote}
+use Rattle.mote_net.specs.declared.net.MoteSetup.{MoteSetup as SetupOfCode}
 use Rattle.mote_net.specs.declared.net.Net.{Net}
 use Rattle.mote_net.specs.declared.programs.NamedProgram.{NamedProgram}
 use Rattle.mote_net.specs.Programs.{NamedTree, named_tree}
 
--- a mote: its program's name and tree, and how many events its queue holds
-pub record MoteTold : Type 0 where
+-- what is set up of a mote: its program's name and tree, and how many events its queue holds
+pub record MoteSetup : Type 0 where
   pub program : List ℕ
   pub tree : Tree
   pub queue : ℕ
@@ -18,7 +18,7 @@ pub record NetTold : Type 0 where
   pub end : ℕ
   pub collide : Bool
   pub radio : Radio
-  pub motes : List MoteTold
+  pub motes : List MoteSetup
 
 -- stands for a program that isn't there, which no net has
 abbrev pub no_program : NamedTree
@@ -40,8 +40,8 @@ no_program = record {
 abbrev pub program_at : List NamedProgram → ℕ → NamedTree
 program_at programs i = unwrap_or (option_map named_tree (slice_get programs i)) no_program
 
-abbrev pub mote_told : List NamedProgram → Mote → MoteTold
-mote_told programs m = record {
+abbrev pub setup_of : List NamedProgram → SetupOfCode → MoteSetup
+setup_of programs m = record {
   program = (program_at programs m.program).name;
   tree = (program_at programs m.program).tree;
   queue = m.queue;
@@ -53,5 +53,5 @@ net_of n = record {
   end = n.end;
   collide = n.collide;
   radio = n.medium;
-  motes = map (mote_told n.programs.items) n.motes.items;
+  motes = map (setup_of n.programs.items) n.motes.items;
 }

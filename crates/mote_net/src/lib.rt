@@ -7,6 +7,6 @@ mod net;
 mod program_name;
 mod programs;
 
-pub use net::{Mote, Net};
+pub use net::{MoteSetup, Net};
 pub use program_name::ProgramName;
 pub use programs::NamedProgram;

@@ -8,9 +8,10 @@ use crate::programs::NamedProgram;
 use program_tree::Program;
 use radio_medium::Medium;
 
-/// A mote: the place of its program among the programs of the net, and how many events its queue holds.
+/// What is set up of a mote before a run: the place of its program among the programs of the net, and how many
+/// events its queue holds.
 #[derive(Clone, Copy, Debug)]
-pub struct Mote {
+pub struct MoteSetup {
     pub program: usize,
     pub queue: u16,
 }
@@ -22,7 +23,7 @@ pub struct Net {
     collide: bool,
     medium: Medium,
     programs: Vec<NamedProgram>,
-    motes: Vec<Mote>,
+    motes: Vec<MoteSetup>,
     ghost early: { end ≤ latest_end },
     ghost some: { fewest_motes ≤ length motes.items },
     ghost few: { length motes.items ≤ most_motes },
@@ -45,7 +46,7 @@ impl Drop for Net {
 
 impl Net {
     ghost use Rattle.program_tree.specs.Program.{tree_of};
-    ghost use Rattle.mote_net.specs.Net.{net_of, mote_told};
+    ghost use Rattle.mote_net.specs.Net.{net_of, setup_of};
 
     /// The net of these parts: `end` is its last moment, the medium has a place for each mote, and each mote's program
     /// is one of the programs.
@@ -54,7 +55,7 @@ impl Net {
         collide: bool,
         medium: Medium,
         programs: Vec<NamedProgram>,
-        motes: Vec<Mote>,
+        motes: Vec<MoteSetup>,
     ) -> Net
         requires early { end ≤ latest_end }
         requires some { fewest_motes ≤ length motes.items }
@@ -65,7 +66,7 @@ impl Net {
           end = end;
           collide = collide;
           radio = medium;
-          motes = map (mote_told programs.items) motes.items;
+          motes = map (setup_of programs.items) motes.items;
         } }
     {
         Net {

@@ -9,7 +9,7 @@ use Rattle.radio_packet.specs.declared.copy.RadioCopy.{RadioCopy}
 use Rattle.radio_medium.specs.Medium.{medium_fault}
 use Rattle.radio_medium.proofs.Copies.{copies_later}
 use Rattle.radio_medium.proofs.Delays.{lookahead-above}
-use Rattle.mote_net.specs.Net.{MoteTold, NetTold}
+use Rattle.mote_net.specs.Net.{MoteSetup, NetTold}
 use Rattle.window_laws.specs.System.{RunsForward}
 use Rattle.window_laws.proofs.Lists.{every_weaker}
 use Rattle.net_agenda.specs.Buckets.{arrival_of}
@@ -28,9 +28,9 @@ pub turn_wakes : (mote : ℕ) (state : Node) (moment : ℕ) (given : List RadioC
 unfolding turn_of
 turn_wakes mote state moment given = refl
 
-pub tree_is : (motes : List MoteTold) (k : ℕ) (t : Tree) → option_map (λ (m : MoteTold). m.tree) (slice_get motes k) ≡ Some t → t ≡ (unwrap_or (slice_get motes k) no_mote).tree
+pub tree_is : (motes : List MoteSetup) (k : ℕ) (t : Tree) → option_map (λ (m : MoteSetup). m.tree) (slice_get motes k) ≡ Some t → t ≡ (unwrap_or (slice_get motes k) no_mote).tree
 tree_is motes k t e = of (slice_get motes k) e
   where
-    of : (o : Option MoteTold) → option_map (λ (m : MoteTold). m.tree) o ≡ Some t → t ≡ (unwrap_or o no_mote).tree
+    of : (o : Option MoteSetup) → option_map (λ (m : MoteSetup). m.tree) o ≡ Some t → t ≡ (unwrap_or o no_mote).tree
     of None e = cc
     of (Some m) e = cc

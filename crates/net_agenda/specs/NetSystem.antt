@@ -8,15 +8,15 @@ use Rattle.mote_node.specs.Turn.{turn_of}
 use Rattle.mote_node.specs.Turn as node
 use Rattle.radio_packet.specs.declared.copy.RadioCopy.{RadioCopy}
 use Rattle.radio_medium.specs.Medium.{copies, lookahead}
-use Rattle.mote_net.specs.Net.{MoteTold, NetTold, no_program}
+use Rattle.mote_net.specs.Net.{MoteSetup, NetTold, no_program}
 use Rattle.window_laws.specs.System.{System, Turned}
 use Rattle.net_agenda.specs.Arrivals.{arrival_of}
 
 -- stands for a mote past the last one, which never turns
-abbrev pub no_mote : MoteTold
+abbrev pub no_mote : MoteSetup
 no_mote = record { program = no_program.name; tree = no_program.tree; queue = 1 }
 
-abbrev pub mote_at : List MoteTold → (mote : ℕ) → MoteTold
+abbrev pub mote_at : List MoteSetup → (mote : ℕ) → MoteSetup
 mote_at motes mote = unwrap_or (slice_get motes mote) no_mote
 
 -- the program of a mote

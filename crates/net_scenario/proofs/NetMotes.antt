@@ -11,7 +11,7 @@ use Rattle.mote_net.specs.declared.programs.NamedProgram.{NamedProgram}
 use Rattle.mote_net.specs.Programs.{NamedTree, named_tree}
 use Rattle.mote_net.specs.Motes.{is_mote_of}
 use Rattle.mote_net.specs.Limits.{shortest_queue, longest_queue}
-use Rattle.mote_net.specs.Net.{mote_told, program_at}
+use Rattle.mote_net.specs.Net.{setup_of, program_at}
 use Rattle.net_scenario.specs.Net.{queue_of, mote_of_table, unread_fault, program_named}
 
 none_cond : {Y : Type 0} (b : Bool) (e : Y) → cond b (Some e) None ≡ None → b ≡ false
@@ -76,7 +76,7 @@ some_place (p ∷ ps) name k h = some_first p ps name k (bytes_eq p.name name) h
 pub mote_is : (ps : List NamedProgram) (queue ms : Members) (name : List ℕ) (i q : ℕ)
     → name ≡ text_at (codes "program") ms
     → position_from (λ q. bytes_eq q.name name) 0 ps ≡ Some i → q ≡ queue_of queue name
-    → mote_told ps (record { program = i; queue = q }) ≡ mote_of_table queue (map named_tree ps) ms
+    → setup_of ps (record { program = i; queue = q }) ≡ mote_of_table queue (map named_tree ps) ms
 mote_is ps queue ms name i q name-is h queue-is =
     let f = found ps name 0 i h in
     let place : i ≡ f.place = omega (arith, f.is) in

@@ -6,7 +6,7 @@ use Rattle.std.proofs.lemmas.List.{length-map}
 use Rattle.toml.specs.Data.{Members}
 use Rattle.toml.specs.Parse.{parse_document}
 use Rattle.radio_medium.specs.Medium.{Radio, MakesMedium}
-use Rattle.mote_net.specs.declared.net.Mote.{Mote}
+use Rattle.mote_net.specs.declared.net.MoteSetup.{MoteSetup as SetupOfCode}
 use Rattle.mote_net.specs.Limits.{fewest_motes, most_motes}
 use Rattle.net_scenario.specs.Limits.{longest_text}
 use Rattle.net_scenario.specs.Rules.{top_rules}
@@ -26,7 +26,7 @@ use Rattle.net_scenario.specs.Document.{version_of, natural, integer_at, natural
 use Rattle.net_scenario.specs.Document.{document_fault}
 use Rattle.mote_net.specs.Programs.{named_tree}
 use Rattle.net_scenario.specs.Programs.{texts_of, AllRead, ReadsPrograms}
-use Rattle.mote_net.specs.Net.{MoteTold, mote_told}
+use Rattle.mote_net.specs.Net.{MoteSetup, setup_of}
 use Rattle.net_scenario.specs.Net.{mote_of_table, place_told, radio_told}
 use Rattle.net_scenario.specs.Reading.{document_of, HasTrees, IsNetOf, MakesRadio, MakesNet, Answers}
 
@@ -85,14 +85,14 @@ document_is text top short parsed faultless =
     rw (fits, parsed, faultless) refl
 
 -- the net of a document, part by part
-pub made : (top : Members) (e : ℕ) (flag : Bool) (radio : Radio) (ps : List NamedProgram) (ms : List Mote)
+pub made : (top : Members) (e : ℕ) (flag : Bool) (radio : Radio) (ps : List NamedProgram) (ms : List SetupOfCode)
     → AllRead (texts_of (table_at (codes "programs") top)) (map named_tree ps)
     → integer_at (codes "end") top ≡ Some (pos e)
     → flag ≡ boolean_at (codes "collide") (table_at (codes "medium") top)
     → MakesRadio (radio_told top) (Ok radio)
-    → map (mote_told ps) ms ≡ map (mote_of_table (table_at (codes "queue") top) (map named_tree ps))
+    → map (setup_of ps) ms ≡ map (mote_of_table (table_at (codes "queue") top) (map named_tree ps))
     (tables_at (codes "mote") top)
-    → IsNetOf top (record { end = e; collide = flag; radio = radio; motes = map (mote_told ps) ms })
+    → IsNetOf top (record { end = e; collide = flag; radio = radio; motes = map (setup_of ps) ms })
 made top e flag radio ps ms read end-is flag-is radio-is motes-are =
     let same-end : e ≡ natural_at (codes "end") top =
     sym (ap (λ (o : Option ℤ). natural (unwrap_or o (pos 0))) end-is) in
@@ -104,11 +104,11 @@ made top e flag radio ps ms read end-is flag-is radio-is motes-are =
     }
 
 -- as many motes as there are tables of them
-pub mote_count : (top : Members) (ps : List NamedProgram) (ms : List Mote) (queue : Members)
-    → map (mote_told ps) ms ≡ map (mote_of_table queue (map named_tree ps)) (tables_at (codes "mote") top)
+pub mote_count : (top : Members) (ps : List NamedProgram) (ms : List SetupOfCode) (queue : Members)
+    → map (setup_of ps) ms ≡ map (mote_of_table queue (map named_tree ps)) (tables_at (codes "mote") top)
     → length ms ≡ length (tables_at (codes "mote") top)
 mote_count top ps ms queue motes-are =
-    sym (length-map ms (mote_told ps)) ∙ ap (λ (l : List MoteTold). length l) motes-are
+    sym (length-map ms (setup_of ps)) ∙ ap (λ (l : List MoteSetup). length l) motes-are
     ∙ length-map (tables_at (codes "mote") top) (mote_of_table queue (map named_tree ps))
 
 -- there are as few and as many motes as the rules allow

@@ -8,7 +8,7 @@ use Rattle.radio_medium.specs.declared.place.Place.{Place}
 use Rattle.radio_medium.specs.declared.losses.Loss.{Loss}
 use Rattle.net_scenario.specs.declared.error.TableFault.{TableFault}
 use Rattle.net_scenario.specs.declared.error.TableFault.TheVariants.{UnknownProgram}
-use Rattle.mote_net.specs.Net.{MoteTold, NetTold, no_program}
+use Rattle.mote_net.specs.Net.{MoteSetup, NetTold, no_program}
 use Rattle.net_scenario.specs.Limits.{usual_queue}
 use Rattle.net_scenario.specs.Document.{natural, number_at, natural_at, integer_at, boolean_at, text_at, table_at}
 use Rattle.net_scenario.specs.Document.{tables_at}
@@ -22,7 +22,7 @@ program_named trees name = unwrap_or (find (λ t. bytes_eq t.name name) trees) n
 abbrev pub queue_of : (queue : Members) → (program : List ℕ) → ℕ
 queue_of queue program = option_map_or natural (integer_at program queue) usual_queue
 
-abbrev pub mote_of_table : (queue : Members) → List NamedTree → Members → MoteTold
+abbrev pub mote_of_table : (queue : Members) → List NamedTree → Members → MoteSetup
 mote_of_table queue trees ms = record {
   program = text_at (codes "program") ms;
   tree = (program_named trees (text_at (codes "program") ms)).tree;

@@ -8,12 +8,12 @@ ghost use Rattle.net_scenario.specs.Names.{lengths_fault};
 ghost use Rattle.mote_net.specs.Programs.{named_tree};
 ghost use Rattle.net_scenario.specs.Programs.{AreInOrder};
 ghost use Rattle.mote_net.specs.Motes.{is_mote_of};
-ghost use Rattle.mote_net.specs.Net.{mote_told};
+ghost use Rattle.mote_net.specs.Net.{setup_of};
 ghost use Rattle.net_scenario.specs.Net.{mote_of_table, unread_fault};
 
 use crate::queues::queue_of;
 use crate::values::text_at;
-use mote_net::{Mote, NamedProgram};
+use mote_net::{MoteSetup, NamedProgram};
 use std::alloc::{AllocError, Global};
 use toml::{Table, Value};
 
@@ -29,16 +29,16 @@ fn index_of(programs: &[NamedProgram], name: &str) -> Option<usize>
 }
 
 /// The mote of a table, whose program is among those read.
-fn mote_of_table(programs: &[NamedProgram], queue: Option<&Table>, table: &Table) -> Mote
+fn mote_of_table(programs: &[NamedProgram], queue: Option<&Table>, table: &Table) -> MoteSetup
     requires in_order { AreInOrder programs.now }
     requires queue { lengths_fault (members_of queue) ≡ None }
     requires read { unread_fault (map named_tree programs.now) (table_view table.now) ≡ None }
-    ensures value { mote_told programs.now result
+    ensures value { setup_of programs.now result
         ≡ mote_of_table (members_of queue.entry) (map named_tree programs.now) (table_view table.now) }
     ensures fits { IsTrue (is_mote_of (length programs.now) result) }
 {
     let name = text_at(table, "program");
-    Mote {
+    MoteSetup {
         program: index_of(programs, name).unwrap(),
         queue: queue_of(queue, name),
     }
@@ -51,11 +51,11 @@ pub fn motes_of(
     programs: &[NamedProgram],
     queue: Option<&Table>,
     items: &[Value],
-) -> Result<Vec<Mote>, AllocError>
+) -> Result<Vec<MoteSetup>, AllocError>
     requires in_order { AreInOrder programs.now }
     requires queue { lengths_fault (members_of queue) ≡ None }
     requires read { first_some (unread_fault (map named_tree programs.now)) (tables_in (items_view items.now)) ≡ None }
-    ensures value { IfOk result (λ v. map (mote_told programs.now) v.items
+    ensures value { IfOk result (λ v. map (setup_of programs.now) v.items
         ≡ map (mote_of_table (members_of queue.entry) (map named_tree programs.now))
         (tables_in (items_view items.now))) }
     ensures fits { IfOk result (λ v. IsTrue (list_all (is_mote_of (length programs.now)) v.items)) }

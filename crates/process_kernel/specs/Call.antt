@@ -3,8 +3,8 @@ use Rattle.std.specs.Prelude.{ℕ, zero, suc, Bool, true, false, ◌||◌, if◌
 use Rattle.program_tree.specs.declared.event.Proc.{Proc}
 use Rattle.program_tree.specs.declared.event.Event.{Event}
 use Rattle.program_tree.specs.declared.event.SystemEvent.TheVariants.{Exit}
-use Rattle.protothread.specs.declared.state.PtState.{PtState}
-use Rattle.protothread.specs.declared.state.PtState.TheVariants.{Waiting, Yielded, Exited, Ended}
+use Rattle.protothread.specs.declared.answer.PtState.{PtState}
+use Rattle.protothread.specs.declared.answer.PtState.TheVariants.{Waiting, Yielded, Exited, Ended}
 use Rattle.process_kernel.specs.declared.process.ProcessState.TheVariants.{Running, Called}
 use Rattle.process_kernel.specs.State.{State, Went, Ends, Goes, ◌>>=◌}
 use Rattle.process_kernel.specs.Processes.{is_running, with_state}

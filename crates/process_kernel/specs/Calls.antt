@@ -5,7 +5,7 @@ use Rattle.program_tree.specs.declared.event.Event.{Event}
 use Rattle.program_tree.specs.declared.event.SystemEvent.{SystemEvent}
 use Rattle.program_tree.specs.Code.{Code}
 use Rattle.program_tree.specs.Events.{system_number}
-use Rattle.protothread.specs.declared.state.PtState.{PtState}
+use Rattle.protothread.specs.declared.answer.PtState.{PtState}
 use Rattle.protothread.specs.Remainder.{Remainder}
 use Rattle.process_kernel.specs.declared.process.Member.{Member}
 use Rattle.process_kernel.specs.Members.{is_same}

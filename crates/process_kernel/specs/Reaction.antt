@@ -5,8 +5,8 @@ use Rattle.program_tree.specs.declared.event.Proc.TheVariants.{Own, Etimer, Ctim
 use Rattle.program_tree.specs.declared.event.Event.{Event}
 use Rattle.program_tree.specs.declared.event.SystemEvent.TheVariants.{Poll, Exit}
 use Rattle.program_tree.specs.Code.{Code}
-use Rattle.protothread.specs.declared.state.PtState.{PtState}
-use Rattle.protothread.specs.declared.state.PtState.TheVariants.{Yielded, Ended}
+use Rattle.protothread.specs.declared.answer.PtState.{PtState}
+use Rattle.protothread.specs.declared.answer.PtState.TheVariants.{Yielded, Ended}
 use Rattle.protothread.specs.declared.part.Part.TheVariants.{Body, OnPoll, OnExit}
 use Rattle.protothread.specs.Remainder.{Remainder, fresh_of}
 use Rattle.process_kernel.specs.State.{State, Outcome, Went, Goes, ◌>>=◌}

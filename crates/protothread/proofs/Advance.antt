@@ -13,8 +13,8 @@ use Rattle.protothread.specs.declared.thread.Mark.TheVariants.{AtRest, UnderWay,
 use Rattle.protothread.specs.declared.thread.Thread.{Thread}
 use Rattle.protothread.specs.declared.step.Op.{Op}
 use Rattle.protothread.specs.declared.step.Step.TheVariants as step
-use Rattle.protothread.specs.declared.state.PtState.{PtState}
-use Rattle.protothread.specs.declared.state.PtState.TheVariants.{Ended}
+use Rattle.protothread.specs.declared.answer.PtState.{PtState}
+use Rattle.protothread.specs.declared.answer.PtState.TheVariants.{Ended}
 use Rattle.protothread.specs.Looks.{Looks}
 use Rattle.protothread.specs.Remainder.{Place, ended, at, before, spawner_place, settled, fresh_of, whole_of}
 use Rattle.protothread.specs.Step.{Advanced, Reached, goes_on, operates, answers, reached, continued, advanced_of, passed, yield_answer}

@@ -7,8 +7,8 @@ use Rattle.program_tree.specs.declared.event.Target.TheVariants.{One}
 use Rattle.program_tree.specs.EventNames.{sent, cast, continue}
 use Rattle.program_tree.specs.Tree.{Expression, is, yield, yield_until, spawn, restart, exit, pause, Statement, does, branch, while, listed}
 use Rattle.program_tree.specs.Code.{Code}
-use Rattle.protothread.specs.declared.state.PtState.{PtState}
-use Rattle.protothread.specs.declared.state.PtState.TheVariants.{Waiting, Yielded, Exited}
+use Rattle.protothread.specs.declared.answer.PtState.{PtState}
+use Rattle.protothread.specs.declared.answer.PtState.TheVariants.{Waiting, Yielded, Exited}
 use Rattle.protothread.specs.declared.part.Part.{Part}
 use Rattle.protothread.specs.declared.thread.Mark.TheVariants.{AtRest, UnderWay, Pausing, RunAway}
 use Rattle.protothread.specs.declared.deed.Deed.TheVariants.{Yields}

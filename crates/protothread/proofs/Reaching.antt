@@ -17,7 +17,7 @@ use Rattle.protothread.specs.declared.thread.Thread.{Thread}
 use Rattle.protothread.specs.declared.thread.Mark.{Mark}
 use Rattle.protothread.specs.declared.thread.Mark.TheVariants.{AtRest}
 use Rattle.protothread.specs.declared.step.Op.{Op}
-use Rattle.protothread.specs.declared.state.PtState.TheVariants.{Waiting, Yielded, Exited}
+use Rattle.protothread.specs.declared.answer.PtState.TheVariants.{Waiting, Yielded, Exited}
 use Rattle.protothread.specs.Calls.{before_number, below_last, CanSpawn, SpawnsSo}
 use Rattle.protothread.specs.Looks.{Looks}
 use Rattle.protothread.specs.Value.{value, holds}

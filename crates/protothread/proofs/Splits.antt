@@ -6,8 +6,8 @@ use Rattle.program_tree.specs.declared.event.Target.TheVariants.{One}
 use Rattle.program_tree.specs.EventNames.{sent, cast, continue}
 use Rattle.program_tree.specs.Tree.{Expression, is, Action, wait_until, wait_while, yield, yield_until, spawn, restart, exit, pause, acquire, Statement, does, branch, while, listed}
 use Rattle.program_tree.specs.Code.{Code}
-use Rattle.protothread.specs.declared.state.PtState.{PtState}
-use Rattle.protothread.specs.declared.state.PtState.TheVariants.{Waiting, Yielded, Exited, Ended}
+use Rattle.protothread.specs.declared.answer.PtState.{PtState}
+use Rattle.protothread.specs.declared.answer.PtState.TheVariants.{Waiting, Yielded, Exited, Ended}
 use Rattle.protothread.specs.declared.part.Part.{Part}
 use Rattle.protothread.specs.declared.thread.Mark.TheVariants.{UnderWay, Pausing}
 use Rattle.protothread.specs.declared.deed.Deed.{Deed}

@@ -4,7 +4,7 @@ use Rattle.program_tree.specs.declared.event.Event.{Event}
 use Rattle.program_tree.specs.Code.{Code}
 use Rattle.program_tree.specs.Tree.{Statement, does, wait_until, wait_while, yield, yield_until, pause, acquire}
 use Rattle.protothread.specs.declared.step.Step.TheVariants.{Runaway, Done}
-use Rattle.protothread.specs.declared.state.PtState.{PtState}
+use Rattle.protothread.specs.declared.answer.PtState.{PtState}
 use Rattle.protothread.specs.declared.thread.Mark.TheVariants.{AtRest, Pausing}
 use Rattle.protothread.specs.State.{state_number}
 use Rattle.protothread.specs.Looks.{Looks}

@@ -5,7 +5,7 @@ use Rattle.program_tree.specs.declared.instruction.Instruction.{Instruction}
 use Rattle.program_tree.specs.Code.{Code}
 use Rattle.program_tree.specs.Flat.{IsFlat}
 use Rattle.program_tree.specs.Tree.{Statement, does, spawn, listed}
-use Rattle.protothread.specs.declared.state.PtState.{PtState}
+use Rattle.protothread.specs.declared.answer.PtState.{PtState}
 use Rattle.protothread.specs.declared.thread.Thread.{Thread}
 use Rattle.protothread.specs.declared.thread.Mark.TheVariants.{AtRest}
 use Rattle.protothread.specs.declared.thread.Reach.{Reach}

@@ -10,8 +10,8 @@ use Rattle.program_tree.specs.EventNames.{sent, cast, continue}
 use Rattle.program_tree.specs.Tree.{Expression, is, Action, yield, yield_until, spawn, restart, exit, pause, Statement}
 use Rattle.program_tree.specs.Tree.{does, branch, while, Body, Otherwise, listed}
 use Rattle.program_tree.specs.Code.{Code}
-use Rattle.protothread.specs.declared.state.PtState.{PtState}
-use Rattle.protothread.specs.declared.state.PtState.TheVariants.{Waiting}
+use Rattle.protothread.specs.declared.answer.PtState.{PtState}
+use Rattle.protothread.specs.declared.answer.PtState.TheVariants.{Waiting}
 use Rattle.protothread.specs.declared.deed.Deed.{Deed}
 use Rattle.protothread.specs.declared.deed.Deed.TheVariants.{Passes, Assigns, Operates, Waits}
 use Rattle.protothread.specs.declared.step.Op.{Op}

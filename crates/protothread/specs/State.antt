@@ -1,7 +1,7 @@
 -- What a protothread answers, by its number in `pt.h`.
 use Rattle.std.specs.Prelude.{ℕ}
-use Rattle.protothread.specs.declared.state.PtState.{PtState}
-use Rattle.protothread.specs.declared.state.PtState.TheVariants.{Waiting, Yielded, Exited, Ended}
+use Rattle.protothread.specs.declared.answer.PtState.{PtState}
+use Rattle.protothread.specs.declared.answer.PtState.TheVariants.{Waiting, Yielded, Exited, Ended}
 
 abbrev pub state_number : PtState → ℕ
 state_number Waiting = 0

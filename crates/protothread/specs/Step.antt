@@ -12,8 +12,8 @@ pub use Rattle.program_tree.specs.Tree.{other_block}
 use Rattle.program_tree.specs.Code.{Code}
 use Rattle.program_tree.specs.Events.{system_number}
 use Rattle.program_tree.specs.EventNames.{cast_number, sent_number}
-use Rattle.protothread.specs.declared.state.PtState.{PtState}
-use Rattle.protothread.specs.declared.state.PtState.TheVariants.{Waiting, Yielded, Exited, Ended}
+use Rattle.protothread.specs.declared.answer.PtState.{PtState}
+use Rattle.protothread.specs.declared.answer.PtState.TheVariants.{Waiting, Yielded, Exited, Ended}
 use Rattle.protothread.specs.declared.part.Part.{Part}
 use Rattle.protothread.specs.declared.thread.Mark.{Mark}
 use Rattle.protothread.specs.declared.thread.Mark.TheVariants.{AtRest, UnderWay, Pausing, RunAway}

@@ -1,6 +1,7 @@
 //! Protothreads: stackless threads that are advanced from wait to wait.
 #![tactic(auto)]
 
+mod answer;
 mod calls;
 mod deed;
 mod fuel;
@@ -8,12 +9,12 @@ mod laws;
 mod look;
 mod part;
 mod semaphore;
-mod state;
 mod step;
 mod thread;
 mod value;
 mod vars;
 
+pub use answer::PtState;
 pub use fuel::Fuel;
 pub use laws::{
     control_is_given_up_at_waits, counts_are_signals_less_takes, more_units_change_nothing,
@@ -22,7 +23,6 @@ pub use laws::{
 pub use look::Look;
 pub use part::Part;
 pub use semaphore::Semaphore;
-pub use state::PtState;
 pub use step::{Op, Step};
 pub use thread::Thread;
 pub use vars::Vars;

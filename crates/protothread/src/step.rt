@@ -1,5 +1,5 @@
 //! What a thread answers when it is advanced.
-use crate::state::PtState;
+use crate::answer::PtState;
 use program_tree::{Proc, Target};
 
 /// An operation that the caller performs for the thread, with its operands evaluated.

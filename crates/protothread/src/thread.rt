@@ -9,12 +9,12 @@ ghost use Rattle.protothread.specs.Step.{advanced_of, answered_of, PaysFor};
 ghost use Rattle.protothread.specs.Places.{place_by, yielding, body_of_thread, remainder_of};
 ghost use Rattle.protothread.specs.Reach.{DeedCanSpawn, StandsIn, Reaches, Resumes, performed_at, reached_at};
 
+use crate::answer::PtState;
 use crate::calls::{Call, Calls};
 use crate::deed::{Deed, done_by};
 use crate::fuel::Fuel;
 use crate::look::Look;
 use crate::part::{Part, thread_code};
-use crate::state::PtState;
 use crate::step::{Op, Step};
 use crate::value::evaluate;
 use crate::vars::Vars;

@@ -3,7 +3,7 @@ use Rattle.std.proofs.Common.{◌≡◌, ◌+◌, ◌<◌, ◌≤◌, append_ass
 use Rattle.std.specs.List.{flat_map}
 use Rattle.program_tree.specs.Code.{Tree}
 use Rattle.trace_lines.specs.declared.line.Line.{Line}
-use Rattle.mote_net.specs.Net.{MoteTold}
+use Rattle.mote_net.specs.Net.{MoteSetup}
 use Rattle.net_report.specs.Report.{lines_in}
 use Rattle.trace_printer.specs.ReportText.{line_text, mote_text, motes_text}
 use Rattle.trace_printer.specs.Words.{line_of}
@@ -47,7 +47,7 @@ spaced_end f xs i p whole h before =
     sym (append-nil p) ∙ ap (λ l. p ++ l) (sym (flat_map-map (λ w. 32 ∷ w) f (drop i xs) ∙ flat_map-end (λ x. 32 ∷ f x) xs i h)) ∙ before
 
 -- what a mote with this name and this program shows
-mote_shows : (n : ℕ) (m : MoteTold) (name : List ℕ) (tree : Tree) (lines : List Line) → Some m.program ≡ Some name → Some m.tree ≡ Some tree
+mote_shows : (n : ℕ) (m : MoteSetup) (name : List ℕ) (tree : Tree) (lines : List Line) → Some m.program ≡ Some name → Some m.tree ≡ Some tree
     → mote_text n m lines ≡ line_of (codes "mote") (decimal n ∷ name ∷ []) ++ flat_map (line_text tree) lines
 mote_shows n m name tree lines named grown =
     let is_name : m.program ≡ name = cc in
@@ -56,7 +56,7 @@ mote_shows n m name tree lines named grown =
     ∙ ap (λ (t : Tree). line_of (codes "mote") (decimal n ∷ name ∷ []) ++ flat_map (line_text t) lines) is_tree
 
 -- the mote at i, numbered n, comes next of the motes from i on
-pub mote_next : (n : ℕ) (ms : List MoteTold) (ts : List (Vec Line Global)) (i : ℕ) (t : Vec Line Global) (name : List ℕ) (tree : Tree) (lines : List Line) → i < length ms → length ts ≡ length ms
+pub mote_next : (n : ℕ) (ms : List MoteSetup) (ts : List (Vec Line Global)) (i : ℕ) (t : Vec Line Global) (name : List ℕ) (tree : Tree) (lines : List Line) → i < length ms → length ts ≡ length ms
     → option_map (λ m. m.program) (slice_get ms i) ≡ Some name → option_map (λ m. m.tree) (slice_get ms i) ≡ Some tree → lines ≡ (get_or ts i t).items
     → motes_text n (drop i ms) (map lines_in (drop i ts))
     ≡ (line_of (codes "mote") (decimal n ∷ name ∷ []) ++ flat_map (line_text tree) lines) ++ motes_text (n + 1) (drop (i + 1) ms) (map lines_in (drop (i + 1) ts))
@@ -69,7 +69,7 @@ mote_next n (m ∷ ms) (x ∷ ts) (suc i) t name tree lines h same named grown i
     simp add-one (simp add-one at (mote_next n ms ts i t name tree lines (omega arith) (omega arith) named grown is))
 
 -- no mote is left
-pub motes_end : (n : ℕ) (ms : List MoteTold) (ts : List (Vec Line Global)) (i : ℕ) → length ms ≤ i → length ts ≡ length ms → motes_text n (drop i ms) (map lines_in (drop i ts)) ≡ []
+pub motes_end : (n : ℕ) (ms : List MoteSetup) (ts : List (Vec Line Global)) (i : ℕ) → length ms ≤ i → length ts ≡ length ms → motes_text n (drop i ms) (map lines_in (drop i ts)) ≡ []
 motes_end n [] [] zero h same = refl
 motes_end n [] [] (suc i) h same = refl
 motes_end n [] (t ∷ ts) i h same = absurd (omega arith)

@@ -4,7 +4,7 @@ use Rattle.std.specs.Prelude.{ℕ, ◌+◌, List, [], ◌∷◌, ◌++◌, codes
 use Rattle.std.specs.List.{flat_map}
 use Rattle.program_tree.specs.Code.{Tree}
 use Rattle.trace_lines.specs.declared.line.Line.{Line}
-use Rattle.mote_net.specs.Net.{MoteTold, NetTold}
+use Rattle.mote_net.specs.Net.{MoteSetup, NetTold}
 use Rattle.net_report.specs.Report.{Packet, ReportTold}
 use Rattle.trace_printer.specs.Words.{line_of, words_of, fate_word}
 
@@ -13,11 +13,11 @@ abbrev pub line_text : Tree → Line → List ℕ
 line_text program l = line_of (decimal l.at) (words_of program l.what)
 
 -- what the mote with this number shows
-abbrev pub mote_text : (mote : ℕ) → MoteTold → List Line → List ℕ
+abbrev pub mote_text : (mote : ℕ) → MoteSetup → List Line → List ℕ
 mote_text mote m trace = line_of (codes "mote") (decimal mote ∷ m.program ∷ []) ++ flat_map (line_text m.tree) trace
 
 -- what the motes from this number on show
-abbrev pub motes_text : (mote : ℕ) → List MoteTold → List (List Line) → List ℕ
+abbrev pub motes_text : (mote : ℕ) → List MoteSetup → List (List Line) → List ℕ
 motes_text mote (m ∷ ms) (t ∷ ts) = mote_text mote m t ++ motes_text (mote + 1) ms ts
 motes_text mote [] ts = []
 motes_text mote (m ∷ ms) [] = []

@@ -4,7 +4,7 @@ use Rattle.std.specs.List.{AllZip, AllByRecursion}
 use Rattle.program_tree.specs.Code.{Tree}
 use Rattle.mote_node.specs.Public.{node_in}
 use Rattle.radio_packet.specs.declared.copy.RadioCopy.{RadioCopy}
-use Rattle.mote_net.specs.Net.{MoteTold, NetTold}
+use Rattle.mote_net.specs.Net.{MoteSetup, NetTold}
 use Rattle.window_run.specs.declared.out.WindowOut.{WindowOut}
 use Rattle.window_run.specs.declared.share.Resident.{Resident}
 use Rattle.window_run.specs.Window.{Window, opened}
@@ -12,7 +12,7 @@ use Rattle.window_run.specs.Out.{Gives}
 use Rattle.window_run.specs.Turns.{CanGoOn}
 
 -- a resident before its first turn in a window
-abbrev pub window_of : (until : ℕ) → MoteTold → Resident → Option Window
+abbrev pub window_of : (until : ℕ) → MoteSetup → Resident → Option Window
 window_of until m resident = opened m.tree until resident.copies.items (node_in m.tree resident.mote)
 
 -- a mote that had failed, to which these copies come, gives nothing, and none of them came in the window

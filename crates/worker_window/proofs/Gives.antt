@@ -13,7 +13,7 @@ use Rattle.mote_laws.proofs.Stamps.{turns_stamp}
 use Rattle.radio_packet.specs.declared.copy.RadioCopy.{RadioCopy}
 use Rattle.radio_medium.specs.Medium.{copies, lookahead}
 use Rattle.radio_medium.proofs.Copies.{copies_later}
-use Rattle.mote_net.specs.Net.{MoteTold, NetTold}
+use Rattle.mote_net.specs.Net.{MoteSetup, NetTold}
 use Rattle.window_laws.specs.System.{IsLater}
 use Rattle.window_laws.specs.NetStep.{stamped}
 use Rattle.window_laws.specs.Windows.{LoneMote, WakesFrom, own_turn, IsQuiet, Alone}
@@ -74,7 +74,7 @@ told_is (Some x) out last e =
 mote_there : (n : NetTold) (k : ℕ) → k < length n.motes → slice_get n.motes k ≡ Some (mote_at n.motes k)
 mote_there n k h = of (slice_get n.motes k) refl ((slice_get_cases n.motes k).1)
   where
-    of : (o : Option MoteTold) → slice_get n.motes k ≡ o → ((x : MoteTold) × (k < length n.motes) × (slice_get n.motes k ≡ Some x) × (get_or n.motes k x ≡ x)) ⊎ ((length n.motes ≤ k) × (slice_get n.motes k ≡ None))
+    of : (o : Option MoteSetup) → slice_get n.motes k ≡ o → ((x : MoteSetup) × (k < length n.motes) × (slice_get n.motes k ≡ Some x) × (get_or n.motes k x ≡ x)) ⊎ ((length n.motes ≤ k) × (slice_get n.motes k ≡ None))
         → slice_get n.motes k ≡ Some (mote_at n.motes k)
     of None e (inl w) = absurd (none_is_not w.0 (sym e ∙ w.2))
       where

@@ -8,7 +8,7 @@ use Rattle.program_tree.specs.Flat.{rest_at, Leads}
 use Rattle.protothread.specs.declared.thread.Mark.TheVariants.{RunAway}
 use Rattle.protothread.specs.declared.thread.Thread.{Thread}
 use Rattle.protothread.specs.declared.step.Step.TheVariants as step
-use Rattle.protothread.specs.declared.state.PtState.TheVariants.{Ended}
+use Rattle.protothread.specs.declared.answer.PtState.TheVariants.{Ended}
 use Rattle.protothread.specs.Remainder.{fresh_of}
 use Rattle.protothread.specs.Places.{body_of_thread, remainder_of}
 use Rattle.protothread.proofs.Reaching.{stands_at}

@@ -5,7 +5,7 @@ use Rattle.program_tree.specs.Program.{code_of}
 use Rattle.program_tree.specs.Flat.{rest_at}
 use Rattle.protothread.specs.declared.calls.Call.{Call}
 use Rattle.protothread.specs.declared.thread.Mark.TheVariants.{AtRest, UnderWay, Pausing}
-use Rattle.protothread.specs.declared.state.PtState.TheVariants.{Waiting}
+use Rattle.protothread.specs.declared.answer.PtState.TheVariants.{Waiting}
 use Rattle.protothread.specs.Remainder.{at, before}
 use Rattle.protothread.specs.Step.{goes_on, operates, answers}
 use Rattle.protothread.specs.Places.{part_body, nested, callers_of, yielding, body_of_thread}
