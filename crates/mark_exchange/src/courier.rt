@@ -24,6 +24,7 @@ pub struct MarkCourier {
     pub courier: Courier,
     /// By the senders' numbers.
     pub marks: Vec<u64>,
+    /// How it waits for them.
     pub waiting: Waiting,
 }
 
