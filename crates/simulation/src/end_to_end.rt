@@ -8,6 +8,7 @@ use crate::error::SimError;
 use crate::input::read_text;
 use crate::options::Options;
 use net_scenario::read_scenario;
+use report_workers::write_report_by;
 use std::alloc::Global;
 use std::io::{Read, Write};
 use std::random::RandomSource;
@@ -48,7 +49,7 @@ where
 {
     let net = read_scenario(alloc, text)?;
     let report = run_by(rt, alloc, &net, team, gate)?;
-    write_report(alloc, &net, &report, writer)?;
+    write_report_by(rt, alloc, team.workers, &net, &report, writer)?;
     Ok(())
 }
 
@@ -81,8 +82,8 @@ pub fn simulate_serial<R: Read, W: Write>(
 
 /// Reads a scenario to its end, simulates it as the options say, and writes its report: on one thread where they name
 /// no workers, else by so many workers, window by window, each in a thread of its own for each window, or with marks
-/// in one for the whole run. The bytes of the report are the same. Workers wait for one another, so the promise holds
-/// if the run returns.
+/// in one for the whole run; a long report is put by as many threads. The bytes of the report are the same. Workers
+/// wait for one another, so the promise holds if the run returns.
 ///
 /// # Errors
 /// As `simulate_serial`; `Run` with `Workers` where there aren't 1 to 16 of them, which is looked at once the scenario

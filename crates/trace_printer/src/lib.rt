@@ -6,9 +6,13 @@ mod lines;
 mod names;
 mod output;
 mod page;
+mod part;
 mod report;
 mod short;
 mod words;
 
 pub use error::PrintError;
-pub use report::write_report;
+pub use output::WriteFault;
+pub use page::Page;
+pub use part::{count_lines, put_part};
+pub use report::{write_medium, write_report};

@@ -31,7 +31,7 @@ impl Model for Page {
     ghost view = { λ p. take p.len p.bytes.items };
 }
 
-/// Makes so much room after the first `len` bytes, which stay.
+/// Makes so much room after the first `len` bytes, which stay. What grows is doubled, so a page seldom grows.
 #[inline(always)]
 pub fn make_room(bytes: &mut Vec<u8>, len: usize, room: usize) -> Result<(), AllocError>
     requires { len ≤ length bytes.old.items }
@@ -41,7 +41,7 @@ pub fn make_room(bytes: &mut Vec<u8>, len: usize, room: usize) -> Result<(), All
 {
     let end = len.checked_add(room).ok_or(AllocError)?;
     if end > bytes.len() {
-        bytes.resize(end, 0)?;
+        bytes.resize(end.saturating_add(end), 0)?;
     }
     Ok(())
 }
@@ -59,12 +59,29 @@ impl Page {
         self.len >= FULL
     }
 
+    /// A page without any room yet.
+    pub fn empty(alloc: Global) -> Page
+        ensures { result ≡ [] }
+    {
+        Page {
+            bytes: Vec::new(alloc),
+            len: 0,
+        }
+    }
+
+    /// Writes the page. After a fault a prefix of it has been written, which lacks at least a byte.
+    pub fn write<W: Write>(&self, writer: &mut W) -> Result<(), WriteFault>
+        ensures { Writes (W.contents writer.old) (W.contents writer.new) result self.now }
+    {
+        write_bytes(writer, &self.bytes[..self.len])
+    }
+
     /// Writes the page, and empties it. After a fault a prefix of it has been written, which lacks at least a byte.
     pub fn write_to<W: Write>(&mut self, writer: &mut W) -> Result<(), WriteFault>
         ensures written { Writes (W.contents writer.old) (W.contents writer.new) result self.old }
         ensures emptied { OnOk result (self.new ≡ []) }
     {
-        write_bytes(writer, &self.bytes[..self.len])?;
+        self.write(writer)?;
         self.len = 0;
         Ok(())
     }

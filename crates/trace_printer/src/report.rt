@@ -135,6 +135,21 @@ fn write_end<W: Write>(writer: &mut W, page: &mut Page, left: u64) -> Result<(),
     Ok(page.write_to(writer)?)
 }
 
+/// Writes what waits on the page, and what a report tells after its traces: the log of the medium, and the count of
+/// copies still on their way.
+pub fn write_medium<W: Write>(
+    writer: &mut W,
+    page: &mut Page,
+    report: &Report,
+) -> Result<(), PrintError>
+    ensures { let told = report_of report.now
+        in let text = page.old ++ (medium_text told.log ++ left_text told.left)
+        in Writes (W.contents writer.old) (W.contents writer.new) result text }
+{
+    print_medium(writer, page, &report.medium)?;
+    write_end(writer, page, report.left)
+}
+
 /// Writes the report of a net as text: the trace of each mote, the log of the medium, and the count of copies still on
 /// their way. The text is gathered on a page of 64 KiB, which is made first.
 ///
@@ -154,6 +169,5 @@ pub fn write_report<W: Write>(
 {
     let mut page = Page::new(alloc)?;
     print_motes(writer, &mut page, net, &report.traces)?;
-    print_medium(writer, &mut page, &report.medium)?;
-    write_end(writer, &mut page, report.left)
+    write_medium(writer, &mut page, report)
 }

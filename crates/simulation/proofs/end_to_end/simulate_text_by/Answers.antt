@@ -16,20 +16,23 @@ returns-in_err-report-clause-answer g c =
     let p = err_from_is_err_and c.from_residual-in_err-report.result c.from_residual-in_err-report.ensures.1 in
     rw (p.1, p.2) (scenario_of c.args.text.now (net_of c.in_ok-net.net) c.requires c.in_ok-net.ensures, c.in_err-report.ensures.ran)
 
-pub returns-in_err-write_report-clause-answer : goal.returns-in_err-write_report-clause-answer
-returns-in_err-write_report-clause-answer g c =
-    let p = err_from_is_err_and c.from_residual-in_err-write_report.result c.from_residual-in_err-write_report.ensures.1 in
+pub returns-in_err-write_report_by-clause-answer : goal.returns-in_err-write_report_by-clause-answer
+returns-in_err-write_report_by-clause-answer g c =
+    let p = err_from_is_err_and c.from_residual-in_err-write_report_by.result c.from_residual-in_err-write_report_by.ensures.1 in
     let ran = c.in_ok-report.ensures.ran in
     rw (p.1, p.2) (
       ran.0,
-      reported (AppendsFront (g.W.Write.contents c.args.writer.now) (g.W.Write.contents c.write_report.new.writer)) c.args.text.now (net_of c.in_ok-net.net) (report_of c.in_ok-report.report)
-          c.requires c.in_ok-net.ensures ran.1 c.in_err-write_report.ensures,
+      reported (AppendsFront (g.W.Write.contents c.args.writer.now) (g.W.Write.contents c.write_report_by.new.writer)) c.args.text.now (net_of c.in_ok-net.net) (report_of c.in_ok-report.report)
+          c.requires c.in_ok-net.ensures ran.1 c.in_err-write_report_by.ensures,
     )
 
 pub returns-clause-answer : goal.returns-clause-answer
 returns-clause-answer g c =
     let ran = c.in_ok-report.ensures.ran in (
       ran.0,
-      reported (Appends (g.W.Write.contents c.args.writer.now) (g.W.Write.contents c.write_report.new.writer)) c.args.text.now (net_of c.in_ok-net.net) (report_of c.in_ok-report.report)
-          c.requires c.in_ok-net.ensures ran.1 c.in_ok-write_report.ensures,
+      reported (Appends (g.W.Write.contents c.args.writer.now) (g.W.Write.contents c.write_report_by.new.writer)) c.args.text.now (net_of c.in_ok-net.net) (report_of c.in_ok-report.report)
+          c.requires c.in_ok-net.ensures ran.1 c.in_ok-write_report_by.ensures,
     )
+
+pub write_report_by-requires-clause-some : goal.write_report_by-requires-clause-some
+write_report_by-requires-clause-some g c κs within = c.in_ok-report.ensures.ran.0.0

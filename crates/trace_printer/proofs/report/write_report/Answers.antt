@@ -2,8 +2,7 @@ use Rattle.std.proofs.Common.{◌≡◌, ◌++◌, ap, sym, List, map, Vec, Glob
 use Rattle.std.proofs.lemmas.Result.{err_from_is_err_and}
 use Rattle.trace_lines.specs.declared.line.Line.{Line}
 use Rattle.mote_net.specs.Net.{NetTold, net_of}
-use Rattle.net_report.specs.Report.{lines_in, told_line, report_of}
-use Rattle.net_report.specs.declared.LogLine.{LogLine}
+use Rattle.net_report.specs.Report.{lines_in, report_of}
 use Rattle.net_report.specs.declared.Report.{Report}
 use Rattle.trace_printer.specs.ReportText.{motes_text, medium_text, left_text, report_text}
 use Rattle.trace_printer.proofs.Written.{written_none, written_start, written_front, written_then, printed_next, stopped_before}
@@ -13,9 +12,6 @@ use Rattle.trace_printer.proofs.report.write_report.Goals as goal
 motes_first : (n : NetTold) (r : Report) (ts : List (Vec Line Global)) → ts ≡ r.traces.items
     → report_text n (report_of r) ≡ motes_text 0 n.motes (map lines_in ts) ++ (medium_text (report_of r).log ++ left_text r.left)
 motes_first n r ts is = ap (λ (l : List (Vec Line Global)). motes_text 0 n.motes (map lines_in l) ++ (medium_text (report_of r).log ++ left_text r.left)) (sym is)
-
-medium_next : (r : Report) (log : List LogLine) → log ≡ r.medium.items → medium_text (report_of r).log ++ left_text r.left ≡ medium_text (map told_line log) ++ left_text r.left
-medium_next r log is = ap (λ (l : List LogLine). medium_text (map told_line l) ++ left_text r.left) (sym is)
 
 pub returns-in_err-page : goal.returns-in_err-page
 returns-in_err-page g c =
@@ -28,19 +24,9 @@ returns-in_err-print_motes g c =
     rw p.1 (stopped_before _ _ _ _ c.in_ok-page.page (motes_text 0 (net_of c.args.net.now).motes (map lines_in c.deref.result.now)) 109 _ _
     (written_start _ c.in_ok-page.page _ c.in_ok-page.ensures) (motes_first (net_of c.args.net.now) c.args.report.now c.deref.result.now c.deref.ensures.value) c.in_err-print_motes.ensures)
 
-pub returns-in_err-print_medium : goal.returns-in_err-print_medium
-returns-in_err-print_medium g c =
-    let p = err_from_is_err_and c.from_residual-in_err-print_medium.result c.from_residual-in_err-print_medium.ensures.1 in
-    rw p.1 (stopped_before _ _ _ _ c.print_motes.new.page (medium_text (map told_line c.deref-2.result.now)) 108 _ _
-    (printed_next _ _ _ _ c.in_ok-page.page _ _ _ _ (written_start _ c.in_ok-page.page _ c.in_ok-page.ensures)
-    (motes_first (net_of c.args.net.now) c.args.report.now c.deref.result.now c.deref.ensures.value) c.in_ok-print_motes.ensures)
-    (medium_next c.args.report.now c.deref-2.result.now c.deref-2.ensures.value) c.in_err-print_medium.ensures)
-
 pub returns : goal.returns
 returns g c =
-    written_then _ _ _ c.write_end.result _ _
-    (printed_next _ _ _ _ c.print_motes.new.page _ _ _ _
+    written_then _ _ _ c.write_medium.result _ _
     (printed_next _ _ _ _ c.in_ok-page.page _ _ _ _ (written_start _ c.in_ok-page.page _ c.in_ok-page.ensures)
     (motes_first (net_of c.args.net.now) c.args.report.now c.deref.result.now c.deref.ensures.value) c.in_ok-print_motes.ensures)
-    (medium_next c.args.report.now c.deref-2.result.now c.deref-2.ensures.value) c.in_ok-print_medium.ensures)
-    c.write_end.ensures
+    c.write_medium.ensures

@@ -1,0 +1,70 @@
+//! A part of the traces' text, which one worker puts on a page.
+ghost use Rattle.std.specs.Prelude.{◌≡◌, []};
+
+use fork_join::{Refused, Work};
+use mote_net::Net;
+use std::alloc::Global;
+use trace_lines::Line;
+use trace_printer::{Page, put_part};
+
+/// A part of the traces' text: so many of their lines, without the first `skip`, and the page on which they are put.
+#[derive(Drop)]
+pub struct Part {
+    pub skip: usize,
+    pub count: usize,
+    pub page: Page,
+}
+
+impl Part {
+    /// The part, on whose page nothing is put yet.
+    pub fn new(alloc: Global, skip: usize, count: usize) -> Part
+        ensures skip { result.skip ≡ skip }
+        ensures count { result.count ≡ count }
+        ensures page { result.page ≡ [] }
+    {
+        Part {
+            skip,
+            count,
+            page: Page::empty(alloc),
+        }
+    }
+}
+
+/// A net and the trace of each of its motes.
+pub struct Traces<'a> {
+    pub net: &'a Net,
+    pub traces: &'a [Vec<Line>],
+}
+
+impl Drop for Traces<'_> {
+    fn drop(self) {
+        let Traces { net: _, traces: _ } = self;
+    }
+}
+
+impl Work<Part> for Traces<'_> {
+    ghost use Rattle.std.specs.Prelude.{◌≡◌, []};
+    ghost use Rattle.report_workers.specs.Parts.{HasTraces, IsPut};
+
+    ghost ready = { λ traces part. HasTraces traces × (part.page ≡ []) };
+
+    ghost makes = { λ traces old new. IsPut traces old new };
+
+    fn work(&self, part: Part) -> Result<Part, Refused> {
+        let Part {
+            skip,
+            count,
+            mut page,
+        } = part;
+        put_part(&mut page, self.net, self.traces, skip, count)?;
+        Ok(Part { skip, count, page })
+    }
+
+    // The gate is asked before the threads of the run alone.
+    fn may_start(&self, _part: &Part) -> bool {
+        true
+    }
+
+    // No worker waits for another.
+    fn give_up(&self) {}
+}

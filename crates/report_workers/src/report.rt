@@ -1,0 +1,119 @@
+//! A report, round by round.
+ghost use Rattle.std.specs.Prelude.{◌≡◌, ◌≤◌, [], length, map, vec_len, IfSome};
+ghost use Rattle.std.specs.List.{concat};
+ghost use Rattle.mote_net.specs.Net.{NetTold, net_of};
+ghost use Rattle.net_report.specs.Report.{lines_in, report_of};
+ghost use Rattle.trace_printer.specs.Output.{Writes};
+ghost use Rattle.trace_printer.specs.Page.{Prints};
+ghost use Rattle.trace_printer.specs.ReportText.{report_text};
+ghost use Rattle.trace_printer.specs.TraceLines.{lines_of};
+ghost use Rattle.report_workers.specs.Parts.{HasTraces, lines_told};
+
+use crate::part::Traces;
+use crate::round::write_round;
+use mote_net::Net;
+use net_report::Report;
+use std::alloc::Global;
+use std::io::Write;
+use std::sync::Wait;
+use std::thread::Threads;
+use trace_lines::Line;
+use trace_printer::{Page, PrintError, count_lines, write_medium, write_report};
+
+/// How many lines all workers put in one round. Their text takes some mebibytes.
+const ROUND: usize = 65_536;
+
+/// From how many lines on workers put them.
+const MANY: usize = 16_384;
+
+/// Writes the lines of all traces, which are so many.
+fn write_traces<R: Threads + Wait + Sync, W: Write>(
+    rt: &R,
+    alloc: Global,
+    workers: u16,
+    traces: &Traces<'_>,
+    lines: usize,
+    writer: &mut W,
+) -> Result<(), PrintError>
+    requires some { 1 ≤ workers }
+    requires traces { HasTraces traces.now }
+    requires all { length (lines_told traces.now) ≡ lines }
+    ensures { let text = concat (lines_told traces.now)
+        in Prints (W.contents writer.old) (W.contents writer.new) [] [] result text }
+{
+    let mut skip = 0;
+    'rounds: while skip < lines {
+        let count = (lines - skip).min(ROUND);
+        write_round(rt, alloc, workers, traces, skip, count, writer)?;
+        skip += count;
+    }
+    Ok(())
+}
+
+/// How many lines the traces have, where they are many enough to be put by so many workers.
+fn many_lines(workers: u16, traces: &[Vec<Line>]) -> Option<usize>
+    ensures { (net : NetTold) → length traces.now ≡ length net.motes
+        → IfSome result (λ count. length (lines_of net (map lines_in traces.now)) ≡ count) }
+{
+    if workers < 2 {
+        return None;
+    }
+    match count_lines(traces) {
+        Some(lines) if lines >= MANY => Some(lines),
+        _ => None,
+    }
+}
+
+/// Writes a report whose traces have so many lines. The page for what comes after them is made first.
+fn write_by<R: Threads + Wait + Sync, W: Write>(
+    rt: &R,
+    alloc: Global,
+    workers: u16,
+    net: &Net,
+    report: &Report,
+    lines: usize,
+    writer: &mut W,
+) -> Result<(), PrintError>
+    requires some { 1 ≤ workers }
+    requires traces { vec_len report.now.traces ≡ length (net_of net.now).motes }
+    requires all { length (lines_of (net_of net.now) (report_of report.now).traces) ≡ lines }
+    ensures { let text = report_text (net_of net.now) (report_of report.now)
+        in Writes (W.contents writer.old) (W.contents writer.new) result text }
+{
+    let mut page = Page::new(alloc)?;
+    let traces = Traces {
+        net,
+        traces: &report.traces,
+    };
+    write_traces(rt, alloc, workers, &traces, lines, writer)?;
+    write_medium(writer, &mut page, report)
+}
+
+/// Writes the report of a net as text, the same as `write_report`. Where its traces have many lines, so many workers
+/// put them on pages, each in a thread of its own, and this thread writes these; what follows the traces it puts
+/// itself.
+///
+/// Workers wait for one another, so the promise holds if the call returns.
+///
+/// # Errors
+/// `Write` where the writer failed or took no byte, `Memory` where there was no room for a page. A prefix of the text
+/// is then written, which lacks at least its last byte.
+pub fn write_report_by<R: Threads + Wait + Sync, W: Write>(
+    rt: &R,
+    alloc: Global,
+    workers: u16,
+    net: &Net,
+    report: &Report,
+    writer: &mut W,
+) -> Result<(), PrintError>
+    requires some { 1 ≤ workers }
+    // There is one trace for each mote.
+    requires traces { vec_len report.now.traces ≡ length (net_of net.now).motes }
+    ensures { let text = report_text (net_of net.now) (report_of report.now)
+        in Writes (W.contents writer.old) (W.contents writer.new) result text }
+{
+    match many_lines(workers, &report.traces) {
+        Some(lines) => write_by(rt, alloc, workers, net, report, lines, writer),
+        None => write_report(alloc, net, report, writer),
+    }
+}

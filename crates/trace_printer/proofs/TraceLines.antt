@@ -1,0 +1,117 @@
+-- The lines of all traces, and the text of some of them.
+use Rattle.std.proofs.Common.{◌≡◌, ℕ, zero, suc, ◌+◌, ◌-◌, ◌<◌, ◌≤◌, List, [], map, ◌∷◌, ◌++◌, length, get_or, take, drop, refl, ap, sym, ◌∙◌, add-one, arith, append_assoc, Vec, Global, Some, slice_get, option_map, codes, decimal}
+use Rattle.std.specs.List.{concat, flat_map, sum_by}
+use Rattle.std.proofs.lemmas.List.{drop-map, length-append, length-map, take-map}
+use Rattle.std.proofs.lemmas.List.Folds.{concat-append}
+use Rattle.std.proofs.lemmas.List.Sums.{sum_by-cons}
+use Rattle.std.proofs.Math.ListN.{drop_of_length-le}
+use Rattle.std.proofs.Math.Seq.{take-nil, drop-nil, take-add}
+use Rattle.program_tree.specs.Code.{Tree}
+use Rattle.trace_lines.specs.declared.line.Line.{Line}
+use Rattle.mote_net.specs.Net.{MoteTold}
+use Rattle.net_report.specs.Report.{lines_in}
+use Rattle.trace_printer.specs.ReportText.{line_text, motes_text}
+use Rattle.trace_printer.specs.TraceLines.{mote_lines, lines_from, part_text}
+use Rattle.trace_printer.specs.Words.{line_of}
+
+-- no line
+pub part_nothing : (skip count : ℕ) → part_text [] skip count ≡ []
+part_nothing skip count = rw (drop-nil {A = List ℕ} skip, take-nil {A = List ℕ} count) refl
+
+-- mapped lines
+mapped_lines : (f : Line → List ℕ) (lines : List Line) → concat (map f lines) ≡ flat_map f lines
+mapped_lines f [] = refl
+mapped_lines f (l ∷ ls) = ap (λ t. f l ++ t) (mapped_lines f ls)
+
+mapped_part : (f : Line → List ℕ) (trace : List Line) (skip count : ℕ) → flat_map f (take count (drop skip trace)) ≡ part_text (map f trace) skip count
+mapped_part f trace skip count = rw (drop-map f skip trace, take-map f count (drop skip trace), mapped_lines f (take count (drop skip trace))) refl
+
+pub drop_drop : (a b : ℕ) (xs : List (List ℕ)) → drop b (drop a xs) ≡ drop (a + b) xs
+drop_drop zero b xs = let same : 0 + b ≡ b = omega arith in rw same refl
+drop_drop (suc a) b [] = rw (drop-nil {A = List ℕ} b, drop-nil {A = List ℕ} (suc a + b)) refl
+drop_drop (suc a) b (x ∷ xs) = let more : suc a + b ≡ suc (a + b) = omega arith in rw more (drop_drop a b xs)
+
+-- what a mote with this name and this program shows
+mote_shows : (n : ℕ) (m : MoteTold) (name : List ℕ) (tree : Tree) (lines : List Line) → Some m.program ≡ Some name → Some m.tree ≡ Some tree
+    → mote_lines n m lines ≡ line_of (codes "mote") (decimal n ∷ name ∷ []) ∷ map (line_text tree) lines
+mote_shows n m name tree lines named grown =
+    let is_name : m.program ≡ name = cc in
+    let is_tree : m.tree ≡ tree = cc in
+    ap (λ word. line_of (codes "mote") (decimal n ∷ word ∷ []) ∷ map (line_text m.tree) lines) is_name
+    ∙ ap (λ (t : Tree). line_of (codes "mote") (decimal n ∷ name ∷ []) ∷ map (line_text t) lines) is_tree
+
+-- some lines of two lists: those of the first, and then those of the second
+pub part_both : (xs ys : List (List ℕ)) (skip count : ℕ) → part_text (xs ++ ys) skip count ≡ part_text xs skip count ++ part_text ys (skip - length xs) (count - (length xs - skip))
+part_both [] ys skip count =
+    let same : skip - 0 ≡ skip = omega arith in
+    let all : count - (0 - skip) ≡ count = omega arith in
+    rw (part_nothing skip count, same, all) refl
+part_both (x ∷ xs) ys zero zero =
+    let none : 0 - (length (x ∷ xs) - 0) ≡ 0 = omega arith in
+    rw none refl
+part_both (x ∷ xs) ys zero (suc c) =
+    let skips : 0 - length (x ∷ xs) ≡ 0 - length xs = omega arith in
+    let counts : suc c - (length (x ∷ xs) - 0) ≡ c - (length xs - 0) = omega arith in
+    rw (skips, counts, append_assoc) (ap (λ l. x ++ l) (part_both xs ys 0 c))
+part_both (x ∷ xs) ys (suc s) c =
+    let skips : suc s - length (x ∷ xs) ≡ s - length xs = omega arith in
+    let counts : length (x ∷ xs) - suc s ≡ length xs - s = omega arith in
+    rw (skips, counts) (part_both xs ys s c)
+
+-- some lines, and then some of those after them
+pub part_sum : (lines : List (List ℕ)) (skip a b : ℕ) → part_text lines skip (a + b) ≡ part_text lines skip a ++ part_text lines (skip + a) b
+part_sum lines skip a b = rw (take-add a b (drop skip lines), concat-append (take a (drop skip lines)) (take b (drop a (drop skip lines))), drop_drop skip a lines) refl
+
+-- the lines after the first of a mote
+pub part_later : (f : Line → List ℕ) (head : List ℕ) (trace lines : List Line) (skip count : ℕ) → 0 < skip → lines ≡ take count (drop (skip - 1) trace) → flat_map f lines ≡ part_text (head ∷ map f trace) skip count
+part_later f head trace lines zero count some is = absurd (omega arith)
+part_later f head trace lines (suc s) count some is =
+    let before : suc s - 1 ≡ s = omega arith in
+    ap (flat_map f) (is ∙ ap (λ n. take count (drop n trace)) before) ∙ mapped_part f trace s count
+
+-- the first line of a mote, and some of those after it
+pub part_first : (f : Line → List ℕ) (head : List ℕ) (trace lines : List Line) (count : ℕ) → 0 < count → lines ≡ take (count - 1) (drop 0 trace) → head ++ flat_map f lines ≡ part_text (head ∷ map f trace) 0 count
+part_first f head trace lines zero some is = absurd (omega arith)
+part_first f head trace lines (suc c) some is =
+    let after : suc c - 1 ≡ c = omega arith in
+    ap (λ l. head ++ l) (ap (flat_map f) (is ∙ ap (λ n. take n trace) after) ∙ mapped_part f trace 0 c)
+
+-- the mote at i, numbered n, comes next of the motes from i on
+pub lines_next : (n : ℕ) (ms : List MoteTold) (ts : List (Vec Line Global)) (i : ℕ) (t : Vec Line Global) (name : List ℕ) (tree : Tree) (lines : List Line) → i < length ms → length ts ≡ length ms
+    → option_map (λ m. m.program) (slice_get ms i) ≡ Some name → option_map (λ m. m.tree) (slice_get ms i) ≡ Some tree → lines ≡ (get_or ts i t).items
+    → lines_from n (drop i ms) (map lines_in (drop i ts))
+    ≡ (line_of (codes "mote") (decimal n ∷ name ∷ []) ∷ map (line_text tree) lines) ++ lines_from (n + 1) (drop (i + 1) ms) (map lines_in (drop (i + 1) ts))
+lines_next n [] ts i t name tree lines h same named grown is = absurd (omega arith)
+lines_next n (m ∷ ms) [] i t name tree lines h same named grown is = absurd (omega arith)
+lines_next n (m ∷ ms) (x ∷ ts) zero t name tree lines h same named grown is =
+    ap (λ l. l ++ lines_from (n + 1) ms (map lines_in ts))
+    (ap (mote_lines n m) (sym is) ∙ mote_shows n m name tree lines named grown)
+lines_next n (m ∷ ms) (x ∷ ts) (suc i) t name tree lines h same named grown is =
+    simp add-one (simp add-one at (lines_next n ms ts i t name tree lines (omega arith) (omega arith) named grown is))
+
+-- no mote is left
+pub lines_end : (n : ℕ) (ms : List MoteTold) (ts : List (Vec Line Global)) (i : ℕ) → length ms ≤ i → lines_from n (drop i ms) (map lines_in (drop i ts)) ≡ []
+lines_end n ms ts i h = rw (drop_of_length-le ms h) refl
+
+-- how many lines the motes show
+pub lines_counted : (n : ℕ) (ms : List MoteTold) (ts : List (Vec Line Global)) → length ts ≡ length ms → length (lines_from n ms (map lines_in ts)) ≡ sum_by (λ t. length t.items + 1) ts
+lines_counted n [] [] same = refl
+lines_counted n [] (t ∷ ts) same = absurd (omega arith)
+lines_counted n (m ∷ ms) [] same = absurd (omega arith)
+lines_counted n (m ∷ ms) (t ∷ ts) same =
+    let rest = lines_counted (n + 1) ms ts (omega arith) in
+    omega (arith, rest, length-append (mote_lines n m t.items) (lines_from (n + 1) ms (map lines_in ts)), length-map t.items (line_text m.tree), sum_by-cons (λ (v : Vec Line Global). length v.items + 1) t ts)
+
+-- the text of all lines is that of the motes
+pub lines_text : (n : ℕ) (ms : List MoteTold) (ts : List (List Line)) → concat (lines_from n ms ts) ≡ motes_text n ms ts
+lines_text n [] ts = refl
+lines_text n (m ∷ ms) [] = refl
+lines_text n (m ∷ ms) (t ∷ ts) =
+    rw (concat-append (mote_lines n m t) (lines_from (n + 1) ms ts), mapped_lines (line_text m.tree) t, lines_text (n + 1) ms ts) refl
+
+-- a part of the next lines is put, and a part of the rest comes
+pub part_next : (page put : List ℕ) (all lines rest : List (List ℕ)) (whole : List ℕ) (skip count skip_on count_on : ℕ) → all ≡ lines ++ rest → put ≡ page ++ part_text lines skip count
+    → skip_on ≡ skip - length lines → count_on ≡ count - (length lines - skip) → page ++ part_text all skip count ≡ whole → put ++ part_text rest skip_on count_on ≡ whole
+part_next page put all lines rest whole skip count skip_on count_on is more skips counts before =
+    rw (more, skips, counts) (append_assoc page (part_text lines skip count) (part_text rest (skip - length lines) (count - (length lines - skip)))
+    ∙ ap (λ (l : List ℕ). page ++ l) (sym (part_both lines rest skip count)) ∙ ap (λ (l : List (List ℕ)). page ++ part_text l skip count) (sym is) ∙ before)

@@ -1,0 +1,25 @@
+-- The lines of all traces, numbered through, and the text of some of them.
+use Rattle.std.specs.Prelude.{ℕ, ◌+◌, List, [], ◌∷◌, ◌++◌, codes, decimal, map, take, drop}
+use Rattle.std.specs.List.{concat}
+use Rattle.trace_lines.specs.declared.line.Line.{Line}
+use Rattle.mote_net.specs.Net.{MoteTold, NetTold}
+use Rattle.trace_printer.specs.ReportText.{line_text}
+use Rattle.trace_printer.specs.Words.{line_of}
+
+-- the line that begins what a mote shows, and those of its trace
+abbrev pub mote_lines : (mote : ℕ) → MoteTold → List Line → List (List ℕ)
+mote_lines mote m trace = line_of (codes "mote") (decimal mote ∷ m.program ∷ []) ∷ map (line_text m.tree) trace
+
+-- the lines that the motes from this number on show
+abbrev pub lines_from : (mote : ℕ) → List MoteTold → List (List Line) → List (List ℕ)
+lines_from mote (m ∷ ms) (t ∷ ts) = mote_lines mote m t ++ lines_from (mote + 1) ms ts
+lines_from mote [] ts = []
+lines_from mote (m ∷ ms) [] = []
+
+-- the lines that the motes of a net show
+abbrev pub lines_of : NetTold → List (List Line) → List (List ℕ)
+lines_of net traces = lines_from 0 net.motes traces
+
+-- the text of so many lines, without the first `skip`
+abbrev pub part_text : (lines : List (List ℕ)) → (skip count : ℕ) → List ℕ
+part_text lines skip count = concat (take count (drop skip lines))
