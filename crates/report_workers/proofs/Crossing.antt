@@ -2,7 +2,7 @@
 use denote.Param.Send.{IsSync, sendable}
 use denote.Param.SendFields.{declared_sync}
 use denote.Ref.{NamedLft}
-use Rattle.joined_workers.proofs.NetCrossing.{net_sync}
+use Rattle.all_workers.proofs.NetCrossing.{net_sync}
 use Rattle.std.proofs.Crossing.{Vec-sync}
 use Rattle.trace_lines.proofs.line.Line.TheSendSync as line
 use Rattle.trace_lines.specs.contracts.line.Line as Line
