@@ -2,15 +2,16 @@
 
 Each scenario is run on one thread, and then by 1, 2, 3, 7 and 16 workers with both cuts, joined after each window and
 with marks; status, report and fault line have to be the same. Of a folder all files NAME.toml are taken, those of its
-folders too, but for the files NAME.expect.toml of tools/expect; without a name, the examples. Where a file
-NAME.expected stands beside NAME.toml, the run on one thread has to answer what stands in it: a report, or the one line
-of a fault. Prints a line for each file that differs and a count at the end, and ends with status 1 where one does.
+folders too, but for the files NAME.expect.toml of tools/expect; without a name, the examples, and a net of beacons
+with so many lines that workers put them in several rounds. Where a file NAME.expected stands beside NAME.toml, the run
+on one thread has to answer what stands in it: a report, or the one line of a fault. Prints a line for each file that differs and a count at the end, and ends with status 1 where one does.
 """
 from __future__ import annotations
 
 import argparse
 import itertools
 import subprocess
+import tempfile
 from collections.abc import Iterable, Sequence
 from pathlib import Path
 from typing import Iterator
@@ -22,6 +23,8 @@ WORKERS = ['1', '2', '3', '7', '16']
 CUTS = ['block', 'stripe']
 SYNCS = ['joins', 'marks']
 SECONDS = 300
+# A scenario whose report has some 150,000 lines.
+LONG: list[str | Path] = [TOP / 'bench/beacons', '10', '1000', '10']
 
 # The status, the report and the fault line, or None where there is no answer in time.
 Answer = tuple[int, bytes, bytes] | None
@@ -90,14 +93,26 @@ def scenarios(names: Iterable[str | Path]) -> Iterator[Path]:
             yield path
 
 
+def all_of_the_gate(room: Path) -> list[Path]:
+    """The examples, and the scenario with the long report, which is made in this folder."""
+    long = room / 'long_report.toml'
+    with open(long, 'wb') as text:
+        subprocess.run(LONG, stdout=text, check=True)
+    return [*scenarios([TOP / 'examples']), long]
+
+
 @command('compare_workers')
 def main() -> int:
     words = argparse.ArgumentParser(description=__doc__, formatter_class=argparse.RawDescriptionHelpFormatter)
     take_program(words)
-    words.add_argument('names', nargs='*', metavar='FILE or FOLDER', help='scenarios; without them, the examples')
+    words.add_argument('names', nargs='*', metavar='FILE or FOLDER', help='scenarios; without them, the examples and a long one')
     asked = words.parse_args()
     program = program_of(asked.program)
-    paths = list(scenarios(asked.names or [TOP / 'examples']))
+    with tempfile.TemporaryDirectory() as room:
+        return compare(program, list(scenarios(asked.names)) if asked.names else all_of_the_gate(Path(room)))
+
+
+def compare(program: str, paths: Sequence[Path]) -> int:
     for path in paths:
         if not path.is_file():
             raise Fault('there is no file %s' % path)
