@@ -8,7 +8,7 @@ use Rattle.std.proofs.Math.ListN.{drop_of_length-le}
 use Rattle.std.proofs.Math.Seq.{take-nil, drop-nil, take-add}
 use Rattle.program_tree.specs.Code.{Tree}
 use Rattle.trace_lines.specs.declared.line.Line.{Line}
-use Rattle.mote_net.specs.Net.{MoteTold}
+use Rattle.mote_net.specs.Net.{MoteSetup}
 use Rattle.net_report.specs.Report.{lines_in}
 use Rattle.trace_printer.specs.ReportText.{line_text, motes_text}
 use Rattle.trace_printer.specs.TraceLines.{mote_lines, lines_from, part_text}
@@ -32,7 +32,7 @@ drop_drop (suc a) b [] = rw (drop-nil {A = List ℕ} b, drop-nil {A = List ℕ} 
 drop_drop (suc a) b (x ∷ xs) = let more : suc a + b ≡ suc (a + b) = omega arith in rw more (drop_drop a b xs)
 
 -- what a mote with this name and this program shows
-mote_shows : (n : ℕ) (m : MoteTold) (name : List ℕ) (tree : Tree) (lines : List Line) → Some m.program ≡ Some name → Some m.tree ≡ Some tree
+mote_shows : (n : ℕ) (m : MoteSetup) (name : List ℕ) (tree : Tree) (lines : List Line) → Some m.program ≡ Some name → Some m.tree ≡ Some tree
     → mote_lines n m lines ≡ line_of (codes "mote") (decimal n ∷ name ∷ []) ∷ map (line_text tree) lines
 mote_shows n m name tree lines named grown =
     let is_name : m.program ≡ name = cc in
@@ -77,7 +77,7 @@ part_first f head trace lines (suc c) some is =
     ap (λ l. head ++ l) (ap (flat_map f) (is ∙ ap (λ n. take n trace) after) ∙ mapped_part f trace 0 c)
 
 -- the mote at i, numbered n, comes next of the motes from i on
-pub lines_next : (n : ℕ) (ms : List MoteTold) (ts : List (Vec Line Global)) (i : ℕ) (t : Vec Line Global) (name : List ℕ) (tree : Tree) (lines : List Line) → i < length ms → length ts ≡ length ms
+pub lines_next : (n : ℕ) (ms : List MoteSetup) (ts : List (Vec Line Global)) (i : ℕ) (t : Vec Line Global) (name : List ℕ) (tree : Tree) (lines : List Line) → i < length ms → length ts ≡ length ms
     → option_map (λ m. m.program) (slice_get ms i) ≡ Some name → option_map (λ m. m.tree) (slice_get ms i) ≡ Some tree → lines ≡ (get_or ts i t).items
     → lines_from n (drop i ms) (map lines_in (drop i ts))
     ≡ (line_of (codes "mote") (decimal n ∷ name ∷ []) ∷ map (line_text tree) lines) ++ lines_from (n + 1) (drop (i + 1) ms) (map lines_in (drop (i + 1) ts))
@@ -90,11 +90,11 @@ lines_next n (m ∷ ms) (x ∷ ts) (suc i) t name tree lines h same named grown 
     simp add-one (simp add-one at (lines_next n ms ts i t name tree lines (omega arith) (omega arith) named grown is))
 
 -- no mote is left
-pub lines_end : (n : ℕ) (ms : List MoteTold) (ts : List (Vec Line Global)) (i : ℕ) → length ms ≤ i → lines_from n (drop i ms) (map lines_in (drop i ts)) ≡ []
+pub lines_end : (n : ℕ) (ms : List MoteSetup) (ts : List (Vec Line Global)) (i : ℕ) → length ms ≤ i → lines_from n (drop i ms) (map lines_in (drop i ts)) ≡ []
 lines_end n ms ts i h = rw (drop_of_length-le ms h) refl
 
 -- how many lines the motes show
-pub lines_counted : (n : ℕ) (ms : List MoteTold) (ts : List (Vec Line Global)) → length ts ≡ length ms → length (lines_from n ms (map lines_in ts)) ≡ sum_by (λ t. length t.items + 1) ts
+pub lines_counted : (n : ℕ) (ms : List MoteSetup) (ts : List (Vec Line Global)) → length ts ≡ length ms → length (lines_from n ms (map lines_in ts)) ≡ sum_by (λ t. length t.items + 1) ts
 lines_counted n [] [] same = refl
 lines_counted n [] (t ∷ ts) same = absurd (omega arith)
 lines_counted n (m ∷ ms) [] same = absurd (omega arith)
@@ -103,7 +103,7 @@ lines_counted n (m ∷ ms) (t ∷ ts) same =
     omega (arith, rest, length-append (mote_lines n m t.items) (lines_from (n + 1) ms (map lines_in ts)), length-map t.items (line_text m.tree), sum_by-cons (λ (v : Vec Line Global). length v.items + 1) t ts)
 
 -- the text of all lines is that of the motes
-pub lines_text : (n : ℕ) (ms : List MoteTold) (ts : List (List Line)) → concat (lines_from n ms ts) ≡ motes_text n ms ts
+pub lines_text : (n : ℕ) (ms : List MoteSetup) (ts : List (List Line)) → concat (lines_from n ms ts) ≡ motes_text n ms ts
 lines_text n [] ts = refl
 lines_text n (m ∷ ms) [] = refl
 lines_text n (m ∷ ms) (t ∷ ts) =

@@ -2,16 +2,16 @@
 use Rattle.std.specs.Prelude.{ℕ, ◌+◌, List, [], ◌∷◌, ◌++◌, codes, decimal, map, take, drop}
 use Rattle.std.specs.List.{concat}
 use Rattle.trace_lines.specs.declared.line.Line.{Line}
-use Rattle.mote_net.specs.Net.{MoteTold, NetTold}
+use Rattle.mote_net.specs.Net.{MoteSetup, NetTold}
 use Rattle.trace_printer.specs.ReportText.{line_text}
 use Rattle.trace_printer.specs.Words.{line_of}
 
 -- the line that begins what a mote shows, and those of its trace
-abbrev pub mote_lines : (mote : ℕ) → MoteTold → List Line → List (List ℕ)
+abbrev pub mote_lines : (mote : ℕ) → MoteSetup → List Line → List (List ℕ)
 mote_lines mote m trace = line_of (codes "mote") (decimal mote ∷ m.program ∷ []) ∷ map (line_text m.tree) trace
 
 -- the lines that the motes from this number on show
-abbrev pub lines_from : (mote : ℕ) → List MoteTold → List (List Line) → List (List ℕ)
+abbrev pub lines_from : (mote : ℕ) → List MoteSetup → List (List Line) → List (List ℕ)
 lines_from mote (m ∷ ms) (t ∷ ts) = mote_lines mote m t ++ lines_from (mote + 1) ms ts
 lines_from mote [] ts = []
 lines_from mote (m ∷ ms) [] = []
