@@ -22,7 +22,12 @@ CODE = 'process a; autostart a; code a { var seq = 0; var seen = 0; etimer t; bo
 # What is written in the body, and what stands in the hint.
 BODIES = [
     ('seq = seq + 1;', '(seq + 1)'), ('seq++;', 'no `++`'), ('seq += 1;', 'no `+=`'),
-    ('if seq == 1 { }', '(seq == 1)'),
+    ('if seq == 1 { }', '(seq == 1)'), ('if (self == 0 && now > 3) { }', '`((self == 0) && (now > 3))`'),
+    ('if ((self == 0) && now > 3) { }', '`((self == 0) && (now > 3))`'),
+    ('if (self == 0) && (now > 3) { }', '`((self == 0) && (now > 3))`'),
+    ('yield_until is(packet) && data == 3;', '`(is(packet) && (data == 3))`'),
+    ('if (!fired(t) && seq + 1 * 2 < 3 || seen) { }', '`((!fired(t) && ((seq + (1 * 2)) < 3)) || seen)`'),
+    ('while (seq == 1 || seen == ) { }', '((a == 1) && (b == 2))'), ('send (seq - 1 - 1);', '`((seq - 1) - 1)`'),
     ('if (seq == 1) { } else if (seq == 2) { }', 'into it'), ('send 1, seq;', '256'), ('print "got";', 'numbers'),
     ('for (seq = 0; seq < 3) { }', 'while'), ('# x', '//'), ('/* x */ print 1;', '//'), ('seq = random(3);', 'seed'),
     ('pritn 1;', '`print`'), ('print sen;', '`seen`'), ('if (seq = 1) { }', '`==`'), ('seq = -1;', '65535'),
@@ -81,6 +86,9 @@ class Hints(unittest.TestCase):
             (scenario().replace('program = "source"', 'program = "sorce"'), '`source`'),
             (scenario(version='3'), 'versions 1 and 2'), (scenario().replace('end = 9', 'ende = 9'), '`end`'),
             (scenario().replace('program = "source"', 'program = source'), 'quotes'),
+            (scenario().replace('[medium]', '[medium'), '`[medium]`'), (scenario().replace('[[mote]]', '[[mote]'), '`[[mote]]`'),
+            (scenario().replace('end = 9', 'end 9'), '`end = 5`'), (scenario().replace('end = 9', 'end = 9 x = 1'), 'of their own'),
+            (scenario().replace('end = 9', 'end = 9\nend = 9'), 'once'), (scenario() + '[medium]\n', 'once'),
         ]:
             with self.subTest(text):
                 self.assertIn(wanted, hint_of(text))
