@@ -6,7 +6,7 @@ from __future__ import annotations
 
 import itertools
 import tomllib
-from dataclasses import dataclass
+from dataclasses import dataclass, replace
 from pathlib import Path
 from typing import Any, NamedTuple
 
@@ -15,7 +15,7 @@ from motesim.judge import Broken, Judge
 from motesim.report import Report
 from motesim.run import Answer, answer, read_file
 from motesim.scenario import Scenario, ScenarioFault
-from motesim.sentences import Names, Refused, Sentence, SentenceFault, names_of, read_sentence
+from motesim.sentences import Names, Refused, Sentence, SentenceFault, lacking, names_of, read_sentence
 
 LONGEST_SHOWN = 150
 WHOLE = 'the report is as it is written down'
@@ -140,14 +140,30 @@ def judged_by(part: Part, report: Report, scenario: Scenario) -> list[Told]:
     return of_report(part, read_all(part.sentences, names_of(scenario)), Judge(report, scenario))
 
 
+def known_of(text: str) -> tuple[Scenario | None, Names]:
+    """A scenario, if the text is one, and what sentences may name of it."""
+    try:
+        known = Scenario.parse(text)
+        return known, names_of(known)
+    except ScenarioFault:
+        return None, Names()
+
+
+def judged_each(scenario: str, part: Part) -> tuple[list[Told], list[str]]:
+    """Which sentences of a part hold, and what each of them names that the scenario hasn't; such a one doesn't hold."""
+    names = known_of(scenario)[1]
+    lacks = [lacking(it, names) for it in part.sentences]
+    readable = [it for it, lack in zip(part.sentences, lacks) if not lack]
+    told = iter(judged(scenario, replace(part, sentences=readable)))
+    found = [Told(it, False, ['the scenario has %s' % lack]) if lack else next(told)
+             for it, lack in zip(part.sentences, lacks)]
+    return found + list(told), lacks
+
+
 def judged(scenario: str, part: Part) -> list[Told]:
     """Which sentences of a part hold."""
     text = changed(scenario, part.replace)
-    try:
-        known = Scenario.parse(text)
-        names = names_of(known)
-    except ScenarioFault:
-        known, names = None, Names()
+    known, names = known_of(text)
     sentences = read_all(part.sentences, names)
     got = answer(text.encode())
     if got.status:
@@ -159,13 +175,14 @@ def expect(scenario: Path, expectations: Path, is_quiet: bool = False) -> tuple[
     """Tells which sentences hold, or, quietly, which don't; and counts those that do and those that don't."""
     text = text_of(scenario)
     passed = failed = 0
-    for part in parts_of(text_of(expectations), expectations.name):
+    name = str(expectations)
+    for part in parts_of(text_of(expectations), name):
         try:
             told = judged(text, part)
         except Fault as fault:
             raise Fault('%s: %s' % (part.name, fault)) from None
         if part.replace and not (is_quiet and all(it.holds for it in told)):
-            print('with %s:' % (part.name if part.name != expectations.name else 'a change'))
+            print('with %s:' % (part.name if part.name != name else 'a change'))
         for it in told:
             passed, failed = passed + it.holds, failed + (not it.holds)
             if it.holds and not is_quiet:

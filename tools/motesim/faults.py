@@ -15,6 +15,7 @@ from typing import NoReturn
 from motesim.version import KIT, VERSION
 
 FAILED, INTERRUPTED = 2, 130
+OF_ALL = 'motesim %s, proved with %s' % (VERSION, KIT)
 
 
 class Fault(Exception):
@@ -56,23 +57,23 @@ def status_of(tool: str, work: Callable[[], int]) -> int:
     return FAILED
 
 
-def finish(tool: str, work: Callable[[], int]) -> NoReturn:
+def finish(tool: str, work: Callable[[], int], version: str) -> NoReturn:
     """Ends a command with the status that `work` gives, or with 2 and one line on standard error."""
     # (looking for cycles among millions of lines would take longer than the work)
     gc.disable()
-    sys.exit(status_of(tool, say_version if sys.argv[1:] == ['--version'] else work))
+    sys.exit(status_of(tool, (lambda: say(version)) if sys.argv[1:] == ['--version'] else work))
 
 
-def say_version() -> int:
-    print('motesim %s, proved with %s' % (VERSION, KIT))
+def say(line: str) -> int:
+    print(line)
     return 0
 
 
-def command(tool: str) -> Callable[[Callable[[], int]], Callable[[], NoReturn]]:
-    """Makes a command of a function that returns its status."""
+def command(tool: str, version: str = OF_ALL) -> Callable[[Callable[[], int]], Callable[[], NoReturn]]:
+    """Makes a command of a function that returns its status. With the one word --version it says a line."""
     def made(work: Callable[[], int]) -> Callable[[], NoReturn]:
         @functools.wraps(work)
         def main() -> NoReturn:
-            finish(tool, work)
+            finish(tool, work, version)
         return main
     return made

@@ -9,6 +9,7 @@ import difflib
 from collections.abc import Iterable
 
 from motesim.notation import RESERVED
+from motesim.parentheses import written
 from motesim.program_faults import OPERATORS, STATEMENTS, ProgramFault, Token, tokens_of
 from motesim.scenario_faults import LOSS, MEDIUM, MOTE, TOP, ScenarioFault
 
@@ -49,6 +50,16 @@ WISHES = {
     'value': 'The value of a packet or an event is `data`.',
 }
 WISHES.update({word: WISHES['random'] for word in ('rand', 'rnd')})
+# What Python says of a text that is no TOML, and what is most likely meant.
+NO_TOML = {
+    "']'": 'A table is named in brackets, `[medium]`; of motes and losses each is a table in two, `[[mote]]`.',
+    "']]'": 'Each mote and each loss is a table of its own, named in two brackets: `[[mote]]`, `[[loss]]`.',
+    "'='": 'A key and its value stand on a line: `end = 5`.',
+    'newline': 'Each key and its value stand on a line of their own.',
+    'twice': 'A table stands once; only motes and losses are many, and each of them is a table `[[mote]]`, `[[loss]]`.',
+    'overwrite': 'A key stands once in its table.',
+    '': 'Texts stand in quotes, programs of several lines in three: p = """ .. """.',
+}
 # Keys that stand for a wish that the medium can't meet.
 CHANCE = ('probability', 'prob', 'p', 'rate', 'loss_rate', 'random', 'seed', 'noise', 'per_link', 'chance')
 
@@ -68,7 +79,7 @@ def of_program(text: str, fault: ProgramFault) -> str | None:
     if fault.kind == 1:
         return _of_sign(here, behind)
     if fault.kind == 2:
-        return _of_unexpected(before, here, behind, fault.may)
+        return _of_unexpected(before, here, behind, fault.may) or _of_operator(tokens, at, fault.may)
     if fault.kind == 3:
         return _of_unknown(before, here, fault.may)
     if fault.kind == 6:
@@ -110,9 +121,8 @@ def _of_unexpected(before: list[Token], here: Token, behind: Token, may: list[st
         return 'A comment begins with `//`, and ends with the line.'
     if word == '=' and '`==`' in may:
         return '`=` assigns; `==` compares.'
-    if word in OPERATORS and ('`;`' in may or '`{`' in may or '`into`' in may):
-        one, other = last.text if last else 'a', behind.text if behind.kind in ('name', 'number', 'keyword') else 'b'
-        return 'Two values with `%s` between them stand in parentheses: `(%s %s %s)`.' % (word, one, word, other)
+    if word in OPERATORS:
+        return None
     if word == ',' and '`;`' in may:
         return 'A packet, an event and a print have one number. Two small ones make one: `((a * 256) + b)`.'
     if 'a new name' in may and here.kind == 'keyword':
@@ -133,6 +143,18 @@ def _of_unexpected(before: list[Token], here: Token, behind: Token, may: list[st
         return 'Did you mean `%s`?' % like if like else None
     if here.kind == 'end':
         return 'A `}` may be missing: each block that was opened is closed.'
+    return None
+
+
+def _of_operator(tokens: list[Token], at: int, may: list[str]) -> str | None:
+    """An operator between two values that have no parentheses of their own."""
+    word = tokens[at].text
+    if word in OPERATORS and may == ['`)`']:
+        shown = written(tokens, at) or '((a == 1) && (b == 2))'
+        return 'Each operator and its two values have parentheses of their own: `%s`.' % shown
+    if word in OPERATORS and ('`;`' in may or '`{`' in may or '`into`' in may):
+        shown = written(tokens, at) or '(a %s b)' % word
+        return 'Two values with `%s` between them stand in parentheses: `%s`.' % (word, shown)
     return None
 
 
@@ -157,7 +179,7 @@ def of_scenario(tables: dict[str, object] | None, fault: ScenarioFault) -> str |
     """A hint on a fault of a scenario. Its tables are None where the text is no TOML."""
     line, name = fault.told, str(fault.path[-1]) if fault.path else ''
     if line == 'scenario fault 1' and fault.line:
-        return 'Texts stand in quotes, programs of several lines in three: p = """ .. """.'
+        return next((hint for said, hint in NO_TOML.items() if said in fault.may), None)
     if line == 'scenario fault 2' and tables is not None:
         return _of_missing(tables, fault)
     if line == 'scenario fault 3':

@@ -20,11 +20,11 @@ from motesim.run import read_file
 
 
 class Plan:
-    """A plan's text, with the files beside it."""
+    """A plan's text, with the files beside it. Faults name it by `shown_as`, where that is given: the path as typed."""
 
-    def __init__(self, name: str, text: str, files: Files) -> None:
-        self.name, self.text, self.files = name, text, files
-        tables = Tables(name, text)
+    def __init__(self, name: str, text: str, files: Files, shown_as: str = '') -> None:
+        self.name, self.text, self.files, self.shown_as = name, text, files, shown_as or name
+        tables = Tables(name, text, self.shown_as)
         for key in tables.top:
             if key not in TOP:
                 known = ', '.join('`%s`' % it for it in TOP)
@@ -36,7 +36,7 @@ class Plan:
     def read(cls, path: str | Path) -> Plan:
         path = Path(path)
         try:
-            return cls(path.name, read_file(path).decode('utf-8'), Files(path.parent))
+            return cls(path.name, read_file(path).decode('utf-8'), Files(path.parent), str(path))
         except UnicodeDecodeError:
             raise Fault('%s is not UTF-8' % path) from None
 
@@ -59,7 +59,7 @@ class Plan:
         for name in given:
             if name not in self.parameters:
                 known = ', '.join(self.parameters) or 'none'
-                raise Fault('%s has no parameter %s; it has: %s' % (self.name, name, known))
+                raise Fault('%s has no parameter %s; it has: %s' % (self.shown_as, name, known))
         return {**self.parameters, **given}
 
     def scenario(self, given: Mapping[str, Value]) -> str:

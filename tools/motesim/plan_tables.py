@@ -102,8 +102,8 @@ def shown(name: str, text: str, place: Place, rule: str, may: str) -> str:
 class Tables:
     """A plan's text with its tables, and the values of its parameters."""
 
-    def __init__(self, name: str, text: str) -> None:
-        self.name, self.text = name, text
+    def __init__(self, name: str, text: str, shown_as: str) -> None:
+        self.name, self.text, self.shown_as = name, text, shown_as
         self.parameters: dict[str, Value] = {}
         try:
             self.top: Table = tomllib.loads(text.removeprefix('\ufeff'))
@@ -120,7 +120,7 @@ class Tables:
         found, lines = re.search(r' \(at line (\d+), column (\d+)\)$', said), self.text.split('\n')
         place = Place(int(found[1]), int(found[2]) - 1, 1) if found else Place(len(lines), len(lines[-1]), 1)
         what = re.sub(r' \(at .*\)$', '', said)
-        raise PlanFault(shown(self.name, self.text, place, 'A plan is a TOML document, and this text is none.',
+        raise PlanFault(shown(self.shown_as, self.text, place, 'A plan is a TOML document, and this text is none.',
                               'TOML (Python says: %s)' % what))
 
     def fault(self, path: Path, rule: str, may: str = '', is_value: bool = True) -> PlanFault:
@@ -128,7 +128,7 @@ class Tables:
         place = place_of(self.text, path)
         if is_value and path and type(path[-1]) is str:
             place = value_of(self.text, place)
-        return PlanFault(shown(self.name, self.text, place, rule, may))
+        return PlanFault(shown(self.shown_as, self.text, place, rule, may))
 
     def filled(self, value: Any, path: Path) -> Any:
         """A value with its parameters."""

@@ -20,7 +20,7 @@ UNPROVED = TOP / 'out/unproved'
 # (of an archive of the tools, which has no crates)
 PACKED = TOP / 'motesim'
 NOTHING_PROVED = ('NOTHING IS PROVED of this run: its program has checks in place of the proofs '
-                  '(./run FILE.toml proves and builds one)')
+                  '(./run FILE.toml proves and builds one, in 20 to 40 minutes)')
 
 
 class ProgramFault(Fault):
@@ -91,7 +91,7 @@ def program_path() -> Path:
             return path
     kept = kept_unproved()
     if kept is None:
-        raise ProgramFault('the program is not built: ./run FILE.toml proves and builds it, ./run --unproved '
-                           'FILE.toml compiles it in minutes, and MOTESIM names a built one')
+        raise ProgramFault('the program is not built: ./run --unproved FILE.toml compiles it in a minute or two, '
+                           './run FILE.toml proves and builds it in 20 to 40, and MOTESIM names a built one')
     say_unproved()
     return kept

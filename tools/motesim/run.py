@@ -14,7 +14,7 @@ What can go wrong is a `motesim.faults.Fault`, whose text can be shown as it is:
 
     ReportFault    a text is no report; its line is in it
     ScenarioFault  a text is no scenario, or not that of the report
-    ProgramFault   the program is not built, or refuses a scenario
+    ProgramFault   the program is not built, or refuses a scenario (then it is a NoReport)
     Fault          a file can't be read
 """
 from __future__ import annotations
@@ -33,6 +33,10 @@ from motesim.report import Report, ReportFault
 from motesim.scenario import Scenario, ScenarioFault
 
 SECONDS = 600
+
+
+class NoReport(ProgramFault):
+    """The program refuses a scenario."""
 
 
 class Answer(NamedTuple):
@@ -67,7 +71,7 @@ def run_program(scenario: bytes, *words: str) -> bytes:
     got = answer(scenario, *words)
     if got.status:
         told = got.fault.decode('utf-8', 'backslashreplace').strip() or 'status %d' % got.status
-        raise ProgramFault('the scenario has no report: %s' % told)
+        raise NoReport('the scenario has no report: %s' % told)
     return got.report
 
 
@@ -98,6 +102,7 @@ def read_run(path: str | Path, scenario: str | Path | None = None) -> Run:
             found = Scenario.parse(read_file(scenario))
             check_scenario(report, found)
     except (ReportFault, ScenarioFault, ProgramFault) as fault:
-        fault.args = ('%s: %s' % (at, fault),)
+        is_explained = str(path).endswith('.toml') and isinstance(fault, (ScenarioFault, NoReport))
+        fault.args = ('%s: %s%s' % (at, fault, ' (tools/explain %s says more)' % at if is_explained else ''),)
         raise
     return Run(str(path), report, found)

@@ -518,3 +518,17 @@ def read_sentence(sentence: str, names: Names = Names()) -> Sentence:
     found = reader.sentence_here()
     reader.end()
     return found
+
+
+def lacking(sentence: str, names: Names) -> str:
+    """What a sentence that can be read speaks of and a scenario with these names hasn't; nothing where it has all."""
+    try:
+        read_sentence(sentence, names)
+        return ''
+    except SentenceFault as fault:
+        found = TOKEN.match(sentence, fault.place)
+    word = found[1] if found else sentence
+    if word.isdecimal() and names.motes is not None:
+        return 'no mote %s (its motes are 0 to %d)' % (word, names.motes - 1)
+    own = ['`%s`' % it for it in names.processes or () if it not in SYSTEM]
+    return 'no process `%s` (%s)' % (word, 'it has %s' % ', '.join(own) if own else 'it has none')

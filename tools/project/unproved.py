@@ -1,7 +1,7 @@
 """Runs the program without any proof: tools/run_unproved [the program's words], which is ./run --unproved
 
-The program is compiled with checks in place of the proofs, which takes some minutes, and is kept in out/unproved by a
-digest of its sources, so the next run starts at once. The tools take it too while no proved program is built. Standard
+The program is compiled with checks in place of the proofs, which takes a minute or two, and is kept in out/unproved by
+a digest of its sources, so the next run starts at once. The tools take it too while no proved program is built. Standard
 input, both outputs and the status are the program's.
 """
 from __future__ import annotations
@@ -9,6 +9,7 @@ from __future__ import annotations
 import fcntl
 import os
 import shutil
+import signal
 import subprocess
 import sys
 import threading
@@ -19,6 +20,7 @@ from typing import Iterator
 
 from motesim.faults import Fault, command
 from motesim.programs import TOP, UNPROVED, is_program, say_unproved, unproved_path
+from motesim.version import VERSION
 from project import kit
 from project.progress import Line
 
@@ -87,9 +89,11 @@ def made_program(line: Line) -> Path:
     return path
 
 
-@command('motesim')
+@command('motesim', 'motesim %s, unproved: compiled with checks in place of the proofs' % VERSION)
 def main() -> int:
     words = sys.argv[1:]
+    # (so that what is begun is cleared away)
+    signal.signal(signal.SIGTERM, lambda *_: sys.exit(128 + signal.SIGTERM))
     if '-h' in words or '--help' in words:
         print(HELP.read_text('utf-8'), end='')
         return 0

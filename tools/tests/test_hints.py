@@ -9,6 +9,7 @@ from unittest import mock
 
 from here import TOP
 from motesim import expectations, explain, grade, hints, scenario_faults
+from motesim.faults import Fault
 from motesim.flows import FlowFault, flow_rows, read_flow
 from motesim.lint import warnings
 from motesim.program_faults import find_fault
@@ -21,7 +22,12 @@ CODE = 'process a; autostart a; code a { var seq = 0; var seen = 0; etimer t; bo
 # What is written in the body, and what stands in the hint.
 BODIES = [
     ('seq = seq + 1;', '(seq + 1)'), ('seq++;', 'no `++`'), ('seq += 1;', 'no `+=`'),
-    ('if seq == 1 { }', '(seq == 1)'),
+    ('if seq == 1 { }', '(seq == 1)'), ('if (self == 0 && now > 3) { }', '`((self == 0) && (now > 3))`'),
+    ('if ((self == 0) && now > 3) { }', '`((self == 0) && (now > 3))`'),
+    ('if (self == 0) && (now > 3) { }', '`((self == 0) && (now > 3))`'),
+    ('yield_until is(packet) && data == 3;', '`(is(packet) && (data == 3))`'),
+    ('if (!fired(t) && seq + 1 * 2 < 3 || seen) { }', '`((!fired(t) && ((seq + (1 * 2)) < 3)) || seen)`'),
+    ('while (seq == 1 || seen == ) { }', '((a == 1) && (b == 2))'), ('send (seq - 1 - 1);', '`((seq - 1) - 1)`'),
     ('if (seq == 1) { } else if (seq == 2) { }', 'into it'), ('send 1, seq;', '256'), ('print "got";', 'numbers'),
     ('for (seq = 0; seq < 3) { }', 'while'), ('# x', '//'), ('/* x */ print 1;', '//'), ('seq = random(3);', 'seed'),
     ('pritn 1;', '`print`'), ('print sen;', '`seen`'), ('if (seq = 1) { }', '`==`'), ('seq = -1;', '65535'),
@@ -80,6 +86,9 @@ class Hints(unittest.TestCase):
             (scenario().replace('program = "source"', 'program = "sorce"'), '`source`'),
             (scenario(version='3'), 'versions 1 and 2'), (scenario().replace('end = 9', 'ende = 9'), '`end`'),
             (scenario().replace('program = "source"', 'program = source'), 'quotes'),
+            (scenario().replace('[medium]', '[medium'), '`[medium]`'), (scenario().replace('[[mote]]', '[[mote]'), '`[[mote]]`'),
+            (scenario().replace('end = 9', 'end 9'), '`end = 5`'), (scenario().replace('end = 9', 'end = 9 x = 1'), 'of their own'),
+            (scenario().replace('end = 9', 'end = 9\nend = 9'), 'once'), (scenario() + '[medium]\n', 'once'),
         ]:
             with self.subTest(text):
                 self.assertIn(wanted, hint_of(text))
@@ -186,6 +195,28 @@ class Grades(unittest.TestCase):
             'good.toml  2 of 2', 'ill.toml   0 of 2  the scenario is refused: motesim: program p fault 2 line 1',
             'poor.toml  1 of 2  broken: 1'])
         self.assertEqual(grade.below(graded)[0], '  1  1 of 3  mote 0 prints a 1')
+
+    def graded(self, processes: dict[str, str], sentences: str) -> list[str]:
+        """The table of scenarios of one mote, each with its process, that print 1."""
+        with tempfile.TemporaryDirectory() as folder, mock.patch.object(
+                expectations, 'answer', lambda data: Answer(0, b'mote 0 source\nmedium\nleft 0\n', b'')):
+            for name, process in processes.items():
+                text = scenario(program='process %s; code %s { body { } }' % (process, process))
+                (Path(folder) / (name + '.toml')).write_text(text.rsplit('[[mote]]', 1)[0], encoding='utf-8')
+            wanted = Path(folder) / 'task.expect.toml'
+            wanted.write_text('expect = [%s]\n' % sentences, encoding='utf-8')
+            return grade.table(grade.grade(Path(folder), wanted))
+
+    def test_a_sentence_on_what_a_scenario_lacks_is_broken_alone(self) -> None:
+        self.assertEqual(self.graded({'anna': 'a', 'dora': 'b'}, '"no mote halts", "mote 0 never prints a 1"'), [
+            'anna.toml  2 of 2', 'dora.toml  1 of 2  broken: 2; no process `a` (it has `b`)'])
+
+    def test_what_no_scenario_has_is_a_fault_of_the_sentences(self) -> None:
+        for sentence, wanted in ('mote 0 prints c 1', 'no process `c` (it has `a`)'), (
+                'mote 7 halts', 'no mote 7 (its motes are 0 to 0)'), ('mote 0 prunts a', 'sentence 2 is not known'):
+            with self.assertRaises(Fault) as told:
+                self.graded({'anna': 'a', 'dora': 'b'}, '"no mote halts", "%s"' % sentence)
+            self.assertIn(wanted, str(told.exception))
 
 
 if __name__ == '__main__':

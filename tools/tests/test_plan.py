@@ -301,7 +301,7 @@ class CommandTest(unittest.TestCase):
             self.assertEqual((to.returncode, (folder / 'made.toml').read_text()), (0, done.stdout))
             wrong = self.run_it(str(folder / 'a.plan.toml'), '--set', 'step=many')
             self.assertEqual((wrong.returncode, wrong.stdout), (2, ''))
-            self.assertTrue(re.match('scenario: a.plan.toml, line 13:\n', wrong.stderr), wrong.stderr)
+            self.assertTrue(re.match('scenario: /.*/a.plan.toml, line 13:\n', wrong.stderr), wrong.stderr)
             self.assertEqual(self.run_it(str(folder / 'no.toml')).returncode, 2)
 
 
