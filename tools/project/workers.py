@@ -8,7 +8,6 @@ of a fault. Prints a line for each file that differs and a count at the end, and
 """
 from __future__ import annotations
 
-import argparse
 import itertools
 import subprocess
 from collections.abc import Iterable, Sequence
@@ -16,6 +15,7 @@ from pathlib import Path
 from typing import Iterator
 
 from motesim.faults import Fault, command
+from motesim.words import words_of
 from project.tree import TOP, program_of, take_program
 
 WORKERS = ['1', '2', '3', '7', '16']
@@ -92,7 +92,7 @@ def scenarios(names: Iterable[str | Path]) -> Iterator[Path]:
 
 @command('compare_workers')
 def main() -> int:
-    words = argparse.ArgumentParser(description=__doc__, formatter_class=argparse.RawDescriptionHelpFormatter)
+    words = words_of(__doc__)
     take_program(words)
     words.add_argument('names', nargs='*', metavar='FILE or FOLDER', help='scenarios; without them, the examples')
     asked = words.parse_args()
