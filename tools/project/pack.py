@@ -29,6 +29,7 @@ PARTS = ('CHANGES.md', 'docs/use', 'examples', 'tools/motesim')
 RUN = """#!/bin/sh
 # Simulates a scenario: ./run FILE, or ./run with the scenario on standard input. ./run --help has the options.
 here=$(dirname "$(readlink -f "$0")")
+[ "$*" = --version ] && exec "$here/tools/explain" --version
 exec "$here/motesim" "$@"
 """
 README = """# motesim %(version)s
