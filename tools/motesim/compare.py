@@ -10,7 +10,6 @@ Ends with status 0 where the reports are the same, 1 where they differ, and 2 wh
 """
 from __future__ import annotations
 
-import argparse
 from collections import Counter
 from itertools import compress, count
 from operator import ne
@@ -21,6 +20,7 @@ from motesim.faults import command
 from motesim.report import FIELDS, Line, Packet, Report
 from motesim.run import Run, read_run
 from motesim.timeline import write_page
+from motesim.words import words_of
 
 LETTERS = 'AB'
 PACKETS_BEFORE, EVENTS_BEFORE = 3, 4
@@ -302,7 +302,7 @@ def write_html(path: str, a: Run, b: Run, first: Difference | None) -> None:
 
 @command('compare')
 def main() -> int:
-    words = argparse.ArgumentParser(description=__doc__, formatter_class=argparse.RawDescriptionHelpFormatter)
+    words = words_of(__doc__)
     words.add_argument('a', metavar='A', help='a report, or a scenario NAME.toml')
     words.add_argument('b', metavar='B', help='another')
     words.add_argument('--rows', type=int, default=20, metavar='N', help='at most so many motes in the table (20)')

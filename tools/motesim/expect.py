@@ -12,16 +12,16 @@ sentence or a file that can't be read, or a program that isn't built (the enviro
 """
 from __future__ import annotations
 
-import argparse
 from pathlib import Path
 
 from motesim.expectations import beside, expect
 from motesim.faults import command
+from motesim.words import words_of
 
 
 @command('expect')
 def main() -> int:
-    words = argparse.ArgumentParser(description=__doc__, formatter_class=argparse.RawDescriptionHelpFormatter)
+    words = words_of(__doc__)
     words.add_argument('scenario', metavar='SCENARIO', help='a scenario, NAME.toml')
     words.add_argument('expectations', nargs='?', metavar='EXPECTATIONS', help='else NAME.expect.toml beside it')
     asked = words.parse_args()

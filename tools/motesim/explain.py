@@ -8,7 +8,6 @@ built (the environment variable MOTESIM names another one).
 """
 from __future__ import annotations
 
-import argparse
 import re
 import textwrap
 import tomllib
@@ -21,6 +20,7 @@ from motesim.report import Report
 from motesim.run import Answer, answer, read_file
 from motesim.scenario import Scenario
 from motesim.scenario_faults import Place, ScenarioFault
+from motesim.words import words_of
 
 WIDTH = 112
 PROGRAM = re.compile(r'program (\S+) fault (\d+) line (\d+)')
@@ -158,7 +158,7 @@ def all_warnings(name: str, data: bytes, report: bytes) -> list[str]:
 
 @command('explain')
 def main() -> int:
-    words = argparse.ArgumentParser(description=__doc__, formatter_class=argparse.RawDescriptionHelpFormatter)
+    words = words_of(__doc__)
     words.add_argument('file', metavar='FILE', help='a scenario; - is standard input')
     name = words.parse_args().file
     data = read_file(name)

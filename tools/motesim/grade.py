@@ -13,7 +13,6 @@ Ends with status 0, or with 2 where a file can't be read, or a sentence can't, o
 """
 from __future__ import annotations
 
-import argparse
 import csv
 import sys
 from pathlib import Path
@@ -23,6 +22,7 @@ from motesim.expectations import Part, Told, judged_each, parts_of, read_all, te
 from motesim.faults import Fault, command
 from motesim.run import answer, read_file
 from motesim.sentences import Names
+from motesim.words import words_of
 
 REFUSED = 'the scenario is refused'
 
@@ -118,7 +118,7 @@ def write_csv(graded: list[Graded]) -> None:
 
 @command('grade')
 def main() -> int:
-    words = argparse.ArgumentParser(description=__doc__, formatter_class=argparse.RawDescriptionHelpFormatter)
+    words = words_of(__doc__)
     words.add_argument('folder', metavar='FOLDER', type=Path, help='a folder with scenarios')
     words.add_argument('expectations', metavar='EXPECTATIONS', type=Path, help='a file of sentences, NAME.expect.toml')
     words.add_argument('--csv', action='store_true', help='for a spreadsheet')

@@ -9,7 +9,6 @@ has a fault, whose place is shown.
 """
 from __future__ import annotations
 
-import argparse
 import sys
 from collections.abc import Sequence
 from pathlib import Path
@@ -18,6 +17,7 @@ from motesim import scenario_faults
 from motesim.faults import Fault, command
 from motesim.plan import Plan
 from motesim.plan_tables import Value, value_of_text
+from motesim.words import words_of
 
 
 def given_of(words: Sequence[str]) -> dict[str, Value]:
@@ -43,7 +43,7 @@ def checked(text: str) -> str:
 
 @command('scenario')
 def main() -> int:
-    words = argparse.ArgumentParser(description=__doc__, formatter_class=argparse.RawDescriptionHelpFormatter)
+    words = words_of(__doc__)
     words.add_argument('plan', metavar='PLAN', help='a plan, a TOML file')
     words.add_argument('--set', action='append', default=[], metavar='NAME=VALUE', help='another value of a parameter')
     words.add_argument('-o', dest='output', metavar='FILE', help='the scenario to write; else standard output')

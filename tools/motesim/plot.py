@@ -27,6 +27,7 @@ from motesim.plan import Plan
 from motesim.plan_tables import Tables, needed, optional
 from motesim.results import Row, cell, read_results, text_of
 from motesim.summary import table
+from motesim.words import words_of
 
 FORMATS = ('.svg', '.png')
 MOST_TICKS = 12
@@ -239,7 +240,7 @@ def chosen(rows: Sequence[Row], where: Sequence[str]) -> list[Row]:
 
 @command('plot')
 def main() -> int:
-    words = argparse.ArgumentParser(description=__doc__, formatter_class=argparse.RawDescriptionHelpFormatter)
+    words = words_of(__doc__)
     words.add_argument('results', metavar='RESULTS', help='a file that tools/sweep wrote')
     words.add_argument('--measure', metavar='NAME', help='what is shown')
     words.add_argument('--against', metavar='NAME', help='the parameter from left to right')

@@ -52,6 +52,7 @@ from motesim.flows import flow_rows
 from motesim.report import Report
 from motesim.run import Run, read_run
 from motesim.scenario import Scenario
+from motesim.words import words_of
 
 # A row of a table by its columns: numbers, names, or None where there is no value.
 Row = dict[str, Any]
@@ -160,7 +161,7 @@ def show_flow(rows: list[Row], words: argparse.Namespace) -> int:
 
 @command('summary')
 def main() -> int:
-    words = argparse.ArgumentParser(description=__doc__, formatter_class=argparse.RawDescriptionHelpFormatter)
+    words = words_of(__doc__)
     words.add_argument('report', metavar='REPORT', help='a report, or a scenario NAME.toml')
     words.add_argument('--scenario', metavar='FILE', help="the report's scenario")
     form = words.add_mutually_exclusive_group()

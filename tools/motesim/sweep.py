@@ -23,7 +23,6 @@ with 2 where nothing could be done, and with 130 after Ctrl-C.
 """
 from __future__ import annotations
 
-import argparse
 import contextlib
 import hashlib
 import os
@@ -44,6 +43,7 @@ from motesim.sweep_asked import MOST_BYTES, MOST_SECONDS, Sweep, columns_of, kno
 from motesim.sweep_progress import Progress
 from motesim.sweep_runs import Stopped, run_by_dask, run_here
 from motesim.versions import kit_version, program_version
+from motesim.words import words_of
 
 Key = tuple[str, ...]
 
@@ -160,7 +160,7 @@ def said(sweeper: Sweeper, ran: int) -> int:
 
 @command('sweep')
 def main() -> int:
-    words = argparse.ArgumentParser(description=__doc__, formatter_class=argparse.RawDescriptionHelpFormatter)
+    words = words_of(__doc__)
     words.add_argument('plan', metavar='PLAN', help='a plan, a TOML file')
     words.add_argument('--vary', action='append', default=[], metavar='NAME=VALUES', help='values of a parameter')
     words.add_argument('--measure', action='append', default=[], metavar='MEASURE', help='what is measured of a run')

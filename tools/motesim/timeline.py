@@ -12,7 +12,6 @@ the page finds out itself.
 """
 from __future__ import annotations
 
-import argparse
 import base64
 import json
 import sys
@@ -25,6 +24,7 @@ from motesim.faults import Fault, command
 from motesim.report import FIELDS, Mote, Report
 from motesim.run import Run, read_run
 from motesim.scenario import Scenario
+from motesim.words import words_of
 
 PAGE = Path(__file__).resolve().parent / 'timeline_page'
 # The scripts that show runs, in the order in which they are put together; tools/studio has them too.
@@ -221,9 +221,8 @@ def write_page(path: str | Path, title: str, runs: Sequence[Run], start: int | N
 
 @command('timeline')
 def main() -> int:
-    words = argparse.ArgumentParser(
-        prog='timeline', description='Makes an HTML page of a run: a map of the motes, and a lane for each over time. '
-        'FILE.toml is a scenario, which is run; any other FILE is a report.')
+    words = words_of('Makes an HTML page of a run: a map of the motes, and a lane for each over time.\n'
+                     'FILE.toml is a scenario, which is run; any other FILE is a report.', 'timeline')
     words.add_argument('file', metavar='FILE',
                        help='a scenario (NAME.toml) or a report; - is a report on standard input')
     words.add_argument('--scenario', metavar='FILE', help='the scenario of a report: it has the places of the motes')

@@ -11,7 +11,6 @@ Ends with status 0, or with 1 where a report differs.
 """
 from __future__ import annotations
 
-import argparse
 import hashlib
 import os
 import re
@@ -25,6 +24,7 @@ from pathlib import Path
 from typing import NamedTuple
 
 from motesim.faults import Fault, command
+from motesim.words import words_of
 from project.tree import TOP, program_of, take_program
 
 # Each scenario with its words, and those of one of a tenth of the length.
@@ -177,7 +177,7 @@ def measure(name: str, sizes: Sequence[int], programs: Sequence[str], rounds: in
 
 @command('bench')
 def main() -> int:
-    words = argparse.ArgumentParser(description=__doc__, formatter_class=argparse.RawDescriptionHelpFormatter)
+    words = words_of(__doc__)
     words.add_argument('names', nargs='*', metavar='NAME', help='scenarios: %s; without one, all' % ', '.join(SCENARIOS))
     take_program(words)
     words.add_argument('--against', metavar='PROGRAM', help='an earlier motesim, which is run in turn with this one')

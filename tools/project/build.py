@@ -7,7 +7,6 @@ and is shown of a crate that isn't proved.
 """
 from __future__ import annotations
 
-import argparse
 import os
 import signal
 import sys
@@ -17,6 +16,7 @@ from collections.abc import Sequence
 from concurrent.futures import FIRST_COMPLETED, Future, ThreadPoolExecutor, wait
 
 from motesim.faults import Fault, command
+from motesim.words import words_of
 from project import kit
 from project.estimate import Crate, Estimate, Log, by_shares, minutes
 from project.progress import Line
@@ -166,7 +166,7 @@ def pace_of(crates: Sequence[kit.Crate], processors: int) -> float:
 
 @command('motesim')
 def main() -> int:
-    words = argparse.ArgumentParser(prog='build', description=__doc__, formatter_class=argparse.RawDescriptionHelpFormatter)
+    words = words_of(__doc__, 'build')
     words.parse_args()
     line, began = Line(sys.stderr), time.monotonic()
     line.say('building, since no program of these sources is here')

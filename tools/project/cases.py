@@ -23,7 +23,6 @@ with a line `N passed, M failed`, and with status 1 where one failed.
 """
 from __future__ import annotations
 
-import argparse
 import difflib
 import os
 import subprocess
@@ -34,6 +33,7 @@ from pathlib import Path
 from typing import Any, Iterator
 
 from motesim.faults import Fault, command
+from motesim.words import words_of
 from project.tree import TOP, program_of, take_program
 
 CASES = TOP / 'tests' / 'cases'
@@ -192,7 +192,7 @@ def chosen(cases: Iterable[Path], names: Iterable[str]) -> Iterator[Path]:
 
 @command('run_cases')
 def main() -> int:
-    words = argparse.ArgumentParser(description=__doc__, formatter_class=argparse.RawDescriptionHelpFormatter)
+    words = words_of(__doc__)
     take_program(words)
     words.add_argument('names', nargs='*', metavar='NAME', help='cases, or folders of cases')
     asked = words.parse_args()

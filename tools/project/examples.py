@@ -7,7 +7,6 @@ and what is broken, and ends with a line `N passed, M failed`, and with status 1
 """
 from __future__ import annotations
 
-import argparse
 import os
 import re
 from collections.abc import Callable
@@ -18,6 +17,7 @@ from motesim.faults import Fault, command
 from motesim.judge import Judge
 from motesim.report import Report
 from motesim.run import Run, read_run
+from motesim.words import words_of
 from project.tree import TOP, program_of
 
 PAGES = ['README.md', 'docs/use/EXAMPLES.md', 'docs/use/SCENARIO.md', 'docs/use/REPORT.md']
@@ -87,7 +87,7 @@ def check(path: Path, quotes: dict[str, list[tuple[str, str]]]) -> str:
 
 @command('check_examples')
 def main() -> int:
-    words = argparse.ArgumentParser(description=__doc__, formatter_class=argparse.RawDescriptionHelpFormatter)
+    words = words_of(__doc__)
     words.add_argument('program', nargs='?', metavar='PROGRAM', help='the motesim to run')
     asked = words.parse_args()
     if asked.program:

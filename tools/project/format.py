@@ -4,16 +4,16 @@ Prints what is formatted otherwise, and ends with status 1 where something is; `
 """
 from __future__ import annotations
 
-import argparse
 
 from motesim.faults import Fault, command
+from motesim.words import words_of
 from project import kit
 from project.tree import TOP
 
 
 @command('check_format')
 def main() -> int:
-    words = argparse.ArgumentParser(description=__doc__, formatter_class=argparse.RawDescriptionHelpFormatter)
+    words = words_of(__doc__)
     words.parse_args()
     files = [it for crate in sorted(TOP.glob('crates/*')) for it in kit.files_of(str(crate)) if it.endswith(('.rt', '.antt'))]
     if not files:

@@ -11,12 +11,12 @@ and what a batch loads counts to the function that it begins with.
 """
 from __future__ import annotations
 
-import argparse
 import re
 from collections import Counter
 from collections.abc import Iterable
 
 from motesim.faults import Fault, command
+from motesim.words import words_of
 
 from project.tree import TOP
 
@@ -59,7 +59,7 @@ def written(crate: str) -> list[tuple[float, str]]:
 
 @command('function_times')
 def main() -> int:
-    words = argparse.ArgumentParser(description=__doc__, formatter_class=argparse.RawDescriptionHelpFormatter)
+    words = words_of(__doc__)
     words.add_argument('crate', metavar='CRATE', help='a crate that was checked from nothing')
     words.add_argument('number', metavar='HOW MANY', nargs='?', type=int, default=20, help='so many functions (20)')
     asked = words.parse_args()

@@ -9,13 +9,13 @@ its own first comment. Without an option the list is printed; `--write` puts it 
 """
 from __future__ import annotations
 
-import argparse
 import re
 import textwrap
 from dataclasses import dataclass, field
 from pathlib import Path
 
 from motesim.faults import Fault, command
+from motesim.words import words_of
 from project.tree import TOP
 
 PAGE = Path('docs/proof/HEADLINE.md')
@@ -187,7 +187,7 @@ def parts_of(page: str) -> tuple[str, str, str]:
 
 @command('headline_files')
 def main() -> int:
-    words = argparse.ArgumentParser(description=__doc__, formatter_class=argparse.RawDescriptionHelpFormatter)
+    words = words_of(__doc__)
     way = words.add_mutually_exclusive_group()
     way.add_argument('--write', action='store_true', help='write the list into %s' % PAGE)
     way.add_argument('--check', action='store_true', help='say whether %s has the list' % PAGE)

@@ -26,6 +26,7 @@ from dataclasses import dataclass
 from pathlib import Path
 
 from motesim.faults import Fault, command
+from motesim.words import words_of
 from project import kit
 from project.tree import TOP, program_of, take_program
 
@@ -160,7 +161,7 @@ def compiled(room: Path, words: list[str]) -> Path:
 
 @command('refuse_memory')
 def main() -> int:
-    words = argparse.ArgumentParser(description=__doc__, formatter_class=argparse.RawDescriptionHelpFormatter)
+    words = words_of(__doc__)
     take_program(words)
     words.add_argument('file', nargs='?', metavar='FILE', help='a scenario')
     words.add_argument('words', nargs=argparse.REMAINDER, metavar='WORD', help='words for the program')

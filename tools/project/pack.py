@@ -10,7 +10,6 @@ The same tree and program give the same archive, byte for byte. A program that i
 """
 from __future__ import annotations
 
-import argparse
 import gzip
 import hashlib
 import io
@@ -21,6 +20,7 @@ from pathlib import Path
 from motesim.faults import Fault, command
 from motesim.programs import PROVED, TOP, is_program
 from motesim.version import KIT, VERSION
+from motesim.words import words_of
 from project import kit
 
 SOURCES = ('crates.txt', 'crates')
@@ -29,6 +29,7 @@ PARTS = ('CHANGES.md', 'docs/use', 'examples', 'tools/motesim')
 RUN = """#!/bin/sh
 # Simulates a scenario: ./run FILE, or ./run with the scenario on standard input. ./run --help has the options.
 here=$(dirname "$(readlink -f "$0")")
+[ "$*" = --version ] && exec "$here/tools/explain" --version
 exec "$here/motesim" "$@"
 """
 README = """# motesim %(version)s
@@ -140,7 +141,7 @@ def archive(folder: str) -> bytes:
 
 @command('pack')
 def main() -> int:
-    words = argparse.ArgumentParser(description=__doc__, formatter_class=argparse.RawDescriptionHelpFormatter)
+    words = words_of(__doc__)
     words.add_argument('-o', '--output', metavar='FILE', type=Path, help='else motesim-VERSION.tar.gz, in this folder')
     asked = words.parse_args()
     folder = 'motesim-%s' % VERSION

@@ -12,7 +12,6 @@ failed. With `--write` it puts what the commands print into the pages, to be rea
 """
 from __future__ import annotations
 
-import argparse
 import difflib
 import os
 import re
@@ -23,6 +22,7 @@ from dataclasses import dataclass
 from pathlib import Path
 
 from motesim.faults import Fault, command
+from motesim.words import words_of
 from project.tree import TOP, program_of
 
 PAGES = ['docs/use/TUTORIAL.md', 'docs/use/TOOLS.md', 'docs/use/EXPECTATIONS.md', 'docs/use/EXPLAIN.md',
@@ -131,7 +131,7 @@ def check(name: str, text: str, program: Path) -> Checked:
 
 @command('check_tutorial')
 def main() -> int:
-    words = argparse.ArgumentParser(description=__doc__, formatter_class=argparse.RawDescriptionHelpFormatter)
+    words = words_of(__doc__)
     words.add_argument('--write', action='store_true', help='put what the commands print into the pages')
     words.add_argument('--page', action='append', metavar='FILE', help='this page, and no other')
     words.add_argument('program', nargs='?', metavar='PROGRAM', help='the motesim to run')

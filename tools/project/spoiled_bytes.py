@@ -9,7 +9,6 @@ Ends with a line `N passed, M failed`, and with status 1 where a check failed.
 """
 from __future__ import annotations
 
-import argparse
 import os
 import subprocess
 from collections import Counter
@@ -17,6 +16,7 @@ from collections.abc import Sequence
 from concurrent.futures import ThreadPoolExecutor
 
 from motesim.faults import command
+from motesim.words import words_of
 from project.tree import TOP, program_of, take_program
 
 CASE = TOP / 'tests/cases/motes/print_then_yield'
@@ -80,7 +80,7 @@ def fronts_fault(answers: Sequence[Answer], report: bytes) -> str | None:
 
 @command('spoil_bytes')
 def main() -> int:
-    words = argparse.ArgumentParser(description=__doc__, formatter_class=argparse.RawDescriptionHelpFormatter)
+    words = words_of(__doc__)
     take_program(words)
     program = program_of(words.parse_args().program)
     text, report = CASE.with_suffix('.toml').read_bytes(), CASE.with_suffix('.expected').read_bytes()

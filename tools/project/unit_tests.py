@@ -6,7 +6,6 @@ the status 1 where one failed. As many files are run side by side as there are p
 """
 from __future__ import annotations
 
-import argparse
 import os
 import re
 import signal
@@ -18,6 +17,7 @@ from pathlib import Path
 from typing import NamedTuple
 
 from motesim.faults import Fault, command
+from motesim.words import words_of
 from project.tree import TOP
 
 TESTS = TOP / 'tools/tests'
@@ -77,7 +77,7 @@ def files_of(names: Sequence[str]) -> list[Path]:
 
 @command('test_tools')
 def main() -> int:
-    words = argparse.ArgumentParser(description=__doc__, formatter_class=argparse.RawDescriptionHelpFormatter)
+    words = words_of(__doc__)
     words.add_argument('names', nargs='*', metavar='NAME', help='a file of tools/tests, or a part of its name')
     with ThreadPoolExecutor(os.cpu_count()) as pool:
         told = list(pool.map(run_file, files_of(words.parse_args().names)))

@@ -8,7 +8,6 @@ on one thread has to answer what stands in it: a report, or the one line of a fa
 """
 from __future__ import annotations
 
-import argparse
 import itertools
 import subprocess
 import tempfile
@@ -17,6 +16,7 @@ from pathlib import Path
 from typing import Iterator
 
 from motesim.faults import Fault, command
+from motesim.words import words_of
 from project.tree import TOP, program_of, take_program
 
 WORKERS = ['1', '2', '3', '7', '16']
@@ -103,7 +103,7 @@ def all_of_the_gate(room: Path) -> list[Path]:
 
 @command('compare_workers')
 def main() -> int:
-    words = argparse.ArgumentParser(description=__doc__, formatter_class=argparse.RawDescriptionHelpFormatter)
+    words = words_of(__doc__)
     take_program(words)
     words.add_argument('names', nargs='*', metavar='FILE or FOLDER', help='scenarios; without them, the examples and a long one')
     asked = words.parse_args()

@@ -352,6 +352,11 @@ class Pages(unittest.TestCase):
         self.assertAlmostEqual(self.value('pane.moment(pane.gutter)'), 4, places=6)
         self.assertFalse(self.value('document.querySelector("aside").offsetHeight'))
 
+    def test_a_line_outside_of_the_moments_is_shown(self):
+        self.open(small_network(), fragment='#from=0&to=5&line=38')
+        self.assertEqual(self.selected(), '19 send 1 40')
+        self.assertTrue(self.value('pane.x(19) > pane.gutter && pane.x(19) < pane.canvas.clientWidth'))
+
     def test_an_address_selects_a_mote(self):
         self.open(small_network(), fragment='#mote=2')
         self.assertEqual(self.value('m.chosen().mote'), 2)

@@ -10,7 +10,6 @@ the formats, and how the files are opened. Ends with status 0, or with 2 where a
 """
 from __future__ import annotations
 
-import argparse
 import contextlib
 from collections.abc import Callable, Iterable
 from pathlib import Path
@@ -19,6 +18,7 @@ from motesim.export import pcapng, perfetto, tables, vcd
 from motesim.faults import Fault, command
 from motesim.report import Report
 from motesim.run import read_run
+from motesim.words import words_of
 
 ENDS = {'vcd': '.vcd', 'pcapng': '.pcapng', 'perfetto': '.perfetto.json', 'csv': ''}
 
@@ -53,7 +53,7 @@ def write(path: Path, parts: Iterable[bytes]) -> None:
 
 @command('export')
 def main() -> int:
-    words = argparse.ArgumentParser(description=__doc__, formatter_class=argparse.RawDescriptionHelpFormatter)
+    words = words_of(__doc__)
     words.add_argument('report', metavar='REPORT', help='a report, or a scenario NAME.toml; - is standard input')
     words.add_argument('--to', required=True, choices=list(ENDS), help='the form')
     words.add_argument('-o', dest='output', metavar='FILE',

@@ -22,6 +22,7 @@ from motesim.studio.desk import Desk
 from motesim.studio.runs import Limits, Runs
 from motesim.studio.server import Server
 from motesim.studio.session import Session
+from motesim.words import words_of
 
 NO_EDITOR = "The editor isn't installed (Debian's package libjs-codemirror): the page has a plain text area instead."
 
@@ -66,8 +67,7 @@ def serve(server: Server, is_open: bool) -> None:
 
 @command('studio')
 def main() -> int:
-    words = argparse.ArgumentParser(prog='tools/studio', description=__doc__,
-                                    formatter_class=argparse.RawDescriptionHelpFormatter)
+    words = words_of(__doc__, 'tools/studio')
     words.add_argument('file', nargs='?', metavar='FILE.toml', help='a scenario; where it is not there, a new one')
     words.add_argument('--no-open', action='store_true', help='print the address, and open no browser')
     usual = Limits()

@@ -35,7 +35,10 @@ function openAsAddressed() {
     let mote = 0;
     while (mote + 1 < pane.order.length && traceStart[mote + 1] + mote + 2 < wanted) mote++;
     const line = wanted - mote - 2;
-    if (line >= traceStart[mote] && line < traceStart[mote + 1]) chooseLine(pane, line, !wish.has('from'));
+    if (line >= traceStart[mote] && line < traceStart[mote + 1]) {
+      const after = pane.run.at[line] - time.begin, isShown = after >= 0 && after <= time.width / time.scale;
+      chooseLine(pane, line, !wish.has('from') || !isShown);
+    }
   }
 }
 
