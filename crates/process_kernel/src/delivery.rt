@@ -93,6 +93,7 @@ impl Machine {
     }
 
     /// The turn of an incarnation in the walk of an event that goes to all.
+    #[inline(always)]
     #[tactic(auto, unfolding(crate::specs::Delivery::visit_of))]
     fn give_in_turn(
         &mut self,

@@ -82,6 +82,7 @@ impl Machine {
     }
 
     /// The turn of an incarnation in the polls: if it is on the list, and its mark is set, it is called with POLL.
+    #[inline(always)]
     #[tactic(auto, unfolding(crate::specs::Polls::poll_turn_of))]
     fn poll_in_turn(&mut self, program: &Program, member: Member) -> Result<(), Stop>
         requires { HasRoom 0 self.old }
