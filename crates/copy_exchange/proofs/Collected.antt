@@ -9,9 +9,9 @@ use Rattle.copy_inbox.specs.Views.{make_desk}
 use Rattle.copy_inbox.specs.Items.{copies_of, part}
 use Rattle.copy_inbox.specs.Gathered.{TookFronts, Whole, NoOthers}
 use Rattle.copy_inbox.specs.Handles.{InboxId, TakerView, TakesCopies, after_taking}
-use Rattle.copy_exchange.specs.declared.courier.Courier.{Courier}
+use Rattle.copy_exchange.specs.declared.endpoint.Endpoint.{Endpoint}
 use Rattle.copy_inbox.proofs.Parts.{packets_copies}
-use Rattle.copy_exchange.specs.Couriers.{IsCourier, Collects}
+use Rattle.copy_exchange.specs.Endpoints.{IsEndpoint, Collects}
 use Rattle.copy_exchange.specs.Inboxes.{IsPlain}
 use Rattle.copy_exchange.specs.Desks.{SameOfEach, taken_by, gathered_by, IsRest, IsOrderly}
 use Rattle.copy_exchange.proofs.Parts.{from, copies-append}
@@ -53,25 +53,25 @@ now_in_order old new copies h takes none whole s =
     let whole' : Whole old.desk.gathered (old.desk.taken ++ items) = subst (λ (t : TakerView). Whole t.desk.gathered t.desk.taken) e whole in
     ap (λ (t : TakerView). from s (taken_by t)) e ∙ h.in_order items (whole', none') s
 
--- ---- the courier after it
-abbrev pub with_taker : Courier → TakerView → Courier
+-- ---- the endpoint after it
+abbrev pub with_taker : Endpoint → TakerView → Endpoint
 with_taker c t = record { worker = c.worker; taker = t; senders = c.senders }
 
-module _ (inboxes : List InboxId) (c : Courier) (t : TakerView) (r : Result (Vec RadioCopy Global) InboxError)
-    (courier : IsCourier inboxes c)
+module _ (inboxes : List InboxId) (c : Endpoint) (t : TakerView) (r : Result (Vec RadioCopy Global) InboxError)
+    (endpoint : IsEndpoint inboxes c)
     (takes : IfOk r (λ copies. TakesCopies c.taker t copies.items))
     (begun : OnOk r (TookFronts t.desk.gathered t.desk.taken))
     (others : OnOk r (NoOthers c.taker.desk.gathered c.taker.desk.taken t.desk.taken)) where
-  pub courier_on : OnOk r (IsCourier inboxes (with_taker c t))
-  courier_on = cases r takes begun others
+  pub endpoint_on : OnOk r (IsEndpoint inboxes (with_taker c t))
+  endpoint_on = cases r takes begun others
     where
       cases : (q : Result (Vec RadioCopy Global) InboxError) → IfOk q (λ copies. TakesCopies c.taker t copies.items) → OnOk q (TookFronts t.desk.gathered t.desk.taken)
-          → OnOk q (NoOthers c.taker.desk.gathered c.taker.desk.taken t.desk.taken) → OnOk q (IsCourier inboxes (with_taker c t))
+          → OnOk q (NoOthers c.taker.desk.gathered c.taker.desk.taken t.desk.taken) → OnOk q (IsEndpoint inboxes (with_taker c t))
       cases (Ok copies) takes begun others = record {
-        taker = courier.taker ∙ ap (λ (u : TakerView). Some u.inbox) (sym takes.2);
-        count = courier.count;
-        each = courier.each;
-        stands = stands_on c.taker t copies.items courier.stands takes others begun;
+        taker = endpoint.taker ∙ ap (λ (u : TakerView). Some u.inbox) (sym takes.2);
+        count = endpoint.count;
+        each = endpoint.each;
+        stands = stands_on c.taker t copies.items endpoint.stands takes others begun;
       }
       cases (Err e) takes begun others = tt
 
@@ -91,7 +91,7 @@ module _ (inboxes : List InboxId) (c : Courier) (t : TakerView) (r : Result (Vec
         };
         plain = ap (λ (u : TakerView). u.desk.marked) takes.2 ∙ plain;
         adds = adds c.taker t copies.items takes;
-        in_order = now_in_order c.taker t copies.items courier.stands takes others whole;
+        in_order = now_in_order c.taker t copies.items endpoint.stands takes others whole;
         all = whole;
         delivers_none = λ v. refl;
       }

@@ -16,7 +16,7 @@ use Rattle.copy_inbox.specs.Views.{make_desk, make_gathered}
 use Rattle.copy_inbox.specs.Handles.{TakerView, SenderView, after_gather, AllGathered, PacketsLeft}
 use Rattle.copy_inbox.proofs.Parts.{part-append}
 use Rattle.copy_exchange.specs.Desks.{SameOfEach, copies_pushed, copies_in, IsRest, IsOrderly}
-use Rattle.copy_exchange.specs.Couriers.{AreOpen}
+use Rattle.copy_exchange.specs.Endpoints.{AreOpen}
 use Rattle.copy_exchange.specs.Steps.{gather_posts}
 use Rattle.copy_exchange.proofs.Lists.{each_map}
 use Rattle.copy_exchange.proofs.Parts.{from, from-append, copies-append, OnlyIn, of_one_sender, nothing_more}

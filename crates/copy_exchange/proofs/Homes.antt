@@ -1,4 +1,4 @@
--- What the takers have gathered when all couriers are back.
+-- What the takers have gathered when all endpoints are back.
 use Rattle.std.proofs.Common.{◌≡◌, ℕ, zero, suc, ◌+◌, ◌<◌, Bool, List, [], ◌∷◌, ◌++◌, length, map, get_or, slice_get, Option, Some, None, Vec, refl, sym, ap, ◌∙◌, subst, arith}
 use Rattle.std.specs.List.{AllByRecursion as Each, AllZip, cons_option, filter_map, range_with_len}
 use Rattle.std.proofs.lemmas.List.{length-map}
@@ -11,9 +11,9 @@ use Rattle.copy_inbox.specs.declared.rule.Post.{Post}
 use Rattle.copy_inbox.specs.Items.{Packets}
 use Rattle.copy_inbox.specs.Gathered.{is_gathered}
 use Rattle.copy_inbox.specs.Handles.{InboxId, TakerView, SenderView, after_gather, AllGathered, PacketsLeft}
-use Rattle.copy_exchange.specs.declared.courier.Courier.{Courier}
+use Rattle.copy_exchange.specs.declared.endpoint.Endpoint.{Endpoint}
 use Rattle.copy_exchange.specs.Desks.{copies_in, IsOrderly}
-use Rattle.copy_exchange.specs.Couriers.{IsCourier, IsSeated, IsCollected, DeliversOwn, Stays, AreOpen, Returns, AllReturn, ComesHome, sender_to, senders_to, seat_of}
+use Rattle.copy_exchange.specs.Endpoints.{IsEndpoint, IsSeated, IsCollected, DeliversOwn, Stays, AreOpen, Returns, AllReturn, ComesHome, sender_to, senders_to, seat_of}
 use Rattle.copy_exchange.specs.Inboxes.{IsPlain, IsSettled, Settled}
 use Rattle.copy_exchange.specs.Steps.{AreTakersOf, GathersRow, GathersBack, TellsOf, gather_into, gather_posts, at_place}
 use Rattle.copy_exchange.proofs.Gathers.{gather_is, with_joined, numbers_of, joined_copies, all_gathered, stands_then, packets_then, OneOf}
@@ -22,13 +22,13 @@ use Rattle.copy_exchange.proofs.Lists.{each_from, each_join, each_map}
 use Rattle.copy_exchange.proofs.Rows.{into_inbox}
 use Rattle.copy_exchange.proofs.Owns.{workers_of, delivered_is, one_of}
 
--- ---- what stays is what is asked of the couriers
+-- ---- what stays is what is asked of the endpoints
 read_map : (l : List (Option SenderView)) (v : ℕ) → seat_of (get_or l v None) ≡ get_or (map seat_of l) v None
 read_map [] v = refl
 read_map (x ∷ xs) zero = refl
 read_map (x ∷ xs) (suc v) = read_map xs v
 
-pub same_seat : (old new : Courier) (v : ℕ) → Stays old new → seat_of (sender_to new v) ≡ seat_of (sender_to old v)
+pub same_seat : (old new : Endpoint) (v : ℕ) → Stays old new → seat_of (sender_to new v) ≡ seat_of (sender_to old v)
 same_seat old new v h = read_map new.senders.items v ∙ (ap (λ l. get_or l v None) h.seats ∙ sym (read_map old.senders.items v))
 
 numbers_same : (o p : Option SenderView) (ss us : List SenderView) → seat_of o ≡ seat_of p → numbers_of ss ≡ numbers_of us → numbers_of (cons_option o ss) ≡ numbers_of (cons_option p us)
@@ -40,36 +40,36 @@ numbers_same (Some p) (Some q) ss us e h =
     let number : p.post.number ≡ q.post.number = ap (λ (x : InboxId × ℕ × Bool). x.1) seat in
     λ i. number i ∷ h i
 
-pub same_workers : (old new : List Courier) → AllZip Stays old new → workers_of new ≡ workers_of old
+pub same_workers : (old new : List Endpoint) → AllZip Stays old new → workers_of new ≡ workers_of old
 same_workers [] [] h = refl
 same_workers (a ∷ as') (b ∷ bs) h = λ i. h.0.worker i ∷ same_workers as' bs h.1 i
 same_workers [] (b ∷ bs) h = absurd h
 same_workers (a ∷ as') [] h = absurd h
 
-same_numbers : (old new : List Courier) (v : ℕ) → AllZip Stays old new → numbers_of (senders_to new v) ≡ numbers_of (senders_to old v)
+same_numbers : (old new : List Endpoint) (v : ℕ) → AllZip Stays old new → numbers_of (senders_to new v) ≡ numbers_of (senders_to old v)
 same_numbers [] [] v h = refl
 same_numbers (a ∷ as') (b ∷ bs) v h = numbers_same (sender_to b v) (sender_to a v) (senders_to bs v) (senders_to as' v) (same_seat a b v h.0) (same_numbers as' bs v h.1)
 same_numbers [] (b ∷ bs) v h = absurd h
 same_numbers (a ∷ as') [] v h = absurd h
 
-module _ (P Q : Courier → Type 0) (f : (a b : Courier) → P a → Stays a b → Q b) where
-  pub each_staying : (old new : List Courier) → Each P old → AllZip Stays old new → Each Q new
+module _ (P Q : Endpoint → Type 0) (f : (a b : Endpoint) → P a → Stays a b → Q b) where
+  pub each_staying : (old new : List Endpoint) → Each P old → AllZip Stays old new → Each Q new
   each_staying [] [] e h = tt
   each_staying (a ∷ as') (b ∷ bs) e h = (f a b e.0 h.0, each_staying as' bs e.1 h.1)
   each_staying [] (b ∷ bs) e h = absurd h
   each_staying (a ∷ as') [] e h = absurd h
 
 module _ (inboxes : List InboxId) (worker_of : ℕ → ℕ) where
-  abbrev Back : List Courier → List Courier → Type 0
+  abbrev Back : List Endpoint → List Endpoint → Type 0
   Back old new = AllZip (Returns inboxes worker_of) old new
 
-  stayed : (old new : List Courier) → Back old new → AllZip Stays old new
+  stayed : (old new : List Endpoint) → Back old new → AllZip Stays old new
   stayed [] [] h = tt
   stayed (a ∷ as') (b ∷ bs) h = (h.0.stays, stayed as' bs h.1)
   stayed [] (b ∷ bs) h = absurd h
   stayed (a ∷ as') [] h = absurd h
 
-  each_back : (P : Courier → Type 0) → ((a b : Courier) → Returns inboxes worker_of a b → P b) → (old new : List Courier) → Back old new → Each P new
+  each_back : (P : Endpoint → Type 0) → ((a b : Endpoint) → Returns inboxes worker_of a b → P b) → (old new : List Endpoint) → Back old new → Each P new
   each_back P f [] [] h = tt
   each_back P f (a ∷ as') (b ∷ bs) h = (f a b h.0, each_back P f as' bs h.1)
   each_back P f [] (b ∷ bs) h = absurd h
@@ -86,20 +86,20 @@ open_same ss us d e h numbers made gathered =
       newer = λ i le. ap (λ g. is_gathered g i) gathered ∙ h.newer i le;
     }
 
--- whose senders are open stays so while the couriers stay the same
-pub open_staying : (old new : List Courier) → AllZip Stays old new → Each (λ (c : Courier). AreOpen (senders_to old c.worker) c.taker.desk) old → Each (λ (c : Courier). AreOpen (senders_to new c.worker) c.taker.desk) new
+-- whose senders are open stays so while the endpoints stay the same
+pub open_staying : (old new : List Endpoint) → AllZip Stays old new → Each (λ (c : Endpoint). AreOpen (senders_to old c.worker) c.taker.desk) old → Each (λ (c : Endpoint). AreOpen (senders_to new c.worker) c.taker.desk) new
 open_staying old new stays are_open =
     each_staying (λ c. AreOpen (senders_to old c.worker) c.taker.desk) (λ c. AreOpen (senders_to new c.worker) c.taker.desk)
     (λ a b h r. open_same (senders_to old a.worker) (senders_to new b.worker) a.taker.desk b.taker.desk h (same_numbers old new b.worker stays ∙ ap (λ v. numbers_of (senders_to old v)) r.worker) r.made r.gathered)
     old new are_open stays
 
-module _ (P Q R S : Courier → Type 0) where
-  each_three : ((c : Courier) → P c → Q c → R c → S c) → (cs : List Courier) → Each P cs → Each Q cs → Each R cs → Each S cs
+module _ (P Q R S : Endpoint → Type 0) where
+  each_three : ((c : Endpoint) → P c → Q c → R c → S c) → (cs : List Endpoint) → Each P cs → Each Q cs → Each R cs → Each S cs
   each_three f [] p q r = tt
   each_three f (c ∷ cs) p q r = (f c p.0 q.0 r.0, each_three f cs p.1 q.1 r.1)
 
-module _ (inboxes : List InboxId) (cs : List Courier) (back : AllReturn inboxes cs) where
-  abbrev before : List Courier
+module _ (inboxes : List InboxId) (cs : List Endpoint) (back : AllReturn inboxes cs) where
+  abbrev before : List Endpoint
   before = back.before
 
   stays : AllZip Stays before cs
@@ -109,38 +109,38 @@ module _ (inboxes : List InboxId) (cs : List Courier) (back : AllReturn inboxes 
   workers = same_workers before cs stays ∙ back.together.workers
 
   pub count : length cs ≡ length inboxes
-  count = sym (length-map cs (λ (c : Courier). c.worker)) ∙ (ap length workers ∙ length-range_with_len 0 (length inboxes))
+  count = sym (length-map cs (λ (c : Endpoint). c.worker)) ∙ (ap length workers ∙ length-range_with_len 0 (length inboxes))
 
-  still_open : Each (λ (c : Courier). AreOpen (senders_to cs c.worker) c.taker.desk) cs
+  still_open : Each (λ (c : Endpoint). AreOpen (senders_to cs c.worker) c.taker.desk) cs
   still_open = open_staying before cs stays back.together.are_open
 
   pub owns : Each (DeliversOwn back.worker_of) cs
   owns = each_back inboxes back.worker_of (DeliversOwn back.worker_of) (λ a b r. r.own) before cs back.each
 
   pub all_seated : Each (IsSeated inboxes) cs
-  all_seated = each_back inboxes back.worker_of (IsSeated inboxes) (λ a b r. seated inboxes b r.courier) before cs back.each
+  all_seated = each_back inboxes back.worker_of (IsSeated inboxes) (λ a b r. seated inboxes b r.endpoint) before cs back.each
 
   one : (s v : ℕ) → OneOf s (senders_to cs v)
   one s v = one_of back.worker_of s v 0 cs (workers ∙ ap (range_with_len 0) (sym count)) owns
 
   -- the taker with all senders of its inbox gathered
-  abbrev pub with_all : Courier → TakerView
+  abbrev pub with_all : Endpoint → TakerView
   with_all c = gather_posts c.taker (senders_to cs c.worker)
 
   -- it had taken all that it knew of, and its inbox has no marks
-  abbrev IsDone : Courier → Type 0
+  abbrev IsDone : Endpoint → Type 0
   IsDone c = IsCollected c × IsPlain c.taker
 
-  abbrev pub IsHome : Courier → Type 0
-  IsHome c = IsCourier inboxes c × (IsOrderly (with_all c).desk × AllGathered (with_all c).desk) × ComesHome cs c (with_all c) × IsDone c
+  abbrev pub IsHome : Endpoint → Type 0
+  IsHome c = IsEndpoint inboxes c × (IsOrderly (with_all c).desk × AllGathered (with_all c).desk) × ComesHome cs c (with_all c) × IsDone c
 
-  home : (c : Courier) → AreOpen (senders_to cs c.worker) c.taker.desk → IsCourier inboxes c → IsDone c → IsHome c
-  home c are_open courier done =
+  home : (c : Endpoint) → AreOpen (senders_to cs c.worker) c.taker.desk → IsEndpoint inboxes c → IsDone c → IsHome c
+  home c are_open endpoint done =
       let ss : List SenderView = senders_to cs c.worker in
       let d : Desk = c.taker.desk in
       let P : TakerView → Type 0 = λ t. (IsOrderly t.desk × AllGathered t.desk) × ComesHome cs c t in
       let then_ : P (record { inbox = c.taker.inbox; desk = with_joined ss d }) = (
-        (stands_then ss d courier.stands done.0 are_open (λ s. one s c.worker), all_gathered ss d courier.stands done.0 are_open (λ s. one s c.worker)),
+        (stands_then ss d endpoint.stands done.0 are_open (λ s. one s c.worker), all_gathered ss d endpoint.stands done.0 are_open (λ s. one s c.worker)),
         record {
           same_marked = refl;
           same_taken = refl;
@@ -148,14 +148,14 @@ module _ (inboxes : List InboxId) (cs : List Courier) (back : AllReturn inboxes 
         },
       ) in
       let both = subst P (sym (gather_is c.taker ss)) then_ in
-      (courier, both.0, both.1, done)
+      (endpoint, both.0, both.1, done)
 
   pub homes : Each IsHome cs
-  homes = each_three (λ c. AreOpen (senders_to cs c.worker) c.taker.desk) (IsCourier inboxes) IsDone IsHome home cs still_open
-      (each_back inboxes back.worker_of (IsCourier inboxes) (λ a b r. r.courier) before cs back.each)
+  homes = each_three (λ c. AreOpen (senders_to cs c.worker) c.taker.desk) (IsEndpoint inboxes) IsDone IsHome home cs still_open
+      (each_back inboxes back.worker_of (IsEndpoint inboxes) (λ a b r. r.endpoint) before cs back.each)
       (each_back inboxes back.worker_of IsDone (λ a b r. (r.collected, r.plain)) before cs back.each)
 
-  pub settled_at : (c : Courier) → IsHome c → Each (λ (s : SenderView). TellsOf c.taker.desk s.post) (senders_to cs c.worker) → IsSettled c.taker.inbox (with_all c)
+  pub settled_at : (c : Endpoint) → IsHome c → Each (λ (s : SenderView). TellsOf c.taker.desk s.post) (senders_to cs c.worker) → IsSettled c.taker.inbox (with_all c)
   settled_at c h told =
       let ss : List SenderView = senders_to cs c.worker in
       let is = gather_is c.taker ss in
@@ -226,9 +226,9 @@ takers_after inboxes old new senders a r =
     }
 
 -- ---- place by place
-module _ (P : Courier → Type 0) where
-  pub pick : (k : ℕ) (cs : List Courier) → workers_of cs ≡ range_with_len k (length cs) → Each P cs → (v : ℕ) → v < length cs
-      → (c : Courier) × (c.worker ≡ k + v) × ((t : TakerView) → get_or (map (λ (x : Courier). x.taker) cs) v t ≡ c.taker) × ((d : Courier) → get_or cs v d ≡ c) × P c
+module _ (P : Endpoint → Type 0) where
+  pub pick : (k : ℕ) (cs : List Endpoint) → workers_of cs ≡ range_with_len k (length cs) → Each P cs → (v : ℕ) → v < length cs
+      → (c : Endpoint) × (c.worker ≡ k + v) × ((t : TakerView) → get_or (map (λ (x : Endpoint). x.taker) cs) v t ≡ c.taker) × ((d : Endpoint) → get_or cs v d ≡ c) × P c
   pick k [] e h v lt = absurd (omega arith)
   pick k (c ∷ cs) e h zero lt = (c, (let n : c.worker ≡ k = cc in omega arith), λ t. refl, λ d. refl, h.0)
   pick k (c ∷ cs) e h (suc v) lt =
@@ -243,11 +243,11 @@ zip_each R (x ∷ xs) (y ∷ ys) len f = (f 0 x y (omega arith), zip_each R xs y
 zip_each R [] (y ∷ ys) len f = absurd (omega arith)
 zip_each R (x ∷ xs) [] len f = absurd (omega arith)
 
-module _ (inboxes : List InboxId) (cs : List Courier) (back : AllReturn inboxes cs) where
+module _ (inboxes : List InboxId) (cs : List Endpoint) (back : AllReturn inboxes cs) where
   long : length cs ≡ length inboxes
   long = count inboxes cs back
 
-  picked : (v : ℕ) → v < length cs → (c : Courier) × (c.worker ≡ 0 + v) × ((t : TakerView) → get_or (map (λ (x : Courier). x.taker) cs) v t ≡ c.taker) × ((d : Courier) → get_or cs v d ≡ c) × IsHome inboxes cs back c
+  picked : (v : ℕ) → v < length cs → (c : Endpoint) × (c.worker ≡ 0 + v) × ((t : TakerView) → get_or (map (λ (x : Endpoint). x.taker) cs) v t ≡ c.taker) × ((d : Endpoint) → get_or cs v d ≡ c) × IsHome inboxes cs back c
   picked v lt = pick (IsHome inboxes cs back) 0 cs (workers inboxes cs back ∙ ap (range_with_len 0) (sym long)) (homes inboxes cs back) v lt
 
   inbox_of : (v : ℕ) (id : InboxId) (lt : v < length cs) → (picked v lt).0.taker.inbox ≡ get_or inboxes v id
@@ -295,5 +295,5 @@ module _ (inboxes : List InboxId) (cs : List Courier) (back : AllReturn inboxes 
 
     pub came_home : AllZip (ComesHome cs) cs ts
     came_home = zip_each (ComesHome cs) cs ts h.count (λ v d t lt.
-        let P : Courier × TakerView → Type 0 = λ x. ComesHome cs x.0 x.1 in
+        let P : Endpoint × TakerView → Type 0 = λ x. ComesHome cs x.0 x.1 in
         subst P (λ i. (sym ((picked v lt).3 d) i, sym (taker_is v t lt) i)) (picked v lt).4.2)

@@ -1,4 +1,4 @@
--- The couriers at the start of a window.
+-- The endpoints at the start of a window.
 use Rattle.std.proofs.Common.{◌≡◌, ℕ, zero, suc, ◌+◌, ◌<◌, ◌≤◌, ◌==◌, Bool, true, false, List, [], ◌∷◌, ◌++◌, length, get_or, slice_get, Option, Some, None, refl, sym, ap, ◌∙◌, subst, ⊎_elim, arith, append-nil, length-append, add-zero, map-id}
 use Rattle.std.specs.List.{AllByRecursion as Each, AllZip, cons_option, range_with_len, zip}
 use Rattle.std.proofs.lemmas.Bool.{cases_lt}
@@ -10,9 +10,9 @@ use Rattle.copy_inbox.specs.declared.rule.Gathered.{Gathered}
 use Rattle.copy_inbox.specs.Gathered.{is_gathered}
 use Rattle.copy_inbox.specs.Views.{make_desk, make_post}
 use Rattle.copy_inbox.specs.Handles.{InboxId, TakerView, SenderView, AllGathered}
-use Rattle.copy_exchange.specs.declared.courier.Courier.{Courier}
+use Rattle.copy_exchange.specs.declared.endpoint.Endpoint.{Endpoint}
 use Rattle.copy_exchange.specs.Desks.{copies_pushed, IsOrderly}
-use Rattle.copy_exchange.specs.Couriers.{IsCourier, IsSenderOn, AreOpen, Together, SetsOut, HasMarks, HasPushedNothing, senders_to, pushed_by, pushed_list}
+use Rattle.copy_exchange.specs.Endpoints.{IsEndpoint, IsSenderOn, AreOpen, Together, SetsOut, HasMarks, HasPushedNothing, senders_to, pushed_by, pushed_list}
 use Rattle.copy_exchange.specs.Inboxes.{IsSettled, Settled}
 use Rattle.copy_exchange.specs.Steps.{AreTakersOf, Opens, at_place, opened_taker, opened_sender}
 use Rattle.copy_exchange.proofs.Lists.{each_at, each_map, each_more}
@@ -185,19 +185,19 @@ opens_more_rows inboxes u old mid new rows row h r e =
           ∙ ap (λ l. range_with_len (get_or old v t).desk.made (length l)) (sym (joined v t lt)));
     }
 
--- ---- the couriers of these takers and rows
-abbrev pub courier_of : ℕ → TakerView → Row → Courier
-courier_of u t row = record { worker = u; taker = t; senders = row }
+-- ---- the endpoints of these takers and rows
+abbrev pub endpoint_of : ℕ → TakerView → Row → Endpoint
+endpoint_of u t row = record { worker = u; taker = t; senders = row }
 
-abbrev pub built : ℕ → List (TakerView × Row) → List Courier
+abbrev pub built : ℕ → List (TakerView × Row) → List Endpoint
 built u [] = []
-built u (p ∷ ps) = courier_of u p.0 p.1 ∷ built (u + 1) ps
+built u (p ∷ ps) = endpoint_of u p.0 p.1 ∷ built (u + 1) ps
 
-pub built_more : (u : ℕ) (ps : List (TakerView × Row)) (p : TakerView × Row) → built u (ps ++ p ∷ []) ≡ built u ps ++ courier_of (u + length ps) p.0 p.1 ∷ []
-built_more u [] p = ap (λ k. courier_of k p.0 p.1 ∷ []) (sym (add-zero u))
+pub built_more : (u : ℕ) (ps : List (TakerView × Row)) (p : TakerView × Row) → built u (ps ++ p ∷ []) ≡ built u ps ++ endpoint_of (u + length ps) p.0 p.1 ∷ []
+built_more u [] p = ap (λ k. endpoint_of k p.0 p.1 ∷ []) (sym (add-zero u))
 built_more u (q ∷ qs) p =
     let e : u + 1 + length qs ≡ u + suc (length qs) = omega arith in
-    ap (λ l. courier_of u q.0 q.1 ∷ l) (built_more (u + 1) qs p ∙ ap (λ k. built (u + 1) qs ++ courier_of k p.0 p.1 ∷ []) e)
+    ap (λ l. endpoint_of u q.0 q.1 ∷ l) (built_more (u + 1) qs p ∙ ap (λ k. built (u + 1) qs ++ endpoint_of k p.0 p.1 ∷ []) e)
 
 pub built_length : (u : ℕ) (ts : List TakerView) (rows : List Row) → length rows ≡ length ts → length (built u (zip ts rows)) ≡ length ts
 built_length u [] [] e = refl
@@ -217,30 +217,30 @@ built_senders u (t ∷ ts) (r ∷ rs) v e = ap (cons_option (at_place r.items v)
 built_senders u [] (r ∷ rs) v e = absurd (omega arith)
 built_senders u (t ∷ ts) [] v e = absurd (omega arith)
 
-module _ (P : Courier → Type 0) where
-  built_each : (u : ℕ) (ts : List TakerView) (rows : List Row) → length rows ≡ length ts → ((i : ℕ) (t : TakerView) (r : Row) → i < length ts → P (courier_of (u + i) (get_or ts i t) (get_or rows i r))) → Each P (built u (zip ts rows))
+module _ (P : Endpoint → Type 0) where
+  built_each : (u : ℕ) (ts : List TakerView) (rows : List Row) → length rows ≡ length ts → ((i : ℕ) (t : TakerView) (r : Row) → i < length ts → P (endpoint_of (u + i) (get_or ts i t) (get_or rows i r))) → Each P (built u (zip ts rows))
   built_each u [] [] e f = tt
   built_each u (t ∷ ts) (r ∷ rs) e f =
-      let Q : ℕ → Type 0 = λ k. P (courier_of k t r) in (
+      let Q : ℕ → Type 0 = λ k. P (endpoint_of k t r) in (
         subst Q (add-zero u) (f 0 t r (omega arith)),
         built_each (u + 1) ts rs (omega arith) (λ i t' r' lt.
             let e : u + suc i ≡ u + 1 + i = omega arith in
-            let R : ℕ → Type 0 = λ k. P (courier_of k (get_or ts i t') (get_or rs i r')) in
+            let R : ℕ → Type 0 = λ k. P (endpoint_of k (get_or ts i t') (get_or rs i r')) in
             subst R e (f (suc i) t' r' (omega arith))),
       )
   built_each u [] (r ∷ rs) e f = absurd (omega arith)
   built_each u (t ∷ ts) [] e f = absurd (omega arith)
 
-module _ (R : TakerView → Courier → Type 0) where
+module _ (R : TakerView → Endpoint → Type 0) where
   built_zip : (u : ℕ) (olds ts : List TakerView) (rows : List Row) → length rows ≡ length ts → length olds ≡ length ts
-      → ((i : ℕ) (o t : TakerView) (r : Row) → i < length ts → R (get_or olds i o) (courier_of (u + i) (get_or ts i t) (get_or rows i r))) → AllZip R olds (built u (zip ts rows))
+      → ((i : ℕ) (o t : TakerView) (r : Row) → i < length ts → R (get_or olds i o) (endpoint_of (u + i) (get_or ts i t) (get_or rows i r))) → AllZip R olds (built u (zip ts rows))
   built_zip u [] [] [] e same f = tt
   built_zip u (o ∷ os) (t ∷ ts) (r ∷ rs) e same f =
-      let Q : ℕ → Type 0 = λ k. R o (courier_of k t r) in (
+      let Q : ℕ → Type 0 = λ k. R o (endpoint_of k t r) in (
         subst Q (add-zero u) (f 0 o t r (omega arith)),
         built_zip (u + 1) os ts rs (omega arith) (omega arith) (λ i o' t' r' lt.
             let e : u + suc i ≡ u + 1 + i = omega arith in
-            let S : ℕ → Type 0 = λ k. R (get_or os i o') (courier_of k (get_or ts i t') (get_or rs i r')) in
+            let S : ℕ → Type 0 = λ k. R (get_or os i o') (endpoint_of k (get_or ts i t') (get_or rs i r')) in
             subst S e (f (suc i) o' t' r' (omega arith))),
       )
   built_zip u [] [] (r ∷ rs) e same f = absurd (omega arith)
@@ -261,7 +261,7 @@ row_at inboxes u (r ∷ rs) (suc i) d h lt =
     subst P e (row_at inboxes (u + 1) rs i d h.1 (omega arith))
 
 module _ (inboxes : List InboxId) (olds ts : List TakerView) (rows : List Row) (settled : Settled inboxes olds) (h : OpensRows inboxes olds ts rows) (long : length rows ≡ length inboxes) where
-  abbrev Made : List Courier
+  abbrev Made : List Endpoint
   Made = built 0 (zip ts rows)
 
   old_long : length olds ≡ length inboxes
@@ -274,8 +274,8 @@ module _ (inboxes : List InboxId) (olds ts : List TakerView) (rows : List Row) (
   inbox_at : (i : ℕ) (id : InboxId) → i < length inboxes → slice_get inboxes i ≡ Some (get_or inboxes i id)
   inbox_at i id lt = slice_get-get_or inboxes i id lt
 
-  courier_at : (i : ℕ) (t : TakerView) (r : Row) → i < length ts → IsCourier inboxes (courier_of (0 + i) (get_or ts i t) (get_or rows i r))
-  courier_at i t r lt =
+  endpoint_at : (i : ℕ) (t : TakerView) (r : Row) → i < length ts → IsEndpoint inboxes (endpoint_of (0 + i) (get_or ts i t) (get_or rows i r))
+  endpoint_at i t r lt =
       let n = h.takers.count in
       let m = row_long in
       let inside : i < length inboxes = omega arith in
@@ -311,7 +311,7 @@ module _ (inboxes : List InboxId) (olds ts : List TakerView) (rows : List Row) (
   pub together : Together inboxes Made
   together = record {
     workers = built_workers 0 ts rows row_long ∙ (ap (range_with_len 0) (h.takers.count));
-    each = built_each (IsCourier inboxes) 0 ts rows row_long courier_at;
+    each = built_each (IsEndpoint inboxes) 0 ts rows row_long endpoint_at;
     are_open = built_each (λ c. AreOpen (senders_to Made c.worker) c.taker.desk) 0 ts rows row_long open_at;
   }
 

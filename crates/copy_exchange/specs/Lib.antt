@@ -1,4 +1,4 @@
-pub mod Couriers
+pub mod Endpoints
 pub mod Desks
 pub mod Inboxes
 pub mod Steps

@@ -9,8 +9,8 @@ use Rattle.copy_inbox.specs.declared.rule.Post.{Post}
 use Rattle.copy_inbox.specs.Items.{Packets, BeginsWith, part}
 use Rattle.copy_inbox.specs.Views.{make_post}
 use Rattle.copy_inbox.specs.Handles.{InboxId, TakerView, SenderView, after_sender, after_gather}
-use Rattle.copy_exchange.specs.declared.courier.Courier.{Courier}
-use Rattle.copy_exchange.specs.Couriers.{Stays, sender_to, senders_to, pushed_to}
+use Rattle.copy_exchange.specs.declared.endpoint.Endpoint.{Endpoint}
+use Rattle.copy_exchange.specs.Endpoints.{Stays, sender_to, senders_to, pushed_to}
 
 -- each taker is that of the inbox at its place
 pub record AreTakersOf (inboxes : List InboxId) (takers : List TakerView) : Type 0 where
@@ -66,13 +66,13 @@ abbrev pub gather_posts : TakerView → List SenderView → TakerView
 gather_posts t [] = t
 gather_posts t (s ∷ senders) = gather_posts (after_gather t s.post) senders
 
--- the taker of each courier has gathered all senders on its inbox, in the order of their couriers
-pub record GathersBack (couriers : List Courier) (takers : List TakerView) : Type 0 where
-  pub count : length takers ≡ length couriers
-  pub taker : (v : ℕ) (c : Courier) (t : TakerView) → slice_get couriers v ≡ Some c → slice_get takers v ≡ Some t
-      → t ≡ gather_posts c.taker (senders_to couriers v)
-  pub told : (v : ℕ) (c : Courier) → slice_get couriers v ≡ Some c
-      → Each (λ (s : SenderView). TellsOf c.taker.desk s.post) (senders_to couriers v)
+-- the taker of each endpoint has gathered all senders on its inbox, in the order of their endpoints
+pub record GathersBack (endpoints : List Endpoint) (takers : List TakerView) : Type 0 where
+  pub count : length takers ≡ length endpoints
+  pub taker : (v : ℕ) (c : Endpoint) (t : TakerView) → slice_get endpoints v ≡ Some c → slice_get takers v ≡ Some t
+      → t ≡ gather_posts c.taker (senders_to endpoints v)
+  pub told : (v : ℕ) (c : Endpoint) → slice_get endpoints v ≡ Some c
+      → Each (λ (s : SenderView). TellsOf c.taker.desk s.post) (senders_to endpoints v)
 
 -- ---- a mark goes through one sender
 abbrev pub pushed_with_mark : Option SenderView → (window : ℕ) → List Carried
@@ -80,7 +80,7 @@ pushed_with_mark None window = []
 pushed_with_mark (Some s) window = s.post.pushed ++ Mark window ∷ []
 
 -- the sender at this place, if there is one, pushed the mark; all else is as it was
-pub record MarksOne (to window : ℕ) (old new : Courier) : Type 0 where
+pub record MarksOne (to window : ℕ) (old new : Endpoint) : Type 0 where
   pub stays : Stays old new
   pub taker : new.taker ≡ old.taker
   pub here : pushed_to new to ≡ pushed_with_mark (sender_to old to) window

@@ -6,7 +6,7 @@ ghost use Rattle.fork_join.specs.declared.work.Refused.TheVariants.{Memory};
 ghost use Rattle.mote_net.specs.Net.{net_of};
 ghost use Rattle.net_agenda.specs.NetSystem.{system_of};
 ghost use Rattle.window_laws.specs.System.{RunsForward};
-ghost use Rattle.copy_exchange.specs.Couriers.{AllReturn, ComesHome};
+ghost use Rattle.copy_exchange.specs.Endpoints.{AllReturn, ComesHome};
 ghost use Rattle.copy_exchange.specs.Inboxes.{IsPlain, Settled};
 ghost use Rattle.all_workers.specs.Workers.{IsAt};
 ghost use Rattle.joined_workers.specs.Laws.{RunsAll};
@@ -15,7 +15,7 @@ ghost use Rattle.joined_workers.specs.Worker.{IsReady, RunsWorker};
 use crate::next::first_of_all;
 use crate::worker::{CrewWindow, Runner};
 use all_workers::{Worker, Workers, parted, set_out, workers_of};
-use copy_exchange::{Courier, gathered};
+use copy_exchange::{Endpoint, gathered};
 use copy_inbox::{Inbox, Taker};
 use fork_join::{Refused, fork_join};
 use mote_net::Net;
@@ -30,15 +30,15 @@ fn come_home<R: Wait>(
     rt: &R,
     alloc: Global,
     inboxes: &[Inbox],
-    couriers: Vec<Courier>,
+    endpoints: Vec<Endpoint>,
 ) -> Result<Vec<Taker>, Refused>
-    requires { AllReturn inboxes.now couriers.items }
+    requires { AllReturn inboxes.now endpoints.items }
     ensures settled { IfOk result (λ takers. Settled inboxes.now takers.items) }
     ensures plain { IfOk result (λ takers. Each IsPlain takers.items) }
-    ensures came_home { IfOk result (λ takers. AllZip (ComesHome couriers.items) couriers.items takers.items) }
+    ensures came_home { IfOk result (λ takers. AllZip (ComesHome endpoints.items) endpoints.items takers.items) }
     ensures refused { IfErr result (λ reason. reason ≡ Memory) }
 {
-    match gathered(rt, alloc, inboxes, couriers) {
+    match gathered(rt, alloc, inboxes, endpoints) {
         Ok(takers) => Ok(takers),
         Err(_) => Err(Refused::Memory),
     }
@@ -89,8 +89,8 @@ where
         takers,
         first_out: _,
     } = crew;
-    let couriers = set_out(alloc, &inboxes, takers)?;
-    let workers = workers_of(alloc, shares, couriers)?;
+    let endpoints = set_out(alloc, &inboxes, takers)?;
+    let workers = workers_of(alloc, shares, endpoints)?;
     let window = CrewWindow {
         net,
         of,
@@ -99,8 +99,8 @@ where
     };
     let done = run_together(rt, alloc, workers, window, gate)?;
     let first_out = first_of_all(&done);
-    let (shares, couriers) = parted(alloc, done)?;
-    let takers = come_home(rt, alloc, &inboxes, couriers)?;
+    let (shares, endpoints) = parted(alloc, done)?;
+    let takers = come_home(rt, alloc, &inboxes, endpoints)?;
     Ok(Workers {
         shares,
         inboxes,

@@ -89,10 +89,10 @@ fn run_worker<R: Wait + RandomSource + AllocGlobal, G: Gate>(
 {
     let Worker {
         mut share,
-        mut courier,
+        mut endpoint,
         first_out: _,
     } = worker;
-    let Ok(arrived) = courier.collect(rt, window.inboxes) else {
+    let Ok(arrived) = endpoint.collect(rt, window.inboxes) else {
         return Err(Refused::Memory);
     };
     let ran = share.run_window(rt, window.net, window.of, arrived, window.until, gate);
@@ -101,12 +101,12 @@ fn run_worker<R: Wait + RandomSource + AllocGlobal, G: Gate>(
         Err(error) => return Err(refused(error)),
     };
     let first_out = first_of(&sent);
-    let Ok(()) = courier.deliver(rt, window.inboxes, window.of, sent) else {
+    let Ok(()) = endpoint.deliver(rt, window.inboxes, window.of, sent) else {
         return Err(Refused::Memory);
     };
     Ok(Worker {
         share,
-        courier,
+        endpoint,
         first_out,
     })
 }
@@ -123,7 +123,7 @@ impl<R: Wait + RandomSource + AllocGlobal, G: Gate> Work<Worker> for Runner<'_, 
     }
 
     fn may_start(&self, worker: &Worker) -> bool {
-        self.gate.start(worker.courier.worker)
+        self.gate.start(worker.endpoint.worker)
     }
 
     // No worker waits for another within a window.

@@ -2,12 +2,12 @@
 //! is lost, doubled or made up, and no window begins before the marks of the one before it have come.
 #![tactic(auto)]
 
-mod courier;
+mod endpoint;
 mod heard;
 pub mod laws;
 mod take;
 mod wait;
 
-pub use courier::MarkCourier;
+pub use endpoint::MarkEndpoint;
 pub use take::{MarkError, Standing};
 pub use wait::Waiting;

@@ -5,7 +5,7 @@ use Rattle.mote_net.specs.Net.{NetTold}
 use Rattle.worker_cut.specs.Crossed.{is_to}
 use Rattle.copy_inbox.specs.Items.{copies_of, part}
 use Rattle.copy_inbox.specs.Handles.{SenderView}
-use Rattle.copy_exchange.specs.Couriers.{pushed_list}
+use Rattle.copy_exchange.specs.Endpoints.{pushed_list}
 use Rattle.mark_laws.specs.State.{Plan, State}
 use Rattle.marked_workers.specs.All.{AllRan}
 use Rattle.marked_workers.specs.Bounds.{bound}

@@ -5,9 +5,9 @@ ghost use Rattle.std.specs.Prelude.{◌≡◌, true, [], IfOk, IsTrue, OnOk};
 ghost use Rattle.copy_inbox.specs.Views.{make_desk};
 ghost use Rattle.mark_exchange.specs.Marks.{Counts};
 
-use copy_exchange::Courier;
+use copy_exchange::Endpoint;
 use copy_inbox::{Inbox, InboxError, Sender, Taker};
-use mark_exchange::{MarkCourier, Standing};
+use mark_exchange::{MarkEndpoint, Standing};
 use radio_packet::RadioCopy;
 use std::alloc::{AllocError, Global};
 use std::sync::Wait;
@@ -44,17 +44,17 @@ fn make(alloc: Global) -> Result<(Inbox, Taker, Sender, Sender), InboxError>
 }
 
 /// What worker 2 carries.
-fn carrier(alloc: Global, taker: Taker) -> Result<MarkCourier, InboxError>
+fn carrier(alloc: Global, taker: Taker) -> Result<MarkEndpoint, InboxError>
     requires { taker.desk ≡ make_desk true 2 [] [] }
-    ensures taker { IfOk result (λ carrier. carrier.courier.taker ≡ taker) }
-    ensures counts { IfOk result (λ carrier. Counts carrier.marks.items carrier.courier.taker.desk) }
+    ensures taker { IfOk result (λ carrier. carrier.endpoint.taker ≡ taker) }
+    ensures counts { IfOk result (λ carrier. Counts carrier.marks.items carrier.endpoint.taker.desk) }
 {
-    let courier = Courier {
+    let endpoint = Endpoint {
         worker: 2,
         taker,
         senders: Vec::new(alloc),
     };
-    MarkCourier::new(alloc, courier, 2)
+    MarkEndpoint::new(alloc, endpoint, 2)
 }
 
 /// Pushes a copy, if there is one, and then the mark of a window.
@@ -87,15 +87,15 @@ fn write_window<R: Wait>(
     alloc: Global,
     text: &mut String,
     inbox: &Inbox,
-    carrier: &mut MarkCourier,
+    carrier: &mut MarkEndpoint,
     stop: &AtomicBool,
     from: u64,
     window: u64,
 ) -> Result<bool, AllocError>
-    requires inbox { carrier.old.courier.taker.inbox ≡ inbox.now }
-    requires counts { Counts carrier.old.marks.items carrier.old.courier.taker.desk }
-    ensures inbox { IfOk result (λ took. IsTrue took → carrier.new.courier.taker.inbox ≡ inbox.now) }
-    ensures counts { IfOk result (λ took. IsTrue took → Counts carrier.new.marks.items carrier.new.courier.taker.desk) }
+    requires inbox { carrier.old.endpoint.taker.inbox ≡ inbox.now }
+    requires counts { Counts carrier.old.marks.items carrier.old.endpoint.taker.desk }
+    ensures inbox { IfOk result (λ took. IsTrue took → carrier.new.endpoint.taker.inbox ≡ inbox.now) }
+    ensures counts { IfOk result (λ took. IsTrue took → Counts carrier.new.marks.items carrier.new.endpoint.taker.desk) }
 {
     let standing = Standing {
         worker: 2,
@@ -124,14 +124,14 @@ fn write_windows<R: Wait>(
     alloc: Global,
     text: &mut String,
     inbox: &Inbox,
-    carrier: &mut MarkCourier,
+    carrier: &mut MarkEndpoint,
     first: &mut Sender,
     second: &mut Sender,
 ) -> Result<(), InboxError>
-    requires inbox { (carrier.old.courier.taker.inbox ≡ inbox.now) × (first.old.inbox ≡ inbox.now)
+    requires inbox { (carrier.old.endpoint.taker.inbox ≡ inbox.now) × (first.old.inbox ≡ inbox.now)
         × (second.old.inbox ≡ inbox.now) }
     requires marked { (first.old.post.marked ≡ true) × (second.old.post.marked ≡ true) }
-    requires counts { Counts carrier.old.marks.items carrier.old.courier.taker.desk }
+    requires counts { Counts carrier.old.marks.items carrier.old.endpoint.taker.desk }
 {
     // It is looked at only where a mark is missing.
     let stop = AtomicBool::new(true);

@@ -29,7 +29,7 @@ use Rattle.all_workers.proofs.Same.{keeps_same}
 use Rattle.all_workers.proofs.Step.{own_of, own_by}
 use Rattle.marked_workers.specs.Bounds.{bound, AreWindows}
 use Rattle.marked_workers.specs.Crew.{EndsMarked, EndAllMarked}
-use Rattle.copy_exchange.specs.Couriers.{pushed_list}
+use Rattle.copy_exchange.specs.Endpoints.{pushed_list}
 use Rattle.marked_workers.specs.Senders.{AreSenders}
 use Rattle.marked_workers.specs.Story.{Story, RunsWindows}
 use Rattle.marked_workers.specs.All.{AllRan, HasGathered, IsOfTakers}

@@ -16,7 +16,7 @@ use Rattle.mark_exchange.specs.Pushes.{packets_in, pushes}
 use Rattle.mark_exchange.proofs.Early.{packets_append, packets_pushes}
 use Rattle.worker_window.specs.Window.{GoesOut}
 use Rattle.all_workers.proofs.Lookups.{there, inside, read, mapped, same_found, each_at}
-use Rattle.copy_exchange.specs.Couriers.{pushed_list}
+use Rattle.copy_exchange.specs.Endpoints.{pushed_list}
 use Rattle.marked_workers.specs.All.{AllRan}
 use Rattle.marked_workers.proofs.Fronts.{part_begins}
 use Rattle.marked_workers.proofs.Lists.{first_none, none_before}

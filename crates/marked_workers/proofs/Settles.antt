@@ -13,7 +13,7 @@ use Rattle.copy_inbox.specs.Items.{copies_of, Packets, part, BeginsWith, OfMade}
 use Rattle.copy_inbox.specs.Gathered.{is_gathered, untaken_of, Whole}
 use Rattle.copy_inbox.specs.Handles.{TakerView, SenderView, after_gather, AllGathered, PacketsLeft}
 use Rattle.copy_inbox.proofs.Parts.{part-not_nil}
-use Rattle.copy_exchange.specs.Couriers.{AreOpen, pushed_list}
+use Rattle.copy_exchange.specs.Endpoints.{AreOpen, pushed_list}
 use Rattle.copy_exchange.specs.Desks.{copies_in, IsOrderly}
 use Rattle.copy_exchange.proofs.Gathers.{OneOf, copies_by, as_gathered, joined, with_joined, all_gathered, stands_then}
 use Rattle.copy_exchange.proofs.Parts.{from}

@@ -5,7 +5,7 @@ use Rattle.mote_net.specs.Net.{NetTold}
 use Rattle.copy_inbox.specs.declared.items.Item.{Item}
 use Rattle.copy_inbox.specs.Items.{part, BeginsWith}
 use Rattle.copy_inbox.specs.Handles.{SenderView, TakerView}
-use Rattle.copy_exchange.specs.Couriers.{pushed_list}
+use Rattle.copy_exchange.specs.Endpoints.{pushed_list}
 use Rattle.copy_exchange.specs.Steps.{gather_posts}
 use Rattle.marked_workers.specs.Senders.{AreSenders}
 use Rattle.marked_workers.specs.Story.{Story, RunsWindows}

@@ -12,7 +12,7 @@ use Rattle.all_workers.specs.declared.workers.Workers.{Workers}
 use Rattle.all_workers.specs.Workers.{IsAt}
 use Rattle.all_workers.specs.Workers.{IsCut}
 use Rattle.marked_workers.specs.Bounds.{AreWindows}
-use Rattle.copy_exchange.specs.Couriers.{pushed_list}
+use Rattle.copy_exchange.specs.Endpoints.{pushed_list}
 use Rattle.copy_exchange.specs.Steps.{gather_posts}
 use Rattle.marked_workers.specs.Senders.{AreSenders}
 use Rattle.marked_workers.specs.Story.{RunsMarked}

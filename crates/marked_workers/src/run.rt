@@ -6,7 +6,7 @@ ghost use Rattle.fork_join.specs.declared.work.Refused.TheVariants.{Memory};
 ghost use Rattle.mote_net.specs.Net.{net_of};
 ghost use Rattle.net_agenda.specs.NetSystem.{system_of};
 ghost use Rattle.copy_inbox.specs.Gathered.{Whole};
-ghost use Rattle.copy_exchange.specs.Couriers.{IsSeated};
+ghost use Rattle.copy_exchange.specs.Endpoints.{IsSeated};
 ghost use Rattle.copy_exchange.specs.Inboxes.{IsFresh};
 ghost use Rattle.copy_exchange.specs.Steps.{GathersBack};
 ghost use Rattle.all_workers.specs.Workers.{IsAt};
@@ -20,7 +20,7 @@ ghost use Rattle.marked_workers.specs.Thread.{IsFirst, RunsAllWindows};
 use crate::thread::MarkRunner;
 use crate::worker::CrewRun;
 use all_workers::{Worker, Workers, lookahead_of, parted, set_out, window_length, workers_of};
-use copy_exchange::{Courier, gather_back};
+use copy_exchange::{Endpoint, gather_back};
 use copy_inbox::{Inbox, Taker};
 use fork_join::{Refused, fork_join};
 use mote_net::Net;
@@ -36,14 +36,14 @@ fn come_home<R: Wait>(
     rt: &R,
     alloc: Global,
     inboxes: &[Inbox],
-    couriers: Vec<Courier>,
+    endpoints: Vec<Endpoint>,
 ) -> Result<Vec<Taker>, Refused>
-    requires workers { map (λ courier. courier.worker) couriers.items ≡ range_with_len 0 (length inboxes.now) }
-    requires seated { Each (IsSeated inboxes.now) couriers.items }
-    ensures back { IfOk result (λ takers. GathersBack couriers.items takers.items) }
+    requires workers { map (λ endpoint. endpoint.worker) endpoints.items ≡ range_with_len 0 (length inboxes.now) }
+    requires seated { Each (IsSeated inboxes.now) endpoints.items }
+    ensures back { IfOk result (λ takers. GathersBack endpoints.items takers.items) }
     ensures refused { IfErr result (λ reason. reason ≡ Memory) }
 {
-    match gather_back(rt, alloc, inboxes, couriers) {
+    match gather_back(rt, alloc, inboxes, endpoints) {
         Ok(takers) => Ok(takers),
         Err(_) => Err(Refused::Memory),
     }
@@ -97,8 +97,8 @@ where
         takers,
         first_out: _,
     } = crew;
-    let couriers = set_out(alloc, &inboxes, takers)?;
-    let workers = workers_of(alloc, shares, couriers)?;
+    let endpoints = set_out(alloc, &inboxes, takers)?;
+    let workers = workers_of(alloc, shares, endpoints)?;
     let stop = AtomicBool::new(false);
     let run = CrewRun {
         net,
@@ -108,8 +108,8 @@ where
         stop: &stop,
     };
     let done = run_together(rt, alloc, workers, run, gate)?;
-    let (shares, couriers) = parted(alloc, done)?;
-    let takers = come_home(rt, alloc, &inboxes, couriers)?;
+    let (shares, endpoints) = parted(alloc, done)?;
+    let takers = come_home(rt, alloc, &inboxes, endpoints)?;
     Ok(Workers {
         shares,
         inboxes,

@@ -4,7 +4,7 @@ ghost use Rattle.std.specs.Prelude.{◌≡◌, ◌≢◌, ℕ, ◌^◌, ◌<◌,
 ghost use Rattle.fork_join.specs.declared.work.Refused.TheVariants.{Memory, Stopped, Thread};
 ghost use Rattle.mote_net.specs.Net.{net_of};
 ghost use Rattle.net_agenda.specs.NetSystem.{system_of};
-ghost use Rattle.copy_exchange.specs.Couriers.{HasMarks, IsSeated};
+ghost use Rattle.copy_exchange.specs.Endpoints.{HasMarks, IsSeated};
 ghost use Rattle.mark_exchange.specs.Marks.{Counts};
 ghost use Rattle.worker_window.specs.Window.{CanRun};
 ghost use Rattle.all_workers.specs.Workers.{IsCut};
@@ -17,7 +17,7 @@ ghost use Rattle.marked_workers.specs.Thread.{SendsWindow, TakesWindow};
 use crate::worker::{CrewRun, MarkWorker};
 use all_workers::{Worker, refused, window_end};
 use fork_join::{Refused, Work};
-use mark_exchange::{MarkCourier, MarkError, Standing};
+use mark_exchange::{MarkEndpoint, MarkError, Standing};
 use std::alloc::{AllocGlobal, Global};
 use std::random::RandomSource;
 use std::sync::Wait;
@@ -53,11 +53,11 @@ fn send_window<R: Wait + RandomSource + AllocGlobal, G: Gate>(
     requires early { until ≤ 2 ^ 40 }
     requires cut { IsCut (length (net_of run.now.net.now).motes) (length run.now.inboxes.now) run.now.of.now }
     requires ready { CanRun (net_of run.now.net.now) run.now.of.now until worker.old.share [] }
-    requires seated { IsSeated run.now.inboxes.now worker.old.carries.courier }
-    requires marked { HasMarks worker.old.carries.courier }
+    requires seated { IsSeated run.now.inboxes.now worker.old.carries.endpoint }
+    requires marked { HasMarks worker.old.carries.endpoint }
     ensures sends { OnOk result (SendsWindow (net_of run.now.net.now) run.now.of.now (length run.now.inboxes.now)
         window until worker.old worker.new) }
-    ensures seated { OnOk result (IsSeated run.now.inboxes.now worker.new.carries.courier) }
+    ensures seated { OnOk result (IsSeated run.now.inboxes.now worker.new.carries.endpoint) }
     ensures refused { IfErr result (λ reason. reason ≢ Stopped) }
 {
     let none = Vec::new(rt.alloc());
@@ -96,12 +96,12 @@ fn take_window<R: Wait + AllocGlobal>(
     window: u64,
     until: u64,
 ) -> Result<(), Refused>
-    requires seated { IsSeated run.now.inboxes.now worker.old.carries.courier }
-    requires counts { Counts worker.old.carries.marks.items worker.old.carries.courier.taker.desk }
+    requires seated { IsSeated run.now.inboxes.now worker.old.carries.endpoint }
+    requires counts { Counts worker.old.carries.marks.items worker.old.carries.endpoint.taker.desk }
     ensures takes { OnOk result (TakesWindow run.now.of.now window until worker.old worker.new) }
     ensures refused { IfErr result (λ reason. reason ≢ Thread) }
 {
-    let number = worker.carries.courier.worker;
+    let number = worker.carries.endpoint.worker;
     let inbox = &run.inboxes[usize::from(number)];
     let standing = Standing {
         worker: number,
@@ -182,11 +182,11 @@ fn with_marks(alloc: Global, run: &CrewRun<'_>, worker: Worker) -> Result<MarkWo
 {
     let Worker {
         share,
-        courier,
+        endpoint,
         first_out: _,
     } = worker;
     let others = run.inboxes.len().saturating_sub(1);
-    match MarkCourier::new(alloc, courier, others) {
+    match MarkEndpoint::new(alloc, endpoint, others) {
         Ok(carries) => Ok(MarkWorker { share, carries }),
         Err(_) => Err(Refused::Memory),
     }
@@ -197,14 +197,14 @@ fn without_marks(worker: MarkWorker) -> Worker
     ensures { IsSame result worker }
 {
     let MarkWorker { share, carries } = worker;
-    let MarkCourier {
-        courier,
+    let MarkEndpoint {
+        endpoint,
         marks: _,
         waiting: _,
     } = carries;
     Worker {
         share,
-        courier,
+        endpoint,
         first_out: None,
     }
 }
@@ -247,7 +247,7 @@ impl<R: Wait + RandomSource + AllocGlobal, G: Gate> Work<Worker> for MarkRunner<
     }
 
     fn may_start(&self, worker: &Worker) -> bool {
-        self.gate.start(worker.courier.worker)
+        self.gate.start(worker.endpoint.worker)
     }
 
     fn give_up(&self) {

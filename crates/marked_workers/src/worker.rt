@@ -1,7 +1,7 @@
 //! A worker that lives for the whole run.
 
 use copy_inbox::Inbox;
-use mark_exchange::MarkCourier;
+use mark_exchange::MarkEndpoint;
 use mote_net::Net;
 use std::sync::atomic::AtomicBool;
 use worker_window::Share;
@@ -10,7 +10,7 @@ use worker_window::Share;
 #[derive(Drop)]
 pub struct MarkWorker {
     pub share: Share,
-    pub carries: MarkCourier,
+    pub carries: MarkEndpoint,
 }
 
 /// What all workers of a run have in common.

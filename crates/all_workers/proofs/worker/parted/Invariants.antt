@@ -5,5 +5,5 @@ use Rattle.all_workers.proofs.worker.parted.Given as goal
 abbrev pub invariant-loop-worker : goal.invariant-loop-worker
 invariant-loop-worker l = record {
   shares : l.shares.items ≡ map (λ (worker : Worker). worker.share) l.yielded;
-  couriers : l.couriers.items ≡ map (λ (worker : Worker). worker.courier) l.yielded;
+  endpoints : l.endpoints.items ≡ map (λ (worker : Worker). worker.endpoint) l.yielded;
 }

@@ -3,35 +3,35 @@ use Rattle.std.specs.List.{AllByRecursion as Each, AllZip}
 use Rattle.std.specs.declared.alloc.Global.{Global}
 use Rattle.std.proofs.lemmas.Result.{IfOk-weaker}
 use Rattle.copy_inbox.specs.Handles.{TakerView}
-use Rattle.copy_exchange.specs.Couriers.{ComesHome}
+use Rattle.copy_exchange.specs.Endpoints.{ComesHome}
 use Rattle.copy_exchange.specs.Inboxes.{IsPlain, Settled}
 use Rattle.copy_exchange.specs.Steps.{GathersBack}
 use Rattle.copy_exchange.proofs.Homes.{workers, all_seated, settled, plain_home, came_home}
 use Rattle.copy_exchange.proofs.window.gathered.Goals as goal
 
 pub gather_back-requires-clause-workers : goal.gather_back-requires-clause-workers
-gather_back-requires-clause-workers g c = workers c.args.inboxes.now c.args.couriers.items c.requires
+gather_back-requires-clause-workers g c = workers c.args.inboxes.now c.args.endpoints.items c.requires
 
 pub gather_back-requires-clause-seated : goal.gather_back-requires-clause-seated
-gather_back-requires-clause-seated g c = all_seated c.args.inboxes.now c.args.couriers.items c.requires
+gather_back-requires-clause-seated g c = all_seated c.args.inboxes.now c.args.endpoints.items c.requires
 
 pub returns-clause-settled : goal.returns-clause-settled
 returns-clause-settled g c = IfOk-weaker c.gather_back.result
-    (λ (ts : Vec TakerView Global). GathersBack c.args.couriers.items ts.items)
+    (λ (ts : Vec TakerView Global). GathersBack c.args.endpoints.items ts.items)
     (λ (ts : Vec TakerView Global). Settled c.args.inboxes.now ts.items)
-    (λ ts back. settled c.args.inboxes.now c.args.couriers.items c.requires ts.items back)
+    (λ ts back. settled c.args.inboxes.now c.args.endpoints.items c.requires ts.items back)
     c.gather_back.ensures
 
 pub returns-clause-plain : goal.returns-clause-plain
 returns-clause-plain g c = IfOk-weaker c.gather_back.result
-    (λ (ts : Vec TakerView Global). GathersBack c.args.couriers.items ts.items)
+    (λ (ts : Vec TakerView Global). GathersBack c.args.endpoints.items ts.items)
     (λ (ts : Vec TakerView Global). Each IsPlain ts.items)
-    (λ ts back. plain_home c.args.inboxes.now c.args.couriers.items c.requires ts.items back)
+    (λ ts back. plain_home c.args.inboxes.now c.args.endpoints.items c.requires ts.items back)
     c.gather_back.ensures
 
 pub returns-clause-came_home : goal.returns-clause-came_home
 returns-clause-came_home g c = IfOk-weaker c.gather_back.result
-    (λ (ts : Vec TakerView Global). GathersBack c.args.couriers.items ts.items)
-    (λ (ts : Vec TakerView Global). AllZip (ComesHome c.args.couriers.items) c.args.couriers.items ts.items)
-    (λ ts back. came_home c.args.inboxes.now c.args.couriers.items c.requires ts.items back)
+    (λ (ts : Vec TakerView Global). GathersBack c.args.endpoints.items ts.items)
+    (λ (ts : Vec TakerView Global). AllZip (ComesHome c.args.endpoints.items) c.args.endpoints.items ts.items)
+    (λ ts back. came_home c.args.inboxes.now c.args.endpoints.items c.requires ts.items back)
     c.gather_back.ensures

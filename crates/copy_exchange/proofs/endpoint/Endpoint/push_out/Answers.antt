@@ -1,6 +1,6 @@
 use Rattle.std.proofs.Common.{length, slice_index, sym, ap, ◌∙◌}
 use Rattle.copy_exchange.proofs.Delivered.{pushes_own, leaves_other}
-use Rattle.copy_exchange.proofs.courier.Courier.push_out.Goals as goal
+use Rattle.copy_exchange.proofs.endpoint.Endpoint.push_out.Goals as goal
 
 pub returns-then-of-from-clause-pushes : goal.returns-then-of-from-clause-pushes
 returns-then-of-from-clause-pushes g c =

@@ -2,8 +2,8 @@
 
 ghost use Rattle.std.specs.Prelude.{[], ◌∷◌, ◌<◌, true, length, IfOk, IfSome, OnOk, OnErr, ◌≡◌};
 ghost use Rattle.std.specs.List.{AllByRecursion as Each};
-ghost use Rattle.copy_exchange.specs.Couriers.{IsCourier, IsSeated, HasMarks, Collects, Delivers, Leaves, Reaches};
-ghost use Rattle.copy_exchange.specs.Couriers.{PushesOut, PushesMarks, sender_to};
+ghost use Rattle.copy_exchange.specs.Endpoints.{IsEndpoint, IsSeated, HasMarks, Collects, Delivers, Leaves, Reaches};
+ghost use Rattle.copy_exchange.specs.Endpoints.{PushesOut, PushesMarks, sender_to};
 ghost use Rattle.copy_exchange.specs.Inboxes.{IsPlain};
 ghost use Rattle.copy_exchange.specs.Steps.{MarksOne};
 
@@ -13,18 +13,18 @@ use std::sync::Wait;
 
 /// Takes and delivers copies for one worker while its thread runs: it has the worker's taker, and a sender on the inbox
 /// of each other worker.
-pub struct Courier {
+pub struct Endpoint {
     /// The number of its worker.
     pub worker: u16,
     pub taker: Taker,
-    /// For each worker the sender on its inbox; none on the courier's own.
+    /// For each worker the sender on its inbox; none on the endpoint's own.
     pub senders: Vec<Option<Sender>>,
 }
 
-/// By hand, so that a courier is dropped by one call: the check of a function that owns one sees no more of it.
-impl Drop for Courier {
+/// By hand, so that an endpoint is dropped by one call: the check of a function that owns one sees no more of it.
+impl Drop for Endpoint {
     fn drop(self) {
-        let Courier {
+        let Endpoint {
             worker: _,
             taker: _,
             senders: _,
@@ -32,12 +32,12 @@ impl Drop for Courier {
     }
 }
 
-impl Courier {
+impl Endpoint {
     /// Its taker and its senders.
     pub fn into_parts(self) -> (Taker, Vec<Option<Sender>>)
         ensures { (result.0 ≡ self.taker) × (result.1 ≡ self.senders) }
     {
-        let Courier {
+        let Endpoint {
             worker: _,
             taker,
             senders,
@@ -52,10 +52,10 @@ impl Courier {
         rt: &R,
         inboxes: &[Inbox],
     ) -> Result<Vec<RadioCopy>, InboxError>
-        requires courier { IsCourier inboxes.now self.old }
+        requires endpoint { IsEndpoint inboxes.now self.old }
         requires plain { IsPlain self.old.taker }
         ensures collects { IfOk result (λ copies. Collects self.old self.new copies.items) }
-        ensures courier { OnOk result (IsCourier inboxes.now self.new) }
+        ensures endpoint { OnOk result (IsEndpoint inboxes.now self.new) }
         ensures refused { OnErr result (self.new ≡ self.old) }
     {
         let inbox = &inboxes[usize::from(self.worker)];
@@ -72,10 +72,10 @@ impl Courier {
         of: &[u16],
         copies: Vec<RadioCopy>,
     ) -> Result<(), InboxError>
-        requires courier { IsCourier inboxes.now self.old }
+        requires endpoint { IsEndpoint inboxes.now self.old }
         requires leaves { Each (Leaves of.now (length inboxes.now) self.old.worker) copies.items }
         ensures delivers { OnOk result (Delivers of.now self.old self.new copies.items) }
-        ensures courier { OnOk result (IsCourier inboxes.now self.new) }
+        ensures endpoint { OnOk result (IsEndpoint inboxes.now self.new) }
     {
         for copy in &copies {
             self.deliver_one(rt, inboxes, of, *copy)?;

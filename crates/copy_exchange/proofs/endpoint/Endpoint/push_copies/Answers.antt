@@ -2,10 +2,10 @@ use Rattle.std.proofs.Common.{ℕ, List, ◌≡◌, length, take, subst, sym, ap
 use Rattle.std.proofs.Math.Seq.{take-length}
 use Rattle.std.proofs.lemmas.List.{take_more}
 use Rattle.radio_packet.specs.declared.copy.RadioCopy.{RadioCopy}
-use Rattle.copy_exchange.specs.Couriers.{PushesOut, Reaches}
+use Rattle.copy_exchange.specs.Endpoints.{PushesOut, Reaches}
 use Rattle.copy_exchange.proofs.Delivered.{pushes_none, pushes_more}
 use Rattle.copy_exchange.proofs.Lists.{each_at}
-use Rattle.copy_exchange.proofs.courier.Courier.push_copies.Goals as goal
+use Rattle.copy_exchange.proofs.endpoint.Endpoint.push_copies.Goals as goal
 
 pub push_out-requires-clause-reaches : goal.push_out-requires-clause-reaches
 push_out-requires-clause-reaches g c =

@@ -1,4 +1,4 @@
--- What a courier carries to and fro in one window.
+-- What an endpoint carries to and fro in one window.
 use Rattle.std.specs.Prelude.{◌≡◌, ℕ, ◌+◌, ◌<◌, ◌≤◌, ◌==◌, Bool, true, false, List, [], ◌∷◌, ◌++◌, length, map, filter}
 use Rattle.std.specs.Prelude.{slice_get, slice_index, slice_index_or, Option, Some, None}
 use Rattle.std.specs.List.{AllByRecursion as Each, AllZip, filter_map, flat_map, range_with_len}
@@ -10,13 +10,13 @@ use Rattle.copy_inbox.specs.declared.items.Carried.TheVariants.{Packet, Mark}
 use Rattle.copy_inbox.specs.declared.rule.Desk.{Desk}
 use Rattle.copy_inbox.specs.Gathered.{is_gathered, Whole}
 use Rattle.copy_inbox.specs.Handles.{InboxId, TakerView, SenderView}
-use Rattle.copy_exchange.specs.declared.courier.Courier.{Courier}
+use Rattle.copy_exchange.specs.declared.endpoint.Endpoint.{Endpoint}
 use Rattle.window_laws.specs.Windows.{is_from_sender}
 use Rattle.copy_exchange.specs.Desks.{SameOfEach, copies_pushed, taken_by, gathered_by, IsOrderly}
 use Rattle.copy_exchange.specs.Inboxes.{IsPlain}
 
 -- its sender on the inbox of worker v
-abbrev pub sender_to : Courier → (v : ℕ) → Option SenderView
+abbrev pub sender_to : Endpoint → (v : ℕ) → Option SenderView
 sender_to c v = slice_index_or c.senders.items v None
 
 abbrev pub pushed_by : Option SenderView → List RadioCopy
@@ -24,12 +24,12 @@ pushed_by None = []
 pushed_by (Some s) = copies_pushed s.post.pushed
 
 -- what it delivered to worker v in this window
-abbrev pub delivered : Courier → (v : ℕ) → List RadioCopy
+abbrev pub delivered : Endpoint → (v : ℕ) → List RadioCopy
 delivered c v = pushed_by (sender_to c v)
 
--- what all couriers delivered to worker v
-abbrev pub delivered_to : List Courier → (v : ℕ) → List RadioCopy
-delivered_to couriers v = flat_map (λ c. delivered c v) couriers
+-- what all endpoints delivered to worker v
+abbrev pub delivered_to : List Endpoint → (v : ℕ) → List RadioCopy
+delivered_to endpoints v = flat_map (λ c. delivered c v) endpoints
 
 -- on a worker's own inbox there is no sender of it, on each other one there is
 abbrev pub IsSenderOn : InboxId → (own : Bool) → Option SenderView → Type 0
@@ -42,36 +42,36 @@ pushed_list None = []
 pushed_list (Some s) = s.post.pushed
 
 -- what its sender on the inbox of worker v pushed
-abbrev pub pushed_to : Courier → (v : ℕ) → List Carried
+abbrev pub pushed_to : Endpoint → (v : ℕ) → List Carried
 pushed_to c v = pushed_list (sender_to c v)
 
 -- its senders are those of inboxes with marks
-abbrev pub HasMarks : Courier → Type 0
+abbrev pub HasMarks : Endpoint → Type 0
 HasMarks c = (v : ℕ) (s : SenderView) → sender_to c v ≡ Some s → s.post.marked ≡ true
 
 -- nothing went through its senders yet, no copy and no mark
-abbrev pub HasPushedNothing : Courier → Type 0
+abbrev pub HasPushedNothing : Endpoint → Type 0
 HasPushedNothing c = (v : ℕ) → pushed_to c v ≡ []
 
 -- its taker and its senders are those of these inboxes
-pub record IsSeated (inboxes : List InboxId) (c : Courier) : Type 0 where
+pub record IsSeated (inboxes : List InboxId) (c : Endpoint) : Type 0 where
   pub taker : slice_get inboxes c.worker ≡ Some c.taker.inbox
   pub count : length c.senders.items ≡ length inboxes
   pub each : (v : ℕ) (id : InboxId) → slice_get inboxes v ≡ Some id → IsSenderOn id (v == c.worker) (sender_to c v)
 
--- a courier of one of these inboxes' workers, in a window that ends by a join
-pub record IsCourier (inboxes : List InboxId) (c : Courier) : Type 0 where
+-- an endpoint of one of these inboxes' workers, in a window that ends by a join
+pub record IsEndpoint (inboxes : List InboxId) (c : Endpoint) : Type 0 where
   pub taker : slice_get inboxes c.worker ≡ Some c.taker.inbox
   pub count : length c.senders.items ≡ length inboxes
   pub each : (v : ℕ) (id : InboxId) → slice_get inboxes v ≡ Some id → IsSenderOn id (v == c.worker) (sender_to c v)
   pub stands : IsOrderly c.taker.desk
 
 -- all that was gathered before this window is taken
-abbrev pub IsCollected : Courier → Type 0
+abbrev pub IsCollected : Endpoint → Type 0
 IsCollected c = Whole c.taker.desk.gathered c.taker.desk.taken
 
 -- of motes of other workers it delivered nothing
-abbrev pub DeliversOwn : (worker_of : ℕ → ℕ) → Courier → Type 0
+abbrev pub DeliversOwn : (worker_of : ℕ → ℕ) → Endpoint → Type 0
 DeliversOwn worker_of c = (s v : ℕ) → (worker_of s == c.worker) ≡ false → filter (is_from_sender s) (delivered c v) ≡ []
 
 -- ---- from the start of a window to its end
@@ -80,8 +80,8 @@ abbrev pub seat_of : Option SenderView → Option (InboxId × ℕ × Bool)
 seat_of None = None
 seat_of (Some s) = Some (s.inbox, s.post.number, s.post.marked)
 
--- the same courier, whatever it took and delivered
-pub record Stays (old new : Courier) : Type 0 where
+-- the same endpoint, whatever it took and delivered
+pub record Stays (old new : Endpoint) : Type 0 where
   pub worker : new.worker ≡ old.worker
   pub inbox : new.taker.inbox ≡ old.taker.inbox
   pub marked : new.taker.desk.marked ≡ old.taker.desk.marked
@@ -90,7 +90,7 @@ pub record Stays (old new : Courier) : Type 0 where
   pub seats : map seat_of new.senders.items ≡ map seat_of old.senders.items
 
 -- it took these copies, which are all that was gathered and not yet taken, of an inbox without marks
-pub record Collects (old new : Courier) (copies : List RadioCopy) : Type 0 where
+pub record Collects (old new : Endpoint) (copies : List RadioCopy) : Type 0 where
   pub stays : Stays old new
   pub plain : IsPlain new.taker
   pub adds : taken_by new.taker ≡ taken_by old.taker ++ copies
@@ -105,7 +105,7 @@ pub record Leaves (of : List ℕ) (workers worker : ℕ) (copy : RadioCopy) : Ty
   pub other : is_to of worker copy ≡ false
 
 -- it delivered these copies, each to the worker of its receiver, in order
-pub record Delivers (of : List ℕ) (old new : Courier) (copies : List RadioCopy) : Type 0 where
+pub record Delivers (of : List ℕ) (old new : Endpoint) (copies : List RadioCopy) : Type 0 where
   pub stays : Stays old new
   pub taker : new.taker ≡ old.taker
   pub adds : (v : ℕ) → delivered new v ≡ delivered old v ++ filter (is_to of v) copies
@@ -117,29 +117,29 @@ pub record Reaches (of : List ℕ) (workers : ℕ) (copy : RadioCopy) : Type 0 w
   pub its_worker : slice_index of copy.to < workers
 
 -- of these copies it pushed those for motes of other workers, each to the worker of its receiver, in order
-pub record PushesOut (of : List ℕ) (old new : Courier) (copies : List RadioCopy) : Type 0 where
+pub record PushesOut (of : List ℕ) (old new : Endpoint) (copies : List RadioCopy) : Type 0 where
   pub stays : Stays old new
   pub taker : new.taker ≡ old.taker
   pub pushes : (v : ℕ) → (v == old.worker) ≡ false
       → pushed_to new v ≡ pushed_to old v ++ map Packet (filter (is_to of v) copies)
 
 -- it pushed the mark of this window to each other of so many workers, and nothing else
-pub record PushesMarks (workers window : ℕ) (old new : Courier) : Type 0 where
+pub record PushesMarks (workers window : ℕ) (old new : Endpoint) : Type 0 where
   pub stays : Stays old new
   pub taker : new.taker ≡ old.taker
   pub pushes : (v : ℕ) → v < workers → (v == old.worker) ≡ false → pushed_to new v ≡ pushed_to old v ++ Mark window ∷ []
 
--- ---- the couriers of one window
--- the courier of this taker at the start of a window
-pub record SetsOut (t : TakerView) (c : Courier) : Type 0 where
+-- ---- the endpoints of one window
+-- the endpoint of this taker at the start of a window
+pub record SetsOut (t : TakerView) (c : Endpoint) : Type 0 where
   pub same_marked : c.taker.desk.marked ≡ t.desk.marked
   pub same_taken : c.taker.desk.taken ≡ t.desk.taken
   pub same_gathered : c.taker.desk.gathered ≡ t.desk.gathered
   pub nothing : (v : ℕ) → delivered c v ≡ []
 
 -- the senders of all workers on the inbox of worker v
-abbrev pub senders_to : List Courier → (v : ℕ) → List SenderView
-senders_to couriers v = filter_map (λ c. sender_to c v) couriers
+abbrev pub senders_to : List Endpoint → (v : ℕ) → List SenderView
+senders_to endpoints v = filter_map (λ c. sender_to c v) endpoints
 
 -- these are the senders of an inbox that aren't gathered, and no others
 pub record AreOpen (senders : List SenderView) (d : Desk) : Type 0 where
@@ -149,29 +149,29 @@ pub record AreOpen (senders : List SenderView) (d : Desk) : Type 0 where
   pub older : (i : ℕ) → i < first → is_gathered d.gathered i ≡ true
   pub newer : (i : ℕ) → first ≤ i → is_gathered d.gathered i ≡ false
 
--- a courier for each worker, and together they have all senders that aren't gathered
-pub record Together (inboxes : List InboxId) (couriers : List Courier) : Type 0 where
-  pub workers : map (λ (c : Courier). c.worker) couriers ≡ range_with_len 0 (length inboxes)
-  pub each : Each (IsCourier inboxes) couriers
-  pub are_open : Each (λ (c : Courier). AreOpen (senders_to couriers c.worker) c.taker.desk) couriers
+-- an endpoint for each worker, and together they have all senders that aren't gathered
+pub record Together (inboxes : List InboxId) (endpoints : List Endpoint) : Type 0 where
+  pub workers : map (λ (c : Endpoint). c.worker) endpoints ≡ range_with_len 0 (length inboxes)
+  pub each : Each (IsEndpoint inboxes) endpoints
+  pub are_open : Each (λ (c : Endpoint). AreOpen (senders_to endpoints c.worker) c.taker.desk) endpoints
 
--- a courier is back at the end of the window
-pub record Returns (inboxes : List InboxId) (worker_of : ℕ → ℕ) (old new : Courier) : Type 0 where
+-- an endpoint is back at the end of the window
+pub record Returns (inboxes : List InboxId) (worker_of : ℕ → ℕ) (old new : Endpoint) : Type 0 where
   pub stays : Stays old new
-  pub courier : IsCourier inboxes new
+  pub endpoint : IsEndpoint inboxes new
   pub plain : IsPlain new.taker
   pub collected : IsCollected new
   pub own : DeliversOwn worker_of new
 
--- the couriers that set out together are back
-pub record AllReturn (inboxes : List InboxId) (couriers : List Courier) : Type 0 where
-  pub before : List Courier
+-- the endpoints that set out together are back
+pub record AllReturn (inboxes : List InboxId) (endpoints : List Endpoint) : Type 0 where
+  pub before : List Endpoint
   pub together : Together inboxes before
   pub worker_of : ℕ → ℕ
-  pub each : AllZip (Returns inboxes worker_of) before couriers
+  pub each : AllZip (Returns inboxes worker_of) before endpoints
 
--- the taker of a courier after the window: it has gathered what all couriers delivered to its worker
-pub record ComesHome (couriers : List Courier) (c : Courier) (t : TakerView) : Type 0 where
+-- the taker of an endpoint after the window: it has gathered what all endpoints delivered to its worker
+pub record ComesHome (endpoints : List Endpoint) (c : Endpoint) (t : TakerView) : Type 0 where
   pub same_marked : t.desk.marked ≡ c.taker.desk.marked
   pub same_taken : t.desk.taken ≡ c.taker.desk.taken
-  pub adds : gathered_by t ≡ gathered_by c.taker ++ delivered_to couriers c.worker
+  pub adds : gathered_by t ≡ gathered_by c.taker ++ delivered_to endpoints c.worker

@@ -1,6 +1,6 @@
-use Rattle.copy_exchange.specs.Couriers.{IsSeated, HasMarks}
+use Rattle.copy_exchange.specs.Endpoints.{IsSeated, HasMarks}
 use Rattle.copy_exchange.proofs.Marked.{MarkedTo}
-use Rattle.copy_exchange.proofs.courier.Courier.push_marks.Given as goal
+use Rattle.copy_exchange.proofs.endpoint.Endpoint.push_marks.Given as goal
 
 abbrev pub invariant-loop-to : goal.invariant-loop-to
 invariant-loop-to g l = record {

@@ -2,7 +2,7 @@ use Rattle.std.proofs.Common.{rules, ◌≡◌, get_or, Some, sym, ap, ◌∙◌
 use Rattle.copy_inbox.specs.declared.items.Carried.TheVariants.{Mark}
 use Rattle.copy_inbox.specs.Handles.{after_pushing}
 use Rattle.copy_exchange.proofs.Marked.{marks_with}
-use Rattle.copy_exchange.proofs.courier.Courier.push_mark_to.Goals as goal
+use Rattle.copy_exchange.proofs.endpoint.Endpoint.push_mark_to.Goals as goal
 
 pub returns-in_ok-map_err : goal.returns-in_ok-map_err
 returns-in_ok-map_err g c =

@@ -5,12 +5,12 @@ use Rattle.std.proofs.lemmas.Iterator.Adapters.{YieldsList-from_vec}
 use Rattle.std.proofs.lemmas.Iterator.Consumers.{YieldsList-turn, YieldsList-end}
 use Rattle.std.proofs.lemmas.Slice.Zip.{length-zip}
 use Rattle.copy_inbox.specs.Handles.{TakerView}
-use Rattle.copy_exchange.specs.declared.courier.Courier.{Courier}
-use Rattle.copy_exchange.specs.Couriers.{Together, SetsOut, HasMarks, HasPushedNothing}
+use Rattle.copy_exchange.specs.declared.endpoint.Endpoint.{Endpoint}
+use Rattle.copy_exchange.specs.Endpoints.{Together, SetsOut, HasMarks, HasPushedNothing}
 use Rattle.copy_exchange.proofs.Homes.{Row}
 use Rattle.copy_exchange.proofs.Starts.{opens_no_rows, opens_more_rows, built, built_more, together, set_out, pushed_nothing, has_marks}
-use Rattle.copy_exchange.proofs.window.couriers.Goals as goal
-use Rattle.copy_exchange.proofs.window.couriers.Goals.{After-drop-taker-iterator-2}
+use Rattle.copy_exchange.proofs.window.endpoints.Goals as goal
+use Rattle.copy_exchange.proofs.window.endpoints.Goals.{After-drop-taker-iterator-2}
 
 pub senders_of-requires : goal.senders_of-requires
 senders_of-requires c = c.loop-worker.invariant.opened.takers
@@ -98,7 +98,7 @@ loop-taker-preserved c =
     }
 
 -- all of them
-all_built : (c : After-drop-taker-iterator-2) → c.loop-taker.couriers.items ≡ built 0 (zip c.loop-worker.takers.items c.loop-worker.rows.items)
+all_built : (c : After-drop-taker-iterator-2) → c.loop-taker.endpoints.items ≡ built 0 (zip c.loop-worker.takers.items c.loop-worker.rows.items)
 all_built c =
     let d = c.into_iter-taker-iterator.ensures.into_iter_gives in
     let z = c.zip-taker-items.ensures in
@@ -116,7 +116,7 @@ returns-clause-together c =
     let most = c.loop-worker.auto.worker-end in
     let long = c.loop-worker.invariant.long in
     let is : vec_len c.loop-worker.rows ≡ length c.loop-worker.rows.items = search rules in
-    let P : List Courier → Type 0 = λ l. Together c.args.inboxes.now l in
+    let P : List Endpoint → Type 0 = λ l. Together c.args.inboxes.now l in
     subst P (sym (all_built c)) (together c.args.inboxes.now c.args.takers.items c.loop-worker.takers.items c.loop-worker.rows.items c.requires.settled c.loop-worker.invariant.opened (omega arith))
 
 pub returns-clause-set_out : goal.returns-clause-set_out
@@ -125,7 +125,7 @@ returns-clause-set_out c =
     let most = c.loop-worker.auto.worker-end in
     let long = c.loop-worker.invariant.long in
     let is : vec_len c.loop-worker.rows ≡ length c.loop-worker.rows.items = search rules in
-    let P : List Courier → Type 0 = λ l. AllZip SetsOut c.args.takers.items l in
+    let P : List Endpoint → Type 0 = λ l. AllZip SetsOut c.args.takers.items l in
     subst P (sym (all_built c)) (set_out c.args.inboxes.now c.args.takers.items c.loop-worker.takers.items c.loop-worker.rows.items c.requires.settled c.loop-worker.invariant.opened (omega arith))
 
 pub returns-clause-nothing : goal.returns-clause-nothing
@@ -134,7 +134,7 @@ returns-clause-nothing c =
     let most = c.loop-worker.auto.worker-end in
     let long = c.loop-worker.invariant.long in
     let is : vec_len c.loop-worker.rows ≡ length c.loop-worker.rows.items = search rules in
-    let P : List Courier → Type 0 = λ l. Each HasPushedNothing l in
+    let P : List Endpoint → Type 0 = λ l. Each HasPushedNothing l in
     subst P (sym (all_built c)) (pushed_nothing c.args.inboxes.now c.args.takers.items c.loop-worker.takers.items c.loop-worker.rows.items c.requires.settled c.loop-worker.invariant.opened (omega arith))
 
 pub returns-clause-marked : goal.returns-clause-marked
@@ -143,5 +143,5 @@ returns-clause-marked c =
     let most = c.loop-worker.auto.worker-end in
     let long = c.loop-worker.invariant.long in
     let is : vec_len c.loop-worker.rows ≡ length c.loop-worker.rows.items = search rules in
-    let P : List Courier → Type 0 = λ l. Each (λ (t : TakerView). t.desk.marked ≡ true) c.args.takers.items → Each HasMarks l in
+    let P : List Endpoint → Type 0 = λ l. Each (λ (t : TakerView). t.desk.marked ≡ true) c.args.takers.items → Each HasMarks l in
     subst P (sym (all_built c)) (has_marks c.args.inboxes.now c.args.takers.items c.loop-worker.takers.items c.loop-worker.rows.items c.requires.settled c.loop-worker.invariant.opened (omega arith))

@@ -2,10 +2,10 @@ use Rattle.std.proofs.Common.{ℕ, ◌<◌, List, ◌≡◌, length, get_or, tak
 use Rattle.std.proofs.Math.Seq.{take-length}
 use Rattle.std.proofs.lemmas.List.{take_more}
 use Rattle.radio_packet.specs.declared.copy.RadioCopy.{RadioCopy}
-use Rattle.copy_exchange.specs.Couriers.{Delivers, Leaves}
-use Rattle.copy_exchange.proofs.Delivered.{delivers_none, delivers_more, seated, courier_again}
+use Rattle.copy_exchange.specs.Endpoints.{Delivers, Leaves}
+use Rattle.copy_exchange.proofs.Delivered.{delivers_none, delivers_more, seated, endpoint_again}
 use Rattle.copy_exchange.proofs.Lists.{each_at}
-use Rattle.copy_exchange.proofs.courier.Courier.deliver.Goals as goal
+use Rattle.copy_exchange.proofs.endpoint.Endpoint.deliver.Goals as goal
 
 pub deliver_one-requires-clause-leaves : goal.deliver_one-requires-clause-leaves
 deliver_one-requires-clause-leaves g c =
@@ -21,7 +21,7 @@ deliver_one-requires-clause-leaves g c =
     subst (λ (worker : ℕ). P worker c.deref-copy-items.result.now) (sym c.loop-copy.invariant.delivers.stays.worker) there
 
 pub loop-copy-init : goal.loop-copy-init
-loop-copy-init g c = record { seated = seated c.args.inboxes.now c.args.self.now c.requires.courier; delivers = delivers_none c.args.of.now c.args.self.now }
+loop-copy-init g c = record { seated = seated c.args.inboxes.now c.args.self.now c.requires.endpoint; delivers = delivers_none c.args.of.now c.args.self.now }
 
 pub loop-copy-preserved : goal.loop-copy-preserved
 loop-copy-preserved g c =
@@ -45,8 +45,8 @@ returns-clause-delivers g c =
     let all : take index copies ≡ c.args.copies.items = ap (λ k. take k copies) e ∙ (take-length copies ∙ c.deref-copy-items.ensures.value) in
     subst (λ (l : List RadioCopy). Delivers c.args.of.now c.args.self.now c.loop-copy.self l) all c.loop-copy.invariant.delivers
 
-pub returns-clause-courier : goal.returns-clause-courier
-returns-clause-courier g c =
+pub returns-clause-endpoint : goal.returns-clause-endpoint
+returns-clause-endpoint g c =
     let copies : List RadioCopy = c.deref-copy-items.result.now in
     let index : ℕ = c.loop-copy.copy-index in
-    courier_again c.args.inboxes.now c.args.of.now c.args.self.now c.loop-copy.self (take index copies) c.requires.courier c.loop-copy.invariant.delivers c.loop-copy.invariant.seated
+    endpoint_again c.args.inboxes.now c.args.of.now c.args.self.now c.loop-copy.self (take index copies) c.requires.endpoint c.loop-copy.invariant.delivers c.loop-copy.invariant.seated

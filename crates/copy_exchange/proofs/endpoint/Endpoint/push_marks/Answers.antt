@@ -1,6 +1,6 @@
 use Rattle.std.proofs.Common.{arith}
 use Rattle.copy_exchange.proofs.Marked.{seated_stays, marks_stay, marked_none, marked_more, marked_all, can_mark}
-use Rattle.copy_exchange.proofs.courier.Courier.push_marks.Goals as goal
+use Rattle.copy_exchange.proofs.endpoint.Endpoint.push_marks.Goals as goal
 
 pub loop-to-init : goal.loop-to-init
 loop-to-init g c = record { seated = c.requires.seated; marks = c.requires.marked; marked = marked_none c.args.window c.args.self.now }

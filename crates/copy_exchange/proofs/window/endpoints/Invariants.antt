@@ -1,6 +1,6 @@
 use Rattle.std.proofs.Common.{◌≡◌, ◌≤◌, length, vec_len, vec_capacity}
 use Rattle.copy_exchange.proofs.Starts.{OpensRows, built}
-use Rattle.copy_exchange.proofs.window.couriers.Given as goal
+use Rattle.copy_exchange.proofs.window.endpoints.Given as goal
 
 abbrev pub invariant-loop-worker : goal.invariant-loop-worker
 invariant-loop-worker l = record {
@@ -11,7 +11,7 @@ invariant-loop-worker l = record {
 
 abbrev pub invariant-loop-taker : goal.invariant-loop-taker
 invariant-loop-taker l = record {
-  built : l.couriers.items ≡ built 0 l.yielded;
-  long : vec_len l.couriers ≡ length l.yielded;
-  room : length l.inboxes ≤ vec_capacity l.couriers;
+  built : l.endpoints.items ≡ built 0 l.yielded;
+  long : vec_len l.endpoints ≡ length l.yielded;
+  room : length l.inboxes ≤ vec_capacity l.endpoints;
 }

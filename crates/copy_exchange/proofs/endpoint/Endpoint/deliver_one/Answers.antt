@@ -2,9 +2,9 @@ use Rattle.std.proofs.Common.{rules, ◌≡◌, get_or, Option, Some, subst, sym
 use Rattle.std.specs.Option.{IsSomeAnd}
 use Rattle.copy_inbox.specs.declared.items.Carried.TheVariants.{Packet}
 use Rattle.copy_inbox.specs.Handles.{SenderView, after_pushing}
-use Rattle.copy_exchange.proofs.Delivered.{to_is, to_inside, never_none, sender_there, courier_with, delivers_with}
-use Rattle.copy_exchange.proofs.courier.Courier.deliver_one.Goals as goal
-use Rattle.copy_exchange.proofs.courier.Courier.deliver_one.Goals.{In_ok-map_err}
+use Rattle.copy_exchange.proofs.Delivered.{to_is, to_inside, never_none, sender_there, endpoint_with, delivers_with}
+use Rattle.copy_exchange.proofs.endpoint.Endpoint.deliver_one.Goals as goal
+use Rattle.copy_exchange.proofs.endpoint.Endpoint.deliver_one.Goals.{In_ok-map_err}
 
 pub unreachable-requires : goal.unreachable-requires
 unreachable-requires g c =
@@ -28,7 +28,7 @@ returns-clause-seated g c =
     let inside = to_inside c.args.inboxes.now c.args.of.now c.args.self.now c.args.copy c.from-to.result c.from.result c.requires.seated c.requires.leaves c.from.ensures c.from-to.ensures in
     let is = to_is c.args.inboxes.now c.args.of.now c.args.self.now c.args.copy c.from-to.result c.from.result c.requires.seated c.requires.leaves c.from.ensures c.from-to.ensures in
     let t = told g c in
-    courier_with c.args.inboxes.now c.args.of.now c.args.self.now c.args.copy c.from-to.result c.requires.seated inside c.requires.leaves.there is c.in-Some.sender c.push_copy.new.sender t.1 c.push_copy.ensures.inbox t.0
+    endpoint_with c.args.inboxes.now c.args.of.now c.args.self.now c.args.copy c.from-to.result c.requires.seated inside c.requires.leaves.there is c.in-Some.sender c.push_copy.new.sender t.1 c.push_copy.ensures.inbox t.0
 
 pub returns-clause-delivers : goal.returns-clause-delivers
 returns-clause-delivers g c =

@@ -1,6 +1,6 @@
 use Rattle.std.proofs.Common.{take}
-use Rattle.copy_exchange.specs.Couriers.{IsSeated, PushesOut}
-use Rattle.copy_exchange.proofs.courier.Courier.push_copies.Given as goal
+use Rattle.copy_exchange.specs.Endpoints.{IsSeated, PushesOut}
+use Rattle.copy_exchange.proofs.endpoint.Endpoint.push_copies.Given as goal
 
 abbrev pub invariant-loop-copy : goal.invariant-loop-copy
 invariant-loop-copy g l = record {

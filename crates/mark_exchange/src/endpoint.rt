@@ -2,7 +2,7 @@
 
 ghost use Rattle.std.specs.Prelude.{◌≡◌, [], length, IfErr, IfOk, OnOk};
 ghost use Rattle.std.specs.List.{AllByRecursion as Each};
-ghost use Rattle.copy_exchange.specs.Couriers.{HasMarks, IsSeated, Reaches};
+ghost use Rattle.copy_exchange.specs.Endpoints.{HasMarks, IsSeated, Reaches};
 ghost use Rattle.mark_exchange.specs.Delivers.{PushesWindow};
 ghost use Rattle.mark_exchange.specs.declared.take.MarkError.TheVariants.{Undue};
 ghost use Rattle.mark_exchange.specs.Due.{TakesDue, TakesUndue};
@@ -11,34 +11,34 @@ ghost use Rattle.mark_exchange.specs.Marks.{Counts, AllPast};
 use crate::heard::no_marks;
 use crate::take::{MarkError, Standing, take_marks};
 use crate::wait::Waiting;
-use copy_exchange::Courier;
+use copy_exchange::Endpoint;
 use copy_inbox::{Inbox, InboxError};
 use radio_packet::RadioCopy;
 use std::alloc::Global;
 use std::sync::Wait;
 use std::sync::atomic::AtomicBool;
 
-/// The courier of a worker that lives for the whole run, and how many marks it took of each sender on its inbox.
+/// The endpoint of a worker that lives for the whole run, and how many marks it took of each sender on its inbox.
 #[derive(Drop)]
-pub struct MarkCourier {
-    pub courier: Courier,
+pub struct MarkEndpoint {
+    pub endpoint: Endpoint,
     /// By the senders' numbers.
     pub marks: Vec<u64>,
     /// How it waits for them.
     pub waiting: Waiting,
 }
 
-impl MarkCourier {
-    /// The courier of a worker that has taken nothing yet. So many senders were made on its inbox.
-    pub fn new(alloc: Global, courier: Courier, senders: usize) -> Result<MarkCourier, InboxError>
-        requires made { courier.taker.desk.made ≡ senders }
-        requires taken { courier.taker.desk.taken ≡ [] }
-        ensures courier { IfOk result (λ made. made.courier ≡ courier) }
-        ensures counts { IfOk result (λ made. Counts made.marks.items courier.taker.desk) }
+impl MarkEndpoint {
+    /// The endpoint of a worker that has taken nothing yet. So many senders were made on its inbox.
+    pub fn new(alloc: Global, endpoint: Endpoint, senders: usize) -> Result<MarkEndpoint, InboxError>
+        requires made { endpoint.taker.desk.made ≡ senders }
+        requires taken { endpoint.taker.desk.taken ≡ [] }
+        ensures endpoint { IfOk result (λ made. made.endpoint ≡ endpoint) }
+        ensures counts { IfOk result (λ made. Counts made.marks.items endpoint.taker.desk) }
     {
         let marks = no_marks(alloc, senders)?;
-        Ok(MarkCourier {
-            courier,
+        Ok(MarkEndpoint {
+            endpoint,
             marks,
             waiting: Waiting::new(),
         })
@@ -55,16 +55,16 @@ impl MarkCourier {
         copies: &[RadioCopy],
         window: u64,
     ) -> Result<(), InboxError>
-        requires seated { IsSeated inboxes.now self.old.courier }
-        requires marked { HasMarks self.old.courier }
+        requires seated { IsSeated inboxes.now self.old.endpoint }
+        requires marked { HasMarks self.old.endpoint }
         requires reaches { Each (Reaches of.now (length inboxes.now)) copies.now }
         ensures pushes { OnOk result
-            (PushesWindow of.now (length inboxes.now) window self.old.courier self.new.courier copies.now) }
-        ensures seated { OnOk result (IsSeated inboxes.now self.new.courier) }
+            (PushesWindow of.now (length inboxes.now) window self.old.endpoint self.new.endpoint copies.now) }
+        ensures seated { OnOk result (IsSeated inboxes.now self.new.endpoint) }
         ensures counts { OnOk result (self.new.marks ≡ self.old.marks) }
     {
-        self.courier.push_copies(rt, inboxes, of, copies)?;
-        self.courier.push_marks(rt, inboxes, window)
+        self.endpoint.push_copies(rt, inboxes, of, copies)?;
+        self.endpoint.push_marks(rt, inboxes, window)
     }
 
     /// Takes items until of each sender the mark of the window has come, those of later windows too where they come
@@ -82,20 +82,20 @@ impl MarkCourier {
         standing: &Standing<'_>,
         window: u64,
     ) -> Result<Vec<RadioCopy>, MarkError>
-        requires inbox { self.old.courier.taker.inbox ≡ inbox.now }
-        requires counts { Counts self.old.marks.items self.old.courier.taker.desk }
+        requires inbox { self.old.endpoint.taker.inbox ≡ inbox.now }
+        requires counts { Counts self.old.marks.items self.old.endpoint.taker.desk }
         ensures took { IfOk result (λ copies. TakesDue standing.now.of.now standing.now.worker standing.now.from
-            self.old.courier.taker self.new.courier.taker copies.items) }
-        ensures counts { OnOk result (Counts self.new.marks.items self.new.courier.taker.desk) }
+            self.old.endpoint.taker self.new.endpoint.taker copies.items) }
+        ensures counts { OnOk result (Counts self.new.marks.items self.new.endpoint.taker.desk) }
         ensures marked { OnOk result (AllPast window self.new.marks.items) }
-        ensures worker { self.new.courier.worker ≡ self.old.courier.worker }
-        ensures senders { self.new.courier.senders ≡ self.old.courier.senders }
+        ensures worker { self.new.endpoint.worker ≡ self.old.endpoint.worker }
+        ensures senders { self.new.endpoint.senders ≡ self.old.endpoint.senders }
         ensures undue { IfErr result
             (λ error. error ≡ Undue → TakesUndue standing.now.of.now standing.now.worker standing.now.from
-            self.old.courier.taker self.new.courier.taker) }
+            self.old.endpoint.taker self.new.endpoint.taker) }
     {
-        let MarkCourier {
-            courier,
+        let MarkEndpoint {
+            endpoint,
             marks,
             waiting,
         } = self;
@@ -105,7 +105,7 @@ impl MarkCourier {
             inbox,
             stop,
             standing,
-            &mut courier.taker,
+            &mut endpoint.taker,
             marks,
             window,
             waiting,
