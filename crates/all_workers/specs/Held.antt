@@ -11,7 +11,7 @@ use Rattle.window_laws.specs.NetStep.{NetState, Run, boot}
 use Rattle.net_agenda.specs.Buckets.{Holds}
 use Rattle.net_agenda.specs.NetSystem.{system_of}
 use Rattle.copy_inbox.specs.Handles.{TakerView}
-use Rattle.copy_exchange.specs.Desks.{taken_by, gathered_by}
+use Rattle.copy_exchange.specs.Takers.{taken_by, gathered_by}
 use Rattle.worker_window.specs.declared.share.Share.{Share}
 use Rattle.all_workers.specs.declared.workers.Workers.{Workers}
 use Rattle.all_workers.specs.Workers.{IsAt}

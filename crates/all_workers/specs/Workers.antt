@@ -7,7 +7,7 @@ use Rattle.window_laws.specs.Windows.{first_mote, Windows, WakesFrom, is_from_se
 use Rattle.net_agenda.specs.NetSystem.{system_of}
 use Rattle.worker_cut.specs.Laws.{HasGathered}
 use Rattle.copy_inbox.specs.Handles.{TakerView}
-use Rattle.copy_exchange.specs.Desks.{taken_by, gathered_by}
+use Rattle.copy_exchange.specs.Takers.{taken_by, gathered_by}
 use Rattle.copy_exchange.specs.Inboxes.{Settled}
 use Rattle.worker_window.specs.declared.share.Share.{Share}
 use Rattle.worker_window.specs.Share.{Motes, Keeps}

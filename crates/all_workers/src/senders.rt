@@ -23,7 +23,7 @@ pub fn set_out(
     ensures set_out { IfOk result (λ endpoints. AllZip SetsOut takers.items endpoints.items) }
     ensures nothing { IfOk result (λ endpoints. Each HasPushedNothing endpoints.items) }
     ensures marked { IfOk result
-        (λ endpoints. Each (λ taker. taker.desk.marked ≡ true) takers.items → Each HasMarks endpoints.items) }
+        (λ endpoints. Each (λ taker. taker.state.marked ≡ true) takers.items → Each HasMarks endpoints.items) }
     ensures refused { IfErr result (λ reason. reason ≡ Memory) }
 {
     match endpoints(alloc, inboxes, takers) {

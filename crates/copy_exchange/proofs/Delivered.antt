@@ -10,10 +10,10 @@ use Rattle.std.specs.Vec.{with_item}
 use Rattle.radio_packet.specs.declared.copy.RadioCopy.{RadioCopy}
 use Rattle.copy_inbox.specs.declared.items.Carried.{Carried}
 use Rattle.copy_inbox.specs.declared.items.Carried.TheVariants.{Packet}
-use Rattle.copy_inbox.specs.declared.rule.Post.{Post}
+use Rattle.copy_inbox.specs.declared.rule.SenderState.{SenderState}
 use Rattle.copy_inbox.specs.Handles.{InboxId, TakerView, SenderView, after_pushing}
 use Rattle.copy_exchange.specs.declared.endpoint.Endpoint.{Endpoint}
-use Rattle.copy_exchange.specs.Desks.{copies_pushed, IsOrderly}
+use Rattle.copy_exchange.specs.Takers.{copies_pushed, IsOrderly}
 use Rattle.worker_cut.specs.Crossed.{is_to}
 use Rattle.copy_exchange.specs.Endpoints.{IsEndpoint, IsSeated, IsSenderOn, Leaves, Reaches, Stays, Delivers, PushesOut, sender_to, delivered, pushed_by, pushed_list, pushed_to, seat_of}
 use Rattle.worker_cut.proofs.Owners.{own_is}
@@ -67,7 +67,7 @@ abbrev pub with_sender : Endpoint → (to : ℕ) → SenderView → Endpoint
 with_sender c to t = record { worker = c.worker; taker = c.taker; senders = with_item c.senders to (Some t) }
 
 module _ (inboxes : List InboxId) (of : List ℕ) (c : Endpoint) (copy : RadioCopy) (to : ℕ) (endpoint : IsSeated inboxes c) (inside : to < length inboxes) (there : copy.to < length of) (is : to ≡ slice_index of copy.to)
-    (s t : SenderView) (was : Some s ≡ get_or c.senders.items to (Some s)) (same_inbox : t.inbox ≡ s.inbox) (post : t.post ≡ after_pushing s.post (Packet copy)) where
+    (s t : SenderView) (was : Some s ≡ get_or c.senders.items to (Some s)) (same_inbox : t.inbox ≡ s.inbox) (state : t.state ≡ after_pushing s.state (Packet copy)) where
   here : sender_to c to ≡ Some s
   here = let count = endpoint.count in same_at c.senders.items to None (Some s) (omega arith) ∙ sym was
 
@@ -97,7 +97,7 @@ module _ (inboxes : List InboxId) (of : List ℕ) (c : Endpoint) (copy : RadioCo
       (λ (q : (eqb v to ≡ true) × (v ≡ to)).
       let e : is_to of v copy ≡ true = own_is of copy.to v there ∙ eq-eqb (slice_index of copy.to) v (sym (q.1 ∙ is)) in
       ap pushed_by (ap (sender_to (with_sender c to t)) q.1 ∙ then_here)
-      ∙ (ap (λ (p : Post). copies_pushed p.pushed) post ∙ pushed-append s.post.pushed (Packet copy ∷ []))
+      ∙ (ap (λ (p : SenderState). copies_pushed p.pushed) state ∙ pushed-append s.state.pushed (Packet copy ∷ []))
       ∙ ap (λ (o : Option SenderView). pushed_by o ++ copy ∷ []) (sym (ap (sender_to c) q.1 ∙ here))
       ∙ ap (λ (b : Bool). delivered c v ++ cond b (copy ∷ []) []) (sym e))
       (λ (q : (eqb v to ≡ false) × (v ≢ to)).
@@ -110,7 +110,7 @@ module _ (inboxes : List InboxId) (of : List ℕ) (c : Endpoint) (copy : RadioCo
       (λ (q : (eqb v to ≡ true) × (v ≡ to)).
       let e : is_to of v copy ≡ true = own_is of copy.to v there ∙ eq-eqb (slice_index of copy.to) v (sym (q.1 ∙ is)) in
       ap pushed_list (ap (sender_to (with_sender c to t)) q.1 ∙ then_here)
-      ∙ ap (λ (p : Post). p.pushed) post
+      ∙ ap (λ (p : SenderState). p.pushed) state
       ∙ ap (λ (o : Option SenderView). pushed_list o ++ Packet copy ∷ []) (sym (ap (sender_to c) q.1 ∙ here))
       ∙ ap (λ (b : Bool). pushed_to c v ++ map Packet (cond b (copy ∷ []) [])) (sym e))
       (λ (q : (eqb v to ≡ false) × (v ≢ to)).
@@ -126,7 +126,7 @@ module _ (inboxes : List InboxId) (of : List ℕ) (c : Endpoint) (copy : RadioCo
       marked = refl;
       made = refl;
       gathered = refl;
-      seats = map-set_same seat_of c.senders.items to (Some t) (Some s) (ap Some (λ i. (same_inbox i, (post i).number, (post i).marked)) ∙ ap seat_of was);
+      seats = map-set_same seat_of c.senders.items to (Some t) (Some s) (ap Some (λ i. (same_inbox i, (state i).number, (state i).marked)) ∙ ap seat_of was);
     };
     taker = refl;
     adds = adds_at;
@@ -172,7 +172,7 @@ seated inboxes c h = record { taker = h.taker; count = h.count; each = h.each }
 
 pub endpoint_again : (inboxes : List InboxId) (of : List ℕ) (a b : Endpoint) (copies : List RadioCopy) → IsEndpoint inboxes a → Delivers of a b copies → IsSeated inboxes b → IsEndpoint inboxes b
 endpoint_again inboxes of a b copies h d s =
-    let P : TakerView → Type 0 = λ t. IsOrderly t.desk in
+    let P : TakerView → Type 0 = λ t. IsOrderly t.state in
     record { taker = s.taker; count = s.count; each = s.each; stands = subst P (sym d.taker) h.stands }
 
 -- ---- the copies for other workers

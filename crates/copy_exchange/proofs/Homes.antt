@@ -6,16 +6,16 @@ use Rattle.std.proofs.lemmas.List.Elements.{filter_map-append}
 use Rattle.std.proofs.lemmas.List.FromFn.{length-range_with_len}
 use Rattle.std.proofs.lemmas.Option.{get_or_from_slice_get, slice_get-get_or}
 use Rattle.std.specs.declared.alloc.Global.{Global}
-use Rattle.copy_inbox.specs.declared.rule.Desk.{Desk}
-use Rattle.copy_inbox.specs.declared.rule.Post.{Post}
+use Rattle.copy_inbox.specs.declared.rule.TakerState.{TakerState}
+use Rattle.copy_inbox.specs.declared.rule.SenderState.{SenderState}
 use Rattle.copy_inbox.specs.Items.{Packets}
 use Rattle.copy_inbox.specs.Gathered.{is_gathered}
 use Rattle.copy_inbox.specs.Handles.{InboxId, TakerView, SenderView, after_gather, AllGathered, PacketsLeft}
 use Rattle.copy_exchange.specs.declared.endpoint.Endpoint.{Endpoint}
-use Rattle.copy_exchange.specs.Desks.{copies_in, IsOrderly}
+use Rattle.copy_exchange.specs.Takers.{copies_in, IsOrderly}
 use Rattle.copy_exchange.specs.Endpoints.{IsEndpoint, IsSeated, IsCollected, DeliversOwn, Stays, AreOpen, Returns, AllReturn, ComesHome, sender_to, senders_to, seat_of}
 use Rattle.copy_exchange.specs.Inboxes.{IsPlain, IsSettled, Settled}
-use Rattle.copy_exchange.specs.Steps.{AreTakersOf, GathersRow, GathersBack, TellsOf, gather_into, gather_posts, at_place}
+use Rattle.copy_exchange.specs.Steps.{AreTakersOf, GathersRow, GathersBack, TellsOf, gather_into, gather_senders, at_place}
 use Rattle.copy_exchange.proofs.Gathers.{gather_is, with_joined, numbers_of, joined_copies, all_gathered, stands_then, packets_then, OneOf}
 use Rattle.copy_exchange.proofs.Delivered.{seated}
 use Rattle.copy_exchange.proofs.Lists.{each_from, each_join, each_map}
@@ -36,8 +36,8 @@ numbers_same None None ss us e h = h
 numbers_same None (Some q) ss us e h = absurd cc
 numbers_same (Some p) None ss us e h = absurd cc
 numbers_same (Some p) (Some q) ss us e h =
-    let seat : (p.inbox, p.post.number, p.post.marked) ≡ (q.inbox, q.post.number, q.post.marked) = cc in
-    let number : p.post.number ≡ q.post.number = ap (λ (x : InboxId × ℕ × Bool). x.1) seat in
+    let seat : (p.inbox, p.state.number, p.state.marked) ≡ (q.inbox, q.state.number, q.state.marked) = cc in
+    let number : p.state.number ≡ q.state.number = ap (λ (x : InboxId × ℕ × Bool). x.1) seat in
     λ i. number i ∷ h i
 
 pub same_workers : (old new : List Endpoint) → AllZip Stays old new → workers_of new ≡ workers_of old
@@ -75,9 +75,9 @@ module _ (inboxes : List InboxId) (worker_of : ℕ → ℕ) where
   each_back P f [] (b ∷ bs) h = absurd h
   each_back P f (a ∷ as') [] h = absurd h
 
-open_same : (ss us : List SenderView) (d e : Desk) → AreOpen ss d → numbers_of us ≡ numbers_of ss → e.made ≡ d.made → e.gathered ≡ d.gathered → AreOpen us e
+open_same : (ss us : List SenderView) (d e : TakerState) → AreOpen ss d → numbers_of us ≡ numbers_of ss → e.made ≡ d.made → e.gathered ≡ d.gathered → AreOpen us e
 open_same ss us d e h numbers made gathered =
-    let long : length us ≡ length ss = sym (length-map us (λ (s : SenderView). s.post.number)) ∙ (ap length numbers ∙ length-map ss (λ (s : SenderView). s.post.number)) in
+    let long : length us ≡ length ss = sym (length-map us (λ (s : SenderView). s.state.number)) ∙ (ap length numbers ∙ length-map ss (λ (s : SenderView). s.state.number)) in
     record {
       first = h.first;
       numbered = numbers ∙ (h.numbered ∙ ap (range_with_len h.first) (sym long));
@@ -87,10 +87,10 @@ open_same ss us d e h numbers made gathered =
     }
 
 -- whose senders are open stays so while the endpoints stay the same
-pub open_staying : (old new : List Endpoint) → AllZip Stays old new → Each (λ (c : Endpoint). AreOpen (senders_to old c.worker) c.taker.desk) old → Each (λ (c : Endpoint). AreOpen (senders_to new c.worker) c.taker.desk) new
+pub open_staying : (old new : List Endpoint) → AllZip Stays old new → Each (λ (c : Endpoint). AreOpen (senders_to old c.worker) c.taker.state) old → Each (λ (c : Endpoint). AreOpen (senders_to new c.worker) c.taker.state) new
 open_staying old new stays are_open =
-    each_staying (λ c. AreOpen (senders_to old c.worker) c.taker.desk) (λ c. AreOpen (senders_to new c.worker) c.taker.desk)
-    (λ a b h r. open_same (senders_to old a.worker) (senders_to new b.worker) a.taker.desk b.taker.desk h (same_numbers old new b.worker stays ∙ ap (λ v. numbers_of (senders_to old v)) r.worker) r.made r.gathered)
+    each_staying (λ c. AreOpen (senders_to old c.worker) c.taker.state) (λ c. AreOpen (senders_to new c.worker) c.taker.state)
+    (λ a b h r. open_same (senders_to old a.worker) (senders_to new b.worker) a.taker.state b.taker.state h (same_numbers old new b.worker stays ∙ ap (λ v. numbers_of (senders_to old v)) r.worker) r.made r.gathered)
     old new are_open stays
 
 module _ (P Q R S : Endpoint → Type 0) where
@@ -111,7 +111,7 @@ module _ (inboxes : List InboxId) (cs : List Endpoint) (back : AllReturn inboxes
   pub count : length cs ≡ length inboxes
   count = sym (length-map cs (λ (c : Endpoint). c.worker)) ∙ (ap length workers ∙ length-range_with_len 0 (length inboxes))
 
-  still_open : Each (λ (c : Endpoint). AreOpen (senders_to cs c.worker) c.taker.desk) cs
+  still_open : Each (λ (c : Endpoint). AreOpen (senders_to cs c.worker) c.taker.state) cs
   still_open = open_staying before cs stays back.together.are_open
 
   pub owns : Each (DeliversOwn back.worker_of) cs
@@ -125,21 +125,21 @@ module _ (inboxes : List InboxId) (cs : List Endpoint) (back : AllReturn inboxes
 
   -- the taker with all senders of its inbox gathered
   abbrev pub with_all : Endpoint → TakerView
-  with_all c = gather_posts c.taker (senders_to cs c.worker)
+  with_all c = gather_senders c.taker (senders_to cs c.worker)
 
   -- it had taken all that it knew of, and its inbox has no marks
   abbrev IsDone : Endpoint → Type 0
   IsDone c = IsCollected c × IsPlain c.taker
 
   abbrev pub IsHome : Endpoint → Type 0
-  IsHome c = IsEndpoint inboxes c × (IsOrderly (with_all c).desk × AllGathered (with_all c).desk) × ComesHome cs c (with_all c) × IsDone c
+  IsHome c = IsEndpoint inboxes c × (IsOrderly (with_all c).state × AllGathered (with_all c).state) × ComesHome cs c (with_all c) × IsDone c
 
-  home : (c : Endpoint) → AreOpen (senders_to cs c.worker) c.taker.desk → IsEndpoint inboxes c → IsDone c → IsHome c
+  home : (c : Endpoint) → AreOpen (senders_to cs c.worker) c.taker.state → IsEndpoint inboxes c → IsDone c → IsHome c
   home c are_open endpoint done =
       let ss : List SenderView = senders_to cs c.worker in
-      let d : Desk = c.taker.desk in
-      let P : TakerView → Type 0 = λ t. (IsOrderly t.desk × AllGathered t.desk) × ComesHome cs c t in
-      let then_ : P (record { inbox = c.taker.inbox; desk = with_joined ss d }) = (
+      let d : TakerState = c.taker.state in
+      let P : TakerView → Type 0 = λ t. (IsOrderly t.state × AllGathered t.state) × ComesHome cs c t in
+      let then_ : P (record { inbox = c.taker.inbox; state = with_joined ss d }) = (
         (stands_then ss d endpoint.stands done.0 are_open (λ s. one s c.worker), all_gathered ss d endpoint.stands done.0 are_open (λ s. one s c.worker)),
         record {
           same_marked = refl;
@@ -151,21 +151,21 @@ module _ (inboxes : List InboxId) (cs : List Endpoint) (back : AllReturn inboxes
       (endpoint, both.0, both.1, done)
 
   pub homes : Each IsHome cs
-  homes = each_three (λ c. AreOpen (senders_to cs c.worker) c.taker.desk) (IsEndpoint inboxes) IsDone IsHome home cs still_open
+  homes = each_three (λ c. AreOpen (senders_to cs c.worker) c.taker.state) (IsEndpoint inboxes) IsDone IsHome home cs still_open
       (each_back inboxes back.worker_of (IsEndpoint inboxes) (λ a b r. r.endpoint) before cs back.each)
       (each_back inboxes back.worker_of IsDone (λ a b r. (r.collected, r.plain)) before cs back.each)
 
-  pub settled_at : (c : Endpoint) → IsHome c → Each (λ (s : SenderView). TellsOf c.taker.desk s.post) (senders_to cs c.worker) → IsSettled c.taker.inbox (with_all c)
+  pub settled_at : (c : Endpoint) → IsHome c → Each (λ (s : SenderView). TellsOf c.taker.state s.state) (senders_to cs c.worker) → IsSettled c.taker.inbox (with_all c)
   settled_at c h told =
       let ss : List SenderView = senders_to cs c.worker in
       let is = gather_is c.taker ss in
-      let packets : Each (λ (s : SenderView). Packets s.post.pushed) ss = each_map (λ (s : SenderView). TellsOf c.taker.desk s.post) (λ (s : SenderView). Packets s.post.pushed) ss (λ s k. k.plain h.3.1) told in
-      let P : TakerView → Type 0 = λ t. PacketsLeft t.desk in
+      let packets : Each (λ (s : SenderView). Packets s.state.pushed) ss = each_map (λ (s : SenderView). TellsOf c.taker.state s.state) (λ (s : SenderView). Packets s.state.pushed) ss (λ s k. k.plain h.3.1) told in
+      let P : TakerView → Type 0 = λ t. PacketsLeft t.state in
       record {
         its = ap (λ (t : TakerView). t.inbox) is;
         stands = h.1.0;
         all = h.1.1;
-        no_mark = subst P (sym is) (packets_then ss c.taker.desk h.3.0 packets);
+        no_mark = subst P (sym is) (packets_then ss c.taker.state h.3.0 packets);
       }
 
 -- ---- row by row
@@ -178,24 +178,24 @@ row_senders rows v = filter_map (λ (r : Row). at_place r.items v) rows
 
 pub record GathersRows (old new : List TakerView) (rows : List Row) : Type 0 where
   pub count : length new ≡ length old
-  pub taker : (v : ℕ) (t : TakerView) → v < length old → get_or new v t ≡ gather_posts (get_or old v t) (row_senders rows v)
-  pub told : (v : ℕ) (t : TakerView) → v < length old → Each (λ (s : SenderView). TellsOf (get_or old v t).desk s.post) (row_senders rows v)
+  pub taker : (v : ℕ) (t : TakerView) → v < length old → get_or new v t ≡ gather_senders (get_or old v t) (row_senders rows v)
+  pub told : (v : ℕ) (t : TakerView) → v < length old → Each (λ (s : SenderView). TellsOf (get_or old v t).state s.state) (row_senders rows v)
 
 -- what a taker took doesn't change when it gathers
-told_before : (t : TakerView) (ss : List SenderView) (p : Post) → TellsOf (gather_posts t ss).desk p → TellsOf t.desk p
+told_before : (t : TakerView) (ss : List SenderView) (p : SenderState) → TellsOf (gather_senders t ss).state p → TellsOf t.state p
 told_before t ss p h =
-    let P : TakerView → Type 0 = λ u. TellsOf u.desk p in
-    let k : TellsOf (with_joined ss t.desk) p = subst P (gather_is t ss) h in
+    let P : TakerView → Type 0 = λ u. TellsOf u.state p in
+    let k : TellsOf (with_joined ss t.state) p = subst P (gather_is t ss) h in
     record { begun = k.begun; plain = k.plain }
 
-told_option : (d : Desk) (o : Option SenderView) → ((s : SenderView) → o ≡ Some s → TellsOf d s.post) → Each (λ (s : SenderView). TellsOf d s.post) (cons_option o [])
+told_option : (d : TakerState) (o : Option SenderView) → ((s : SenderView) → o ≡ Some s → TellsOf d s.state) → Each (λ (s : SenderView). TellsOf d s.state) (cons_option o [])
 told_option d None f = tt
 told_option d (Some s) f = (f s refl, tt)
 
-posts_more : (t : TakerView) (ss : List SenderView) (o : Option SenderView) → gather_posts t (ss ++ cons_option o []) ≡ gather_into (gather_posts t ss) o
-posts_more t [] None = refl
-posts_more t [] (Some s) = refl
-posts_more t (s ∷ ss) o = posts_more (after_gather t s.post) ss o
+gather_more : (t : TakerView) (ss : List SenderView) (o : Option SenderView) → gather_senders t (ss ++ cons_option o []) ≡ gather_into (gather_senders t ss) o
+gather_more t [] None = refl
+gather_more t [] (Some s) = refl
+gather_more t (s ∷ ss) o = gather_more (after_gather t s.state) ss o
 
 pub no_rows : (old : List TakerView) → GathersRows old old []
 no_rows old = record { count = refl; taker = λ v t lt. refl; told = λ v t lt. tt }
@@ -207,12 +207,12 @@ more_rows old mid new rows row h r =
       count = r.takers ∙ count;
       taker = λ v t lt.
           r.taker v t (omega arith) ∙ (ap (λ u. gather_into u (at_place row.items v)) (h.taker v t lt)
-          ∙ (sym (posts_more (get_or old v t) (row_senders rows v) (at_place row.items v)) ∙ ap (gather_posts (get_or old v t)) (sym (filter_map-append (λ (k : Row). at_place k.items v) rows (row ∷ [])))));
+          ∙ (sym (gather_more (get_or old v t) (row_senders rows v) (at_place row.items v)) ∙ ap (gather_senders (get_or old v t)) (sym (filter_map-append (λ (k : Row). at_place k.items v) rows (row ∷ [])))));
       told = λ v t lt.
-          let F : SenderView → Type 0 = λ s. TellsOf (get_or old v t).desk s.post in
-          let new_ : Each F (cons_option (at_place row.items v) []) = told_option (get_or old v t).desk (at_place row.items v) (λ s found.
-          let P : TakerView → Type 0 = λ u. TellsOf u.desk s.post in
-          told_before (get_or old v t) (row_senders rows v) s.post (subst P (h.taker v t lt) (r.told v t s (omega arith) found))) in
+          let F : SenderView → Type 0 = λ s. TellsOf (get_or old v t).state s.state in
+          let new_ : Each F (cons_option (at_place row.items v) []) = told_option (get_or old v t).state (at_place row.items v) (λ s found.
+          let P : TakerView → Type 0 = λ u. TellsOf u.state s.state in
+          told_before (get_or old v t) (row_senders rows v) s.state (subst P (h.taker v t lt) (r.told v t s (omega arith) found))) in
           let L : List SenderView → Type 0 = λ l. Each F l in
           subst L (sym (filter_map-append (λ (k : Row). at_place k.items v) rows (row ∷ []))) (each_join F (row_senders rows v) (cons_option (at_place row.items v) []) (h.told v t lt) new_);
     }
@@ -258,22 +258,22 @@ module _ (inboxes : List InboxId) (cs : List Endpoint) (back : AllReturn inboxes
       sym (ap (λ k. get_or inboxes k id) same ∙ get_or_from_slice_get inboxes p.0.worker p.0.taker.inbox id p.4.0.taker)
 
   module _ (ts : List TakerView) (h : GathersBack cs ts) where
-    taker_is : (v : ℕ) (t : TakerView) (lt : v < length cs) → get_or ts v t ≡ gather_posts (picked v lt).0.taker (senders_to cs (picked v lt).0.worker)
+    taker_is : (v : ℕ) (t : TakerView) (lt : v < length cs) → get_or ts v t ≡ gather_senders (picked v lt).0.taker (senders_to cs (picked v lt).0.worker)
     taker_is v t lt =
         let p = picked v lt in
         let n = h.count in
         let is = p.1 in
         let same : v ≡ p.0.worker = omega arith in
         let found : slice_get cs v ≡ Some p.0 = slice_get-get_or cs v p.0 lt ∙ ap Some (p.3 p.0) in
-        h.taker v p.0 (get_or ts v t) found (slice_get-get_or ts v t (omega arith)) ∙ ap (λ k. gather_posts p.0.taker (senders_to cs k)) same
+        h.taker v p.0 (get_or ts v t) found (slice_get-get_or ts v t (omega arith)) ∙ ap (λ k. gather_senders p.0.taker (senders_to cs k)) same
 
-    told_at : (v : ℕ) (lt : v < length cs) → Each (λ (s : SenderView). TellsOf (picked v lt).0.taker.desk s.post) (senders_to cs (picked v lt).0.worker)
+    told_at : (v : ℕ) (lt : v < length cs) → Each (λ (s : SenderView). TellsOf (picked v lt).0.taker.state s.state) (senders_to cs (picked v lt).0.worker)
     told_at v lt =
         let p = picked v lt in
         let is = p.1 in
         let same : v ≡ p.0.worker = omega arith in
         let found : slice_get cs v ≡ Some p.0 = slice_get-get_or cs v p.0 lt ∙ ap Some (p.3 p.0) in
-        let Q : ℕ → Type 0 = λ k. Each (λ (s : SenderView). TellsOf p.0.taker.desk s.post) (senders_to cs k) in
+        let Q : ℕ → Type 0 = λ k. Each (λ (s : SenderView). TellsOf p.0.taker.state s.state) (senders_to cs k) in
         subst Q same (h.told v p.0 found)
 
     pub settled : Settled inboxes ts
@@ -283,15 +283,15 @@ module _ (inboxes : List InboxId) (cs : List Endpoint) (back : AllReturn inboxes
         let P : InboxId × TakerView → Type 0 = λ x. IsSettled x.0 x.1 in
         subst P (λ i. (inbox_of v id inside i, sym (taker_is v t inside) i)) (settled_at inboxes cs back (picked v inside).0 (picked v inside).4 (told_at v inside)))
 
-    still_marked : (t : TakerView) (ss : List SenderView) → (gather_posts t ss).desk.marked ≡ t.desk.marked
-    still_marked t ss = ap (λ (u : TakerView). u.desk.marked) (gather_is t ss)
+    still_marked : (t : TakerView) (ss : List SenderView) → (gather_senders t ss).state.marked ≡ t.state.marked
+    still_marked t ss = ap (λ (u : TakerView). u.state.marked) (gather_is t ss)
 
     pub plain_home : Each IsPlain ts
     plain_home = each_from IsPlain ts (λ v t lt.
         let n = h.count in
         let inside : v < length cs = omega arith in
         let p = picked v inside in
-        ap (λ (u : TakerView). u.desk.marked) (taker_is v t inside) ∙ (still_marked p.0.taker (senders_to cs p.0.worker) ∙ p.4.3.1))
+        ap (λ (u : TakerView). u.state.marked) (taker_is v t inside) ∙ (still_marked p.0.taker (senders_to cs p.0.worker) ∙ p.4.3.1))
 
     pub came_home : AllZip (ComesHome cs) cs ts
     came_home = zip_each (ComesHome cs) cs ts h.count (λ v d t lt.

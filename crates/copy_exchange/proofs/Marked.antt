@@ -5,7 +5,7 @@ use Rattle.std.proofs.lemmas.Bool.Decides.{eqb_tells}
 use Rattle.std.proofs.lemmas.List.{get_or-set_same, get_or-set_other, length-map}
 use Rattle.std.proofs.lemmas.Option.{slice_get-get_or}
 use Rattle.copy_inbox.specs.declared.items.Carried.TheVariants.{Mark}
-use Rattle.copy_inbox.specs.declared.rule.Post.{Post}
+use Rattle.copy_inbox.specs.declared.rule.SenderState.{SenderState}
 use Rattle.copy_inbox.specs.Handles.{InboxId, SenderView, after_pushing}
 use Rattle.copy_exchange.specs.declared.endpoint.Endpoint.{Endpoint}
 use Rattle.copy_exchange.specs.Endpoints.{IsSeated, IsSenderOn, HasMarks, Stays, PushesMarks, sender_to, pushed_list, pushed_to, seat_of}
@@ -23,17 +23,17 @@ on_seat id false None None e h = h
 on_seat id false None (Some q) e h = absurd cc
 on_seat id false (Some p) None e h = absurd cc
 on_seat id false (Some p) (Some q) e h =
-    let seat : (p.inbox, p.post.number, p.post.marked) ≡ (q.inbox, q.post.number, q.post.marked) = cc in
+    let seat : (p.inbox, p.state.number, p.state.marked) ≡ (q.inbox, q.state.number, q.state.marked) = cc in
     ap (λ (x : InboxId × ℕ × Bool). x.0) seat ∙ h
 
-marked_seat : (o p : Option SenderView) → seat_of o ≡ seat_of p → ((s : SenderView) → p ≡ Some s → s.post.marked ≡ true) → (s : SenderView) → o ≡ Some s → s.post.marked ≡ true
+marked_seat : (o p : Option SenderView) → seat_of o ≡ seat_of p → ((s : SenderView) → p ≡ Some s → s.state.marked ≡ true) → (s : SenderView) → o ≡ Some s → s.state.marked ≡ true
 marked_seat None p e h s is = absurd cc
 marked_seat (Some o) None e h s is = absurd cc
 marked_seat (Some o) (Some q) e h s is =
     let same : o ≡ s = cc in
-    let seat : (o.inbox, o.post.number, o.post.marked) ≡ (q.inbox, q.post.number, q.post.marked) = cc in
-    let marked : o.post.marked ≡ q.post.marked = ap (λ (x : InboxId × ℕ × Bool). x.2) seat in
-    ap (λ (x : SenderView). x.post.marked) (sym same) ∙ (marked ∙ h q refl)
+    let seat : (o.inbox, o.state.number, o.state.marked) ≡ (q.inbox, q.state.number, q.state.marked) = cc in
+    let marked : o.state.marked ≡ q.state.marked = ap (λ (x : InboxId × ℕ × Bool). x.2) seat in
+    ap (λ (x : SenderView). x.state.marked) (sym same) ∙ (marked ∙ h q refl)
 
 -- ---- what stays of an endpoint
 pub marks_stay : (a b : Endpoint) → Stays a b → HasMarks a → HasMarks b
@@ -61,7 +61,7 @@ marks_without c to window none = record {
 }
 
 module _ (c : Endpoint) (to window : ℕ) (inside : to < length c.senders.items) (s t : SenderView) (was : Some s ≡ get_or c.senders.items to (Some s)) (same_inbox : t.inbox ≡ s.inbox)
-    (post : t.post ≡ after_pushing s.post (Mark window)) where
+    (state : t.state ≡ after_pushing s.state (Mark window)) where
   there : sender_to c to ≡ Some s
   there = same_at c.senders.items to None (Some s) inside ∙ sym was
 
@@ -73,10 +73,10 @@ module _ (c : Endpoint) (to window : ℕ) (inside : to < length c.senders.items)
       marked = refl;
       made = refl;
       gathered = refl;
-      seats = map-set_same seat_of c.senders.items to (Some t) (Some s) (ap Some (λ i. (same_inbox i, (post i).number, (post i).marked)) ∙ ap seat_of was);
+      seats = map-set_same seat_of c.senders.items to (Some t) (Some s) (ap Some (λ i. (same_inbox i, (state i).number, (state i).marked)) ∙ ap seat_of was);
     };
     taker = refl;
-    here = ap pushed_list (get_or-set_same c.senders.items to (Some t) None inside) ∙ (ap (λ (p : Post). p.pushed) post ∙ ap (λ o. pushed_with_mark o window) (sym there));
+    here = ap pushed_list (get_or-set_same c.senders.items to (Some t) None inside) ∙ (ap (λ (p : SenderState). p.pushed) state ∙ ap (λ o. pushed_with_mark o window) (sym there));
     others = λ v n. get_or-set_other c.senders.items to v (Some t) None n;
   }
 
@@ -118,7 +118,7 @@ marked_all inboxes to window a b all h = record { stays = h.stays; taker = h.tak
 
 -- ---- the sender on an inbox can push a mark
 pub can_mark : (inboxes : List InboxId) (c : Endpoint) (to : ℕ) (id : InboxId) → IsSeated inboxes c → HasMarks c → to < length inboxes → id ≡ get_or inboxes to id
-    → IfSome (sender_to c to) (λ s. (s.inbox ≡ id) × (s.post.marked ≡ true))
+    → IfSome (sender_to c to) (λ s. (s.inbox ≡ id) × (s.state.marked ≡ true))
 can_mark inboxes c to id seated marks lt at = of_sender (sender_to c to) refl
   where
     found : slice_get inboxes to ≡ Some id
@@ -128,7 +128,7 @@ can_mark inboxes c to id seated marks lt at = of_sender (sender_to c to) refl
     on_other true s h = absurd cc
     on_other false s h = h
 
-    of_sender : (o : Option SenderView) → sender_to c to ≡ o → IfSome o (λ s. (s.inbox ≡ id) × (s.post.marked ≡ true))
+    of_sender : (o : Option SenderView) → sender_to c to ≡ o → IfSome o (λ s. (s.inbox ≡ id) × (s.state.marked ≡ true))
     of_sender None e = tt
     of_sender (Some s) e =
         let P : Option SenderView → Type 0 = λ p. IsSenderOn id (to == c.worker) p in

@@ -7,7 +7,7 @@ use Rattle.std.proofs.lemmas.Bool.Decides.{eqb_tells}
 use Rattle.std.proofs.lemmas.List.{length-map}
 use Rattle.std.proofs.lemmas.List.FromFn.{get_or-range_with_len, length-range_with_len}
 use Rattle.std.proofs.lemmas.Option.{get_or_from_slice_get, slice_get-get_or, slice_get-map, slice_get_within}
-use Rattle.copy_inbox.specs.declared.rule.Desk.{Desk}
+use Rattle.copy_inbox.specs.declared.rule.TakerState.{TakerState}
 use Rattle.copy_inbox.specs.Gathered.{is_gathered}
 use Rattle.copy_inbox.specs.Handles.{InboxId, SenderView}
 use Rattle.copy_exchange.specs.declared.endpoint.Endpoint.{Endpoint}
@@ -104,7 +104,7 @@ module _ (id : InboxId) (v : ℕ) where
       omega arith)
       (eqb_tells v k)
 
-first_is_0 : (ss : List SenderView) (d : Desk) (h : AreOpen ss d) → d.gathered ≡ [] → h.first ≡ 0
+first_is_0 : (ss : List SenderView) (d : TakerState) (h : AreOpen ss d) → d.gathered ≡ [] → h.first ≡ 0
 first_is_0 ss d h none = ⊎_elim
     (λ (lt : 0 < h.first). absurd (let yes : false ≡ true = ap (λ gs. is_gathered gs 0) (sym none) ∙ h.older 0 lt in cc))
     (λ (le : h.first ≤ 0). omega arith)
@@ -126,11 +126,11 @@ module _ (inboxes : List InboxId) (cs : List Endpoint) (workers : workers_of cs 
       one_missing id v 0 cs (omega arith) (omega arith) (workers ∙ ap (range_with_len 0) (sym long)) (each_map (IsSeated inboxes) (On id v) cs (λ x h. h.each v id found) each_seated) ∙ long
 
 -- on the inbox of each worker, where none is gathered yet, there is a sender of each other one
-pub made_for_others : (inboxes : List InboxId) (endpoints : List Endpoint) → Together inboxes endpoints → (v : ℕ) (c : Endpoint) → slice_get endpoints v ≡ Some c → c.taker.desk.gathered ≡ [] → suc c.taker.desk.made ≡ length inboxes
+pub made_for_others : (inboxes : List InboxId) (endpoints : List Endpoint) → Together inboxes endpoints → (v : ℕ) (c : Endpoint) → slice_get endpoints v ≡ Some c → c.taker.state.gathered ≡ [] → suc c.taker.state.made ≡ length inboxes
 made_for_others inboxes endpoints h v c at none =
     let each_seated = each_map (IsEndpoint inboxes) (IsSeated inboxes) endpoints (seated inboxes) h.each in
-    let o : AreOpen (senders_to endpoints c.worker) c.taker.desk = each_found (λ (x : Endpoint). AreOpen (senders_to endpoints x.worker) x.taker.desk) endpoints v c h.are_open at in
-    let first = first_is_0 (senders_to endpoints c.worker) c.taker.desk o none in
+    let o : AreOpen (senders_to endpoints c.worker) c.taker.state = each_found (λ (x : Endpoint). AreOpen (senders_to endpoints x.worker) x.taker.state) endpoints v c h.are_open at in
+    let first = first_is_0 (senders_to endpoints c.worker) c.taker.state o none in
     let made = o.made in
     let same : length (senders_to endpoints c.worker) ≡ length (senders_to endpoints v) = ap (λ w. length (senders_to endpoints w)) (worker_is inboxes endpoints h.workers each_seated v c at) in
     let others = all_but_one inboxes endpoints h.workers each_seated v c at in
@@ -149,15 +149,15 @@ found_as ss i j s e at = ap (slice_get ss) e ∙ at
 
 -- one sender of each other worker on the inbox of this one, numbered from 0, and no others
 pub record SendersOfOthers (workers worker : ℕ) (sender : (other : ℕ) → Option SenderView) (made : ℕ) (senders : List SenderView) : Type 0 where
-  pub numbered : map (λ (s : SenderView). s.post.number) senders ≡ range_with_len 0 (length senders)
+  pub numbered : map (λ (s : SenderView). s.state.number) senders ≡ range_with_len 0 (length senders)
   pub made_is : made ≡ length senders
   pub others : suc (length senders) ≡ workers
-  pub of_worker : (v : ℕ) → v < workers → v ≢ worker → (s : SenderView) × (sender v ≡ Some s) × (slice_get senders s.post.number ≡ Some s)
+  pub of_worker : (v : ℕ) → v < workers → v ≢ worker → (s : SenderView) × (sender v ≡ Some s) × (slice_get senders s.state.number ≡ Some s)
   pub worker_of : (j : ℕ) (s : SenderView) → slice_get senders j ≡ Some s → (v : ℕ) × (v < workers) × (v ≢ worker) × (sender v ≡ Some s)
 
 module _ (inboxes : List InboxId) (before after : List Endpoint)
     (together : Together inboxes before)
-    (none : Each (λ (c : Endpoint). c.taker.desk.gathered ≡ []) before)
+    (none : Each (λ (c : Endpoint). c.taker.state.gathered ≡ []) before)
     (stays : AllZip Stays before after)
     (each_seated : Each (IsSeated inboxes) after)
     (v : ℕ) (c : Endpoint) (at : slice_get after v ≡ Some c) where
@@ -170,17 +170,17 @@ module _ (inboxes : List InboxId) (before after : List Endpoint)
   its : c.worker ≡ v
   its = worker_is inboxes after workers each_seated v c at
 
-  are_open : AreOpen senders c.taker.desk
+  are_open : AreOpen senders c.taker.state
   are_open =
-      let P : ℕ → Type 0 = λ w. AreOpen (senders_to after w) c.taker.desk in
-      subst P its (each_found (λ (x : Endpoint). AreOpen (senders_to after x.worker) x.taker.desk) after v c (open_staying before after stays together.are_open) at)
+      let P : ℕ → Type 0 = λ w. AreOpen (senders_to after w) c.taker.state in
+      subst P its (each_found (λ (x : Endpoint). AreOpen (senders_to after x.worker) x.taker.state) after v c (open_staying before after stays together.are_open) at)
 
-  none_gathered : c.taker.desk.gathered ≡ []
-  none_gathered = each_found (λ (x : Endpoint). x.taker.desk.gathered ≡ []) after v c
-      (each_staying (λ (x : Endpoint). x.taker.desk.gathered ≡ []) (λ (x : Endpoint). x.taker.desk.gathered ≡ []) (λ a b e h. h.gathered ∙ e) before after none stays) at
+  none_gathered : c.taker.state.gathered ≡ []
+  none_gathered = each_found (λ (x : Endpoint). x.taker.state.gathered ≡ []) after v c
+      (each_staying (λ (x : Endpoint). x.taker.state.gathered ≡ []) (λ (x : Endpoint). x.taker.state.gathered ≡ []) (λ a b e h. h.gathered ∙ e) before after none stays) at
 
   first : are_open.first ≡ 0
-  first = first_is_0 senders c.taker.desk are_open none_gathered
+  first = first_is_0 senders c.taker.state are_open none_gathered
 
   numbered : numbers_of senders ≡ range_with_len 0 (length senders)
   numbered = are_open.numbered ∙ ap (λ k. range_with_len k (length senders)) first
@@ -201,7 +201,7 @@ module _ (inboxes : List InboxId) (before after : List Endpoint)
   found_some None h = absurd h
   found_some (Some s) h = (s, refl)
 
-  of_worker : (u : ℕ) → u < length inboxes → u ≢ v → (s : SenderView) × (sender_of after v u ≡ Some s) × (slice_get senders s.post.number ≡ Some s)
+  of_worker : (u : ℕ) → u < length inboxes → u ≢ v → (s : SenderView) × (sender_of after v u ≡ Some s) × (slice_get senders s.state.number ≡ Some s)
   of_worker u lt other =
       let n = long inboxes after workers each_seated in
       let d : Endpoint = get_or after u c in
@@ -209,10 +209,10 @@ module _ (inboxes : List InboxId) (before after : List Endpoint)
       let its_worker = worker_is inboxes after workers each_seated u d there in
       let found = found_some (sender_to d v) (as_other inbox v d (λ same. other (sym (same ∙ its_worker))) (on_it u d there)) in
       let place = in_filter_map (λ (x : Endpoint). sender_to x v) after u d found.0 there found.1 in
-      let number : found.0.post.number ≡ place.0 = at_range (λ (s : SenderView). s.post.number) senders (length senders) numbered place.0 found.0 place.1 in (
+      let number : found.0.state.number ≡ place.0 = at_range (λ (s : SenderView). s.state.number) senders (length senders) numbered place.0 found.0 place.1 in (
         found.0,
         sender_is after v u d there ∙ found.1,
-        found_as senders found.0.post.number place.0 found.0 number place.1,
+        found_as senders found.0.state.number place.0 found.0 number place.1,
       )
 
   worker_of : (j : ℕ) (s : SenderView) → slice_get senders j ≡ Some s → (u : ℕ) × (u < length inboxes) × (u ≢ v) × (sender_of after v u ≡ Some s)
@@ -230,7 +230,7 @@ module _ (inboxes : List InboxId) (before after : List Endpoint)
         sender_is after v u d there ∙ of_it.3,
       )
 
-  pub are_senders : SendersOfOthers (length inboxes) v (sender_of after v) c.taker.desk.made senders
+  pub are_senders : SendersOfOthers (length inboxes) v (sender_of after v) c.taker.state.made senders
   are_senders = record {
     numbered = numbered;
     made_is = let made = are_open.made in let zero_ = first in omega arith;

@@ -40,18 +40,18 @@ module _ (worker_of : ℕ → ℕ) (s v : ℕ) where
       let other : worker_of s ≢ c.worker = λ same. absurd (omega arith) in
       (own.0 s v (ne_eqb (worker_of s) c.worker other), none_of_them (first + 1) cs n.1 (omega arith) own.1)
 
-  with_none : (j : ℕ) (o : Option SenderView) (ss : List SenderView) → from s (pushed_by o) ≡ [] → Each (λ (a : SenderView). (a.post.number ≡ j) ⊎ (from s (copies_by a) ≡ [])) ss
-      → Each (λ (a : SenderView). (a.post.number ≡ j) ⊎ (from s (copies_by a) ≡ [])) (cons_option o ss)
+  with_none : (j : ℕ) (o : Option SenderView) (ss : List SenderView) → from s (pushed_by o) ≡ [] → Each (λ (a : SenderView). (a.state.number ≡ j) ⊎ (from s (copies_by a) ≡ [])) ss
+      → Each (λ (a : SenderView). (a.state.number ≡ j) ⊎ (from s (copies_by a) ≡ [])) (cons_option o ss)
   with_none j None ss e h = h
   with_none j (Some a) ss e h = (inr e, h)
 
-  none_each : (j : ℕ) (cs : List Endpoint) → Each None' cs → Each (λ (a : SenderView). (a.post.number ≡ j) ⊎ (from s (copies_by a) ≡ [])) (senders_to cs v)
+  none_each : (j : ℕ) (cs : List Endpoint) → Each None' cs → Each (λ (a : SenderView). (a.state.number ≡ j) ⊎ (from s (copies_by a) ≡ [])) (senders_to cs v)
   none_each j [] h = tt
   none_each j (c ∷ cs) h = with_none j (sender_to c v) (senders_to cs v) h.0 (none_each j cs h.1)
 
   with_one : (o : Option SenderView) (cs : List Endpoint) → Each None' cs → OneOf s (cons_option o (senders_to cs v))
   with_one None cs h = record { number = 0; each = none_each 0 cs h }
-  with_one (Some a) cs h = record { number = a.post.number; each = (inl refl, none_each a.post.number cs h) }
+  with_one (Some a) cs h = record { number = a.state.number; each = (inl refl, none_each a.state.number cs h) }
 
   one_more : (b : Bool) (c : Endpoint) (first : ℕ) (cs : List Endpoint) → (worker_of s == c.worker) ≡ b → c.worker ≡ first → workers_of cs ≡ range_with_len (first + 1) (length cs) → DeliversOwn worker_of c → Each (DeliversOwn worker_of) cs
       → OneOf s (senders_to cs v) → OneOf s (senders_to (c ∷ cs) v)

@@ -4,15 +4,15 @@ use Rattle.std.specs.List.{AllByRecursion as Each, range_with_len}
 use Rattle.std.proofs.lemmas.List.Concat.{flat_map-cons}
 use Rattle.radio_packet.specs.declared.copy.RadioCopy.{RadioCopy}
 use Rattle.copy_inbox.specs.declared.items.Item.{Item}
-use Rattle.copy_inbox.specs.declared.rule.Desk.{Desk}
+use Rattle.copy_inbox.specs.declared.rule.TakerState.{TakerState}
 use Rattle.copy_inbox.specs.Items.{copies_of, part}
 use Rattle.copy_inbox.specs.Gathered.{Whole}
-use Rattle.copy_inbox.specs.Views.{make_desk}
+use Rattle.copy_inbox.specs.Views.{make_taker_state}
 use Rattle.copy_inbox.specs.Handles.{InboxId, TakerView, PacketsLeft}
 use Rattle.copy_inbox.proofs.Parts.{part-not_nil}
 use Rattle.copy_exchange.specs.declared.endpoint.Endpoint.{Endpoint}
 use Rattle.window_laws.specs.Windows.{is_from_sender}
-use Rattle.copy_exchange.specs.Desks.{IsOrderly}
+use Rattle.copy_exchange.specs.Takers.{IsOrderly}
 use Rattle.worker_cut.specs.Crossed.{is_to}
 use Rattle.copy_exchange.specs.Endpoints.{IsEndpoint, DeliversOwn, Stays, Collects, Delivers, SetsOut, Returns, AllReturn, delivered, delivered_to}
 use Rattle.copy_exchange.specs.Inboxes.{IsFresh, IsSettled, Settled}
@@ -26,7 +26,7 @@ none_left : (rest : List Item) → ((s : ℕ) → part s rest ≡ []) → rest �
 none_left [] h = refl
 none_left (x ∷ xs) h = absurd (part-not_nil x xs (h x.sender))
 
-stands_fresh : (marked : Bool) → IsOrderly (make_desk marked 0 [] [])
+stands_fresh : (marked : Bool) → IsOrderly (make_taker_state marked 0 [] [])
 stands_fresh marked = record {
   in_order = λ rest r s. ap (λ l. from s (copies_of l)) (none_left rest (λ k. r.1 k refl));
   begun = tt;
@@ -38,12 +38,12 @@ stands_fresh marked = record {
 
 settled_fresh : (inbox : InboxId) (t : TakerView) → IsFresh inbox t → IsSettled inbox t
 settled_fresh inbox t h =
-    let P : Desk → Type 0 = λ d. IsOrderly d × PacketsLeft d in
-    let then_ = subst P (sym h.1) (stands_fresh t.desk.marked, tt) in
+    let P : TakerState → Type 0 = λ d. IsOrderly d × PacketsLeft d in
+    let then_ = subst P (sym h.1) (stands_fresh t.state.marked, tt) in
     record {
       its = h.0;
       stands = then_.0;
-      all = λ s lt. absurd (let none : t.desk.made ≡ 0 = ap (λ (d : Desk). d.made) h.1 in omega arith);
+      all = λ s lt. absurd (let none : t.state.made ≡ 0 = ap (λ (d : TakerState). d.made) h.1 in omega arith);
       no_mark = then_.1;
     }
 
@@ -73,11 +73,11 @@ pub returns_from : (inboxes : List InboxId) (of : List ℕ) (worker_of : ℕ →
     → ((s : ℕ) → (worker_of s == a.worker) ≡ false → filter (is_from_sender s) out ≡ []) → Returns inboxes worker_of a c
 returns_from inboxes of worker_of t a b c arrived out set_out collects delivers endpoint own =
     let stays = stays_on a b c collects.stays delivers.stays in
-    let P : TakerView → Type 0 = λ u. Whole u.desk.gathered u.desk.taken in
+    let P : TakerView → Type 0 = λ u. Whole u.state.gathered u.state.taken in
     record {
       stays = stays;
       endpoint = endpoint;
-      plain = ap (λ (u : TakerView). u.desk.marked) delivers.taker ∙ collects.plain;
+      plain = ap (λ (u : TakerView). u.state.marked) delivers.taker ∙ collects.plain;
       collected = subst P (sym delivers.taker) collects.all;
       own = λ s v other.
           let other' : (worker_of s == a.worker) ≡ false = ap (λ w. worker_of s == w) (sym stays.worker) ∙ other in

@@ -7,12 +7,12 @@ use Rattle.radio_packet.specs.declared.copy.RadioCopy.{RadioCopy}
 use Rattle.worker_cut.specs.Crossed.{is_to}
 use Rattle.copy_inbox.specs.declared.items.Carried.{Carried}
 use Rattle.copy_inbox.specs.declared.items.Carried.TheVariants.{Packet, Mark}
-use Rattle.copy_inbox.specs.declared.rule.Desk.{Desk}
+use Rattle.copy_inbox.specs.declared.rule.TakerState.{TakerState}
 use Rattle.copy_inbox.specs.Gathered.{is_gathered, Whole}
 use Rattle.copy_inbox.specs.Handles.{InboxId, TakerView, SenderView}
 use Rattle.copy_exchange.specs.declared.endpoint.Endpoint.{Endpoint}
 use Rattle.window_laws.specs.Windows.{is_from_sender}
-use Rattle.copy_exchange.specs.Desks.{SameOfEach, copies_pushed, taken_by, gathered_by, IsOrderly}
+use Rattle.copy_exchange.specs.Takers.{SameOfEach, copies_pushed, taken_by, gathered_by, IsOrderly}
 use Rattle.copy_exchange.specs.Inboxes.{IsPlain}
 
 -- its sender on the inbox of worker v
@@ -21,7 +21,7 @@ sender_to c v = slice_index_or c.senders.items v None
 
 abbrev pub pushed_by : Option SenderView → List RadioCopy
 pushed_by None = []
-pushed_by (Some s) = copies_pushed s.post.pushed
+pushed_by (Some s) = copies_pushed s.state.pushed
 
 -- what it delivered to worker v in this window
 abbrev pub delivered : Endpoint → (v : ℕ) → List RadioCopy
@@ -39,7 +39,7 @@ IsSenderOn id false s = IsSomeAnd s (λ sender. sender.inbox ≡ id)
 -- all that a sender pushed, marks and copies
 abbrev pub pushed_list : Option SenderView → List Carried
 pushed_list None = []
-pushed_list (Some s) = s.post.pushed
+pushed_list (Some s) = s.state.pushed
 
 -- what its sender on the inbox of worker v pushed
 abbrev pub pushed_to : Endpoint → (v : ℕ) → List Carried
@@ -47,7 +47,7 @@ pushed_to c v = pushed_list (sender_to c v)
 
 -- its senders are those of inboxes with marks
 abbrev pub HasMarks : Endpoint → Type 0
-HasMarks c = (v : ℕ) (s : SenderView) → sender_to c v ≡ Some s → s.post.marked ≡ true
+HasMarks c = (v : ℕ) (s : SenderView) → sender_to c v ≡ Some s → s.state.marked ≡ true
 
 -- nothing went through its senders yet, no copy and no mark
 abbrev pub HasPushedNothing : Endpoint → Type 0
@@ -64,11 +64,11 @@ pub record IsEndpoint (inboxes : List InboxId) (c : Endpoint) : Type 0 where
   pub taker : slice_get inboxes c.worker ≡ Some c.taker.inbox
   pub count : length c.senders.items ≡ length inboxes
   pub each : (v : ℕ) (id : InboxId) → slice_get inboxes v ≡ Some id → IsSenderOn id (v == c.worker) (sender_to c v)
-  pub stands : IsOrderly c.taker.desk
+  pub stands : IsOrderly c.taker.state
 
 -- all that was gathered before this window is taken
 abbrev pub IsCollected : Endpoint → Type 0
-IsCollected c = Whole c.taker.desk.gathered c.taker.desk.taken
+IsCollected c = Whole c.taker.state.gathered c.taker.state.taken
 
 -- of motes of other workers it delivered nothing
 abbrev pub DeliversOwn : (worker_of : ℕ → ℕ) → Endpoint → Type 0
@@ -78,15 +78,15 @@ DeliversOwn worker_of c = (s v : ℕ) → (worker_of s == c.worker) ≡ false �
 -- which sender it is, and whether its inbox has marks
 abbrev pub seat_of : Option SenderView → Option (InboxId × ℕ × Bool)
 seat_of None = None
-seat_of (Some s) = Some (s.inbox, s.post.number, s.post.marked)
+seat_of (Some s) = Some (s.inbox, s.state.number, s.state.marked)
 
 -- the same endpoint, whatever it took and delivered
 pub record Stays (old new : Endpoint) : Type 0 where
   pub worker : new.worker ≡ old.worker
   pub inbox : new.taker.inbox ≡ old.taker.inbox
-  pub marked : new.taker.desk.marked ≡ old.taker.desk.marked
-  pub made : new.taker.desk.made ≡ old.taker.desk.made
-  pub gathered : new.taker.desk.gathered ≡ old.taker.desk.gathered
+  pub marked : new.taker.state.marked ≡ old.taker.state.marked
+  pub made : new.taker.state.made ≡ old.taker.state.made
+  pub gathered : new.taker.state.gathered ≡ old.taker.state.gathered
   pub seats : map seat_of new.senders.items ≡ map seat_of old.senders.items
 
 -- it took these copies, which are all that was gathered and not yet taken, of an inbox without marks
@@ -132,9 +132,9 @@ pub record PushesMarks (workers window : ℕ) (old new : Endpoint) : Type 0 wher
 -- ---- the endpoints of one window
 -- the endpoint of this taker at the start of a window
 pub record SetsOut (t : TakerView) (c : Endpoint) : Type 0 where
-  pub same_marked : c.taker.desk.marked ≡ t.desk.marked
-  pub same_taken : c.taker.desk.taken ≡ t.desk.taken
-  pub same_gathered : c.taker.desk.gathered ≡ t.desk.gathered
+  pub same_marked : c.taker.state.marked ≡ t.state.marked
+  pub same_taken : c.taker.state.taken ≡ t.state.taken
+  pub same_gathered : c.taker.state.gathered ≡ t.state.gathered
   pub nothing : (v : ℕ) → delivered c v ≡ []
 
 -- the senders of all workers on the inbox of worker v
@@ -142,9 +142,9 @@ abbrev pub senders_to : List Endpoint → (v : ℕ) → List SenderView
 senders_to endpoints v = filter_map (λ c. sender_to c v) endpoints
 
 -- these are the senders of an inbox that aren't gathered, and no others
-pub record AreOpen (senders : List SenderView) (d : Desk) : Type 0 where
+pub record AreOpen (senders : List SenderView) (d : TakerState) : Type 0 where
   pub first : ℕ
-  pub numbered : map (λ (s : SenderView). s.post.number) senders ≡ range_with_len first (length senders)
+  pub numbered : map (λ (s : SenderView). s.state.number) senders ≡ range_with_len first (length senders)
   pub made : d.made ≡ first + length senders
   pub older : (i : ℕ) → i < first → is_gathered d.gathered i ≡ true
   pub newer : (i : ℕ) → first ≤ i → is_gathered d.gathered i ≡ false
@@ -153,7 +153,7 @@ pub record AreOpen (senders : List SenderView) (d : Desk) : Type 0 where
 pub record Together (inboxes : List InboxId) (endpoints : List Endpoint) : Type 0 where
   pub workers : map (λ (c : Endpoint). c.worker) endpoints ≡ range_with_len 0 (length inboxes)
   pub each : Each (IsEndpoint inboxes) endpoints
-  pub are_open : Each (λ (c : Endpoint). AreOpen (senders_to endpoints c.worker) c.taker.desk) endpoints
+  pub are_open : Each (λ (c : Endpoint). AreOpen (senders_to endpoints c.worker) c.taker.state) endpoints
 
 -- an endpoint is back at the end of the window
 pub record Returns (inboxes : List InboxId) (worker_of : ℕ → ℕ) (old new : Endpoint) : Type 0 where
@@ -172,6 +172,6 @@ pub record AllReturn (inboxes : List InboxId) (endpoints : List Endpoint) : Type
 
 -- the taker of an endpoint after the window: it has gathered what all endpoints delivered to its worker
 pub record ComesHome (endpoints : List Endpoint) (c : Endpoint) (t : TakerView) : Type 0 where
-  pub same_marked : t.desk.marked ≡ c.taker.desk.marked
-  pub same_taken : t.desk.taken ≡ c.taker.desk.taken
+  pub same_marked : t.state.marked ≡ c.taker.state.marked
+  pub same_taken : t.state.taken ≡ c.taker.state.taken
   pub adds : gathered_by t ≡ gathered_by c.taker ++ delivered_to endpoints c.worker

@@ -150,7 +150,7 @@ impl Endpoint {
         window: u64,
     ) -> Result<(), InboxError>
         requires there { to < length self.old.senders.items }
-        requires sender { IfSome (sender_to self.old to) (λ s. (s.inbox ≡ inbox.now) × (s.post.marked ≡ true)) }
+        requires sender { IfSome (sender_to self.old to) (λ s. (s.inbox ≡ inbox.now) × (s.state.marked ≡ true)) }
         ensures marks { OnOk result (MarksOne to window self.old self.new) }
     {
         if let Some(sender) = &mut self.senders[to] {

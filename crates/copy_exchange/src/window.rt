@@ -25,7 +25,7 @@ pub fn endpoints(
     ensures set_out { IfOk result (λ endpoints. AllZip SetsOut takers.items endpoints.items) }
     ensures nothing { IfOk result (λ endpoints. Each HasPushedNothing endpoints.items) }
     ensures marked { IfOk result
-        (λ endpoints. Each (λ taker. taker.desk.marked ≡ true) takers.items → Each HasMarks endpoints.items) }
+        (λ endpoints. Each (λ taker. taker.state.marked ≡ true) takers.items → Each HasMarks endpoints.items) }
 {
     let mut takers = takers;
     let mut rows = Vec::with_capacity(alloc, inboxes.len())?;
@@ -148,7 +148,7 @@ fn gather_one<R: Wait>(rt: &R, inbox: &Inbox, taker: &mut Taker, sender: Option<
     requires taker { taker.old.inbox ≡ inbox.now }
     requires sender { IfSome sender (λ s. s.inbox ≡ inbox.now) }
     ensures gathered { taker.new ≡ gather_into taker.old sender }
-    ensures told { IfSome sender (λ s. TellsOf taker.old.desk s.post) }
+    ensures told { IfSome sender (λ s. TellsOf taker.old.state s.state) }
 {
     if let Some(sender) = sender {
         inbox.gather(rt, taker, sender);

@@ -7,7 +7,7 @@ use Rattle.mote_net.specs.Net.{NetTold}
 use Rattle.copy_exchange.specs.declared.endpoint.Endpoint.{Endpoint}
 use Rattle.copy_exchange.specs.Endpoints.{Collects}
 use Rattle.window_laws.specs.Windows.{is_from_sender}
-use Rattle.copy_exchange.specs.Desks.{SameOfEach, taken_by, gathered_by}
+use Rattle.copy_exchange.specs.Takers.{SameOfEach, taken_by, gathered_by}
 use Rattle.net_agenda.specs.NetSystem.{system_of}
 use Rattle.worker_cut.specs.Crossed.{is_to, is_own}
 use Rattle.worker_cut.specs.Laws.{HasGathered}

@@ -12,7 +12,7 @@ use Rattle.window_laws.proofs.Lists.{filter_filter, every_weaker}
 use Rattle.net_agenda.specs.NetSystem.{system_of}
 use Rattle.copy_inbox.specs.Handles.{TakerView}
 use Rattle.copy_exchange.specs.Endpoints.{delivered, delivered_to}
-use Rattle.copy_exchange.specs.Desks.{copies_in, taken_by, gathered_by}
+use Rattle.copy_exchange.specs.Takers.{copies_in, taken_by, gathered_by}
 use Rattle.copy_inbox.specs.Items.{copies_of}
 use Rattle.worker_cut.specs.Crossed.{is_own, is_to}
 use Rattle.worker_cut.specs.Laws.{HasGathered}

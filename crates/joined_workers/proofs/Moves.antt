@@ -6,7 +6,7 @@ use Rattle.net_agenda.specs.NetSystem.{system_of}
 use Rattle.copy_inbox.specs.Handles.{TakerView}
 use Rattle.copy_exchange.specs.declared.endpoint.Endpoint.{Endpoint}
 use Rattle.copy_exchange.specs.Endpoints.{SetsOut, ComesHome}
-use Rattle.copy_exchange.specs.Desks.{taken_by}
+use Rattle.copy_exchange.specs.Takers.{taken_by}
 use Rattle.copy_inbox.specs.Items.{copies_of}
 use Rattle.worker_window.specs.declared.share.Share.{Share}
 use Rattle.worker_window.specs.Share.{Keeps}

@@ -9,7 +9,7 @@ use Rattle.window_laws.specs.Windows.{WakesFrom, copies_by}
 use Rattle.window_laws.proofs.Lists.{every_append, every_weaker}
 use Rattle.net_agenda.specs.NetSystem.{system_of}
 use Rattle.copy_inbox.specs.Handles.{TakerView}
-use Rattle.copy_exchange.specs.Desks.{taken_by}
+use Rattle.copy_exchange.specs.Takers.{taken_by}
 use Rattle.worker_cut.specs.Crossed.{is_own, is_to, copies_known}
 use Rattle.worker_cut.proofs.Windows.{idle, receivers}
 use Rattle.worker_window.specs.declared.share.Share.{Share}

@@ -26,9 +26,9 @@ pub takes_stays : (of : List ℕ) (from : ℕ) (old new : Endpoint) (copies : Li
 takes_stays of from old new copies took worker senders = record {
   worker = worker;
   inbox = ap (λ (t : TakerView). t.inbox) took.taker;
-  marked = ap (λ (t : TakerView). t.desk.marked) took.taker;
-  made = ap (λ (t : TakerView). t.desk.made) took.taker;
-  gathered = ap (λ (t : TakerView). t.desk.gathered) took.taker;
+  marked = ap (λ (t : TakerView). t.state.marked) took.taker;
+  made = ap (λ (t : TakerView). t.state.made) took.taker;
+  gathered = ap (λ (t : TakerView). t.state.gathered) took.taker;
   seats = ap (λ s. map seat_of s.items) senders;
 }
 

@@ -28,7 +28,7 @@ pub record AddsCopy (of : List ℕ) (worker from : ℕ) (x : Item) (old new : Li
 -- items of senders that the taker made were taken, these are their copies, in order, and each is due
 pub record TakesDue (of : List ℕ) (worker from : ℕ) (old new : TakerView) (copies : List RadioCopy) : Type 0 where
   pub items : List Item
-  pub made : Each (λ (x : Item). x.sender < old.desk.made) items
+  pub made : Each (λ (x : Item). x.sender < old.state.made) items
   pub taker : new ≡ after_taking old items
   pub arrived : copies ≡ copies_of items
   pub due : Each (IsDue of worker from) copies

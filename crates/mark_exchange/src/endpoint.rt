@@ -31,10 +31,10 @@ pub struct MarkEndpoint {
 impl MarkEndpoint {
     /// The endpoint of a worker that has taken nothing yet. So many senders were made on its inbox.
     pub fn new(alloc: Global, endpoint: Endpoint, senders: usize) -> Result<MarkEndpoint, InboxError>
-        requires made { endpoint.taker.desk.made ≡ senders }
-        requires taken { endpoint.taker.desk.taken ≡ [] }
+        requires made { endpoint.taker.state.made ≡ senders }
+        requires taken { endpoint.taker.state.taken ≡ [] }
         ensures endpoint { IfOk result (λ made. made.endpoint ≡ endpoint) }
-        ensures counts { IfOk result (λ made. Counts made.marks.items endpoint.taker.desk) }
+        ensures counts { IfOk result (λ made. Counts made.marks.items endpoint.taker.state) }
     {
         let marks = no_marks(alloc, senders)?;
         Ok(MarkEndpoint {
@@ -83,10 +83,10 @@ impl MarkEndpoint {
         window: u64,
     ) -> Result<Vec<RadioCopy>, MarkError>
         requires inbox { self.old.endpoint.taker.inbox ≡ inbox.now }
-        requires counts { Counts self.old.marks.items self.old.endpoint.taker.desk }
+        requires counts { Counts self.old.marks.items self.old.endpoint.taker.state }
         ensures took { IfOk result (λ copies. TakesDue standing.now.of.now standing.now.worker standing.now.from
             self.old.endpoint.taker self.new.endpoint.taker copies.items) }
-        ensures counts { OnOk result (Counts self.new.marks.items self.new.endpoint.taker.desk) }
+        ensures counts { OnOk result (Counts self.new.marks.items self.new.endpoint.taker.state) }
         ensures marked { OnOk result (AllPast window self.new.marks.items) }
         ensures worker { self.new.endpoint.worker ≡ self.old.endpoint.worker }
         ensures senders { self.new.endpoint.senders ≡ self.old.endpoint.senders }

@@ -21,7 +21,7 @@ plan_of of windows workers story = record {
 
 abbrev pub number_of : Option SenderView → ℕ
 number_of None = 0
-number_of (Some s) = s.post.number
+number_of (Some s) = s.state.number
 
 -- what each has pushed to each other, and what the other has taken of it, when all have run all windows
 abbrev pub state_of : (n : NetTold) (of : List ℕ) (width windows workers : ℕ) → AllRan n of width windows workers

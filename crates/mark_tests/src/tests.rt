@@ -2,7 +2,7 @@
 //! mote 1 worker 1's, and mote 2 worker 2's.
 
 ghost use Rattle.std.specs.Prelude.{◌≡◌, true, [], IfOk, IsTrue, OnOk};
-ghost use Rattle.copy_inbox.specs.Views.{make_desk};
+ghost use Rattle.copy_inbox.specs.Views.{make_taker_state};
 ghost use Rattle.mark_exchange.specs.Marks.{Counts};
 
 use copy_exchange::Endpoint;
@@ -34,8 +34,8 @@ fn copy(at: u64, number: u64) -> RadioCopy {
 /// A new inbox with marks, its taker, and the senders of workers 0 and 1.
 fn make(alloc: Global) -> Result<(Inbox, Taker, Sender, Sender), InboxError>
     ensures inbox { IfOk result (λ made. (made.1.inbox ≡ made.0) × (made.2.inbox ≡ made.0) × (made.3.inbox ≡ made.0)) }
-    ensures taker { IfOk result (λ made. made.1.desk ≡ make_desk true 2 [] []) }
-    ensures senders { IfOk result (λ made. (made.2.post.marked ≡ true) × (made.3.post.marked ≡ true)) }
+    ensures taker { IfOk result (λ made. made.1.state ≡ make_taker_state true 2 [] []) }
+    ensures senders { IfOk result (λ made. (made.2.state.marked ≡ true) × (made.3.state.marked ≡ true)) }
 {
     let (inbox, mut taker) = Inbox::make_marked(alloc)?;
     let first = inbox.sender(&mut taker)?;
@@ -45,9 +45,9 @@ fn make(alloc: Global) -> Result<(Inbox, Taker, Sender, Sender), InboxError>
 
 /// What worker 2 carries.
 fn carrier(alloc: Global, taker: Taker) -> Result<MarkEndpoint, InboxError>
-    requires { taker.desk ≡ make_desk true 2 [] [] }
+    requires { taker.state ≡ make_taker_state true 2 [] [] }
     ensures taker { IfOk result (λ carrier. carrier.endpoint.taker ≡ taker) }
-    ensures counts { IfOk result (λ carrier. Counts carrier.marks.items carrier.endpoint.taker.desk) }
+    ensures counts { IfOk result (λ carrier. Counts carrier.marks.items carrier.endpoint.taker.state) }
 {
     let endpoint = Endpoint {
         worker: 2,
@@ -66,9 +66,9 @@ fn push_window<R: Wait>(
     window: u64,
 ) -> Result<(), InboxError>
     requires inbox { sender.old.inbox ≡ inbox.now }
-    requires marked { sender.old.post.marked ≡ true }
+    requires marked { sender.old.state.marked ≡ true }
     ensures inbox { OnOk result (sender.new.inbox ≡ inbox.now) }
-    ensures marked { OnOk result (sender.new.post.marked ≡ true) }
+    ensures marked { OnOk result (sender.new.state.marked ≡ true) }
 {
     if let Some(out) = out {
         if inbox.push_copy(rt, sender, out).is_err() {
@@ -93,9 +93,9 @@ fn write_window<R: Wait>(
     window: u64,
 ) -> Result<bool, AllocError>
     requires inbox { carrier.old.endpoint.taker.inbox ≡ inbox.now }
-    requires counts { Counts carrier.old.marks.items carrier.old.endpoint.taker.desk }
+    requires counts { Counts carrier.old.marks.items carrier.old.endpoint.taker.state }
     ensures inbox { IfOk result (λ took. IsTrue took → carrier.new.endpoint.taker.inbox ≡ inbox.now) }
-    ensures counts { IfOk result (λ took. IsTrue took → Counts carrier.new.marks.items carrier.new.endpoint.taker.desk) }
+    ensures counts { IfOk result (λ took. IsTrue took → Counts carrier.new.marks.items carrier.new.endpoint.taker.state) }
 {
     let standing = Standing {
         worker: 2,
@@ -130,8 +130,8 @@ fn write_windows<R: Wait>(
 ) -> Result<(), InboxError>
     requires inbox { (carrier.old.endpoint.taker.inbox ≡ inbox.now) × (first.old.inbox ≡ inbox.now)
         × (second.old.inbox ≡ inbox.now) }
-    requires marked { (first.old.post.marked ≡ true) × (second.old.post.marked ≡ true) }
-    requires counts { Counts carrier.old.marks.items carrier.old.endpoint.taker.desk }
+    requires marked { (first.old.state.marked ≡ true) × (second.old.state.marked ≡ true) }
+    requires counts { Counts carrier.old.marks.items carrier.old.endpoint.taker.state }
 {
     // It is looked at only where a mark is missing.
     let stop = AtomicBool::new(true);

@@ -22,9 +22,9 @@ use Rattle.marked_workers.proofs.Fronts.{part_begins}
 use Rattle.marked_workers.proofs.Lists.{first_none, none_before}
 
 -- each sender has the number of its place
-pub numbered_at : (senders : List SenderView) → map (λ (s : SenderView). s.post.number) senders ≡ range_with_len 0 (length senders) → (j : ℕ) (s : SenderView) → slice_get senders j ≡ Some s → s.post.number ≡ j
+pub numbered_at : (senders : List SenderView) → map (λ (s : SenderView). s.state.number) senders ≡ range_with_len 0 (length senders) → (j : ℕ) (s : SenderView) → slice_get senders j ≡ Some s → s.state.number ≡ j
 numbered_at senders numbered j s e =
-    sym (read (map (λ (x : SenderView). x.post.number) senders) j s.post.number 0 (mapped (λ (x : SenderView). x.post.number) senders j s e))
+    sym (read (map (λ (x : SenderView). x.state.number) senders) j s.state.number 0 (mapped (λ (x : SenderView). x.state.number) senders j s e))
     ∙ (ap (λ l. get_or l j 0) numbered ∙ (get_or-range_with_len 0 (length senders) j 0 (inside senders j s e) ∙ omega arith))
 
 -- a mote has one worker
@@ -52,21 +52,21 @@ module _ (n : NetTold) (of : List ℕ) (width windows workers : ℕ) (all : AllR
     pub number : ℕ
     pub was_made : number < all.made u
     pub begins : BeginsWith (pushes windows (sent_to v u)) (part number (all.taken u))
-    pub only : (s : SenderView) → all.sender u v ≡ Some s → s.post.number ≡ number
+    pub only : (s : SenderView) → all.sender u v ≡ Some s → s.state.number ≡ number
 
   pub pair : (u v : ℕ) → u < workers → v < workers → v ≢ u → Pair u v
   pair u v lu lv ne =
       let are = all.are_senders u lu in
       let w = are.of_worker v lv ne in
-      let is : w.0.post.pushed ≡ pushes windows (sent_to v u) = sym (ap pushed_list w.1) ∙ (all.ran v lv).pushes_then u lu (λ e. ne (sym e)) in
-      let low = inside (all.senders u) w.0.post.number w.0 w.2 in
+      let is : w.0.state.pushed ≡ pushes windows (sent_to v u) = sym (ap pushed_list w.1) ∙ (all.ran v lv).pushes_then u lu (λ e. ne (sym e)) in
+      let low = inside (all.senders u) w.0.state.number w.0 w.2 in
       let long = are.made_is in
       record {
-        number = w.0.post.number;
+        number = w.0.state.number;
         was_made = omega arith;
-        begins = subst (λ l. BeginsWith l (part w.0.post.number (all.taken u))) is
-            (each_at (λ (s : SenderView). BeginsWith s.post.pushed (part s.post.number (all.taken u))) (all.senders u) w.0.post.number w.0 (all.begun u lu) w.2);
-        only = λ s e. ap (λ (x : SenderView). x.post.number) (same_found (all.sender u v) s w.0 e w.1);
+        begins = subst (λ l. BeginsWith l (part w.0.state.number (all.taken u))) is
+            (each_at (λ (s : SenderView). BeginsWith s.state.pushed (part s.state.number (all.taken u))) (all.senders u) w.0.state.number w.0 (all.begun u lu) w.2);
+        only = λ s e. ap (λ (x : SenderView). x.state.number) (same_found (all.sender u v) s w.0 e w.1);
       }
 
   module _ (u : ℕ) (lu : u < workers) (k : ℕ) (le : k ≤ windows) where
@@ -89,7 +89,7 @@ module _ (n : NetTold) (of : List ℕ) (width windows workers : ℕ) (all : AllR
           ∙ (ap (from s) (packets_pushes windows (sent_to v u)) ∙ none_before s (sent_to v u) windows (λ j low. none_sent v u s j lv low other)))))
 
       -- a sender has no copies of motes of other workers
-      part_none : (j : ℕ) → ((v : ℕ) → v < workers → v ≢ u → (a : SenderView) → all.sender u v ≡ Some a → a.post.number ≡ j → is_own of v s ≡ false) → from s (packets_in (part j ((all.story u).taken k))) ≡ []
+      part_none : (j : ℕ) → ((v : ℕ) → v < workers → v ≢ u → (a : SenderView) → all.sender u v ≡ Some a → a.state.number ≡ j → is_own of v s ≡ false) → from s (packets_in (part j ((all.story u).taken k))) ≡ []
       part_none j other = of_case (cases_lt j (all.made u))
         where
           of_case : (j < all.made u) ⊎ (all.made u ≤ j) → from s (packets_in (part j ((all.story u).taken k))) ≡ []

@@ -4,9 +4,9 @@ use Rattle.std.specs.List.{slice_get, zip, AllZip, AllByRecursion as Each}
 use Rattle.mote_net.specs.Net.{NetTold}
 use Rattle.window_laws.specs.Windows.{first_mote}
 use Rattle.net_agenda.specs.NetSystem.{system_of}
-use Rattle.copy_inbox.specs.declared.rule.Desk.{Desk}
+use Rattle.copy_inbox.specs.declared.rule.TakerState.{TakerState}
 use Rattle.copy_inbox.specs.Handles.{InboxId, TakerView}
-use Rattle.copy_inbox.specs.Views.{make_desk}
+use Rattle.copy_inbox.specs.Views.{make_taker_state}
 use Rattle.copy_exchange.specs.declared.endpoint.Endpoint.{Endpoint}
 use Rattle.copy_exchange.specs.Endpoints.{HasMarks, HasPushedNothing, IsEndpoint, SetsOut, Together}
 use Rattle.copy_exchange.specs.Inboxes.{IsFresh}
@@ -39,7 +39,7 @@ module _ (inboxes : List InboxId) (takers : List TakerView) (fresh : AllZip IsFr
   -- the taker of an endpoint, before it set out
   record Taker (v : ℕ) (c : Endpoint) : Type 0 where
     taker : TakerView
-    is_fresh : taker.desk ≡ make_desk taker.desk.marked 0 [] []
+    is_fresh : taker.state ≡ make_taker_state taker.state.marked 0 [] []
     sets_out : SetsOut taker c
 
   its_taker : (v : ℕ) (c : Endpoint) → slice_get endpoints v ≡ Some c → Taker v c
@@ -49,18 +49,18 @@ module _ (inboxes : List InboxId) (takers : List TakerView) (fresh : AllZip IsFr
       let b = beside SetsOut takers endpoints set_out v t.0 t.1 in
       record {
         taker = t.0;
-        is_fresh = subst (λ (x : TakerView). x.desk ≡ make_desk x.desk.marked 0 [] []) (read takers v t.0 t.0 t.1) (fresh_at inboxes takers fresh v t.0 low);
+        is_fresh = subst (λ (x : TakerView). x.state ≡ make_taker_state x.state.marked 0 [] []) (read takers v t.0 t.0 t.1) (fresh_at inboxes takers fresh v t.0 low);
         sets_out = subst (SetsOut t.0) (same_found (slice_get endpoints v) b.0 c b.1 at) b.2;
       }
 
-  none_taken : (v : ℕ) (c : Endpoint) → slice_get endpoints v ≡ Some c → c.taker.desk.taken ≡ []
-  none_taken v c at = let t = its_taker v c at in t.sets_out.same_taken ∙ ap (λ (d : Desk). d.taken) t.is_fresh
+  none_taken : (v : ℕ) (c : Endpoint) → slice_get endpoints v ≡ Some c → c.taker.state.taken ≡ []
+  none_taken v c at = let t = its_taker v c at in t.sets_out.same_taken ∙ ap (λ (d : TakerState). d.taken) t.is_fresh
 
-  none_gathered : (v : ℕ) (c : Endpoint) → slice_get endpoints v ≡ Some c → c.taker.desk.gathered ≡ []
-  none_gathered v c at = let t = its_taker v c at in t.sets_out.same_gathered ∙ ap (λ (d : Desk). d.gathered) t.is_fresh
+  none_gathered : (v : ℕ) (c : Endpoint) → slice_get endpoints v ≡ Some c → c.taker.state.gathered ≡ []
+  none_gathered v c at = let t = its_taker v c at in t.sets_out.same_gathered ∙ ap (λ (d : TakerState). d.gathered) t.is_fresh
 
-  all_none_gathered : Each (λ (c : Endpoint). c.taker.desk.gathered ≡ []) endpoints
-  all_none_gathered = each_from (λ (c : Endpoint). c.taker.desk.gathered ≡ []) endpoints none_gathered
+  all_none_gathered : Each (λ (c : Endpoint). c.taker.state.gathered ≡ []) endpoints
+  all_none_gathered = each_from (λ (c : Endpoint). c.taker.state.gathered ≡ []) endpoints none_gathered
 
   module _ (n : NetTold) (of : List ℕ) (cut : IsCut (length n.motes) (length inboxes) of) (shares : List Share) (first : AreFirst n of (length inboxes) shares)
       (nothing : Each HasPushedNothing endpoints) (marked : Each HasMarks endpoints) where
@@ -91,5 +91,5 @@ module _ (inboxes : List InboxId) (takers : List TakerView) (fresh : AllZip IsFr
     pub together_first : Together inboxes (endpoints_of (map worker_of (zip shares endpoints)))
     together_first = subst (Together inboxes) (sym set_out_with) together
 
-    pub none_gathered_first : Each (λ (c : Endpoint). c.taker.desk.gathered ≡ []) (endpoints_of (map worker_of (zip shares endpoints)))
-    none_gathered_first = subst (Each (λ (c : Endpoint). c.taker.desk.gathered ≡ [])) (sym set_out_with) all_none_gathered
+    pub none_gathered_first : Each (λ (c : Endpoint). c.taker.state.gathered ≡ []) (endpoints_of (map worker_of (zip shares endpoints)))
+    none_gathered_first = subst (Each (λ (c : Endpoint). c.taker.state.gathered ≡ [])) (sym set_out_with) all_none_gathered

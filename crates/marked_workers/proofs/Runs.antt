@@ -13,7 +13,7 @@ use Rattle.copy_inbox.specs.Items.{BeginsWith, part}
 use Rattle.copy_inbox.specs.Handles.{InboxId, TakerView, SenderView, after_gather}
 use Rattle.copy_exchange.specs.declared.endpoint.Endpoint.{Endpoint}
 use Rattle.copy_exchange.specs.Endpoints.{IsSeated, Stays, Together, pushed_list, pushed_to, senders_to}
-use Rattle.copy_exchange.specs.Steps.{TellsOf, gather_posts}
+use Rattle.copy_exchange.specs.Steps.{TellsOf, gather_senders}
 use Rattle.copy_exchange.proofs.Gathers.{gather_is}
 use Rattle.copy_exchange.proofs.Homes.{same_workers}
 use Rattle.copy_exchange.proofs.Open.{SendersOfOthers, are_senders, sender_of, sender_is}
@@ -85,7 +85,7 @@ module _ (n : NetTold) (of : List ℕ) (width : ℕ) (old new : Workers) (cut : 
     at_back : slice_get back v ≡ Some d.endpoint
     at_back = mapped (λ (x : Worker). x.endpoint) ran.done v d at_done
 
-    taker_is : t ≡ gather_posts d.endpoint.taker (senders_to back v)
+    taker_is : t ≡ gather_senders d.endpoint.taker (senders_to back v)
     taker_is = ran.back.taker v d.endpoint t at_back at_taker
 
     taker_inbox : t.inbox ≡ d.endpoint.taker.inbox
@@ -97,17 +97,17 @@ module _ (n : NetTold) (of : List ℕ) (width : ℕ) (old new : Workers) (cut : 
     pushed_same : (u : ℕ) → pushed_to d.endpoint u ≡ pushed_list (sender_of back u v)
     pushed_same u = ap pushed_list (sym (sender_is back u v d.endpoint at_back))
 
-    promise : RunsMarked n of width (windows_of width n.end) (length ids) v d.share d.endpoint.taker.desk (λ u. pushed_list (sender_of back u v))
-    promise = subst (λ k. RunsMarked n of width (windows_of width n.end) (length ids) k d.share d.endpoint.taker.desk (λ u. pushed_list (sender_of back u v))) its
-        (subst (λ (p : ℕ → List Carried). RunsMarked n of width (windows_of width n.end) (length ids) w.endpoint.worker d.share d.endpoint.taker.desk p) (λ i u. pushed_same u i) has_run.promise)
+    promise : RunsMarked n of width (windows_of width n.end) (length ids) v d.share d.endpoint.taker.state (λ u. pushed_list (sender_of back u v))
+    promise = subst (λ k. RunsMarked n of width (windows_of width n.end) (length ids) k d.share d.endpoint.taker.state (λ u. pushed_list (sender_of back u v))) its
+        (subst (λ (p : ℕ → List Carried). RunsMarked n of width (windows_of width n.end) (length ids) w.endpoint.worker d.share d.endpoint.taker.state p) (λ i u. pushed_same u i) has_run.promise)
 
     pub one_ends : EndsMarked n of width (windows_of width n.end) (length ids) (sender_of back) v d.share t
     one_ends = record {
       before = d.endpoint.taker;
       promise = promise;
       senders = senders_to back v;
-      are_senders = of_others (length ids) v (sender_of back v) d.endpoint.taker.desk.made (senders_to back v) (are_senders ids set_out back ran.together ran.none_gathered stays seated v d.endpoint at_back);
-      begun = every_weaker (λ (s : SenderView). TellsOf d.endpoint.taker.desk s.post) (λ (s : SenderView). BeginsWith s.post.pushed (part s.post.number d.endpoint.taker.desk.taken)) (λ s h. h.begun) (senders_to back v) (ran.back.told v d.endpoint at_back);
+      are_senders = of_others (length ids) v (sender_of back v) d.endpoint.taker.state.made (senders_to back v) (are_senders ids set_out back ran.together ran.none_gathered stays seated v d.endpoint at_back);
+      begun = every_weaker (λ (s : SenderView). TellsOf d.endpoint.taker.state s.state) (λ (s : SenderView). BeginsWith s.state.pushed (part s.state.number d.endpoint.taker.state.taken)) (λ s h. h.begun) (senders_to back v) (ran.back.told v d.endpoint at_back);
       gathered = taker_is;
     }
 
@@ -159,7 +159,7 @@ module _ (n : NetTold) (of : List ℕ) (width : ℕ) (old new : Workers) (cut : 
 
 -- all workers stand at the end, where no window was longer than the lookahead
 pub ended : (n : NetTold) → RunsForward (system_of n) → (of : List ℕ) (width : ℕ) → 0 < width → width ≤ (system_of n).lookahead
-    → (old new : Workers) → IsCut (length n.motes) (length old.inboxes.items) of → RunsAllMarked n of width old new → IsAt n of (suc n.end) new × Each (λ (t : TakerView). Whole t.desk.gathered t.desk.taken) new.takers.items
+    → (old new : Workers) → IsCut (length n.motes) (length old.inboxes.items) of → RunsAllMarked n of width old new → IsAt n of (suc n.end) new × Each (λ (t : TakerView). Whole t.state.gathered t.state.taken) new.takers.items
 ended n fine of width wide short old new cut ran =
     let cut_now : IsCut (length n.motes) (length new.inboxes.items) of = subst (λ (l : List InboxId). IsCut (length n.motes) (length l) of) (sym ran.inboxes) cut in
     ends n fine of width (windows_of width n.end) short (are_windows width n.end wide) new (ends_marked n of width old new cut_now ran)

@@ -10,7 +10,7 @@ use Rattle.worker_cut.specs.Crossed.{is_to, IsDue}
 use Rattle.copy_inbox.specs.declared.items.Carried.{Carried}
 use Rattle.copy_inbox.specs.declared.items.Carried.TheVariants.{Packet, Mark}
 use Rattle.copy_inbox.specs.declared.items.Item.{Item}
-use Rattle.copy_inbox.specs.declared.rule.Desk.{Desk}
+use Rattle.copy_inbox.specs.declared.rule.TakerState.{TakerState}
 use Rattle.copy_inbox.specs.Items.{copies_of, part, OfMade}
 use Rattle.copy_inbox.specs.Handles.{InboxId, TakerView, after_taking}
 use Rattle.copy_inbox.proofs.Parts.{part-append, part-else}
@@ -50,7 +50,7 @@ of_made_more made xs ys h more s le = part-append s xs ys ∙ (ap (λ l. l ++ pa
 
 -- a worker before its first window, with its counts of marks
 pub manned : (n : NetTold) (of : List ℕ) (inboxes : List InboxId) (w : Worker) (m : MarkEndpoint) → IsFirst n of inboxes w → m.endpoint ≡ w.endpoint
-    → Counts m.marks.items w.endpoint.taker.desk → IsManned n of inboxes (record { share = w.share; carries = m })
+    → Counts m.marks.items w.endpoint.taker.state → IsManned n of inboxes (record { share = w.share; carries = m })
 manned n of inboxes w m first same counts =
     subst (λ (x : Endpoint). IsManned n of inboxes (record { share = w.share; carries = record m { endpoint = x } })) (sym same) (record {
       cut = first.cut;
@@ -68,9 +68,9 @@ pub told_of : (n : NetTold) (of : List ℕ) (width windows : ℕ) (inboxes : Lis
     → HasRun n of width windows inboxes m e → RunsAllWindows n of width windows inboxes w d
 told_of n of width windows inboxes w d m e before after ran = record {
   stays = subst (λ x. Stays x d.endpoint) before.endpoint (subst (Stays m.carries.endpoint) after.endpoint ran.stays);
-  promise = subst (λ (x : Endpoint). RunsMarked n of width windows (length inboxes) x.worker d.share d.endpoint.taker.desk (pushed_to d.endpoint)) before.endpoint
-      (subst (λ (x : Endpoint). RunsMarked n of width windows (length inboxes) m.carries.endpoint.worker d.share x.taker.desk (pushed_to x)) after.endpoint
-      (subst (λ s. RunsMarked n of width windows (length inboxes) m.carries.endpoint.worker s e.carries.endpoint.taker.desk (pushed_to e.carries.endpoint)) after.share ran.promise));
+  promise = subst (λ (x : Endpoint). RunsMarked n of width windows (length inboxes) x.worker d.share d.endpoint.taker.state (pushed_to d.endpoint)) before.endpoint
+      (subst (λ (x : Endpoint). RunsMarked n of width windows (length inboxes) m.carries.endpoint.worker d.share x.taker.state (pushed_to x)) after.endpoint
+      (subst (λ s. RunsMarked n of width windows (length inboxes) m.carries.endpoint.worker s e.carries.endpoint.taker.state (pushed_to e.carries.endpoint)) after.share ran.promise));
   seated = subst (IsSeated inboxes) after.endpoint ran.seated;
 }
 
@@ -78,9 +78,9 @@ told_of n of width windows inboxes w d m e before after ran = record {
 pub no_window : (n : NetTold) (of : List ℕ) (width : ℕ) (inboxes : List InboxId) (w : MarkWorker) → IsManned n of inboxes w → HasRun n of width 0 inboxes w w
 no_window n of width inboxes w m = record {
   stays = stays_same w.carries.endpoint;
-  promise = subst (λ (p : ℕ → List Carried). RunsMarked n of width 0 (length inboxes) w.carries.endpoint.worker w.share w.carries.endpoint.taker.desk p)
+  promise = subst (λ (p : ℕ → List Carried). RunsMarked n of width 0 (length inboxes) w.carries.endpoint.worker w.share w.carries.endpoint.taker.state p)
       (λ i v. sym (m.none_pushed v) i)
-      (promise_first n of width (length inboxes) w.carries.endpoint.worker w.share w.carries.endpoint.taker.desk m.none_taken m.none_gathered m.keeps);
+      (promise_first n of width (length inboxes) w.carries.endpoint.worker w.share w.carries.endpoint.taker.state m.none_taken m.none_gathered m.keeps);
   seated = m.seated;
   marked = m.marked;
   counts = m.counts;
@@ -101,7 +101,7 @@ module _ (n : NetTold) (of : List ℕ) (width k until : ℕ) (inboxes : List Inb
     worker = first.carries.endpoint.worker;
     from = bound width n.end k;
     motes = stands.promise.story.motes k;
-    taken = copies_of old.carries.endpoint.taker.desk.taken;
+    taken = copies_of old.carries.endpoint.taker.state.taken;
     keeps = stands.promise.keeps;
     order = up;
     come = tt;
@@ -112,18 +112,18 @@ module _ (n : NetTold) (of : List ℕ) (width k until : ℕ) (inboxes : List Inb
     abbrev worker : ℕ
     worker = first.carries.endpoint.worker
 
-    abbrev desk : Desk
-    desk = old.carries.endpoint.taker.desk
+    abbrev state : TakerState
+    state = old.carries.endpoint.taker.state
 
     abbrev more : List Item
     more = takes.took.items
 
-    ran : RunsWindow n of worker (bound width n.end k) until (stands.promise.story.motes k) (copies_of desk.taken) between.share sends.sent
+    ran : RunsWindow n of worker (bound width n.end k) until (stands.promise.story.motes k) (copies_of state.taken) between.share sends.sent
     ran =
         let b = no_wider width n.end (windows_of width n.end) are k low in
         let e = at in
         let s = short in
-        sends.runs worker (bound width n.end k) (stands.promise.story.motes k) (copies_of desk.taken) stands.promise.keeps up (omega arith)
+        sends.runs worker (bound width n.end k) (stands.promise.story.motes k) (copies_of state.taken) stands.promise.keeps up (omega arith)
 
     goes : Each (GoesOut n of worker) sends.sent
     goes = subst (λ w. Each (GoesOut n of w) sends.sent) stands.promise.keeps.is_worker sends.out
@@ -131,16 +131,16 @@ module _ (n : NetTold) (of : List ℕ) (width k until : ℕ) (inboxes : List Inb
     taker_is : new.carries.endpoint.taker ≡ after_taking old.carries.endpoint.taker more
     taker_is = takes.took.taker ∙ ap (λ t. after_taking t more) sends.pushes.taker
 
-    between_made : between.carries.endpoint.taker.desk.made ≡ desk.made
-    between_made = ap (λ (t : TakerView). t.desk.made) sends.pushes.taker
+    between_made : between.carries.endpoint.taker.state.made ≡ state.made
+    between_made = ap (λ (t : TakerView). t.state.made) sends.pushes.taker
 
-    of_made : OfMade desk.made (desk.taken ++ more)
-    of_made = of_made_more desk.made desk.taken more stands.promise.ran.of_made (subst (λ m. Each (λ (x : Item). x.sender < m) more) between_made takes.took.made)
+    of_made : OfMade state.made (state.taken ++ more)
+    of_made = of_made_more state.made state.taken more stands.promise.ran.of_made (subst (λ m. Each (λ (x : Item). x.sender < m) more) between_made takes.took.made)
 
-    lead : (s : ℕ) → s < desk.made → suc k ≤ marks_in (part s (desk.taken ++ more))
+    lead : (s : ℕ) → s < state.made → suc k ≤ marks_in (part s (state.taken ++ more))
     lead s there =
-        let made : new.carries.endpoint.taker.desk.made ≡ desk.made = ap (λ (t : TakerView). t.desk.made) taker_is in
-        let taken : new.carries.endpoint.taker.desk.taken ≡ desk.taken ++ more = ap (λ (t : TakerView). t.desk.taken) taker_is in
+        let made : new.carries.endpoint.taker.state.made ≡ state.made = ap (λ (t : TakerView). t.state.made) taker_is in
+        let taken : new.carries.endpoint.taker.state.taken ≡ state.taken ++ more = ap (λ (t : TakerView). t.state.taken) taker_is in
         let all = takes.counts.all in
         let counted = takes.counts.each s 0 (omega arith) ∙ ap (λ l. marks_in (part s l)) taken in
         let past = takes.past s 0 (omega arith) in
@@ -154,9 +154,9 @@ module _ (n : NetTold) (of : List ℕ) (width k until : ℕ) (inboxes : List Inb
     arrived_come : Each (IsDue of worker until) takes.arrived
     arrived_come = subst (λ w. Each (IsDue of w until) takes.arrived) (sends.pushes.stays.worker ∙ stands.stays.worker) takes.took.due
 
-    keeps : Keeps n of worker until ran.next (copies_of desk.taken ++ copies_of more) new.share
-    keeps = subst (λ l. Keeps n of worker until ran.next (copies_of desk.taken ++ l) new.share) takes.took.arrived
-        (takes.keeps n of worker until ran.next (copies_of desk.taken) ran.keeps arrived_come)
+    keeps : Keeps n of worker until ran.next (copies_of state.taken ++ copies_of more) new.share
+    keeps = subst (λ l. Keeps n of worker until ran.next (copies_of state.taken ++ l) new.share) takes.took.arrived
+        (takes.keeps n of worker until ran.next (copies_of state.taken) ran.keeps arrived_come)
 
     stays : Stays old.carries.endpoint new.carries.endpoint
     stays = stays_on old.carries.endpoint between.carries.endpoint new.carries.endpoint sends.pushes.stays
@@ -165,18 +165,18 @@ module _ (n : NetTold) (of : List ℕ) (width k until : ℕ) (inboxes : List Inb
     pub one_more : HasRun n of width (suc k) inboxes first new
     one_more = record {
       stays = stays_on first.carries.endpoint old.carries.endpoint new.carries.endpoint stands.stays stays;
-      promise = subst (λ (t : TakerView). RunsMarked n of width (suc k) (length inboxes) worker new.share t.desk (pushed_to new.carries.endpoint)) (sym taker_is) promise;
+      promise = subst (λ (t : TakerView). RunsMarked n of width (suc k) (length inboxes) worker new.share t.state (pushed_to new.carries.endpoint)) (sym taker_is) promise;
       seated = takes_seated inboxes of until between.carries.endpoint new.carries.endpoint takes.arrived takes.took takes.worker takes.senders seated;
       marked = marks_stay old.carries.endpoint new.carries.endpoint stays stands.marked;
       counts = takes.counts;
     }
       where
         Ran : ℕ → Type 0
-        Ran t = (r : RunsWindow n of worker (bound width n.end k) t (stands.promise.story.motes k) (copies_of desk.taken) between.share sends.sent)
-            × Keeps n of worker t r.next (copies_of desk.taken ++ copies_of more) new.share
+        Ran t = (r : RunsWindow n of worker (bound width n.end k) t (stands.promise.story.motes k) (copies_of state.taken) between.share sends.sent)
+            × Keeps n of worker t r.next (copies_of state.taken ++ copies_of more) new.share
 
         ran_to : Ran (bound width n.end (suc k))
         ran_to = subst Ran at (ran, keeps)
 
-        promise : RunsMarked n of width (suc k) (length inboxes) worker new.share (after_taking old.carries.endpoint.taker more).desk (pushed_to new.carries.endpoint)
-        promise = promise_next n of width (length inboxes) worker k old.share between.share new.share desk (pushed_to old.carries.endpoint) (pushed_to new.carries.endpoint) more sends.sent stands.promise ran_to.0 goes lead of_made pushes_more ran_to.1
+        promise : RunsMarked n of width (suc k) (length inboxes) worker new.share (after_taking old.carries.endpoint.taker more).state (pushed_to new.carries.endpoint)
+        promise = promise_next n of width (length inboxes) worker k old.share between.share new.share state (pushed_to old.carries.endpoint) (pushed_to new.carries.endpoint) more sends.sent stands.promise ran_to.0 goes lead of_made pushes_more ran_to.1

@@ -13,7 +13,7 @@ use Rattle.all_workers.specs.Workers.{IsAt}
 use Rattle.all_workers.specs.Workers.{IsCut}
 use Rattle.marked_workers.specs.Bounds.{AreWindows}
 use Rattle.copy_exchange.specs.Endpoints.{pushed_list}
-use Rattle.copy_exchange.specs.Steps.{gather_posts}
+use Rattle.copy_exchange.specs.Steps.{gather_senders}
 use Rattle.marked_workers.specs.Senders.{AreSenders}
 use Rattle.marked_workers.specs.Story.{RunsMarked}
 
@@ -23,11 +23,11 @@ use Rattle.marked_workers.specs.Story.{RunsMarked}
 pub record EndsMarked (n : NetTold) (of : List ℕ) (width windows workers : ℕ)
     (sender : (inbox worker : ℕ) → Option SenderView) (worker : ℕ) (share : Share) (taker : TakerView) : Type 0 where
   pub before : TakerView
-  pub promise : RunsMarked n of width windows workers worker share before.desk (λ v. pushed_list (sender v worker))
+  pub promise : RunsMarked n of width windows workers worker share before.state (λ v. pushed_list (sender v worker))
   pub senders : List SenderView
-  pub are_senders : AreSenders workers worker (sender worker) before.desk.made senders
-  pub begun : Each (λ (s : SenderView). BeginsWith s.post.pushed (part s.post.number before.desk.taken)) senders
-  pub gathered : taker ≡ gather_posts before senders
+  pub are_senders : AreSenders workers worker (sender worker) before.state.made senders
+  pub begun : Each (λ (s : SenderView). BeginsWith s.state.pushed (part s.state.number before.state.taken)) senders
+  pub gathered : taker ≡ gather_senders before senders
 
 -- all workers
 pub record EndAllMarked (n : NetTold) (of : List ℕ) (width windows : ℕ) (crew : Workers) : Type 0 where
@@ -48,4 +48,4 @@ abbrev pub MarkedWindowsLeadToTheEnd : Type 0
 MarkedWindowsLeadToTheEnd = (n : NetTold) → RunsForward (system_of n) → (of : List ℕ) (width windows : ℕ)
     → width ≤ (system_of n).lookahead → AreWindows width n.end windows
     → (crew : Workers) → EndAllMarked n of width windows crew
-    → IsAt n of (suc n.end) crew × Each (λ (t : TakerView). Whole t.desk.gathered t.desk.taken) crew.takers.items
+    → IsAt n of (suc n.end) crew × Each (λ (t : TakerView). Whole t.state.gathered t.state.taken) crew.takers.items

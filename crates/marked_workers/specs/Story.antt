@@ -8,7 +8,7 @@ use Rattle.net_agenda.specs.NetSystem.{system_of}
 use Rattle.worker_cut.specs.Crossed.{is_own, is_to}
 use Rattle.copy_inbox.specs.declared.items.Carried.{Carried}
 use Rattle.copy_inbox.specs.declared.items.Item.{Item}
-use Rattle.copy_inbox.specs.declared.rule.Desk.{Desk}
+use Rattle.copy_inbox.specs.declared.rule.TakerState.{TakerState}
 use Rattle.copy_inbox.specs.Items.{copies_of, part, OfMade}
 use Rattle.mark_exchange.specs.Pushes.{marks_in, pushes}
 use Rattle.worker_window.specs.declared.share.Share.{Share}
@@ -50,9 +50,9 @@ pub record RunsWindows (n : NetTold) (of : List ℕ) (width windows workers work
 
 -- The promise: there were such windows, and the share keeps the motes at their end. The taker has taken all this, and
 -- gathered nobody.
-pub record RunsMarked (n : NetTold) (of : List ℕ) (width windows workers worker : ℕ) (share : Share) (desk : Desk)
+pub record RunsMarked (n : NetTold) (of : List ℕ) (width windows workers worker : ℕ) (share : Share) (state : TakerState)
     (pushed : ℕ → List Carried) : Type 0 where
   pub story : Story
-  pub ran : RunsWindows n of width windows workers worker desk.made desk.taken pushed story
-  pub keeps : Keeps n of worker (bound width n.end windows) (story.motes windows) (copies_of desk.taken) share
-  pub nobody : desk.gathered ≡ []
+  pub ran : RunsWindows n of width windows workers worker state.made state.taken pushed story
+  pub keeps : Keeps n of worker (bound width n.end windows) (story.motes windows) (copies_of state.taken) share
+  pub nobody : state.gathered ≡ []

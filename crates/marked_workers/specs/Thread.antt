@@ -25,9 +25,9 @@ pub record IsFirst (n : NetTold) (of : List ℕ) (inboxes : List InboxId) (w : W
   pub keeps : Keeps n of w.endpoint.worker 0 (first_mote (system_of n)) [] w.share
   pub seated : IsSeated inboxes w.endpoint
   pub marked : HasMarks w.endpoint
-  pub made : suc w.endpoint.taker.desk.made ≡ length inboxes
-  pub none_taken : w.endpoint.taker.desk.taken ≡ []
-  pub none_gathered : w.endpoint.taker.desk.gathered ≡ []
+  pub made : suc w.endpoint.taker.state.made ≡ length inboxes
+  pub none_taken : w.endpoint.taker.state.taken ≡ []
+  pub none_gathered : w.endpoint.taker.state.gathered ≡ []
   pub none_pushed : HasPushedNothing w.endpoint
 
 -- the same worker, with counts of marks
@@ -41,9 +41,9 @@ pub record IsManned (n : NetTold) (of : List ℕ) (inboxes : List InboxId) (w : 
   pub keeps : Keeps n of w.carries.endpoint.worker 0 (first_mote (system_of n)) [] w.share
   pub seated : IsSeated inboxes w.carries.endpoint
   pub marked : HasMarks w.carries.endpoint
-  pub counts : Counts w.carries.marks.items w.carries.endpoint.taker.desk
-  pub none_taken : w.carries.endpoint.taker.desk.taken ≡ []
-  pub none_gathered : w.carries.endpoint.taker.desk.gathered ≡ []
+  pub counts : Counts w.carries.marks.items w.carries.endpoint.taker.state
+  pub none_taken : w.carries.endpoint.taker.state.taken ≡ []
+  pub none_gathered : w.carries.endpoint.taker.state.gathered ≡ []
   pub none_pushed : HasPushedNothing w.carries.endpoint
 
 -- its motes ran through a window, and what they sent to others went out, with the window's mark behind it
@@ -60,7 +60,7 @@ pub record SendsWindow (n : NetTold) (of : List ℕ) (workers window until : ℕ
 pub record TakesWindow (of : List ℕ) (window until : ℕ) (old new : MarkWorker) : Type 0 where
   pub arrived : List RadioCopy
   pub took : TakesDue of old.carries.endpoint.worker until old.carries.endpoint.taker new.carries.endpoint.taker arrived
-  pub counts : Counts new.carries.marks.items new.carries.endpoint.taker.desk
+  pub counts : Counts new.carries.marks.items new.carries.endpoint.taker.state
   pub past : AllPast window new.carries.marks.items
   pub worker : new.carries.endpoint.worker ≡ old.carries.endpoint.worker
   pub senders : new.carries.endpoint.senders ≡ old.carries.endpoint.senders
@@ -73,15 +73,15 @@ pub record HasRun (n : NetTold) (of : List ℕ) (width windows : ℕ) (inboxes :
     (first now : MarkWorker) : Type 0 where
   pub stays : Stays first.carries.endpoint now.carries.endpoint
   pub promise : RunsMarked n of width windows (length inboxes) first.carries.endpoint.worker now.share
-      now.carries.endpoint.taker.desk (pushed_to now.carries.endpoint)
+      now.carries.endpoint.taker.state (pushed_to now.carries.endpoint)
   pub seated : IsSeated inboxes now.carries.endpoint
   pub marked : HasMarks now.carries.endpoint
-  pub counts : Counts now.carries.marks.items now.carries.endpoint.taker.desk
+  pub counts : Counts now.carries.marks.items now.carries.endpoint.taker.state
 
 -- all that a worker's thread does: it ran so many windows
 pub record RunsAllWindows (n : NetTold) (of : List ℕ) (width windows : ℕ) (inboxes : List InboxId)
     (first now : Worker) : Type 0 where
   pub stays : Stays first.endpoint now.endpoint
   pub promise : RunsMarked n of width windows (length inboxes) first.endpoint.worker now.share
-      now.endpoint.taker.desk (pushed_to now.endpoint)
+      now.endpoint.taker.state (pushed_to now.endpoint)
   pub seated : IsSeated inboxes now.endpoint

@@ -87,7 +87,7 @@ where
     requires few { length crew.inboxes.items ≤ 16 }
     requires cut { IsCut (length (net_of net.now).motes) (length crew.inboxes.items) of.now }
     requires fresh { AllZip IsFresh crew.inboxes.items crew.takers.items }
-    requires marked { Each (λ taker. taker.desk.marked ≡ true) crew.takers.items }
+    requires marked { Each (λ taker. taker.state.marked ≡ true) crew.takers.items }
     requires first { AreFirst (net_of net.now) of.now (length crew.inboxes.items) crew.shares.items }
     ensures { IfOk result (RunsAllMarked (net_of net.now) of.now width crew) }
 {
@@ -140,7 +140,7 @@ where
     requires few { length crew.inboxes.items ≤ 16 }
     requires cut { IsCut (length (net_of net.now).motes) (length crew.inboxes.items) of.now }
     requires fresh { AllZip IsFresh crew.inboxes.items crew.takers.items }
-    requires marked { Each (λ taker. taker.desk.marked ≡ true) crew.takers.items }
+    requires marked { Each (λ taker. taker.state.marked ≡ true) crew.takers.items }
     requires first { AreFirst (net_of net.now) of.now (length crew.inboxes.items) crew.shares.items }
     ensures at { let n = net_of net.now in IfOk result (λ done. IsAt n of.now (suc n.end) done) }
     ensures inboxes { IfOk result (λ done. done.inboxes.items ≡ crew.inboxes.items) }
@@ -148,7 +148,7 @@ where
     ensures windows { let n = net_of net.now in
         IfOk result (RunsAllMarked n of.now (length_of_window (system_of n).lookahead longest) crew) }
     ensures all_taken { IfOk result
-        (λ done. Each (λ taker. Whole taker.desk.gathered taker.desk.taken) done.takers.items) }
+        (λ done. Each (λ taker. Whole taker.state.gathered taker.state.taken) done.takers.items) }
 {
     let width = window_length(lookahead_of(net), longest);
     run_threads(rt, alloc, net, of, width, gate, crew)

@@ -97,7 +97,7 @@ fn take_window<R: Wait + AllocGlobal>(
     until: u64,
 ) -> Result<(), Refused>
     requires seated { IsSeated run.now.inboxes.now worker.old.carries.endpoint }
-    requires counts { Counts worker.old.carries.marks.items worker.old.carries.endpoint.taker.desk }
+    requires counts { Counts worker.old.carries.marks.items worker.old.carries.endpoint.taker.state }
     ensures takes { OnOk result (TakesWindow run.now.of.now window until worker.old worker.new) }
     ensures refused { IfErr result (λ reason. reason ≢ Thread) }
 {

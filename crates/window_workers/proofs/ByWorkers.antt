@@ -19,7 +19,7 @@ use Rattle.window_laws.proofs.Lists.{every_map, every_weaker}
 use Rattle.window_laws.proofs.Pending.{pending_left}
 use Rattle.window_laws.proofs.Unique.{run_is_one}
 use Rattle.copy_inbox.specs.Handles.{TakerView}
-use Rattle.copy_exchange.specs.Desks.{taken_by, gathered_by}
+use Rattle.copy_exchange.specs.Takers.{taken_by, gathered_by}
 use Rattle.worker_cut.proofs.Carried.{carried}
 use Rattle.worker_cut.proofs.Windows.{coming, coming_pending, senders}
 use Rattle.worker_window.specs.declared.share.Ended.{Ended}

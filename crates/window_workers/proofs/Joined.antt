@@ -18,7 +18,7 @@ use Rattle.window_laws.specs.Windows.{is_sent_by, IsJoined, as_log, sends_by, co
 use Rattle.window_laws.proofs.Lists.{every_append, every_both, every_filter, every_flat_map, every_passes, every_weaker}
 use Rattle.window_laws.proofs.Order.{sorted_permutes}
 use Rattle.copy_inbox.specs.Handles.{TakerView}
-use Rattle.copy_exchange.specs.Desks.{taken_by, gathered_by}
+use Rattle.copy_exchange.specs.Takers.{taken_by, gathered_by}
 use Rattle.worker_cut.specs.Crossed.{is_own, is_to}
 use Rattle.worker_cut.proofs.Counts.{IsHad, by_worker, total}
 use Rattle.worker_cut.proofs.Windows.{at_the_end, coming, receivers}

@@ -99,7 +99,7 @@ where
     ensures at { let n = net_of net.now in IfOk result (λ done. IsAt n of.now (suc n.end) done) }
     ensures inboxes { IfOk result (λ done. done.inboxes.items ≡ crew.inboxes.items) }
     ensures all_taken { IfOk result (λ done. sync ≡ Marks
-        → Each (λ taker. Whole taker.desk.gathered taker.desk.taken) done.takers.items) }
+        → Each (λ taker. Whole taker.state.gathered taker.state.taken) done.takers.items) }
     ensures err { IfErr result (IsAnswerTo sync None) }
 {
     let ran = match sync {
@@ -147,7 +147,7 @@ where
     ensures settled { IfOk result (λ r. Each (λ pair. IsSettled pair.0 pair.1) r.1.items) }
     // With marks nothing is left in them.
     ensures none_known { IfOk result (λ r. sync ≡ Marks
-        → Each (λ pair. known_of pair.1.desk.gathered pair.1.desk.taken ≡ 0) r.1.items) }
+        → Each (λ pair. known_of pair.1.state.gathered pair.1.state.taken ≡ 0) r.1.items) }
     // They carried the copies that went from worker to worker, each once and nothing else.
     ensures carried { IfOk result (λ r. AllCarried (net_of net.now) cut.now.of.items (report_of r.0) r.1.items) }
     // A fault of the cut is answered exactly where there is one.

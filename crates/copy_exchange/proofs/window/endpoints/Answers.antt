@@ -143,5 +143,5 @@ returns-clause-marked c =
     let most = c.loop-worker.auto.worker-end in
     let long = c.loop-worker.invariant.long in
     let is : vec_len c.loop-worker.rows ≡ length c.loop-worker.rows.items = search rules in
-    let P : List Endpoint → Type 0 = λ l. Each (λ (t : TakerView). t.desk.marked ≡ true) c.args.takers.items → Each HasMarks l in
+    let P : List Endpoint → Type 0 = λ l. Each (λ (t : TakerView). t.state.marked ≡ true) c.args.takers.items → Each HasMarks l in
     subst P (sym (all_built c)) (has_marks c.args.inboxes.now c.args.takers.items c.loop-worker.takers.items c.loop-worker.rows.items c.requires.settled c.loop-worker.invariant.opened (omega arith))

@@ -24,7 +24,7 @@ returns-clause-all_taken g c =
     let n = net_of c.args.net.now in
     let width = c.window_length-width.result in
     let short = subst (λ l. width ≤ l) c.lookahead_of.ensures.value c.window_length-width.ensures.within in
-    IfOk-weaker c.run_threads.result (RunsAllMarked n c.args.of.now width c.args.crew) (λ done. Each (λ (t : TakerView). Whole t.desk.gathered t.desk.taken) done.takers.items)
+    IfOk-weaker c.run_threads.result (RunsAllMarked n c.args.of.now width c.args.crew) (λ done. Each (λ (t : TakerView). Whole t.state.gathered t.state.taken) done.takers.items)
     (λ done all. (ended n c.lookahead_of.ensures.forward c.args.of.now width c.window_length-width.ensures.above_zero short c.args.crew done c.requires.cut all).1) c.run_threads.ensures
 
 pub returns-clause-windows : goal.returns-clause-windows

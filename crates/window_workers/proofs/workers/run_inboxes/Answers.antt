@@ -87,6 +87,6 @@ returns-clause-carried g c =
 pub returns-clause-none_known : goal.returns-clause-none_known
 returns-clause-none_known g c =
     let crew = c.in_ok-crew.crew in
-    let NoneKnown : List Pair → Type 0 = Each (λ (pair : Pair). known_of pair.1.desk.gathered pair.1.desk.taken ≡ 0) in
+    let NoneKnown : List Pair → Type 0 = Each (λ (pair : Pair). known_of pair.1.state.gathered pair.1.state.taken ≡ 0) in
     if_ok (λ (r : Report × Vec Pair Global). r.1.items ≡ zip crew.inboxes.items crew.takers.items) (λ (r : Report × Vec Pair Global). c.args.sync ≡ Marks → NoneKnown r.1.items) c.told.result
     (λ r e marks. subst NoneKnown (sym e) (none_known crew.inboxes.items crew.takers.items (c.in_ok-crew.ensures.all_taken marks))) c.told.ensures.pairs

@@ -3,7 +3,7 @@ use Rattle.std.specs.List.{sum_by, AllByRecursion as Each}
 use Rattle.mote_net.specs.Net.{net_of}
 use Rattle.net_agenda.proofs.Systems.{system_is}
 use Rattle.radio_medium.specs.Medium.{Radio, medium_fault}
-use Rattle.copy_exchange.specs.Desks.{taken_by, gathered_by}
+use Rattle.copy_exchange.specs.Takers.{taken_by, gathered_by}
 use Rattle.copy_exchange.specs.Inboxes.{IsSettled}
 use Rattle.worker_window.specs.declared.share.Ended.{Ended}
 use Rattle.net_report.specs.declared.Report.{Report}

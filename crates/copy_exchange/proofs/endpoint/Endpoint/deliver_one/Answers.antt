@@ -17,7 +17,7 @@ push_copy-requires g c =
     subst P c.in-Some.is there
 
 -- what was pushed, and through which sender
-told : (g : _) (c : In_ok-map_err g) → (c.push_copy.new.sender.post ≡ after_pushing c.in-Some.sender.post (Packet c.args.copy)) × (Some c.in-Some.sender ≡ get_or c.args.self.now.senders.items c.from-to.result (Some c.in-Some.sender))
+told : (g : _) (c : In_ok-map_err g) → (c.push_copy.new.sender.state ≡ after_pushing c.in-Some.sender.state (Packet c.args.copy)) × (Some c.in-Some.sender ≡ get_or c.args.self.now.senders.items c.from-to.result (Some c.in-Some.sender))
 told g c =
     let value = c.index_mut.ensures.value in
     let is = c.in-Some.is in

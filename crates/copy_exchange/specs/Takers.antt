@@ -6,7 +6,7 @@ use Rattle.window_laws.specs.Windows.{is_from_sender}
 use Rattle.copy_inbox.specs.declared.items.Carried.{Carried}
 use Rattle.copy_inbox.specs.declared.items.Item.{Item}
 use Rattle.copy_inbox.specs.declared.rule.Gathered.{Gathered}
-use Rattle.copy_inbox.specs.declared.rule.Desk.{Desk}
+use Rattle.copy_inbox.specs.declared.rule.TakerState.{TakerState}
 use Rattle.copy_inbox.specs.Items.{copies_of, carried_copy, part}
 use Rattle.copy_inbox.specs.Gathered.{is_gathered, Apart, TookFronts, Whole, Later, NoOthers}
 use Rattle.copy_inbox.specs.Handles.{TakerView}
@@ -26,18 +26,18 @@ copies_in (g ∷ gs) = copies_in gs ++ copies_pushed g.pushed
 
 -- what a worker took from its inbox
 abbrev pub taken_by : TakerView → List RadioCopy
-taken_by t = copies_of t.desk.taken
+taken_by t = copies_of t.state.taken
 
 -- what other workers delivered to it
 abbrev pub gathered_by : TakerView → List RadioCopy
-gathered_by t = copies_in t.desk.gathered
+gathered_by t = copies_in t.state.gathered
 
 -- these items are all that was gathered and isn't taken yet, in any mixture
-abbrev pub IsRest : Desk → List Item → Type 0
+abbrev pub IsRest : TakerState → List Item → Type 0
 IsRest d rest = Whole d.gathered (d.taken ++ rest) × NoOthers d.gathered d.taken (d.taken ++ rest)
 
 -- What holds of each taker between windows and in them.
-pub record IsOrderly (d : Desk) : Type 0 where
+pub record IsOrderly (d : TakerState) : Type 0 where
   -- in whatever mixture the rest comes, each mote's copies are taken in the order in which they were gathered
   pub in_order : (rest : List Item) → IsRest d rest → SameOfEach (copies_of (d.taken ++ rest)) (copies_in d.gathered)
   pub begun : TookFronts d.gathered d.taken
