@@ -73,16 +73,16 @@ first_worker n of v share taker marked keeps fresh = record {
   waits = λ s. record { rest = []; all = rw fresh refl; later = tt };
 }
 
-pub starts : (n : NetTold) (of : List ℕ) (crew : Workers) → IsCut (length n.motes) (length crew.inboxes.items) of → AllZip IsFresh crew.inboxes.items crew.takers.items
-    → AreFirst n of (length crew.inboxes.items) crew.shares.items → crew.first_out ≡ None → IsAt n of 0 crew
-starts n of crew cut fresh shares none = record {
+pub starts : (n : NetTold) (of : List ℕ) (group : Workers) → IsCut (length n.motes) (length group.inboxes.items) of → AllZip IsFresh group.inboxes.items group.takers.items
+    → AreFirst n of (length group.inboxes.items) group.shares.items → group.first_out ≡ None → IsAt n of 0 group
+starts n of group cut fresh shares none = record {
   motes = first_mote (system_of n);
   led = Last;
   cut = cut;
   shares = shares.count;
-  settled = all_settled crew.inboxes.items crew.takers.items fresh;
+  settled = all_settled group.inboxes.items group.takers.items fresh;
   first = rw none tt;
   each = λ v low share taker.
-      subst (λ o. IsWorkerAt n of 0 (first_mote (system_of n)) o v (get_or crew.shares.items v share) (get_or crew.takers.items v taker)) (sym none)
-      (first_worker n of v _ _ _ (shares.each v share low) (fresh_at crew.inboxes.items crew.takers.items fresh v taker low));
+      subst (λ o. IsWorkerAt n of 0 (first_mote (system_of n)) o v (get_or group.shares.items v share) (get_or group.takers.items v taker)) (sym none)
+      (first_worker n of v _ _ _ (shares.each v share low) (fresh_at group.inboxes.items group.takers.items fresh v taker low));
 }

@@ -1,4 +1,4 @@
 pub mod Endpoints
-pub mod Takers
 pub mod Inboxes
 pub mod Steps
+pub mod Takers

@@ -1,4 +1,4 @@
--- A window of all workers moves the crew on.
+-- A window of all workers moves all of them on.
 use Rattle.std.proofs.Common.{◌≡◌, ℕ, ◌+◌, ◌<◌, ◌≤◌, List, length, map, get_or, sym, ap, subst, Some}
 use Rattle.std.specs.List.{zip, slice_get, AllByRecursion as Each}
 use Rattle.mote_net.specs.Net.{NetTold}

@@ -38,6 +38,6 @@ WindowMovesOn = (n : NetTold) → RunsForward (system_of n) → (of : List ℕ) 
 
 -- the next moment at which something comes isn't sooner than where the workers stand, and until then they stand
 abbrev pub StandsUntilNext : Type 0
-StandsUntilNext = (n : NetTold) → RunsForward (system_of n) → (of : List ℕ) (from : ℕ) (crew : Workers)
-    → (next : Option ℕ) → IsAt n of from crew → IsNextOfAll crew.first_out crew.shares.items next
-    → WakesFrom from next × ((moment : ℕ) → from ≤ moment → WakesFrom moment next → IsAt n of moment crew)
+StandsUntilNext = (n : NetTold) → RunsForward (system_of n) → (of : List ℕ) (from : ℕ) (group : Workers)
+    → (next : Option ℕ) → IsAt n of from group → IsNextOfAll group.first_out group.shares.items next
+    → WakesFrom from next × ((moment : ℕ) → from ≤ moment → WakesFrom moment next → IsAt n of moment group)

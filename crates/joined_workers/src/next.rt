@@ -47,8 +47,8 @@ fn next_of_all(first_out: Option<u64>, shares: &[Share]) -> Option<u64>
 }
 
 /// The moment of what is to come first, in the shares or the inboxes, if anything is.
-pub fn next_moment(crew: &Workers) -> Option<u64>
-    ensures { IsNextOfAll crew.now.first_out crew.now.shares.items result }
+pub fn next_moment(group: &Workers) -> Option<u64>
+    ensures { IsNextOfAll group.now.first_out group.now.shares.items result }
 {
-    next_of_all(crew.first_out, &crew.shares)
+    next_of_all(group.first_out, &group.shares)
 }

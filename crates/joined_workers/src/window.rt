@@ -13,7 +13,7 @@ ghost use Rattle.joined_workers.specs.Laws.{RunsAll};
 ghost use Rattle.joined_workers.specs.Worker.{IsReady, RunsWorker};
 
 use crate::next::first_of_all;
-use crate::worker::{CrewWindow, Runner};
+use crate::worker::{WorkersWindow, Runner};
 use all_workers::{Worker, Workers, parted, set_out, workers_of};
 use copy_exchange::{Endpoint, gathered};
 use copy_inbox::{Inbox, Taker};
@@ -49,7 +49,7 @@ fn run_together<R, G>(
     rt: &R,
     alloc: Global,
     workers: Vec<Worker>,
-    window: CrewWindow<'_>,
+    window: WorkersWindow<'_>,
     gate: &G,
 ) -> Result<Vec<Worker>, Refused>
 where
@@ -71,16 +71,16 @@ fn run_all<R, G>(
     of: &[u16],
     until: u64,
     gate: &G,
-    crew: Workers,
+    group: Workers,
 ) -> Result<Workers, Refused>
 where
     R: Threads + Wait + RandomSource + AllocGlobal + Sync,
     G: Gate + Sync,
     requires early { until ≤ 2 ^ 40 }
-    requires few { length crew.inboxes.items ≤ 16 }
-    requires stands { (from : ℕ) × IsAt (net_of net.now) of.now from crew × (from ≤ until) }
-    requires plain { Each IsPlain crew.takers.items }
-    ensures runs { IfOk result (RunsAll (net_of net.now) of.now until crew) }
+    requires few { length group.inboxes.items ≤ 16 }
+    requires stands { (from : ℕ) × IsAt (net_of net.now) of.now from group × (from ≤ until) }
+    requires plain { Each IsPlain group.takers.items }
+    ensures runs { IfOk result (RunsAll (net_of net.now) of.now until group) }
     ensures plain { IfOk result (λ done. Each IsPlain done.takers.items) }
 {
     let Workers {
@@ -88,10 +88,10 @@ where
         inboxes,
         takers,
         first_out: _,
-    } = crew;
+    } = group;
     let endpoints = set_out(alloc, &inboxes, takers)?;
     let workers = workers_of(alloc, shares, endpoints)?;
-    let window = CrewWindow {
+    let window = WorkersWindow {
         net,
         of,
         inboxes: &inboxes,
@@ -123,21 +123,21 @@ pub(crate) fn run_window<R, G>(
     of: &[u16],
     until: u64,
     gate: &G,
-    crew: Workers,
+    group: Workers,
 ) -> Result<Workers, Refused>
 where
     R: Threads + Wait + RandomSource + AllocGlobal + Sync,
     G: Gate + Sync,
     requires early { until ≤ 2 ^ 40 }
-    requires few { length crew.inboxes.items ≤ 16 }
-    requires stands { (from : ℕ) × IsAt (net_of net.now) of.now from crew × (from ≤ until) }
-    requires plain { Each IsPlain crew.takers.items }
-    ensures runs { IfOk result (RunsAll (net_of net.now) of.now until crew) }
+    requires few { length group.inboxes.items ≤ 16 }
+    requires stands { (from : ℕ) × IsAt (net_of net.now) of.now from group × (from ≤ until) }
+    requires plain { Each IsPlain group.takers.items }
+    ensures runs { IfOk result (RunsAll (net_of net.now) of.now until group) }
     ensures moves { let n = net_of net.now in RunsForward (system_of n) → IfOk result
-        (λ done. (from : ℕ) → IsAt n of.now from crew → from < until → until ≤ from + (system_of n).lookahead
+        (λ done. (from : ℕ) → IsAt n of.now from group → from < until → until ≤ from + (system_of n).lookahead
         → IsAt n of.now until done) }
-    ensures inboxes { IfOk result (λ done. done.inboxes.items ≡ crew.inboxes.items) }
+    ensures inboxes { IfOk result (λ done. done.inboxes.items ≡ group.inboxes.items) }
     ensures plain { IfOk result (λ done. Each IsPlain done.takers.items) }
 {
-    run_all(rt, alloc, net, of, until, gate, crew)
+    run_all(rt, alloc, net, of, until, gate, group)
 }

@@ -19,7 +19,7 @@ use window_run::Gate;
 
 /// What all workers of a window have in common.
 #[derive(Clone, Copy)]
-pub struct CrewWindow<'a> {
+pub struct WorkersWindow<'a> {
     pub net: &'a Net,
     /// The worker of each mote.
     pub of: &'a [u16],
@@ -33,7 +33,7 @@ pub struct CrewWindow<'a> {
 pub struct Runner<'a, R, G> {
     pub rt: &'a R,
     pub gate: &'a G,
-    pub window: CrewWindow<'a>,
+    pub window: WorkersWindow<'a>,
 }
 
 impl<R, G> Drop for Runner<'_, R, G> {
@@ -78,7 +78,7 @@ fn first_of(copies: &[RadioCopy]) -> Option<u64>
 fn run_worker<R: Wait + RandomSource + AllocGlobal, G: Gate>(
     rt: &R,
     gate: &G,
-    window: &CrewWindow<'_>,
+    window: &WorkersWindow<'_>,
     worker: Worker,
 ) -> Result<Worker, Refused>
     requires { IsReady (net_of window.now.net.now) window.now.of.now window.now.inboxes.now window.now.until worker }

@@ -43,11 +43,11 @@ fn make(alloc: Global) -> Result<(Inbox, Taker, Sender, Sender), InboxError>
     Ok((inbox, taker, first, second))
 }
 
-/// What worker 2 carries.
-fn carrier(alloc: Global, taker: Taker) -> Result<MarkEndpoint, InboxError>
+/// The endpoint of worker 2.
+fn make_worker_2(alloc: Global, taker: Taker) -> Result<MarkEndpoint, InboxError>
     requires { taker.state ≡ make_taker_state true 2 [] [] }
-    ensures taker { IfOk result (λ carrier. carrier.endpoint.taker ≡ taker) }
-    ensures counts { IfOk result (λ carrier. Counts carrier.marks.items carrier.endpoint.taker.state) }
+    ensures taker { IfOk result (λ worker_2. worker_2.endpoint.taker ≡ taker) }
+    ensures counts { IfOk result (λ worker_2. Counts worker_2.marks.items worker_2.endpoint.taker.state) }
 {
     let endpoint = Endpoint {
         worker: 2,
@@ -87,22 +87,22 @@ fn write_window<R: Wait>(
     alloc: Global,
     text: &mut String,
     inbox: &Inbox,
-    carrier: &mut MarkEndpoint,
+    worker_2: &mut MarkEndpoint,
     stop: &AtomicBool,
     from: u64,
     window: u64,
 ) -> Result<bool, AllocError>
-    requires inbox { carrier.old.endpoint.taker.inbox ≡ inbox.now }
-    requires counts { Counts carrier.old.marks.items carrier.old.endpoint.taker.state }
-    ensures inbox { IfOk result (λ took. IsTrue took → carrier.new.endpoint.taker.inbox ≡ inbox.now) }
-    ensures counts { IfOk result (λ took. IsTrue took → Counts carrier.new.marks.items carrier.new.endpoint.taker.state) }
+    requires inbox { worker_2.old.endpoint.taker.inbox ≡ inbox.now }
+    requires counts { Counts worker_2.old.marks.items worker_2.old.endpoint.taker.state }
+    ensures inbox { IfOk result (λ took. IsTrue took → worker_2.new.endpoint.taker.inbox ≡ inbox.now) }
+    ensures counts { IfOk result (λ took. IsTrue took → Counts worker_2.new.marks.items worker_2.new.endpoint.taker.state) }
 {
     let standing = Standing {
         worker: 2,
         of: &OF,
         from,
     };
-    match carrier.take_window(rt, alloc, inbox, stop, &standing, window) {
+    match worker_2.take_window(rt, alloc, inbox, stop, &standing, window) {
         Ok(copies) => {
             for copy in copies.as_slice() {
                 write!(text, "{} {}, ", copy.at, copy.number)?;
@@ -124,42 +124,42 @@ fn write_windows<R: Wait>(
     alloc: Global,
     text: &mut String,
     inbox: &Inbox,
-    carrier: &mut MarkEndpoint,
+    worker_2: &mut MarkEndpoint,
     first: &mut Sender,
     second: &mut Sender,
 ) -> Result<(), InboxError>
-    requires inbox { (carrier.old.endpoint.taker.inbox ≡ inbox.now) × (first.old.inbox ≡ inbox.now)
+    requires inbox { (worker_2.old.endpoint.taker.inbox ≡ inbox.now) × (first.old.inbox ≡ inbox.now)
         × (second.old.inbox ≡ inbox.now) }
     requires marked { (first.old.state.marked ≡ true) × (second.old.state.marked ≡ true) }
-    requires counts { Counts carrier.old.marks.items carrier.old.endpoint.taker.state }
+    requires counts { Counts worker_2.old.marks.items worker_2.old.endpoint.taker.state }
 {
     // It is looked at only where a mark is missing.
     let stop = AtomicBool::new(true);
     push_window(rt, inbox, first, Some(copy(5, 0)), 0)?;
     push_window(rt, inbox, first, Some(copy(9, 1)), 1)?;
     push_window(rt, inbox, second, None, 0)?;
-    if !write_window(rt, alloc, text, inbox, carrier, &stop, 5, 0)? {
+    if !write_window(rt, alloc, text, inbox, worker_2, &stop, 5, 0)? {
         return Ok(());
     }
     push_window(rt, inbox, second, None, 1)?;
-    if !write_window(rt, alloc, text, inbox, carrier, &stop, 9, 1)? {
+    if !write_window(rt, alloc, text, inbox, worker_2, &stop, 9, 1)? {
         return Ok(());
     }
     push_window(rt, inbox, first, Some(copy(9, 2)), 2)?;
-    write_window(rt, alloc, text, inbox, carrier, &stop, 10, 2)?;
+    write_window(rt, alloc, text, inbox, worker_2, &stop, 10, 2)?;
     Ok(())
 }
 
 /// What is written of these windows.
 fn write_taken<R: Wait>(rt: &R, alloc: Global, text: &mut String) -> Result<(), InboxError> {
     let (inbox, taker, mut first, mut second) = make(alloc)?;
-    let mut carrier = carrier(alloc, taker)?;
+    let mut worker_2 = make_worker_2(alloc, taker)?;
     write_windows(
         rt,
         alloc,
         text,
         &inbox,
-        &mut carrier,
+        &mut worker_2,
         &mut first,
         &mut second,
     )
@@ -168,10 +168,10 @@ fn write_taken<R: Wait>(rt: &R, alloc: Global, text: &mut String) -> Result<(), 
 /// What is written where the mark of worker 1 is missing, and the flag is set.
 fn write_stopped<R: Wait>(rt: &R, alloc: Global, text: &mut String) -> Result<(), InboxError> {
     let (inbox, taker, mut first, _second) = make(alloc)?;
-    let mut carrier = carrier(alloc, taker)?;
+    let mut worker_2 = make_worker_2(alloc, taker)?;
     push_window(rt, &inbox, &mut first, None, 0)?;
     let stop = AtomicBool::new(true);
-    write_window(rt, alloc, text, &inbox, &mut carrier, &stop, 5, 0)?;
+    write_window(rt, alloc, text, &inbox, &mut worker_2, &stop, 5, 0)?;
     Ok(())
 }
 
@@ -188,13 +188,13 @@ fn write_woken<R: Threads + Wait + Clock + Sync>(
     text: &mut String,
 ) -> Result<(), InboxError> {
     let (inbox, taker, mut first, _second) = make(alloc)?;
-    let mut carrier = carrier(alloc, taker)?;
+    let mut worker_2 = make_worker_2(alloc, taker)?;
     push_window(rt, &inbox, &mut first, None, 0)?;
     let stop = AtomicBool::new(false);
     let (_, took) = thread::join(
         rt,
         || set_late(rt, &stop),
-        || write_window(rt, alloc, text, &inbox, &mut carrier, &stop, 5, 0),
+        || write_window(rt, alloc, text, &inbox, &mut worker_2, &stop, 5, 0),
     );
     took?;
     Ok(())

@@ -28,7 +28,7 @@ use Rattle.all_workers.proofs.Lookups.{there, inside, read, same_found, each_at,
 use Rattle.all_workers.proofs.Same.{keeps_same}
 use Rattle.all_workers.proofs.Step.{own_of, own_by}
 use Rattle.marked_workers.specs.Bounds.{bound, AreWindows}
-use Rattle.marked_workers.specs.Crew.{EndsMarked, EndAllMarked}
+use Rattle.marked_workers.specs.AtEnd.{EndsMarked, EndAllMarked}
 use Rattle.copy_exchange.specs.Endpoints.{pushed_list}
 use Rattle.marked_workers.specs.Senders.{AreSenders}
 use Rattle.marked_workers.specs.Story.{Story, RunsWindows}
@@ -39,9 +39,9 @@ use Rattle.marked_workers.proofs.Seen.{nobodys, sent_so_far, of_worker, of_nobod
 use Rattle.marked_workers.proofs.Settles.{pair_taken, all_taken, one, gathered_all, whole_then, no_mark, stands, same_of_each}
 use Rattle.marked_workers.proofs.Stages.{stage, own_stage, Reached, reached}
 
-module _ (n : NetTold) (of : List ℕ) (width windows : ℕ) (crew : Workers) (h : EndAllMarked n of width windows crew) where
+module _ (n : NetTold) (of : List ℕ) (width windows : ℕ) (group : Workers) (h : EndAllMarked n of width windows group) where
   abbrev workers : ℕ
-  workers = length crew.inboxes.items
+  workers = length group.inboxes.items
 
   -- of one worker: its taker's state before it gathered, the senders that it gathered, and what it saw
   record Part : Type 0 where
@@ -52,8 +52,8 @@ module _ (n : NetTold) (of : List ℕ) (width windows : ℕ) (crew : Workers) (h
   record IsPart (v : ℕ) (z : Part) : Type 0 where
     share : Share
     taker : TakerView
-    share_at : slice_get crew.shares.items v ≡ Some share
-    taker_at : slice_get crew.takers.items v ≡ Some taker
+    share_at : slice_get group.shares.items v ≡ Some share
+    taker_at : slice_get group.takers.items v ≡ Some taker
     ran : RunsWindows n of width windows workers v z.state.made z.state.taken (λ u. pushed_list (h.sender u v)) z.story
     keeps : Keeps n of v (bound width n.end windows) (z.story.motes windows) (copies_of z.state.taken) share
     are_senders : AreSenders workers v (h.sender v) z.state.made z.senders
@@ -64,10 +64,10 @@ module _ (n : NetTold) (of : List ℕ) (width windows : ℕ) (crew : Workers) (h
 
   is_part : (v : ℕ) → v < workers → (z : Part) × IsPart v z
   is_part v low =
-      let s = there crew.shares.items v (subst (λ l. v < l) (sym h.shares) low) in
-      let t = there crew.takers.items v (subst (λ l. v < l) (sym h.takers) low) in
-      let e : EndsMarked n of width windows workers h.sender v s.0 t.0 = subst (λ x. EndsMarked n of width windows workers h.sender v x t.0) (read crew.shares.items v s.0 s.0 s.1)
-      (subst (λ x. EndsMarked n of width windows workers h.sender v (get_or crew.shares.items v s.0) x) (read crew.takers.items v t.0 t.0 t.1) (h.each v low s.0 t.0)) in (
+      let s = there group.shares.items v (subst (λ l. v < l) (sym h.shares) low) in
+      let t = there group.takers.items v (subst (λ l. v < l) (sym h.takers) low) in
+      let e : EndsMarked n of width windows workers h.sender v s.0 t.0 = subst (λ x. EndsMarked n of width windows workers h.sender v x t.0) (read group.shares.items v s.0 s.0 s.1)
+      (subst (λ x. EndsMarked n of width windows workers h.sender v (get_or group.shares.items v s.0) x) (read group.takers.items v t.0 t.0 t.1) (h.each v low s.0 t.0)) in (
         record { state = e.before.state; senders = e.senders; story = e.promise.story },
         record {
           share = s.0;
@@ -115,13 +115,13 @@ module _ (n : NetTold) (of : List ℕ) (width windows : ℕ) (crew : Workers) (h
     begun = λ u low. (parts.1 u low).begun;
   }
 
-  is_of_takers : IsOfTakers all crew.takers.items
+  is_of_takers : IsOfTakers all group.takers.items
   is_of_takers v low t is =
       let p = parts.1 v low in
-      subst (HasGathered (all.made v) (all.taken v) (all.senders v)) (same_found (slice_get crew.takers.items v) p.taker t p.taker_at is) p.gathers
+      subst (HasGathered (all.made v) (all.taken v) (all.senders v)) (same_found (slice_get group.takers.items v) p.taker t p.taker_at is) p.gathers
 
   -- what all workers did
-  pub all_ran : (a : AllRan n of width windows (length crew.inboxes.items)) × IsOfTakers a crew.takers.items
+  pub all_ran : (a : AllRan n of width windows (length group.inboxes.items)) × IsOfTakers a group.takers.items
   all_ran = (all, is_of_takers)
 
   module _ (fine : RunsForward (system_of n)) (short : width ≤ (system_of n).lookahead) (are : AreWindows width n.end windows) where
@@ -174,7 +174,7 @@ module _ (n : NetTold) (of : List ℕ) (width windows : ℕ) (crew : Workers) (h
           subst (λ t. from s (taken_by t) ≡ from s (gathered_by t)) (sym p.taker_is)
           (same_of_each workers v (h.sender v) z.state z.senders p.are_senders p.ran.of_made p.begun (all_taken n of width windows workers all v low) its_one s)
 
-      at_worker : IsWorkerAt n of (suc n.end) motes crew.first_out v p.share p.taker
+      at_worker : IsWorkerAt n of (suc n.end) motes group.first_out v p.share p.taker
       at_worker = record {
         keeps = subst (λ l. Keeps n of v (suc n.end) motes l p.share) (sym (ap taken_by p.taker_is))
             (keeps_same n of v (z.story.motes windows) motes (own_stage n fine of width windows workers all h.cut are short v low windows) (suc n.end) (copies_of z.state.taken) p.share
@@ -187,39 +187,39 @@ module _ (n : NetTold) (of : List ℕ) (width windows : ℕ) (crew : Workers) (h
       whole_at = subst (λ (t : TakerView). Whole t.state.gathered t.state.taken) (sym p.taker_is)
           (whole_then workers v (h.sender v) z.state z.senders p.are_senders p.ran.of_made p.begun (all_taken n of width windows workers all v low) its_one)
 
-      settled_one : (id : InboxId) (taker : TakerView) → IsSettled (get_or crew.inboxes.items v id) (get_or crew.takers.items v taker)
+      settled_one : (id : InboxId) (taker : TakerView) → IsSettled (get_or group.inboxes.items v id) (get_or group.takers.items v taker)
       settled_one id taker =
-          let is = read crew.takers.items v p.taker taker p.taker_at in
-          subst (IsSettled (get_or crew.inboxes.items v id)) (sym is) (record {
+          let is = read group.takers.items v p.taker taker p.taker_at in
+          subst (IsSettled (get_or group.inboxes.items v id)) (sym is) (record {
             its = ap (λ (t : TakerView). t.inbox) (sym is) ∙ h.its v id taker low;
             stands = subst (λ (t : TakerView). IsOrderly t.state) (sym p.taker_is) (stands workers v (h.sender v) z.state z.senders p.are_senders p.ran.of_made p.begun (all_taken n of width windows workers all v low) its_one);
             no_mark = subst (λ (t : TakerView). PacketsLeft t.state) (sym p.taker_is) (no_mark workers v (h.sender v) z.state z.senders p.are_senders p.ran.of_made p.begun (all_taken n of width windows workers all v low) its_one);
             all = subst (λ (t : TakerView). AllGathered t.state) (sym p.taker_is) (gathered_all workers v (h.sender v) z.state z.senders p.are_senders p.ran.of_made p.begun (all_taken n of width windows workers all v low) its_one);
           })
 
-      worker_at : (share : Share) (taker : TakerView) → IsWorkerAt n of (suc n.end) motes crew.first_out v (get_or crew.shares.items v share) (get_or crew.takers.items v taker)
+      worker_at : (share : Share) (taker : TakerView) → IsWorkerAt n of (suc n.end) motes group.first_out v (get_or group.shares.items v share) (get_or group.takers.items v taker)
       worker_at share taker =
-          subst (λ x. IsWorkerAt n of (suc n.end) motes crew.first_out v x (get_or crew.takers.items v taker)) (sym (read crew.shares.items v p.share share p.share_at))
-          (subst (λ x. IsWorkerAt n of (suc n.end) motes crew.first_out v p.share x) (sym (read crew.takers.items v p.taker taker p.taker_at)) at_worker)
+          subst (λ x. IsWorkerAt n of (suc n.end) motes group.first_out v x (get_or group.takers.items v taker)) (sym (read group.shares.items v p.share share p.share_at))
+          (subst (λ x. IsWorkerAt n of (suc n.end) motes group.first_out v p.share x) (sym (read group.takers.items v p.taker taker p.taker_at)) at_worker)
 
-    pub all_at_end : IsAt n of (suc n.end) crew
+    pub all_at_end : IsAt n of (suc n.end) group
     all_at_end = record {
       motes = motes;
       led = subst (λ t. Windows (system_of n) 0 t (first_mote (system_of n)) motes) at_last there_at_last.led;
       cut = h.cut;
       shares = h.shares;
-      settled = zip_each IsSettled crew.inboxes.items crew.takers.items h.takers (λ v id taker low. settled_one v low id taker);
+      settled = zip_each IsSettled group.inboxes.items group.takers.items h.takers (λ v id taker low. settled_one v low id taker);
       first = subst (WakesFrom (suc n.end)) (sym h.first_out) tt;
       each = λ v low share taker. worker_at v low share taker;
     }
 
-    pub all_whole : Each (λ (t : TakerView). Whole t.state.gathered t.state.taken) crew.takers.items
+    pub all_whole : Each (λ (t : TakerView). Whole t.state.gathered t.state.taken) group.takers.items
     unfolding parts p
-    all_whole = each_from _ crew.takers.items (λ v t e.
-        let low : v < workers = subst (λ l. v < l) h.takers (inside crew.takers.items v t e) in
+    all_whole = each_from _ group.takers.items (λ v t e.
+        let low : v < workers = subst (λ l. v < l) h.takers (inside group.takers.items v t e) in
         let p : IsPart v (parts.0 v) = parts.1 v low in
-        subst (λ (x : TakerView). Whole x.state.gathered x.state.taken) (same_found (slice_get crew.takers.items v) p.taker t p.taker_at e) (whole_at v low))
+        subst (λ (x : TakerView). Whole x.state.gathered x.state.taken) (same_found (slice_get group.takers.items v) p.taker t p.taker_at e) (whole_at v low))
 
 pub ends : (n : NetTold) → RunsForward (system_of n) → (of : List ℕ) (width windows : ℕ) → width ≤ (system_of n).lookahead → AreWindows width n.end windows
-    → (crew : Workers) → EndAllMarked n of width windows crew → IsAt n of (suc n.end) crew × Each (λ (t : TakerView). Whole t.state.gathered t.state.taken) crew.takers.items
-ends n fine of width windows short are crew all = (all_at_end n of width windows crew all fine short are, all_whole n of width windows crew all fine short are)
+    → (group : Workers) → EndAllMarked n of width windows group → IsAt n of (suc n.end) group × Each (λ (t : TakerView). Whole t.state.gathered t.state.taken) group.takers.items
+ends n fine of width windows short are group all = (all_at_end n of width windows group all fine short are, all_whole n of width windows group all fine short are)

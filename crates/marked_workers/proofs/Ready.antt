@@ -1,4 +1,4 @@
--- The workers of a crew before its first window, once their endpoints set out.
+-- The workers of a run with marks before their first windows, once their endpoints are made.
 use Rattle.std.proofs.Common.{◌≡◌, ℕ, suc, ◌<◌, List, [], ◌∷◌, length, map, refl, sym, ap, ◌∙◌, subst, arith, Some}
 use Rattle.std.specs.List.{slice_get, zip, AllZip, AllByRecursion as Each}
 use Rattle.mote_net.specs.Net.{NetTold}

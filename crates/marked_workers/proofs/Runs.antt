@@ -25,7 +25,7 @@ use Rattle.all_workers.proofs.Lookups.{there, read, mapped, beside, as_long}
 use Rattle.all_workers.proofs.Numbered.{numbered}
 use Rattle.all_workers.specs.declared.worker.Worker.{Worker}
 use Rattle.marked_workers.specs.Bounds.{windows_of}
-use Rattle.marked_workers.specs.Crew.{EndsMarked, EndAllMarked}
+use Rattle.marked_workers.specs.AtEnd.{EndsMarked, EndAllMarked}
 use Rattle.marked_workers.specs.Run.{RunsAllMarked, endpoints_of}
 use Rattle.marked_workers.specs.Senders.{AreSenders}
 use Rattle.marked_workers.specs.Story.{RunsMarked}

@@ -1,6 +1,6 @@
 pub mod All
+pub mod AtEnd
 pub mod Bounds
-pub mod Crew
 pub mod Refusals
 pub mod Run
 pub mod Senders

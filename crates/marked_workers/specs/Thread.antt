@@ -33,18 +33,18 @@ pub record IsFirst (n : NetTold) (of : List ℕ) (inboxes : List InboxId) (w : W
 -- the same worker, with counts of marks
 pub record IsSame (w : Worker) (m : MarkWorker) : Type 0 where
   pub share : m.share ≡ w.share
-  pub endpoint : m.carries.endpoint ≡ w.endpoint
+  pub endpoint : m.exchange.endpoint ≡ w.endpoint
 
 -- a worker in its thread before its first window
-pub record IsManned (n : NetTold) (of : List ℕ) (inboxes : List InboxId) (w : MarkWorker) : Type 0 where
+pub record IsStarted (n : NetTold) (of : List ℕ) (inboxes : List InboxId) (w : MarkWorker) : Type 0 where
   pub cut : IsCut (length n.motes) (length inboxes) of
-  pub keeps : Keeps n of w.carries.endpoint.worker 0 (first_mote (system_of n)) [] w.share
-  pub seated : IsSeated inboxes w.carries.endpoint
-  pub marked : HasMarks w.carries.endpoint
-  pub counts : Counts w.carries.marks.items w.carries.endpoint.taker.state
-  pub none_taken : w.carries.endpoint.taker.state.taken ≡ []
-  pub none_gathered : w.carries.endpoint.taker.state.gathered ≡ []
-  pub none_pushed : HasPushedNothing w.carries.endpoint
+  pub keeps : Keeps n of w.exchange.endpoint.worker 0 (first_mote (system_of n)) [] w.share
+  pub seated : IsSeated inboxes w.exchange.endpoint
+  pub marked : HasMarks w.exchange.endpoint
+  pub counts : Counts w.exchange.marks.items w.exchange.endpoint.taker.state
+  pub none_taken : w.exchange.endpoint.taker.state.taken ≡ []
+  pub none_gathered : w.exchange.endpoint.taker.state.gathered ≡ []
+  pub none_pushed : HasPushedNothing w.exchange.endpoint
 
 -- its motes ran through a window, and what they sent to others went out, with the window's mark behind it
 pub record SendsWindow (n : NetTold) (of : List ℕ) (workers window until : ℕ) (old new : MarkWorker) : Type 0 where
@@ -53,17 +53,17 @@ pub record SendsWindow (n : NetTold) (of : List ℕ) (workers window until : ℕ
       → from ≤ until → until ≤ from + (system_of n).lookahead
       → RunsWindow n of worker from until motes taken new.share sent
   pub out : Each (GoesOut n of old.share.worker) sent
-  pub pushes : PushesWindow of workers window old.carries.endpoint new.carries.endpoint sent
-  pub marks : new.carries.marks ≡ old.carries.marks
+  pub pushes : PushesWindow of workers window old.exchange.endpoint new.exchange.endpoint sent
+  pub marks : new.exchange.marks ≡ old.exchange.marks
 
 -- it took items until the window's mark of each other worker had come, and what they carry is in its share
 pub record TakesWindow (of : List ℕ) (window until : ℕ) (old new : MarkWorker) : Type 0 where
   pub arrived : List RadioCopy
-  pub took : TakesDue of old.carries.endpoint.worker until old.carries.endpoint.taker new.carries.endpoint.taker arrived
-  pub counts : Counts new.carries.marks.items new.carries.endpoint.taker.state
-  pub past : AllPast window new.carries.marks.items
-  pub worker : new.carries.endpoint.worker ≡ old.carries.endpoint.worker
-  pub senders : new.carries.endpoint.senders ≡ old.carries.endpoint.senders
+  pub took : TakesDue of old.exchange.endpoint.worker until old.exchange.endpoint.taker new.exchange.endpoint.taker arrived
+  pub counts : Counts new.exchange.marks.items new.exchange.endpoint.taker.state
+  pub past : AllPast window new.exchange.marks.items
+  pub worker : new.exchange.endpoint.worker ≡ old.exchange.endpoint.worker
+  pub senders : new.exchange.endpoint.senders ≡ old.exchange.endpoint.senders
   pub keeps : (n : NetTold) (whose : List ℕ) (worker from : ℕ) (motes : Motes) (taken : List RadioCopy)
       → Keeps n whose worker from motes taken old.share
       → Each (IsDue whose worker from) arrived → Keeps n whose worker from motes (taken ++ arrived) new.share
@@ -71,12 +71,12 @@ pub record TakesWindow (of : List ℕ) (window until : ℕ) (old new : MarkWorke
 -- a worker, since its first window, behind so many windows
 pub record HasRun (n : NetTold) (of : List ℕ) (width windows : ℕ) (inboxes : List InboxId)
     (first now : MarkWorker) : Type 0 where
-  pub stays : Stays first.carries.endpoint now.carries.endpoint
-  pub promise : RunsMarked n of width windows (length inboxes) first.carries.endpoint.worker now.share
-      now.carries.endpoint.taker.state (pushed_to now.carries.endpoint)
-  pub seated : IsSeated inboxes now.carries.endpoint
-  pub marked : HasMarks now.carries.endpoint
-  pub counts : Counts now.carries.marks.items now.carries.endpoint.taker.state
+  pub stays : Stays first.exchange.endpoint now.exchange.endpoint
+  pub promise : RunsMarked n of width windows (length inboxes) first.exchange.endpoint.worker now.share
+      now.exchange.endpoint.taker.state (pushed_to now.exchange.endpoint)
+  pub seated : IsSeated inboxes now.exchange.endpoint
+  pub marked : HasMarks now.exchange.endpoint
+  pub counts : Counts now.exchange.marks.items now.exchange.endpoint.taker.state
 
 -- all that a worker's thread does: it ran so many windows
 pub record RunsAllWindows (n : NetTold) (of : List ℕ) (width windows : ℕ) (inboxes : List InboxId)

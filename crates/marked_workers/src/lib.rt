@@ -8,4 +8,4 @@ mod worker;
 
 pub use run::run_marked;
 pub use thread::MarkRunner;
-pub use worker::{CrewRun, MarkWorker};
+pub use worker::{WorkersRun, MarkWorker};

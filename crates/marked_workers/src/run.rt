@@ -18,7 +18,7 @@ ghost use Rattle.marked_workers.specs.Run.{RunsAllMarked};
 ghost use Rattle.marked_workers.specs.Thread.{IsFirst, RunsAllWindows};
 
 use crate::thread::MarkRunner;
-use crate::worker::CrewRun;
+use crate::worker::WorkersRun;
 use all_workers::{Worker, Workers, lookahead_of, parted, set_out, window_length, workers_of};
 use copy_exchange::{Endpoint, gather_back};
 use copy_inbox::{Inbox, Taker};
@@ -54,7 +54,7 @@ fn run_together<R, G>(
     rt: &R,
     alloc: Global,
     workers: Vec<Worker>,
-    run: CrewRun<'_>,
+    run: WorkersRun<'_>,
     gate: &G,
 ) -> Result<Vec<Worker>, Refused>
 where
@@ -77,30 +77,30 @@ fn run_threads<R, G>(
     of: &[u16],
     width: u64,
     gate: &G,
-    crew: Workers,
+    group: Workers,
 ) -> Result<Workers, Refused>
 where
     R: Threads + Wait + RandomSource + AllocGlobal + Sync,
     G: Gate + Sync,
     requires wide { 0 < width }
     requires short { width ≤ (system_of (net_of net.now)).lookahead }
-    requires few { length crew.inboxes.items ≤ 16 }
-    requires cut { IsCut (length (net_of net.now).motes) (length crew.inboxes.items) of.now }
-    requires fresh { AllZip IsFresh crew.inboxes.items crew.takers.items }
-    requires marked { Each (λ taker. taker.state.marked ≡ true) crew.takers.items }
-    requires first { AreFirst (net_of net.now) of.now (length crew.inboxes.items) crew.shares.items }
-    ensures { IfOk result (RunsAllMarked (net_of net.now) of.now width crew) }
+    requires few { length group.inboxes.items ≤ 16 }
+    requires cut { IsCut (length (net_of net.now).motes) (length group.inboxes.items) of.now }
+    requires fresh { AllZip IsFresh group.inboxes.items group.takers.items }
+    requires marked { Each (λ taker. taker.state.marked ≡ true) group.takers.items }
+    requires first { AreFirst (net_of net.now) of.now (length group.inboxes.items) group.shares.items }
+    ensures { IfOk result (RunsAllMarked (net_of net.now) of.now width group) }
 {
     let Workers {
         shares,
         inboxes,
         takers,
         first_out: _,
-    } = crew;
+    } = group;
     let endpoints = set_out(alloc, &inboxes, takers)?;
     let workers = workers_of(alloc, shares, endpoints)?;
     let stop = AtomicBool::new(false);
-    let run = CrewRun {
+    let run = WorkersRun {
         net,
         of,
         inboxes: &inboxes,
@@ -132,24 +132,24 @@ pub fn run_marked<R, G>(
     of: &[u16],
     longest: u32,
     gate: &G,
-    crew: Workers,
+    group: Workers,
 ) -> Result<Workers, Refused>
 where
     R: Threads + Wait + RandomSource + AllocGlobal + Sync,
     G: Gate + Sync,
-    requires few { length crew.inboxes.items ≤ 16 }
-    requires cut { IsCut (length (net_of net.now).motes) (length crew.inboxes.items) of.now }
-    requires fresh { AllZip IsFresh crew.inboxes.items crew.takers.items }
-    requires marked { Each (λ taker. taker.state.marked ≡ true) crew.takers.items }
-    requires first { AreFirst (net_of net.now) of.now (length crew.inboxes.items) crew.shares.items }
+    requires few { length group.inboxes.items ≤ 16 }
+    requires cut { IsCut (length (net_of net.now).motes) (length group.inboxes.items) of.now }
+    requires fresh { AllZip IsFresh group.inboxes.items group.takers.items }
+    requires marked { Each (λ taker. taker.state.marked ≡ true) group.takers.items }
+    requires first { AreFirst (net_of net.now) of.now (length group.inboxes.items) group.shares.items }
     ensures at { let n = net_of net.now in IfOk result (λ done. IsAt n of.now (suc n.end) done) }
-    ensures inboxes { IfOk result (λ done. done.inboxes.items ≡ crew.inboxes.items) }
+    ensures inboxes { IfOk result (λ done. done.inboxes.items ≡ group.inboxes.items) }
     // Each worker ran all windows of this length.
     ensures windows { let n = net_of net.now in
-        IfOk result (RunsAllMarked n of.now (length_of_window (system_of n).lookahead longest) crew) }
+        IfOk result (RunsAllMarked n of.now (length_of_window (system_of n).lookahead longest) group) }
     ensures all_taken { IfOk result
         (λ done. Each (λ taker. Whole taker.state.gathered taker.state.taken) done.takers.items) }
 {
     let width = window_length(lookahead_of(net), longest);
-    run_threads(rt, alloc, net, of, width, gate, crew)
+    run_threads(rt, alloc, net, of, width, gate, group)
 }

@@ -10,12 +10,12 @@ use worker_window::Share;
 #[derive(Drop)]
 pub struct MarkWorker {
     pub share: Share,
-    pub carries: MarkEndpoint,
+    pub exchange: MarkEndpoint,
 }
 
 /// What all workers of a run have in common.
 #[derive(Clone, Copy)]
-pub struct CrewRun<'a> {
+pub struct WorkersRun<'a> {
     pub net: &'a Net,
     /// The worker of each mote.
     pub of: &'a [u16],

@@ -42,12 +42,12 @@ fn told(
     alloc: Global,
     net: &Net,
     of: &[u16],
-    crew: Workers,
+    group: Workers,
 ) -> Result<(Report, Vec<(Inbox, Taker)>), RunError>
-    requires { let n = net_of net.now in IsAt n of.now (suc n.end) crew }
+    requires { let n = net_of net.now in IsAt n of.now (suc n.end) group }
     ensures report { IfOk result (λ r. IsReportOf (net_of net.now) (report_of r.0)) }
-    ensures inboxes { IfOk result (λ r. map (λ pair. pair.0) r.1.items ≡ crew.inboxes.items) }
-    ensures pairs { IfOk result (λ r. r.1.items ≡ zip crew.inboxes.items crew.takers.items) }
+    ensures inboxes { IfOk result (λ r. map (λ pair. pair.0) r.1.items ≡ group.inboxes.items) }
+    ensures pairs { IfOk result (λ r. r.1.items ≡ zip group.inboxes.items group.takers.items) }
     ensures settled { IfOk result (λ r. Each (λ pair. IsSettled pair.0 pair.1) r.1.items) }
     ensures carried { IfOk result (λ r. AllCarried (net_of net.now) of.now (report_of r.0) r.1.items) }
     ensures err { IfErr result (λ e. e ≡ RunError.Memory) }
@@ -60,7 +60,7 @@ fn told(
         inboxes,
         takers,
         first_out: _,
-    } = crew;
+    } = group;
     let Ok(pairs) = paired(alloc, inboxes, takers) else {
         return Err(RunError::Memory);
     };
@@ -77,7 +77,7 @@ fn told(
 }
 
 /// All windows of the run, by workers with this kind of synchronization.
-fn run_crew<R, G>(
+fn run_by_kind<R, G>(
     rt: &R,
     alloc: Global,
     net: &Net,
@@ -85,29 +85,29 @@ fn run_crew<R, G>(
     longest: u32,
     sync: SyncKind,
     gate: &G,
-    crew: Workers,
+    group: Workers,
 ) -> Result<Workers, RunError>
 where
     R: Threads + Wait + RandomSource + AllocGlobal + Sync,
     G: Gate + Sync,
-    requires few { length crew.inboxes.items ≤ 16 }
-    requires cut { IsCut (length (net_of net.now).motes) (length crew.inboxes.items) of.now }
-    requires at { IsAt (net_of net.now) of.now 0 crew }
-    requires fresh { AllZip IsFresh crew.inboxes.items crew.takers.items }
-    requires kind { Each (IsFor sync) crew.takers.items }
-    requires first { AreFirst (net_of net.now) of.now (length crew.inboxes.items) crew.shares.items }
+    requires few { length group.inboxes.items ≤ 16 }
+    requires cut { IsCut (length (net_of net.now).motes) (length group.inboxes.items) of.now }
+    requires at { IsAt (net_of net.now) of.now 0 group }
+    requires fresh { AllZip IsFresh group.inboxes.items group.takers.items }
+    requires kind { Each (IsFor sync) group.takers.items }
+    requires first { AreFirst (net_of net.now) of.now (length group.inboxes.items) group.shares.items }
     ensures at { let n = net_of net.now in IfOk result (λ done. IsAt n of.now (suc n.end) done) }
-    ensures inboxes { IfOk result (λ done. done.inboxes.items ≡ crew.inboxes.items) }
+    ensures inboxes { IfOk result (λ done. done.inboxes.items ≡ group.inboxes.items) }
     ensures all_taken { IfOk result (λ done. sync ≡ Marks
         → Each (λ taker. Whole taker.state.gathered taker.state.taken) done.takers.items) }
     ensures err { IfErr result (IsAnswerTo sync None) }
 {
     let ran = match sync {
-        SyncKind::Joins => run_windows(rt, alloc, net, of, longest, gate, crew),
-        SyncKind::Marks => run_marked(rt, alloc, net, of, longest, gate, crew),
+        SyncKind::Joins => run_windows(rt, alloc, net, of, longest, gate, group),
+        SyncKind::Marks => run_marked(rt, alloc, net, of, longest, gate, group),
     };
     match ran {
-        Ok(crew) => Ok(crew),
+        Ok(group) => Ok(group),
         Err(refused) => Err(of_refused(sync, refused)),
     }
 }
@@ -163,11 +163,11 @@ where
     let Ok((inboxes, takers)) = parted(alloc, pairs) else {
         return Err(RunError::Memory);
     };
-    let Ok(crew) = Workers::start(alloc, net, of, inboxes, takers) else {
+    let Ok(group) = Workers::start(alloc, net, of, inboxes, takers) else {
         return Err(RunError::Memory);
     };
-    let crew = run_crew(rt, alloc, net, of, cut.longest, sync, gate, crew)?;
-    told(alloc, net, of, crew)
+    let group = run_by_kind(rt, alloc, net, of, cut.longest, sync, gate, group)?;
+    told(alloc, net, of, group)
 }
 
 /// The report of a net, by so many workers, each in threads of its own: that of one thread, whatever the cut, and

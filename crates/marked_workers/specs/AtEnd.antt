@@ -30,22 +30,22 @@ pub record EndsMarked (n : NetTold) (of : List ℕ) (width windows workers : ℕ
   pub gathered : taker ≡ gather_senders before senders
 
 -- all workers
-pub record EndAllMarked (n : NetTold) (of : List ℕ) (width windows : ℕ) (crew : Workers) : Type 0 where
-  pub cut : IsCut (length n.motes) (length crew.inboxes.items) of
-  pub shares : length crew.shares.items ≡ length crew.inboxes.items
-  pub takers : length crew.takers.items ≡ length crew.inboxes.items
-  pub its : (worker : ℕ) (id : InboxId) (taker : TakerView) → worker < length crew.inboxes.items
-      → (slice_index_or crew.takers.items worker taker).inbox ≡ slice_index_or crew.inboxes.items worker id
-  pub first_out : crew.first_out ≡ None
+pub record EndAllMarked (n : NetTold) (of : List ℕ) (width windows : ℕ) (group : Workers) : Type 0 where
+  pub cut : IsCut (length n.motes) (length group.inboxes.items) of
+  pub shares : length group.shares.items ≡ length group.inboxes.items
+  pub takers : length group.takers.items ≡ length group.inboxes.items
+  pub its : (worker : ℕ) (id : InboxId) (taker : TakerView) → worker < length group.inboxes.items
+      → (slice_index_or group.takers.items worker taker).inbox ≡ slice_index_or group.inboxes.items worker id
+  pub first_out : group.first_out ≡ None
   pub sender : (inbox worker : ℕ) → Option SenderView
-  pub each : (worker : ℕ) → worker < length crew.inboxes.items → (share : Share) (taker : TakerView)
-      → EndsMarked n of width windows (length crew.inboxes.items) sender worker
-      (slice_index_or crew.shares.items worker share) (slice_index_or crew.takers.items worker taker)
+  pub each : (worker : ℕ) → worker < length group.inboxes.items → (share : Share) (taker : TakerView)
+      → EndsMarked n of width windows (length group.inboxes.items) sender worker
+      (slice_index_or group.shares.items worker share) (slice_index_or group.takers.items worker taker)
 
 -- However the threads took turns, all workers stand at the end, as if all copies had changed hands between the
 -- windows, and each has taken all that was pushed to it, every mark too.
 abbrev pub MarkedWindowsLeadToTheEnd : Type 0
 MarkedWindowsLeadToTheEnd = (n : NetTold) → RunsForward (system_of n) → (of : List ℕ) (width windows : ℕ)
     → width ≤ (system_of n).lookahead → AreWindows width n.end windows
-    → (crew : Workers) → EndAllMarked n of width windows crew
-    → IsAt n of (suc n.end) crew × Each (λ (t : TakerView). Whole t.state.gathered t.state.taken) crew.takers.items
+    → (group : Workers) → EndAllMarked n of width windows group
+    → IsAt n of (suc n.end) group × Each (λ (t : TakerView). Whole t.state.gathered t.state.taken) group.takers.items
