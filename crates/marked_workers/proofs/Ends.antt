@@ -31,7 +31,7 @@ use Rattle.marked_workers.specs.Bounds.{bound, AreWindows}
 use Rattle.marked_workers.specs.AtEnd.{EndsMarked, EndAllMarked}
 use Rattle.copy_exchange.specs.Endpoints.{pushed_list}
 use Rattle.marked_workers.specs.Senders.{AreSenders}
-use Rattle.marked_workers.specs.Story.{Story, RunsWindows}
+use Rattle.marked_workers.specs.WorkerHistory.{WorkerHistory, RunsWindows}
 use Rattle.marked_workers.specs.All.{AllRan, HasGathered, IsOfTakers}
 use Rattle.marked_workers.proofs.Bounds.{at_the_end}
 use Rattle.marked_workers.proofs.Pairs.{not_other, pair, copies_from, copies_none}
@@ -47,15 +47,15 @@ module _ (n : NetTold) (of : List ℕ) (width windows : ℕ) (group : Workers) (
   record Part : Type 0 where
     state : TakerState
     senders : List SenderView
-    story : Story
+    history : WorkerHistory
 
   record IsPart (v : ℕ) (z : Part) : Type 0 where
     share : Share
     taker : TakerView
     share_at : slice_get group.shares.items v ≡ Some share
     taker_at : slice_get group.takers.items v ≡ Some taker
-    ran : RunsWindows n of width windows workers v z.state.made z.state.taken (λ u. pushed_list (h.sender u v)) z.story
-    keeps : Keeps n of v (bound width n.end windows) (z.story.motes windows) (copies_of z.state.taken) share
+    ran : RunsWindows n of width windows workers v z.state.made z.state.taken (λ u. pushed_list (h.sender u v)) z.history
+    keeps : Keeps n of v (bound width n.end windows) (z.history.motes windows) (copies_of z.state.taken) share
     are_senders : AreSenders workers v (h.sender v) z.state.made z.senders
     begun : Each (λ (s : SenderView). BeginsWith s.state.pushed (part s.state.number z.state.taken)) z.senders
     gathers : HasGathered z.state.made z.state.taken z.senders taker
@@ -68,7 +68,7 @@ module _ (n : NetTold) (of : List ℕ) (width windows : ℕ) (group : Workers) (
       let t = there group.takers.items v (subst (λ l. v < l) (sym h.takers) low) in
       let e : EndsMarked n of width windows workers h.sender v s.0 t.0 = subst (λ x. EndsMarked n of width windows workers h.sender v x t.0) (read group.shares.items v s.0 s.0 s.1)
       (subst (λ x. EndsMarked n of width windows workers h.sender v (get_or group.shares.items v s.0) x) (read group.takers.items v t.0 t.0 t.1) (h.each v low s.0 t.0)) in (
-        record { state = e.before.state; senders = e.senders; story = e.promise.story },
+        record { state = e.before.state; senders = e.senders; history = e.promise.history },
         record {
           share = s.0;
           taker = t.0;
@@ -97,7 +97,7 @@ module _ (n : NetTold) (of : List ℕ) (width windows : ℕ) (group : Workers) (
   no_part = record {
     state = make_taker_state false 0 [] [];
     senders = [];
-    story = record { motes = λ k. first_mote (system_of n); taken = λ k. []; sent = λ k. [] };
+    history = record { motes = λ k. first_mote (system_of n); taken = λ k. []; sent = λ k. [] };
   }
 
   parts : (f : ℕ → Part) × ((v : ℕ) → v < workers → IsPart v (f v))
@@ -109,7 +109,7 @@ module _ (n : NetTold) (of : List ℕ) (width windows : ℕ) (group : Workers) (
     taken = λ v. (parts.0 v).state.taken;
     sender = h.sender;
     senders = λ u. (parts.0 u).senders;
-    story = λ v. (parts.0 v).story;
+    history = λ v. (parts.0 v).history;
     ran = λ v low. (parts.1 v low).ran;
     are_senders = λ u low. (parts.1 u low).are_senders;
     begun = λ u low. (parts.1 u low).begun;
@@ -141,7 +141,7 @@ module _ (n : NetTold) (of : List ℕ) (width windows : ℕ) (group : Workers) (
       p : IsPart v z
       p = parts.1 v low
 
-      all_had : (s : ℕ) → from s (copies_of (z.story.taken windows)) ≡ from s (copies_of z.state.taken)
+      all_had : (s : ℕ) → from s (copies_of (z.history.taken windows)) ≡ from s (copies_of z.state.taken)
       all_had s = ap (λ l. from s (copies_of l)) p.ran.all
 
       -- what was taken of the motes of others is all that was sent to this worker
@@ -177,8 +177,8 @@ module _ (n : NetTold) (of : List ℕ) (width windows : ℕ) (group : Workers) (
       at_worker : IsWorkerAt n of (suc n.end) motes group.first_out v p.share p.taker
       at_worker = record {
         keeps = subst (λ l. Keeps n of v (suc n.end) motes l p.share) (sym (ap taken_by p.taker_is))
-            (keeps_same n of v (z.story.motes windows) motes (own_stage n fine of width windows workers all h.cut are short v low windows) (suc n.end) (copies_of z.state.taken) p.share
-            (subst (λ t. Keeps n of v t (z.story.motes windows) (copies_of z.state.taken) p.share) at_last p.keeps));
+            (keeps_same n of v (z.history.motes windows) motes (own_stage n fine of width windows workers all h.cut are short v low windows) (suc n.end) (copies_of z.state.taken) p.share
+            (subst (λ t. Keeps n of v t (z.history.motes windows) (copies_of z.state.taken) p.share) at_last p.keeps));
         gathered = λ s. sym (taken_gathered s) ∙ (ap (λ t. from s (taken_by t)) p.taker_is ∙ crossed_is s);
         waits = λ s. record { rest = []; all = sym (append-nil (from s (taken_by p.taker)) ∙ taken_gathered s); later = tt };
       }

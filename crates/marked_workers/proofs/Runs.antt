@@ -28,7 +28,7 @@ use Rattle.marked_workers.specs.Bounds.{windows_of}
 use Rattle.marked_workers.specs.AtEnd.{EndsMarked, EndAllMarked}
 use Rattle.marked_workers.specs.Run.{RunsAllMarked, endpoints_of}
 use Rattle.marked_workers.specs.Senders.{AreSenders}
-use Rattle.marked_workers.specs.Story.{RunsMarked}
+use Rattle.marked_workers.specs.WorkerHistory.{RunsMarked}
 use Rattle.marked_workers.specs.Thread.{RunsAllWindows}
 use Rattle.marked_workers.proofs.Bounds.{are_windows}
 use Rattle.marked_workers.proofs.Ends.{ends}

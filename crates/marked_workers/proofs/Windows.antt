@@ -29,7 +29,7 @@ use Rattle.all_workers.proofs.Sent.{leaves_sent}
 use Rattle.all_workers.specs.declared.worker.Worker.{Worker}
 use Rattle.marked_workers.specs.declared.worker.MarkWorker.{MarkWorker}
 use Rattle.marked_workers.specs.Bounds.{bound, windows_of, AreWindows}
-use Rattle.marked_workers.specs.Story.{RunsMarked}
+use Rattle.marked_workers.specs.WorkerHistory.{RunsMarked}
 use Rattle.marked_workers.specs.Thread.{IsFirst, IsStarted, IsSame, SendsWindow, TakesWindow, HasRun, RunsAllWindows}
 use Rattle.marked_workers.proofs.Bounds.{are_windows, begins_before, no_wider}
 use Rattle.marked_workers.proofs.Promise.{promise_first, promise_next}
@@ -100,7 +100,7 @@ module _ (n : NetTold) (of : List ℕ) (width k until : ℕ) (inboxes : List Inb
   can_run = record {
     worker = first.exchange.endpoint.worker;
     from = bound width n.end k;
-    motes = stands.promise.story.motes k;
+    motes = stands.promise.history.motes k;
     taken = copies_of old.exchange.endpoint.taker.state.taken;
     keeps = stands.promise.keeps;
     order = up;
@@ -118,12 +118,12 @@ module _ (n : NetTold) (of : List ℕ) (width k until : ℕ) (inboxes : List Inb
     abbrev more : List Item
     more = takes.took.items
 
-    ran : RunsWindow n of worker (bound width n.end k) until (stands.promise.story.motes k) (copies_of state.taken) between.share sends.sent
+    ran : RunsWindow n of worker (bound width n.end k) until (stands.promise.history.motes k) (copies_of state.taken) between.share sends.sent
     ran =
         let b = no_wider width n.end (windows_of width n.end) are k low in
         let e = at in
         let s = short in
-        sends.runs worker (bound width n.end k) (stands.promise.story.motes k) (copies_of state.taken) stands.promise.keeps up (omega arith)
+        sends.runs worker (bound width n.end k) (stands.promise.history.motes k) (copies_of state.taken) stands.promise.keeps up (omega arith)
 
     goes : Each (GoesOut n of worker) sends.sent
     goes = subst (λ w. Each (GoesOut n of w) sends.sent) stands.promise.keeps.is_worker sends.out
@@ -172,7 +172,7 @@ module _ (n : NetTold) (of : List ℕ) (width k until : ℕ) (inboxes : List Inb
     }
       where
         Ran : ℕ → Type 0
-        Ran t = (r : RunsWindow n of worker (bound width n.end k) t (stands.promise.story.motes k) (copies_of state.taken) between.share sends.sent)
+        Ran t = (r : RunsWindow n of worker (bound width n.end k) t (stands.promise.history.motes k) (copies_of state.taken) between.share sends.sent)
             × Keeps n of worker t r.next (copies_of state.taken ++ copies_of more) new.share
 
         ran_to : Ran (bound width n.end (suc k))

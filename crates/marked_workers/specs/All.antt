@@ -8,18 +8,18 @@ use Rattle.copy_inbox.specs.Handles.{SenderView, TakerView}
 use Rattle.copy_exchange.specs.Endpoints.{pushed_list}
 use Rattle.copy_exchange.specs.Steps.{gather_senders}
 use Rattle.marked_workers.specs.Senders.{AreSenders}
-use Rattle.marked_workers.specs.Story.{Story, RunsWindows}
+use Rattle.marked_workers.specs.WorkerHistory.{WorkerHistory, RunsWindows}
 
--- Each worker ran its windows by its story, and has taken of each sender on its inbox a beginning of what was pushed.
+-- Each worker ran its windows by its history, and has taken of each sender on its inbox a beginning of what was pushed.
 -- `sender inbox worker` is the sender of a worker on an inbox.
 pub record AllRan (n : NetTold) (of : List ℕ) (width windows workers : ℕ) : Type 0 where
   pub made : ℕ → ℕ
   pub taken : ℕ → List Item
   pub sender : (inbox worker : ℕ) → Option SenderView
   pub senders : (inbox : ℕ) → List SenderView
-  pub story : ℕ → Story
+  pub history : ℕ → WorkerHistory
   pub ran : (v : ℕ) → v < workers
-      → RunsWindows n of width windows workers v (made v) (taken v) (λ u. pushed_list (sender u v)) (story v)
+      → RunsWindows n of width windows workers v (made v) (taken v) (λ u. pushed_list (sender u v)) (history v)
   pub are_senders : (u : ℕ) → u < workers → AreSenders workers u (sender u) (made u) (senders u)
   pub begun : (u : ℕ) → u < workers
       → Each (λ (s : SenderView). BeginsWith s.state.pushed (part s.state.number (taken u))) (senders u)

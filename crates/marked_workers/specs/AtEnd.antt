@@ -15,7 +15,7 @@ use Rattle.marked_workers.specs.Bounds.{AreWindows}
 use Rattle.copy_exchange.specs.Endpoints.{pushed_list}
 use Rattle.copy_exchange.specs.Steps.{gather_senders}
 use Rattle.marked_workers.specs.Senders.{AreSenders}
-use Rattle.marked_workers.specs.Story.{RunsMarked}
+use Rattle.marked_workers.specs.WorkerHistory.{RunsMarked}
 
 -- One worker when all threads are joined: it ran all windows as it promised, and then gathered the senders on its
 -- inbox, of each of which it had taken a beginning of what was pushed. `sender inbox worker` is the sender of a

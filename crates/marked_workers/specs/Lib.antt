@@ -4,5 +4,5 @@ pub mod Bounds
 pub mod Refusals
 pub mod Run
 pub mod Senders
-pub mod Story
 pub mod Thread
+pub mod WorkerHistory

@@ -16,7 +16,7 @@ use Rattle.worker_cut.specs.Crossed.{IsDue}
 use Rattle.all_workers.specs.Workers.{IsCut}
 use Rattle.all_workers.specs.declared.worker.Worker.{Worker}
 use Rattle.marked_workers.specs.declared.worker.MarkWorker.{MarkWorker}
-use Rattle.marked_workers.specs.Story.{RunsMarked}
+use Rattle.marked_workers.specs.WorkerHistory.{RunsMarked}
 
 -- A worker before its first window: its share is as it began, on its inbox a sender of each other worker was made, and
 -- nothing was pushed or taken.

@@ -18,7 +18,7 @@ use Rattle.marked_workers.specs.Bounds.{bound}
 
 -- What a worker had before each window, its motes and all items that it had taken by then, and what its motes sent to
 -- others in it.
-pub record Story : Type 0 where
+pub record WorkerHistory : Type 0 where
   pub motes : ℕ → Motes
   pub taken : ℕ → List Item
   pub sent : ℕ → List RadioCopy
@@ -36,23 +36,23 @@ pub record RunsMotes (n : NetTold) (of : List ℕ) (worker from until : ℕ) (mo
 -- made on its inbox, the marks of all windows before. What it pushed to another worker is, window by window, the
 -- copies for that worker's motes and then the mark.
 pub record RunsWindows (n : NetTold) (of : List ℕ) (width windows workers worker made : ℕ) (taken : List Item)
-    (pushed : ℕ → List Carried) (story : Story) : Type 0 where
-  pub first : story.motes 0 ≡ first_mote (system_of n)
-  pub nothing : story.taken 0 ≡ []
-  pub all : story.taken windows ≡ taken
-  pub goes_on : (k : ℕ) → k < windows → (more : List Item) × (story.taken (suc k) ≡ story.taken k ++ more)
-  pub marks_lead : (k : ℕ) → k ≤ windows → (sender : ℕ) → sender < made → k ≤ marks_in (part sender (story.taken k))
+    (pushed : ℕ → List Carried) (history : WorkerHistory) : Type 0 where
+  pub first : history.motes 0 ≡ first_mote (system_of n)
+  pub nothing : history.taken 0 ≡ []
+  pub all : history.taken windows ≡ taken
+  pub goes_on : (k : ℕ) → k < windows → (more : List Item) × (history.taken (suc k) ≡ history.taken k ++ more)
+  pub marks_lead : (k : ℕ) → k ≤ windows → (sender : ℕ) → sender < made → k ≤ marks_in (part sender (history.taken k))
   pub of_made : OfMade made taken
   pub runs : (k : ℕ) → k < windows → RunsMotes n of worker (bound width n.end k) (bound width n.end (suc k))
-      (story.motes k) (story.motes (suc k)) (copies_of (story.taken k)) (story.sent k)
+      (history.motes k) (history.motes (suc k)) (copies_of (history.taken k)) (history.sent k)
   pub pushes_then : (v : ℕ) → v < workers → v ≢ worker
-      → pushed v ≡ pushes windows (λ k. filter (is_to of v) (story.sent k))
+      → pushed v ≡ pushes windows (λ k. filter (is_to of v) (history.sent k))
 
 -- The promise: there were such windows, and the share keeps the motes at their end. The taker has taken all this, and
 -- gathered nobody.
 pub record RunsMarked (n : NetTold) (of : List ℕ) (width windows workers worker : ℕ) (share : Share) (state : TakerState)
     (pushed : ℕ → List Carried) : Type 0 where
-  pub story : Story
-  pub ran : RunsWindows n of width windows workers worker state.made state.taken pushed story
-  pub keeps : Keeps n of worker (bound width n.end windows) (story.motes windows) (copies_of state.taken) share
+  pub history : WorkerHistory
+  pub ran : RunsWindows n of width windows workers worker state.made state.taken pushed history
+  pub keeps : Keeps n of worker (bound width n.end windows) (history.motes windows) (copies_of state.taken) share
   pub nobody : state.gathered ≡ []
