@@ -3,7 +3,7 @@
 ghost use Rattle.std.specs.Prelude.{◌≡◌, ◌^◌, ◌≤◌, true, length, IfErr, IfOk};
 ghost use Rattle.std.specs.List.{AllByRecursion as Each, AllZip};
 ghost use Rattle.fork_join.specs.declared.work.Refused.TheVariants.{Memory};
-ghost use Rattle.copy_exchange.specs.Endpoints.{HasMarks, HasPushedNothing, SetsOut, Together};
+ghost use Rattle.copy_exchange.specs.Endpoints.{HasMarks, HasPushedNothing, StartsAs, Together};
 ghost use Rattle.copy_exchange.specs.Inboxes.{Settled};
 
 use copy_exchange::{Endpoint, endpoints};
@@ -12,7 +12,7 @@ use fork_join::Refused;
 use std::alloc::Global;
 
 /// Creates each worker's senders, one on the inbox of each other worker. Out of memory is the one error.
-pub fn set_out(
+pub fn make_endpoints(
     alloc: Global,
     inboxes: &[Inbox],
     takers: Vec<Taker>,
@@ -20,7 +20,7 @@ pub fn set_out(
     requires few { length inboxes.now ≤ 2 ^ 16 }
     requires settled { Settled inboxes.now takers.items }
     ensures together { IfOk result (λ endpoints. Together inboxes.now endpoints.items) }
-    ensures set_out { IfOk result (λ endpoints. AllZip SetsOut takers.items endpoints.items) }
+    ensures starts { IfOk result (λ endpoints. AllZip StartsAs takers.items endpoints.items) }
     ensures nothing { IfOk result (λ endpoints. Each HasPushedNothing endpoints.items) }
     ensures marked { IfOk result
         (λ endpoints. Each (λ taker. taker.state.marked ≡ true) takers.items → Each HasMarks endpoints.items) }

@@ -8,7 +8,7 @@ use Rattle.copy_inbox.specs.Handles.{InboxId, TakerView, SenderView}
 use Rattle.copy_exchange.specs.declared.endpoint.Endpoint.{Endpoint}
 use Rattle.copy_exchange.specs.Endpoints.{IsSeated, IsSenderOn, sender_to, senders_to}
 use Rattle.copy_exchange.specs.Steps.{AreTakersOf, AreSendersOn, GathersBack, TellsOf, gather_senders}
-use Rattle.copy_exchange.proofs.Homes.{Row, GathersRows, row_senders, pick}
+use Rattle.copy_exchange.proofs.AfterWindow.{Row, GathersRows, row_senders, pick}
 use Rattle.copy_exchange.proofs.Lists.{each_at}
 use Rattle.copy_exchange.proofs.Owns.{workers_of}
 

@@ -11,7 +11,7 @@ use Rattle.copy_exchange.specs.declared.endpoint.Endpoint.{Endpoint}
 use Rattle.copy_exchange.specs.Endpoints.{IsSeated, IsSenderOn, HasMarks, Stays, PushesMarks, sender_to, pushed_list, pushed_to, seat_of}
 use Rattle.copy_exchange.specs.Steps.{MarksOne, pushed_with_mark}
 use Rattle.copy_exchange.proofs.Delivered.{same_at, stays_on, with_sender}
-use Rattle.copy_exchange.proofs.Homes.{same_seat}
+use Rattle.copy_exchange.proofs.AfterWindow.{same_seat}
 
 -- ---- what a seat tells
 on_seat : (id : InboxId) (own : Bool) (o p : Option SenderView) → seat_of o ≡ seat_of p → IsSenderOn id own p → IsSenderOn id own o

@@ -14,7 +14,7 @@ use Rattle.copy_exchange.specs.declared.endpoint.Endpoint.{Endpoint}
 use Rattle.copy_exchange.specs.Endpoints.{IsEndpoint, IsSeated, IsSenderOn, Stays, AreOpen, Together, sender_to, senders_to}
 use Rattle.copy_exchange.proofs.Delivered.{seated}
 use Rattle.copy_exchange.proofs.Gathers.{numbers_of}
-use Rattle.copy_exchange.proofs.Homes.{same_workers, each_staying, open_staying}
+use Rattle.copy_exchange.proofs.AfterWindow.{same_workers, each_staying, open_staying}
 use Rattle.copy_exchange.proofs.Lists.{each_at, each_map}
 use Rattle.copy_exchange.proofs.Owns.{workers_of}
 

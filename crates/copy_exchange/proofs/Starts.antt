@@ -12,14 +12,14 @@ use Rattle.copy_inbox.specs.Views.{make_taker_state, make_sender_state}
 use Rattle.copy_inbox.specs.Handles.{InboxId, TakerView, SenderView, AllGathered}
 use Rattle.copy_exchange.specs.declared.endpoint.Endpoint.{Endpoint}
 use Rattle.copy_exchange.specs.Takers.{copies_pushed, IsOrderly}
-use Rattle.copy_exchange.specs.Endpoints.{IsEndpoint, IsSenderOn, AreOpen, Together, SetsOut, HasMarks, HasPushedNothing, senders_to, pushed_by, pushed_list}
+use Rattle.copy_exchange.specs.Endpoints.{IsEndpoint, IsSenderOn, AreOpen, Together, StartsAs, HasMarks, HasPushedNothing, senders_to, pushed_by, pushed_list}
 use Rattle.copy_exchange.specs.Inboxes.{IsSettled, Settled}
 use Rattle.copy_exchange.specs.Steps.{AreTakersOf, Opens, at_place, opened_taker, opened_sender}
 use Rattle.copy_exchange.proofs.Lists.{each_at, each_map, each_more}
 use Rattle.copy_exchange.proofs.Gathers.{numbers_of, gathered_more}
 use Rattle.copy_exchange.proofs.Owns.{workers_of}
 use Rattle.copy_exchange.proofs.Rows.{opened_takers, same_read}
-use Rattle.copy_exchange.proofs.Homes.{Row, row_senders}
+use Rattle.copy_exchange.proofs.AfterWindow.{Row, row_senders}
 
 -- ---- a taker that has made more senders
 abbrev pub with_more : TakerView → ℕ → TakerView
@@ -315,8 +315,8 @@ module _ (inboxes : List InboxId) (olds ts : List TakerView) (rows : List Row) (
     are_open = built_each (λ c. AreOpen (senders_to Made c.worker) c.taker.state) 0 ts rows row_long open_at;
   }
 
-  pub set_out : AllZip SetsOut olds Made
-  set_out = built_zip SetsOut 0 olds ts rows row_long (old_long ∙ sym h.takers.count) (λ i o t r lt.
+  pub starts : AllZip StartsAs olds Made
+  starts = built_zip StartsAs 0 olds ts rows row_long (old_long ∙ sym h.takers.count) (λ i o t r lt.
       let n = h.takers.count in
       let m = row_long in
       let inside : i < length inboxes = omega arith in

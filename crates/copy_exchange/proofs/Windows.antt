@@ -14,10 +14,10 @@ use Rattle.copy_exchange.specs.declared.endpoint.Endpoint.{Endpoint}
 use Rattle.window_laws.specs.Windows.{is_from_sender}
 use Rattle.copy_exchange.specs.Takers.{IsOrderly}
 use Rattle.worker_cut.specs.Crossed.{is_to}
-use Rattle.copy_exchange.specs.Endpoints.{IsEndpoint, DeliversOwn, Stays, Collects, Delivers, SetsOut, Returns, AllReturn, delivered, delivered_to}
+use Rattle.copy_exchange.specs.Endpoints.{IsEndpoint, DeliversOwn, Stays, Collects, Delivers, StartsAs, Returns, AllReturn, delivered, delivered_to}
 use Rattle.copy_exchange.specs.Inboxes.{IsFresh, IsSettled, Settled}
 use Rattle.copy_exchange.proofs.Delivered as step
-use Rattle.copy_exchange.proofs.Homes.{workers, count, owns}
+use Rattle.copy_exchange.proofs.AfterWindow.{workers, count, owns}
 use Rattle.copy_exchange.proofs.Owns.{workers_of, none_of_them}
 use Rattle.copy_exchange.proofs.Parts.{from, from-append}
 
@@ -69,9 +69,9 @@ filter_none p s (x ∷ xs) h = cases (is_from_sender s x) (p x) refl refl (filte
         ap (λ (q : Bool). from s (cond q (x ∷ filter p xs) (filter p xs))) f ∙ rest k
 
 -- an endpoint that set out, collected, and delivered copies of its own worker's motes is back
-pub returns_from : (inboxes : List InboxId) (of : List ℕ) (worker_of : ℕ → ℕ) (t : TakerView) (a b c : Endpoint) (arrived out : List RadioCopy) → SetsOut t a → Collects a b arrived → Delivers of b c out → IsEndpoint inboxes c
+pub returns_from : (inboxes : List InboxId) (of : List ℕ) (worker_of : ℕ → ℕ) (t : TakerView) (a b c : Endpoint) (arrived out : List RadioCopy) → StartsAs t a → Collects a b arrived → Delivers of b c out → IsEndpoint inboxes c
     → ((s : ℕ) → (worker_of s == a.worker) ≡ false → filter (is_from_sender s) out ≡ []) → Returns inboxes worker_of a c
-returns_from inboxes of worker_of t a b c arrived out set_out collects delivers endpoint own =
+returns_from inboxes of worker_of t a b c arrived out starts collects delivers endpoint own =
     let stays = stays_on a b c collects.stays delivers.stays in
     let P : TakerView → Type 0 = λ u. Whole u.state.gathered u.state.taken in
     record {
@@ -81,7 +81,7 @@ returns_from inboxes of worker_of t a b c arrived out set_out collects delivers 
       collected = subst P (sym delivers.taker) collects.all;
       own = λ s v other.
           let other' : (worker_of s == a.worker) ≡ false = ap (λ w. worker_of s == w) (sym stays.worker) ∙ other in
-          ap (from s) (delivers.adds v ∙ ap (λ l. l ++ filter (is_to of v) out) (collects.delivers_none v ∙ set_out.nothing v)) ∙ filter_none (is_to of v) s out (own s other');
+          ap (from s) (delivers.adds v ∙ ap (λ l. l ++ filter (is_to of v) out) (collects.delivers_none v ∙ starts.nothing v)) ∙ filter_none (is_to of v) s out (own s other');
     }
 
 -- ---- after a window

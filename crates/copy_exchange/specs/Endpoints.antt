@@ -131,7 +131,7 @@ pub record PushesMarks (workers window : ℕ) (old new : Endpoint) : Type 0 wher
 
 -- ---- the endpoints of one window
 -- the endpoint of this taker at the start of a window
-pub record SetsOut (t : TakerView) (c : Endpoint) : Type 0 where
+pub record StartsAs (t : TakerView) (c : Endpoint) : Type 0 where
   pub same_marked : c.taker.state.marked ≡ t.state.marked
   pub same_taken : c.taker.state.taken ≡ t.state.taken
   pub same_gathered : c.taker.state.gathered ≡ t.state.gathered
@@ -171,7 +171,7 @@ pub record AllReturn (inboxes : List InboxId) (endpoints : List Endpoint) : Type
   pub each : AllZip (Returns inboxes worker_of) before endpoints
 
 -- the taker of an endpoint after the window: it has gathered what all endpoints delivered to its worker
-pub record ComesHome (endpoints : List Endpoint) (c : Endpoint) (t : TakerView) : Type 0 where
+pub record GathersDelivered (endpoints : List Endpoint) (c : Endpoint) (t : TakerView) : Type 0 where
   pub same_marked : t.state.marked ≡ c.taker.state.marked
   pub same_taken : t.state.taken ≡ c.taker.state.taken
   pub adds : gathered_by t ≡ gathered_by c.taker ++ delivered_to endpoints c.worker

@@ -2,8 +2,8 @@
 
 ghost use Rattle.std.specs.Prelude.{◌≡◌, ◌≤◌, ◌^◌, true, length, map, IfOk, IfSome, OnOk};
 ghost use Rattle.std.specs.List.{AllByRecursion as Each, AllZip, range_with_len};
-ghost use Rattle.copy_exchange.specs.Endpoints.{IsSeated, Together, SetsOut, HasMarks, HasPushedNothing, AllReturn};
-ghost use Rattle.copy_exchange.specs.Endpoints.{ComesHome};
+ghost use Rattle.copy_exchange.specs.Endpoints.{IsSeated, Together, StartsAs, HasMarks, HasPushedNothing, AllReturn};
+ghost use Rattle.copy_exchange.specs.Endpoints.{GathersDelivered};
 ghost use Rattle.copy_exchange.specs.Inboxes.{IsPlain, Settled};
 ghost use Rattle.copy_exchange.specs.Steps.{AreTakersOf, Opens, opened_taker, opened_sender, AreSendersOn};
 ghost use Rattle.copy_exchange.specs.Steps.{gather_into, GathersRow, GathersBack, TellsOf};
@@ -22,7 +22,7 @@ pub fn endpoints(
     requires few { length inboxes.now ≤ 2 ^ 16 }
     requires settled { Settled inboxes.now takers.items }
     ensures together { IfOk result (λ endpoints. Together inboxes.now endpoints.items) }
-    ensures set_out { IfOk result (λ endpoints. AllZip SetsOut takers.items endpoints.items) }
+    ensures starts { IfOk result (λ endpoints. AllZip StartsAs takers.items endpoints.items) }
     ensures nothing { IfOk result (λ endpoints. Each HasPushedNothing endpoints.items) }
     ensures marked { IfOk result
         (λ endpoints. Each (λ taker. taker.state.marked ≡ true) takers.items → Each HasMarks endpoints.items) }
@@ -85,7 +85,7 @@ pub fn gathered<R: Wait>(
     requires { AllReturn inboxes.now endpoints.items }
     ensures settled { IfOk result (λ takers. Settled inboxes.now takers.items) }
     ensures plain { IfOk result (λ takers. Each IsPlain takers.items) }
-    ensures came_home { IfOk result (λ takers. AllZip (ComesHome endpoints.items) endpoints.items takers.items) }
+    ensures gathers_delivered { IfOk result (λ takers. AllZip (GathersDelivered endpoints.items) endpoints.items takers.items) }
 {
     gather_back(rt, alloc, inboxes, endpoints)
 }

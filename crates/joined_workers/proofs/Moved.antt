@@ -53,8 +53,8 @@ module _ (n : NetTold) (fine : RunsForward (system_of n)) (of : List ℕ) (from 
     first : (d : Worker) → slice_get all.done v ≡ Some d → IsFirstOf z.sent d.first_out
     to : (d : Worker) → slice_get all.done v ≡ Some d → (u : ℕ) → delivered d.endpoint u ≡ filter (is_to of u) z.sent
     keeps : (d : Worker) → slice_get all.done v ≡ Some d → Keeps n of v until z.next z.taken d.share
-    taken_home : (t : TakerView) → slice_get new.takers.items v ≡ Some t → taken_by t ≡ z.taken
-    home : (t : TakerView) → slice_get new.takers.items v ≡ Some t → gathered_by t ≡ z.gathered ++ delivered_to (map (λ (w : Worker). w.endpoint) all.done) v
+    taken_after : (t : TakerView) → slice_get new.takers.items v ≡ Some t → taken_by t ≡ z.taken
+    gathering : (t : TakerView) → slice_get new.takers.items v ≡ Some t → gathered_by t ≡ z.gathered ++ delivered_to (map (λ (w : Worker). w.endpoint) all.done) v
 
   up_to : from ≤ until
   up_to = omega arith
@@ -65,7 +65,7 @@ module _ (n : NetTold) (fine : RunsForward (system_of n)) (of : List ℕ) (from 
       of_piece : Piece n of from until old new at all v → (z : Told) × IsPart v z
       of_piece p =
           let w = window n of from until old new at all short up_to v p in
-          let gathered_is : gathered_by p.endpoint.taker ≡ gathered_by p.taker = ap copies_in p.set_out.same_gathered in (
+          let gathered_is : gathered_by p.endpoint.taker ≡ gathered_by p.taker = ap copies_in p.starts.same_gathered in (
             record { next = w.next; taken = taken_by p.done.endpoint.taker; gathered = gathered_by p.taker; sent = p.ran.sent },
             record {
               told = p.here.gathered;
@@ -77,11 +77,11 @@ module _ (n : NetTold) (fine : RunsForward (system_of n)) (of : List ℕ) (from 
               first = λ d e. subst (λ x. IsFirstOf p.ran.sent x.first_out) (same_found _ p.done d p.done_at e) p.ran.first;
               to = λ d e u.
                   ap (λ x. delivered x.endpoint u) (sym (same_found _ p.done d p.done_at e))
-                  ∙ (p.ran.delivers.adds u ∙ ap (λ l. l ++ filter (is_to of u) p.ran.sent) (p.ran.collects.delivers_none u ∙ p.set_out.nothing u));
+                  ∙ (p.ran.delivers.adds u ∙ ap (λ l. l ++ filter (is_to of u) p.ran.sent) (p.ran.collects.delivers_none u ∙ p.starts.nothing u));
               keeps = λ d e. subst (λ x. Keeps n of v until w.next (taken_by p.done.endpoint.taker) x.share) (same_found _ p.done d p.done_at e) w.keeps;
-              taken_home = λ t e. ap taken_by (sym (same_found _ p.home t p.home_at e)) ∙ ap copies_of p.came.same_taken;
-              home = λ t e.
-                  ap gathered_by (sym (same_found _ p.home t p.home_at e))
+              taken_after = λ t e. ap taken_by (sym (same_found _ p.gathering t p.gathering_at e)) ∙ ap copies_of p.came.same_taken;
+              gathering = λ t e.
+                  ap gathered_by (sym (same_found _ p.gathering t p.gathering_at e))
                   ∙ (p.came.adds
                   ∙ (ap (λ l. l ++ delivered_to (map (λ (x : Worker). x.endpoint) all.done) p.done.endpoint.worker)
                   (ap (λ x. gathered_by x) p.ran.delivers.taker ∙ (ap copies_in p.ran.collects.stays.gathered ∙ gathered_is))
@@ -141,7 +141,7 @@ module _ (n : NetTold) (fine : RunsForward (system_of n)) (of : List ℕ) (from 
 
   endpoints_long : length all.endpoints ≡ length old.shares.items
   endpoints_long =
-      as_long _ old.takers.items all.endpoints all.set_out ∙ (as_long _ old.inboxes.items old.takers.items at.settled ∙ sym at.shares)
+      as_long _ old.takers.items all.endpoints all.starts ∙ (as_long _ old.inboxes.items old.takers.items at.settled ∙ sym at.shares)
 
   done_long : length all.done ≡ workers
   done_long =
@@ -196,15 +196,15 @@ module _ (n : NetTold) (fine : RunsForward (system_of n)) (of : List ℕ) (from 
       let p = is_part v h in
       let is_share : get_or new.shares.items v share ≡ d.0.share = ap (λ l. get_or l v share) all.shares ∙ read _ v d.0.share share (mapped (λ (w : Worker). w.share) all.done v d.0 d.1) in
       let is_taker : get_or new.takers.items v taker ≡ t.0 = read new.takers.items v t.0 taker t.1 in
-      let gathers : (s : ℕ) → filter (is_from_sender s) (gathered_by t.0) ≡ filter (is_from_sender s) (gathered v) ++ out_to v s = λ s. ap (filter (is_from_sender s)) (p.home t.0 t.1) ∙ (filter-append (is_from_sender s) (gathered v) _ ∙ ap (λ l. filter (is_from_sender s) (gathered v) ++ l) (to_one v s)) in
+      let gathers : (s : ℕ) → filter (is_from_sender s) (gathered_by t.0) ≡ filter (is_from_sender s) (gathered v) ++ out_to v s = λ s. ap (filter (is_from_sender s)) (p.gathering t.0 t.1) ∙ (filter-append (is_from_sender s) (gathered v) _ ∙ ap (λ l. filter (is_from_sender s) (gathered v) ++ l) (to_one v s)) in
       subst (λ x. IsWorkerAt n of until after new.first_out v x (get_or new.takers.items v taker)) (sym is_share)
       (subst (λ x. IsWorkerAt n of until after new.first_out v d.0.share x) (sym is_taker) (record {
-        keeps = subst (λ x. Keeps n of v until after x d.0.share) (sym (p.taken_home t.0 t.1))
+        keeps = subst (λ x. Keeps n of v until after x d.0.share) (sym (p.taken_after t.0 t.1))
             (keeps_same n of v (nexts v) after (λ k m. next_is n fine of workers at.cut from until at.motes up short taken gathered sent nexts told took runs out goes v k m) until (taken v) d.0.share (p.keeps d.0 d.1));
         gathered = told_next n fine of workers at.cut from until at.motes up short taken gathered sent nexts told took runs out goes v h (gathered_by t.0) gathers;
         waits = λ s. record {
           rest = out_to v s;
-          all = gathers s ∙ ap (λ l. l ++ out_to v s) (sym (took v h s) ∙ ap (filter (is_from_sender s)) (sym (p.taken_home t.0 t.1)));
+          all = gathers s ∙ ap (λ l. l ++ out_to v s) (sym (took v h s) ∙ ap (filter (is_from_sender s)) (sym (p.taken_after t.0 t.1)));
           later = out_later v s (slice_get of s) refl;
         };
       }))

@@ -6,7 +6,7 @@ use Rattle.window_laws.specs.System.{RunsForward}
 use Rattle.window_laws.specs.Windows.{WakesFrom}
 use Rattle.net_agenda.specs.NetSystem.{system_of}
 use Rattle.copy_exchange.specs.declared.endpoint.Endpoint.{Endpoint}
-use Rattle.copy_exchange.specs.Endpoints.{Together, SetsOut, ComesHome}
+use Rattle.copy_exchange.specs.Endpoints.{Together, StartsAs, GathersDelivered}
 use Rattle.copy_exchange.specs.Inboxes.{Settled}
 use Rattle.all_workers.specs.declared.workers.Workers.{Workers}
 use Rattle.all_workers.specs.declared.worker.Worker.{Worker}
@@ -21,10 +21,10 @@ pub record RunsAll (n : NetTold) (of : List ℕ) (until : ℕ) (old new : Worker
   pub endpoints : List Endpoint
   pub done : List Worker
   pub together : Together old.inboxes.items endpoints
-  pub set_out : AllZip SetsOut old.takers.items endpoints
+  pub starts : AllZip StartsAs old.takers.items endpoints
   pub ran : AllZip (RunsWorker n of old.inboxes.items until) (map worker_of (zip old.shares.items endpoints)) done
   pub shares : new.shares.items ≡ map (λ worker. worker.share) done
-  pub home : AllZip (ComesHome (map (λ (worker : Worker). worker.endpoint) done))
+  pub gathering : AllZip (GathersDelivered (map (λ (worker : Worker). worker.endpoint) done))
       (map (λ (worker : Worker). worker.endpoint) done) new.takers.items
   pub settled : Settled new.inboxes.items new.takers.items
   pub inboxes : new.inboxes.items ≡ old.inboxes.items

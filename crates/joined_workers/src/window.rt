@@ -6,7 +6,7 @@ ghost use Rattle.fork_join.specs.declared.work.Refused.TheVariants.{Memory};
 ghost use Rattle.mote_net.specs.Net.{net_of};
 ghost use Rattle.net_agenda.specs.NetSystem.{system_of};
 ghost use Rattle.window_laws.specs.System.{RunsForward};
-ghost use Rattle.copy_exchange.specs.Endpoints.{AllReturn, ComesHome};
+ghost use Rattle.copy_exchange.specs.Endpoints.{AllReturn, GathersDelivered};
 ghost use Rattle.copy_exchange.specs.Inboxes.{IsPlain, Settled};
 ghost use Rattle.all_workers.specs.Workers.{IsAt};
 ghost use Rattle.joined_workers.specs.Laws.{RunsAll};
@@ -14,7 +14,7 @@ ghost use Rattle.joined_workers.specs.Worker.{IsReady, RunsWorker};
 
 use crate::next::first_of_all;
 use crate::worker::{WorkersWindow, Runner};
-use all_workers::{Worker, Workers, parted, set_out, workers_of};
+use all_workers::{Worker, Workers, parted, make_endpoints, workers_of};
 use copy_exchange::{Endpoint, gathered};
 use copy_inbox::{Inbox, Taker};
 use fork_join::{Refused, fork_join};
@@ -26,7 +26,7 @@ use std::thread::Threads;
 use window_run::Gate;
 
 /// After a window: each worker's taker, which has gathered what was delivered to it. Out of memory is the one error.
-fn come_home<R: Wait>(
+fn gather_endpoints<R: Wait>(
     rt: &R,
     alloc: Global,
     inboxes: &[Inbox],
@@ -35,7 +35,7 @@ fn come_home<R: Wait>(
     requires { AllReturn inboxes.now endpoints.items }
     ensures settled { IfOk result (λ takers. Settled inboxes.now takers.items) }
     ensures plain { IfOk result (λ takers. Each IsPlain takers.items) }
-    ensures came_home { IfOk result (λ takers. AllZip (ComesHome endpoints.items) endpoints.items takers.items) }
+    ensures gathers_delivered { IfOk result (λ takers. AllZip (GathersDelivered endpoints.items) endpoints.items takers.items) }
     ensures refused { IfErr result (λ reason. reason ≡ Memory) }
 {
     match gathered(rt, alloc, inboxes, endpoints) {
@@ -89,7 +89,7 @@ where
         takers,
         first_out: _,
     } = group;
-    let endpoints = set_out(alloc, &inboxes, takers)?;
+    let endpoints = make_endpoints(alloc, &inboxes, takers)?;
     let workers = workers_of(alloc, shares, endpoints)?;
     let window = WorkersWindow {
         net,
@@ -100,7 +100,7 @@ where
     let done = run_together(rt, alloc, workers, window, gate)?;
     let first_out = first_of_all(&done);
     let (shares, endpoints) = parted(alloc, done)?;
-    let takers = come_home(rt, alloc, &inboxes, endpoints)?;
+    let takers = gather_endpoints(rt, alloc, &inboxes, endpoints)?;
     Ok(Workers {
         shares,
         inboxes,

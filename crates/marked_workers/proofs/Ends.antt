@@ -15,7 +15,7 @@ use Rattle.copy_inbox.specs.Views.{make_taker_state}
 use Rattle.copy_exchange.specs.Takers.{taken_by, gathered_by, IsOrderly}
 use Rattle.copy_exchange.specs.Inboxes.{IsSettled}
 use Rattle.copy_exchange.proofs.Gathers.{OneOf, with_joined, gather_is}
-use Rattle.copy_exchange.proofs.Homes.{zip_each}
+use Rattle.copy_exchange.proofs.AfterWindow.{zip_each}
 use Rattle.copy_exchange.proofs.Parts.{from}
 use Rattle.mark_exchange.specs.Pushes.{packets_in}
 use Rattle.mark_exchange.proofs.Early.{packets_pushes}

@@ -8,7 +8,7 @@ use Rattle.copy_inbox.specs.declared.rule.TakerState.{TakerState}
 use Rattle.copy_inbox.specs.Handles.{InboxId, TakerView}
 use Rattle.copy_inbox.specs.Views.{make_taker_state}
 use Rattle.copy_exchange.specs.declared.endpoint.Endpoint.{Endpoint}
-use Rattle.copy_exchange.specs.Endpoints.{HasMarks, HasPushedNothing, IsEndpoint, SetsOut, Together}
+use Rattle.copy_exchange.specs.Endpoints.{HasMarks, HasPushedNothing, IsEndpoint, StartsAs, Together}
 use Rattle.copy_exchange.specs.Inboxes.{IsFresh}
 use Rattle.copy_exchange.proofs.Delivered.{seated}
 use Rattle.copy_exchange.proofs.Open.{made_for_others}
@@ -32,32 +32,32 @@ same_endpoints (s ∷ ss) [] long = absurd (omega arith)
 same_endpoints (s ∷ ss) (c ∷ cs) long = ap (λ l. c ∷ l) (same_endpoints ss cs (omega arith))
 
 -- endpoints that set out, of takers that have neither taken nor gathered anything
-module _ (inboxes : List InboxId) (takers : List TakerView) (fresh : AllZip IsFresh inboxes takers) (endpoints : List Endpoint) (together : Together inboxes endpoints) (set_out : AllZip SetsOut takers endpoints) where
+module _ (inboxes : List InboxId) (takers : List TakerView) (fresh : AllZip IsFresh inboxes takers) (endpoints : List Endpoint) (together : Together inboxes endpoints) (starts : AllZip StartsAs takers endpoints) where
   endpoints_long : length endpoints ≡ length inboxes
-  endpoints_long = as_long SetsOut takers endpoints set_out ∙ as_long IsFresh inboxes takers fresh
+  endpoints_long = as_long StartsAs takers endpoints starts ∙ as_long IsFresh inboxes takers fresh
 
   -- the taker of an endpoint, before it set out
   record Taker (v : ℕ) (c : Endpoint) : Type 0 where
     taker : TakerView
     is_fresh : taker.state ≡ make_taker_state taker.state.marked 0 [] []
-    sets_out : SetsOut taker c
+    starts_as : StartsAs taker c
 
   its_taker : (v : ℕ) (c : Endpoint) → slice_get endpoints v ≡ Some c → Taker v c
   its_taker v c at =
       let low : v < length inboxes = subst (λ l. v < l) endpoints_long (inside endpoints v c at) in
       let t = there takers v (subst (λ l. v < l) (sym (as_long IsFresh inboxes takers fresh)) low) in
-      let b = beside SetsOut takers endpoints set_out v t.0 t.1 in
+      let b = beside StartsAs takers endpoints starts v t.0 t.1 in
       record {
         taker = t.0;
         is_fresh = subst (λ (x : TakerView). x.state ≡ make_taker_state x.state.marked 0 [] []) (read takers v t.0 t.0 t.1) (fresh_at inboxes takers fresh v t.0 low);
-        sets_out = subst (SetsOut t.0) (same_found (slice_get endpoints v) b.0 c b.1 at) b.2;
+        starts_as = subst (StartsAs t.0) (same_found (slice_get endpoints v) b.0 c b.1 at) b.2;
       }
 
   none_taken : (v : ℕ) (c : Endpoint) → slice_get endpoints v ≡ Some c → c.taker.state.taken ≡ []
-  none_taken v c at = let t = its_taker v c at in t.sets_out.same_taken ∙ ap (λ (d : TakerState). d.taken) t.is_fresh
+  none_taken v c at = let t = its_taker v c at in t.starts_as.same_taken ∙ ap (λ (d : TakerState). d.taken) t.is_fresh
 
   none_gathered : (v : ℕ) (c : Endpoint) → slice_get endpoints v ≡ Some c → c.taker.state.gathered ≡ []
-  none_gathered v c at = let t = its_taker v c at in t.sets_out.same_gathered ∙ ap (λ (d : TakerState). d.gathered) t.is_fresh
+  none_gathered v c at = let t = its_taker v c at in t.starts_as.same_gathered ∙ ap (λ (d : TakerState). d.gathered) t.is_fresh
 
   all_none_gathered : Each (λ (c : Endpoint). c.taker.state.gathered ≡ []) endpoints
   all_none_gathered = each_from (λ (c : Endpoint). c.taker.state.gathered ≡ []) endpoints none_gathered
@@ -85,11 +85,11 @@ module _ (inboxes : List InboxId) (takers : List TakerView) (fresh : AllZip IsFr
 
   -- the endpoints of the workers that were made of them
   module _ (shares : List Share) (count : length shares ≡ length inboxes) where
-    set_out_with : endpoints_of (map worker_of (zip shares endpoints)) ≡ endpoints
-    set_out_with = same_endpoints shares endpoints (endpoints_long ∙ sym count)
+    start_with : endpoints_of (map worker_of (zip shares endpoints)) ≡ endpoints
+    start_with = same_endpoints shares endpoints (endpoints_long ∙ sym count)
 
     pub together_first : Together inboxes (endpoints_of (map worker_of (zip shares endpoints)))
-    together_first = subst (Together inboxes) (sym set_out_with) together
+    together_first = subst (Together inboxes) (sym start_with) together
 
     pub none_gathered_first : Each (λ (c : Endpoint). c.taker.state.gathered ≡ []) (endpoints_of (map worker_of (zip shares endpoints)))
-    none_gathered_first = subst (Each (λ (c : Endpoint). c.taker.state.gathered ≡ [])) (sym set_out_with) all_none_gathered
+    none_gathered_first = subst (Each (λ (c : Endpoint). c.taker.state.gathered ≡ [])) (sym start_with) all_none_gathered

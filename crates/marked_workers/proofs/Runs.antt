@@ -15,7 +15,7 @@ use Rattle.copy_exchange.specs.declared.endpoint.Endpoint.{Endpoint}
 use Rattle.copy_exchange.specs.Endpoints.{IsSeated, Stays, Together, pushed_list, pushed_to, senders_to}
 use Rattle.copy_exchange.specs.Steps.{TellsOf, gather_senders}
 use Rattle.copy_exchange.proofs.Gathers.{gather_is}
-use Rattle.copy_exchange.proofs.Homes.{same_workers}
+use Rattle.copy_exchange.proofs.AfterWindow.{same_workers}
 use Rattle.copy_exchange.proofs.Open.{SendersOfOthers, are_senders, sender_of, sender_is}
 use Rattle.worker_window.specs.declared.share.Share.{Share}
 use Rattle.all_workers.specs.declared.workers.Workers.{Workers}
@@ -58,19 +58,19 @@ module _ (n : NetTold) (of : List ℕ) (width : ℕ) (old new : Workers) (cut : 
   abbrev ids : List InboxId
   ids = new.inboxes.items
 
-  abbrev set_out : List Endpoint
-  set_out = endpoints_of ran.first
+  abbrev starts : List Endpoint
+  starts = endpoints_of ran.first
 
   abbrev back : List Endpoint
   back = endpoints_of ran.done
 
   first_long : length ran.first ≡ length ids
-  first_long = sym (length-map ran.first (λ (x : Worker). x.endpoint)) ∙ (sym (length-map set_out (λ (c : Endpoint). c.worker)) ∙ (ap length ran.together.workers ∙ length-range_with_len 0 (length ids)))
+  first_long = sym (length-map ran.first (λ (x : Worker). x.endpoint)) ∙ (sym (length-map starts (λ (c : Endpoint). c.worker)) ∙ (ap length ran.together.workers ∙ length-range_with_len 0 (length ids)))
 
   done_long : length ran.done ≡ length ids
   done_long = as_long _ ran.first ran.done ran.ran ∙ first_long
 
-  stays : AllZip Stays set_out back
+  stays : AllZip Stays starts back
   stays = all_stay n of width (windows_of width n.end) ids ran.first ran.done ran.ran
 
   seated : Each (IsSeated ids) back
@@ -80,7 +80,7 @@ module _ (n : NetTold) (of : List ℕ) (width : ℕ) (old new : Workers) (cut : 
   module _ (v : ℕ) (low : v < length ids) (w : Worker) (at_first : slice_get ran.first v ≡ Some w) (d : Worker) (at_done : slice_get ran.done v ≡ Some d)
       (has_run : RunsAllWindows n of width (windows_of width n.end) ids w d) (t : TakerView) (at_taker : slice_get new.takers.items v ≡ Some t) where
     its : w.endpoint.worker ≡ v
-    its = numbered (length ids) set_out ran.together.workers v low w.endpoint (mapped (λ (x : Worker). x.endpoint) ran.first v w at_first)
+    its = numbered (length ids) starts ran.together.workers v low w.endpoint (mapped (λ (x : Worker). x.endpoint) ran.first v w at_first)
 
     at_back : slice_get back v ≡ Some d.endpoint
     at_back = mapped (λ (x : Worker). x.endpoint) ran.done v d at_done
@@ -106,7 +106,7 @@ module _ (n : NetTold) (of : List ℕ) (width : ℕ) (old new : Workers) (cut : 
       before = d.endpoint.taker;
       promise = promise;
       senders = senders_to back v;
-      are_senders = of_others (length ids) v (sender_of back v) d.endpoint.taker.state.made (senders_to back v) (are_senders ids set_out back ran.together ran.none_gathered stays seated v d.endpoint at_back);
+      are_senders = of_others (length ids) v (sender_of back v) d.endpoint.taker.state.made (senders_to back v) (are_senders ids starts back ran.together ran.none_gathered stays seated v d.endpoint at_back);
       begun = every_weaker (λ (s : SenderView). TellsOf d.endpoint.taker.state s.state) (λ (s : SenderView). BeginsWith s.state.pushed (part s.state.number d.endpoint.taker.state.taken)) (λ s h. h.begun) (senders_to back v) (ran.back.told v d.endpoint at_back);
       gathered = taker_is;
     }

@@ -19,7 +19,7 @@ ghost use Rattle.marked_workers.specs.Thread.{IsFirst, RunsAllWindows};
 
 use crate::thread::MarkRunner;
 use crate::worker::WorkersRun;
-use all_workers::{Worker, Workers, lookahead_of, parted, set_out, window_length, workers_of};
+use all_workers::{Worker, Workers, lookahead_of, parted, make_endpoints, window_length, workers_of};
 use copy_exchange::{Endpoint, gather_back};
 use copy_inbox::{Inbox, Taker};
 use fork_join::{Refused, fork_join};
@@ -32,7 +32,7 @@ use std::thread::Threads;
 use window_run::Gate;
 
 /// At the end: each worker's taker, which has gathered the senders on its inbox. Out of memory is the one error.
-fn come_home<R: Wait>(
+fn gather_endpoints<R: Wait>(
     rt: &R,
     alloc: Global,
     inboxes: &[Inbox],
@@ -97,7 +97,7 @@ where
         takers,
         first_out: _,
     } = group;
-    let endpoints = set_out(alloc, &inboxes, takers)?;
+    let endpoints = make_endpoints(alloc, &inboxes, takers)?;
     let workers = workers_of(alloc, shares, endpoints)?;
     let stop = AtomicBool::new(false);
     let run = WorkersRun {
@@ -109,7 +109,7 @@ where
     };
     let done = run_together(rt, alloc, workers, run, gate)?;
     let (shares, endpoints) = parted(alloc, done)?;
-    let takers = come_home(rt, alloc, &inboxes, endpoints)?;
+    let takers = gather_endpoints(rt, alloc, &inboxes, endpoints)?;
     Ok(Workers {
         shares,
         inboxes,

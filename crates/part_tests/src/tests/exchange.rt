@@ -3,7 +3,7 @@
 ghost use Rattle.std.specs.Prelude.{◌≡◌, ◌≤◌, ◌+◌, length, IfOk};
 ghost use Rattle.std.specs.List.{AllByRecursion as Each};
 ghost use Rattle.copy_inbox.specs.Handles.{TakerView};
-ghost use Rattle.copy_exchange.specs.Endpoints.{IsEndpoint, SetsOut, Returns};
+ghost use Rattle.copy_exchange.specs.Endpoints.{IsEndpoint, StartsAs, Returns};
 ghost use Rattle.copy_exchange.specs.Inboxes.{IsPlain, IsSettled, Settled};
 
 use super::{same_text, write_copies, write_rest};
@@ -42,7 +42,7 @@ fn through<R: Wait>(
     requires endpoint { IsEndpoint inboxes.now endpoint }
     requires plain { IsPlain endpoint.taker }
     requires out { Each (λ copy. (copy.sender ≡ endpoint.worker) × (copy.to + endpoint.worker ≡ 1)) out.now }
-    ensures { IfOk result (λ back. (t : TakerView) → SetsOut t endpoint → Returns inboxes.now (λ s. s) endpoint back) }
+    ensures { IfOk result (λ back. (t : TakerView) → StartsAs t endpoint → Returns inboxes.now (λ s. s) endpoint back) }
 {
     let mut endpoint = endpoint;
     let taken = endpoint.collect(rt, inboxes)?;

@@ -6,9 +6,9 @@ use Rattle.std.proofs.lemmas.Iterator.Consumers.{YieldsList-turn, YieldsList-end
 use Rattle.std.proofs.lemmas.Slice.Zip.{length-zip}
 use Rattle.copy_inbox.specs.Handles.{TakerView}
 use Rattle.copy_exchange.specs.declared.endpoint.Endpoint.{Endpoint}
-use Rattle.copy_exchange.specs.Endpoints.{Together, SetsOut, HasMarks, HasPushedNothing}
-use Rattle.copy_exchange.proofs.Homes.{Row}
-use Rattle.copy_exchange.proofs.Starts.{opens_no_rows, opens_more_rows, built, built_more, together, set_out, pushed_nothing, has_marks}
+use Rattle.copy_exchange.specs.Endpoints.{Together, StartsAs, HasMarks, HasPushedNothing}
+use Rattle.copy_exchange.proofs.AfterWindow.{Row}
+use Rattle.copy_exchange.proofs.Starts.{opens_no_rows, opens_more_rows, built, built_more, together, starts, pushed_nothing, has_marks}
 use Rattle.copy_exchange.proofs.window.endpoints.Goals as goal
 use Rattle.copy_exchange.proofs.window.endpoints.Goals.{After-drop-taker-iterator-2}
 
@@ -119,14 +119,14 @@ returns-clause-together c =
     let P : List Endpoint → Type 0 = λ l. Together c.args.inboxes.now l in
     subst P (sym (all_built c)) (together c.args.inboxes.now c.args.takers.items c.loop-worker.takers.items c.loop-worker.rows.items c.requires.settled c.loop-worker.invariant.opened (omega arith))
 
-pub returns-clause-set_out : goal.returns-clause-set_out
-returns-clause-set_out c =
+pub returns-clause-starts : goal.returns-clause-starts
+returns-clause-starts c =
     let over = c.loop-worker-test.false in
     let most = c.loop-worker.auto.worker-end in
     let long = c.loop-worker.invariant.long in
     let is : vec_len c.loop-worker.rows ≡ length c.loop-worker.rows.items = search rules in
-    let P : List Endpoint → Type 0 = λ l. AllZip SetsOut c.args.takers.items l in
-    subst P (sym (all_built c)) (set_out c.args.inboxes.now c.args.takers.items c.loop-worker.takers.items c.loop-worker.rows.items c.requires.settled c.loop-worker.invariant.opened (omega arith))
+    let P : List Endpoint → Type 0 = λ l. AllZip StartsAs c.args.takers.items l in
+    subst P (sym (all_built c)) (starts c.args.inboxes.now c.args.takers.items c.loop-worker.takers.items c.loop-worker.rows.items c.requires.settled c.loop-worker.invariant.opened (omega arith))
 
 pub returns-clause-nothing : goal.returns-clause-nothing
 returns-clause-nothing c =

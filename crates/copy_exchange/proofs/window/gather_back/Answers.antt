@@ -5,7 +5,7 @@ use Rattle.copy_inbox.specs.Handles.{TakerView}
 use Rattle.copy_exchange.specs.declared.endpoint.Endpoint.{Endpoint}
 use Rattle.copy_exchange.specs.Steps.{AreTakersOf}
 use Rattle.copy_exchange.proofs.Back.{start_takers, row_fits, gathers_back}
-use Rattle.copy_exchange.proofs.Homes.{Row, GathersRows, no_rows, more_rows, takers_after}
+use Rattle.copy_exchange.proofs.AfterWindow.{Row, GathersRows, no_rows, more_rows, takers_after}
 use Rattle.copy_exchange.proofs.window.gather_back.Goals as goal
 use Rattle.copy_exchange.proofs.window.gather_back.Goals.{After-drop-senders-iterator}
 

@@ -3,10 +3,10 @@ use Rattle.std.specs.List.{AllByRecursion as Each, AllZip}
 use Rattle.std.specs.declared.alloc.Global.{Global}
 use Rattle.std.proofs.lemmas.Result.{IfOk-weaker}
 use Rattle.copy_inbox.specs.Handles.{TakerView}
-use Rattle.copy_exchange.specs.Endpoints.{ComesHome}
+use Rattle.copy_exchange.specs.Endpoints.{GathersDelivered}
 use Rattle.copy_exchange.specs.Inboxes.{IsPlain, Settled}
 use Rattle.copy_exchange.specs.Steps.{GathersBack}
-use Rattle.copy_exchange.proofs.Homes.{workers, all_seated, settled, plain_home, came_home}
+use Rattle.copy_exchange.proofs.AfterWindow.{workers, all_seated, settled, plain_after, gathers_delivered}
 use Rattle.copy_exchange.proofs.window.gathered.Goals as goal
 
 pub gather_back-requires-clause-workers : goal.gather_back-requires-clause-workers
@@ -26,12 +26,12 @@ pub returns-clause-plain : goal.returns-clause-plain
 returns-clause-plain g c = IfOk-weaker c.gather_back.result
     (λ (ts : Vec TakerView Global). GathersBack c.args.endpoints.items ts.items)
     (λ (ts : Vec TakerView Global). Each IsPlain ts.items)
-    (λ ts back. plain_home c.args.inboxes.now c.args.endpoints.items c.requires ts.items back)
+    (λ ts back. plain_after c.args.inboxes.now c.args.endpoints.items c.requires ts.items back)
     c.gather_back.ensures
 
-pub returns-clause-came_home : goal.returns-clause-came_home
-returns-clause-came_home g c = IfOk-weaker c.gather_back.result
+pub returns-clause-gathers_delivered : goal.returns-clause-gathers_delivered
+returns-clause-gathers_delivered g c = IfOk-weaker c.gather_back.result
     (λ (ts : Vec TakerView Global). GathersBack c.args.endpoints.items ts.items)
-    (λ (ts : Vec TakerView Global). AllZip (ComesHome c.args.endpoints.items) c.args.endpoints.items ts.items)
-    (λ ts back. came_home c.args.inboxes.now c.args.endpoints.items c.requires ts.items back)
+    (λ (ts : Vec TakerView Global). AllZip (GathersDelivered c.args.endpoints.items) c.args.endpoints.items ts.items)
+    (λ ts back. gathers_delivered c.args.inboxes.now c.args.endpoints.items c.requires ts.items back)
     c.gather_back.ensures

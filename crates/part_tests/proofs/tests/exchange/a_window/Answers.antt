@@ -4,7 +4,7 @@ use Rattle.std.specs.List.{AllByRecursion as Each, AllZip, range_with_len}
 use Rattle.radio_packet.specs.declared.copy.RadioCopy.{RadioCopy}
 use Rattle.copy_inbox.specs.Handles.{InboxId, TakerView}
 use Rattle.copy_exchange.specs.declared.endpoint.Endpoint.{Endpoint}
-use Rattle.copy_exchange.specs.Endpoints.{IsEndpoint, SetsOut, Together, Returns, AllReturn}
+use Rattle.copy_exchange.specs.Endpoints.{IsEndpoint, StartsAs, Together, Returns, AllReturn}
 use Rattle.copy_exchange.specs.Inboxes.{IsPlain}
 use Rattle.copy_exchange.proofs.Lists.{each_map}
 use Rattle.part_tests.proofs.tests.exchange.a_window.Goals as goal
@@ -33,25 +33,25 @@ pair_of inboxes cs mid (x ∷ xs) a b two all e f =
     ∙ ap length (all.workers ∙ ap (range_with_len 0) two) in
     absurd (omega arith)
 
-set_outs : (ts : List TakerView) (a b : Endpoint) → AllZip SetsOut ts (a ∷ b ∷ []) → ((t : TakerView) × SetsOut t a)
-    × ((t : TakerView) × SetsOut t b)
-set_outs [] a b h = absurd h
-set_outs (t ∷ []) a b h = absurd h.1
-set_outs (t ∷ u ∷ us) a b h = ((t, h.0), (u, h.1.0))
+both_start : (ts : List TakerView) (a b : Endpoint) → AllZip StartsAs ts (a ∷ b ∷ []) → ((t : TakerView) × StartsAs t a)
+    × ((t : TakerView) × StartsAs t b)
+both_start [] a b h = absurd h
+both_start (t ∷ []) a b h = absurd h.1
+both_start (t ∷ u ∷ us) a b h = ((t, h.0), (u, h.1.0))
 
-plains : (ts : List TakerView) (a b : Endpoint) → Each IsPlain ts → AllZip SetsOut ts (a ∷ b ∷ []) → IsPlain a.taker
+plains : (ts : List TakerView) (a b : Endpoint) → Each IsPlain ts → AllZip StartsAs ts (a ∷ b ∷ []) → IsPlain a.taker
     × IsPlain b.taker
 plains [] a b p h = absurd h
 plains (t ∷ []) a b p h = absurd h.1
 plains (t ∷ u ∷ us) a b p h = (h.0.same_marked ∙ p.0, h.1.0.same_marked ∙ p.1.0)
 
 returned : (inboxes : List InboxId) (ts : List TakerView) (cs back : List Endpoint) (a b a' b' : Endpoint)
-    → Together inboxes cs → AllZip SetsOut ts cs → cs ≡ a ∷ b ∷ []
-    → ((t : TakerView) → SetsOut t a → Returns inboxes (λ s. s) a a')
-    → ((t : TakerView) → SetsOut t b → Returns inboxes (λ s. s) b b') → back ≡ a' ∷ b' ∷ []
+    → Together inboxes cs → AllZip StartsAs ts cs → cs ≡ a ∷ b ∷ []
+    → ((t : TakerView) → StartsAs t a → Returns inboxes (λ s. s) a a')
+    → ((t : TakerView) → StartsAs t b → Returns inboxes (λ s. s) b b') → back ≡ a' ∷ b' ∷ []
     → AllReturn inboxes back
 returned inboxes ts cs back a b a' b' all out is ran ran' e =
-    let s = set_outs ts a b (subst (λ (l : List Endpoint). AllZip SetsOut ts l) is out) in
+    let s = both_start ts a b (subst (λ (l : List Endpoint). AllZip StartsAs ts l) is out) in
     let P : List Endpoint → Type 0 = λ l. AllZip (Returns inboxes (λ s. s)) (a ∷ b ∷ []) l in
     record {
       before = a ∷ b ∷ [];
@@ -77,8 +77,8 @@ through-requires-clause-plain g c =
     c.in-Some-Some.first c.in-Some-Some.second c.requires.two c.in_ok-endpoints.ensures.together
     c.in-Some-Some.ensures.items c.in-Some-Some.ensures'.items in
     (plains c.args.takers.items _ _ c.requires.plain
-    (subst (λ (l : List Endpoint). AllZip SetsOut c.args.takers.items l) pair.is
-    c.in_ok-endpoints.ensures.set_out)).0
+    (subst (λ (l : List Endpoint). AllZip StartsAs c.args.takers.items l) pair.is
+    c.in_ok-endpoints.ensures.starts)).0
 
 pub through-requires-2-clause-plain : goal.through-requires-2-clause-plain
 through-requires-2-clause-plain g c =
@@ -86,8 +86,8 @@ through-requires-2-clause-plain g c =
     c.in-Some-Some.first c.in-Some-Some.second c.requires.two c.in_ok-endpoints.ensures.together
     c.in-Some-Some.ensures.items c.in-Some-Some.ensures'.items in
     (plains c.args.takers.items _ _ c.requires.plain
-    (subst (λ (l : List Endpoint). AllZip SetsOut c.args.takers.items l) pair.is
-    c.in_ok-endpoints.ensures.set_out)).1
+    (subst (λ (l : List Endpoint). AllZip StartsAs c.args.takers.items l) pair.is
+    c.in_ok-endpoints.ensures.starts)).1
 
 pub through-requires-2-clause-endpoint : goal.through-requires-2-clause-endpoint
 through-requires-2-clause-endpoint g c =
@@ -115,7 +115,7 @@ gathered-requires g c =
     c.in-Some-Some.ensures.items c.in-Some-Some.ensures'.items in
     returned c.args.inboxes.now c.args.takers.items c.in_ok-endpoints.endpoints.items c.push_reserved-2.new.self.items
     c.in-Some-Some.first c.in-Some-Some.second c.in_ok-first.first c.in_ok-second.second
-    c.in_ok-endpoints.ensures.together c.in_ok-endpoints.ensures.set_out pair.is c.in_ok-first.ensures
+    c.in_ok-endpoints.ensures.together c.in_ok-endpoints.ensures.starts pair.is c.in_ok-first.ensures
     c.in_ok-second.ensures
     (c.push_reserved-2.ensures.items ∙ ap (λ l. l ++ c.in_ok-second.second ∷ [])
     (c.push_reserved.ensures.items ∙ ap (λ l. l ++ c.in_ok-first.first ∷ []) c.in_ok-back.ensures.items))

@@ -45,9 +45,9 @@ deliver-requires-clause-leaves g c =
     subst (λ (k : ℕ). Each (Leaves (0 ∷ 1 ∷ []) (length c.args.inboxes.now) k) c.in_ok-sent.sent.items) (sym same) all
 
 pub returns : goal.returns
-returns g c t set_out =
+returns g c t starts =
     let across = subst (Each (Across c.args.endpoint.worker)) (sym c.in_ok-sent.ensures.items) c.requires.out in
     returns_from c.args.inboxes.now (0 ∷ 1 ∷ []) (λ s. s) t c.args.endpoint c.collect.new.self c.deliver.new.self
-    c.in_ok-taken.taken.items c.in_ok-sent.sent.items set_out
+    c.in_ok-taken.taken.items c.in_ok-sent.sent.items starts
     c.in_ok-taken.ensures.collects c.in_ok-deliver.ensures.delivers c.in_ok-deliver.ensures.endpoint
     (λ s other. own s c.args.endpoint.worker c.in_ok-sent.sent.items other across)

@@ -13,7 +13,7 @@ use Rattle.copy_inbox.specs.Gathered.{is_gathered}
 use Rattle.copy_inbox.specs.Handles.{InboxId, TakerView, SenderView, after_gather, AllGathered, PacketsLeft}
 use Rattle.copy_exchange.specs.declared.endpoint.Endpoint.{Endpoint}
 use Rattle.copy_exchange.specs.Takers.{copies_in, IsOrderly}
-use Rattle.copy_exchange.specs.Endpoints.{IsEndpoint, IsSeated, IsCollected, DeliversOwn, Stays, AreOpen, Returns, AllReturn, ComesHome, sender_to, senders_to, seat_of}
+use Rattle.copy_exchange.specs.Endpoints.{IsEndpoint, IsSeated, IsCollected, DeliversOwn, Stays, AreOpen, Returns, AllReturn, GathersDelivered, sender_to, senders_to, seat_of}
 use Rattle.copy_exchange.specs.Inboxes.{IsPlain, IsSettled, Settled}
 use Rattle.copy_exchange.specs.Steps.{AreTakersOf, GathersRow, GathersBack, TellsOf, gather_into, gather_senders, at_place}
 use Rattle.copy_exchange.proofs.Gathers.{gather_is, with_joined, numbers_of, joined_copies, all_gathered, stands_then, packets_then, OneOf}
@@ -131,14 +131,14 @@ module _ (inboxes : List InboxId) (cs : List Endpoint) (back : AllReturn inboxes
   abbrev IsDone : Endpoint → Type 0
   IsDone c = IsCollected c × IsPlain c.taker
 
-  abbrev pub IsHome : Endpoint → Type 0
-  IsHome c = IsEndpoint inboxes c × (IsOrderly (with_all c).state × AllGathered (with_all c).state) × ComesHome cs c (with_all c) × IsDone c
+  abbrev pub HasEnded : Endpoint → Type 0
+  HasEnded c = IsEndpoint inboxes c × (IsOrderly (with_all c).state × AllGathered (with_all c).state) × GathersDelivered cs c (with_all c) × IsDone c
 
-  home : (c : Endpoint) → AreOpen (senders_to cs c.worker) c.taker.state → IsEndpoint inboxes c → IsDone c → IsHome c
-  home c are_open endpoint done =
+  ended : (c : Endpoint) → AreOpen (senders_to cs c.worker) c.taker.state → IsEndpoint inboxes c → IsDone c → HasEnded c
+  ended c are_open endpoint done =
       let ss : List SenderView = senders_to cs c.worker in
       let d : TakerState = c.taker.state in
-      let P : TakerView → Type 0 = λ t. (IsOrderly t.state × AllGathered t.state) × ComesHome cs c t in
+      let P : TakerView → Type 0 = λ t. (IsOrderly t.state × AllGathered t.state) × GathersDelivered cs c t in
       let then_ : P (record { inbox = c.taker.inbox; state = with_joined ss d }) = (
         (stands_then ss d endpoint.stands done.0 are_open (λ s. one s c.worker), all_gathered ss d endpoint.stands done.0 are_open (λ s. one s c.worker)),
         record {
@@ -150,12 +150,12 @@ module _ (inboxes : List InboxId) (cs : List Endpoint) (back : AllReturn inboxes
       let both = subst P (sym (gather_is c.taker ss)) then_ in
       (endpoint, both.0, both.1, done)
 
-  pub homes : Each IsHome cs
-  homes = each_three (λ c. AreOpen (senders_to cs c.worker) c.taker.state) (IsEndpoint inboxes) IsDone IsHome home cs still_open
+  pub all_ended : Each HasEnded cs
+  all_ended = each_three (λ c. AreOpen (senders_to cs c.worker) c.taker.state) (IsEndpoint inboxes) IsDone HasEnded ended cs still_open
       (each_back inboxes back.worker_of (IsEndpoint inboxes) (λ a b r. r.endpoint) before cs back.each)
       (each_back inboxes back.worker_of IsDone (λ a b r. (r.collected, r.plain)) before cs back.each)
 
-  pub settled_at : (c : Endpoint) → IsHome c → Each (λ (s : SenderView). TellsOf c.taker.state s.state) (senders_to cs c.worker) → IsSettled c.taker.inbox (with_all c)
+  pub settled_at : (c : Endpoint) → HasEnded c → Each (λ (s : SenderView). TellsOf c.taker.state s.state) (senders_to cs c.worker) → IsSettled c.taker.inbox (with_all c)
   settled_at c h told =
       let ss : List SenderView = senders_to cs c.worker in
       let is = gather_is c.taker ss in
@@ -247,8 +247,8 @@ module _ (inboxes : List InboxId) (cs : List Endpoint) (back : AllReturn inboxes
   long : length cs ≡ length inboxes
   long = count inboxes cs back
 
-  picked : (v : ℕ) → v < length cs → (c : Endpoint) × (c.worker ≡ 0 + v) × ((t : TakerView) → get_or (map (λ (x : Endpoint). x.taker) cs) v t ≡ c.taker) × ((d : Endpoint) → get_or cs v d ≡ c) × IsHome inboxes cs back c
-  picked v lt = pick (IsHome inboxes cs back) 0 cs (workers inboxes cs back ∙ ap (range_with_len 0) (sym long)) (homes inboxes cs back) v lt
+  picked : (v : ℕ) → v < length cs → (c : Endpoint) × (c.worker ≡ 0 + v) × ((t : TakerView) → get_or (map (λ (x : Endpoint). x.taker) cs) v t ≡ c.taker) × ((d : Endpoint) → get_or cs v d ≡ c) × HasEnded inboxes cs back c
+  picked v lt = pick (HasEnded inboxes cs back) 0 cs (workers inboxes cs back ∙ ap (range_with_len 0) (sym long)) (all_ended inboxes cs back) v lt
 
   inbox_of : (v : ℕ) (id : InboxId) (lt : v < length cs) → (picked v lt).0.taker.inbox ≡ get_or inboxes v id
   inbox_of v id lt =
@@ -286,14 +286,14 @@ module _ (inboxes : List InboxId) (cs : List Endpoint) (back : AllReturn inboxes
     still_marked : (t : TakerView) (ss : List SenderView) → (gather_senders t ss).state.marked ≡ t.state.marked
     still_marked t ss = ap (λ (u : TakerView). u.state.marked) (gather_is t ss)
 
-    pub plain_home : Each IsPlain ts
-    plain_home = each_from IsPlain ts (λ v t lt.
+    pub plain_after : Each IsPlain ts
+    plain_after = each_from IsPlain ts (λ v t lt.
         let n = h.count in
         let inside : v < length cs = omega arith in
         let p = picked v inside in
         ap (λ (u : TakerView). u.state.marked) (taker_is v t inside) ∙ (still_marked p.0.taker (senders_to cs p.0.worker) ∙ p.4.3.1))
 
-    pub came_home : AllZip (ComesHome cs) cs ts
-    came_home = zip_each (ComesHome cs) cs ts h.count (λ v d t lt.
-        let P : Endpoint × TakerView → Type 0 = λ x. ComesHome cs x.0 x.1 in
+    pub gathers_delivered : AllZip (GathersDelivered cs) cs ts
+    gathers_delivered = zip_each (GathersDelivered cs) cs ts h.count (λ v d t lt.
+        let P : Endpoint × TakerView → Type 0 = λ x. GathersDelivered cs x.0 x.1 in
         subst P (λ i. (sym ((picked v lt).3 d) i, sym (taker_is v t lt) i)) (picked v lt).4.2)
