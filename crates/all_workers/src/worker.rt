@@ -40,7 +40,7 @@ pub fn workers_of(
 }
 
 /// The workers' shares, and their takers and senders.
-pub fn parted(alloc: Global, workers: Vec<Worker>) -> Result<(Vec<Share>, Vec<Endpoint>), Refused>
+pub fn split_workers(alloc: Global, workers: Vec<Worker>) -> Result<(Vec<Share>, Vec<Endpoint>), Refused>
     ensures shares { IfOk result (λ r. r.0.items ≡ map (λ worker. worker.share) workers.items) }
     ensures endpoints { IfOk result (λ r. r.1.items ≡ map (λ worker. worker.endpoint) workers.items) }
     ensures refused { IfErr result (λ reason. reason ≡ Memory) }

@@ -38,7 +38,7 @@ fn make_inbox(alloc: Global, marked: bool) -> Result<(Inbox, Taker), InboxError>
 }
 
 /// The inboxes, and their takers.
-pub fn parted(
+pub fn split_pairs(
     alloc: Global,
     pairs: Vec<(Inbox, Taker)>,
 ) -> Result<(Vec<Inbox>, Vec<Taker>), InboxError>
@@ -55,7 +55,7 @@ pub fn parted(
 }
 
 /// Each inbox with its taker.
-pub fn paired(
+pub fn pair_inboxes(
     alloc: Global,
     inboxes: Vec<Inbox>,
     takers: Vec<Taker>,

@@ -7,5 +7,5 @@ mod inboxes;
 mod window;
 
 pub use endpoint::Endpoint;
-pub use inboxes::{known, make_inboxes, paired, parted};
-pub use window::{endpoints, gather_back, gathered};
+pub use inboxes::{known, make_inboxes, pair_inboxes, split_pairs};
+pub use window::{endpoints, gather_back, gather_window};

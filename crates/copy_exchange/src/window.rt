@@ -76,7 +76,7 @@ fn sender_on(inbox: &Inbox, taker: &mut Taker, own: bool) -> Result<Option<Sende
 
 /// After a window, when all endpoints are back: each worker's taker gathers what was delivered to it. The inboxes have
 /// no marks.
-pub fn gathered<R: Wait>(
+pub fn gather_window<R: Wait>(
     rt: &R,
     alloc: Global,
     inboxes: &[Inbox],
@@ -102,7 +102,7 @@ pub fn gather_back<R: Wait>(
     requires seated { Each (IsSeated inboxes.now) endpoints.items }
     ensures { IfOk result (λ takers. GathersBack endpoints.items takers.items) }
 {
-    let (mut takers, rows) = unloaded(alloc, endpoints)?;
+    let (mut takers, rows) = split_endpoints(alloc, endpoints)?;
     for senders in rows {
         gather_all(rt, inboxes, &mut takers, senders);
     }
@@ -113,7 +113,7 @@ pub fn gather_back<R: Wait>(
 type Rows = Vec<Vec<Option<Sender>>>;
 
 // The takers of the endpoints, and their senders.
-fn unloaded(alloc: Global, endpoints: Vec<Endpoint>) -> Result<(Vec<Taker>, Rows), InboxError>
+fn split_endpoints(alloc: Global, endpoints: Vec<Endpoint>) -> Result<(Vec<Taker>, Rows), InboxError>
     ensures takers { IfOk result (λ r. r.0.items ≡ map (λ endpoint. endpoint.taker) endpoints.items) }
     ensures rows { IfOk result (λ r. r.1.items ≡ map (λ endpoint. endpoint.senders) endpoints.items) }
 {

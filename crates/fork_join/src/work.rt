@@ -1,7 +1,7 @@
 //! What a worker does in its thread.
 
 ghost use Rattle.std.specs.Prelude.{◌≡◌};
-ghost use Rattle.fork_join.specs.Told.{graver, told};
+ghost use Rattle.fork_join.specs.Gravest.{graver, gravest};
 
 use std::alloc::{AllocError, AllocFailed};
 
@@ -29,8 +29,8 @@ impl Refused {
 }
 
 /// The reason that is told, once there is one more.
-pub(crate) fn told(so_far: Option<Refused>, other: Refused) -> Refused
-    ensures { result ≡ told so_far other }
+pub(crate) fn gravest(so_far: Option<Refused>, other: Refused) -> Refused
+    ensures { result ≡ gravest so_far other }
 {
     match so_far {
         Some(first) => first.graver(other),

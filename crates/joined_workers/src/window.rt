@@ -14,8 +14,8 @@ ghost use Rattle.joined_workers.specs.Worker.{IsReady, RunsWorker};
 
 use crate::next::first_of_all;
 use crate::worker::{WorkersWindow, Runner};
-use all_workers::{Worker, Workers, parted, make_endpoints, workers_of};
-use copy_exchange::{Endpoint, gathered};
+use all_workers::{Worker, Workers, split_workers, make_endpoints, workers_of};
+use copy_exchange::{Endpoint, gather_window};
 use copy_inbox::{Inbox, Taker};
 use fork_join::{Refused, fork_join};
 use mote_net::Net;
@@ -38,7 +38,7 @@ fn gather_endpoints<R: Wait>(
     ensures gathers_delivered { IfOk result (λ takers. AllZip (GathersDelivered endpoints.items) endpoints.items takers.items) }
     ensures refused { IfErr result (λ reason. reason ≡ Memory) }
 {
-    match gathered(rt, alloc, inboxes, endpoints) {
+    match gather_window(rt, alloc, inboxes, endpoints) {
         Ok(takers) => Ok(takers),
         Err(_) => Err(Refused::Memory),
     }
@@ -99,7 +99,7 @@ where
     };
     let done = run_together(rt, alloc, workers, window, gate)?;
     let first_out = first_of_all(&done);
-    let (shares, endpoints) = parted(alloc, done)?;
+    let (shares, endpoints) = split_workers(alloc, done)?;
     let takers = gather_endpoints(rt, alloc, &inboxes, endpoints)?;
     Ok(Workers {
         shares,

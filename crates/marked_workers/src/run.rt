@@ -19,7 +19,7 @@ ghost use Rattle.marked_workers.specs.Thread.{IsFirst, RunsAllWindows};
 
 use crate::thread::MarkRunner;
 use crate::worker::WorkersRun;
-use all_workers::{Worker, Workers, lookahead_of, parted, make_endpoints, window_length, workers_of};
+use all_workers::{Worker, Workers, lookahead_of, split_workers, make_endpoints, window_length, workers_of};
 use copy_exchange::{Endpoint, gather_back};
 use copy_inbox::{Inbox, Taker};
 use fork_join::{Refused, fork_join};
@@ -108,7 +108,7 @@ where
         stop: &stop,
     };
     let done = run_together(rt, alloc, workers, run, gate)?;
-    let (shares, endpoints) = parted(alloc, done)?;
+    let (shares, endpoints) = split_workers(alloc, done)?;
     let takers = gather_endpoints(rt, alloc, &inboxes, endpoints)?;
     Ok(Workers {
         shares,

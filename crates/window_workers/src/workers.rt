@@ -23,7 +23,7 @@ use crate::refusal::of_refused;
 use crate::sync::SyncKind;
 use crate::traces::joined_traces;
 use all_workers::Workers;
-use copy_exchange::{make_inboxes, paired, parted};
+use copy_exchange::{make_inboxes, pair_inboxes, split_pairs};
 use copy_inbox::{Inbox, Taker};
 use joined_workers::run_windows;
 use marked_workers::run_marked;
@@ -38,7 +38,7 @@ use window_run::Gate;
 use worker_cut::Cut;
 
 /// What the workers have to tell at the end, and their inboxes. `of` tells the worker of each mote.
-fn told(
+fn make_report(
     alloc: Global,
     net: &Net,
     of: &[u16],
@@ -61,7 +61,7 @@ fn told(
         takers,
         first_out: _,
     } = group;
-    let Ok(pairs) = paired(alloc, inboxes, takers) else {
+    let Ok(pairs) = pair_inboxes(alloc, inboxes, takers) else {
         return Err(RunError::Memory);
     };
     let ended = end_all(alloc, shares)?;
@@ -160,14 +160,14 @@ where
     if let Some(fault) = fault_of(net.motes(), pairs.len(), of) {
         return Err(fault);
     }
-    let Ok((inboxes, takers)) = parted(alloc, pairs) else {
+    let Ok((inboxes, takers)) = split_pairs(alloc, pairs) else {
         return Err(RunError::Memory);
     };
     let Ok(group) = Workers::start(alloc, net, of, inboxes, takers) else {
         return Err(RunError::Memory);
     };
     let group = run_by_kind(rt, alloc, net, of, cut.longest, sync, gate, group)?;
-    told(alloc, net, of, group)
+    make_report(alloc, net, of, group)
 }
 
 /// The report of a net, by so many workers, each in threads of its own: that of one thread, whatever the cut, and

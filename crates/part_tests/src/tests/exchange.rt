@@ -7,7 +7,7 @@ ghost use Rattle.copy_exchange.specs.Endpoints.{IsEndpoint, StartsAs, Returns};
 ghost use Rattle.copy_exchange.specs.Inboxes.{IsPlain, IsSettled, Settled};
 
 use super::{same_text, write_copies, write_rest};
-use copy_exchange::{Endpoint, endpoints, gathered, known, make_inboxes, paired, parted};
+use copy_exchange::{Endpoint, endpoints, gather_window, known, make_inboxes, pair_inboxes, split_pairs};
 use copy_inbox::{Inbox, InboxError, Taker};
 use radio_packet::RadioCopy;
 use std::alloc::{AllocError, Global};
@@ -80,7 +80,7 @@ fn a_window<R: Wait>(
     let mut back = Vec::with_capacity(alloc, 2)?;
     back.push_reserved(first);
     back.push_reserved(second);
-    gathered(rt, alloc, inboxes, back)
+    gather_window(rt, alloc, inboxes, back)
 }
 
 /// Writes down how many copies are known in each inbox.
@@ -140,9 +140,9 @@ fn write_all_left<R: Wait>(
 
 /// Writes down what two new inboxes give in two windows, and when they end.
 fn write_windows<R: Wait>(rt: &R, alloc: Global, text: &mut String) -> Result<(), InboxError> {
-    let (inboxes, takers) = parted(alloc, make_inboxes(alloc, 2, false)?)?;
+    let (inboxes, takers) = split_pairs(alloc, make_inboxes(alloc, 2, false)?)?;
     let takers = two_turns(rt, alloc, text, &inboxes, takers)?;
-    write_all_left(rt, text, paired(alloc, inboxes, takers)?)
+    write_all_left(rt, text, pair_inboxes(alloc, inboxes, takers)?)
 }
 
 /// What is delivered in one window is taken in the next, and nothing else: not what the other worker delivers

@@ -72,21 +72,21 @@ run_by_kind-requires-clause-first g c κs within =
 pub returns-clause-traces : goal.returns-clause-traces
 returns-clause-traces g c =
     let n = net_of c.args.net.now in
-    if_ok (λ (r : Report × Vec Pair Global). IsReportOf n (report_of r.0)) (λ (r : Report × Vec Pair Global). vec_len r.0.traces ≡ length n.motes) c.told.result (λ r h. long_as r.0.traces ∙ one_trace_each n r.0 h) c.told.ensures.report
+    if_ok (λ (r : Report × Vec Pair Global). IsReportOf n (report_of r.0)) (λ (r : Report × Vec Pair Global). vec_len r.0.traces ≡ length n.motes) c.make_report.result (λ r h. long_as r.0.traces ∙ one_trace_each n r.0 h) c.make_report.ensures.report
 
 pub returns-clause-handed_on : goal.returns-clause-handed_on
 returns-clause-handed_on g c =
     let n = net_of c.args.net.now in
-    if_ok (λ (r : Report × Vec Pair Global). IsReportOf n (report_of r.0)) (λ (r : Report × Vec Pair Global). All (λ (v : Vec Line Global). IsInOrder v.items) r.0.traces.items) c.told.result (λ r h. all_hand_on n r.0 h) c.told.ensures.report
+    if_ok (λ (r : Report × Vec Pair Global). IsReportOf n (report_of r.0)) (λ (r : Report × Vec Pair Global). All (λ (v : Vec Line Global). IsInOrder v.items) r.0.traces.items) c.make_report.result (λ r h. all_hand_on n r.0 h) c.make_report.ensures.report
 
 pub returns-clause-carried : goal.returns-clause-carried
 returns-clause-carried g c =
     let n = net_of c.args.net.now in
-    subst (λ l. IfOk c.told.result (λ (r : Report × Vec Pair Global). AllCarried n l (report_of r.0) r.1.items)) c.as_slice-of.ensures.value c.told.ensures.carried
+    subst (λ l. IfOk c.make_report.result (λ (r : Report × Vec Pair Global). AllCarried n l (report_of r.0) r.1.items)) c.as_slice-of.ensures.value c.make_report.ensures.carried
 
 pub returns-clause-none_known : goal.returns-clause-none_known
 returns-clause-none_known g c =
     let group = c.in_ok-group.group in
     let NoneKnown : List Pair → Type 0 = Each (λ (pair : Pair). known_of pair.1.state.gathered pair.1.state.taken ≡ 0) in
-    if_ok (λ (r : Report × Vec Pair Global). r.1.items ≡ zip group.inboxes.items group.takers.items) (λ (r : Report × Vec Pair Global). c.args.sync ≡ Marks → NoneKnown r.1.items) c.told.result
-    (λ r e marks. subst NoneKnown (sym e) (none_known group.inboxes.items group.takers.items (c.in_ok-group.ensures.all_taken marks))) c.told.ensures.pairs
+    if_ok (λ (r : Report × Vec Pair Global). r.1.items ≡ zip group.inboxes.items group.takers.items) (λ (r : Report × Vec Pair Global). c.args.sync ≡ Marks → NoneKnown r.1.items) c.make_report.result
+    (λ r e marks. subst NoneKnown (sym e) (none_known group.inboxes.items group.takers.items (c.in_ok-group.ensures.all_taken marks))) c.make_report.ensures.pairs

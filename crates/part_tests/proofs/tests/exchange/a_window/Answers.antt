@@ -108,8 +108,8 @@ through-requires-2-clause-out g c =
     × (copy.to + c.in-Some-Some.second.worker ≡ 1)) c.args.out_of_second.now
     (λ copy h. let s = h.0 in let t = h.1 in (omega arith, omega arith)) c.requires.second
 
-pub gathered-requires : goal.gathered-requires
-gathered-requires g c =
+pub gather_window-requires : goal.gather_window-requires
+gather_window-requires g c =
     let pair = pair_of c.args.inboxes.now c.in_ok-endpoints.endpoints.items c.pop.new.self.items c.pop-2.new.self.items
     c.in-Some-Some.first c.in-Some-Some.second c.requires.two c.in_ok-endpoints.ensures.together
     c.in-Some-Some.ensures.items c.in-Some-Some.ensures'.items in

@@ -1,6 +1,6 @@
 use Rattle.std.proofs.Common.{◌≡◌, ◌≤◌, length, map, vec_len, vec_capacity}
 use Rattle.copy_inbox.specs.Handles.{InboxId, TakerView}
-use Rattle.copy_exchange.proofs.inboxes.parted.Given as goal
+use Rattle.copy_exchange.proofs.inboxes.split_pairs.Given as goal
 
 abbrev pub invariant-loop-inbox : goal.invariant-loop-inbox
 invariant-loop-inbox l = record {

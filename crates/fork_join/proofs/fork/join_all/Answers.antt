@@ -2,7 +2,7 @@ use Rattle.std.proofs.Common.{rules, ◌≡◌, sym, ◌∙◌, map-id, vec_len,
 use Rattle.std.proofs.lemmas.Iterator.Adapters.{YieldsList-from_vec}
 use Rattle.std.proofs.lemmas.Iterator.Consumers.{YieldsList-end}
 use Rattle.fork_join.proofs.Zips.{push_zip}
-use Rattle.fork_join.proofs.fork.joined.Goals as goal
+use Rattle.fork_join.proofs.fork.join_all.Goals as goal
 
 pub loop-handle-preserved-in_default : goal.loop-handle-preserved-in_default
 loop-handle-preserved-in_default g c = λ going. rw c.in_default.ensures.items (push_zip _ c.loop-handle.yielded c.loop-handle.done.items c.in-Some.handle c.in-Ok.worker (c.loop-handle.invariant going) c.in-Ok.ensures)

@@ -5,8 +5,8 @@ use Rattle.std.proofs.lemmas.Result.{IfOk-weaker}
 use Rattle.std.specs.List.{AllZip}
 use Rattle.fork_join.specs.Kept.{Handle, AllKept, AllPromised}
 use Rattle.fork_join.proofs.Zips.{push_zip, zip_zip}
-use Rattle.fork_join.proofs.fork.forked.Goals as goal
-use Rattle.fork_join.proofs.fork.forked.Goals.{In-None-refused, in-None, in-Some+then-not-may_start, in-Some+else-not-may_start+in_default, in-Some+else-not-may_start+in-Ok+in-Err}
+use Rattle.fork_join.proofs.fork.fork_all.Goals as goal
+use Rattle.fork_join.proofs.fork.fork_all.Goals.{In-None-refused, in-None, in-Some+then-not-may_start, in-Some+else-not-may_start+in_default, in-Some+else-not-may_start+in-Ok+in-Err}
 
 pub loop-worker-preserved : goal.loop-worker-preserved
 loop-worker-preserved g c = record {
@@ -36,5 +36,5 @@ one_answer makes work worker handle done h k = rw (h.0, h.1) at k
 pub returns-in-None-refused : goal.returns-in-None-refused
 returns-in-None-refused g c =
     let makes = g.W.Work.makes in
-    IfOk-weaker c.joined-done.result (λ done. AllKept makes c.match-next.started.items done.items) (λ done. AllZip (makes c.args.work.now) c.args.workers.items done.items)
-    (λ done kept. zip_zip _ _ _ (one_answer makes c.args.work.now) c.args.workers.items c.match-next.started.items done.items (all_started g c) kept) c.joined-done.ensures
+    IfOk-weaker c.join_all-done.result (λ done. AllKept makes c.match-next.started.items done.items) (λ done. AllZip (makes c.args.work.now) c.args.workers.items done.items)
+    (λ done kept. zip_zip _ _ _ (one_answer makes c.args.work.now) c.args.workers.items c.match-next.started.items done.items (all_started g c) kept) c.join_all-done.ensures

@@ -7,7 +7,7 @@ use Rattle.copy_exchange.specs.Endpoints.{GathersDelivered}
 use Rattle.copy_exchange.specs.Inboxes.{IsPlain, Settled}
 use Rattle.copy_exchange.specs.Steps.{GathersBack}
 use Rattle.copy_exchange.proofs.AfterWindow.{workers, all_seated, settled, plain_after, gathers_delivered}
-use Rattle.copy_exchange.proofs.window.gathered.Goals as goal
+use Rattle.copy_exchange.proofs.window.gather_window.Goals as goal
 
 pub gather_back-requires-clause-workers : goal.gather_back-requires-clause-workers
 gather_back-requires-clause-workers g c = workers c.args.inboxes.now c.args.endpoints.items c.requires

@@ -2,7 +2,7 @@ use Rattle.std.proofs.Common.{rules, ◌≡◌, length, vec_len, sym, ap, ◌∙
 use Rattle.std.proofs.lemmas.Iterator.{YieldsList-from_zip}
 use Rattle.std.proofs.lemmas.Iterator.Adapters.{YieldsList-from_vec}
 use Rattle.std.proofs.lemmas.Iterator.Consumers.{YieldsList-end}
-use Rattle.copy_exchange.proofs.inboxes.paired.Goals as goal
+use Rattle.copy_exchange.proofs.inboxes.pair_inboxes.Goals as goal
 
 pub returns : goal.returns
 returns c =

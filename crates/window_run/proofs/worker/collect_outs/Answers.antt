@@ -5,7 +5,7 @@ use Rattle.std.proofs.lemmas.Iterator.Consumers.{YieldsList-end}
 use Rattle.window_run.specs.Slots.{is_done}
 use Rattle.window_run.proofs.Workers.{rest_done}
 use Rattle.window_run.proofs.Zips.{push_zip}
-use Rattle.window_run.proofs.worker.gathered.Goals as goal
+use Rattle.window_run.proofs.worker.collect_outs.Goals as goal
 
 pub loop-slot-preserved : goal.loop-slot-preserved
 loop-slot-preserved g c = record {

@@ -1,6 +1,6 @@
 use Rattle.std.proofs.Common.{◌≡◌, None}
 use Rattle.fork_join.specs.Kept.{AllKept}
-use Rattle.fork_join.proofs.fork.joined.Given as goal
+use Rattle.fork_join.proofs.fork.join_all.Given as goal
 
 -- while nothing has failed, each answer was kept
 abbrev pub invariant-loop-handle : goal.invariant-loop-handle

@@ -1,5 +1,5 @@
 use Rattle.std.proofs.Common.{◌≡◌, ◌≤◌, length, vec_len, vec_capacity}
-use Rattle.copy_exchange.proofs.inboxes.paired.Given as goal
+use Rattle.copy_exchange.proofs.inboxes.pair_inboxes.Given as goal
 
 abbrev pub invariant-loop-pair : goal.invariant-loop-pair
 invariant-loop-pair l = record {

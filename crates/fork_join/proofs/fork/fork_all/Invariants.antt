@@ -1,6 +1,6 @@
 use Rattle.std.proofs.Common.{◌≡◌, None}
 use Rattle.fork_join.specs.Kept.{AllPromised}
-use Rattle.fork_join.proofs.fork.forked.Given as goal
+use Rattle.fork_join.proofs.fork.fork_all.Given as goal
 
 abbrev pub invariant-loop-worker : goal.invariant-loop-worker
 invariant-loop-worker g l = record {

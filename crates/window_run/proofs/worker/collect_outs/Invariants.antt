@@ -2,7 +2,7 @@ use Rattle.std.proofs.Common.{◌≡◌, true}
 use Rattle.std.specs.List.{list_all}
 use Rattle.std.specs.Vec.Iter.{into_iter_items}
 use Rattle.window_run.specs.Slots.{SlotsGive, is_done}
-use Rattle.window_run.proofs.worker.gathered.Given as goal
+use Rattle.window_run.proofs.worker.collect_outs.Given as goal
 
 abbrev pub invariant-loop-slot : goal.invariant-loop-slot
 invariant-loop-slot g l = record {

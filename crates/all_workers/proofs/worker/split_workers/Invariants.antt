@@ -1,6 +1,6 @@
 use Rattle.std.proofs.Common.{◌≡◌, map}
 use Rattle.all_workers.specs.declared.worker.Worker.{Worker}
-use Rattle.all_workers.proofs.worker.parted.Given as goal
+use Rattle.all_workers.proofs.worker.split_workers.Given as goal
 
 abbrev pub invariant-loop-worker : goal.invariant-loop-worker
 invariant-loop-worker l = record {

@@ -9,6 +9,6 @@ graver Memory other = Memory
 graver Thread other = Thread
 graver Stopped other = other
 
-abbrev pub told : (so_far : Option Refused) → (other : Refused) → Refused
-told None other = other
-told (Some first) other = graver first other
+abbrev pub gravest : (so_far : Option Refused) → (other : Refused) → Refused
+gravest None other = other
+gravest (Some first) other = graver first other

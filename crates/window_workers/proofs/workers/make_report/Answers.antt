@@ -13,7 +13,7 @@ use Rattle.window_workers.proofs.ByWorkers.{told_is, all_carried}
 use Rattle.window_workers.proofs.Joined.{all_fates, all_places, workers_there}
 use Rattle.window_workers.proofs.Logs.{as_many, places_kept, traces_kept}
 use Rattle.window_workers.proofs.Pairs.{each_zip, firsts}
-use Rattle.window_workers.proofs.workers.told.Goals as goal
+use Rattle.window_workers.proofs.workers.make_report.Goals as goal
 
 pub left_of_all-requires : goal.left_of_all-requires
 left_of_all-requires c =
