@@ -10,7 +10,7 @@ use fork_join::Refused;
 use std::alloc::Global;
 use worker_window::Share;
 
-/// A worker: its share of the net, and its taker and senders.
+/// A worker: its share of the net, and its endpoint: its taker and senders.
 #[derive(Drop)]
 pub struct Worker {
     pub share: Share,
@@ -40,7 +40,10 @@ pub fn workers_of(
 }
 
 /// The workers' shares, and their takers and senders.
-pub fn split_workers(alloc: Global, workers: Vec<Worker>) -> Result<(Vec<Share>, Vec<Endpoint>), Refused>
+pub fn split_workers(
+    alloc: Global,
+    workers: Vec<Worker>,
+) -> Result<(Vec<Share>, Vec<Endpoint>), Refused>
     ensures shares { IfOk result (λ r. r.0.items ≡ map (λ worker. worker.share) workers.items) }
     ensures endpoints { IfOk result (λ r. r.1.items ≡ map (λ worker. worker.endpoint) workers.items) }
     ensures refused { IfErr result (λ reason. reason ≡ Memory) }

@@ -1,4 +1,4 @@
--- The senders on an inbox, where endpoints set out once for the whole run.
+-- The senders on an inbox, where endpoints are made once for the whole run.
 use Rattle.std.proofs.Common.{◌≡◌, ◌≢◌, ℕ, zero, suc, ◌+◌, ◌<◌, ◌≤◌, ◌==◌, Bool, true, false, eqb, List, [], ◌∷◌, length, map, get_or, slice_get, Option, Some, None, refl, sym, ap, ◌∙◌, subst, ⊎_elim, arith, eq-eqb, ne_eqb, option_map}
 use Rattle.std.specs.List.{AllByRecursion as Each, AllZip, cons_option, filter_map, range_with_len}
 use Rattle.std.specs.Option.{option_map_or}

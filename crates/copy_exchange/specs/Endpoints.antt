@@ -1,4 +1,4 @@
--- What an endpoint carries to and fro in one window.
+-- What goes through workers' endpoints in one window.
 use Rattle.std.specs.Prelude.{◌≡◌, ℕ, ◌+◌, ◌<◌, ◌≤◌, ◌==◌, Bool, true, false, List, [], ◌∷◌, ◌++◌, length, map, filter}
 use Rattle.std.specs.Prelude.{slice_get, slice_index, slice_index_or, Option, Some, None}
 use Rattle.std.specs.List.{AllByRecursion as Each, AllZip, filter_map, flat_map, range_with_len}
@@ -155,7 +155,7 @@ pub record Together (inboxes : List InboxId) (endpoints : List Endpoint) : Type 
   pub each : Each (IsEndpoint inboxes) endpoints
   pub are_open : Each (λ (c : Endpoint). AreOpen (senders_to endpoints c.worker) c.taker.state) endpoints
 
--- an endpoint is back at the end of the window
+-- an endpoint at the end of the window
 pub record Returns (inboxes : List InboxId) (worker_of : ℕ → ℕ) (old new : Endpoint) : Type 0 where
   pub stays : Stays old new
   pub endpoint : IsEndpoint inboxes new
@@ -163,7 +163,7 @@ pub record Returns (inboxes : List InboxId) (worker_of : ℕ → ℕ) (old new :
   pub collected : IsCollected new
   pub own : DeliversOwn worker_of new
 
--- the endpoints that set out together are back
+-- the endpoints that were made together, at the end of the window
 pub record AllReturn (inboxes : List InboxId) (endpoints : List Endpoint) : Type 0 where
   pub before : List Endpoint
   pub together : Together inboxes before

@@ -1,4 +1,4 @@
-//! What a worker takes along into its thread.
+//! A worker's endpoint of the exchange: its taker, and its senders on the inboxes of the others.
 
 ghost use Rattle.std.specs.Prelude.{[], ◌∷◌, ◌<◌, true, length, IfOk, IfSome, OnOk, OnErr, ◌≡◌};
 ghost use Rattle.std.specs.List.{AllByRecursion as Each};

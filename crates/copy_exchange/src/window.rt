@@ -74,8 +74,7 @@ fn sender_on(inbox: &Inbox, taker: &mut Taker, own: bool) -> Result<Option<Sende
     Ok(Some(sender))
 }
 
-/// After a window, when all endpoints are back: each worker's taker gathers what was delivered to it. The inboxes have
-/// no marks.
+/// After a window: each worker's taker gathers what was delivered to it. The inboxes have no marks.
 pub fn gather_window<R: Wait>(
     rt: &R,
     alloc: Global,
@@ -85,12 +84,12 @@ pub fn gather_window<R: Wait>(
     requires { AllReturn inboxes.now endpoints.items }
     ensures settled { IfOk result (λ takers. Settled inboxes.now takers.items) }
     ensures plain { IfOk result (λ takers. Each IsPlain takers.items) }
-    ensures gathers_delivered { IfOk result (λ takers. AllZip (GathersDelivered endpoints.items) endpoints.items takers.items) }
+    ensures gathers { IfOk result (λ takers. AllZip (GathersDelivered endpoints.items) endpoints.items takers.items) }
 {
     gather_back(rt, alloc, inboxes, endpoints)
 }
 
-/// When all endpoints are back: each worker's taker gathers the senders on its inbox, one after another, in the order of
+/// After the workers have run: each worker's taker gathers the senders on its inbox, one after another, in the order of
 /// the workers.
 pub fn gather_back<R: Wait>(
     rt: &R,
@@ -113,7 +112,10 @@ pub fn gather_back<R: Wait>(
 type Rows = Vec<Vec<Option<Sender>>>;
 
 // The takers of the endpoints, and their senders.
-fn split_endpoints(alloc: Global, endpoints: Vec<Endpoint>) -> Result<(Vec<Taker>, Rows), InboxError>
+fn split_endpoints(
+    alloc: Global,
+    endpoints: Vec<Endpoint>,
+) -> Result<(Vec<Taker>, Rows), InboxError>
     ensures takers { IfOk result (λ r. r.0.items ≡ map (λ endpoint. endpoint.taker) endpoints.items) }
     ensures rows { IfOk result (λ r. r.1.items ≡ map (λ endpoint. endpoint.senders) endpoints.items) }
 {

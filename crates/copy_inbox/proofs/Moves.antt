@@ -191,7 +191,7 @@ takes_as pass v d is = subst (λ (u : View). Pops InboxRule pass u (Took u)) (sy
 pub learns : (pass : ℕ) (v : View) → Learns InboxRule pass v (SeenBy v)
 learns pass v items views h at = (views, pass, h, at)
 
--- what a step told, of a taker's state
+-- what a step tells of a taker's state
 abbrev pub SoundWith : TakerState → List Item → Type 0
 SoundWith d items = (seat : ℕ → Option ℕ) × (pushed : ℕ → List Carried) × Sound d seat pushed items
 

@@ -1,9 +1,9 @@
--- Which of several reasons is told, where several workers gave up.
+-- Which of several reasons is reported, where several workers gave up.
 use Rattle.std.specs.Prelude.{Option, Some, None}
 use Rattle.fork_join.specs.declared.work.Refused.{Refused}
 use Rattle.fork_join.specs.declared.work.Refused.TheVariants.{Memory, Thread, Stopped}
 
--- who stopped did so for another, whose reason goes before; else the first is told
+-- who stopped did so for another, whose reason goes before; else the first is reported
 abbrev pub graver : (first other : Refused) → Refused
 graver Memory other = Memory
 graver Thread other = Thread

@@ -17,7 +17,7 @@ pub enum Refused {
 }
 
 impl Refused {
-    /// Which of two reasons is told: `Memory` and `Thread` go before `Stopped`, and else the first before the other.
+    /// Which of two reasons is reported: `Memory` and `Thread` go before `Stopped`, and else the first before the other.
     fn graver(self, other: Refused) -> Refused
         ensures { result ≡ graver self other }
     {
@@ -28,7 +28,7 @@ impl Refused {
     }
 }
 
-/// The reason that is told, once there is one more.
+/// The reason that is reported, once there is one more.
 pub(crate) fn gravest(so_far: Option<Refused>, other: Refused) -> Refused
     ensures { result ≡ gravest so_far other }
 {

@@ -1,4 +1,4 @@
--- The endpoints of workers that ran are back.
+-- The endpoints of workers that ran, at the end of a window.
 use Rattle.std.proofs.Common.{◌≡◌, ◌⊎◌, ℕ, ◌==◌, true, false, List, [], ◌∷◌, length, map, sym, ap, ◌∙◌, arith, inl, inr}
 use Rattle.std.specs.Prelude.{slice_index}
 use Rattle.std.specs.List.{filter, zip, AllZip, AllByRecursion as Each}

@@ -13,8 +13,8 @@ ghost use Rattle.joined_workers.specs.Laws.{RunsAll};
 ghost use Rattle.joined_workers.specs.Worker.{IsReady, RunsWorker};
 
 use crate::next::first_of_all;
-use crate::worker::{WorkersWindow, Runner};
-use all_workers::{Worker, Workers, split_workers, make_endpoints, workers_of};
+use crate::worker::{Runner, WorkersWindow};
+use all_workers::{Worker, Workers, make_endpoints, split_workers, workers_of};
 use copy_exchange::{Endpoint, gather_window};
 use copy_inbox::{Inbox, Taker};
 use fork_join::{Refused, fork_join};
@@ -35,7 +35,7 @@ fn gather_endpoints<R: Wait>(
     requires { AllReturn inboxes.now endpoints.items }
     ensures settled { IfOk result (λ takers. Settled inboxes.now takers.items) }
     ensures plain { IfOk result (λ takers. Each IsPlain takers.items) }
-    ensures gathers_delivered { IfOk result (λ takers. AllZip (GathersDelivered endpoints.items) endpoints.items takers.items) }
+    ensures gathers { IfOk result (λ takers. AllZip (GathersDelivered endpoints.items) endpoints.items takers.items) }
     ensures refused { IfErr result (λ reason. reason ≡ Memory) }
 {
     match gather_window(rt, alloc, inboxes, endpoints) {

@@ -1,4 +1,4 @@
-//! What a worker with marks carries for the whole run.
+//! The endpoint of a worker with marks, for the whole run.
 
 ghost use Rattle.std.specs.Prelude.{◌≡◌, [], length, IfErr, IfOk, OnOk};
 ghost use Rattle.std.specs.List.{AllByRecursion as Each};
@@ -30,7 +30,11 @@ pub struct MarkEndpoint {
 
 impl MarkEndpoint {
     /// The endpoint of a worker that has taken nothing yet. So many senders were made on its inbox.
-    pub fn new(alloc: Global, endpoint: Endpoint, senders: usize) -> Result<MarkEndpoint, InboxError>
+    pub fn new(
+        alloc: Global,
+        endpoint: Endpoint,
+        senders: usize,
+    ) -> Result<MarkEndpoint, InboxError>
         requires made { endpoint.taker.state.made ≡ senders }
         requires taken { endpoint.taker.state.taken ≡ [] }
         ensures endpoint { IfOk result (λ made. made.endpoint ≡ endpoint) }

@@ -31,12 +31,12 @@ same_endpoints [] (c ∷ cs) long = absurd (omega arith)
 same_endpoints (s ∷ ss) [] long = absurd (omega arith)
 same_endpoints (s ∷ ss) (c ∷ cs) long = ap (λ l. c ∷ l) (same_endpoints ss cs (omega arith))
 
--- endpoints that set out, of takers that have neither taken nor gathered anything
+-- endpoints that were made, of takers that have neither taken nor gathered anything
 module _ (inboxes : List InboxId) (takers : List TakerView) (fresh : AllZip IsFresh inboxes takers) (endpoints : List Endpoint) (together : Together inboxes endpoints) (starts : AllZip StartsAs takers endpoints) where
   endpoints_long : length endpoints ≡ length inboxes
   endpoints_long = as_long StartsAs takers endpoints starts ∙ as_long IsFresh inboxes takers fresh
 
-  -- the taker of an endpoint, before it set out
+  -- the taker of which an endpoint was made
   record Taker (v : ℕ) (c : Endpoint) : Type 0 where
     taker : TakerView
     is_fresh : taker.state ≡ make_taker_state taker.state.marked 0 [] []

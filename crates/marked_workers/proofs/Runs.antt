@@ -49,7 +49,7 @@ module _ (n : NetTold) (of : List ℕ) (width windows : ℕ) (inboxes : List Inb
   all_seated (x ∷ xs) [] h = tt
   all_seated (x ∷ xs) (y ∷ ys) h = (h.0.seated, all_seated xs ys h.1)
 
-  -- the endpoints are back, each that of its worker
+  -- the endpoints at the end, each that of its worker
   pub all_back : (xs ys : List Worker) → Together inboxes (endpoints_of xs) → AllZip (RunsAllWindows n of width windows inboxes) xs ys
       → map (λ (c : Endpoint). c.worker) (endpoints_of ys) ≡ range_with_len 0 (length inboxes)
   all_back xs ys together ran = same_workers (endpoints_of xs) (endpoints_of ys) (all_stay xs ys ran) ∙ together.workers

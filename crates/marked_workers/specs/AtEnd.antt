@@ -42,7 +42,7 @@ pub record EndAllMarked (n : NetTold) (of : List ℕ) (width windows : ℕ) (gro
       → EndsMarked n of width windows (length group.inboxes.items) sender worker
       (slice_index_or group.shares.items worker share) (slice_index_or group.takers.items worker taker)
 
--- However the threads took turns, all workers stand at the end, as if all copies had changed hands between the
+-- However the threads took turns, all workers stand at the end, as if all copies had been exchanged between the
 -- windows, and each has taken all that was pushed to it, every mark too.
 abbrev pub MarkedWindowsLeadToTheEnd : Type 0
 MarkedWindowsLeadToTheEnd = (n : NetTold) → RunsForward (system_of n) → (of : List ℕ) (width windows : ℕ)

@@ -19,7 +19,9 @@ ghost use Rattle.marked_workers.specs.Thread.{IsFirst, RunsAllWindows};
 
 use crate::thread::MarkRunner;
 use crate::worker::WorkersRun;
-use all_workers::{Worker, Workers, lookahead_of, split_workers, make_endpoints, window_length, workers_of};
+use all_workers::{
+    Worker, Workers, lookahead_of, make_endpoints, split_workers, window_length, workers_of,
+};
 use copy_exchange::{Endpoint, gather_back};
 use copy_inbox::{Inbox, Taker};
 use fork_join::{Refused, fork_join};

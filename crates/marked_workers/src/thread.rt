@@ -14,7 +14,7 @@ ghost use Rattle.marked_workers.specs.declared.worker.MarkWorker.{MarkWorker as 
 ghost use Rattle.marked_workers.specs.Thread.{IsFirst, IsStarted, IsSame, HasRun, RunsAllWindows};
 ghost use Rattle.marked_workers.specs.Thread.{SendsWindow, TakesWindow};
 
-use crate::worker::{WorkersRun, MarkWorker};
+use crate::worker::{MarkWorker, WorkersRun};
 use all_workers::{Worker, refused, window_end};
 use fork_join::{Refused, Work};
 use mark_exchange::{MarkEndpoint, MarkError, Standing};

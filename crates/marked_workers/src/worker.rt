@@ -6,7 +6,7 @@ use mote_net::Net;
 use std::sync::atomic::AtomicBool;
 use worker_window::Share;
 
-/// A worker in its thread: its share of the net, and its taker and senders, with the marks that it took of each worker.
+/// A worker in its thread: its share of the net, and its endpoint, with the marks that it took of each worker.
 #[derive(Drop)]
 pub struct MarkWorker {
     pub share: Share,

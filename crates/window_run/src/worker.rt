@@ -145,7 +145,10 @@ fn all_done<G: Gate>(slots: &[Slot<'_, G>]) -> bool
 }
 
 /// What the windows gave.
-fn collect_outs<G: Gate>(alloc: Global, slots: Vec<Slot<'_, G>>) -> Result<Vec<WindowOut>, MoteError>
+fn collect_outs<G: Gate>(
+    alloc: Global,
+    slots: Vec<Slot<'_, G>>,
+) -> Result<Vec<WindowOut>, MoteError>
     requires { list_all is_done slots.items ≡ true }
     ensures given { IfOk result (λ outs. SlotsGive slots.entry.items outs.items) }
     ensures err { IfErr result (λ e. e ≡ Memory) }

@@ -37,7 +37,7 @@ use std::thread::Threads;
 use window_run::Gate;
 use worker_cut::Cut;
 
-/// What the workers have to tell at the end, and their inboxes. `of` tells the worker of each mote.
+/// The workers' report at the end, and their inboxes. `of` tells the worker of each mote.
 fn make_report(
     alloc: Global,
     net: &Net,

@@ -7,7 +7,9 @@ ghost use Rattle.copy_exchange.specs.Endpoints.{IsEndpoint, StartsAs, Returns};
 ghost use Rattle.copy_exchange.specs.Inboxes.{IsPlain, IsSettled, Settled};
 
 use super::{same_text, write_copies, write_rest};
-use copy_exchange::{Endpoint, endpoints, gather_window, known, make_inboxes, pair_inboxes, split_pairs};
+use copy_exchange::{
+    Endpoint, endpoints, gather_window, known, make_inboxes, pair_inboxes, split_pairs,
+};
 use copy_inbox::{Inbox, InboxError, Taker};
 use radio_packet::RadioCopy;
 use std::alloc::{AllocError, Global};

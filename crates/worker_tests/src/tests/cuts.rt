@@ -1,8 +1,8 @@
 //! Cuts: who runs which mote, how long windows are, and what doesn't fit.
 
 use super::{
-    COPY_PAST_THE_END, PACKET_AFTER_TIMER, Run, THREE_APART, TWO_SENDERS, by, same_text,
-    run_by_workers,
+    COPY_PAST_THE_END, PACKET_AFTER_TIMER, Run, THREE_APART, TWO_SENDERS, by, run_by_workers,
+    same_text,
 };
 use net_scenario::{Net, read_scenario};
 use std::alloc::{AllocError, AllocGlobal, Global};

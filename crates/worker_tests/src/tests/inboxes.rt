@@ -3,7 +3,7 @@ ghost use Rattle.std.specs.Prelude.{IfOk};
 ghost use Rattle.std.specs.List.{AllByRecursion as Each};
 ghost use Rattle.copy_exchange.specs.Inboxes.{IsSettled};
 
-use super::{COPY_PAST_THE_END, Outcome, Run, THREE_APART, by, cut_of, same_text, compare};
+use super::{COPY_PAST_THE_END, Outcome, Run, THREE_APART, by, compare, cut_of, same_text};
 use copy_exchange::make_inboxes;
 use copy_inbox::{Inbox, Taker};
 use net_scenario::{Net, read_scenario};

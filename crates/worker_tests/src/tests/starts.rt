@@ -1,7 +1,7 @@
 //! How often threads are started, a start that is refused, and which error of several is told.
 
 use super::{
-    BUSY_PAIR, BUSY_TRIO, PACKET_AFTER_TIMER, Run, TWO_SENDERS, by, same_text, run_by_workers,
+    BUSY_PAIR, BUSY_TRIO, PACKET_AFTER_TIMER, Run, TWO_SENDERS, by, run_by_workers, same_text,
 };
 use net_scenario::{Net, read_scenario};
 use std::alloc::{AllocError, AllocGlobal};

@@ -29,8 +29,8 @@ returns-clause-plain g c = IfOk-weaker c.gather_back.result
     (λ ts back. plain_after c.args.inboxes.now c.args.endpoints.items c.requires ts.items back)
     c.gather_back.ensures
 
-pub returns-clause-gathers_delivered : goal.returns-clause-gathers_delivered
-returns-clause-gathers_delivered g c = IfOk-weaker c.gather_back.result
+pub returns-clause-gathers : goal.returns-clause-gathers
+returns-clause-gathers g c = IfOk-weaker c.gather_back.result
     (λ (ts : Vec TakerView Global). GathersBack c.args.endpoints.items ts.items)
     (λ (ts : Vec TakerView Global). AllZip (GathersDelivered c.args.endpoints.items) c.args.endpoints.items ts.items)
     (λ ts back. gathers_delivered c.args.inboxes.now c.args.endpoints.items c.requires ts.items back)
