@@ -26,7 +26,8 @@ abbrev pub opened_taker : (own : Bool) → TakerView → TakerView
 opened_taker own t = cond own t (after_sender t)
 
 abbrev pub opened_sender : (own : Bool) → TakerView → Option SenderView
-opened_sender own t = cond own None (Some (record { inbox = t.inbox; state = make_sender_state t.state.marked t.state.made [] }))
+opened_sender own t =
+    cond own None (Some (record { inbox = t.inbox; state = make_sender_state t.state.marked t.state.made [] }))
 
 -- on each inbox but its own the worker has a sender more
 pub record Opens (worker : ℕ) (old new : List TakerView) (senders : List (Option SenderView)) : Type 0 where

@@ -94,7 +94,8 @@ count_of d s = record { taken = length (part s d.taken); gathered = is_gathered 
 pub record IsTaker (v : View) (counts : List Count) (known : ℕ) : Type 0 where
   pub is : v ≡ Taking (taker_state_in v)
   pub made : length counts ≡ (taker_state_in v).made
-  pub counted : (s : ℕ) (c : Count) → s < (taker_state_in v).made → slice_index_or counts s c ≡ count_of (taker_state_in v) s
+  pub counted : (s : ℕ) (c : Count) → s < (taker_state_in v).made
+      → slice_index_or counts s c ≡ count_of (taker_state_in v) s
   pub known_is : known ≡ known_of (taker_state_in v).gathered (taker_state_in v).taken
   pub begun : TookFronts (taker_state_in v).gathered (taker_state_in v).taken
   pub of_made : OfMade (taker_state_in v).made (taker_state_in v).taken

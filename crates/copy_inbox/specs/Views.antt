@@ -9,7 +9,8 @@ use Rattle.copy_inbox.specs.declared.rule.View.{View}
 use Rattle.copy_inbox.specs.declared.rule.View.TheVariants.{Taking, Sending, Spent}
 
 abbrev pub make_taker_state : (marked : Bool) → (made : ℕ) → List Item → List Gathered → TakerState
-make_taker_state marked made taken gathered = record { marked = marked; made = made; taken = taken; gathered = gathered }
+make_taker_state marked made taken gathered =
+    record { marked = marked; made = made; taken = taken; gathered = gathered }
 
 abbrev pub make_sender_state : (marked : Bool) → ℕ → List Carried → SenderState
 make_sender_state marked s pushed = record { marked = marked; number = s; pushed = pushed }

@@ -106,7 +106,8 @@ impl Model for Sender {
     } };
 
     ghost invariant = { λ s. IsSender s.pass.me.view.client s.pushed
-        × (s.number ≡ (sender_state_in s.pass.me.view.client).number) × (s.pass.me.hand ≡ None) × (s.pass.me.spare ≡ None) };
+        × (s.number ≡ (sender_state_in s.pass.me.view.client).number)
+        × (s.pass.me.hand ≡ None) × (s.pass.me.spare ≡ None) };
 }
 
 /// By hand, so that a taker is dropped by one call: the check of a function that owns one sees no more of it.
@@ -196,7 +197,8 @@ impl Inbox {
     pub fn sender(&self, taker: &mut Taker) -> Result<Sender, InboxError>
         requires { taker.old.inbox ≡ self.now }
         ensures inbox { IfOk result (λ sender. sender.inbox ≡ self.now) }
-        ensures fresh { IfOk result (λ sender. sender.state ≡ make_sender_state taker.old.state.marked taker.old.state.made []) }
+        ensures fresh { IfOk result
+            (λ sender. sender.state ≡ make_sender_state taker.old.state.marked taker.old.state.made []) }
         ensures taker { OnOk result (taker.new ≡ after_sender taker.old) }
         ensures refused { OnErr result (taker.new ≡ taker.old) }
     {
@@ -336,7 +338,8 @@ impl Inbox {
         // All that is known, where no sender that isn't gathered can stand before it.
         ensures whole { OnOk result
             (n ≡ known_of taker.old.state.gathered taker.old.state.taken
-            → Later taker.old.state.made taker.old.state.gathered → Whole taker.new.state.gathered taker.new.state.taken) }
+            → Later taker.old.state.made taker.old.state.gathered
+            → Whole taker.new.state.gathered taker.new.state.taken) }
 
         // And then it is of gathered senders alone.
         ensures others { OnOk result
@@ -365,7 +368,8 @@ impl Inbox {
         ensures made { OnOk result (OfMade taker.new.state.made taker.new.state.taken) }
         ensures whole { OnOk result
             (n ≡ known_of taker.old.state.gathered taker.old.state.taken
-            → Later taker.old.state.made taker.old.state.gathered → Whole taker.new.state.gathered taker.new.state.taken) }
+            → Later taker.old.state.made taker.old.state.gathered
+            → Whole taker.new.state.gathered taker.new.state.taken) }
         ensures others { OnOk result
             (n ≡ known_of taker.old.state.gathered taker.old.state.taken
             → Later taker.old.state.made taker.old.state.gathered

@@ -17,7 +17,7 @@ pub enum Refused {
 }
 
 impl Refused {
-    /// Which of two reasons is reported: `Memory` and `Thread` go before `Stopped`, and else the first before the other.
+    /// Which of two reasons is reported: `Memory` and `Thread` go before `Stopped`, else the first before the other.
     fn graver(self, other: Refused) -> Refused
         ensures { result ≡ graver self other }
     {

@@ -89,7 +89,8 @@ fn hear(
 ) -> Result<(), MarkError>
     requires { (d : TakerState) × Counts marks.old.items d × IsNextTaken d item }
     ensures counts { OnOk result
-        ((d : TakerState) → Counts marks.old.items d → IsNextTaken d item → Counts marks.new.items (state_with d item)) }
+        ((d : TakerState) → Counts marks.old.items d → IsNextTaken d item
+        → Counts marks.new.items (state_with d item)) }
     ensures arrived { OnOk result
         (AddsCopy standing.now.of.now standing.now.worker standing.now.from item arrived.old.items arrived.new.items) }
     ensures refused { IfErr result (Refuses standing.now.of.now standing.now.worker standing.now.from item) }

@@ -95,7 +95,8 @@ fn write_window<R: Wait>(
     requires inbox { worker_2.old.endpoint.taker.inbox ≡ inbox.now }
     requires counts { Counts worker_2.old.marks.items worker_2.old.endpoint.taker.state }
     ensures inbox { IfOk result (λ took. IsTrue took → worker_2.new.endpoint.taker.inbox ≡ inbox.now) }
-    ensures counts { IfOk result (λ took. IsTrue took → Counts worker_2.new.marks.items worker_2.new.endpoint.taker.state) }
+    ensures counts { IfOk result
+        (λ took. IsTrue took → Counts worker_2.new.marks.items worker_2.new.endpoint.taker.state) }
 {
     let standing = Standing {
         worker: 2,

@@ -10,7 +10,8 @@ use Rattle.copy_exchange.specs.Steps.{gather_senders}
 use Rattle.marked_workers.specs.Senders.{AreSenders}
 use Rattle.marked_workers.specs.WorkerHistory.{WorkerHistory, RunsWindows}
 
--- Each worker ran its windows, as its history says, and has taken of each sender on its inbox a beginning of what was pushed.
+-- Each worker ran its windows as its history says, and has taken of each sender on its inbox a beginning of what was
+-- pushed.
 -- `sender inbox worker` is the sender of a worker on an inbox.
 pub record AllRan (n : NetTold) (of : List ℕ) (width windows workers : ℕ) : Type 0 where
   pub made : ℕ → ℕ

@@ -59,7 +59,8 @@ pub record SendsWindow (n : NetTold) (of : List ℕ) (workers window until : ℕ
 -- it took items until the window's mark of each other worker had come, and what they carry is in its share
 pub record TakesWindow (of : List ℕ) (window until : ℕ) (old new : MarkWorker) : Type 0 where
   pub arrived : List RadioCopy
-  pub took : TakesDue of old.exchange.endpoint.worker until old.exchange.endpoint.taker new.exchange.endpoint.taker arrived
+  pub took : TakesDue of old.exchange.endpoint.worker until old.exchange.endpoint.taker new.exchange.endpoint.taker
+      arrived
   pub counts : Counts new.exchange.marks.items new.exchange.endpoint.taker.state
   pub past : AllPast window new.exchange.marks.items
   pub worker : new.exchange.endpoint.worker ≡ old.exchange.endpoint.worker

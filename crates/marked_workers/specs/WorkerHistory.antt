@@ -50,8 +50,8 @@ pub record RunsWindows (n : NetTold) (of : List ℕ) (width windows workers work
 
 -- The promise: there were such windows, and the share keeps the motes at their end. The taker has taken all this, and
 -- gathered nobody.
-pub record RunsMarked (n : NetTold) (of : List ℕ) (width windows workers worker : ℕ) (share : Share) (state : TakerState)
-    (pushed : ℕ → List Carried) : Type 0 where
+pub record RunsMarked (n : NetTold) (of : List ℕ) (width windows workers worker : ℕ) (share : Share)
+    (state : TakerState) (pushed : ℕ → List Carried) : Type 0 where
   pub history : WorkerHistory
   pub ran : RunsWindows n of width windows workers worker state.made state.taken pushed history
   pub keeps : Keeps n of worker (bound width n.end windows) (history.motes windows) (copies_of state.taken) share

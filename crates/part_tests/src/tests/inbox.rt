@@ -246,7 +246,8 @@ pub(crate) fn make_again(alloc: Global, marked: bool) -> Result<(Inbox, Taker), 
 pub(crate) fn sender_again(inbox: &Inbox, taker: &mut Taker) -> Result<Sender, InboxError>
     requires { taker.old.inbox ≡ inbox.now }
     ensures inbox { IfOk result (λ sender. sender.inbox ≡ inbox.now) }
-    ensures fresh { IfOk result (λ sender. sender.state ≡ make_sender_state taker.old.state.marked taker.old.state.made []) }
+    ensures fresh { IfOk result
+        (λ sender. sender.state ≡ make_sender_state taker.old.state.marked taker.old.state.made []) }
     ensures taker { OnOk result (taker.new ≡ after_sender taker.old) }
 {
     match inbox.sender(taker) {
