@@ -23,7 +23,7 @@ abbrev pub IsNotBefore : (first : Option ℕ) → RadioCopy → Type 0
 IsNotBefore None copy = ⊥
 IsNotBefore (Some moment) copy = moment ≤ copy.at
 
--- of what a worker gathered of one mote, it took a front; the rest lies in its inbox, and arrives no sooner than at
+-- of what a worker gathered of one mote, it took a prefix; the rest lies in its inbox, and arrives no sooner than at
 -- this moment
 pub record Waits (first : Option ℕ) (sender : ℕ) (taker : TakerView) : Type 0 where
   pub rest : List RadioCopy

@@ -13,7 +13,7 @@ use Rattle.copy_inbox.specs.Items.{part, Packets}
 use Rattle.copy_inbox.specs.Gathered.{is_gathered, Apart}
 use Rattle.copy_inbox.specs.Views.{make_sender_state, with_pushed, with_taken}
 
--- an item of a sender numbered `made` or above stands behind every item of the sender s
+-- an item of a sender numbered `made` or above stands after every item of the sender s
 abbrev pub Behind : ℕ → ℕ → List Item → Type 0
 Behind s made [] = Unit {0}
 Behind s made (x ∷ xs) = (made ≤ x.sender → part s (x ∷ xs) ≡ []) × Behind s made xs

@@ -216,7 +216,7 @@ impl Inbox {
         })
     }
 
-    /// Adds a copy to what the sender has pushed. It comes back where memory was refused, or after 2^62 pushes, and
+    /// Adds a copy to what the sender has pushed. It comes back where an allocation failed, or after 2^62 pushes, and
     /// then nothing has changed.
     pub fn push_copy<R: Wait>(
         &self,
@@ -234,7 +234,7 @@ impl Inbox {
             .map_err(|_| copy)
     }
 
-    /// Adds the mark of a window to what the sender has pushed. The number comes back where memory was refused, or
+    /// Adds the mark of a window to what the sender has pushed. The number comes back where an allocation failed, or
     /// after 2^62 pushes, and then nothing has changed.
     pub fn push_mark<R: Wait>(&self, rt: &R, sender: &mut Sender, window: u64) -> Result<(), u64>
         requires inbox { sender.old.inbox ≡ self.now }

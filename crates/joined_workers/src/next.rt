@@ -1,4 +1,4 @@
-//! What is to come first.
+//! The first pending event.
 
 ghost use Rattle.std.specs.Prelude.{◌≡◌};
 ghost use Rattle.worker_window.specs.Next.{TellsNext};
@@ -8,8 +8,8 @@ use crate::worker::sooner;
 use all_workers::{Worker, Workers};
 use worker_window::Share;
 
-/// The moment of what is to come first to a worker's motes: a wrapper that gives the proof of the loop over all shares
-/// one clause.
+/// The moment of the first pending event of a worker's motes: a wrapper that gives the proof of the loop over all
+/// shares one clause.
 fn next_of(share: &Share) -> Option<u64>
     ensures { TellsNext share.now result }
 {
@@ -46,7 +46,7 @@ fn next_of_all(first_out: Option<u64>, shares: &[Share]) -> Option<u64>
     next
 }
 
-/// The moment of what is to come first, in the shares or the inboxes, if anything is.
+/// The moment of the first pending event, in the shares or the inboxes, if there is one.
 pub fn next_moment(group: &Workers) -> Option<u64>
     ensures { IsNextOfAll group.now.first_out group.now.shares.items result }
 {

@@ -1,4 +1,4 @@
-//! What workers that live for a whole run exchange: the copies of each window, and behind them a mark. No copy
+//! What workers that live for a whole run exchange: the copies of each window, and after them a mark. No copy
 //! is lost, doubled or made up, and no window begins before the marks of the one before it have come.
 #![tactic(auto)]
 

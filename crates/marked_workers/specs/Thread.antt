@@ -46,7 +46,7 @@ pub record IsStarted (n : NetTold) (of : List ℕ) (inboxes : List InboxId) (w :
   pub none_gathered : w.exchange.endpoint.taker.state.gathered ≡ []
   pub none_pushed : HasPushedNothing w.exchange.endpoint
 
--- its motes ran through a window, and what they sent to others went out, with the window's mark behind it
+-- its motes ran through a window, and what they sent to others went out, with the window's mark after it
 pub record SendsWindow (n : NetTold) (of : List ℕ) (workers window until : ℕ) (old new : MarkWorker) : Type 0 where
   pub sent : List RadioCopy
   pub runs : (worker from : ℕ) (motes : Motes) (taken : List RadioCopy) → Keeps n of worker from motes taken old.share
@@ -69,7 +69,7 @@ pub record TakesWindow (of : List ℕ) (window until : ℕ) (old new : MarkWorke
       → Keeps n whose worker from motes taken old.share
       → Each (IsDue whose worker from) arrived → Keeps n whose worker from motes (taken ++ arrived) new.share
 
--- a worker, since its first window, behind so many windows
+-- a worker after so many windows, since its first
 pub record HasRun (n : NetTold) (of : List ℕ) (width windows : ℕ) (inboxes : List InboxId)
     (first now : MarkWorker) : Type 0 where
   pub stays : Stays first.exchange.endpoint now.exchange.endpoint

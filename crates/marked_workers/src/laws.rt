@@ -1,4 +1,4 @@
-//! The law of the windows with marks. It is the contract of a function that does nothing.
+//! The law of the windows with marks. It is a theorem, stated as the contract of an empty function.
 
 ghost use Rattle.marked_workers.specs.AtEnd.{MarkedWindowsLeadToTheEnd};
 

@@ -41,7 +41,7 @@ impl<R, G> Drop for MarkRunner<'_, R, G> {
     }
 }
 
-/// The worker's motes run through a window, and what they send to others goes out, with the window's mark behind it.
+/// The worker's motes run through a window, and what they send to others goes out, with the window's mark after it.
 fn send_window<R: Wait + RandomSource + AllocGlobal, G: Gate>(
     rt: &R,
     gate: &G,
