@@ -17,7 +17,7 @@ use Rattle.copy_exchange.specs.Inboxes.{IsPlain}
 
 -- its sender on the inbox of worker v
 abbrev pub sender_to : Endpoint → (v : ℕ) → Option SenderView
-sender_to c v = slice_index_or c.senders.items v None
+sender_to e v = slice_index_or e.senders.items v None
 
 abbrev pub pushed_by : Option SenderView → List RadioCopy
 pushed_by None = []
@@ -25,11 +25,11 @@ pushed_by (Some s) = copies_pushed s.state.pushed
 
 -- what it delivered to worker v in this window
 abbrev pub delivered : Endpoint → (v : ℕ) → List RadioCopy
-delivered c v = pushed_by (sender_to c v)
+delivered e v = pushed_by (sender_to e v)
 
 -- what all endpoints delivered to worker v
 abbrev pub delivered_to : List Endpoint → (v : ℕ) → List RadioCopy
-delivered_to endpoints v = flat_map (λ c. delivered c v) endpoints
+delivered_to endpoints v = flat_map (λ e. delivered e v) endpoints
 
 -- on a worker's own inbox there is no sender of it, on each other one there is
 abbrev pub IsSenderOn : InboxId → (own : Bool) → Option SenderView → Type 0
@@ -43,36 +43,36 @@ pushed_list (Some s) = s.state.pushed
 
 -- what its sender on the inbox of worker v pushed
 abbrev pub pushed_to : Endpoint → (v : ℕ) → List Carried
-pushed_to c v = pushed_list (sender_to c v)
+pushed_to e v = pushed_list (sender_to e v)
 
 -- its senders are those of inboxes with marks
 abbrev pub HasMarks : Endpoint → Type 0
-HasMarks c = (v : ℕ) (s : SenderView) → sender_to c v ≡ Some s → s.state.marked ≡ true
+HasMarks e = (v : ℕ) (s : SenderView) → sender_to e v ≡ Some s → s.state.marked ≡ true
 
 -- nothing went through its senders yet, no copy and no mark
 abbrev pub HasPushedNothing : Endpoint → Type 0
-HasPushedNothing c = (v : ℕ) → pushed_to c v ≡ []
+HasPushedNothing e = (v : ℕ) → pushed_to e v ≡ []
 
 -- its taker and its senders are those of these inboxes
-pub record IsSeated (inboxes : List InboxId) (c : Endpoint) : Type 0 where
-  pub taker : slice_get inboxes c.worker ≡ Some c.taker.inbox
-  pub count : length c.senders.items ≡ length inboxes
-  pub each : (v : ℕ) (id : InboxId) → slice_get inboxes v ≡ Some id → IsSenderOn id (v == c.worker) (sender_to c v)
+pub record IsSeated (inboxes : List InboxId) (e : Endpoint) : Type 0 where
+  pub taker : slice_get inboxes e.worker ≡ Some e.taker.inbox
+  pub count : length e.senders.items ≡ length inboxes
+  pub each : (v : ℕ) (id : InboxId) → slice_get inboxes v ≡ Some id → IsSenderOn id (v == e.worker) (sender_to e v)
 
 -- an endpoint of one of these inboxes' workers, in a window that ends by a join
-pub record IsEndpoint (inboxes : List InboxId) (c : Endpoint) : Type 0 where
-  pub taker : slice_get inboxes c.worker ≡ Some c.taker.inbox
-  pub count : length c.senders.items ≡ length inboxes
-  pub each : (v : ℕ) (id : InboxId) → slice_get inboxes v ≡ Some id → IsSenderOn id (v == c.worker) (sender_to c v)
-  pub stands : IsOrderly c.taker.state
+pub record IsEndpoint (inboxes : List InboxId) (e : Endpoint) : Type 0 where
+  pub taker : slice_get inboxes e.worker ≡ Some e.taker.inbox
+  pub count : length e.senders.items ≡ length inboxes
+  pub each : (v : ℕ) (id : InboxId) → slice_get inboxes v ≡ Some id → IsSenderOn id (v == e.worker) (sender_to e v)
+  pub stands : IsOrderly e.taker.state
 
 -- all that was gathered before this window is taken
 abbrev pub IsCollected : Endpoint → Type 0
-IsCollected c = Whole c.taker.state.gathered c.taker.state.taken
+IsCollected e = Whole e.taker.state.gathered e.taker.state.taken
 
 -- of motes of other workers it delivered nothing
 abbrev pub DeliversOwn : (worker_of : ℕ → ℕ) → Endpoint → Type 0
-DeliversOwn worker_of c = (s v : ℕ) → (worker_of s == c.worker) ≡ false → filter (is_from_sender s) (delivered c v) ≡ []
+DeliversOwn worker_of e = (s v : ℕ) → (worker_of s == e.worker) ≡ false → filter (is_from_sender s) (delivered e v) ≡ []
 
 -- ---- from the start of a window to its end
 -- which sender it is, and whether its inbox has marks
@@ -131,15 +131,15 @@ pub record PushesMarks (workers window : ℕ) (old new : Endpoint) : Type 0 wher
 
 -- ---- the endpoints of one window
 -- the endpoint of this taker at the start of a window
-pub record StartsAs (t : TakerView) (c : Endpoint) : Type 0 where
-  pub same_marked : c.taker.state.marked ≡ t.state.marked
-  pub same_taken : c.taker.state.taken ≡ t.state.taken
-  pub same_gathered : c.taker.state.gathered ≡ t.state.gathered
-  pub nothing : (v : ℕ) → delivered c v ≡ []
+pub record StartsAs (t : TakerView) (e : Endpoint) : Type 0 where
+  pub same_marked : e.taker.state.marked ≡ t.state.marked
+  pub same_taken : e.taker.state.taken ≡ t.state.taken
+  pub same_gathered : e.taker.state.gathered ≡ t.state.gathered
+  pub nothing : (v : ℕ) → delivered e v ≡ []
 
 -- the senders of all workers on the inbox of worker v
 abbrev pub senders_to : List Endpoint → (v : ℕ) → List SenderView
-senders_to endpoints v = filter_map (λ c. sender_to c v) endpoints
+senders_to endpoints v = filter_map (λ e. sender_to e v) endpoints
 
 -- these are the senders of an inbox that aren't gathered, and no others
 pub record AreOpen (senders : List SenderView) (d : TakerState) : Type 0 where
@@ -151,9 +151,9 @@ pub record AreOpen (senders : List SenderView) (d : TakerState) : Type 0 where
 
 -- an endpoint for each worker, and together they have all senders that aren't gathered
 pub record Together (inboxes : List InboxId) (endpoints : List Endpoint) : Type 0 where
-  pub workers : map (λ (c : Endpoint). c.worker) endpoints ≡ range_with_len 0 (length inboxes)
+  pub workers : map (λ (e : Endpoint). e.worker) endpoints ≡ range_with_len 0 (length inboxes)
   pub each : Each (IsEndpoint inboxes) endpoints
-  pub are_open : Each (λ (c : Endpoint). AreOpen (senders_to endpoints c.worker) c.taker.state) endpoints
+  pub are_open : Each (λ (e : Endpoint). AreOpen (senders_to endpoints e.worker) e.taker.state) endpoints
 
 -- an endpoint at the end of the window
 pub record Returns (inboxes : List InboxId) (worker_of : ℕ → ℕ) (old new : Endpoint) : Type 0 where
@@ -171,7 +171,7 @@ pub record AllReturn (inboxes : List InboxId) (endpoints : List Endpoint) : Type
   pub each : AllZip (Returns inboxes worker_of) before endpoints
 
 -- the taker of an endpoint after the window: it has gathered what all endpoints delivered to its worker
-pub record GathersDelivered (endpoints : List Endpoint) (c : Endpoint) (t : TakerView) : Type 0 where
-  pub same_marked : t.state.marked ≡ c.taker.state.marked
-  pub same_taken : t.state.taken ≡ c.taker.state.taken
-  pub adds : gathered_by t ≡ gathered_by c.taker ++ delivered_to endpoints c.worker
+pub record GathersDelivered (endpoints : List Endpoint) (e : Endpoint) (t : TakerView) : Type 0 where
+  pub same_marked : t.state.marked ≡ e.taker.state.marked
+  pub same_taken : t.state.taken ≡ e.taker.state.taken
+  pub adds : gathered_by t ≡ gathered_by e.taker ++ delivered_to endpoints e.worker

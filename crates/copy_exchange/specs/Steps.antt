@@ -70,10 +70,10 @@ gather_senders t (s ∷ senders) = gather_senders (after_gather t s.state) sende
 -- the taker of each endpoint has gathered all senders on its inbox, in the order of their endpoints
 pub record GathersBack (endpoints : List Endpoint) (takers : List TakerView) : Type 0 where
   pub count : length takers ≡ length endpoints
-  pub taker : (v : ℕ) (c : Endpoint) (t : TakerView) → slice_get endpoints v ≡ Some c → slice_get takers v ≡ Some t
-      → t ≡ gather_senders c.taker (senders_to endpoints v)
-  pub told : (v : ℕ) (c : Endpoint) → slice_get endpoints v ≡ Some c
-      → Each (λ (s : SenderView). TellsOf c.taker.state s.state) (senders_to endpoints v)
+  pub taker : (v : ℕ) (e : Endpoint) (t : TakerView) → slice_get endpoints v ≡ Some e → slice_get takers v ≡ Some t
+      → t ≡ gather_senders e.taker (senders_to endpoints v)
+  pub told : (v : ℕ) (e : Endpoint) → slice_get endpoints v ≡ Some e
+      → Each (λ (s : SenderView). TellsOf e.taker.state s.state) (senders_to endpoints v)
 
 -- ---- a mark goes through one sender
 abbrev pub pushed_with_mark : Option SenderView → (window : ℕ) → List Carried

@@ -3,7 +3,7 @@ use Rattle.std.specs.Prelude.{Option, Some, None}
 use Rattle.fork_join.specs.declared.work.Refused.{Refused}
 use Rattle.fork_join.specs.declared.work.Refused.TheVariants.{Memory, Thread, Stopped}
 
--- who stopped did so for another, whose reason goes before; else the first is reported
+-- a worker that stopped did so because another failed, whose reason goes first; else the first is reported
 abbrev pub graver : (first other : Refused) → Refused
 graver Memory other = Memory
 graver Thread other = Thread

@@ -19,7 +19,7 @@ pub record RunsAllMarked (n : NetTold) (of : List ℕ) (width : ℕ) (old new : 
   pub first : List Worker
   pub done : List Worker
   pub together : Together new.inboxes.items (endpoints_of first)
-  pub none_gathered : Each (λ (c : Endpoint). c.taker.state.gathered ≡ []) (endpoints_of first)
+  pub none_gathered : Each (λ (e : Endpoint). e.taker.state.gathered ≡ []) (endpoints_of first)
   pub ran : AllZip (RunsAllWindows n of width (windows_of width n.end) new.inboxes.items) first done
   pub shares : new.shares.items ≡ map (λ (worker : Worker). worker.share) done
   pub back : GathersBack (endpoints_of done) new.takers.items
