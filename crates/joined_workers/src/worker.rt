@@ -8,7 +8,7 @@ ghost use Rattle.window_laws.specs.Windows.{WakesFrom};
 ghost use Rattle.joined_workers.specs.Worker.{IsReady, RunsWorker, IsFirstOf};
 ghost use Rattle.all_workers.specs.Workers.{IsNotBefore};
 
-use all_workers::{Worker, refused};
+use all_workers::{Worker, refusal_of};
 use copy_inbox::Inbox;
 use fork_join::{Refused, Work};
 use mote_net::Net;
@@ -98,7 +98,7 @@ fn run_worker<R: Wait + RandomSource + AllocGlobal, G: Gate>(
     let ran = share.run_window(rt, window.net, window.of, arrived, window.until, gate);
     let sent = match ran {
         Ok(sent) => sent,
-        Err(error) => return Err(refused(error)),
+        Err(error) => return Err(refusal_of(error)),
     };
     let first_out = first_of(&sent);
     let Ok(()) = endpoint.deliver(rt, window.inboxes, window.of, sent) else {

@@ -67,7 +67,7 @@ module _ (n : NetTold) (of : List ℕ) (width windows : ℕ) (group : Workers) (
       let s = there group.shares.items v (subst (λ l. v < l) (sym h.shares) low) in
       let t = there group.takers.items v (subst (λ l. v < l) (sym h.takers) low) in
       let e : EndsMarked n of width windows workers h.sender v s.0 t.0 = subst (λ x. EndsMarked n of width windows workers h.sender v x t.0) (read group.shares.items v s.0 s.0 s.1)
-      (subst (λ x. EndsMarked n of width windows workers h.sender v (get_or group.shares.items v s.0) x) (read group.takers.items v t.0 t.0 t.1) (h.each v low s.0 t.0)) in (
+      (subst (λ x. EndsMarked n of width windows workers h.sender v (get_or group.shares.items v s.0) x) (read group.takers.items v t.0 t.0 t.1) (h.each_worker v low s.0 t.0)) in (
         record { state = e.before.state; senders = e.senders; history = e.promise.history },
         record {
           share = s.0;
@@ -191,7 +191,7 @@ module _ (n : NetTold) (of : List ℕ) (width windows : ℕ) (group : Workers) (
       settled_one id taker =
           let is = read group.takers.items v p.taker taker p.taker_at in
           subst (IsSettled (get_or group.inboxes.items v id)) (sym is) (record {
-            its = ap (λ (t : TakerView). t.inbox) (sym is) ∙ h.its v id taker low;
+            its = ap (λ (t : TakerView). t.inbox) (sym is) ∙ h.inbox_of_taker v id taker low;
             stands = subst (λ (t : TakerView). IsOrderly t.state) (sym p.taker_is) (stands workers v (h.sender v) z.state z.senders p.are_senders p.ran.of_made p.begun (all_taken n of width windows workers all v low) its_one);
             no_mark = subst (λ (t : TakerView). PacketsLeft t.state) (sym p.taker_is) (no_mark workers v (h.sender v) z.state z.senders p.are_senders p.ran.of_made p.begun (all_taken n of width windows workers all v low) its_one);
             all = subst (λ (t : TakerView). AllGathered t.state) (sym p.taker_is) (gathered_all workers v (h.sender v) z.state z.senders p.are_senders p.ran.of_made p.begun (all_taken n of width windows workers all v low) its_one);

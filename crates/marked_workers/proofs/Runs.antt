@@ -151,10 +151,10 @@ module _ (n : NetTold) (of : List ℕ) (width : ℕ) (old new : Workers) (cut : 
     cut = cut;
     shares = ap length ran.shares ∙ (length-map ran.done (λ (w : Worker). w.share) ∙ done_long);
     takers = takers_long;
-    its = each_its;
+    inbox_of_taker = each_its;
     first_out = ran.first_out;
     sender = sender_of back;
-    each = each_ends;
+    each_worker = each_ends;
   }
 
 -- all workers stand at the end, where no window was longer than the lookahead

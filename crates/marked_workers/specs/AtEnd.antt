@@ -34,11 +34,11 @@ pub record EndAllMarked (n : NetTold) (of : List ℕ) (width windows : ℕ) (gro
   pub cut : IsCut (length n.motes) (length group.inboxes.items) of
   pub shares : length group.shares.items ≡ length group.inboxes.items
   pub takers : length group.takers.items ≡ length group.inboxes.items
-  pub its : (worker : ℕ) (id : InboxId) (taker : TakerView) → worker < length group.inboxes.items
+  pub inbox_of_taker : (worker : ℕ) (id : InboxId) (taker : TakerView) → worker < length group.inboxes.items
       → (slice_index_or group.takers.items worker taker).inbox ≡ slice_index_or group.inboxes.items worker id
   pub first_out : group.first_out ≡ None
   pub sender : (inbox worker : ℕ) → Option SenderView
-  pub each : (worker : ℕ) → worker < length group.inboxes.items → (share : Share) (taker : TakerView)
+  pub each_worker : (worker : ℕ) → worker < length group.inboxes.items → (share : Share) (taker : TakerView)
       → EndsMarked n of width windows (length group.inboxes.items) sender worker
       (slice_index_or group.shares.items worker share) (slice_index_or group.takers.items worker taker)
 

@@ -15,7 +15,7 @@ ghost use Rattle.marked_workers.specs.Thread.{IsFirst, IsStarted, IsSame, HasRun
 ghost use Rattle.marked_workers.specs.Thread.{SendsWindow, TakesWindow};
 
 use crate::worker::{MarkWorker, WorkersRun};
-use all_workers::{Worker, refused, window_end};
+use all_workers::{Worker, refusal_of, window_end};
 use fork_join::{Refused, Work};
 use mark_exchange::{MarkEndpoint, MarkError, Standing};
 use std::alloc::{AllocGlobal, Global};
@@ -66,7 +66,7 @@ fn send_window<R: Wait + RandomSource + AllocGlobal, G: Gate>(
         .run_window(rt, run.net, run.of, none, until, gate);
     let sent = match ran {
         Ok(sent) => sent,
-        Err(error) => return Err(refused(error)),
+        Err(error) => return Err(refusal_of(error)),
     };
     let Ok(()) = worker
         .exchange
