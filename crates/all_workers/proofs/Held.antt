@@ -103,9 +103,9 @@ module _ (of : List ℕ) where
       is_first : (copy : RadioCopy) → IsHad of workers copy.to → is_to_first workers copy ≡ true
       is_first copy h = ap (λ o. option_map_or (λ w. ltb w workers) o false) h.1 ∙ lt-ltb h.0 workers h.2
 
-module _ (n : NetTold) (fine : RunsForward (system_of n)) (of : List ℕ) (end : ℕ) (crew : Workers) (at : IsAt n of (suc end) crew) where
+module _ (n : NetTold) (fine : RunsForward (system_of n)) (of : List ℕ) (end : ℕ) (group : Workers) (at : IsAt n of (suc end) group) where
   abbrev workers : ℕ
-  workers = length crew.inboxes.items
+  workers = length group.inboxes.items
 
   abbrev all : List RadioCopy
   all = coming (system_of n) fine (suc end) at.motes
@@ -121,24 +121,24 @@ module _ (n : NetTold) (fine : RunsForward (system_of n)) (of : List ℕ) (end :
         each ks,
       )
 
-  with_worker : (v : ℕ) → v < workers → (share : Share) (taker : TakerView) → AreWith (get_or crew.shares.items v share) (get_or crew.takers.items v taker) (filter (is_to of v) all)
+  with_worker : (v : ℕ) → v < workers → (share : Share) (taker : TakerView) → AreWith (get_or group.shares.items v share) (get_or group.takers.items v taker) (filter (is_to of v) all)
   with_worker v h share taker =
-      let s = get_or crew.shares.items v share in
-      let t = get_or crew.takers.items v taker in
+      let s = get_or group.shares.items v share in
+      let t = get_or group.takers.items v taker in
       let here = at.each v h share taker in
       let agenda = here.keeps.agenda in
       record {
         items = agenda.items;
         holds = agenda.holds;
-        waiting = waiting n fine of (suc end) at.motes at.led crew.first_out at.first v s t here;
-        gathered = gathered_is n fine of (suc end) at.motes at.led crew.first_out at.first v s t here;
-        both = to_come_is n fine of (suc end) at.motes at.led crew.first_out at.first v s t here (packets agenda.items) agenda.copies;
+        waiting = waiting n fine of (suc end) at.motes at.led group.first_out at.first v s t here;
+        gathered = gathered_is n fine of (suc end) at.motes at.led group.first_out at.first v s t here;
+        both = to_come_is n fine of (suc end) at.motes at.led group.first_out at.first v s t here (packets agenda.items) agenda.copies;
       }
 
 pub agenda_is_held : AgendaIsHeld
-agenda_is_held n fine of end crew at net run = (
+agenda_is_held n fine of end group at net run = (
   λ v. filter (is_to of v) (coming (system_of n) fine (suc end) at.motes),
-  with_worker n fine of end crew at,
+  with_worker n fine of end group at,
   IsPermutation-trans _ _ _ (agenda_is (system_of n) fine end at.motes at.led net run)
-      (to_all of (length crew.inboxes.items) (coming (system_of n) fine (suc end) at.motes) (all_had n fine of end crew at)),
+      (to_all of (length group.inboxes.items) (coming (system_of n) fine (suc end) at.motes) (all_had n fine of end group at)),
 )

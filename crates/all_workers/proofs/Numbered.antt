@@ -2,11 +2,11 @@
 use Rattle.std.proofs.Common.{◌≡◌, ℕ, ◌<◌, List, map, get_or, sym, ap, ◌∙◌, arith, Some}
 use Rattle.std.specs.List.{slice_get, range_with_len}
 use Rattle.std.proofs.lemmas.List.FromFn.{get_or-range_with_len}
-use Rattle.copy_exchange.specs.declared.courier.Courier.{Courier}
+use Rattle.copy_exchange.specs.declared.endpoint.Endpoint.{Endpoint}
 use Rattle.all_workers.proofs.Lookups.{read, mapped}
 
--- each courier is that of the worker at its place
-pub numbered : (workers : ℕ) (couriers : List Courier) → map (λ (c : Courier). c.worker) couriers ≡ range_with_len 0 workers → (v : ℕ) → v < workers → (c : Courier) → slice_get couriers v ≡ Some c → c.worker ≡ v
-numbered workers couriers e v h c f =
-    sym (read (map (λ (x : Courier). x.worker) couriers) v c.worker 0 (mapped (λ (x : Courier). x.worker) couriers v c f))
+-- each endpoint is that of the worker at its place
+pub numbered : (workers : ℕ) (endpoints : List Endpoint) → map (λ (c : Endpoint). c.worker) endpoints ≡ range_with_len 0 workers → (v : ℕ) → v < workers → (c : Endpoint) → slice_get endpoints v ≡ Some c → c.worker ≡ v
+numbered workers endpoints e v h c f =
+    sym (read (map (λ (x : Endpoint). x.worker) endpoints) v c.worker 0 (mapped (λ (x : Endpoint). x.worker) endpoints v c f))
     ∙ (ap (λ l. get_or l v 0) e ∙ (get_or-range_with_len 0 workers v 0 h ∙ omega arith))

@@ -5,7 +5,7 @@ use Rattle.std.specs.List.{filter, AllByRecursion as Each}
 use Rattle.std.proofs.lemmas.Bool.{cases_Bool, eq-eqb}
 use Rattle.radio_packet.specs.declared.copy.RadioCopy.{RadioCopy}
 use Rattle.mote_net.specs.Net.{NetTold}
-use Rattle.copy_exchange.specs.Couriers.{Leaves}
+use Rattle.copy_exchange.specs.Endpoints.{Leaves}
 use Rattle.window_laws.specs.Windows.{is_from_sender}
 use Rattle.worker_window.specs.Window.{GoesOut}
 use Rattle.window_laws.proofs.Lists.{every_weaker}

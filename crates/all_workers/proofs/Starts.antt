@@ -10,8 +10,8 @@ use Rattle.window_laws.specs.Windows.{first_mote, copies_by, Last}
 use Rattle.copy_inbox.specs.declared.items.Item.{Item}
 use Rattle.copy_inbox.specs.Items.{copies_of, part}
 use Rattle.copy_inbox.specs.Handles.{InboxId, TakerView, PacketsLeft}
-use Rattle.copy_inbox.specs.Views.{make_desk}
-use Rattle.copy_exchange.specs.Desks.{IsOrderly}
+use Rattle.copy_inbox.specs.Views.{make_taker_state}
+use Rattle.copy_exchange.specs.Takers.{IsOrderly}
 use Rattle.copy_exchange.specs.Inboxes.{IsFresh, IsSettled, Settled}
 use Rattle.worker_cut.specs.Crossed.{is_own, is_to, crossed}
 use Rattle.worker_window.specs.declared.share.Share.{Share}
@@ -26,7 +26,7 @@ no_parts : (rest : List Item) → ((s : ℕ) → part s rest ≡ []) → rest �
 no_parts [] h = refl
 no_parts (x ∷ rest) h = let e = rw (eq-eqb x.sender x.sender refl) at (h x.sender) in cc
 
-stands_first : (marked : Bool) → IsOrderly (make_desk marked 0 [] [])
+stands_first : (marked : Bool) → IsOrderly (make_taker_state marked 0 [] [])
 stands_first marked = record {
   in_order = λ rest is s. ap (λ l. filter (λ (c : RadioCopy). eqb c.sender s) (copies_of l)) (no_parts rest (λ u. is.1 u refl));
   begun = tt;
@@ -39,7 +39,7 @@ stands_first marked = record {
 settled_first : (inbox : InboxId) (t : TakerView) → IsFresh inbox t → IsSettled inbox t
 settled_first inbox t fresh = record {
   its = fresh.0;
-  stands = subst IsOrderly (sym fresh.1) (stands_first t.desk.marked);
+  stands = subst IsOrderly (sym fresh.1) (stands_first t.state.marked);
   all = λ s low. absurd (let e = ap (λ d. d.made) fresh.1 in omega arith);
   no_mark = subst PacketsLeft (sym fresh.1) tt;
 }
@@ -51,7 +51,7 @@ all_settled (i ∷ is) [] h = h
 all_settled (i ∷ is) (t ∷ ts) h = (settled_first i t h.0, all_settled is ts h.1)
 
 pub fresh_at : (inboxes : List InboxId) (takers : List TakerView) → AllZip IsFresh inboxes takers → (v : ℕ) (d : TakerView) → v < length inboxes
-    → (get_or takers v d).desk ≡ make_desk (get_or takers v d).desk.marked 0 [] []
+    → (get_or takers v d).state ≡ make_taker_state (get_or takers v d).state.marked 0 [] []
 fresh_at [] ts h v d low = absurd (omega arith)
 fresh_at (i ∷ is) [] h v d low = absurd h
 fresh_at (i ∷ is) (t ∷ ts) h zero d low = h.0.1
@@ -65,7 +65,7 @@ none_crossed system of v s =
     elim (cases_Bool (is_own of v s)) [ inl e ↦ rw e refl | inr e ↦ rw e (ap (filter (is_to of v)) (none_sent system s)) ]
 
 first_worker : (n : NetTold) (of : List ℕ) (v : ℕ) (share : Share) (taker : TakerView) (marked : Bool) → Keeps n of v 0 (first_mote (system_of n)) [] share
-    → taker.desk ≡ make_desk marked 0 [] []
+    → taker.state ≡ make_taker_state marked 0 [] []
     → IsWorkerAt n of 0 (first_mote (system_of n)) None v share taker
 first_worker n of v share taker marked keeps fresh = record {
   keeps = subst (λ d. Keeps n of v 0 (first_mote (system_of n)) (copies_of d.taken) share) (sym fresh) keeps;
@@ -73,16 +73,16 @@ first_worker n of v share taker marked keeps fresh = record {
   waits = λ s. record { rest = []; all = rw fresh refl; later = tt };
 }
 
-pub starts : (n : NetTold) (of : List ℕ) (crew : Workers) → IsCut (length n.motes) (length crew.inboxes.items) of → AllZip IsFresh crew.inboxes.items crew.takers.items
-    → AreFirst n of (length crew.inboxes.items) crew.shares.items → crew.first_out ≡ None → IsAt n of 0 crew
-starts n of crew cut fresh shares none = record {
+pub starts : (n : NetTold) (of : List ℕ) (group : Workers) → IsCut (length n.motes) (length group.inboxes.items) of → AllZip IsFresh group.inboxes.items group.takers.items
+    → AreFirst n of (length group.inboxes.items) group.shares.items → group.first_out ≡ None → IsAt n of 0 group
+starts n of group cut fresh shares none = record {
   motes = first_mote (system_of n);
   led = Last;
   cut = cut;
   shares = shares.count;
-  settled = all_settled crew.inboxes.items crew.takers.items fresh;
+  settled = all_settled group.inboxes.items group.takers.items fresh;
   first = rw none tt;
   each = λ v low share taker.
-      subst (λ o. IsWorkerAt n of 0 (first_mote (system_of n)) o v (get_or crew.shares.items v share) (get_or crew.takers.items v taker)) (sym none)
-      (first_worker n of v _ _ _ (shares.each v share low) (fresh_at crew.inboxes.items crew.takers.items fresh v taker low));
+      subst (λ o. IsWorkerAt n of 0 (first_mote (system_of n)) o v (get_or group.shares.items v share) (get_or group.takers.items v taker)) (sym none)
+      (first_worker n of v _ _ _ (shares.each v share low) (fresh_at group.inboxes.items group.takers.items fresh v taker low));
 }

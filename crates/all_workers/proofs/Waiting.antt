@@ -16,7 +16,7 @@ use Rattle.window_laws.proofs.Lists.{filter_filter, filter_both, filter_every, e
 use Rattle.window_laws.proofs.Order.{in_order_same, sorted_permutes}
 use Rattle.net_agenda.specs.NetSystem.{system_of}
 use Rattle.copy_inbox.specs.Handles.{TakerView}
-use Rattle.copy_exchange.specs.Desks.{taken_by, gathered_by}
+use Rattle.copy_exchange.specs.Takers.{taken_by, gathered_by}
 use Rattle.worker_cut.specs.Crossed.{is_own, is_to, crossed, copies_known}
 use Rattle.worker_cut.proofs.Windows.{coming, coming_pending}
 use Rattle.worker_window.specs.declared.share.Share.{Share}

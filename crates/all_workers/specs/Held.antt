@@ -11,7 +11,7 @@ use Rattle.window_laws.specs.NetStep.{NetState, Run, boot}
 use Rattle.net_agenda.specs.Buckets.{Holds}
 use Rattle.net_agenda.specs.NetSystem.{system_of}
 use Rattle.copy_inbox.specs.Handles.{TakerView}
-use Rattle.copy_exchange.specs.Desks.{taken_by, gathered_by}
+use Rattle.copy_exchange.specs.Takers.{taken_by, gathered_by}
 use Rattle.worker_window.specs.declared.share.Share.{Share}
 use Rattle.all_workers.specs.declared.workers.Workers.{Workers}
 use Rattle.all_workers.specs.Workers.{IsAt}
@@ -24,14 +24,14 @@ pub record AreWith (share : Share) (taker : TakerView) (copies : List RadioCopy)
   pub gathered : IsPermutation (gathered_by taker) (taken_by taker ++ waiting)
   pub both : IsPermutation copies (packets items ++ waiting)
 
--- Where the workers stand before a moment, the copies of the net's agenda behind all turns before it are those that the
+-- Where the workers stand before a moment, the copies of the net's agenda after all turns before it are those that the
 -- workers hold together with those in the inboxes, each once.
 abbrev pub AgendaIsHeld : Type 0
-AgendaIsHeld = (n : NetTold) → RunsForward (system_of n) → (of : List ℕ) (end : ℕ) (crew : Workers)
-    → IsAt n of (suc end) crew
+AgendaIsHeld = (n : NetTold) → RunsForward (system_of n) → (of : List ℕ) (end : ℕ) (group : Workers)
+    → IsAt n of (suc end) group
     → (net : NetState Node Line) → Run (system_of n) end (boot (system_of n)) net
     → (parts : ℕ → List RadioCopy)
-    × ((worker : ℕ) → worker < length crew.inboxes.items → (share : Share) (taker : TakerView)
-    → AreWith (slice_index_or crew.shares.items worker share) (slice_index_or crew.takers.items worker taker)
+    × ((worker : ℕ) → worker < length group.inboxes.items → (share : Share) (taker : TakerView)
+    → AreWith (slice_index_or group.shares.items worker share) (slice_index_or group.takers.items worker taker)
     (parts worker))
-    × IsPermutation (packets net.agenda) (flat_map parts (up_to (length crew.inboxes.items)))
+    × IsPermutation (packets net.agenda) (flat_map parts (up_to (length group.inboxes.items)))

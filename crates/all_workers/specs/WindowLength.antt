@@ -1,7 +1,7 @@
 -- How long a window is, and where it ends.
 use Rattle.std.specs.Prelude.{ℕ, ◌+◌, min, nat_lt, ◌&&◌, if◌then◌else◌}
 
--- a window lasts as long as the lookahead, or less where a shorter length is told
+-- a window lasts as long as the lookahead, or less where a shorter length is given
 abbrev pub length_of_window : (lookahead longest : ℕ) → ℕ
 length_of_window lookahead longest = if nat_lt 0 longest && nat_lt longest lookahead then longest else lookahead
 

@@ -7,7 +7,7 @@ use Rattle.window_laws.specs.Windows.{first_mote, Windows, WakesFrom, is_from_se
 use Rattle.net_agenda.specs.NetSystem.{system_of}
 use Rattle.worker_cut.specs.Laws.{HasGathered}
 use Rattle.copy_inbox.specs.Handles.{TakerView}
-use Rattle.copy_exchange.specs.Desks.{taken_by, gathered_by}
+use Rattle.copy_exchange.specs.Takers.{taken_by, gathered_by}
 use Rattle.copy_exchange.specs.Inboxes.{Settled}
 use Rattle.worker_window.specs.declared.share.Share.{Share}
 use Rattle.worker_window.specs.Share.{Motes, Keeps}
@@ -23,7 +23,7 @@ abbrev pub IsNotBefore : (first : Option ℕ) → RadioCopy → Type 0
 IsNotBefore None copy = ⊥
 IsNotBefore (Some moment) copy = moment ≤ copy.at
 
--- of what a worker gathered of one mote, it took a front; the rest lies in its inbox, and arrives no sooner than at
+-- of what a worker gathered of one mote, it took a prefix; the rest lies in its inbox, and arrives no sooner than at
 -- this moment
 pub record Waits (first : Option ℕ) (sender : ℕ) (taker : TakerView) : Type 0 where
   pub rest : List RadioCopy

@@ -1,10 +1,10 @@
-//! The law of the agenda. It is the contract of a function that does nothing.
+//! The law of the agenda. It is a theorem, stated as the contract of an empty function.
 
 ghost use Rattle.all_workers.specs.Held.{AgendaIsHeld};
 
 /// At the start of each window but the first, before which nothing was sent, the copies of the net's agenda are those
 /// that the workers hold together with those in the inboxes, each once. The agenda is that of the run of the net, one
-/// turn at a time, behind all turns before the window.
+/// turn at a time, after all turns before the window.
 pub fn agenda_is_held()
     ensures { AgendaIsHeld }
 {}

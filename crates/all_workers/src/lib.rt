@@ -10,8 +10,8 @@ mod windows;
 mod worker;
 mod workers;
 
-pub use refusal::refused;
-pub use senders::set_out;
+pub use refusal::refusal_of;
+pub use senders::make_endpoints;
 pub use windows::{lookahead_of, window_end, window_length};
-pub use worker::{Worker, parted, workers_of};
+pub use worker::{Worker, split_workers, workers_of};
 pub use workers::Workers;

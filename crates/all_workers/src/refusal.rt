@@ -7,7 +7,7 @@ use fork_join::Refused;
 use window_run::ShareError;
 
 /// Why a worker gave up whose motes gave up in a window.
-pub fn refused(error: ShareError) -> Refused
+pub fn refusal_of(error: ShareError) -> Refused
     ensures { result ≡ refused_of error }
 {
     match error {

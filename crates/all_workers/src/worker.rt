@@ -5,16 +5,16 @@ ghost use Rattle.std.specs.List.{zip};
 ghost use Rattle.fork_join.specs.declared.work.Refused.TheVariants.{Memory};
 ghost use Rattle.all_workers.specs.Worker.{worker_of};
 
-use copy_exchange::Courier;
+use copy_exchange::Endpoint;
 use fork_join::Refused;
 use std::alloc::Global;
 use worker_window::Share;
 
-/// A worker: its share of the net, and its taker and senders.
+/// A worker: its share of the net, and its endpoint: its taker and senders.
 #[derive(Drop)]
 pub struct Worker {
     pub share: Share,
-    pub courier: Courier,
+    pub endpoint: Endpoint,
     /// When the first of the copies arrives that it delivered, and that lie in an inbox.
     pub first_out: Option<u64>,
 }
@@ -23,16 +23,16 @@ pub struct Worker {
 pub fn workers_of(
     alloc: Global,
     shares: Vec<Share>,
-    couriers: Vec<Courier>,
+    endpoints: Vec<Endpoint>,
 ) -> Result<Vec<Worker>, Refused>
-    ensures workers { IfOk result (λ workers. workers.items ≡ map worker_of (zip shares.items couriers.items)) }
+    ensures workers { IfOk result (λ workers. workers.items ≡ map worker_of (zip shares.items endpoints.items)) }
     ensures refused { IfErr result (λ reason. reason ≡ Memory) }
 {
     let mut workers = Vec::new(alloc);
-    for (share, courier) in shares.into_iter().zip(couriers) {
+    for (share, endpoint) in shares.into_iter().zip(endpoints) {
         workers.push(Worker {
             share,
-            courier,
+            endpoint,
             first_out: None,
         })?;
     }
@@ -40,21 +40,24 @@ pub fn workers_of(
 }
 
 /// The workers' shares, and their takers and senders.
-pub fn parted(alloc: Global, workers: Vec<Worker>) -> Result<(Vec<Share>, Vec<Courier>), Refused>
+pub fn split_workers(
+    alloc: Global,
+    workers: Vec<Worker>,
+) -> Result<(Vec<Share>, Vec<Endpoint>), Refused>
     ensures shares { IfOk result (λ r. r.0.items ≡ map (λ worker. worker.share) workers.items) }
-    ensures couriers { IfOk result (λ r. r.1.items ≡ map (λ worker. worker.courier) workers.items) }
+    ensures endpoints { IfOk result (λ r. r.1.items ≡ map (λ worker. worker.endpoint) workers.items) }
     ensures refused { IfErr result (λ reason. reason ≡ Memory) }
 {
     let mut shares = Vec::new(alloc);
-    let mut couriers = Vec::new(alloc);
+    let mut endpoints = Vec::new(alloc);
     for worker in workers {
         let Worker {
             share,
-            courier,
+            endpoint,
             first_out: _,
         } = worker;
         shares.push(share)?;
-        couriers.push(courier)?;
+        endpoints.push(endpoint)?;
     }
-    Ok((shares, couriers))
+    Ok((shares, endpoints))
 }

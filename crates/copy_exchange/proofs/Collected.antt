@@ -4,25 +4,25 @@ use Rattle.std.specs.declared.alloc.Global.{Global}
 use Rattle.radio_packet.specs.declared.copy.RadioCopy.{RadioCopy}
 use Rattle.copy_inbox.specs.declared.inbox.InboxError.{InboxError}
 use Rattle.copy_inbox.specs.declared.items.Item.{Item}
-use Rattle.copy_inbox.specs.declared.rule.Desk.{Desk}
-use Rattle.copy_inbox.specs.Views.{make_desk}
+use Rattle.copy_inbox.specs.declared.rule.TakerState.{TakerState}
+use Rattle.copy_inbox.specs.Views.{make_taker_state}
 use Rattle.copy_inbox.specs.Items.{copies_of, part}
 use Rattle.copy_inbox.specs.Gathered.{TookFronts, Whole, NoOthers}
 use Rattle.copy_inbox.specs.Handles.{InboxId, TakerView, TakesCopies, after_taking}
-use Rattle.copy_exchange.specs.declared.courier.Courier.{Courier}
+use Rattle.copy_exchange.specs.declared.endpoint.Endpoint.{Endpoint}
 use Rattle.copy_inbox.proofs.Parts.{packets_copies}
-use Rattle.copy_exchange.specs.Couriers.{IsCourier, Collects}
+use Rattle.copy_exchange.specs.Endpoints.{IsEndpoint, Collects}
 use Rattle.copy_exchange.specs.Inboxes.{IsPlain}
-use Rattle.copy_exchange.specs.Desks.{SameOfEach, taken_by, gathered_by, IsRest, IsOrderly}
+use Rattle.copy_exchange.specs.Takers.{SameOfEach, taken_by, gathered_by, IsRest, IsOrderly}
 use Rattle.copy_exchange.proofs.Parts.{from, copies-append}
 
 -- some of the rest is taken
-rest_of_rest : (d : Desk) (items rest : List Item) → NoOthers d.gathered d.taken (d.taken ++ items) → IsRest (make_desk d.marked d.made (d.taken ++ items) d.gathered) rest → IsRest d (items ++ rest)
+rest_of_rest : (d : TakerState) (items rest : List Item) → NoOthers d.gathered d.taken (d.taken ++ items) → IsRest (make_taker_state d.marked d.made (d.taken ++ items) d.gathered) rest → IsRest d (items ++ rest)
 rest_of_rest d items rest none r =
     let e : (d.taken ++ items) ++ rest ≡ d.taken ++ (items ++ rest) = append_assoc d.taken items rest in
     (subst (λ (l : List Item). Whole d.gathered l) e r.0, λ s unseen. ap (part s) (sym e) ∙ (r.1 s unseen ∙ none s unseen))
 
-stands_taking : (d : Desk) (items : List Item) → IsOrderly d → NoOthers d.gathered d.taken (d.taken ++ items) → TookFronts d.gathered (d.taken ++ items) → IsOrderly (make_desk d.marked d.made (d.taken ++ items) d.gathered)
+stands_taking : (d : TakerState) (items : List Item) → IsOrderly d → NoOthers d.gathered d.taken (d.taken ++ items) → TookFronts d.gathered (d.taken ++ items) → IsOrderly (make_taker_state d.marked d.made (d.taken ++ items) d.gathered)
 stands_taking d items h none begun = record {
   in_order = λ rest r s.
       ap (λ l. from s (copies_of l)) (append_assoc d.taken items rest) ∙ h.in_order (items ++ rest) (rest_of_rest d items rest none r) s;
@@ -33,65 +33,65 @@ stands_taking d items h none begun = record {
   numbers = h.numbers;
 }
 
-pub stands_on : (old new : TakerView) (copies : List RadioCopy) → IsOrderly old.desk → TakesCopies old new copies → NoOthers old.desk.gathered old.desk.taken new.desk.taken → TookFronts new.desk.gathered new.desk.taken → IsOrderly new.desk
+pub stands_on : (old new : TakerView) (copies : List RadioCopy) → IsOrderly old.state → TakesCopies old new copies → NoOthers old.state.gathered old.state.taken new.state.taken → TookFronts new.state.gathered new.state.taken → IsOrderly new.state
 stands_on old new copies h takes none begun =
     let items : List Item = takes.0 in
     let e : new ≡ after_taking old items = takes.2 in
-    let none' : NoOthers old.desk.gathered old.desk.taken (old.desk.taken ++ items) = subst (λ (t : TakerView). NoOthers old.desk.gathered old.desk.taken t.desk.taken) e none in
-    let begun' : TookFronts old.desk.gathered (old.desk.taken ++ items) = subst (λ (t : TakerView). TookFronts t.desk.gathered t.desk.taken) e begun in
-    subst (λ (t : TakerView). IsOrderly t.desk) (sym e) (stands_taking old.desk items h none' begun')
+    let none' : NoOthers old.state.gathered old.state.taken (old.state.taken ++ items) = subst (λ (t : TakerView). NoOthers old.state.gathered old.state.taken t.state.taken) e none in
+    let begun' : TookFronts old.state.gathered (old.state.taken ++ items) = subst (λ (t : TakerView). TookFronts t.state.gathered t.state.taken) e begun in
+    subst (λ (t : TakerView). IsOrderly t.state) (sym e) (stands_taking old.state items h none' begun')
 
 pub adds : (old new : TakerView) (copies : List RadioCopy) → TakesCopies old new copies → taken_by new ≡ taken_by old ++ copies
-adds old new copies takes = ap taken_by takes.2 ∙ (copies-append old.desk.taken takes.0 ∙ ap (λ l. taken_by old ++ l) (packets_copies takes.0 copies takes.1))
+adds old new copies takes = ap taken_by takes.2 ∙ (copies-append old.state.taken takes.0 ∙ ap (λ l. taken_by old ++ l) (packets_copies takes.0 copies takes.1))
 
-pub now_in_order : (old new : TakerView) (copies : List RadioCopy) → IsOrderly old.desk → TakesCopies old new copies → NoOthers old.desk.gathered old.desk.taken new.desk.taken → Whole new.desk.gathered new.desk.taken
+pub now_in_order : (old new : TakerView) (copies : List RadioCopy) → IsOrderly old.state → TakesCopies old new copies → NoOthers old.state.gathered old.state.taken new.state.taken → Whole new.state.gathered new.state.taken
     → SameOfEach (taken_by new) (gathered_by old)
 now_in_order old new copies h takes none whole s =
     let items : List Item = takes.0 in
     let e : new ≡ after_taking old items = takes.2 in
-    let none' : NoOthers old.desk.gathered old.desk.taken (old.desk.taken ++ items) = subst (λ (t : TakerView). NoOthers old.desk.gathered old.desk.taken t.desk.taken) e none in
-    let whole' : Whole old.desk.gathered (old.desk.taken ++ items) = subst (λ (t : TakerView). Whole t.desk.gathered t.desk.taken) e whole in
+    let none' : NoOthers old.state.gathered old.state.taken (old.state.taken ++ items) = subst (λ (t : TakerView). NoOthers old.state.gathered old.state.taken t.state.taken) e none in
+    let whole' : Whole old.state.gathered (old.state.taken ++ items) = subst (λ (t : TakerView). Whole t.state.gathered t.state.taken) e whole in
     ap (λ (t : TakerView). from s (taken_by t)) e ∙ h.in_order items (whole', none') s
 
--- ---- the courier after it
-abbrev pub with_taker : Courier → TakerView → Courier
+-- ---- the endpoint after it
+abbrev pub with_taker : Endpoint → TakerView → Endpoint
 with_taker c t = record { worker = c.worker; taker = t; senders = c.senders }
 
-module _ (inboxes : List InboxId) (c : Courier) (t : TakerView) (r : Result (Vec RadioCopy Global) InboxError)
-    (courier : IsCourier inboxes c)
+module _ (inboxes : List InboxId) (c : Endpoint) (t : TakerView) (r : Result (Vec RadioCopy Global) InboxError)
+    (endpoint : IsEndpoint inboxes c)
     (takes : IfOk r (λ copies. TakesCopies c.taker t copies.items))
-    (begun : OnOk r (TookFronts t.desk.gathered t.desk.taken))
-    (others : OnOk r (NoOthers c.taker.desk.gathered c.taker.desk.taken t.desk.taken)) where
-  pub courier_on : OnOk r (IsCourier inboxes (with_taker c t))
-  courier_on = cases r takes begun others
+    (begun : OnOk r (TookFronts t.state.gathered t.state.taken))
+    (others : OnOk r (NoOthers c.taker.state.gathered c.taker.state.taken t.state.taken)) where
+  pub endpoint_on : OnOk r (IsEndpoint inboxes (with_taker c t))
+  endpoint_on = cases r takes begun others
     where
-      cases : (q : Result (Vec RadioCopy Global) InboxError) → IfOk q (λ copies. TakesCopies c.taker t copies.items) → OnOk q (TookFronts t.desk.gathered t.desk.taken)
-          → OnOk q (NoOthers c.taker.desk.gathered c.taker.desk.taken t.desk.taken) → OnOk q (IsCourier inboxes (with_taker c t))
+      cases : (q : Result (Vec RadioCopy Global) InboxError) → IfOk q (λ copies. TakesCopies c.taker t copies.items) → OnOk q (TookFronts t.state.gathered t.state.taken)
+          → OnOk q (NoOthers c.taker.state.gathered c.taker.state.taken t.state.taken) → OnOk q (IsEndpoint inboxes (with_taker c t))
       cases (Ok copies) takes begun others = record {
-        taker = courier.taker ∙ ap (λ (u : TakerView). Some u.inbox) (sym takes.2);
-        count = courier.count;
-        each = courier.each;
-        stands = stands_on c.taker t copies.items courier.stands takes others begun;
+        taker = endpoint.taker ∙ ap (λ (u : TakerView). Some u.inbox) (sym takes.2);
+        count = endpoint.count;
+        each = endpoint.each;
+        stands = stands_on c.taker t copies.items endpoint.stands takes others begun;
       }
       cases (Err e) takes begun others = tt
 
-  pub collects : IsPlain c.taker → OnOk r (Whole t.desk.gathered t.desk.taken) → IfOk r (λ copies. Collects c (with_taker c t) copies.items)
+  pub collects : IsPlain c.taker → OnOk r (Whole t.state.gathered t.state.taken) → IfOk r (λ copies. Collects c (with_taker c t) copies.items)
   collects plain whole = cases r takes others whole
     where
       cases : (q : Result (Vec RadioCopy Global) InboxError) → IfOk q (λ copies. TakesCopies c.taker t copies.items)
-          → OnOk q (NoOthers c.taker.desk.gathered c.taker.desk.taken t.desk.taken) → OnOk q (Whole t.desk.gathered t.desk.taken) → IfOk q (λ copies. Collects c (with_taker c t) copies.items)
+          → OnOk q (NoOthers c.taker.state.gathered c.taker.state.taken t.state.taken) → OnOk q (Whole t.state.gathered t.state.taken) → IfOk q (λ copies. Collects c (with_taker c t) copies.items)
       cases (Ok copies) takes others whole = record {
         stays = record {
           worker = refl;
           inbox = ap (λ (u : TakerView). u.inbox) takes.2;
-          marked = ap (λ (u : TakerView). u.desk.marked) takes.2;
-          made = ap (λ (u : TakerView). u.desk.made) takes.2;
-          gathered = ap (λ (u : TakerView). u.desk.gathered) takes.2;
+          marked = ap (λ (u : TakerView). u.state.marked) takes.2;
+          made = ap (λ (u : TakerView). u.state.made) takes.2;
+          gathered = ap (λ (u : TakerView). u.state.gathered) takes.2;
           seats = refl;
         };
-        plain = ap (λ (u : TakerView). u.desk.marked) takes.2 ∙ plain;
+        plain = ap (λ (u : TakerView). u.state.marked) takes.2 ∙ plain;
         adds = adds c.taker t copies.items takes;
-        in_order = now_in_order c.taker t copies.items courier.stands takes others whole;
+        in_order = now_in_order c.taker t copies.items endpoint.stands takes others whole;
         all = whole;
         delivers_none = λ v. refl;
       }

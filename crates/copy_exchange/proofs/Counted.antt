@@ -10,13 +10,13 @@ use Rattle.copy_inbox.specs.declared.items.Carried.{Carried}
 use Rattle.copy_inbox.specs.declared.items.Carried.TheVariants.{Packet, Mark}
 use Rattle.copy_inbox.specs.declared.items.Item.{Item}
 use Rattle.copy_inbox.specs.declared.rule.Gathered.{Gathered}
-use Rattle.copy_inbox.specs.declared.rule.Desk.{Desk}
+use Rattle.copy_inbox.specs.declared.rule.TakerState.{TakerState}
 use Rattle.copy_inbox.specs.Items.{copies_of, carried_copy, is_packet, Packets, part}
 use Rattle.copy_inbox.specs.Gathered.{is_gathered, Apart, TookFronts, known_of, untaken_of}
 use Rattle.copy_inbox.specs.Handles.{PacketsLeft}
 use Rattle.copy_inbox.proofs.Parts.{part-here, part-else, part-not_nil, part-nil_right}
 use Rattle.copy_inbox.proofs.Counts.{tally, front_counts, tally-nil}
-use Rattle.copy_exchange.specs.Desks.{copies_in, copies_pushed, IsOrderly}
+use Rattle.copy_exchange.specs.Takers.{copies_in, copies_pushed, IsOrderly}
 use Rattle.copy_exchange.proofs.Parts.{pushed-append}
 
 -- ---- the packets among items
@@ -106,7 +106,7 @@ all_counted gs (x ∷ xs) apart none =
     let one : tally gs (x ∷ xs) ≡ 1 + tally gs xs = front_counts gs x xs apart ∙ ap (λ (b : Bool). cond b 1 0 + tally gs xs) yes in
     omega arith
 
-pub gathered_length : (d : Desk) → IsOrderly d → PacketsLeft d → length (copies_in d.gathered) ≡ length (copies_of d.taken) + known_of d.gathered d.taken
+pub gathered_length : (d : TakerState) → IsOrderly d → PacketsLeft d → length (copies_in d.gathered) ≡ length (copies_of d.taken) + known_of d.gathered d.taken
 gathered_length d h packets =
     let a = begun_length d.gathered d.taken h.begun packets in
     let b = all_counted d.gathered (packets_in d.taken) h.apart (λ i no. none_kept i d.taken (h.unseen i no)) in

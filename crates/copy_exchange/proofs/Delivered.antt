@@ -10,12 +10,12 @@ use Rattle.std.specs.Vec.{with_item}
 use Rattle.radio_packet.specs.declared.copy.RadioCopy.{RadioCopy}
 use Rattle.copy_inbox.specs.declared.items.Carried.{Carried}
 use Rattle.copy_inbox.specs.declared.items.Carried.TheVariants.{Packet}
-use Rattle.copy_inbox.specs.declared.rule.Post.{Post}
+use Rattle.copy_inbox.specs.declared.rule.SenderState.{SenderState}
 use Rattle.copy_inbox.specs.Handles.{InboxId, TakerView, SenderView, after_pushing}
-use Rattle.copy_exchange.specs.declared.courier.Courier.{Courier}
-use Rattle.copy_exchange.specs.Desks.{copies_pushed, IsOrderly}
+use Rattle.copy_exchange.specs.declared.endpoint.Endpoint.{Endpoint}
+use Rattle.copy_exchange.specs.Takers.{copies_pushed, IsOrderly}
 use Rattle.worker_cut.specs.Crossed.{is_to}
-use Rattle.copy_exchange.specs.Couriers.{IsCourier, IsSeated, IsSenderOn, Leaves, Reaches, Stays, Delivers, PushesOut, sender_to, delivered, pushed_by, pushed_list, pushed_to, seat_of}
+use Rattle.copy_exchange.specs.Endpoints.{IsEndpoint, IsSeated, IsSenderOn, Leaves, Reaches, Stays, Delivers, PushesOut, sender_to, delivered, pushed_by, pushed_list, pushed_to, seat_of}
 use Rattle.worker_cut.proofs.Owners.{own_is}
 use Rattle.copy_exchange.proofs.Parts.{pushed-append}
 
@@ -25,7 +25,7 @@ same_at (s ∷ ss) zero d e lt = refl
 same_at (s ∷ ss) (suc v) d e lt = same_at ss v d e (omega arith)
 
 -- the sender on the inbox of the receiver's worker
-module _ (inboxes : List InboxId) (of : List ℕ) (c : Courier) (copy : RadioCopy) (to mote : ℕ) (courier : IsSeated inboxes c) (leaves : Leaves of (length inboxes) c.worker copy)
+module _ (inboxes : List InboxId) (of : List ℕ) (c : Endpoint) (copy : RadioCopy) (to mote : ℕ) (endpoint : IsSeated inboxes c) (leaves : Leaves of (length inboxes) c.worker copy)
     (at_mote : mote ≡ copy.to) (at_to : to ≡ get_or of mote 0) where
   pub to_is : to ≡ slice_index of copy.to
   to_is = at_to ∙ ap (λ k. slice_index of k) at_mote
@@ -39,56 +39,56 @@ module _ (inboxes : List InboxId) (of : List ℕ) (c : Courier) (copy : RadioCop
   -- the sender is there
   pub never_none : (s : Option SenderView) → s ≡ get_or c.senders.items to s → s ≡ None → ⊥
   never_none s at_s none =
-      let count = courier.count in
+      let count = endpoint.count in
       let inside = to_inside in
       let found = slice_get-get_or inboxes to c.taker.inbox inside in
       let same : sender_to c to ≡ None = same_at c.senders.items to None s (omega arith) ∙ (sym at_s ∙ none) in
       let id : InboxId = get_or inboxes to c.taker.inbox in
       let P : Bool → Type 0 = λ b. IsSenderOn id b (sender_to c to) in
       let Q : Option SenderView → Type 0 = λ t. IsSenderOn id false t in
-      subst Q same (subst P to_other (courier.each to id found))
+      subst Q same (subst P to_other (endpoint.each to id found))
 
   pub sender_there : (id : InboxId) (s : Option SenderView) → id ≡ get_or inboxes to id → s ≡ get_or c.senders.items to s → IsSomeAnd s (λ sender. sender.inbox ≡ id)
   sender_there id s at_id at_s =
-      let count = courier.count in
+      let count = endpoint.count in
       let inside = to_inside in
       let found : slice_get inboxes to ≡ Some id = slice_get-get_or inboxes to id inside ∙ ap Some (sym at_id) in
       let same : sender_to c to ≡ s = same_at c.senders.items to None s (omega arith) ∙ sym at_s in
       let P : Bool → Type 0 = λ b. IsSenderOn id b (sender_to c to) in
       let Q : Option SenderView → Type 0 = λ t. IsSenderOn id false t in
-      subst Q same (subst P to_other (courier.each to id found))
+      subst Q same (subst P to_other (endpoint.each to id found))
 
--- ---- the courier after it
+-- ---- the endpoint after it
 sender_on : (id : InboxId) (own : Bool) (s t : SenderView) → t.inbox ≡ s.inbox → IsSenderOn id own (Some s) → IsSenderOn id own (Some t)
 sender_on id true s t e h = absurd cc
 sender_on id false s t e h = e ∙ h
 
-abbrev pub with_sender : Courier → (to : ℕ) → SenderView → Courier
+abbrev pub with_sender : Endpoint → (to : ℕ) → SenderView → Endpoint
 with_sender c to t = record { worker = c.worker; taker = c.taker; senders = with_item c.senders to (Some t) }
 
-module _ (inboxes : List InboxId) (of : List ℕ) (c : Courier) (copy : RadioCopy) (to : ℕ) (courier : IsSeated inboxes c) (inside : to < length inboxes) (there : copy.to < length of) (is : to ≡ slice_index of copy.to)
-    (s t : SenderView) (was : Some s ≡ get_or c.senders.items to (Some s)) (same_inbox : t.inbox ≡ s.inbox) (post : t.post ≡ after_pushing s.post (Packet copy)) where
+module _ (inboxes : List InboxId) (of : List ℕ) (c : Endpoint) (copy : RadioCopy) (to : ℕ) (endpoint : IsSeated inboxes c) (inside : to < length inboxes) (there : copy.to < length of) (is : to ≡ slice_index of copy.to)
+    (s t : SenderView) (was : Some s ≡ get_or c.senders.items to (Some s)) (same_inbox : t.inbox ≡ s.inbox) (state : t.state ≡ after_pushing s.state (Packet copy)) where
   here : sender_to c to ≡ Some s
-  here = let count = courier.count in same_at c.senders.items to None (Some s) (omega arith) ∙ sym was
+  here = let count = endpoint.count in same_at c.senders.items to None (Some s) (omega arith) ∙ sym was
 
   then_here : sender_to (with_sender c to t) to ≡ Some t
-  then_here = let count = courier.count in get_or-set_same c.senders.items to (Some t) None (omega arith)
+  then_here = let count = endpoint.count in get_or-set_same c.senders.items to (Some t) None (omega arith)
 
   then_else : (v : ℕ) → v ≢ to → sender_to (with_sender c to t) v ≡ sender_to c v
   then_else v n = get_or-set_other c.senders.items to v (Some t) None n
 
-  pub courier_with : IsSeated inboxes (with_sender c to t)
-  courier_with = record {
-    taker = courier.taker;
-    count = length-set c.senders.items to (Some t) ∙ courier.count;
+  pub endpoint_with : IsSeated inboxes (with_sender c to t)
+  endpoint_with = record {
+    taker = endpoint.taker;
+    count = length-set c.senders.items to (Some t) ∙ endpoint.count;
     each = λ v id found. ⊎_elim
         (λ (q : (eqb v to ≡ true) × (v ≡ to)).
         let P : Option SenderView → Type 0 = λ o. IsSenderOn id (v == c.worker) o in
-        let old : IsSenderOn id (v == c.worker) (Some s) = subst P (ap (sender_to c) q.1 ∙ here) (courier.each v id found) in
+        let old : IsSenderOn id (v == c.worker) (Some s) = subst P (ap (sender_to c) q.1 ∙ here) (endpoint.each v id found) in
         subst P (sym (ap (sender_to (with_sender c to t)) q.1 ∙ then_here)) (sender_on id (v == c.worker) s t same_inbox old))
         (λ (q : (eqb v to ≡ false) × (v ≢ to)).
         let P : Option SenderView → Type 0 = λ o. IsSenderOn id (v == c.worker) o in
-        subst P (sym (then_else v q.1)) (courier.each v id found))
+        subst P (sym (then_else v q.1)) (endpoint.each v id found))
         (eqb_tells v to);
   }
 
@@ -97,7 +97,7 @@ module _ (inboxes : List InboxId) (of : List ℕ) (c : Courier) (copy : RadioCop
       (λ (q : (eqb v to ≡ true) × (v ≡ to)).
       let e : is_to of v copy ≡ true = own_is of copy.to v there ∙ eq-eqb (slice_index of copy.to) v (sym (q.1 ∙ is)) in
       ap pushed_by (ap (sender_to (with_sender c to t)) q.1 ∙ then_here)
-      ∙ (ap (λ (p : Post). copies_pushed p.pushed) post ∙ pushed-append s.post.pushed (Packet copy ∷ []))
+      ∙ (ap (λ (p : SenderState). copies_pushed p.pushed) state ∙ pushed-append s.state.pushed (Packet copy ∷ []))
       ∙ ap (λ (o : Option SenderView). pushed_by o ++ copy ∷ []) (sym (ap (sender_to c) q.1 ∙ here))
       ∙ ap (λ (b : Bool). delivered c v ++ cond b (copy ∷ []) []) (sym e))
       (λ (q : (eqb v to ≡ false) × (v ≢ to)).
@@ -110,7 +110,7 @@ module _ (inboxes : List InboxId) (of : List ℕ) (c : Courier) (copy : RadioCop
       (λ (q : (eqb v to ≡ true) × (v ≡ to)).
       let e : is_to of v copy ≡ true = own_is of copy.to v there ∙ eq-eqb (slice_index of copy.to) v (sym (q.1 ∙ is)) in
       ap pushed_list (ap (sender_to (with_sender c to t)) q.1 ∙ then_here)
-      ∙ ap (λ (p : Post). p.pushed) post
+      ∙ ap (λ (p : SenderState). p.pushed) state
       ∙ ap (λ (o : Option SenderView). pushed_list o ++ Packet copy ∷ []) (sym (ap (sender_to c) q.1 ∙ here))
       ∙ ap (λ (b : Bool). pushed_to c v ++ map Packet (cond b (copy ∷ []) [])) (sym e))
       (λ (q : (eqb v to ≡ false) × (v ≢ to)).
@@ -126,7 +126,7 @@ module _ (inboxes : List InboxId) (of : List ℕ) (c : Courier) (copy : RadioCop
       marked = refl;
       made = refl;
       gathered = refl;
-      seats = map-set_same seat_of c.senders.items to (Some t) (Some s) (ap Some (λ i. (same_inbox i, (post i).number, (post i).marked)) ∙ ap seat_of was);
+      seats = map-set_same seat_of c.senders.items to (Some t) (Some s) (ap Some (λ i. (same_inbox i, (state i).number, (state i).marked)) ∙ ap seat_of was);
     };
     taker = refl;
     adds = adds_at;
@@ -134,7 +134,7 @@ module _ (inboxes : List InboxId) (of : List ℕ) (c : Courier) (copy : RadioCop
   }
 
 -- ---- copy by copy
-pub stays_on : (a b c : Courier) → Stays a b → Stays b c → Stays a c
+pub stays_on : (a b c : Endpoint) → Stays a b → Stays b c → Stays a c
 stays_on a b c h k = record {
   worker = k.worker ∙ h.worker;
   inbox = k.inbox ∙ h.inbox;
@@ -144,7 +144,7 @@ stays_on a b c h k = record {
   seats = k.seats ∙ h.seats;
 }
 
-pub delivers_none : (of : List ℕ) (c : Courier) → Delivers of c c []
+pub delivers_none : (of : List ℕ) (c : Endpoint) → Delivers of c c []
 delivers_none of c = record {
   stays = record { worker = refl; inbox = refl; marked = refl; made = refl; gathered = refl; seats = refl };
   taker = refl;
@@ -158,7 +158,7 @@ packets_on of v old xs ys =
     append_assoc old (map Packet (filter (is_to of v) xs)) (map Packet (filter (is_to of v) ys))
     ∙ ap (λ l. old ++ l) (sym (map-append Packet (filter (is_to of v) xs) (filter (is_to of v) ys)) ∙ ap (map Packet) (sym (filter-append (is_to of v) xs ys)))
 
-pub delivers_more : (of : List ℕ) (a b c : Courier) (xs ys : List RadioCopy) → Delivers of a b xs → Delivers of b c ys → Delivers of a c (xs ++ ys)
+pub delivers_more : (of : List ℕ) (a b c : Endpoint) (xs ys : List RadioCopy) → Delivers of a b xs → Delivers of b c ys → Delivers of a c (xs ++ ys)
 delivers_more of a b c xs ys h k = record {
   stays = stays_on a b c h.stays k.stays;
   taker = k.taker ∙ h.taker;
@@ -166,17 +166,17 @@ delivers_more of a b c xs ys h k = record {
   pushes = λ v. k.pushes v ∙ (ap (λ l. l ++ map Packet (filter (is_to of v) ys)) (h.pushes v) ∙ packets_on of v (pushed_to a v) xs ys);
 }
 
--- ---- a courier of joins among those that are seated
-pub seated : (inboxes : List InboxId) (c : Courier) → IsCourier inboxes c → IsSeated inboxes c
+-- ---- an endpoint of joins among those that are seated
+pub seated : (inboxes : List InboxId) (c : Endpoint) → IsEndpoint inboxes c → IsSeated inboxes c
 seated inboxes c h = record { taker = h.taker; count = h.count; each = h.each }
 
-pub courier_again : (inboxes : List InboxId) (of : List ℕ) (a b : Courier) (copies : List RadioCopy) → IsCourier inboxes a → Delivers of a b copies → IsSeated inboxes b → IsCourier inboxes b
-courier_again inboxes of a b copies h d s =
-    let P : TakerView → Type 0 = λ t. IsOrderly t.desk in
+pub endpoint_again : (inboxes : List InboxId) (of : List ℕ) (a b : Endpoint) (copies : List RadioCopy) → IsEndpoint inboxes a → Delivers of a b copies → IsSeated inboxes b → IsEndpoint inboxes b
+endpoint_again inboxes of a b copies h d s =
+    let P : TakerView → Type 0 = λ t. IsOrderly t.state in
     record { taker = s.taker; count = s.count; each = s.each; stands = subst P (sym d.taker) h.stands }
 
 -- ---- the copies for other workers
-pub pushes_none : (of : List ℕ) (c : Courier) → PushesOut of c c []
+pub pushes_none : (of : List ℕ) (c : Endpoint) → PushesOut of c c []
 pushes_none of c = record {
   stays = record { worker = refl; inbox = refl; marked = refl; made = refl; gathered = refl; seats = refl };
   taker = refl;
@@ -184,7 +184,7 @@ pushes_none of c = record {
 }
 
 -- a copy for one of its own motes isn't pushed
-pub pushes_own : (of : List ℕ) (workers : ℕ) (c : Courier) (copy : RadioCopy) → Reaches of workers copy → slice_index of copy.to ≡ c.worker → PushesOut of c c (copy ∷ [])
+pub pushes_own : (of : List ℕ) (workers : ℕ) (c : Endpoint) (copy : RadioCopy) → Reaches of workers copy → slice_index of copy.to ≡ c.worker → PushesOut of c c (copy ∷ [])
 pushes_own of workers c copy reaches own = record {
   stays = record { worker = refl; inbox = refl; marked = refl; made = refl; gathered = refl; seats = refl };
   taker = refl;
@@ -203,10 +203,10 @@ leaves_other of workers worker copy reaches other = record {
   other = own_is of copy.to worker reaches.there ∙ ne_eqb (slice_index of copy.to) worker other;
 }
 
-pub pushes_delivered : (of : List ℕ) (a b : Courier) (copies : List RadioCopy) → Delivers of a b copies → PushesOut of a b copies
+pub pushes_delivered : (of : List ℕ) (a b : Endpoint) (copies : List RadioCopy) → Delivers of a b copies → PushesOut of a b copies
 pushes_delivered of a b copies d = record { stays = d.stays; taker = d.taker; pushes = λ v other. d.pushes v }
 
-pub pushes_more : (of : List ℕ) (a b c : Courier) (xs ys : List RadioCopy) → PushesOut of a b xs → PushesOut of b c ys → PushesOut of a c (xs ++ ys)
+pub pushes_more : (of : List ℕ) (a b c : Endpoint) (xs ys : List RadioCopy) → PushesOut of a b xs → PushesOut of b c ys → PushesOut of a c (xs ++ ys)
 pushes_more of a b c xs ys h k = record {
   stays = stays_on a b c h.stays k.stays;
   taker = k.taker ∙ h.taker;

@@ -9,34 +9,34 @@ use Rattle.radio_packet.specs.declared.copy.RadioCopy.{RadioCopy}
 use Rattle.copy_inbox.specs.declared.items.Carried.{Carried}
 use Rattle.copy_inbox.specs.declared.items.Item.{Item}
 use Rattle.copy_inbox.specs.declared.rule.Gathered.{Gathered}
-use Rattle.copy_inbox.specs.declared.rule.Desk.{Desk}
+use Rattle.copy_inbox.specs.declared.rule.TakerState.{TakerState}
 use Rattle.copy_inbox.specs.Items.{copies_of, Packets, part}
 use Rattle.copy_inbox.specs.Gathered.{is_gathered, untaken_of, Apart, TookFronts, Whole}
-use Rattle.copy_inbox.specs.Views.{make_desk, make_gathered}
+use Rattle.copy_inbox.specs.Views.{make_taker_state, make_gathered}
 use Rattle.copy_inbox.specs.Handles.{TakerView, SenderView, after_gather, AllGathered, PacketsLeft}
 use Rattle.copy_inbox.proofs.Parts.{part-append}
-use Rattle.copy_exchange.specs.Desks.{SameOfEach, copies_pushed, copies_in, IsRest, IsOrderly}
-use Rattle.copy_exchange.specs.Couriers.{AreOpen}
-use Rattle.copy_exchange.specs.Steps.{gather_posts}
+use Rattle.copy_exchange.specs.Takers.{SameOfEach, copies_pushed, copies_in, IsRest, IsOrderly}
+use Rattle.copy_exchange.specs.Endpoints.{AreOpen}
+use Rattle.copy_exchange.specs.Steps.{gather_senders}
 use Rattle.copy_exchange.proofs.Lists.{each_map}
 use Rattle.copy_exchange.proofs.Parts.{from, from-append, copies-append, OnlyIn, of_one_sender, nothing_more}
 
 abbrev pub copies_by : SenderView → List RadioCopy
-copies_by s = copies_pushed s.post.pushed
+copies_by s = copies_pushed s.state.pushed
 
 abbrev pub as_gathered : ℕ → SenderView → Gathered
-as_gathered made s = make_gathered s.post.number made s.post.pushed
+as_gathered made s = make_gathered s.state.number made s.state.pushed
 
 abbrev pub joined : ℕ → List SenderView → List Gathered → List Gathered
 joined made [] gs = gs
 joined made (s ∷ ss) gs = joined made ss (as_gathered made s ∷ gs)
 
-abbrev pub with_joined : List SenderView → Desk → Desk
-with_joined ss d = make_desk d.marked d.made d.taken (joined d.made ss d.gathered)
+abbrev pub with_joined : List SenderView → TakerState → TakerState
+with_joined ss d = make_taker_state d.marked d.made d.taken (joined d.made ss d.gathered)
 
-pub gather_is : (t : TakerView) (ss : List SenderView) → gather_posts t ss ≡ record { inbox = t.inbox; desk = with_joined ss t.desk }
+pub gather_is : (t : TakerView) (ss : List SenderView) → gather_senders t ss ≡ record { inbox = t.inbox; state = with_joined ss t.state }
 gather_is t [] = refl
-gather_is t (s ∷ ss) = gather_is (after_gather t s.post) ss
+gather_is t (s ∷ ss) = gather_is (after_gather t s.state) ss
 
 pub joined_copies : (made : ℕ) (ss : List SenderView) (gs : List Gathered) → copies_in (joined made ss gs) ≡ copies_in gs ++ flat_map copies_by ss
 joined_copies made [] gs = sym (append-nil (copies_in gs))
@@ -72,7 +72,7 @@ module _ (Q : ℕ → Type 0) where
       (λ (t : (eqb i g.number ≡ false) × (i ≢ g.number)). by_number gs h.1 i (sym (gathered_more g gs i t.1) ∙ e))
       (eqb_tells i g.number)
 
-  by_joined : (made : ℕ) (ss : List SenderView) (gs : List Gathered) → ((i : ℕ) → is_gathered gs i ≡ true → Q i) → Each (λ (s : SenderView). Q s.post.number) ss
+  by_joined : (made : ℕ) (ss : List SenderView) (gs : List Gathered) → ((i : ℕ) → is_gathered gs i ≡ true → Q i) → Each (λ (s : SenderView). Q s.state.number) ss
       → (i : ℕ) → is_gathered (joined made ss gs) i ≡ true → Q i
   by_joined made [] gs old new i e = old i e
   by_joined made (s ∷ ss) gs old new i e =
@@ -84,9 +84,9 @@ module _ (Q : ℕ → Type 0) where
 
 -- ---- one after another
 abbrev pub numbers_of : List SenderView → List ℕ
-numbers_of ss = map (λ (s : SenderView). s.post.number) ss
+numbers_of ss = map (λ (s : SenderView). s.state.number) ss
 
-record Gathering (ss : List SenderView) (d : Desk) : Type 0 where
+record Gathering (ss : List SenderView) (d : TakerState) : Type 0 where
   are_open : AreOpen ss d
   apart : Apart d.gathered
   begun : TookFronts d.gathered d.taken
@@ -96,15 +96,15 @@ record Gathering (ss : List SenderView) (d : Desk) : Type 0 where
 heads : (x y : ℕ) (xs ys : List ℕ) → x ∷ xs ≡ y ∷ ys → (x ≡ y) × (xs ≡ ys)
 heads x y xs ys e = (cc, cc)
 
-gathers_one : (s : SenderView) (ss : List SenderView) (d : Desk) → Gathering (s ∷ ss) d → Gathering ss (with_joined (s ∷ []) d)
+gathers_one : (s : SenderView) (ss : List SenderView) (d : TakerState) → Gathering (s ∷ ss) d → Gathering ss (with_joined (s ∷ []) d)
 gathers_one s ss d h =
     let o = h.are_open in
     let first : ℕ = o.first in
-    let e = heads s.post.number first (numbers_of ss) (range_with_len (first + 1) (length ss)) o.numbered in
+    let e = heads s.state.number first (numbers_of ss) (range_with_len (first + 1) (length ss)) o.numbered in
     let made = o.made in
     let number = e.0 in
     let g = as_gathered d.made s in
-    let not_yet : is_gathered d.gathered s.post.number ≡ false = o.newer s.post.number (omega arith) in
+    let not_yet : is_gathered d.gathered s.state.number ≡ false = o.newer s.state.number (omega arith) in
     record {
       are_open = record {
         first = first + 1;
@@ -117,7 +117,7 @@ gathers_one s ss d h =
         newer = λ i le. gathered_more g d.gathered i (λ z. absurd (omega arith)) ∙ o.newer i (omega arith);
       };
       apart = (not_yet, h.apart);
-      begun = ((s.post.pushed, ap (λ l. l ++ s.post.pushed) (sym (h.unseen s.post.number not_yet))), h.begun);
+      begun = ((s.state.pushed, ap (λ l. l ++ s.state.pushed) (sym (h.unseen s.state.number not_yet))), h.begun);
       unseen = λ i no. ⊎_elim
           (λ (t : (eqb i g.number ≡ true) × (i ≡ g.number)). let yes = gathered_same g d.gathered i t.1 in absurd cc)
           (λ (t : (eqb i g.number ≡ false) × (i ≢ g.number)). h.unseen i (sym (gathered_more g d.gathered i t.1) ∙ no))
@@ -125,32 +125,32 @@ gathers_one s ss d h =
       numbers = ((omega arith, omega arith), h.numbers);
     }
 
-gathers_all : (ss : List SenderView) (d : Desk) → Gathering ss d → Gathering [] (with_joined ss d)
+gathers_all : (ss : List SenderView) (d : TakerState) → Gathering ss d → Gathering [] (with_joined ss d)
 gathers_all [] d h = h
 gathers_all (s ∷ ss) d h = gathers_all ss (with_joined (s ∷ []) d) (gathers_one s ss d h)
 
 -- ---- the copies of one mote are all of one sender
 pub record OneOf (s : ℕ) (ss : List SenderView) : Type 0 where
   pub number : ℕ
-  pub each : Each (λ (a : SenderView). (a.post.number ≡ number) ⊎ (from s (copies_by a) ≡ [])) ss
+  pub each : Each (λ (a : SenderView). (a.state.number ≡ number) ⊎ (from s (copies_by a) ≡ [])) ss
 
 module _ (s j : ℕ) where
   abbrev Mine : SenderView → Type 0
-  Mine a = (a.post.number ≡ j) ⊎ (from s (copies_by a) ≡ [])
+  Mine a = (a.state.number ≡ j) ⊎ (from s (copies_by a) ≡ [])
 
   none_of : (first : ℕ) (ss : List SenderView) → numbers_of ss ≡ range_with_len first (length ss) → j < first → Each Mine ss → from s (flat_map copies_by ss) ≡ []
   none_of first [] e lt h = refl
   none_of first (a ∷ as') e lt h =
-      let heads' = heads a.post.number first (numbers_of as') (range_with_len (first + 1) (length as')) e in
+      let heads' = heads a.state.number first (numbers_of as') (range_with_len (first + 1) (length as')) e in
       let is = heads'.0 in
-      let here : from s (copies_by a) ≡ [] = ⊎_elim (λ (same : a.post.number ≡ j). absurd (omega arith)) (λ (none : from s (copies_by a) ≡ []). none) h.0 in
+      let here : from s (copies_by a) ≡ [] = ⊎_elim (λ (same : a.state.number ≡ j). absurd (omega arith)) (λ (none : from s (copies_by a) ≡ []). none) h.0 in
       ap (from s) (flat_map-cons copies_by a as') ∙ (from-append s (copies_by a) (flat_map copies_by as') ∙ (ap (λ l. l ++ from s (flat_map copies_by as')) here ∙ none_of (first + 1) as' heads'.1 (omega arith) h.1))
 
-  all_of : (items : List Item) (first : ℕ) (ss : List SenderView) → numbers_of ss ≡ range_with_len first (length ss) → Each (λ (a : SenderView). part a.post.number items ≡ a.post.pushed) ss → Each Mine ss
+  all_of : (items : List Item) (first : ℕ) (ss : List SenderView) → numbers_of ss ≡ range_with_len first (length ss) → Each (λ (a : SenderView). part a.state.number items ≡ a.state.pushed) ss → Each Mine ss
       → ((j < first) ⊎ (first + length ss ≤ j) → from s (copies_pushed (part j items)) ≡ []) → from s (flat_map copies_by ss) ≡ from s (copies_pushed (part j items))
   all_of items first [] e parts h out = ⊎_elim (λ (lt : j < first). sym (out (inl lt))) (λ (ge : first ≤ j). sym (out (inr (omega arith)))) (cases_lt j first)
   all_of items first (a ∷ as') e parts h out =
-      let heads' = heads a.post.number first (numbers_of as') (range_with_len (first + 1) (length as')) e in
+      let heads' = heads a.state.number first (numbers_of as') (range_with_len (first + 1) (length as')) e in
       let is = heads'.0 in
       ap (from s) (flat_map-cons copies_by a as') ∙ (from-append s (copies_by a) (flat_map copies_by as') ∙ ⊎_elim
       (λ (t : (eqb j first ≡ true) × (j ≡ first)).
@@ -158,7 +158,7 @@ module _ (s j : ℕ) where
       ap (λ l. from s (copies_by a) ++ l) (none_of (first + 1) as' heads'.1 (omega arith) h.1) ∙ (append-nil (from s (copies_by a)) ∙ (ap (λ l. from s (copies_pushed l)) (sym parts.0) ∙ ap (λ n. from s (copies_pushed (part n items))) (is ∙ sym same))))
       (λ (t : (eqb j first ≡ false) × (j ≢ first)).
       let other = t.1 in
-      let here : from s (copies_by a) ≡ [] = ⊎_elim (λ (same : a.post.number ≡ j). absurd (other (sym same ∙ is))) (λ (none : from s (copies_by a) ≡ []). none) h.0 in
+      let here : from s (copies_by a) ≡ [] = ⊎_elim (λ (same : a.state.number ≡ j). absurd (other (sym same ∙ is))) (λ (none : from s (copies_by a) ≡ []). none) h.0 in
       ap (λ l. l ++ from s (flat_map copies_by as')) here ∙ all_of items (first + 1) as' heads'.1 parts.1 h.1 (λ q. ⊎_elim (λ (lt : j < first + 1). out (inl (omega arith))) (λ (ge : first + 1 + length as' ≤ j). out (inr (omega arith))) q))
       (eqb_tells j first))
 
@@ -177,16 +177,16 @@ module _ (P Q R : SenderView → Type 0) where
 
 -- nothing was taken of senders numbered from `first` on
 fresh_parts : (taken rest : List Item) (first : ℕ) (ss : List SenderView) → numbers_of ss ≡ range_with_len first (length ss) → ((i : ℕ) → first ≤ i → part i taken ≡ [])
-    → Each (λ (a : SenderView). part a.post.number (taken ++ rest) ≡ a.post.pushed) ss → Each (λ (a : SenderView). part a.post.number rest ≡ a.post.pushed) ss
+    → Each (λ (a : SenderView). part a.state.number (taken ++ rest) ≡ a.state.pushed) ss → Each (λ (a : SenderView). part a.state.number rest ≡ a.state.pushed) ss
 fresh_parts taken rest first [] e none h = tt
 fresh_parts taken rest first (a ∷ as') e none h =
-    let heads' = heads a.post.number first (numbers_of as') (range_with_len (first + 1) (length as')) e in
+    let heads' = heads a.state.number first (numbers_of as') (range_with_len (first + 1) (length as')) e in
     let is = heads'.0 in
-    let empty = none a.post.number (omega arith) in
-    (ap (λ l. l ++ part a.post.number rest) (sym empty) ∙ (sym (part-append a.post.number taken rest) ∙ h.0), fresh_parts taken rest (first + 1) as' heads'.1 (λ i le. none i (omega arith)) h.1)
+    let empty = none a.state.number (omega arith) in
+    (ap (λ l. l ++ part a.state.number rest) (sym empty) ∙ (sym (part-append a.state.number taken rest) ∙ h.0), fresh_parts taken rest (first + 1) as' heads'.1 (λ i le. none i (omega arith)) h.1)
 
 -- ---- the taker afterwards
-module _ (ss : List SenderView) (d : Desk) (stands : IsOrderly d) (whole : Whole d.gathered d.taken) (are_open : AreOpen ss d) (one : (s : ℕ) → OneOf s ss) where
+module _ (ss : List SenderView) (d : TakerState) (stands : IsOrderly d) (whole : Whole d.gathered d.taken) (are_open : AreOpen ss d) (one : (s : ℕ) → OneOf s ss) where
   start : Gathering ss d
   start = record { are_open = are_open; apart = stands.apart; begun = stands.begun; unseen = stands.unseen; numbers = stands.numbers }
 
@@ -210,17 +210,17 @@ module _ (ss : List SenderView) (d : Desk) (stands : IsOrderly d) (whole : Whole
     not_gathered : (i : ℕ) → is_gathered (joined d.made ss d.gathered) i ≡ false → part i rest ≡ []
     not_gathered i open' = nothing_more (part i d.taken) (part i rest) (sym (part-append i d.taken rest) ∙ is_rest.1 i open')
 
-    new_parts : Each (λ (a : SenderView). part a.post.number rest ≡ a.post.pushed) ss
+    new_parts : Each (λ (a : SenderView). part a.state.number rest ≡ a.state.pushed) ss
     new_parts = fresh_parts d.taken rest are_open.first ss are_open.numbered (λ i le. stands.unseen i (are_open.newer i le)) (each_new (λ g. part g.number (d.taken ++ rest) ≡ g.pushed) d.made ss d.gathered is_rest.0)
 
     only_in : (s : ℕ) → OnlyIn s (one s).number rest
     only_in s i other =
         let j : ℕ = (one s).number in
         let Q : ℕ → Type 0 = λ k. k ≢ j → from s (copies_pushed (part k rest)) ≡ [] in
-        let Mine' : SenderView → Type 0 = λ a. (a.post.number ≡ j) ⊎ (from s (copies_by a) ≡ []) in
+        let Mine' : SenderView → Type 0 = λ a. (a.state.number ≡ j) ⊎ (from s (copies_by a) ≡ []) in
         let old : (k : ℕ) → is_gathered d.gathered k ≡ true → Q k = λ k yes other. ap (λ l. from s (copies_pushed l)) (old_done k yes) in
-        let new : Each (λ (a : SenderView). Q a.post.number) ss = each_two Mine' (λ a. part a.post.number rest ≡ a.post.pushed) (λ a. Q a.post.number) ss
-        (λ a mine is other. ap (λ l. from s (copies_pushed l)) is ∙ ⊎_elim (λ (same : a.post.number ≡ j). absurd (other same)) (λ (none : from s (copies_by a) ≡ []). none) mine) (one s).each new_parts in
+        let new : Each (λ (a : SenderView). Q a.state.number) ss = each_two Mine' (λ a. part a.state.number rest ≡ a.state.pushed) (λ a. Q a.state.number) ss
+        (λ a mine is other. ap (λ l. from s (copies_pushed l)) is ∙ ⊎_elim (λ (same : a.state.number ≡ j). absurd (other same)) (λ (none : from s (copies_by a) ≡ []). none) mine) (one s).each new_parts in
         elim_bool (is_gathered (joined d.made ss d.gathered) i)
         (λ yes. by_joined Q d.made ss d.gathered old new i yes other)
         (λ no. ap (λ l. from s (copies_pushed l)) (not_gathered i no))
@@ -265,8 +265,8 @@ none_untaken taken g whole =
     subst P (sym none) tt
 
 -- all that was gathered before is taken, and what is gathered now is packets
-pub packets_then : (ss : List SenderView) (d : Desk) → Whole d.gathered d.taken → Each (λ (s : SenderView). Packets s.post.pushed) ss → PacketsLeft (with_joined ss d)
+pub packets_then : (ss : List SenderView) (d : TakerState) → Whole d.gathered d.taken → Each (λ (s : SenderView). Packets s.state.pushed) ss → PacketsLeft (with_joined ss d)
 packets_then ss d whole new = each_joined (λ g. Packets (untaken_of d.taken g)) d.made ss d.gathered
     (each_map (λ (g : Gathered). part g.number d.taken ≡ g.pushed) (λ (g : Gathered). Packets (untaken_of d.taken g)) d.gathered (none_untaken d.taken) whole)
-    (each_map (λ (s : SenderView). Packets s.post.pushed) (λ (s : SenderView). Packets (untaken_of d.taken (as_gathered d.made s))) ss
-    (λ s h. packets_drop (length (part s.post.number d.taken)) s.post.pushed h) new)
+    (each_map (λ (s : SenderView). Packets s.state.pushed) (λ (s : SenderView). Packets (untaken_of d.taken (as_gathered d.made s))) ss
+    (λ s h. packets_drop (length (part s.state.number d.taken)) s.state.pushed h) new)

@@ -3,7 +3,7 @@ pub mod Collected
 pub mod Counted
 pub mod Delivered
 pub mod Gathers
-pub mod Homes
+pub mod AfterWindow
 pub mod Lists
 pub mod Marked
 pub mod Open

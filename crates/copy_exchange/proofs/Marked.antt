@@ -5,13 +5,13 @@ use Rattle.std.proofs.lemmas.Bool.Decides.{eqb_tells}
 use Rattle.std.proofs.lemmas.List.{get_or-set_same, get_or-set_other, length-map}
 use Rattle.std.proofs.lemmas.Option.{slice_get-get_or}
 use Rattle.copy_inbox.specs.declared.items.Carried.TheVariants.{Mark}
-use Rattle.copy_inbox.specs.declared.rule.Post.{Post}
+use Rattle.copy_inbox.specs.declared.rule.SenderState.{SenderState}
 use Rattle.copy_inbox.specs.Handles.{InboxId, SenderView, after_pushing}
-use Rattle.copy_exchange.specs.declared.courier.Courier.{Courier}
-use Rattle.copy_exchange.specs.Couriers.{IsSeated, IsSenderOn, HasMarks, Stays, PushesMarks, sender_to, pushed_list, pushed_to, seat_of}
+use Rattle.copy_exchange.specs.declared.endpoint.Endpoint.{Endpoint}
+use Rattle.copy_exchange.specs.Endpoints.{IsSeated, IsSenderOn, HasMarks, Stays, PushesMarks, sender_to, pushed_list, pushed_to, seat_of}
 use Rattle.copy_exchange.specs.Steps.{MarksOne, pushed_with_mark}
 use Rattle.copy_exchange.proofs.Delivered.{same_at, stays_on, with_sender}
-use Rattle.copy_exchange.proofs.Homes.{same_seat}
+use Rattle.copy_exchange.proofs.AfterWindow.{same_seat}
 
 -- ---- what a seat tells
 on_seat : (id : InboxId) (own : Bool) (o p : Option SenderView) → seat_of o ≡ seat_of p → IsSenderOn id own p → IsSenderOn id own o
@@ -23,23 +23,23 @@ on_seat id false None None e h = h
 on_seat id false None (Some q) e h = absurd cc
 on_seat id false (Some p) None e h = absurd cc
 on_seat id false (Some p) (Some q) e h =
-    let seat : (p.inbox, p.post.number, p.post.marked) ≡ (q.inbox, q.post.number, q.post.marked) = cc in
+    let seat : (p.inbox, p.state.number, p.state.marked) ≡ (q.inbox, q.state.number, q.state.marked) = cc in
     ap (λ (x : InboxId × ℕ × Bool). x.0) seat ∙ h
 
-marked_seat : (o p : Option SenderView) → seat_of o ≡ seat_of p → ((s : SenderView) → p ≡ Some s → s.post.marked ≡ true) → (s : SenderView) → o ≡ Some s → s.post.marked ≡ true
+marked_seat : (o p : Option SenderView) → seat_of o ≡ seat_of p → ((s : SenderView) → p ≡ Some s → s.state.marked ≡ true) → (s : SenderView) → o ≡ Some s → s.state.marked ≡ true
 marked_seat None p e h s is = absurd cc
 marked_seat (Some o) None e h s is = absurd cc
 marked_seat (Some o) (Some q) e h s is =
     let same : o ≡ s = cc in
-    let seat : (o.inbox, o.post.number, o.post.marked) ≡ (q.inbox, q.post.number, q.post.marked) = cc in
-    let marked : o.post.marked ≡ q.post.marked = ap (λ (x : InboxId × ℕ × Bool). x.2) seat in
-    ap (λ (x : SenderView). x.post.marked) (sym same) ∙ (marked ∙ h q refl)
+    let seat : (o.inbox, o.state.number, o.state.marked) ≡ (q.inbox, q.state.number, q.state.marked) = cc in
+    let marked : o.state.marked ≡ q.state.marked = ap (λ (x : InboxId × ℕ × Bool). x.2) seat in
+    ap (λ (x : SenderView). x.state.marked) (sym same) ∙ (marked ∙ h q refl)
 
--- ---- what stays of a courier
-pub marks_stay : (a b : Courier) → Stays a b → HasMarks a → HasMarks b
+-- ---- what stays of an endpoint
+pub marks_stay : (a b : Endpoint) → Stays a b → HasMarks a → HasMarks b
 marks_stay a b h marks v = marked_seat (sender_to b v) (sender_to a v) (same_seat a b v h) (marks v)
 
-pub seated_stays : (inboxes : List InboxId) (a b : Courier) → Stays a b → IsSeated inboxes a → IsSeated inboxes b
+pub seated_stays : (inboxes : List InboxId) (a b : Endpoint) → Stays a b → IsSeated inboxes a → IsSeated inboxes b
 seated_stays inboxes a b h s = record {
   taker = ap (slice_get inboxes) h.worker ∙ (s.taker ∙ ap Some (sym h.inbox));
   count = sym (length-map b.senders.items seat_of) ∙ (ap length h.seats ∙ (length-map a.senders.items seat_of ∙ s.count));
@@ -49,10 +49,10 @@ seated_stays inboxes a b h s = record {
 }
 
 -- ---- the mark through one sender
-pub stays_same : (c : Courier) → Stays c c
+pub stays_same : (c : Endpoint) → Stays c c
 stays_same c = record { worker = refl; inbox = refl; marked = refl; made = refl; gathered = refl; seats = refl }
 
-pub marks_without : (c : Courier) (to window : ℕ) → sender_to c to ≡ None → MarksOne to window c c
+pub marks_without : (c : Endpoint) (to window : ℕ) → sender_to c to ≡ None → MarksOne to window c c
 marks_without c to window none = record {
   stays = stays_same c;
   taker = refl;
@@ -60,8 +60,8 @@ marks_without c to window none = record {
   others = λ v n. refl;
 }
 
-module _ (c : Courier) (to window : ℕ) (inside : to < length c.senders.items) (s t : SenderView) (was : Some s ≡ get_or c.senders.items to (Some s)) (same_inbox : t.inbox ≡ s.inbox)
-    (post : t.post ≡ after_pushing s.post (Mark window)) where
+module _ (c : Endpoint) (to window : ℕ) (inside : to < length c.senders.items) (s t : SenderView) (was : Some s ≡ get_or c.senders.items to (Some s)) (same_inbox : t.inbox ≡ s.inbox)
+    (state : t.state ≡ after_pushing s.state (Mark window)) where
   there : sender_to c to ≡ Some s
   there = same_at c.senders.items to None (Some s) inside ∙ sym was
 
@@ -73,29 +73,29 @@ module _ (c : Courier) (to window : ℕ) (inside : to < length c.senders.items) 
       marked = refl;
       made = refl;
       gathered = refl;
-      seats = map-set_same seat_of c.senders.items to (Some t) (Some s) (ap Some (λ i. (same_inbox i, (post i).number, (post i).marked)) ∙ ap seat_of was);
+      seats = map-set_same seat_of c.senders.items to (Some t) (Some s) (ap Some (λ i. (same_inbox i, (state i).number, (state i).marked)) ∙ ap seat_of was);
     };
     taker = refl;
-    here = ap pushed_list (get_or-set_same c.senders.items to (Some t) None inside) ∙ (ap (λ (p : Post). p.pushed) post ∙ ap (λ o. pushed_with_mark o window) (sym there));
+    here = ap pushed_list (get_or-set_same c.senders.items to (Some t) None inside) ∙ (ap (λ (p : SenderState). p.pushed) state ∙ ap (λ o. pushed_with_mark o window) (sym there));
     others = λ v n. get_or-set_other c.senders.items to v (Some t) None n;
   }
 
 -- ---- worker by worker
 -- the mark went out to the workers before this one
-pub record MarkedTo (to window : ℕ) (old new : Courier) : Type 0 where
+pub record MarkedTo (to window : ℕ) (old new : Endpoint) : Type 0 where
   pub stays : Stays old new
   pub taker : new.taker ≡ old.taker
   pub pushes : (v : ℕ) → v < to → (v == old.worker) ≡ false → pushed_to new v ≡ pushed_to old v ++ Mark window ∷ []
   pub rest : (v : ℕ) → to ≤ v → sender_to new v ≡ sender_to old v
 
-pub marked_none : (window : ℕ) (c : Courier) → MarkedTo 0 window c c
+pub marked_none : (window : ℕ) (c : Endpoint) → MarkedTo 0 window c c
 marked_none window c = record { stays = stays_same c; taker = refl; pushes = λ v lt other. absurd (omega arith); rest = λ v le. refl }
 
 with_mark : (id : InboxId) (window : ℕ) (o : Option SenderView) → IsSenderOn id false o → pushed_with_mark o window ≡ pushed_list o ++ Mark window ∷ []
 with_mark id window None h = absurd h
 with_mark id window (Some s) h = refl
 
-pub marked_more : (inboxes : List InboxId) (to window : ℕ) (a b c : Courier) → IsSeated inboxes a → to < length inboxes → MarkedTo to window a b → MarksOne to window b c → MarkedTo (to + 1) window a c
+pub marked_more : (inboxes : List InboxId) (to window : ℕ) (a b c : Endpoint) → IsSeated inboxes a → to < length inboxes → MarkedTo to window a b → MarksOne to window b c → MarkedTo (to + 1) window a c
 marked_more inboxes to window a b c seated inside h one = record {
   stays = stays_on a b c h.stays one.stays;
   taker = one.taker ∙ h.taker;
@@ -113,12 +113,12 @@ marked_more inboxes to window a b c seated inside h one = record {
   rest = λ v le. one.others v (λ e. absurd (omega arith)) ∙ h.rest v (omega arith);
 }
 
-pub marked_all : (inboxes : List InboxId) (to window : ℕ) (a b : Courier) → length inboxes ≤ to → MarkedTo to window a b → PushesMarks (length inboxes) window a b
+pub marked_all : (inboxes : List InboxId) (to window : ℕ) (a b : Endpoint) → length inboxes ≤ to → MarkedTo to window a b → PushesMarks (length inboxes) window a b
 marked_all inboxes to window a b all h = record { stays = h.stays; taker = h.taker; pushes = λ v lt other. h.pushes v (omega arith) other }
 
 -- ---- the sender on an inbox can push a mark
-pub can_mark : (inboxes : List InboxId) (c : Courier) (to : ℕ) (id : InboxId) → IsSeated inboxes c → HasMarks c → to < length inboxes → id ≡ get_or inboxes to id
-    → IfSome (sender_to c to) (λ s. (s.inbox ≡ id) × (s.post.marked ≡ true))
+pub can_mark : (inboxes : List InboxId) (c : Endpoint) (to : ℕ) (id : InboxId) → IsSeated inboxes c → HasMarks c → to < length inboxes → id ≡ get_or inboxes to id
+    → IfSome (sender_to c to) (λ s. (s.inbox ≡ id) × (s.state.marked ≡ true))
 can_mark inboxes c to id seated marks lt at = of_sender (sender_to c to) refl
   where
     found : slice_get inboxes to ≡ Some id
@@ -128,7 +128,7 @@ can_mark inboxes c to id seated marks lt at = of_sender (sender_to c to) refl
     on_other true s h = absurd cc
     on_other false s h = h
 
-    of_sender : (o : Option SenderView) → sender_to c to ≡ o → IfSome o (λ s. (s.inbox ≡ id) × (s.post.marked ≡ true))
+    of_sender : (o : Option SenderView) → sender_to c to ≡ o → IfSome o (λ s. (s.inbox ≡ id) × (s.state.marked ≡ true))
     of_sender None e = tt
     of_sender (Some s) e =
         let P : Option SenderView → Type 0 = λ p. IsSenderOn id (to == c.worker) p in

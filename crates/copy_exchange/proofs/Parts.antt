@@ -9,7 +9,7 @@ use Rattle.copy_inbox.specs.declared.items.Item.{Item}
 use Rattle.copy_inbox.specs.Items.{copies_of, carried_copy, part}
 use Rattle.copy_inbox.proofs.Parts.{part-here, part-else}
 use Rattle.window_laws.specs.Windows.{is_from_sender}
-use Rattle.copy_exchange.specs.Desks.{copies_pushed}
+use Rattle.copy_exchange.specs.Takers.{copies_pushed}
 
 -- the copies of mote s
 abbrev pub from : ℕ → List RadioCopy → List RadioCopy

@@ -17,16 +17,16 @@ pub record GathersTo (k : ℕ) (old new : List TakerView) (senders : List (Optio
   pub done : (v : ℕ) (t : TakerView) → v < k → v < length old → slice_index_or new v t ≡ gather_into (slice_index_or old v t) (at_place senders v)
   pub left : (v : ℕ) (t : TakerView) → k ≤ v → v < length old → slice_index_or new v t ≡ slice_index_or old v t
   pub told : (v : ℕ) (t : TakerView) (s : SenderView) → v < k → v < length old → at_place senders v ≡ Some s
-      → TellsOf (slice_index_or old v t).desk s.post
+      → TellsOf (slice_index_or old v t).state s.state
 
 pub gathers_none : (old : List TakerView) (senders : List (Option SenderView)) → GathersTo 0 old old senders
 gathers_none old senders = record { count = refl; done = λ v t lt. absurd (omega arith); left = λ v t le lt. refl; told = λ v t s lt. absurd (omega arith) }
 
-told_some : (d : TakerView) (o : Option SenderView) (s : SenderView) → o ≡ Some s → IfSome o (λ a. TellsOf d.desk a.post) → TellsOf d.desk s.post
-told_some d o s e h = let P : Option SenderView → Type 0 = λ p. IfSome p (λ a. TellsOf d.desk a.post) in subst P e h
+told_some : (d : TakerView) (o : Option SenderView) (s : SenderView) → o ≡ Some s → IfSome o (λ a. TellsOf d.state a.state) → TellsOf d.state s.state
+told_some d o s e h = let P : Option SenderView → Type 0 = λ p. IfSome p (λ a. TellsOf d.state a.state) in subst P e h
 
 pub gathers_next : (k : ℕ) (old new : List TakerView) (senders : List (Option SenderView)) (was now : TakerView) (sender : Option SenderView) → GathersTo k old new senders → k < length old
-    → was ≡ get_or new k was → sender ≡ at_place senders k → now ≡ gather_into was sender → IfSome sender (λ a. TellsOf was.desk a.post)
+    → was ≡ get_or new k was → sender ≡ at_place senders k → now ≡ gather_into was sender → IfSome sender (λ a. TellsOf was.state a.state)
     → GathersTo (k + 1) old (set new k now) senders
 gathers_next k old new senders was now sender h lt at_was at_sender is told =
     let count = h.count in
@@ -44,7 +44,7 @@ gathers_next k old new senders was now sender h lt at_was at_sender is told =
           (λ (q : (eqb v k ≡ true) × (v ≡ k)).
           let before : was ≡ get_or old v t = at_was ∙ (same_read new k was t (omega arith) ∙ (h.left k t (omega arith) lt ∙ ap (λ i. get_or old i t) (sym q.1))) in
           let its : sender ≡ Some s = at_sender ∙ (ap (at_place senders) (sym q.1) ∙ found) in
-          let P : TakerView → Type 0 = λ w. TellsOf w.desk s.post in
+          let P : TakerView → Type 0 = λ w. TellsOf w.state s.state in
           subst P before (told_some was sender s its told))
           (λ (q : (eqb v k ≡ false) × (v ≢ k)). let n = q.1 in h.told v t s (omega arith) inside found)
           (eqb_tells v k);

@@ -1,4 +1,4 @@
--- The couriers at the start of a window.
+-- The endpoints at the start of a window.
 use Rattle.std.proofs.Common.{◌≡◌, ℕ, zero, suc, ◌+◌, ◌<◌, ◌≤◌, ◌==◌, Bool, true, false, List, [], ◌∷◌, ◌++◌, length, get_or, slice_get, Option, Some, None, refl, sym, ap, ◌∙◌, subst, ⊎_elim, arith, append-nil, length-append, add-zero, map-id}
 use Rattle.std.specs.List.{AllByRecursion as Each, AllZip, cons_option, range_with_len, zip}
 use Rattle.std.proofs.lemmas.Bool.{cases_lt}
@@ -8,30 +8,30 @@ use Rattle.std.proofs.lemmas.List.FromFn.{map-range_with_len_more}
 use Rattle.std.proofs.lemmas.Option.{get_or_from_slice_get, slice_get-get_or, slice_get_past}
 use Rattle.copy_inbox.specs.declared.rule.Gathered.{Gathered}
 use Rattle.copy_inbox.specs.Gathered.{is_gathered}
-use Rattle.copy_inbox.specs.Views.{make_desk, make_post}
+use Rattle.copy_inbox.specs.Views.{make_taker_state, make_sender_state}
 use Rattle.copy_inbox.specs.Handles.{InboxId, TakerView, SenderView, AllGathered}
-use Rattle.copy_exchange.specs.declared.courier.Courier.{Courier}
-use Rattle.copy_exchange.specs.Desks.{copies_pushed, IsOrderly}
-use Rattle.copy_exchange.specs.Couriers.{IsCourier, IsSenderOn, AreOpen, Together, SetsOut, HasMarks, HasPushedNothing, senders_to, pushed_by, pushed_list}
+use Rattle.copy_exchange.specs.declared.endpoint.Endpoint.{Endpoint}
+use Rattle.copy_exchange.specs.Takers.{copies_pushed, IsOrderly}
+use Rattle.copy_exchange.specs.Endpoints.{IsEndpoint, IsSenderOn, AreOpen, Together, StartsAs, HasMarks, HasPushedNothing, senders_to, pushed_by, pushed_list}
 use Rattle.copy_exchange.specs.Inboxes.{IsSettled, Settled}
 use Rattle.copy_exchange.specs.Steps.{AreTakersOf, Opens, at_place, opened_taker, opened_sender}
 use Rattle.copy_exchange.proofs.Lists.{each_at, each_map, each_more}
 use Rattle.copy_exchange.proofs.Gathers.{numbers_of, gathered_more}
 use Rattle.copy_exchange.proofs.Owns.{workers_of}
 use Rattle.copy_exchange.proofs.Rows.{opened_takers, same_read}
-use Rattle.copy_exchange.proofs.Homes.{Row, row_senders}
+use Rattle.copy_exchange.proofs.AfterWindow.{Row, row_senders}
 
 -- ---- a taker that has made more senders
 abbrev pub with_more : TakerView → ℕ → TakerView
-with_more t n = record { inbox = t.inbox; desk = make_desk t.desk.marked (t.desk.made + n) t.desk.taken t.desk.gathered }
+with_more t n = record { inbox = t.inbox; state = make_taker_state t.state.marked (t.state.made + n) t.state.taken t.state.gathered }
 
 below : (made : ℕ) (gs : List Gathered) → Each (λ (g : Gathered). (g.number < made) × (g.made ≤ made)) gs → (i : ℕ) → made ≤ i → is_gathered gs i ≡ false
 below made [] h i le = refl
 below made (g ∷ gs) h i le = let number = h.0.0 in gathered_more g gs i (λ e. absurd (omega arith)) ∙ below made gs h.1 i le
 
-stands_more : (t : TakerView) (n : ℕ) → IsOrderly t.desk → AllGathered t.desk → IsOrderly (with_more t n).desk
+stands_more : (t : TakerView) (n : ℕ) → IsOrderly t.state → AllGathered t.state → IsOrderly (with_more t n).state
 stands_more t n h all =
-    let made : ℕ = t.desk.made in
+    let made : ℕ = t.state.made in
     record {
       in_order = h.in_order;
       begun = h.begun;
@@ -39,9 +39,9 @@ stands_more t n h all =
       apart = h.apart;
       later = λ u lt open_. ⊎_elim
           (λ (old : u < made). absurd (let yes = all u old in cc))
-          (λ (new : made ≤ u). each_map (λ (g : Gathered). (g.number < made) × (g.made ≤ made)) (λ (g : Gathered). g.made ≤ u) t.desk.gathered (λ g k. let le = k.1 in omega arith) h.numbers)
+          (λ (new : made ≤ u). each_map (λ (g : Gathered). (g.number < made) × (g.made ≤ made)) (λ (g : Gathered). g.made ≤ u) t.state.gathered (λ g k. let le = k.1 in omega arith) h.numbers)
           (cases_lt u made);
-      numbers = each_map (λ (g : Gathered). (g.number < made) × (g.made ≤ made)) (λ (g : Gathered). (g.number < made + n) × (g.made ≤ made + n)) t.desk.gathered (λ g k. let lt = k.0 in let le = k.1 in (omega arith, omega arith)) h.numbers;
+      numbers = each_map (λ (g : Gathered). (g.number < made) × (g.made ≤ made)) (λ (g : Gathered). (g.number < made + n) × (g.made ≤ made + n)) t.state.gathered (λ g k. let lt = k.0 in let le = k.1 in (omega arith, omega arith)) h.numbers;
     }
 
 -- ---- row by row
@@ -53,7 +53,7 @@ pub record IsRow (inboxes : List InboxId) (u : ℕ) (row : Row) : Type 0 where
 
 -- each of a worker's new senders is of an inbox with marks where the inbox's taker is
 abbrev pub HasMarksOf : List InboxId → List TakerView → Row → Type 0
-HasMarksOf inboxes takers row = (v : ℕ) (t : TakerView) (s : SenderView) → v < length inboxes → at_place row.items v ≡ Some s → s.post.marked ≡ (get_or takers v t).desk.marked
+HasMarksOf inboxes takers row = (v : ℕ) (t : TakerView) (s : SenderView) → v < length inboxes → at_place row.items v ≡ Some s → s.state.marked ≡ (get_or takers v t).state.marked
 
 abbrev pub AreRows : List InboxId → (u : ℕ) → List Row → Type 0
 AreRows inboxes u [] = Unit {0}
@@ -64,7 +64,7 @@ pub record OpensRows (inboxes : List InboxId) (old new : List TakerView) (rows :
   pub are_rows : AreRows inboxes 0 rows
   pub marked : Each (HasMarksOf inboxes old) rows
   pub taker : (v : ℕ) (t : TakerView) → v < length inboxes → get_or new v t ≡ with_more (get_or old v t) (length (row_senders rows v))
-  pub numbered : (v : ℕ) (t : TakerView) → v < length inboxes → numbers_of (row_senders rows v) ≡ range_with_len (get_or old v t).desk.made (length (row_senders rows v))
+  pub numbered : (v : ℕ) (t : TakerView) → v < length inboxes → numbers_of (row_senders rows v) ≡ range_with_len (get_or old v t).state.made (length (row_senders rows v))
 
 zip_at : {A B : Type 0} (R : A → B → Type 0) (xs : List A) (ys : List B) → AllZip R xs ys → (i : ℕ) (d : A) (e : B) → i < length xs → R (get_or xs i d) (get_or ys i e)
 zip_at R [] [] h i d e lt = absurd (omega arith)
@@ -87,7 +87,7 @@ opens_no_rows inboxes old h = record {
   takers = settled_takers inboxes old h;
   are_rows = tt;
   marked = tt;
-  taker = λ v t lt. λ i. record { inbox = (get_or old v t).inbox; desk = record { marked = (get_or old v t).desk.marked; made = sym (add-zero (get_or old v t).desk.made) i; taken = (get_or old v t).desk.taken; gathered = (get_or old v t).desk.gathered } };
+  taker = λ v t lt. λ i. record { inbox = (get_or old v t).inbox; state = record { marked = (get_or old v t).state.marked; made = sym (add-zero (get_or old v t).state.made) i; taken = (get_or old v t).state.taken; gathered = (get_or old v t).state.gathered } };
   numbered = λ v t lt. refl;
 }
 
@@ -104,12 +104,12 @@ opening_nothing : (own : Bool) (t : TakerView) → pushed_list (opened_sender ow
 opening_nothing true t = refl
 opening_nothing false t = refl
 
-opening_marked : (own : Bool) (t : TakerView) (s : SenderView) → opened_sender own t ≡ Some s → s.post.marked ≡ t.desk.marked
+opening_marked : (own : Bool) (t : TakerView) (s : SenderView) → opened_sender own t ≡ Some s → s.state.marked ≡ t.state.marked
 opening_marked true t s e = absurd cc
 opening_marked false t s e =
-    let opened : SenderView = record { inbox = t.inbox; post = make_post t.desk.marked t.desk.made [] } in
+    let opened : SenderView = record { inbox = t.inbox; state = make_sender_state t.state.marked t.state.made [] } in
     let same : opened ≡ s = cc in
-    ap (λ (x : SenderView). x.post.marked) (sym same)
+    ap (λ (x : SenderView). x.state.marked) (sym same)
 
 -- a default where the list isn't empty
 first_of : (xs : List TakerView) (v : ℕ) → v < length xs → TakerView
@@ -153,17 +153,17 @@ range_more a n = sym (map-id (range_with_len a (n + 1))) ∙ (map-range_with_len
 opened_more : (own : Bool) (t : TakerView) (n : ℕ) (ss : List SenderView) → n ≡ length ss → opened_taker own (with_more t n) ≡ with_more t (length (ss ++ cons_option (opened_sender own (with_more t n)) []))
 opened_more true t n ss e = ap (with_more t) (e ∙ ap length (sym (append-nil ss)))
 opened_more false t n ss e =
-    let s : SenderView = record { inbox = t.inbox; post = make_post t.desk.marked (t.desk.made + n) [] } in
-    let more : t.desk.made + n + 1 ≡ t.desk.made + length (ss ++ s ∷ []) = let long = length-append ss (s ∷ []) in omega arith in
-    λ i. record { inbox = t.inbox; desk = make_desk t.desk.marked (more i) t.desk.taken t.desk.gathered }
+    let s : SenderView = record { inbox = t.inbox; state = make_sender_state t.state.marked (t.state.made + n) [] } in
+    let more : t.state.made + n + 1 ≡ t.state.made + length (ss ++ s ∷ []) = let long = length-append ss (s ∷ []) in omega arith in
+    λ i. record { inbox = t.inbox; state = make_taker_state t.state.marked (more i) t.state.taken t.state.gathered }
 
-numbers_more : (own : Bool) (t : TakerView) (n : ℕ) (ss : List SenderView) → n ≡ length ss → numbers_of ss ≡ range_with_len t.desk.made (length ss)
-    → numbers_of (ss ++ cons_option (opened_sender own (with_more t n)) []) ≡ range_with_len t.desk.made (length (ss ++ cons_option (opened_sender own (with_more t n)) []))
-numbers_more true t n ss e h = let nil = append-nil ss in ap numbers_of nil ∙ (h ∙ ap (λ l. range_with_len t.desk.made (length l)) (sym nil))
+numbers_more : (own : Bool) (t : TakerView) (n : ℕ) (ss : List SenderView) → n ≡ length ss → numbers_of ss ≡ range_with_len t.state.made (length ss)
+    → numbers_of (ss ++ cons_option (opened_sender own (with_more t n)) []) ≡ range_with_len t.state.made (length (ss ++ cons_option (opened_sender own (with_more t n)) []))
+numbers_more true t n ss e h = let nil = append-nil ss in ap numbers_of nil ∙ (h ∙ ap (λ l. range_with_len t.state.made (length l)) (sym nil))
 numbers_more false t n ss e h =
-    let s : SenderView = record { inbox = t.inbox; post = make_post t.desk.marked (t.desk.made + n) [] } in
-    let f : SenderView → ℕ = λ x. x.post.number in
-    map-append f ss (s ∷ []) ∙ (ap (λ l. l ++ (t.desk.made + n) ∷ []) h ∙ (ap (λ k. range_with_len t.desk.made (length ss) ++ (t.desk.made + k) ∷ []) e ∙ (sym (range_more t.desk.made (length ss)) ∙ ap (range_with_len t.desk.made) (sym (length-append ss (s ∷ []))))))
+    let s : SenderView = record { inbox = t.inbox; state = make_sender_state t.state.marked (t.state.made + n) [] } in
+    let f : SenderView → ℕ = λ x. x.state.number in
+    map-append f ss (s ∷ []) ∙ (ap (λ l. l ++ (t.state.made + n) ∷ []) h ∙ (ap (λ k. range_with_len t.state.made (length ss) ++ (t.state.made + k) ∷ []) e ∙ (sym (range_more t.state.made (length ss)) ∙ ap (range_with_len t.state.made) (sym (length-append ss (s ∷ []))))))
 
 pub opens_more_rows : (inboxes : List InboxId) (u : ℕ) (old mid new : List TakerView) (rows : List Row) (row : Row) → OpensRows inboxes old mid rows → Opens u mid new row.items → length rows ≡ u → OpensRows inboxes old new (rows ++ row ∷ [])
 opens_more_rows inboxes u old mid new rows row h r e =
@@ -182,22 +182,22 @@ opens_more_rows inboxes u old mid new rows row h r e =
           ∙ (opened_more (v == u) (get_or old v t) (length (row_senders rows v)) (row_senders rows v) refl ∙ ap (λ l. with_more (get_or old v t) (length l)) (sym (joined v t lt))));
       numbered = λ v t lt.
           ap numbers_of (joined v t lt) ∙ (numbers_more (v == u) (get_or old v t) (length (row_senders rows v)) (row_senders rows v) refl (h.numbered v t lt)
-          ∙ ap (λ l. range_with_len (get_or old v t).desk.made (length l)) (sym (joined v t lt)));
+          ∙ ap (λ l. range_with_len (get_or old v t).state.made (length l)) (sym (joined v t lt)));
     }
 
--- ---- the couriers of these takers and rows
-abbrev pub courier_of : ℕ → TakerView → Row → Courier
-courier_of u t row = record { worker = u; taker = t; senders = row }
+-- ---- the endpoints of these takers and rows
+abbrev pub endpoint_of : ℕ → TakerView → Row → Endpoint
+endpoint_of u t row = record { worker = u; taker = t; senders = row }
 
-abbrev pub built : ℕ → List (TakerView × Row) → List Courier
+abbrev pub built : ℕ → List (TakerView × Row) → List Endpoint
 built u [] = []
-built u (p ∷ ps) = courier_of u p.0 p.1 ∷ built (u + 1) ps
+built u (p ∷ ps) = endpoint_of u p.0 p.1 ∷ built (u + 1) ps
 
-pub built_more : (u : ℕ) (ps : List (TakerView × Row)) (p : TakerView × Row) → built u (ps ++ p ∷ []) ≡ built u ps ++ courier_of (u + length ps) p.0 p.1 ∷ []
-built_more u [] p = ap (λ k. courier_of k p.0 p.1 ∷ []) (sym (add-zero u))
+pub built_more : (u : ℕ) (ps : List (TakerView × Row)) (p : TakerView × Row) → built u (ps ++ p ∷ []) ≡ built u ps ++ endpoint_of (u + length ps) p.0 p.1 ∷ []
+built_more u [] p = ap (λ k. endpoint_of k p.0 p.1 ∷ []) (sym (add-zero u))
 built_more u (q ∷ qs) p =
     let e : u + 1 + length qs ≡ u + suc (length qs) = omega arith in
-    ap (λ l. courier_of u q.0 q.1 ∷ l) (built_more (u + 1) qs p ∙ ap (λ k. built (u + 1) qs ++ courier_of k p.0 p.1 ∷ []) e)
+    ap (λ l. endpoint_of u q.0 q.1 ∷ l) (built_more (u + 1) qs p ∙ ap (λ k. built (u + 1) qs ++ endpoint_of k p.0 p.1 ∷ []) e)
 
 pub built_length : (u : ℕ) (ts : List TakerView) (rows : List Row) → length rows ≡ length ts → length (built u (zip ts rows)) ≡ length ts
 built_length u [] [] e = refl
@@ -217,30 +217,30 @@ built_senders u (t ∷ ts) (r ∷ rs) v e = ap (cons_option (at_place r.items v)
 built_senders u [] (r ∷ rs) v e = absurd (omega arith)
 built_senders u (t ∷ ts) [] v e = absurd (omega arith)
 
-module _ (P : Courier → Type 0) where
-  built_each : (u : ℕ) (ts : List TakerView) (rows : List Row) → length rows ≡ length ts → ((i : ℕ) (t : TakerView) (r : Row) → i < length ts → P (courier_of (u + i) (get_or ts i t) (get_or rows i r))) → Each P (built u (zip ts rows))
+module _ (P : Endpoint → Type 0) where
+  built_each : (u : ℕ) (ts : List TakerView) (rows : List Row) → length rows ≡ length ts → ((i : ℕ) (t : TakerView) (r : Row) → i < length ts → P (endpoint_of (u + i) (get_or ts i t) (get_or rows i r))) → Each P (built u (zip ts rows))
   built_each u [] [] e f = tt
   built_each u (t ∷ ts) (r ∷ rs) e f =
-      let Q : ℕ → Type 0 = λ k. P (courier_of k t r) in (
+      let Q : ℕ → Type 0 = λ k. P (endpoint_of k t r) in (
         subst Q (add-zero u) (f 0 t r (omega arith)),
         built_each (u + 1) ts rs (omega arith) (λ i t' r' lt.
             let e : u + suc i ≡ u + 1 + i = omega arith in
-            let R : ℕ → Type 0 = λ k. P (courier_of k (get_or ts i t') (get_or rs i r')) in
+            let R : ℕ → Type 0 = λ k. P (endpoint_of k (get_or ts i t') (get_or rs i r')) in
             subst R e (f (suc i) t' r' (omega arith))),
       )
   built_each u [] (r ∷ rs) e f = absurd (omega arith)
   built_each u (t ∷ ts) [] e f = absurd (omega arith)
 
-module _ (R : TakerView → Courier → Type 0) where
+module _ (R : TakerView → Endpoint → Type 0) where
   built_zip : (u : ℕ) (olds ts : List TakerView) (rows : List Row) → length rows ≡ length ts → length olds ≡ length ts
-      → ((i : ℕ) (o t : TakerView) (r : Row) → i < length ts → R (get_or olds i o) (courier_of (u + i) (get_or ts i t) (get_or rows i r))) → AllZip R olds (built u (zip ts rows))
+      → ((i : ℕ) (o t : TakerView) (r : Row) → i < length ts → R (get_or olds i o) (endpoint_of (u + i) (get_or ts i t) (get_or rows i r))) → AllZip R olds (built u (zip ts rows))
   built_zip u [] [] [] e same f = tt
   built_zip u (o ∷ os) (t ∷ ts) (r ∷ rs) e same f =
-      let Q : ℕ → Type 0 = λ k. R o (courier_of k t r) in (
+      let Q : ℕ → Type 0 = λ k. R o (endpoint_of k t r) in (
         subst Q (add-zero u) (f 0 o t r (omega arith)),
         built_zip (u + 1) os ts rs (omega arith) (omega arith) (λ i o' t' r' lt.
             let e : u + suc i ≡ u + 1 + i = omega arith in
-            let S : ℕ → Type 0 = λ k. R (get_or os i o') (courier_of k (get_or ts i t') (get_or rs i r')) in
+            let S : ℕ → Type 0 = λ k. R (get_or os i o') (endpoint_of k (get_or ts i t') (get_or rs i r')) in
             subst S e (f (suc i) o' t' r' (omega arith))),
       )
   built_zip u [] [] (r ∷ rs) e same f = absurd (omega arith)
@@ -261,7 +261,7 @@ row_at inboxes u (r ∷ rs) (suc i) d h lt =
     subst P e (row_at inboxes (u + 1) rs i d h.1 (omega arith))
 
 module _ (inboxes : List InboxId) (olds ts : List TakerView) (rows : List Row) (settled : Settled inboxes olds) (h : OpensRows inboxes olds ts rows) (long : length rows ≡ length inboxes) where
-  abbrev Made : List Courier
+  abbrev Made : List Endpoint
   Made = built 0 (zip ts rows)
 
   old_long : length olds ≡ length inboxes
@@ -274,15 +274,15 @@ module _ (inboxes : List InboxId) (olds ts : List TakerView) (rows : List Row) (
   inbox_at : (i : ℕ) (id : InboxId) → i < length inboxes → slice_get inboxes i ≡ Some (get_or inboxes i id)
   inbox_at i id lt = slice_get-get_or inboxes i id lt
 
-  courier_at : (i : ℕ) (t : TakerView) (r : Row) → i < length ts → IsCourier inboxes (courier_of (0 + i) (get_or ts i t) (get_or rows i r))
-  courier_at i t r lt =
+  endpoint_at : (i : ℕ) (t : TakerView) (r : Row) → i < length ts → IsEndpoint inboxes (endpoint_of (0 + i) (get_or ts i t) (get_or rows i r))
+  endpoint_at i t r lt =
       let n = h.takers.count in
       let m = row_long in
       let inside : i < length inboxes = omega arith in
       let row = row_at inboxes 0 rows i r h.are_rows (omega arith) in
       let old = zip_at IsSettled inboxes olds settled i t.inbox t inside in
       let zero_ : 0 + i ≡ i = omega arith in
-      let P : TakerView → Type 0 = λ x. IsOrderly x.desk in
+      let P : TakerView → Type 0 = λ x. IsOrderly x.state in
       record {
         taker = ap (slice_get inboxes) zero_ ∙ (inbox_at i t.inbox inside ∙ ap Some (sym (h.takers.its i t.inbox t inside)));
         count = row.count;
@@ -290,33 +290,33 @@ module _ (inboxes : List InboxId) (olds ts : List TakerView) (rows : List Row) (
         stands = subst P (sym (h.taker i t inside)) (stands_more (get_or olds i t) (length (row_senders rows i)) old.stands old.all);
       }
 
-  open_at : (i : ℕ) (t : TakerView) (r : Row) → i < length ts → AreOpen (senders_to Made (0 + i)) (get_or ts i t).desk
+  open_at : (i : ℕ) (t : TakerView) (r : Row) → i < length ts → AreOpen (senders_to Made (0 + i)) (get_or ts i t).state
   open_at i t r lt =
       let n = h.takers.count in
       let inside : i < length inboxes = omega arith in
       let old = zip_at IsSettled inboxes olds settled i t.inbox t inside in
-      let first : ℕ = (get_or olds i t).desk.made in
+      let first : ℕ = (get_or olds i t).state.made in
       let zero_ : 0 + i ≡ i = omega arith in
       let senders : senders_to Made (0 + i) ≡ row_senders rows i = built_senders 0 ts rows (0 + i) row_long ∙ ap (row_senders rows) zero_ in
-      let P : List SenderView × TakerView → Type 0 = λ x. AreOpen x.0 x.1.desk in
+      let P : List SenderView × TakerView → Type 0 = λ x. AreOpen x.0 x.1.state in
       let there : P (row_senders rows i, with_more (get_or olds i t) (length (row_senders rows i))) = record {
         first = first;
         numbered = h.numbered i t inside;
         made = refl;
         older = old.all;
-        newer = below first (get_or olds i t).desk.gathered old.stands.numbers;
+        newer = below first (get_or olds i t).state.gathered old.stands.numbers;
       } in
       subst P (λ j. (sym senders j, sym (h.taker i t inside) j)) there
 
   pub together : Together inboxes Made
   together = record {
     workers = built_workers 0 ts rows row_long ∙ (ap (range_with_len 0) (h.takers.count));
-    each = built_each (IsCourier inboxes) 0 ts rows row_long courier_at;
-    are_open = built_each (λ c. AreOpen (senders_to Made c.worker) c.taker.desk) 0 ts rows row_long open_at;
+    each = built_each (IsEndpoint inboxes) 0 ts rows row_long endpoint_at;
+    are_open = built_each (λ c. AreOpen (senders_to Made c.worker) c.taker.state) 0 ts rows row_long open_at;
   }
 
-  pub set_out : AllZip SetsOut olds Made
-  set_out = built_zip SetsOut 0 olds ts rows row_long (old_long ∙ sym h.takers.count) (λ i o t r lt.
+  pub starts : AllZip StartsAs olds Made
+  starts = built_zip StartsAs 0 olds ts rows row_long (old_long ∙ sym h.takers.count) (λ i o t r lt.
       let n = h.takers.count in
       let m = row_long in
       let inside : i < length inboxes = omega arith in
@@ -324,9 +324,9 @@ module _ (inboxes : List InboxId) (olds ts : List TakerView) (rows : List Row) (
       let row = row_at inboxes 0 rows i r h.are_rows (omega arith) in
       let same = same_read olds i t o (omega arith) in
       record {
-        same_marked = ap (λ (x : TakerView). x.desk.marked) (h.taker i t inside) ∙ ap (λ (x : TakerView). x.desk.marked) same;
-        same_taken = ap (λ (x : TakerView). x.desk.taken) (h.taker i t inside) ∙ ap (λ (x : TakerView). x.desk.taken) same;
-        same_gathered = ap (λ (x : TakerView). x.desk.gathered) (h.taker i t inside) ∙ ap (λ (x : TakerView). x.desk.gathered) same;
+        same_marked = ap (λ (x : TakerView). x.state.marked) (h.taker i t inside) ∙ ap (λ (x : TakerView). x.state.marked) same;
+        same_taken = ap (λ (x : TakerView). x.state.taken) (h.taker i t inside) ∙ ap (λ (x : TakerView). x.state.taken) same;
+        same_gathered = ap (λ (x : TakerView). x.state.gathered) (h.taker i t inside) ∙ ap (λ (x : TakerView). x.state.gathered) same;
         nothing = λ v. none_delivered (at_place (get_or rows i r).items v) (row.nothing v);
       })
 
@@ -335,7 +335,7 @@ module _ (inboxes : List InboxId) (olds ts : List TakerView) (rows : List Row) (
       let n = row_long in
       (row_at inboxes 0 rows i r h.are_rows (omega arith)).nothing)
 
-  pub has_marks : Each (λ (t : TakerView). t.desk.marked ≡ true) olds → Each HasMarks Made
+  pub has_marks : Each (λ (t : TakerView). t.state.marked ≡ true) olds → Each HasMarks Made
   has_marks all = built_each HasMarks 0 ts rows row_long (λ i t r lt v s found.
       let n = row_long in
       let k = old_long in
@@ -345,4 +345,4 @@ module _ (inboxes : List InboxId) (olds ts : List TakerView) (rows : List Row) (
       (λ (less : v < length inboxes). less)
       (λ (over : length inboxes ≤ v). absurd (let none : None ≡ Some s = sym (past (get_or rows i r).items v (omega arith)) ∙ found in cc))
       (cases_lt v (length inboxes)) in
-      each_at (HasMarksOf inboxes olds) rows i r h.marked (omega arith) v t s inside found ∙ each_at (λ (x : TakerView). x.desk.marked ≡ true) olds v t all (omega arith))
+      each_at (HasMarksOf inboxes olds) rows i r h.marked (omega arith) v t s inside found ∙ each_at (λ (x : TakerView). x.state.marked ≡ true) olds v t all (omega arith))

@@ -4,20 +4,20 @@ use Rattle.std.specs.List.{AllByRecursion as Each, range_with_len}
 use Rattle.std.proofs.lemmas.List.Concat.{flat_map-cons}
 use Rattle.radio_packet.specs.declared.copy.RadioCopy.{RadioCopy}
 use Rattle.copy_inbox.specs.declared.items.Item.{Item}
-use Rattle.copy_inbox.specs.declared.rule.Desk.{Desk}
+use Rattle.copy_inbox.specs.declared.rule.TakerState.{TakerState}
 use Rattle.copy_inbox.specs.Items.{copies_of, part}
 use Rattle.copy_inbox.specs.Gathered.{Whole}
-use Rattle.copy_inbox.specs.Views.{make_desk}
+use Rattle.copy_inbox.specs.Views.{make_taker_state}
 use Rattle.copy_inbox.specs.Handles.{InboxId, TakerView, PacketsLeft}
 use Rattle.copy_inbox.proofs.Parts.{part-not_nil}
-use Rattle.copy_exchange.specs.declared.courier.Courier.{Courier}
+use Rattle.copy_exchange.specs.declared.endpoint.Endpoint.{Endpoint}
 use Rattle.window_laws.specs.Windows.{is_from_sender}
-use Rattle.copy_exchange.specs.Desks.{IsOrderly}
+use Rattle.copy_exchange.specs.Takers.{IsOrderly}
 use Rattle.worker_cut.specs.Crossed.{is_to}
-use Rattle.copy_exchange.specs.Couriers.{IsCourier, DeliversOwn, Stays, Collects, Delivers, SetsOut, Returns, AllReturn, delivered, delivered_to}
+use Rattle.copy_exchange.specs.Endpoints.{IsEndpoint, DeliversOwn, Stays, Collects, Delivers, StartsAs, Returns, AllReturn, delivered, delivered_to}
 use Rattle.copy_exchange.specs.Inboxes.{IsFresh, IsSettled, Settled}
 use Rattle.copy_exchange.proofs.Delivered as step
-use Rattle.copy_exchange.proofs.Homes.{workers, count, owns}
+use Rattle.copy_exchange.proofs.AfterWindow.{workers, count, owns}
 use Rattle.copy_exchange.proofs.Owns.{workers_of, none_of_them}
 use Rattle.copy_exchange.proofs.Parts.{from, from-append}
 
@@ -26,7 +26,7 @@ none_left : (rest : List Item) → ((s : ℕ) → part s rest ≡ []) → rest �
 none_left [] h = refl
 none_left (x ∷ xs) h = absurd (part-not_nil x xs (h x.sender))
 
-stands_fresh : (marked : Bool) → IsOrderly (make_desk marked 0 [] [])
+stands_fresh : (marked : Bool) → IsOrderly (make_taker_state marked 0 [] [])
 stands_fresh marked = record {
   in_order = λ rest r s. ap (λ l. from s (copies_of l)) (none_left rest (λ k. r.1 k refl));
   begun = tt;
@@ -38,12 +38,12 @@ stands_fresh marked = record {
 
 settled_fresh : (inbox : InboxId) (t : TakerView) → IsFresh inbox t → IsSettled inbox t
 settled_fresh inbox t h =
-    let P : Desk → Type 0 = λ d. IsOrderly d × PacketsLeft d in
-    let then_ = subst P (sym h.1) (stands_fresh t.desk.marked, tt) in
+    let P : TakerState → Type 0 = λ d. IsOrderly d × PacketsLeft d in
+    let then_ = subst P (sym h.1) (stands_fresh t.state.marked, tt) in
     record {
       its = h.0;
       stands = then_.0;
-      all = λ s lt. absurd (let none : t.desk.made ≡ 0 = ap (λ (d : Desk). d.made) h.1 in omega arith);
+      all = λ s lt. absurd (let none : t.state.made ≡ 0 = ap (λ (d : TakerState). d.made) h.1 in omega arith);
       no_mark = then_.1;
     }
 
@@ -52,7 +52,7 @@ fresh_settled [] h = tt
 fresh_settled (p ∷ ps) h = (settled_fresh p.0 p.1 h.0, fresh_settled ps h.1)
 
 -- ---- in a window
-pub stays_on : (a b c : Courier) → Stays a b → Stays b c → Stays a c
+pub stays_on : (a b c : Endpoint) → Stays a b → Stays b c → Stays a c
 stays_on a b c h k = step.stays_on a b c h k
 
 filter_none : (p : RadioCopy → Bool) (s : ℕ) (copies : List RadioCopy) → from s copies ≡ [] → from s (filter p copies) ≡ []
@@ -68,36 +68,36 @@ filter_none p s (x ∷ xs) h = cases (is_from_sender s x) (p x) refl refl (filte
         let k : from s xs ≡ [] = ap (λ (q : Bool). cond q (x ∷ from s xs) (from s xs)) (sym e) ∙ h in
         ap (λ (q : Bool). from s (cond q (x ∷ filter p xs) (filter p xs))) f ∙ rest k
 
--- a courier that set out, collected, and delivered copies of its own worker's motes is back
-pub returns_from : (inboxes : List InboxId) (of : List ℕ) (worker_of : ℕ → ℕ) (t : TakerView) (a b c : Courier) (arrived out : List RadioCopy) → SetsOut t a → Collects a b arrived → Delivers of b c out → IsCourier inboxes c
+-- an endpoint that was made, collected, and delivered copies of its own worker's motes is at the window's end
+pub returns_from : (inboxes : List InboxId) (of : List ℕ) (worker_of : ℕ → ℕ) (t : TakerView) (a b c : Endpoint) (arrived out : List RadioCopy) → StartsAs t a → Collects a b arrived → Delivers of b c out → IsEndpoint inboxes c
     → ((s : ℕ) → (worker_of s == a.worker) ≡ false → filter (is_from_sender s) out ≡ []) → Returns inboxes worker_of a c
-returns_from inboxes of worker_of t a b c arrived out set_out collects delivers courier own =
+returns_from inboxes of worker_of t a b c arrived out starts collects delivers endpoint own =
     let stays = stays_on a b c collects.stays delivers.stays in
-    let P : TakerView → Type 0 = λ u. Whole u.desk.gathered u.desk.taken in
+    let P : TakerView → Type 0 = λ u. Whole u.state.gathered u.state.taken in
     record {
       stays = stays;
-      courier = courier;
-      plain = ap (λ (u : TakerView). u.desk.marked) delivers.taker ∙ collects.plain;
+      endpoint = endpoint;
+      plain = ap (λ (u : TakerView). u.state.marked) delivers.taker ∙ collects.plain;
       collected = subst P (sym delivers.taker) collects.all;
       own = λ s v other.
           let other' : (worker_of s == a.worker) ≡ false = ap (λ w. worker_of s == w) (sym stays.worker) ∙ other in
-          ap (from s) (delivers.adds v ∙ ap (λ l. l ++ filter (is_to of v) out) (collects.delivers_none v ∙ set_out.nothing v)) ∙ filter_none (is_to of v) s out (own s other');
+          ap (from s) (delivers.adds v ∙ ap (λ l. l ++ filter (is_to of v) out) (collects.delivers_none v ∙ starts.nothing v)) ∙ filter_none (is_to of v) s out (own s other');
     }
 
 -- ---- after a window
-only_none : (s v : ℕ) (cs : List Courier) → Each (λ (c : Courier). from s (delivered c v) ≡ []) cs → from s (delivered_to cs v) ≡ []
+only_none : (s v : ℕ) (cs : List Endpoint) → Each (λ (c : Endpoint). from s (delivered c v) ≡ []) cs → from s (delivered_to cs v) ≡ []
 only_none s v [] h = refl
-only_none s v (c ∷ cs) h = ap (from s) (flat_map-cons (λ (k : Courier). delivered k v) c cs) ∙ (from-append s (delivered c v) (delivered_to cs v) ∙ (λ i. h.0 i ++ only_none s v cs h.1 i))
+only_none s v (c ∷ cs) h = ap (from s) (flat_map-cons (λ (k : Endpoint). delivered k v) c cs) ∙ (from-append s (delivered c v) (delivered_to cs v) ∙ (λ i. h.0 i ++ only_none s v cs h.1 i))
 
 numbers : (x y : ℕ) (xs ys : List ℕ) → x ∷ xs ≡ y ∷ ys → (x ≡ y) × (xs ≡ ys)
 numbers x y xs ys e = (cc, cc)
 
 module _ (worker_of : ℕ → ℕ) (s v : ℕ) where
   -- what all of these delivered is what this one delivered, where it is that of the mote's worker
-  abbrev Alone : List Courier → Courier → Type 0
+  abbrev Alone : List Endpoint → Endpoint → Type 0
   Alone cs c = c.worker ≡ worker_of s → from s (delivered_to cs v) ≡ from s (delivered c v)
 
-  with_first : (first : ℕ) (c : Courier) (cs part_ : List Courier) → c.worker ≡ first → DeliversOwn worker_of c → (k : ℕ) → first < k → workers_of part_ ≡ range_with_len k (length part_) → Each (Alone cs) part_ → Each (Alone (c ∷ cs)) part_
+  with_first : (first : ℕ) (c : Endpoint) (cs part_ : List Endpoint) → c.worker ≡ first → DeliversOwn worker_of c → (k : ℕ) → first < k → workers_of part_ ≡ range_with_len k (length part_) → Each (Alone cs) part_ → Each (Alone (c ∷ cs)) part_
   with_first first c cs [] is own k lt e h = tt
   with_first first c cs (d ∷ ds) is own k lt e h =
       let n = numbers d.worker k (workers_of ds) (range_with_len (k + 1) (length ds)) e in
@@ -105,22 +105,22 @@ module _ (worker_of : ℕ → ℕ) (s v : ℕ) where
         (λ same.
             let other : worker_of s ≢ c.worker = λ x. absurd (omega arith) in
             let none : from s (delivered c v) ≡ [] = own s v (ne_eqb (worker_of s) c.worker other) in
-            ap (from s) (flat_map-cons (λ (x : Courier). delivered x v) c cs) ∙ (from-append s (delivered c v) (delivered_to cs v) ∙ (ap (λ l. l ++ from s (delivered_to cs v)) none ∙ h.0 same))),
+            ap (from s) (flat_map-cons (λ (x : Endpoint). delivered x v) c cs) ∙ (from-append s (delivered c v) (delivered_to cs v) ∙ (ap (λ l. l ++ from s (delivered_to cs v)) none ∙ h.0 same))),
         with_first first c cs ds is own (k + 1) (omega arith) n.1 h.1,
       )
 
-  alone : (first : ℕ) (cs : List Courier) → workers_of cs ≡ range_with_len first (length cs) → Each (DeliversOwn worker_of) cs → Each (Alone cs) cs
+  alone : (first : ℕ) (cs : List Endpoint) → workers_of cs ≡ range_with_len first (length cs) → Each (DeliversOwn worker_of) cs → Each (Alone cs) cs
   alone first [] e own = tt
   alone first (c ∷ cs) e own =
       let n = numbers c.worker first (workers_of cs) (range_with_len (first + 1) (length cs)) e in
       let at = n.0 in (
         (λ same.
             let none = only_none s v cs (none_of_them worker_of s v (first + 1) cs n.1 (omega arith) own.1) in
-            ap (from s) (flat_map-cons (λ (x : Courier). delivered x v) c cs) ∙ (from-append s (delivered c v) (delivered_to cs v) ∙ (ap (λ l. from s (delivered c v) ++ l) none ∙ append-nil (from s (delivered c v))))),
+            ap (from s) (flat_map-cons (λ (x : Endpoint). delivered x v) c cs) ∙ (from-append s (delivered c v) (delivered_to cs v) ∙ (ap (λ l. from s (delivered c v) ++ l) none ∙ append-nil (from s (delivered c v))))),
         with_first first c cs cs n.0 own.0 (first + 1) (omega arith) n.1 (alone (first + 1) cs n.1 own.1),
       )
 
--- of one mote, worker v was delivered what the courier of the mote's worker delivered
-pub only_one : (inboxes : List InboxId) (cs : List Courier) (back : AllReturn inboxes cs) (s v : ℕ)
-    → Each (λ (c : Courier). c.worker ≡ back.worker_of s → filter (is_from_sender s) (delivered_to cs v) ≡ filter (is_from_sender s) (delivered c v)) cs
+-- of one mote, worker v was delivered what the endpoint of the mote's worker delivered
+pub only_one : (inboxes : List InboxId) (cs : List Endpoint) (back : AllReturn inboxes cs) (s v : ℕ)
+    → Each (λ (c : Endpoint). c.worker ≡ back.worker_of s → filter (is_from_sender s) (delivered_to cs v) ≡ filter (is_from_sender s) (delivered c v)) cs
 only_one inboxes cs back s v = alone back.worker_of s v 0 cs (workers inboxes cs back ∙ ap (range_with_len 0) (sym (count inboxes cs back))) (owns inboxes cs back)

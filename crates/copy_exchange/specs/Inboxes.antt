@@ -1,24 +1,24 @@
 -- The inboxes of all workers and their takers, between windows.
 use Rattle.std.specs.Prelude.{◌≡◌, false, List, []}
 use Rattle.std.specs.List.{AllZip}
-use Rattle.copy_inbox.specs.Views.{make_desk}
+use Rattle.copy_inbox.specs.Views.{make_taker_state}
 use Rattle.copy_inbox.specs.Handles.{InboxId, TakerView, AllGathered, PacketsLeft}
-use Rattle.copy_exchange.specs.Desks.{IsOrderly}
+use Rattle.copy_exchange.specs.Takers.{IsOrderly}
 
 -- as `Inbox::make` or `Inbox::make_marked` gives them
 abbrev pub IsFresh : InboxId → TakerView → Type 0
-IsFresh inbox t = (t.inbox ≡ inbox) × (t.desk ≡ make_desk t.desk.marked 0 [] [])
+IsFresh inbox t = (t.inbox ≡ inbox) × (t.state ≡ make_taker_state t.state.marked 0 [] [])
 
 -- its inbox has no marks
 abbrev pub IsPlain : TakerView → Type 0
-IsPlain t = t.desk.marked ≡ false
+IsPlain t = t.state.marked ≡ false
 
 -- every sender is gathered, and no mark is left
 pub record IsSettled (inbox : InboxId) (t : TakerView) : Type 0 where
   pub its : t.inbox ≡ inbox
-  pub stands : IsOrderly t.desk
-  pub all : AllGathered t.desk
-  pub no_mark : PacketsLeft t.desk
+  pub stands : IsOrderly t.state
+  pub all : AllGathered t.state
+  pub no_mark : PacketsLeft t.state
 
 abbrev pub Settled : List InboxId → List TakerView → Type 0
 Settled inboxes takers = AllZip IsSettled inboxes takers

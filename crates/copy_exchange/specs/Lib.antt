@@ -1,4 +1,4 @@
-pub mod Couriers
-pub mod Desks
+pub mod Endpoints
 pub mod Inboxes
 pub mod Steps
+pub mod Takers

@@ -4,13 +4,13 @@ use Rattle.std.specs.Prelude.{slice_index_or, Option, Some, None}
 use Rattle.std.specs.List.{AllByRecursion as Each}
 use Rattle.copy_inbox.specs.declared.items.Carried.{Carried}
 use Rattle.copy_inbox.specs.declared.items.Carried.TheVariants.{Mark}
-use Rattle.copy_inbox.specs.declared.rule.Desk.{Desk}
-use Rattle.copy_inbox.specs.declared.rule.Post.{Post}
+use Rattle.copy_inbox.specs.declared.rule.TakerState.{TakerState}
+use Rattle.copy_inbox.specs.declared.rule.SenderState.{SenderState}
 use Rattle.copy_inbox.specs.Items.{Packets, BeginsWith, part}
-use Rattle.copy_inbox.specs.Views.{make_post}
+use Rattle.copy_inbox.specs.Views.{make_sender_state}
 use Rattle.copy_inbox.specs.Handles.{InboxId, TakerView, SenderView, after_sender, after_gather}
-use Rattle.copy_exchange.specs.declared.courier.Courier.{Courier}
-use Rattle.copy_exchange.specs.Couriers.{Stays, sender_to, senders_to, pushed_to}
+use Rattle.copy_exchange.specs.declared.endpoint.Endpoint.{Endpoint}
+use Rattle.copy_exchange.specs.Endpoints.{Stays, sender_to, senders_to, pushed_to}
 
 -- each taker is that of the inbox at its place
 pub record AreTakersOf (inboxes : List InboxId) (takers : List TakerView) : Type 0 where
@@ -26,7 +26,8 @@ abbrev pub opened_taker : (own : Bool) → TakerView → TakerView
 opened_taker own t = cond own t (after_sender t)
 
 abbrev pub opened_sender : (own : Bool) → TakerView → Option SenderView
-opened_sender own t = cond own None (Some (record { inbox = t.inbox; post = make_post t.desk.marked t.desk.made [] }))
+opened_sender own t =
+    cond own None (Some (record { inbox = t.inbox; state = make_sender_state t.state.marked t.state.made [] }))
 
 -- on each inbox but its own the worker has a sender more
 pub record Opens (worker : ℕ) (old new : List TakerView) (senders : List (Option SenderView)) : Type 0 where
@@ -40,7 +41,7 @@ pub record Opens (worker : ℕ) (old new : List TakerView) (senders : List (Opti
 -- ---- a worker's senders are gathered
 abbrev pub gather_into : TakerView → Option SenderView → TakerView
 gather_into t None = t
-gather_into t (Some s) = after_gather t s.post
+gather_into t (Some s) = after_gather t s.state
 
 -- each sender is one of the inbox at its place
 pub record AreSendersOn (inboxes : List InboxId) (senders : List (Option SenderView)) : Type 0 where
@@ -50,7 +51,7 @@ pub record AreSendersOn (inboxes : List InboxId) (senders : List (Option SenderV
 
 -- what a taker learns of a sender that it gathers: what it took of it is the beginning of what it pushed, and that is
 -- packets where there are no marks
-pub record TellsOf (d : Desk) (p : Post) : Type 0 where
+pub record TellsOf (d : TakerState) (p : SenderState) : Type 0 where
   pub begun : BeginsWith p.pushed (part p.number d.taken)
   pub plain : d.marked ≡ false → Packets p.pushed
 
@@ -59,28 +60,28 @@ pub record GathersRow (old new : List TakerView) (senders : List (Option SenderV
   pub taker : (v : ℕ) (t : TakerView) → v < length old
       → slice_index_or new v t ≡ gather_into (slice_index_or old v t) (at_place senders v)
   pub told : (v : ℕ) (t : TakerView) (s : SenderView) → v < length old → at_place senders v ≡ Some s
-      → TellsOf (slice_index_or old v t).desk s.post
+      → TellsOf (slice_index_or old v t).state s.state
 
 -- the taker has gathered these senders, one after another
-abbrev pub gather_posts : TakerView → List SenderView → TakerView
-gather_posts t [] = t
-gather_posts t (s ∷ senders) = gather_posts (after_gather t s.post) senders
+abbrev pub gather_senders : TakerView → List SenderView → TakerView
+gather_senders t [] = t
+gather_senders t (s ∷ senders) = gather_senders (after_gather t s.state) senders
 
--- the taker of each courier has gathered all senders on its inbox, in the order of their couriers
-pub record GathersBack (couriers : List Courier) (takers : List TakerView) : Type 0 where
-  pub count : length takers ≡ length couriers
-  pub taker : (v : ℕ) (c : Courier) (t : TakerView) → slice_get couriers v ≡ Some c → slice_get takers v ≡ Some t
-      → t ≡ gather_posts c.taker (senders_to couriers v)
-  pub told : (v : ℕ) (c : Courier) → slice_get couriers v ≡ Some c
-      → Each (λ (s : SenderView). TellsOf c.taker.desk s.post) (senders_to couriers v)
+-- the taker of each endpoint has gathered all senders on its inbox, in the order of their endpoints
+pub record GathersBack (endpoints : List Endpoint) (takers : List TakerView) : Type 0 where
+  pub count : length takers ≡ length endpoints
+  pub taker : (v : ℕ) (e : Endpoint) (t : TakerView) → slice_get endpoints v ≡ Some e → slice_get takers v ≡ Some t
+      → t ≡ gather_senders e.taker (senders_to endpoints v)
+  pub told : (v : ℕ) (e : Endpoint) → slice_get endpoints v ≡ Some e
+      → Each (λ (s : SenderView). TellsOf e.taker.state s.state) (senders_to endpoints v)
 
 -- ---- a mark goes through one sender
 abbrev pub pushed_with_mark : Option SenderView → (window : ℕ) → List Carried
 pushed_with_mark None window = []
-pushed_with_mark (Some s) window = s.post.pushed ++ Mark window ∷ []
+pushed_with_mark (Some s) window = s.state.pushed ++ Mark window ∷ []
 
 -- the sender at this place, if there is one, pushed the mark; all else is as it was
-pub record MarksOne (to window : ℕ) (old new : Courier) : Type 0 where
+pub record MarksOne (to window : ℕ) (old new : Endpoint) : Type 0 where
   pub stays : Stays old new
   pub taker : new.taker ≡ old.taker
   pub here : pushed_to new to ≡ pushed_with_mark (sender_to old to) window

@@ -2,7 +2,7 @@
 
 ghost use Rattle.std.specs.Prelude.{◌≡◌, ◌+◌, length, map, IfOk};
 ghost use Rattle.std.specs.List.{AllByRecursion as Each, zip};
-ghost use Rattle.copy_exchange.specs.Desks.{taken_by, gathered_by};
+ghost use Rattle.copy_exchange.specs.Takers.{taken_by, gathered_by};
 ghost use Rattle.copy_exchange.specs.Inboxes.{IsFresh, IsSettled};
 
 use copy_inbox::{Inbox, InboxError, Taker};
@@ -16,7 +16,7 @@ pub fn make_inboxes(
 ) -> Result<Vec<(Inbox, Taker)>, InboxError>
     ensures count { IfOk result (λ pairs. length pairs.items ≡ count) }
     ensures fresh { IfOk result (λ pairs. Each (λ pair. IsFresh pair.0 pair.1) pairs.items) }
-    ensures marked { IfOk result (λ pairs. Each (λ pair. pair.1.desk.marked ≡ marked) pairs.items) }
+    ensures marked { IfOk result (λ pairs. Each (λ pair. pair.1.state.marked ≡ marked) pairs.items) }
 {
     let mut pairs = Vec::with_capacity(alloc, count)?;
     for _ in 0..count {
@@ -28,7 +28,7 @@ pub fn make_inboxes(
 // A new inbox with its taker, with marks or without.
 fn make_inbox(alloc: Global, marked: bool) -> Result<(Inbox, Taker), InboxError>
     ensures fresh { IfOk result (λ pair. IsFresh pair.0 pair.1) }
-    ensures marked { IfOk result (λ pair. pair.1.desk.marked ≡ marked) }
+    ensures marked { IfOk result (λ pair. pair.1.state.marked ≡ marked) }
 {
     if marked {
         Inbox::make_marked(alloc)
@@ -38,7 +38,7 @@ fn make_inbox(alloc: Global, marked: bool) -> Result<(Inbox, Taker), InboxError>
 }
 
 /// The inboxes, and their takers.
-pub fn parted(
+pub fn split_pairs(
     alloc: Global,
     pairs: Vec<(Inbox, Taker)>,
 ) -> Result<(Vec<Inbox>, Vec<Taker>), InboxError>
@@ -55,7 +55,7 @@ pub fn parted(
 }
 
 /// Each inbox with its taker.
-pub fn paired(
+pub fn pair_inboxes(
     alloc: Global,
     inboxes: Vec<Inbox>,
     takers: Vec<Taker>,

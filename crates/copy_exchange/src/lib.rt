@@ -2,10 +2,10 @@
 //! up, and each mote's copies stay in order.
 #![tactic(auto)]
 
-mod courier;
+mod endpoint;
 mod inboxes;
 mod window;
 
-pub use courier::Courier;
-pub use inboxes::{known, make_inboxes, paired, parted};
-pub use window::{couriers, gather_back, gathered};
+pub use endpoint::Endpoint;
+pub use inboxes::{known, make_inboxes, pair_inboxes, split_pairs};
+pub use window::{endpoints, gather_back, gather_window};

@@ -2,45 +2,45 @@
 
 ghost use Rattle.std.specs.Prelude.{◌≡◌, ◌≤◌, ◌^◌, true, length, map, IfOk, IfSome, OnOk};
 ghost use Rattle.std.specs.List.{AllByRecursion as Each, AllZip, range_with_len};
-ghost use Rattle.copy_exchange.specs.Couriers.{IsSeated, Together, SetsOut, HasMarks, HasPushedNothing, AllReturn};
-ghost use Rattle.copy_exchange.specs.Couriers.{ComesHome};
+ghost use Rattle.copy_exchange.specs.Endpoints.{IsSeated, Together, StartsAs, HasMarks, HasPushedNothing, AllReturn};
+ghost use Rattle.copy_exchange.specs.Endpoints.{GathersDelivered};
 ghost use Rattle.copy_exchange.specs.Inboxes.{IsPlain, Settled};
 ghost use Rattle.copy_exchange.specs.Steps.{AreTakersOf, Opens, opened_taker, opened_sender, AreSendersOn};
 ghost use Rattle.copy_exchange.specs.Steps.{gather_into, GathersRow, GathersBack, TellsOf};
 
-use crate::courier::Courier;
+use crate::endpoint::Endpoint;
 use copy_inbox::{Inbox, InboxError, Sender, Taker};
 use std::alloc::Global;
 use std::sync::Wait;
 
-/// Before a window: a courier for each worker, with a new sender on the inbox of each other one.
-pub fn couriers(
+/// Before a window: an endpoint for each worker, with a new sender on the inbox of each other one.
+pub fn endpoints(
     alloc: Global,
     inboxes: &[Inbox],
     takers: Vec<Taker>,
-) -> Result<Vec<Courier>, InboxError>
+) -> Result<Vec<Endpoint>, InboxError>
     requires few { length inboxes.now ≤ 2 ^ 16 }
     requires settled { Settled inboxes.now takers.items }
-    ensures together { IfOk result (λ couriers. Together inboxes.now couriers.items) }
-    ensures set_out { IfOk result (λ couriers. AllZip SetsOut takers.items couriers.items) }
-    ensures nothing { IfOk result (λ couriers. Each HasPushedNothing couriers.items) }
+    ensures together { IfOk result (λ endpoints. Together inboxes.now endpoints.items) }
+    ensures starts { IfOk result (λ endpoints. AllZip StartsAs takers.items endpoints.items) }
+    ensures nothing { IfOk result (λ endpoints. Each HasPushedNothing endpoints.items) }
     ensures marked { IfOk result
-        (λ couriers. Each (λ taker. taker.desk.marked ≡ true) takers.items → Each HasMarks couriers.items) }
+        (λ endpoints. Each (λ taker. taker.state.marked ≡ true) takers.items → Each HasMarks endpoints.items) }
 {
     let mut takers = takers;
     let mut rows = Vec::with_capacity(alloc, inboxes.len())?;
     for worker in 0..inboxes.len() {
         rows.push_reserved(senders_of(alloc, inboxes, &mut takers, worker)?);
     }
-    let mut couriers = Vec::with_capacity(alloc, inboxes.len())?;
+    let mut endpoints = Vec::with_capacity(alloc, inboxes.len())?;
     for (taker, senders) in takers.into_iter().zip(rows) {
-        couriers.push_reserved(Courier {
-            worker: couriers.len() as u16,
+        endpoints.push_reserved(Endpoint {
+            worker: endpoints.len() as u16,
             taker,
             senders,
         });
     }
-    Ok(couriers)
+    Ok(endpoints)
 }
 
 // The senders of one worker, one on the inbox of each other worker.
@@ -74,35 +74,34 @@ fn sender_on(inbox: &Inbox, taker: &mut Taker, own: bool) -> Result<Option<Sende
     Ok(Some(sender))
 }
 
-/// After a window, when all couriers are back: each worker's taker gathers what was delivered to it. The inboxes have
-/// no marks.
-pub fn gathered<R: Wait>(
+/// After a window: each worker's taker gathers what was delivered to it. The inboxes have no marks.
+pub fn gather_window<R: Wait>(
     rt: &R,
     alloc: Global,
     inboxes: &[Inbox],
-    couriers: Vec<Courier>,
+    endpoints: Vec<Endpoint>,
 ) -> Result<Vec<Taker>, InboxError>
-    requires { AllReturn inboxes.now couriers.items }
+    requires { AllReturn inboxes.now endpoints.items }
     ensures settled { IfOk result (λ takers. Settled inboxes.now takers.items) }
     ensures plain { IfOk result (λ takers. Each IsPlain takers.items) }
-    ensures came_home { IfOk result (λ takers. AllZip (ComesHome couriers.items) couriers.items takers.items) }
+    ensures gathers { IfOk result (λ takers. AllZip (GathersDelivered endpoints.items) endpoints.items takers.items) }
 {
-    gather_back(rt, alloc, inboxes, couriers)
+    gather_back(rt, alloc, inboxes, endpoints)
 }
 
-/// When all couriers are back: each worker's taker gathers the senders on its inbox, one after another, in the order of
+/// After the workers have run: each worker's taker gathers the senders on its inbox, one after another, in the order of
 /// the workers.
 pub fn gather_back<R: Wait>(
     rt: &R,
     alloc: Global,
     inboxes: &[Inbox],
-    couriers: Vec<Courier>,
+    endpoints: Vec<Endpoint>,
 ) -> Result<Vec<Taker>, InboxError>
-    requires workers { map (λ courier. courier.worker) couriers.items ≡ range_with_len 0 (length inboxes.now) }
-    requires seated { Each (IsSeated inboxes.now) couriers.items }
-    ensures { IfOk result (λ takers. GathersBack couriers.items takers.items) }
+    requires workers { map (λ endpoint. endpoint.worker) endpoints.items ≡ range_with_len 0 (length inboxes.now) }
+    requires seated { Each (IsSeated inboxes.now) endpoints.items }
+    ensures { IfOk result (λ takers. GathersBack endpoints.items takers.items) }
 {
-    let (mut takers, rows) = unloaded(alloc, couriers)?;
+    let (mut takers, rows) = split_endpoints(alloc, endpoints)?;
     for senders in rows {
         gather_all(rt, inboxes, &mut takers, senders);
     }
@@ -112,15 +111,18 @@ pub fn gather_back<R: Wait>(
 /// The senders of all workers, each worker's in a row.
 type Rows = Vec<Vec<Option<Sender>>>;
 
-// The takers of the couriers, and their senders.
-fn unloaded(alloc: Global, couriers: Vec<Courier>) -> Result<(Vec<Taker>, Rows), InboxError>
-    ensures takers { IfOk result (λ r. r.0.items ≡ map (λ courier. courier.taker) couriers.items) }
-    ensures rows { IfOk result (λ r. r.1.items ≡ map (λ courier. courier.senders) couriers.items) }
+// The takers of the endpoints, and their senders.
+fn split_endpoints(
+    alloc: Global,
+    endpoints: Vec<Endpoint>,
+) -> Result<(Vec<Taker>, Rows), InboxError>
+    ensures takers { IfOk result (λ r. r.0.items ≡ map (λ endpoint. endpoint.taker) endpoints.items) }
+    ensures rows { IfOk result (λ r. r.1.items ≡ map (λ endpoint. endpoint.senders) endpoints.items) }
 {
-    let mut takers = Vec::with_capacity(alloc, couriers.len())?;
-    let mut rows = Vec::with_capacity(alloc, couriers.len())?;
-    for courier in couriers {
-        let (taker, senders) = courier.into_parts();
+    let mut takers = Vec::with_capacity(alloc, endpoints.len())?;
+    let mut rows = Vec::with_capacity(alloc, endpoints.len())?;
+    for endpoint in endpoints {
+        let (taker, senders) = endpoint.into_parts();
         takers.push_reserved(taker);
         rows.push_reserved(senders);
     }
@@ -148,7 +150,7 @@ fn gather_one<R: Wait>(rt: &R, inbox: &Inbox, taker: &mut Taker, sender: Option<
     requires taker { taker.old.inbox ≡ inbox.now }
     requires sender { IfSome sender (λ s. s.inbox ≡ inbox.now) }
     ensures gathered { taker.new ≡ gather_into taker.old sender }
-    ensures told { IfSome sender (λ s. TellsOf taker.old.desk s.post) }
+    ensures told { IfSome sender (λ s. TellsOf taker.old.state s.state) }
 {
     if let Some(sender) = sender {
         inbox.gather(rt, taker, sender);

@@ -7,7 +7,7 @@ use Rattle.std.proofs.Math.Seq.{drop-append_seam}
 use Rattle.copy_inbox.specs.declared.items.Carried.{Carried}
 use Rattle.copy_inbox.specs.declared.items.Item.{Item}
 use Rattle.copy_inbox.specs.declared.rule.Gathered.{Gathered}
-use Rattle.copy_inbox.specs.declared.rule.Desk.{Desk}
+use Rattle.copy_inbox.specs.declared.rule.TakerState.{TakerState}
 use Rattle.copy_inbox.specs.Items.{part, Packets, OfMade}
 use Rattle.copy_inbox.specs.Gathered.{is_gathered, Apart, untaken_of, known_of, Later, TookFronts, Whole}
 use Rattle.copy_inbox.specs.Rule.{Behind, Sound}
@@ -32,7 +32,7 @@ tally-cons g gs items = sum_by-cons (λ (k : Gathered). length (part k.number it
 abbrev pub Adds : List Item → List Item → Gathered → Type 0
 Adds taken items g = part g.number (taken ++ items) ≡ g.pushed
 
-pub adds_of : (d : Desk) (seat : ℕ → Option ℕ) (pushed : ℕ → List Carried) (items : List Item) → Sound d seat pushed items → Each (Adds d.taken items) d.gathered
+pub adds_of : (d : TakerState) (seat : ℕ → Option ℕ) (pushed : ℕ → List Carried) (items : List Item) → Sound d seat pushed items → Each (Adds d.taken items) d.gathered
 adds_of d seat pushed items s = each_map d.gathered (λ g j. s.parts g.number ∙ j.all) s.joined
 
 pub left_is : (g : Gathered) (taken items : List Item) → Adds taken items g → untaken_of taken g ≡ part g.number items
@@ -46,7 +46,7 @@ known-is (g ∷ gs) taken items h = let e = ap length (left_is g taken items h.0
 pub begun_of : (gs : List Gathered) (taken items : List Item) → Each (Adds taken items) gs → TookFronts gs taken
 begun_of gs taken items h = each_map gs (λ g k. (part g.number items, sym k ∙ part-append g.number taken items)) h
 
-pub made_of : (d : Desk) (seat : ℕ → Option ℕ) (pushed : ℕ → List Carried) (items : List Item) → Sound d seat pushed items → OfMade d.made d.taken
+pub made_of : (d : TakerState) (seat : ℕ → Option ℕ) (pushed : ℕ → List Carried) (items : List Item) → Sound d seat pushed items → OfMade d.made d.taken
 made_of d seat pushed items s u le = part-nil_left u d.taken items (s.parts u ∙ (s.unmade u le).0)
 
 -- ---- one item more at the front

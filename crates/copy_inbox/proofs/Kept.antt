@@ -12,9 +12,9 @@ use Rattle.copy_inbox.specs.Items.{part}
 use Rattle.copy_inbox.specs.Gathered.{is_gathered, known_of}
 use Rattle.copy_inbox.specs.Views.{new_taker, with_one_more, with_gathered, with_taken}
 use Rattle.copy_inbox.specs.Rule.{SeenBy}
-use Rattle.copy_inbox.specs.Handles.{desk_in, post_in, IsSender}
+use Rattle.copy_inbox.specs.Handles.{taker_state_in, sender_state_in, IsSender}
 use Rattle.copy_inbox.specs.Kept.{KeepsCounts, CountsTaken, Forgets}
-use Rattle.copy_inbox.proofs.Takers.{count, byte_is, more_as, took_as, joined_desk, joined_is, joined_seen, joined_leaves, joined_index, next_below, next_known, next_kept, next_fits}
+use Rattle.copy_inbox.proofs.Takers.{count, byte_is, more_as, took_as, joined_state, joined_is, joined_seen, joined_leaves, joined_index, next_below, next_known, next_kept, next_fits}
 
 -- ---- what is kept of a sender that isn't forgotten
 kept_at : (first s : ℕ) (counts kept : List Count) (c : Count) → kept ≡ drop first counts → first ≤ s → get_or kept (s - first) c ≡ get_or counts s c
@@ -63,10 +63,10 @@ keeps_more v w first kept k e t =
       rest = ap (λ l. l ++ one) t.rest ∙ sym (drop-append-le first t.counts one (omega arith));
       made = omega (arith, length-append kept one, length-append t.counts one);
       few = t.few;
-      gathered = λ s lt. ap (λ (u : View). is_gathered (desk_in u).gathered s) (e ∙ ap with_one_more t.taker.is) ∙ t.gathered s lt;
+      gathered = λ s lt. ap (λ (u : View). is_gathered (taker_state_in u).gathered s) (e ∙ ap with_one_more t.taker.is) ∙ t.gathered s lt;
     }
 
-pub keeps_made : (v : View) (first : ℕ) (kept : List Count) (k : ℕ) → KeepsCounts v first kept k → first + length kept ≡ (desk_in v).made
+pub keeps_made : (v : View) (first : ℕ) (kept : List Count) (k : ℕ) → KeepsCounts v first kept k → first + length kept ≡ (taker_state_in v).made
 keeps_made v first kept k t = t.made ∙ t.taker.made
 
 -- ---- an item taken
@@ -86,7 +86,7 @@ module _ (v : View) (first : ℕ) (kept : List Count) (k : ℕ) (x : Item) (rest
       subst (λ (z : Count). z.taken + 1 < 2 ^ 64) (sym (kept_at first x.sender t.counts kept c t.rest le)) (next_fits v t.counts k x rest d t.taker seen same)
 
   module _ (now : List Count) (b : Bool) (n : ℕ) (c : CountsTaken first x.sender kept now b) (is : n ≡ bool_byte b) where
-    told : b ≡ is_gathered (desk_in v).gathered x.sender
+    told : b ≡ is_gathered (taker_state_in v).gathered x.sender
     told = ⊎_elim
         (λ (lt : x.sender < first). (c.forgotten lt).1 ∙ sym (t.gathered x.sender lt))
         (λ (le : first ≤ x.sender).
@@ -94,12 +94,12 @@ module _ (v : View) (first : ℕ) (kept : List Count) (k : ℕ) (x : Item) (rest
         h.3 ∙ ap (λ (y : Count). y.gathered) (next_kept v t.counts k x rest h.0 t.taker seen (h.1 ∙ kept_at first x.sender t.counts kept h.0 t.rest le)))
         (cases_lt x.sender first)
 
-    one : n ≡ cond (is_gathered (desk_in v).gathered x.sender) 1 0
+    one : n ≡ cond (is_gathered (taker_state_in v).gathered x.sender) 1 0
     one = is ∙ (byte_is b ∙ ap (λ z. cond z 1 0) told)
 
-    down : k ≡ n + known_of (desk_in v).gathered ((desk_in v).taken ++ x ∷ [])
+    down : k ≡ n + known_of (taker_state_in v).gathered ((taker_state_in v).taken ++ x ∷ [])
     down =
-        let m = known_of (desk_in v).gathered ((desk_in v).taken ++ x ∷ []) in
+        let m = known_of (taker_state_in v).gathered ((taker_state_in v).taken ++ x ∷ []) in
         t.taker.known_is ∙ ((next_known v x rest t.taker.is seen).known ∙ ap (λ i. i + m) (sym one))
 
     pub next_down : n ≤ k
@@ -107,7 +107,7 @@ module _ (v : View) (first : ℕ) (kept : List Count) (k : ℕ) (x : Item) (rest
 
     pub keeps_taken : (w : View) → w ≡ with_taken v x → KeepsCounts w first now (k - n)
     keeps_taken w e =
-        let new : Count = count (length (part x.sender (desk_in v).taken) + 1) (is_gathered (desk_in v).gathered x.sender) in
+        let new : Count = count (length (part x.sender (taker_state_in v).taken) + 1) (is_gathered (taker_state_in v).gathered x.sender) in
         let all : List Count = set t.counts x.sender new in
         let d = down in
         let left : now ≡ drop first all = ⊎_elim
@@ -123,11 +123,11 @@ module _ (v : View) (first : ℕ) (kept : List Count) (k : ℕ) (x : Item) (rest
           rest = left;
           made = still_made first t.counts all kept now t.made (length-set t.counts x.sender new) left;
           few = t.few;
-          gathered = λ s lt. ap (λ (u : View). is_gathered (desk_in u).gathered s) (e ∙ ap (λ u. with_taken u x) t.taker.is) ∙ t.gathered s lt;
+          gathered = λ s lt. ap (λ (u : View). is_gathered (taker_state_in u).gathered s) (e ∙ ap (λ u. with_taken u x) t.taker.is) ∙ t.gathered s lt;
         }
 
 -- ---- a sender taken in
-module _ (v u w : View) (first : ℕ) (kept : List Count) (k pushed number : ℕ) (items : List Item) (t : KeepsCounts v first kept k) (r : IsSender u pushed) (num : number ≡ (post_in u).number)
+module _ (v u w : View) (first : ℕ) (kept : List Count) (k pushed number : ℕ) (items : List Item) (t : KeepsCounts v first kept k) (r : IsSender u pushed) (num : number ≡ (sender_state_in u).number)
     (e : w ≡ with_gathered v u) (seen : SeenBy w items) where
   -- it wasn't gathered before, so it isn't forgotten
   pub joined_first : first ≤ number
@@ -135,7 +135,7 @@ module _ (v u w : View) (first : ℕ) (kept : List Count) (k pushed number : ℕ
       (λ (lt : number < first).
       let s = joined_seen v u w t.counts k pushed items t.taker r e seen in
       let yes = t.gathered number lt in
-      let no = ap (is_gathered (desk_in v).gathered) num ∙ s.2.apart.0 in
+      let no = ap (is_gathered (taker_state_in v).gathered) num ∙ s.2.apart.0 in
       absurd (true≢false (sym yes ∙ no)))
       (λ (le : first ≤ number). le)
       (cases_lt number first)
@@ -155,8 +155,8 @@ module _ (v u w : View) (first : ℕ) (kept : List Count) (k pushed number : ℕ
       let new : Count = count c.taken true in
       let all : List Count = set t.counts number new in
       let left : set kept (number - first) new ≡ drop first all = ap (λ l. set l (number - first) new) t.rest ∙ kept_set first number t.counts new joined_first in
-      let p = post_in u in
-      let gs = (desk_in v).gathered in
+      let p = sender_state_in u in
+      let gs = (taker_state_in v).gathered in
       record {
         counts = all;
         taker = joined_leaves v u w y t.counts k pushed number items c t.taker r num e seen (joined_at c at) same;
@@ -164,11 +164,11 @@ module _ (v u w : View) (first : ℕ) (kept : List Count) (k pushed number : ℕ
         made = still_made first t.counts all kept (set kept (number - first) new) t.made (length-set t.counts number new) left;
         few = t.few;
         gathered = λ s lt.
-            let is : is_gathered (joined_desk (desk_in v) p).gathered s ≡ true = ⊎_elim
+            let is : is_gathered (joined_state (taker_state_in v) p).gathered s ≡ true = ⊎_elim
             (λ (q : (eqb p.number s ≡ true) × (p.number ≡ s)). rw q.0 refl)
             (λ (q : (eqb p.number s ≡ false) × (p.number ≢ s)). rw q.0 (t.gathered s lt))
             (eqb_tells p.number s) in
-            ap (λ (z : View). is_gathered (desk_in z).gathered s) (same ∙ joined_is v u w t.taker.is r.is e) ∙ is;
+            ap (λ (z : View). is_gathered (taker_state_in z).gathered s) (same ∙ joined_is v u w t.taker.is r.is e) ∙ is;
       }
 
 -- ---- the first count goes
@@ -201,7 +201,7 @@ keeps_forgetting v first then kept now k t f = ⊎_elim
           let c : Count = count 0 false in
           let e : get_or kept 0 c ≡ get_or t.counts first c = ap (λ l. get_or l 0 c) t.rest ∙ (get_or-drop first t.counts 0 c ∙ ap (λ j. get_or t.counts j c) (omega arith)) in
           let is = e ∙ t.taker.counted first c (omega arith) in
-          ap (is_gathered (desk_in v).gathered) at ∙ (sym (ap (λ (y : Count). y.gathered) is) ∙ h.4 c))
+          ap (is_gathered (taker_state_in v).gathered) at ∙ (sym (ap (λ (y : Count). y.gathered) is) ∙ h.4 c))
           (cases_lt s first);
     })
     f

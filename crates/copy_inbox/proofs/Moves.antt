@@ -9,13 +9,13 @@ use Rattle.crossbeam_queue.proofs.Lists.{at_set, set_else, at_longer, at_last}
 use Rattle.copy_inbox.specs.declared.items.Carried.{Carried}
 use Rattle.copy_inbox.specs.declared.items.Item.{Item}
 use Rattle.copy_inbox.specs.declared.rule.Gathered.{Gathered}
-use Rattle.copy_inbox.specs.declared.rule.Desk.{Desk}
-use Rattle.copy_inbox.specs.declared.rule.Post.{Post}
+use Rattle.copy_inbox.specs.declared.rule.TakerState.{TakerState}
+use Rattle.copy_inbox.specs.declared.rule.SenderState.{SenderState}
 use Rattle.copy_inbox.specs.declared.rule.View.{View}
 use Rattle.copy_inbox.specs.declared.rule.View.TheVariants.{Taking, Sending, Spent}
 use Rattle.copy_inbox.specs.Items.{part, is_packet}
 use Rattle.copy_inbox.specs.Gathered.{is_gathered}
-use Rattle.copy_inbox.specs.Views.{make_desk, make_post, make_gathered, new_taker, with_one_more, next_sender, with_marks, no_sender, with_gathered, with_pushed}
+use Rattle.copy_inbox.specs.Views.{make_taker_state, make_sender_state, make_gathered, new_taker, with_one_more, next_sender, with_marks, no_sender, with_gathered, with_pushed}
 use Rattle.copy_inbox.specs.Rule.{PassFits, Sound, InboxRule, SeenBy, Took, Pushed}
 use Rattle.copy_inbox.proofs.Parts.{part-snoc_here, part-snoc_else, part-moved, part-nil_right, behind-snoc, behind-fresh}
 
@@ -42,11 +42,11 @@ set_at (x ∷ xs) (suc i) a b e = set_at xs i a b e
 one_view : (l : List View) (i j : ℕ) (a b : View) → get_elem? l i ≡ some a → get_elem? l j ≡ some b → i ≡ j → a ≡ b
 one_view l i j a b p q e = some-injective a b (sym p ∙ (ap (get_elem? l) e ∙ q))
 
-apart_views : (l : List View) (i j : ℕ) (d : Desk) (p : Post) → get_elem? l i ≡ some (Taking d) → get_elem? l j ≡ some (Sending p) → i ≢ j
+apart_views : (l : List View) (i j : ℕ) (d : TakerState) (p : SenderState) → get_elem? l i ≡ some (Taking d) → get_elem? l j ≡ some (Sending p) → i ≢ j
 apart_views l i j d p a b e = let k = one_view l i j (Taking d) (Sending p) a b e in absurd cc
 
-post_same : (p q : Post) → Sending p ≡ Sending q → p ≡ q
-post_same p q e = cc
+sender_state_same : (p q : SenderState) → Sending p ≡ Sending q → p ≡ q
+sender_state_same p q e = cc
 
 -- ---- each gathered sender
 pub each_map : {P Q : Gathered → Type 0} (gs : List Gathered) → ((g : Gathered) → P g → Q g) → Each P gs → Each Q gs
@@ -66,11 +66,11 @@ one v w (suc pass) e = absurd (some-ne-none v (sym e))
 
 pub begins : InboxRule [] (new_taker ∷ [])
 begins =
-    let F : ℕ → View → Type 0 = PassFits 0 (λ s. None) (make_desk false 0 [] []) (λ s. []) in
+    let F : ℕ → View → Type 0 = PassFits 0 (λ s. None) (make_taker_state false 0 [] []) (λ s. []) in
     record {
       taker = 0;
       seat = λ s. None;
-      desk_of = make_desk false 0 [] [];
+      taker_state = make_taker_state false 0 [] [];
       pushed = λ s. [];
       sound = record { parts = λ s. refl; few = λ s. omega arith; unmade = λ s h. (refl, refl); still = λ s lt _. absurd (omega arith); joined = tt; apart = tt; plain = λ _ s. tt };
       taking = refl;
@@ -83,7 +83,7 @@ begins =
 one_seat : (seat : ℕ → Option ℕ) (s t i j : ℕ) → seat s ≡ Some i → seat t ≡ Some j → j ≢ i → t ≢ s
 one_seat seat s t i j a b n e = let k : seat t ≡ seat s = ap seat e in let m : Some j ≡ Some i = cc in n cc
 
-fits_push : (taker : ℕ) (seat : ℕ → Option ℕ) (d : Desk) (old now : ℕ → List Carried) (s pass j : ℕ) (u : View)
+fits_push : (taker : ℕ) (seat : ℕ → Option ℕ) (d : TakerState) (old now : ℕ → List Carried) (s pass j : ℕ) (u : View)
     → seat s ≡ Some pass → j ≢ pass → ((t : ℕ) → t ≢ s → now t ≡ old t) → PassFits taker seat d old j u → PassFits taker seat d now j u
 fits_push taker seat d old now s pass j (Taking e) at n same f = f
 fits_push taker seat d old now s pass j (Sending q) at n same f = (f.0, f.1 ∙ sym (same q.number (one_seat seat s q.number pass j at f.0 n)), f.2)
@@ -92,27 +92,27 @@ fits_push taker seat d old now s pass j Spent at n same f = f
 longer : (l : List Carried) (c : Carried) → length l < 2 ^ 62 → length (l ++ c ∷ []) ≤ 2 ^ 62
 longer l c h = omega (arith, length-append l (c ∷ []))
 
-sends_push : (views : List View) (pass q s : ℕ) (p : Post) (w : View) (m : Bool) (old now : ℕ → List Carried) (x : Item) → get_elem? views pass ≡ some (Sending p) → get_elem? views q ≡ some (Sending (make_post m s (old s)))
+sends_push : (views : List View) (pass q s : ℕ) (p : SenderState) (w : View) (m : Bool) (old now : ℕ → List Carried) (x : Item) → get_elem? views pass ≡ some (Sending p) → get_elem? views q ≡ some (Sending (make_sender_state m s (old s)))
     → (q ≢ pass → s ≢ p.number) → ((t : ℕ) → t ≢ p.number → now t ≡ old t) → now p.number ≡ p.pushed ++ x.what ∷ [] → w ≡ with_pushed (Sending p) x
-    → get_elem? (set views pass w) q ≡ some (Sending (make_post m s (now s)))
+    → get_elem? (set views pass w) q ≡ some (Sending (make_sender_state m s (now s)))
 sends_push views pass q s p w m old now x at was other same more is = ⊎_elim
     (λ (e : (eqb q pass ≡ true) × (q ≡ pass)).
-    let z : make_post m s (old s) ≡ p = post_same (make_post m s (old s)) p (one_view views q pass (Sending (make_post m s (old s))) (Sending p) was at e.1) in
-    let num : s ≡ p.number = ap (λ (k : Post). k.number) z in
-    let mk : m ≡ p.marked = ap (λ (k : Post). k.marked) z in
-    let end : w ≡ Sending (make_post m s (now s)) = is ∙ (λ i. Sending (make_post (sym mk i) (sym num i) ((sym more ∙ ap now (sym num)) i))) in
+    let z : make_sender_state m s (old s) ≡ p = sender_state_same (make_sender_state m s (old s)) p (one_view views q pass (Sending (make_sender_state m s (old s))) (Sending p) was at e.1) in
+    let num : s ≡ p.number = ap (λ (k : SenderState). k.number) z in
+    let mk : m ≡ p.marked = ap (λ (k : SenderState). k.marked) z in
+    let end : w ≡ Sending (make_sender_state m s (now s)) = is ∙ (λ i. Sending (make_sender_state (sym mk i) (sym num i) ((sym more ∙ ap now (sym num)) i))) in
     ap (get_elem? (set views pass w)) e.1 ∙ (set_at views pass w (Sending p) at ∙ ap some end))
     (λ (e : (eqb q pass ≡ false) × (q ≢ pass)).
-    set_else views pass q w e.1 ∙ (was ∙ (λ i. some (Sending (make_post m s (sym (same s (other e.1)) i))))))
+    set_else views pass q w e.1 ∙ (was ∙ (λ i. some (Sending (make_sender_state m s (sym (same s (other e.1)) i))))))
     (eqb_tells q pass)
 
 each_snoc : (l : List Carried) (w : Carried) → Each (λ (v : Carried). is_packet v ≡ true) l → is_packet w ≡ true → Each (λ (v : Carried). is_packet v ≡ true) (l ++ w ∷ [])
 each_snoc [] w h k = (k, tt)
 each_snoc (v ∷ vs) w h k = (h.0, each_snoc vs w h.1 k)
 
-pub pushes : (n pass : ℕ) (p : Post) (x : Item) → (p.marked ≡ false → is_packet x.what ≡ true) → x.sender ≡ p.number → length p.pushed < 2 ^ 62 → Pushes InboxRule n pass (Sending p) x (Pushed (Sending p) x)
+pub pushes : (n pass : ℕ) (p : SenderState) (x : Item) → (p.marked ≡ false → is_packet x.what ≡ true) → x.sender ≡ p.number → length p.pushed < 2 ^ 62 → Pushes InboxRule n pass (Sending p) x (Pushed (Sending p) x)
 pushes n pass p x packet of room items views _ h at =
-    let d = h.desk_of in
+    let d = h.taker_state in
     let w : View = with_pushed (Sending p) x in
     let mine = h.fits pass (Sending p) at in
     let now : ℕ → List Carried = λ s. part s (d.taken ++ (items ++ x ∷ [])) in
@@ -123,7 +123,7 @@ pushes n pass p x packet of room items views _ h at =
       record {
         taker = h.taker;
         seat = h.seat;
-        desk_of = d;
+        taker_state = d;
         pushed = now;
         sound = record {
           parts = λ s. refl;
@@ -144,29 +144,29 @@ pushes n pass p x packet of room items views _ h at =
       refl,
     )
 
-pub pushes_as : (n pass : ℕ) (v : View) (p : Post) (x : Item) → v ≡ Sending p → (p.marked ≡ false → is_packet x.what ≡ true) → x.sender ≡ p.number → length p.pushed < 2 ^ 62 → Pushes InboxRule n pass v x (Pushed v x)
+pub pushes_as : (n pass : ℕ) (v : View) (p : SenderState) (x : Item) → v ≡ Sending p → (p.marked ≡ false → is_packet x.what ≡ true) → x.sender ≡ p.number → length p.pushed < 2 ^ 62 → Pushes InboxRule n pass v x (Pushed v x)
 pushes_as n pass v p x is packet of room = subst (λ (u : View). Pushes InboxRule n pass u x (Pushed u x)) (sym is) (pushes n pass p x packet of room)
 
 -- ---- a pop
-sound_of : (d e : Desk) (seat : ℕ → Option ℕ) (pushed : ℕ → List Carried) (items : List Item) → e ≡ d → Sound d seat pushed items → Sound e seat pushed items
-sound_of d e seat pushed items is s = subst (λ (k : Desk). Sound k seat pushed items) (sym is) s
+sound_of : (d e : TakerState) (seat : ℕ → Option ℕ) (pushed : ℕ → List Carried) (items : List Item) → e ≡ d → Sound d seat pushed items → Sound e seat pushed items
+sound_of d e seat pushed items is s = subst (λ (k : TakerState). Sound k seat pushed items) (sym is) s
 
-fits_take : (taker : ℕ) (seat : ℕ → Option ℕ) (d e : Desk) (pushed : ℕ → List Carried) (j : ℕ) (u : View) → j ≢ taker → d.marked ≡ e.marked → PassFits taker seat d pushed j u → PassFits taker seat e pushed j u
+fits_take : (taker : ℕ) (seat : ℕ → Option ℕ) (d e : TakerState) (pushed : ℕ → List Carried) (j : ℕ) (u : View) → j ≢ taker → d.marked ≡ e.marked → PassFits taker seat d pushed j u → PassFits taker seat e pushed j u
 fits_take taker seat d e pushed j (Taking k) n m f = absurd (n f.0)
 fits_take taker seat d e pushed j (Sending q) n m f = (f.0, f.1, f.2 ∙ m)
 fits_take taker seat d e pushed j Spent n m f = f
 
-pub takes : (pass : ℕ) (d : Desk) → Pops InboxRule pass (Taking d) (Took (Taking d))
+pub takes : (pass : ℕ) (d : TakerState) → Pops InboxRule pass (Taking d) (Took (Taking d))
 takes pass d x items views h at =
     let mine = h.fits pass (Taking d) at in
-    let s = sound_of h.desk_of d h.seat h.pushed (x ∷ items) mine.1 h.sound in
-    let sends : (t q : ℕ) → h.seat t ≡ Some q → get_elem? views q ≡ some (Sending (make_post d.marked t (h.pushed t))) = λ t q e. subst (λ (D : Desk). get_elem? views q ≡ some (Sending (make_post D.marked t (h.pushed t)))) (sym mine.1) (h.sending t q e) in
-    let w : Desk = make_desk d.marked d.made (d.taken ++ x ∷ []) d.gathered in (
+    let s = sound_of h.taker_state d h.seat h.pushed (x ∷ items) mine.1 h.sound in
+    let sends : (t q : ℕ) → h.seat t ≡ Some q → get_elem? views q ≡ some (Sending (make_sender_state d.marked t (h.pushed t))) = λ t q e. subst (λ (D : TakerState). get_elem? views q ≡ some (Sending (make_sender_state D.marked t (h.pushed t)))) (sym mine.1) (h.sending t q e) in
+    let w : TakerState = make_taker_state d.marked d.made (d.taken ++ x ∷ []) d.gathered in (
       Taking w,
       record {
         taker = h.taker;
         seat = h.seat;
-        desk_of = w;
+        taker_state = w;
         pushed = h.pushed;
         sound = record {
           parts = λ u. part-moved u d.taken items x ∙ s.parts u;
@@ -178,27 +178,27 @@ takes pass d x items views h at =
           plain = s.plain;
         };
         taking = ap (get_elem? (set views pass (Taking w))) (sym mine.0) ∙ set_at views pass (Taking w) (Taking d) at;
-        sending = λ t q e. let was = sends t q e in set_else views pass q (Taking w) (λ k. apart_views views pass q d (make_post d.marked t (h.pushed t)) at was (sym k)) ∙ was;
+        sending = λ t q e. let was = sends t q e in set_else views pass q (Taking w) (λ k. apart_views views pass q d (make_sender_state d.marked t (h.pushed t)) at was (sym k)) ∙ was;
         fits = all_set (PassFits h.taker h.seat w h.pushed) views pass (Taking w) (mine.0, refl)
-            (λ j u other e. fits_take h.taker h.seat h.desk_of w h.pushed j u (λ k. other (k ∙ sym mine.0)) (ap (λ (D : Desk). D.marked) (sym mine.1)) (h.fits j u e));
+            (λ j u other e. fits_take h.taker h.seat h.taker_state w h.pushed j u (λ k. other (k ∙ sym mine.0)) (ap (λ (D : TakerState). D.marked) (sym mine.1)) (h.fits j u e));
       },
       (refl, (items, (views, pass, h, at))),
     )
 
-pub takes_as : (pass : ℕ) (v : View) (d : Desk) → v ≡ Taking d → Pops InboxRule pass v (Took v)
+pub takes_as : (pass : ℕ) (v : View) (d : TakerState) → v ≡ Taking d → Pops InboxRule pass v (Took v)
 takes_as pass v d is = subst (λ (u : View). Pops InboxRule pass u (Took u)) (sym is) (takes pass d)
 
 pub learns : (pass : ℕ) (v : View) → Learns InboxRule pass v (SeenBy v)
 learns pass v items views h at = (views, pass, h, at)
 
--- what a step told, of a taker's desk
-abbrev pub SoundWith : Desk → List Item → Type 0
+-- what a step tells of a taker's state
+abbrev pub SoundWith : TakerState → List Item → Type 0
 SoundWith d items = (seat : ℕ → Option ℕ) × (pushed : ℕ → List Carried) × Sound d seat pushed items
 
-seen : (d : Desk) (items : List Item) → SeenBy (Taking d) items → SoundWith d items
-seen d items s = let h = s.2 in (h.seat, h.pushed, sound_of h.desk_of d h.seat h.pushed items (h.fits s.1 (Taking d) s.3).1 h.sound)
+seen : (d : TakerState) (items : List Item) → SeenBy (Taking d) items → SoundWith d items
+seen d items s = let h = s.2 in (h.seat, h.pushed, sound_of h.taker_state d h.seat h.pushed items (h.fits s.1 (Taking d) s.3).1 h.sound)
 
-pub seen_sound : (v : View) (d : Desk) (items : List Item) → v ≡ Taking d → SeenBy v items → SoundWith d items
+pub seen_sound : (v : View) (d : TakerState) (items : List Item) → v ≡ Taking d → SeenBy v items → SoundWith d items
 seen_sound v d items is s = seen d items (subst (λ (u : View). SeenBy u items) is s)
 
 -- ---- a sender more
@@ -212,30 +212,30 @@ at_this seat n o s e = ap (λ b. cond b o (seat s)) (eq-eqb s n e)
 seated : (seat : ℕ → Option ℕ) (s n pass : ℕ) → seat s ≡ Some pass → seat n ≡ None → s ≢ n
 seated seat s n pass a b e = let k : seat s ≡ seat n = ap seat e in absurd cc
 
-fits_fork : (taker : ℕ) (seat : ℕ → Option ℕ) (d e : Desk) (pushed : ℕ → List Carried) (n : ℕ) (o : Option ℕ) (j : ℕ) (u : View)
+fits_fork : (taker : ℕ) (seat : ℕ → Option ℕ) (d e : TakerState) (pushed : ℕ → List Carried) (n : ℕ) (o : Option ℕ) (j : ℕ) (u : View)
     → j ≢ taker → seat n ≡ None → d.marked ≡ e.marked → PassFits taker seat d pushed j u → PassFits taker (λ s. cond (eqb s n) o (seat s)) e pushed j u
 fits_fork taker seat d e pushed n o j (Taking k) apart none m f = absurd (apart f.0)
 fits_fork taker seat d e pushed n o j (Sending q) apart none m f = (at_other seat n o q.number (seated seat q.number n j f.0 none) ∙ f.0, f.1, f.2 ∙ m)
 fits_fork taker seat d e pushed n o j Spent apart none m f = f
 
-pub forks : (pass : ℕ) (d : Desk) → Forks InboxRule pass (Taking d) (with_one_more (Taking d)) (next_sender (Taking d))
+pub forks : (pass : ℕ) (d : TakerState) → Forks InboxRule pass (Taking d) (with_one_more (Taking d)) (next_sender (Taking d))
 forks pass d items views h at =
     let mine = h.fits pass (Taking d) at in
-    let s = sound_of h.desk_of d h.seat h.pushed items mine.1 h.sound in
-    let sends : (t q : ℕ) → h.seat t ≡ Some q → get_elem? views q ≡ some (Sending (make_post d.marked t (h.pushed t))) = λ t q e. subst (λ (D : Desk). get_elem? views q ≡ some (Sending (make_post D.marked t (h.pushed t)))) (sym mine.1) (h.sending t q e) in
-    let w : Desk = make_desk d.marked (d.made + 1) d.taken d.gathered in
-    let new : Post = make_post d.marked d.made [] in
+    let s = sound_of h.taker_state d h.seat h.pushed items mine.1 h.sound in
+    let sends : (t q : ℕ) → h.seat t ≡ Some q → get_elem? views q ≡ some (Sending (make_sender_state d.marked t (h.pushed t))) = λ t q e. subst (λ (D : TakerState). get_elem? views q ≡ some (Sending (make_sender_state D.marked t (h.pushed t)))) (sym mine.1) (h.sending t q e) in
+    let w : TakerState = make_taker_state d.marked (d.made + 1) d.taken d.gathered in
+    let new : SenderState = make_sender_state d.marked d.made [] in
     let vs : List View = set views pass (Taking w) in
     let seat : ℕ → Option ℕ = λ t. cond (eqb t d.made) (Some (length vs)) (h.seat t) in
     let free = s.unmade d.made (omega arith) in
     let F : ℕ → View → Type 0 = PassFits h.taker seat w h.pushed in
     let old : All F vs = all_set F views pass (Taking w) (mine.0, refl)
-    (λ j u other e. fits_fork h.taker h.seat h.desk_of w h.pushed d.made (Some (length vs)) j u (λ k. other (k ∙ sym mine.0)) free.1 (ap (λ (D : Desk). D.marked) (sym mine.1)) (h.fits j u e)) in
+    (λ j u other e. fits_fork h.taker h.seat h.taker_state w h.pushed d.made (Some (length vs)) j u (λ k. other (k ∙ sym mine.0)) free.1 (ap (λ (D : TakerState). D.marked) (sym mine.1)) (h.fits j u e)) in
     let mine_new : F (length vs) (Sending new) = (at_this h.seat d.made (Some (length vs)) d.made refl, sym free.0, refl) in
     record {
       taker = h.taker;
       seat = seat;
-      desk_of = w;
+      taker_state = w;
       pushed = h.pushed;
       sound = record {
         parts = s.parts;
@@ -252,37 +252,37 @@ forks pass d items views h at =
           (λ (k : (eqb t d.made ≡ true) × (t ≡ d.made)).
           let here : Some (length vs) ≡ Some q = sym (at_this h.seat d.made (Some (length vs)) t k.1) ∙ e in
           let q_is : length vs ≡ q = cc in
-          at_last vs (Sending new) q q_is ∙ (λ i. some (Sending (make_post d.marked (sym k.1 i) ((sym free.0 ∙ ap h.pushed (sym k.1)) i)))))
+          at_last vs (Sending new) q q_is ∙ (λ i. some (Sending (make_sender_state d.marked (sym k.1 i) ((sym free.0 ∙ ap h.pushed (sym k.1)) i)))))
           (λ (k : (eqb t d.made ≡ false) × (t ≢ d.made)).
           let was = sends t q (sym (at_other h.seat d.made (Some (length vs)) t k.1) ∙ e) in
-          at_longer vs (Sending new ∷ []) q (Sending (make_post d.marked t (h.pushed t))) (set_else views pass q (Taking w) (λ z. apart_views views pass q d (make_post d.marked t (h.pushed t)) at was (sym z)) ∙ was))
+          at_longer vs (Sending new ∷ []) q (Sending (make_sender_state d.marked t (h.pushed t))) (set_else views pass q (Taking w) (λ z. apart_views views pass q d (make_sender_state d.marked t (h.pushed t)) at was (sym z)) ∙ was))
           (eqb_tells t d.made);
       fits = λ j u e. ⊎_elim (old j u) (λ (t : (j ≡ length vs) × (Sending new ≡ u)). subst (λ (y : ℕ × View). F y.0 y.1) (λ i. (sym t.0 i, t.1 i)) mine_new) (at_end vs (Sending new) u j e);
     }
 
-pub forks_as : (pass : ℕ) (v : View) (d : Desk) → v ≡ Taking d → Forks InboxRule pass v (with_one_more v) (next_sender v)
+pub forks_as : (pass : ℕ) (v : View) (d : TakerState) → v ≡ Taking d → Forks InboxRule pass v (with_one_more v) (next_sender v)
 forks_as pass v d is = subst (λ (u : View). Forks InboxRule pass u (with_one_more u) (next_sender u)) (sym is) (forks pass d)
 
 -- ---- a sender taken in
 pub below : (m s : ℕ) → ((m ≤ s) → ⊥) → s < m
 below m s h = omega arith
 
-fits_join : (taker : ℕ) (seat : ℕ → Option ℕ) (d e : Desk) (pushed : ℕ → List Carried) (s other j : ℕ) (u : View)
+fits_join : (taker : ℕ) (seat : ℕ → Option ℕ) (d e : TakerState) (pushed : ℕ → List Carried) (s other j : ℕ) (u : View)
     → j ≢ taker → seat s ≡ Some other → j ≢ other → d.marked ≡ e.marked → PassFits taker seat d pushed j u → PassFits taker (λ t. cond (eqb t s) None (seat t)) e pushed j u
 fits_join taker seat d e pushed s other j (Taking k) apart is n m f = absurd (apart f.0)
 fits_join taker seat d e pushed s other j (Sending q) apart is n m f = (at_other seat s None q.number (one_seat seat s q.number other j is f.0 n) ∙ f.0, f.1, f.2 ∙ m)
 fits_join taker seat d e pushed s other j Spent apart is n m f = f
 
-h_was : (views : List View) (pass other : ℕ) (p : Post) (w : View) → other ≢ pass → get_elem? (set views pass w) other ≡ some (Sending p) → get_elem? views other ≡ some (Sending p)
+h_was : (views : List View) (pass other : ℕ) (p : SenderState) (w : View) → other ≢ pass → get_elem? (set views pass w) other ≡ some (Sending p) → get_elem? views other ≡ some (Sending p)
 h_was views pass other p w two at' = ⊎_elim (λ (x : (other ≡ pass) × (w ≡ Sending p)). absurd (two x.0)) (λ (x : (other ≢ pass) × (get_elem? views other ≡ some (Sending p))). x.1) (at_set views pass other w (Sending p) at')
 
-pub merges : (pass : ℕ) (d : Desk) (other : ℕ) (p : Post) → Merges InboxRule pass (Taking d) other (Sending p) (with_gathered (Taking d) (Sending p)) Spent
+pub merges : (pass : ℕ) (d : TakerState) (other : ℕ) (p : SenderState) → Merges InboxRule pass (Taking d) other (Sending p) (with_gathered (Taking d) (Sending p)) Spent
 merges pass d other p items views h at two at' =
     let mine = h.fits pass (Taking d) at in
-    let s = sound_of h.desk_of d h.seat h.pushed items mine.1 h.sound in
-    let sends : (t q : ℕ) → h.seat t ≡ Some q → get_elem? views q ≡ some (Sending (make_post d.marked t (h.pushed t))) = λ t q e. subst (λ (D : Desk). get_elem? views q ≡ some (Sending (make_post D.marked t (h.pushed t)))) (sym mine.1) (h.sending t q e) in
+    let s = sound_of h.taker_state d h.seat h.pushed items mine.1 h.sound in
+    let sends : (t q : ℕ) → h.seat t ≡ Some q → get_elem? views q ≡ some (Sending (make_sender_state d.marked t (h.pushed t))) = λ t q e. subst (λ (D : TakerState). get_elem? views q ≡ some (Sending (make_sender_state D.marked t (h.pushed t)))) (sym mine.1) (h.sending t q e) in
     let g : Gathered = make_gathered p.number d.made p.pushed in
-    let w : Desk = make_desk d.marked d.made d.taken (g ∷ d.gathered) in
+    let w : TakerState = make_taker_state d.marked d.made d.taken (g ∷ d.gathered) in
     let vs : List View = set views pass (Taking w) in
     let was = h_was views pass other p (Taking w) two at' in
     let theirs = h.fits other (Sending p) was in
@@ -290,13 +290,13 @@ merges pass d other p items views h at two at' =
     let F : ℕ → View → Type 0 = PassFits h.taker seat w h.pushed in
     let N : ℕ → View → Type 0 = λ j u. j ≢ other → F j u in
     let now : All N vs = all_set N views pass (Taking w) (λ _. (mine.0, refl))
-    (λ j u apart e n. fits_join h.taker h.seat h.desk_of w h.pushed p.number other j u (λ k. apart (k ∙ sym mine.0)) theirs.0 n (ap (λ (D : Desk). D.marked) (sym mine.1)) (h.fits j u e)) in
+    (λ j u apart e n. fits_join h.taker h.seat h.taker_state w h.pushed p.number other j u (λ k. apart (k ∙ sym mine.0)) theirs.0 n (ap (λ (D : TakerState). D.marked) (sym mine.1)) (h.fits j u e)) in
     let made : p.number < d.made = below d.made p.number (λ le. seated h.seat p.number p.number other theirs.0 (s.unmade p.number le).1 refl) in
     let none : Each (λ (k : Gathered). h.seat k.number ≡ None) d.gathered = each_map d.gathered (λ k j. j.spent) s.joined in
     record {
       taker = h.taker;
       seat = seat;
-      desk_of = w;
+      taker_state = w;
       pushed = h.pushed;
       sound = record {
         parts = s.parts;
@@ -319,34 +319,34 @@ merges pass d other p items views h at two at' =
           (λ (k : (eqb t p.number ≡ true) × (t ≡ p.number)). let no = at_this h.seat p.number None t k.1 in absurd cc)
           (λ (k : (eqb t p.number ≡ false) × (t ≢ p.number)).
           let was = sends t q (sym (at_other h.seat p.number None t k.1) ∙ e) in
-          set_else vs other q Spent (λ z. k.1 (ap (λ (y : Post). y.number) (post_same (make_post d.marked t (h.pushed t)) p (one_view views q other (Sending (make_post d.marked t (h.pushed t))) (Sending p) was (h_was views pass other p (Taking w) two at') z))))
-          ∙ (set_else views pass q (Taking w) (λ z. apart_views views pass q d (make_post d.marked t (h.pushed t)) at was (sym z)) ∙ was))
+          set_else vs other q Spent (λ z. k.1 (ap (λ (y : SenderState). y.number) (sender_state_same (make_sender_state d.marked t (h.pushed t)) p (one_view views q other (Sending (make_sender_state d.marked t (h.pushed t))) (Sending p) was (h_was views pass other p (Taking w) two at') z))))
+          ∙ (set_else views pass q (Taking w) (λ z. apart_views views pass q d (make_sender_state d.marked t (h.pushed t)) at was (sym z)) ∙ was))
           (eqb_tells t p.number);
       fits = all_set F vs other Spent tt (λ j u apart e. now j u e apart);
     }
 
-pub merges_as : (pass : ℕ) (v : View) (d : Desk) (other : ℕ) (u : View) (p : Post) → v ≡ Taking d → u ≡ Sending p → Merges InboxRule pass v other u (with_gathered v u) Spent
+pub merges_as : (pass : ℕ) (v : View) (d : TakerState) (other : ℕ) (u : View) (p : SenderState) → v ≡ Taking d → u ≡ Sending p → Merges InboxRule pass v other u (with_gathered v u) Spent
 merges_as pass v d other u p is is' = subst (λ (y : View × View). Merges InboxRule pass y.0 other y.1 (with_gathered y.0 y.1) Spent) (λ i. (sym is i, sym is' i)) (merges pass d other p)
 
 -- ---- an inbox with marks, while there is no sender
-fits_marks : (taker : ℕ) (seat : ℕ → Option ℕ) (d e : Desk) (pushed : ℕ → List Carried) (j : ℕ) (u : View) → j ≢ taker → ((t : ℕ) → seat t ≡ None) → PassFits taker seat d pushed j u → PassFits taker seat e pushed j u
+fits_marks : (taker : ℕ) (seat : ℕ → Option ℕ) (d e : TakerState) (pushed : ℕ → List Carried) (j : ℕ) (u : View) → j ≢ taker → ((t : ℕ) → seat t ≡ None) → PassFits taker seat d pushed j u → PassFits taker seat e pushed j u
 fits_marks taker seat d e pushed j (Taking k) n none f = absurd (n f.0)
 fits_marks taker seat d e pushed j (Sending q) n none f = let z = none q.number in let k = f.0 in absurd cc
 fits_marks taker seat d e pushed j Spent n none f = f
 
-pub forks_marks : (pass : ℕ) (d : Desk) → d.made ≡ 0 → Forks InboxRule pass (Taking d) (with_marks (Taking d)) (no_sender (Taking d))
+pub forks_marks : (pass : ℕ) (d : TakerState) → d.made ≡ 0 → Forks InboxRule pass (Taking d) (with_marks (Taking d)) (no_sender (Taking d))
 forks_marks pass d zero_made items views h at =
     let mine = h.fits pass (Taking d) at in
-    let s = sound_of h.desk_of d h.seat h.pushed items mine.1 h.sound in
+    let s = sound_of h.taker_state d h.seat h.pushed items mine.1 h.sound in
     let none : (t : ℕ) → h.seat t ≡ None = λ t. (s.unmade t (omega arith)).1 in
-    let w : Desk = make_desk true d.made d.taken d.gathered in
+    let w : TakerState = make_taker_state true d.made d.taken d.gathered in
     let vs : List View = set views pass (Taking w) in
     let F : ℕ → View → Type 0 = PassFits h.taker h.seat w h.pushed in
-    let old : All F vs = all_set F views pass (Taking w) (mine.0, refl) (λ j u other e. fits_marks h.taker h.seat h.desk_of w h.pushed j u (λ k. other (k ∙ sym mine.0)) none (h.fits j u e)) in
+    let old : All F vs = all_set F views pass (Taking w) (mine.0, refl) (λ j u other e. fits_marks h.taker h.seat h.taker_state w h.pushed j u (λ k. other (k ∙ sym mine.0)) none (h.fits j u e)) in
     record {
       taker = h.taker;
       seat = h.seat;
-      desk_of = w;
+      taker_state = w;
       pushed = h.pushed;
       sound = record { parts = s.parts; few = s.few; unmade = s.unmade; still = s.still; joined = s.joined; apart = s.apart; plain = λ e. absurd cc };
       taking = at_longer vs (Spent ∷ []) h.taker (Taking w) (ap (get_elem? vs) (sym mine.0) ∙ set_at views pass (Taking w) (Taking d) at);
@@ -354,5 +354,5 @@ forks_marks pass d zero_made items views h at =
       fits = λ j u e. ⊎_elim (old j u) (λ (t : (j ≡ length vs) × (Spent ≡ u)). subst (λ (y : View). F j y) t.1 tt) (at_end vs Spent u j e);
     }
 
-pub forks_marks_as : (pass : ℕ) (v : View) (d : Desk) → v ≡ Taking d → d.made ≡ 0 → Forks InboxRule pass v (with_marks v) (no_sender v)
+pub forks_marks_as : (pass : ℕ) (v : View) (d : TakerState) → v ≡ Taking d → d.made ≡ 0 → Forks InboxRule pass v (with_marks v) (no_sender v)
 forks_marks_as pass v d is z = subst (λ (u : View). Forks InboxRule pass u (with_marks u) (no_sender u)) (sym is) (forks_marks pass d z)

@@ -9,13 +9,13 @@ use Rattle.copy_inbox.specs.declared.items.Carried.{Carried}
 use Rattle.copy_inbox.specs.declared.items.Item.{Item}
 use Rattle.copy_inbox.specs.declared.count.Count.{Count}
 use Rattle.copy_inbox.specs.declared.rule.Gathered.{Gathered}
-use Rattle.copy_inbox.specs.declared.rule.Desk.{Desk}
-use Rattle.copy_inbox.specs.declared.rule.Post.{Post}
+use Rattle.copy_inbox.specs.declared.rule.TakerState.{TakerState}
+use Rattle.copy_inbox.specs.declared.rule.SenderState.{SenderState}
 use Rattle.copy_inbox.specs.declared.rule.View.{View}
 use Rattle.copy_inbox.specs.declared.rule.View.TheVariants.{Taking, Sending, Spent}
 use Rattle.copy_inbox.specs.Items.{is_packet, ArePackets, Packets, part, OfMade}
 use Rattle.copy_inbox.specs.Gathered.{is_gathered, untaken_of, known_of, TookFronts, Whole, Later}
-use Rattle.copy_inbox.specs.Views.{make_desk, make_post, make_gathered}
+use Rattle.copy_inbox.specs.Views.{make_taker_state, make_sender_state, make_gathered}
 
 -- which inbox it is
 abbrev pub InboxId : Type 0
@@ -24,34 +24,34 @@ InboxId = SegId Global
 -- the inbox that made it, and how many senders it made, what it took and whom it gathered
 pub record TakerView : Type 0 where
   pub inbox : InboxId
-  pub desk : Desk
+  pub state : TakerState
 
 -- the inbox that made it, its number and what it pushed
 pub record SenderView : Type 0 where
   pub inbox : InboxId
-  pub post : Post
+  pub state : SenderState
 
 -- ---- what each call does to a taker
 abbrev pub after_sender : TakerView → TakerView
 after_sender t = record {
   inbox = t.inbox;
-  desk = make_desk t.desk.marked (t.desk.made + 1) t.desk.taken t.desk.gathered;
+  state = make_taker_state t.state.marked (t.state.made + 1) t.state.taken t.state.gathered;
 }
 
-abbrev pub after_pushing : Post → Carried → Post
-after_pushing p what = make_post p.marked p.number (p.pushed ++ what ∷ [])
+abbrev pub after_pushing : SenderState → Carried → SenderState
+after_pushing p what = make_sender_state p.marked p.number (p.pushed ++ what ∷ [])
 
-abbrev pub after_gather : TakerView → Post → TakerView
+abbrev pub after_gather : TakerView → SenderState → TakerView
 after_gather t p = record {
   inbox = t.inbox;
-  desk = make_desk t.desk.marked t.desk.made t.desk.taken
-      (make_gathered p.number t.desk.made p.pushed ∷ t.desk.gathered);
+  state = make_taker_state t.state.marked t.state.made t.state.taken
+      (make_gathered p.number t.state.made p.pushed ∷ t.state.gathered);
 }
 
 abbrev pub after_taking : TakerView → List Item → TakerView
 after_taking t xs = record {
   inbox = t.inbox;
-  desk = make_desk t.desk.marked t.desk.made (t.desk.taken ++ xs) t.desk.gathered;
+  state = make_taker_state t.state.marked t.state.made (t.state.taken ++ xs) t.state.gathered;
 }
 
 -- there are packets, of which these are the copies, that went to the end of what was taken
@@ -59,62 +59,63 @@ abbrev pub TakesCopies : TakerView → TakerView → List RadioCopy → Type 0
 TakesCopies old new copies = (items : List Item) × ArePackets items copies × (new ≡ after_taking old items)
 
 -- each sender that was made is gathered
-abbrev pub AllGathered : Desk → Type 0
+abbrev pub AllGathered : TakerState → Type 0
 AllGathered d = (s : ℕ) → s < d.made → is_gathered d.gathered s ≡ true
 
 -- what is left of each gathered sender is packets
-abbrev pub PacketsLeft : Desk → Type 0
+abbrev pub PacketsLeft : TakerState → Type 0
 PacketsLeft d = Each (λ (g : Gathered). Packets (untaken_of d.taken g)) d.gathered
 
 -- the inbox has no marks, or they were all taken
-abbrev pub NoMarkLeft : Desk → Type 0
+abbrev pub NoMarkLeft : TakerState → Type 0
 NoMarkLeft d = (d.marked ≡ false) ⊎ PacketsLeft d
 
 -- there are packets, of which these are the copies, that are the rest of what was pushed: with what was taken they make
 -- the whole of each gathered sender, and nothing else
-abbrev pub Empties : Desk → List RadioCopy → Type 0
+abbrev pub Empties : TakerState → List RadioCopy → Type 0
 Empties d copies = (rest : List Item) × ArePackets rest copies × Whole d.gathered (d.taken ++ rest)
     × OfMade d.made (d.taken ++ rest)
 
 -- ---- what is true of every taker and sender, by what its pass knows and what it keeps
-abbrev pub desk_in : View → Desk
-desk_in (Taking d) = d
-desk_in (Sending p) = make_desk false 0 [] []
-desk_in Spent = make_desk false 0 [] []
+abbrev pub taker_state_in : View → TakerState
+taker_state_in (Taking d) = d
+taker_state_in (Sending p) = make_taker_state false 0 [] []
+taker_state_in Spent = make_taker_state false 0 [] []
 
-abbrev pub post_in : View → Post
-post_in (Sending p) = p
-post_in (Taking d) = make_post false 0 []
-post_in Spent = make_post false 0 []
+abbrev pub sender_state_in : View → SenderState
+sender_state_in (Sending p) = p
+sender_state_in (Taking d) = make_sender_state false 0 []
+sender_state_in Spent = make_sender_state false 0 []
 
 -- what a taker keeps of the sender numbered s
-abbrev pub count_of : Desk → ℕ → Count
+abbrev pub count_of : TakerState → ℕ → Count
 count_of d s = record { taken = length (part s d.taken); gathered = is_gathered d.gathered s }
 
 pub record IsTaker (v : View) (counts : List Count) (known : ℕ) : Type 0 where
-  pub is : v ≡ Taking (desk_in v)
-  pub made : length counts ≡ (desk_in v).made
-  pub counted : (s : ℕ) (c : Count) → s < (desk_in v).made → slice_index_or counts s c ≡ count_of (desk_in v) s
-  pub known_is : known ≡ known_of (desk_in v).gathered (desk_in v).taken
-  pub begun : TookFronts (desk_in v).gathered (desk_in v).taken
-  pub of_made : OfMade (desk_in v).made (desk_in v).taken
-  pub numbers : Each (λ (g : Gathered). g.number < (desk_in v).made) (desk_in v).gathered
+  pub is : v ≡ Taking (taker_state_in v)
+  pub made : length counts ≡ (taker_state_in v).made
+  pub counted : (s : ℕ) (c : Count) → s < (taker_state_in v).made
+      → slice_index_or counts s c ≡ count_of (taker_state_in v) s
+  pub known_is : known ≡ known_of (taker_state_in v).gathered (taker_state_in v).taken
+  pub begun : TookFronts (taker_state_in v).gathered (taker_state_in v).taken
+  pub of_made : OfMade (taker_state_in v).made (taker_state_in v).taken
+  pub numbers : Each (λ (g : Gathered). g.number < (taker_state_in v).made) (taker_state_in v).gathered
 
 pub record IsSender (v : View) (count : ℕ) : Type 0 where
-  pub is : v ≡ Sending (post_in v)
-  pub counted : count ≡ length (post_in v).pushed
+  pub is : v ≡ Sending (sender_state_in v)
+  pub counted : count ≡ length (sender_state_in v).pushed
   pub few : count ≤ 2 ^ 62
 
 -- all that the taker may take is packets: the inbox has no marks, or each sender is gathered and what is left is
 -- packets
-abbrev pub TakesPackets : Desk → Type 0
+abbrev pub TakesPackets : TakerState → Type 0
 TakesPackets d = (d.marked ≡ false) ⊎ (AllGathered d × PacketsLeft d)
 
-abbrev pub desk_with : Desk → Item → Desk
-desk_with d x = make_desk d.marked d.made (d.taken ++ x ∷ []) d.gathered
+abbrev pub state_with : TakerState → Item → TakerState
+state_with d x = make_taker_state d.marked d.made (d.taken ++ x ∷ []) d.gathered
 
 -- x is the next item that the taker takes
-pub record IsNextTaken (d : Desk) (x : Item) : Type 0 where
+pub record IsNextTaken (d : TakerState) (x : Item) : Type 0 where
   -- it is of a sender that was made, of which no more is taken than a sender may push
   pub number : x.sender < d.made
   pub few : length (part x.sender (d.taken ++ x ∷ [])) ≤ 2 ^ 62
@@ -122,6 +123,6 @@ pub record IsNextTaken (d : Desk) (x : Item) : Type 0 where
   pub known : known_of d.gathered d.taken
       ≡ cond (is_gathered d.gathered x.sender) 1 0 + known_of d.gathered (d.taken ++ x ∷ [])
   -- it is a packet where nothing else can come, and then nothing else comes after it
-  pub packet : TakesPackets d → (is_packet x.what ≡ true) × TakesPackets (desk_with d x)
+  pub packet : TakesPackets d → (is_packet x.what ≡ true) × TakesPackets (state_with d x)
   -- its sender was gathered where something is known and no sender that isn't gathered can stand before that
   pub first : Later d.made d.gathered → 0 < known_of d.gathered d.taken → is_gathered d.gathered x.sender ≡ true

@@ -4,7 +4,7 @@ use Rattle.std.specs.Prelude.{slice_set}
 use Rattle.copy_inbox.specs.declared.count.Count.{Count}
 use Rattle.copy_inbox.specs.declared.rule.View.{View}
 use Rattle.copy_inbox.specs.Gathered.{is_gathered}
-use Rattle.copy_inbox.specs.Handles.{desk_in, IsTaker}
+use Rattle.copy_inbox.specs.Handles.{taker_state_in, IsTaker}
 
 -- of the counts of all senders those from the sender `first` on are kept; the senders before it were gathered
 pub record KeepsCounts (v : View) (first : ℕ) (kept : List Count) (known : ℕ) : Type 0 where
@@ -13,7 +13,7 @@ pub record KeepsCounts (v : View) (first : ℕ) (kept : List Count) (known : ℕ
   pub rest : kept ≡ drop first counts
   pub made : first + length kept ≡ length counts
   pub few : first ≤ 2 ^ 62
-  pub gathered : (s : ℕ) → s < first → is_gathered (desk_in v).gathered s ≡ true
+  pub gathered : (s : ℕ) → s < first → is_gathered (taker_state_in v).gathered s ≡ true
 
 -- one item more of the sender was taken, which isn't counted where the sender is forgotten; `gathered` says whether it
 -- was gathered

@@ -6,21 +6,21 @@ use lib.ListN.{get_elem?}
 use Rattle.copy_inbox.specs.declared.items.Carried.{Carried}
 use Rattle.copy_inbox.specs.declared.items.Item.{Item}
 use Rattle.copy_inbox.specs.declared.rule.Gathered.{Gathered}
-use Rattle.copy_inbox.specs.declared.rule.Desk.{Desk}
+use Rattle.copy_inbox.specs.declared.rule.TakerState.{TakerState}
 use Rattle.copy_inbox.specs.declared.rule.View.{View}
 use Rattle.copy_inbox.specs.declared.rule.View.TheVariants.{Taking, Sending, Spent}
 use Rattle.copy_inbox.specs.Items.{part, Packets}
 use Rattle.copy_inbox.specs.Gathered.{is_gathered, Apart}
-use Rattle.copy_inbox.specs.Views.{make_post, with_pushed, with_taken}
+use Rattle.copy_inbox.specs.Views.{make_sender_state, with_pushed, with_taken}
 
--- an item of a sender numbered `made` or above stands behind every item of the sender s
+-- an item of a sender numbered `made` or above stands after every item of the sender s
 abbrev pub Behind : ℕ → ℕ → List Item → Type 0
 Behind s made [] = Unit {0}
 Behind s made (x ∷ xs) = (made ≤ x.sender → part s (x ∷ xs) ≡ []) × Behind s made xs
 
 -- a pass that is the taker's is the one, and a pass that is a sender's is the one of its number; whether there are
 -- marks, both know alike
-abbrev pub PassFits : ℕ → (ℕ → Option ℕ) → Desk → (ℕ → List Carried) → ℕ → View → Type 0
+abbrev pub PassFits : ℕ → (ℕ → Option ℕ) → TakerState → (ℕ → List Carried) → ℕ → View → Type 0
 PassFits taker seat d pushed pass (Taking e) = (pass ≡ taker) × (e ≡ d)
 PassFits taker seat d pushed pass (Sending p) =
     (seat p.number ≡ Some pass) × (p.pushed ≡ pushed p.number) × (p.marked ≡ d.marked)
@@ -38,7 +38,7 @@ pub record Joined (made : ℕ) (seat : ℕ → Option ℕ) (pushed : ℕ → Lis
 -- The items of each sender in what was taken, followed by the queue, are what it pushed, in order, and there are no
 -- other items. Each sender that was made has a pass, or is gathered. Where there are no marks, all that was pushed is
 -- packets.
-pub record Sound (d : Desk) (seat : ℕ → Option ℕ) (pushed : ℕ → List Carried) (items : List Item) : Type 0 where
+pub record Sound (d : TakerState) (seat : ℕ → Option ℕ) (pushed : ℕ → List Carried) (items : List Item) : Type 0 where
   pub parts : (s : ℕ) → part s (d.taken ++ items) ≡ pushed s
   pub few : (s : ℕ) → length (pushed s) ≤ 2 ^ 62
   pub unmade : (s : ℕ) → d.made ≤ s → (pushed s ≡ []) × (seat s ≡ None)
@@ -53,13 +53,13 @@ pub record Sound (d : Desk) (seat : ℕ → Option ℕ) (pushed : ℕ → List C
 pub record InboxRule (items : List Item) (views : List View) : Type 0 where
   pub taker : ℕ
   pub seat : ℕ → Option ℕ
-  pub desk_of : Desk
+  pub taker_state : TakerState
   pub pushed : ℕ → List Carried
-  pub sound : Sound desk_of seat pushed items
-  pub taking : get_elem? views taker ≡ some (Taking desk_of)
+  pub sound : Sound taker_state seat pushed items
+  pub taking : get_elem? views taker ≡ some (Taking taker_state)
   pub sending : (s pass : ℕ) → seat s ≡ Some pass
-      → get_elem? views pass ≡ some (Sending (make_post desk_of.marked s (pushed s)))
-  pub fits : (pass : ℕ) (v : View) → get_elem? views pass ≡ some v → PassFits taker seat desk_of pushed pass v
+      → get_elem? views pass ≡ some (Sending (make_sender_state taker_state.marked s (pushed s)))
+  pub fits : (pass : ℕ) (v : View) → get_elem? views pass ≡ some v → PassFits taker seat taker_state pushed pass v
 
 -- ---- what a step tells the pass that takes it
 -- the rule held while the queue had these items and a pass had this view

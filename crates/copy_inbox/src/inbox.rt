@@ -6,10 +6,10 @@ ghost use Rattle.copy_inbox.specs.declared.items.Carried.TheVariants.{Packet, Ma
 ghost use Rattle.copy_inbox.specs.declared.inbox.InboxError.TheVariants.{Memory};
 ghost use Rattle.copy_inbox.specs.Items.{is_packet, Packets, part, BeginsWith, OfMade};
 ghost use Rattle.copy_inbox.specs.Gathered.{known_of, TookFronts, Whole, Later, NoOthers};
-ghost use Rattle.copy_inbox.specs.Views.{make_desk, make_post};
+ghost use Rattle.copy_inbox.specs.Views.{make_taker_state, make_sender_state};
 ghost use Rattle.copy_inbox.specs.Handles.{InboxId, TakerView, SenderView, after_sender, after_pushing, after_gather};
 ghost use Rattle.copy_inbox.specs.Handles.{after_taking, TakesCopies, Empties, AllGathered, NoMarkLeft, TakesPackets};
-ghost use Rattle.copy_inbox.specs.Handles.{desk_in, post_in, IsSender, IsNextTaken};
+ghost use Rattle.copy_inbox.specs.Handles.{taker_state_in, sender_state_in, IsSender, IsNextTaken};
 ghost use Rattle.copy_inbox.specs.Kept.{KeepsCounts};
 
 use crate::bell::Bell;
@@ -83,7 +83,7 @@ impl Model for Taker {
 
     ghost view = { λ t. record {
       inbox = record { web = t.pass.web; heap = t.pass.heap };
-      desk = desk_in t.pass.me.view.client;
+      state = taker_state_in t.pass.me.view.client;
     } };
 
     ghost invariant = { λ t. KeepsCounts t.pass.me.view.client t.first t.counts.items t.known
@@ -102,11 +102,12 @@ impl Model for Sender {
 
     ghost view = { λ s. record {
       inbox = record { web = s.pass.web; heap = s.pass.heap };
-      post = post_in s.pass.me.view.client;
+      state = sender_state_in s.pass.me.view.client;
     } };
 
     ghost invariant = { λ s. IsSender s.pass.me.view.client s.pushed
-        × (s.number ≡ (post_in s.pass.me.view.client).number) × (s.pass.me.hand ≡ None) × (s.pass.me.spare ≡ None) };
+        × (s.number ≡ (sender_state_in s.pass.me.view.client).number)
+        × (s.pass.me.hand ≡ None) × (s.pass.me.spare ≡ None) };
 }
 
 /// By hand, so that a taker is dropped by one call: the check of a function that owns one sees no more of it.
@@ -137,9 +138,9 @@ impl Sender {
     fn join<R: Wait>(self, rt: &R, inbox: &Inbox, taker: &mut Taker)
         requires taker { taker.old.inbox ≡ inbox.now }
         requires sender { self.inbox ≡ inbox.now }
-        ensures gathered { taker.new ≡ after_gather taker.old self.post }
-        ensures begun { BeginsWith self.post.pushed (part self.post.number taker.new.desk.taken) }
-        ensures plain { taker.old.desk.marked ≡ false → Packets self.post.pushed }
+        ensures gathered { taker.new ≡ after_gather taker.old self.state }
+        ensures begun { BeginsWith self.state.pushed (part self.state.number taker.new.state.taken) }
+        ensures plain { taker.old.state.marked ≡ false → Packets self.state.pushed }
     {
         let Sender {
             pass,
@@ -164,7 +165,7 @@ impl Inbox {
     /// A new inbox, into which nothing was pushed, and its taker, which has made no sender.
     pub fn make(alloc: Global) -> Result<(Inbox, Taker), InboxError>
         ensures inbox { IfOk result (λ made. made.1.inbox ≡ made.0) }
-        ensures empty { IfOk result (λ made. made.1.desk ≡ make_desk false 0 [] []) }
+        ensures empty { IfOk result (λ made. made.1.state ≡ make_taker_state false 0 [] []) }
     {
         let (queue, pass) = RuledSegQueue::with_rule(alloc)?;
         let taker = Taker {
@@ -184,7 +185,7 @@ impl Inbox {
     /// As [`Inbox::make`], for an inbox with marks.
     pub fn make_marked(alloc: Global) -> Result<(Inbox, Taker), InboxError>
         ensures inbox { IfOk result (λ made. made.1.inbox ≡ made.0) }
-        ensures empty { IfOk result (λ made. made.1.desk ≡ make_desk true 0 [] []) }
+        ensures empty { IfOk result (λ made. made.1.state ≡ make_taker_state true 0 [] []) }
     {
         let (inbox, mut taker) = Inbox::make(alloc)?;
         // The proof's own note that there are marks. The pass that comes of it is nobody's.
@@ -196,7 +197,8 @@ impl Inbox {
     pub fn sender(&self, taker: &mut Taker) -> Result<Sender, InboxError>
         requires { taker.old.inbox ≡ self.now }
         ensures inbox { IfOk result (λ sender. sender.inbox ≡ self.now) }
-        ensures fresh { IfOk result (λ sender. sender.post ≡ make_post taker.old.desk.marked taker.old.desk.made []) }
+        ensures fresh { IfOk result
+            (λ sender. sender.state ≡ make_sender_state taker.old.state.marked taker.old.state.made []) }
         ensures taker { OnOk result (taker.new ≡ after_sender taker.old) }
         ensures refused { OnErr result (taker.new ≡ taker.old) }
     {
@@ -214,7 +216,7 @@ impl Inbox {
         })
     }
 
-    /// Adds a copy to what the sender has pushed. It comes back where memory was refused, or after 2^62 pushes, and
+    /// Adds a copy to what the sender has pushed. It comes back where an allocation failed, or after 2^62 pushes, and
     /// then nothing has changed.
     pub fn push_copy<R: Wait>(
         &self,
@@ -224,7 +226,7 @@ impl Inbox {
     ) -> Result<(), RadioCopy>
         requires { sender.old.inbox ≡ self.now }
         ensures inbox { sender.new.inbox ≡ sender.old.inbox }
-        ensures pushed { OnOk result (sender.new.post ≡ after_pushing sender.old.post (Packet copy)) }
+        ensures pushed { OnOk result (sender.new.state ≡ after_pushing sender.old.state (Packet copy)) }
         ensures comes_back { IfErr result (λ back. back ≡ copy) }
         ensures refused { OnErr result (sender.new ≡ sender.old) }
     {
@@ -232,13 +234,13 @@ impl Inbox {
             .map_err(|_| copy)
     }
 
-    /// Adds the mark of a window to what the sender has pushed. The number comes back where memory was refused, or
+    /// Adds the mark of a window to what the sender has pushed. The number comes back where an allocation failed, or
     /// after 2^62 pushes, and then nothing has changed.
     pub fn push_mark<R: Wait>(&self, rt: &R, sender: &mut Sender, window: u64) -> Result<(), u64>
         requires inbox { sender.old.inbox ≡ self.now }
-        requires marked { sender.old.post.marked ≡ true }
+        requires marked { sender.old.state.marked ≡ true }
         ensures inbox { sender.new.inbox ≡ sender.old.inbox }
-        ensures pushed { OnOk result (sender.new.post ≡ after_pushing sender.old.post (Mark window)) }
+        ensures pushed { OnOk result (sender.new.state ≡ after_pushing sender.old.state (Mark window)) }
         ensures comes_back { IfErr result (λ back. back ≡ window) }
         ensures refused { OnErr result (sender.new ≡ sender.old) }
     {
@@ -257,9 +259,9 @@ impl Inbox {
     // Adds a copy, or a mark where the inbox has such, to what the sender has pushed.
     fn push<R: Wait>(&self, rt: &R, sender: &mut Sender, what: Carried) -> Result<(), Carried>
         requires inbox { sender.old.inbox ≡ self.now }
-        requires plain { sender.old.post.marked ≡ false → is_packet what ≡ true }
+        requires plain { sender.old.state.marked ≡ false → is_packet what ≡ true }
         ensures inbox { sender.new.inbox ≡ sender.old.inbox }
-        ensures pushed { OnOk result (sender.new.post ≡ after_pushing sender.old.post what) }
+        ensures pushed { OnOk result (sender.new.state ≡ after_pushing sender.old.state what) }
         ensures refused { OnErr result (sender.new ≡ sender.old) }
     {
         if sender.pushed >= MOST {
@@ -280,9 +282,9 @@ impl Inbox {
     pub fn gather<R: Wait>(&self, rt: &R, taker: &mut Taker, sender: Sender)
         requires taker { taker.old.inbox ≡ self.now }
         requires sender { sender.inbox ≡ self.now }
-        ensures gathered { taker.new ≡ after_gather taker.old sender.post }
-        ensures begun { BeginsWith sender.post.pushed (part sender.post.number taker.new.desk.taken) }
-        ensures plain { taker.old.desk.marked ≡ false → Packets sender.post.pushed }
+        ensures gathered { taker.new ≡ after_gather taker.old sender.state }
+        ensures begun { BeginsWith sender.state.pushed (part sender.state.number taker.new.state.taken) }
+        ensures plain { taker.old.state.marked ≡ false → Packets sender.state.pushed }
     {
         sender.join(rt, self, taker);
     }
@@ -290,7 +292,7 @@ impl Inbox {
     /// How many copies and marks of gathered senders aren't taken yet.
     pub fn known(&self, taker: &Taker) -> u64
         requires { taker.now.inbox ≡ self.now }
-        ensures { result ≡ known_of taker.now.desk.gathered taker.now.desk.taken }
+        ensures { result ≡ known_of taker.now.state.gathered taker.now.state.taken }
     {
         let Taker { known, .. } = taker;
         *known
@@ -302,14 +304,14 @@ impl Inbox {
     pub fn take_next<R: Wait>(&self, rt: &R, taker: &mut Taker) -> Option<Item>
         requires { taker.old.inbox ≡ self.now }
         ensures inbox { taker.new.inbox ≡ taker.old.inbox }
-        ensures still { (taker.new.desk.made ≡ taker.old.desk.made)
-            × (taker.new.desk.gathered ≡ taker.old.desk.gathered) }
+        ensures still { (taker.new.state.made ≡ taker.old.state.made)
+            × (taker.new.state.gathered ≡ taker.old.state.gathered) }
         ensures taken { IfSome result (λ x. taker.new ≡ after_taking taker.old (x ∷ [])) }
-        ensures next { IfSome result (λ x. IsNextTaken taker.old.desk x) }
-        ensures begun { TookFronts taker.new.desk.gathered taker.new.desk.taken }
-        ensures made { OfMade taker.new.desk.made taker.new.desk.taken }
+        ensures next { IfSome result (λ x. IsNextTaken taker.old.state x) }
+        ensures begun { TookFronts taker.new.state.gathered taker.new.state.taken }
+        ensures made { OfMade taker.new.state.made taker.new.state.taken }
         ensures same { IfNone result (taker.new ≡ taker.old) }
-        ensures none { IfNone result (known_of taker.old.desk.gathered taker.old.desk.taken ≡ 0) }
+        ensures none { IfNone result (known_of taker.old.state.gathered taker.old.state.taken ≡ 0) }
     {
         let item = self.queue.pop_as::<Takes, R>(rt, &mut taker.pass)?;
         let gathered = count_taken(taker.first, &mut taker.counts, item.sender);
@@ -326,23 +328,24 @@ impl Inbox {
         n: u64,
     ) -> Result<Vec<RadioCopy>, InboxError>
         requires inbox { taker.old.inbox ≡ self.now }
-        requires plain { taker.old.desk.marked ≡ false }
-        requires known { n ≤ known_of taker.old.desk.gathered taker.old.desk.taken }
+        requires plain { taker.old.state.marked ≡ false }
+        requires known { n ≤ known_of taker.old.state.gathered taker.old.state.taken }
         ensures count { IfOk result (λ copies. length copies.items ≡ n) }
         ensures taken { IfOk result (λ copies. TakesCopies taker.old taker.new copies.items) }
-        ensures begun { OnOk result (TookFronts taker.new.desk.gathered taker.new.desk.taken) }
-        ensures made { OnOk result (OfMade taker.new.desk.made taker.new.desk.taken) }
+        ensures begun { OnOk result (TookFronts taker.new.state.gathered taker.new.state.taken) }
+        ensures made { OnOk result (OfMade taker.new.state.made taker.new.state.taken) }
 
         // All that is known, where no sender that isn't gathered can stand before it.
         ensures whole { OnOk result
-            (n ≡ known_of taker.old.desk.gathered taker.old.desk.taken
-            → Later taker.old.desk.made taker.old.desk.gathered → Whole taker.new.desk.gathered taker.new.desk.taken) }
+            (n ≡ known_of taker.old.state.gathered taker.old.state.taken
+            → Later taker.old.state.made taker.old.state.gathered
+            → Whole taker.new.state.gathered taker.new.state.taken) }
 
         // And then it is of gathered senders alone.
         ensures others { OnOk result
-            (n ≡ known_of taker.old.desk.gathered taker.old.desk.taken
-            → Later taker.old.desk.made taker.old.desk.gathered
-            → NoOthers taker.old.desk.gathered taker.old.desk.taken taker.new.desk.taken) }
+            (n ≡ known_of taker.old.state.gathered taker.old.state.taken
+            → Later taker.old.state.made taker.old.state.gathered
+            → NoOthers taker.old.state.gathered taker.old.state.taken taker.new.state.taken) }
 
         ensures refused { OnErr result (taker.new ≡ taker.old) }
     {
@@ -357,19 +360,20 @@ impl Inbox {
         n: u64,
     ) -> Result<Vec<RadioCopy>, InboxError>
         requires inbox { taker.old.inbox ≡ self.now }
-        requires packets { TakesPackets taker.old.desk }
-        requires known { n ≤ known_of taker.old.desk.gathered taker.old.desk.taken }
+        requires packets { TakesPackets taker.old.state }
+        requires known { n ≤ known_of taker.old.state.gathered taker.old.state.taken }
         ensures count { IfOk result (λ copies. length copies.items ≡ n) }
         ensures taken { IfOk result (λ copies. TakesCopies taker.old taker.new copies.items) }
-        ensures begun { OnOk result (TookFronts taker.new.desk.gathered taker.new.desk.taken) }
-        ensures made { OnOk result (OfMade taker.new.desk.made taker.new.desk.taken) }
+        ensures begun { OnOk result (TookFronts taker.new.state.gathered taker.new.state.taken) }
+        ensures made { OnOk result (OfMade taker.new.state.made taker.new.state.taken) }
         ensures whole { OnOk result
-            (n ≡ known_of taker.old.desk.gathered taker.old.desk.taken
-            → Later taker.old.desk.made taker.old.desk.gathered → Whole taker.new.desk.gathered taker.new.desk.taken) }
+            (n ≡ known_of taker.old.state.gathered taker.old.state.taken
+            → Later taker.old.state.made taker.old.state.gathered
+            → Whole taker.new.state.gathered taker.new.state.taken) }
         ensures others { OnOk result
-            (n ≡ known_of taker.old.desk.gathered taker.old.desk.taken
-            → Later taker.old.desk.made taker.old.desk.gathered
-            → NoOthers taker.old.desk.gathered taker.old.desk.taken taker.new.desk.taken) }
+            (n ≡ known_of taker.old.state.gathered taker.old.state.taken
+            → Later taker.old.state.made taker.old.state.gathered
+            → NoOthers taker.old.state.gathered taker.old.state.taken taker.new.state.taken) }
         ensures refused { OnErr result (taker.new ≡ taker.old) }
     {
         let mut copies = Vec::with_capacity(self.alloc, n as usize)?;
@@ -389,9 +393,9 @@ impl Inbox {
     /// Ends the inbox, and gives all that is left in it. Where memory is refused, that is given up.
     pub fn close<R: Wait>(self, rt: &R, taker: Taker) -> Result<Vec<RadioCopy>, InboxError>
         requires inbox { taker.inbox ≡ self }
-        requires gathered { AllGathered taker.desk }
-        requires packets { NoMarkLeft taker.desk }
-        ensures { IfOk result (λ copies. Empties taker.desk copies.items) }
+        requires gathered { AllGathered taker.state }
+        requires packets { NoMarkLeft taker.state }
+        ensures { IfOk result (λ copies. Empties taker.state copies.items) }
     {
         let mut taker = taker;
         let known = self.known(&taker);

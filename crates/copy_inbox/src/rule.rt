@@ -14,7 +14,7 @@ pub struct Gathered {
 
 /// What the taker knows: whether the inbox has marks, how many senders it has made, what it has taken, and the senders
 /// that it gathered, the newest first.
-pub struct Desk {
+pub struct TakerState {
     pub marked: bool,
     pub made: u64,
     pub taken: LinkedList<Item>,
@@ -22,7 +22,7 @@ pub struct Desk {
 }
 
 /// What a sender knows: whether the inbox has marks, its number, and what it has pushed.
-pub struct Post {
+pub struct SenderState {
     pub marked: bool,
     pub number: u64,
     pub pushed: LinkedList<Carried>,
@@ -30,8 +30,8 @@ pub struct Post {
 
 /// What a pass of the queue knows. A spent one was joined to the taker's, or never was a sender's.
 pub enum View {
-    Taking(Desk),
-    Sending(Post),
+    Taking(TakerState),
+    Sending(SenderState),
     Spent,
 }
 

@@ -4,7 +4,7 @@ ghost use Rattle.std.specs.Prelude.{◌≡◌, IfOk};
 ghost use Rattle.std.specs.List.{AllZip, AllByRecursion as Each};
 ghost use Rattle.fork_join.specs.Kept.{AllKept};
 
-use crate::work::{Refused, Work, told};
+use crate::work::{Refused, Work, gravest};
 use std::alloc::{AllocFailed, Global};
 use std::snapshot::Snapshot;
 use std::sync::Wait;
@@ -54,12 +54,12 @@ where
         |scope| -> Result<Vec<T>, Refused>
             requires { Each (W.ready work.now) workers.items }
             ensures { IfOk result (λ done. AllZip (W.makes work.entry.now) workers.items done.items) }
-        { forked(scope, rt, alloc, workers, work) },
+        { fork_all(scope, rt, alloc, workers, work) },
     )
 }
 
 // Starts the threads and joins them, inside the scope.
-fn forked<'s, 'e: 's, R, T, W>(
+fn fork_all<'s, 'e: 's, R, T, W>(
     scope: &Scope<'s, &'e ()>,
     rt: &'e R,
     alloc: Global,
@@ -98,15 +98,15 @@ where
             break;
         }
     }
-    let done = joined(rt, alloc, started);
+    let done = join_all(rt, alloc, started);
     match refused {
-        Some(refused) => Err(told(done.err(), refused)),
+        Some(refused) => Err(gravest(done.err(), refused)),
         None => done,
     }
 }
 
 // Joins each thread. The answers, or the first error of those that are gravest.
-fn joined<R: Threads, T: Send + Drop, W: Work<T>>(
+fn join_all<R: Threads, T: Send + Drop, W: Work<T>>(
     rt: &R,
     alloc: Global,
     started: Vec<PromisedHandle<Result<T, Refused>, Promised<W, T>>>,
@@ -124,7 +124,7 @@ fn joined<R: Threads, T: Send + Drop, W: Work<T>>(
                     }
                 }
             }
-            Err(refused) => failed = Some(told(failed, refused)),
+            Err(refused) => failed = Some(gravest(failed, refused)),
         }
     }
     match failed {

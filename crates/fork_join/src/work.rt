@@ -1,7 +1,7 @@
 //! What a worker does in its thread.
 
 ghost use Rattle.std.specs.Prelude.{◌≡◌};
-ghost use Rattle.fork_join.specs.Told.{graver, told};
+ghost use Rattle.fork_join.specs.Gravest.{graver, gravest};
 
 use std::alloc::{AllocError, AllocFailed};
 
@@ -17,7 +17,7 @@ pub enum Refused {
 }
 
 impl Refused {
-    /// Which of two reasons is told: `Memory` and `Thread` go before `Stopped`, and else the first before the other.
+    /// Which of two reasons is reported: `Memory` and `Thread` go before `Stopped`, else the first before the other.
     fn graver(self, other: Refused) -> Refused
         ensures { result ≡ graver self other }
     {
@@ -28,9 +28,9 @@ impl Refused {
     }
 }
 
-/// The reason that is told, once there is one more.
-pub(crate) fn told(so_far: Option<Refused>, other: Refused) -> Refused
-    ensures { result ≡ told so_far other }
+/// The reason that is reported, once there is one more.
+pub(crate) fn gravest(so_far: Option<Refused>, other: Refused) -> Refused
+    ensures { result ≡ gravest so_far other }
 {
     match so_far {
         Some(first) => first.graver(other),

@@ -4,10 +4,10 @@ use Rattle.std.specs.List.{filter, AllByRecursion as Each}
 use Rattle.std.proofs.lemmas.Bool.{cases_Bool, eqb-true}
 use Rattle.radio_packet.specs.declared.copy.RadioCopy.{RadioCopy}
 use Rattle.mote_net.specs.Net.{NetTold}
-use Rattle.copy_exchange.specs.declared.courier.Courier.{Courier}
-use Rattle.copy_exchange.specs.Couriers.{Collects}
+use Rattle.copy_exchange.specs.declared.endpoint.Endpoint.{Endpoint}
+use Rattle.copy_exchange.specs.Endpoints.{Collects}
 use Rattle.window_laws.specs.Windows.{is_from_sender}
-use Rattle.copy_exchange.specs.Desks.{SameOfEach, taken_by, gathered_by}
+use Rattle.copy_exchange.specs.Takers.{SameOfEach, taken_by, gathered_by}
 use Rattle.net_agenda.specs.NetSystem.{system_of}
 use Rattle.worker_cut.specs.Crossed.{is_to, is_own}
 use Rattle.worker_cut.specs.Laws.{HasGathered}
@@ -27,7 +27,7 @@ module _ (P : RadioCopy → Type 0) where
   last_of [] ys h = h
   last_of (x ∷ xs) ys h = last_of xs ys h.1
 
-  pub arrived_have : (old new : Courier) (copies : List RadioCopy) → Collects old new copies
+  pub arrived_have : (old new : Endpoint) (copies : List RadioCopy) → Collects old new copies
       → Each P (gathered_by old.taker) → Each P copies
   arrived_have old new copies collects h =
       last_of (taken_by old.taker) copies

@@ -6,10 +6,10 @@ use denote.RattleType.{RattleType}
 use Rattle.copy_inbox.proofs.inbox.Inbox.TheSendSync as inbox
 use Rattle.all_workers.proofs.NetCrossing.{net_sync}
 use Rattle.joined_workers.specs.contracts.worker.Runner as Runner
-use Rattle.joined_workers.specs.contracts.worker.CrewWindow as CrewWindow
+use Rattle.joined_workers.specs.contracts.worker.WorkersWindow as WorkersWindow
 
-window_sync : (κ : NamedLft) → IsSync (CrewWindow.the_row κ)
-window_sync κ = declared_sync (CrewWindow.the_type κ) (search (net_sync, sendable), (search sendable, (search (inbox.the_sync, sendable), (search sendable, tt))))
+window_sync : (κ : NamedLft) → IsSync (WorkersWindow.the_row κ)
+window_sync κ = declared_sync (WorkersWindow.the_type κ) (search (net_sync, sendable), (search sendable, (search (inbox.the_sync, sendable), (search sendable, tt))))
 
 pub runner_sync : (κ : NamedLft) (R G : RattleType) → IsSync R → IsSync G → IsSync (Runner.the_row κ R G)
 runner_sync κ R G r g = let w = window_sync κ in declared_sync (Runner.the_type κ R G) (search sendable, (search sendable, (w, tt)))

@@ -11,8 +11,8 @@ use Rattle.window_laws.specs.Windows.{is_from_sender}
 use Rattle.window_laws.proofs.Lists.{filter_filter, every_weaker}
 use Rattle.net_agenda.specs.NetSystem.{system_of}
 use Rattle.copy_inbox.specs.Handles.{TakerView}
-use Rattle.copy_exchange.specs.Couriers.{delivered, delivered_to}
-use Rattle.copy_exchange.specs.Desks.{copies_in, taken_by, gathered_by}
+use Rattle.copy_exchange.specs.Endpoints.{delivered, delivered_to}
+use Rattle.copy_exchange.specs.Takers.{copies_in, taken_by, gathered_by}
 use Rattle.copy_inbox.specs.Items.{copies_of}
 use Rattle.worker_cut.specs.Crossed.{is_own, is_to}
 use Rattle.worker_cut.specs.Laws.{HasGathered}
@@ -51,10 +51,10 @@ module _ (n : NetTold) (fine : RunsForward (system_of n)) (of : List ℕ) (from 
     out : (s : ℕ) → copies_out n (is_own of v) z.next s ≡ copies_out n (is_own of v) at.motes s ++ filter (is_from_sender s) z.sent
     goes : Each (GoesOut n of v) z.sent
     first : (d : Worker) → slice_get all.done v ≡ Some d → IsFirstOf z.sent d.first_out
-    to : (d : Worker) → slice_get all.done v ≡ Some d → (u : ℕ) → delivered d.courier u ≡ filter (is_to of u) z.sent
+    to : (d : Worker) → slice_get all.done v ≡ Some d → (u : ℕ) → delivered d.endpoint u ≡ filter (is_to of u) z.sent
     keeps : (d : Worker) → slice_get all.done v ≡ Some d → Keeps n of v until z.next z.taken d.share
-    taken_home : (t : TakerView) → slice_get new.takers.items v ≡ Some t → taken_by t ≡ z.taken
-    home : (t : TakerView) → slice_get new.takers.items v ≡ Some t → gathered_by t ≡ z.gathered ++ delivered_to (map (λ (w : Worker). w.courier) all.done) v
+    taken_after : (t : TakerView) → slice_get new.takers.items v ≡ Some t → taken_by t ≡ z.taken
+    gathering : (t : TakerView) → slice_get new.takers.items v ≡ Some t → gathered_by t ≡ z.gathered ++ delivered_to (map (λ (w : Worker). w.endpoint) all.done) v
 
   up_to : from ≤ until
   up_to = omega arith
@@ -65,8 +65,8 @@ module _ (n : NetTold) (fine : RunsForward (system_of n)) (of : List ℕ) (from 
       of_piece : Piece n of from until old new at all v → (z : Told) × IsPart v z
       of_piece p =
           let w = window n of from until old new at all short up_to v p in
-          let gathered_is : gathered_by p.courier.taker ≡ gathered_by p.taker = ap copies_in p.set_out.same_gathered in (
-            record { next = w.next; taken = taken_by p.done.courier.taker; gathered = gathered_by p.taker; sent = p.ran.sent },
+          let gathered_is : gathered_by p.endpoint.taker ≡ gathered_by p.taker = ap copies_in p.starts.same_gathered in (
+            record { next = w.next; taken = taken_by p.done.endpoint.taker; gathered = gathered_by p.taker; sent = p.ran.sent },
             record {
               told = p.here.gathered;
               took = λ s.
@@ -76,16 +76,16 @@ module _ (n : NetTold) (fine : RunsForward (system_of n)) (of : List ℕ) (from 
               goes = subst (λ k. Each (GoesOut n of k) p.ran.sent) p.number p.ran.out;
               first = λ d e. subst (λ x. IsFirstOf p.ran.sent x.first_out) (same_found _ p.done d p.done_at e) p.ran.first;
               to = λ d e u.
-                  ap (λ x. delivered x.courier u) (sym (same_found _ p.done d p.done_at e))
-                  ∙ (p.ran.delivers.adds u ∙ ap (λ l. l ++ filter (is_to of u) p.ran.sent) (p.ran.collects.delivers_none u ∙ p.set_out.nothing u));
-              keeps = λ d e. subst (λ x. Keeps n of v until w.next (taken_by p.done.courier.taker) x.share) (same_found _ p.done d p.done_at e) w.keeps;
-              taken_home = λ t e. ap taken_by (sym (same_found _ p.home t p.home_at e)) ∙ ap copies_of p.came.same_taken;
-              home = λ t e.
-                  ap gathered_by (sym (same_found _ p.home t p.home_at e))
+                  ap (λ x. delivered x.endpoint u) (sym (same_found _ p.done d p.done_at e))
+                  ∙ (p.ran.delivers.adds u ∙ ap (λ l. l ++ filter (is_to of u) p.ran.sent) (p.ran.collects.delivers_none u ∙ p.starts.nothing u));
+              keeps = λ d e. subst (λ x. Keeps n of v until w.next (taken_by p.done.endpoint.taker) x.share) (same_found _ p.done d p.done_at e) w.keeps;
+              taken_after = λ t e. ap taken_by (sym (same_found _ p.gathering t p.gathering_at e)) ∙ ap copies_of p.came.same_taken;
+              gathering = λ t e.
+                  ap gathered_by (sym (same_found _ p.gathering t p.gathering_at e))
                   ∙ (p.came.adds
-                  ∙ (ap (λ l. l ++ delivered_to (map (λ (x : Worker). x.courier) all.done) p.done.courier.worker)
+                  ∙ (ap (λ l. l ++ delivered_to (map (λ (x : Worker). x.endpoint) all.done) p.done.endpoint.worker)
                   (ap (λ x. gathered_by x) p.ran.delivers.taker ∙ (ap copies_in p.ran.collects.stays.gathered ∙ gathered_is))
-                  ∙ ap (λ k. gathered_by p.taker ++ delivered_to (map (λ (x : Worker). x.courier) all.done) k) (p.ran.delivers.stays.worker ∙ (p.ran.collects.stays.worker ∙ p.number))));
+                  ∙ ap (λ k. gathered_by p.taker ++ delivered_to (map (λ (x : Worker). x.endpoint) all.done) k) (p.ran.delivers.stays.worker ∙ (p.ran.collects.stays.worker ∙ p.number))));
             },
           )
 
@@ -139,46 +139,46 @@ module _ (n : NetTold) (fine : RunsForward (system_of n)) (of : List ℕ) (from 
   late : (v : ℕ) → v < workers → Each (λ (copy : RadioCopy). until ≤ copy.at) (sent v)
   late = sent_late n fine of workers at.cut from until at.motes up short taken gathered sent nexts told took runs out goes at.led
 
-  couriers_long : length all.couriers ≡ length old.shares.items
-  couriers_long =
-      as_long _ old.takers.items all.couriers all.set_out ∙ (as_long _ old.inboxes.items old.takers.items at.settled ∙ sym at.shares)
+  endpoints_long : length all.endpoints ≡ length old.shares.items
+  endpoints_long =
+      as_long _ old.takers.items all.endpoints all.starts ∙ (as_long _ old.inboxes.items old.takers.items at.settled ∙ sym at.shares)
 
   done_long : length all.done ≡ workers
   done_long =
-      as_long _ (map worker_of (zip old.shares.items all.couriers)) all.done all.ran
-      ∙ (map_long worker_of (zip old.shares.items all.couriers) ∙ (zip_long old.shares.items all.couriers couriers_long ∙ at.shares))
+      as_long _ (map worker_of (zip old.shares.items all.endpoints)) all.done all.ran
+      ∙ (map_long worker_of (zip old.shares.items all.endpoints) ∙ (zip_long old.shares.items all.endpoints endpoints_long ∙ at.shares))
 
   -- of what went to a worker, what one mote sent
-  to_one : (v s : ℕ) → filter (is_from_sender s) (delivered_to (map (λ (w : Worker). w.courier) all.done) v) ≡ out_to v s
+  to_one : (v s : ℕ) → filter (is_from_sender s) (delivered_to (map (λ (w : Worker). w.endpoint) all.done) v) ≡ out_to v s
   unfolding sent
-  to_one v s = by_courier ∙ of_worker (slice_get of s) refl
+  to_one v s = by_endpoint ∙ of_worker (slice_get of s) refl
     where
-      by_courier : filter (is_from_sender s) (delivered_to (map (λ (w : Worker). w.courier) all.done) v) ≡ filter (is_from_sender s) (flat_map (λ (w : Worker). delivered w.courier v) all.done)
-      by_courier = ap (filter (is_from_sender s)) (flat_mapped all.done)
+      by_endpoint : filter (is_from_sender s) (delivered_to (map (λ (w : Worker). w.endpoint) all.done) v) ≡ filter (is_from_sender s) (flat_map (λ (w : Worker). delivered w.endpoint v) all.done)
+      by_endpoint = ap (filter (is_from_sender s)) (flat_mapped all.done)
         where
-          flat_mapped : (ws : List Worker) → delivered_to (map (λ (w : Worker). w.courier) ws) v ≡ flat_map (λ (w : Worker). delivered w.courier v) ws
+          flat_mapped : (ws : List Worker) → delivered_to (map (λ (w : Worker). w.endpoint) ws) v ≡ flat_map (λ (w : Worker). delivered w.endpoint v) ws
           flat_mapped [] = refl
-          flat_mapped (w ∷ ws) = ap (λ l. delivered w.courier v ++ l) (flat_mapped ws)
+          flat_mapped (w ∷ ws) = ap (λ l. delivered w.endpoint v ++ l) (flat_mapped ws)
 
       there_is : (i : ℕ) (d : Worker) → slice_get all.done i ≡ Some d → i < workers
       there_is i d e = subst (λ l. i < l) done_long (inside all.done i d e)
 
-      its_copies : (i : ℕ) (d : Worker) → slice_get all.done i ≡ Some d → filter (is_from_sender s) (delivered d.courier v) ≡ filter (is_from_sender s) (filter (is_to of v) (sent i))
+      its_copies : (i : ℕ) (d : Worker) → slice_get all.done i ≡ Some d → filter (is_from_sender s) (delivered d.endpoint v) ≡ filter (is_from_sender s) (filter (is_to of v) (sent i))
       its_copies i d e =
           ap (filter (is_from_sender s)) ((is_part i (there_is i d e)).to d e v)
 
-      not_its : (i : ℕ) (d : Worker) → slice_get all.done i ≡ Some d → is_own of i s ≡ false → filter (is_from_sender s) (delivered d.courier v) ≡ []
+      not_its : (i : ℕ) (d : Worker) → slice_get all.done i ≡ Some d → is_own of i s ≡ false → filter (is_from_sender s) (delivered d.endpoint v) ≡ []
       not_its i d e f =
           its_copies i d e
           ∙ (filter_filter (is_from_sender s) (is_to of v) (sent i)
           ∙ ap (filter (is_to of v)) (let o = out i (there_is i d e) s in let p = rw f at o in sym p))
 
-      of_worker : (o : Option ℕ) → slice_get of s ≡ o → filter (is_from_sender s) (flat_map (λ (w : Worker). delivered w.courier v) all.done) ≡ option_map_or (λ u. filter (is_from_sender s) (filter (is_to of v) (sent u))) o []
-      of_worker None e = none_of (is_from_sender s) (λ (w : Worker). delivered w.courier v) all.done (λ i d f. not_its i d f (ap (λ o. option_map_or (λ w. eqb w i) o false) e))
+      of_worker : (o : Option ℕ) → slice_get of s ≡ o → filter (is_from_sender s) (flat_map (λ (w : Worker). delivered w.endpoint v) all.done) ≡ option_map_or (λ u. filter (is_from_sender s) (filter (is_to of v) (sent u))) o []
+      of_worker None e = none_of (is_from_sender s) (λ (w : Worker). delivered w.endpoint v) all.done (λ i d f. not_its i d f (ap (λ o. option_map_or (λ w. eqb w i) o false) e))
       of_worker (Some u) e =
           let inside_of : u < workers = each_at (λ w. w < workers) of s u at.cut.there e in
           let d = there all.done u (subst (λ l. u < l) (sym done_long) inside_of) in
-          one_of (is_from_sender s) (λ (w : Worker). delivered w.courier v) all.done u d.0 d.1 (λ i x f ne.
+          one_of (is_from_sender s) (λ (w : Worker). delivered w.endpoint v) all.done u d.0 d.1 (λ i x f ne.
           not_its i x f (ap (λ o. option_map_or (λ w. eqb w i) o false) e ∙ ne_eqb u i (λ q. ne (sym q))))
           ∙ its_copies u d.0 d.1
 
@@ -196,15 +196,15 @@ module _ (n : NetTold) (fine : RunsForward (system_of n)) (of : List ℕ) (from 
       let p = is_part v h in
       let is_share : get_or new.shares.items v share ≡ d.0.share = ap (λ l. get_or l v share) all.shares ∙ read _ v d.0.share share (mapped (λ (w : Worker). w.share) all.done v d.0 d.1) in
       let is_taker : get_or new.takers.items v taker ≡ t.0 = read new.takers.items v t.0 taker t.1 in
-      let gathers : (s : ℕ) → filter (is_from_sender s) (gathered_by t.0) ≡ filter (is_from_sender s) (gathered v) ++ out_to v s = λ s. ap (filter (is_from_sender s)) (p.home t.0 t.1) ∙ (filter-append (is_from_sender s) (gathered v) _ ∙ ap (λ l. filter (is_from_sender s) (gathered v) ++ l) (to_one v s)) in
+      let gathers : (s : ℕ) → filter (is_from_sender s) (gathered_by t.0) ≡ filter (is_from_sender s) (gathered v) ++ out_to v s = λ s. ap (filter (is_from_sender s)) (p.gathering t.0 t.1) ∙ (filter-append (is_from_sender s) (gathered v) _ ∙ ap (λ l. filter (is_from_sender s) (gathered v) ++ l) (to_one v s)) in
       subst (λ x. IsWorkerAt n of until after new.first_out v x (get_or new.takers.items v taker)) (sym is_share)
       (subst (λ x. IsWorkerAt n of until after new.first_out v d.0.share x) (sym is_taker) (record {
-        keeps = subst (λ x. Keeps n of v until after x d.0.share) (sym (p.taken_home t.0 t.1))
+        keeps = subst (λ x. Keeps n of v until after x d.0.share) (sym (p.taken_after t.0 t.1))
             (keeps_same n of v (nexts v) after (λ k m. next_is n fine of workers at.cut from until at.motes up short taken gathered sent nexts told took runs out goes v k m) until (taken v) d.0.share (p.keeps d.0 d.1));
         gathered = told_next n fine of workers at.cut from until at.motes up short taken gathered sent nexts told took runs out goes v h (gathered_by t.0) gathers;
         waits = λ s. record {
           rest = out_to v s;
-          all = gathers s ∙ ap (λ l. l ++ out_to v s) (sym (took v h s) ∙ ap (filter (is_from_sender s)) (sym (p.taken_home t.0 t.1)));
+          all = gathers s ∙ ap (λ l. l ++ out_to v s) (sym (took v h s) ∙ ap (filter (is_from_sender s)) (sym (p.taken_after t.0 t.1)));
           later = out_later v s (slice_get of s) refl;
         };
       }))

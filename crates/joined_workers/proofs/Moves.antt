@@ -1,12 +1,12 @@
--- A window of all workers moves the crew on.
+-- A window of all workers moves all of them on.
 use Rattle.std.proofs.Common.{◌≡◌, ℕ, ◌+◌, ◌<◌, ◌≤◌, List, length, map, get_or, sym, ap, subst, Some}
 use Rattle.std.specs.List.{zip, slice_get, AllByRecursion as Each}
 use Rattle.mote_net.specs.Net.{NetTold}
 use Rattle.net_agenda.specs.NetSystem.{system_of}
 use Rattle.copy_inbox.specs.Handles.{TakerView}
-use Rattle.copy_exchange.specs.declared.courier.Courier.{Courier}
-use Rattle.copy_exchange.specs.Couriers.{SetsOut, ComesHome}
-use Rattle.copy_exchange.specs.Desks.{taken_by}
+use Rattle.copy_exchange.specs.declared.endpoint.Endpoint.{Endpoint}
+use Rattle.copy_exchange.specs.Endpoints.{StartsAs, GathersDelivered}
+use Rattle.copy_exchange.specs.Takers.{taken_by}
 use Rattle.copy_inbox.specs.Items.{copies_of}
 use Rattle.worker_window.specs.declared.share.Share.{Share}
 use Rattle.worker_window.specs.Share.{Keeps}
@@ -27,16 +27,16 @@ module _ (n : NetTold) (of : List ℕ) (from until : ℕ) (old new : Workers) (a
   pub record Piece (v : ℕ) : Type 0 where
     pub share : Share
     pub taker : TakerView
-    pub courier : Courier
+    pub endpoint : Endpoint
     pub done : Worker
-    pub home : TakerView
+    pub gathering : TakerView
     pub done_at : slice_get all.done v ≡ Some done
-    pub home_at : slice_get new.takers.items v ≡ Some home
+    pub gathering_at : slice_get new.takers.items v ≡ Some gathering
     pub here : IsWorkerAt n of from at.motes old.first_out v share taker
-    pub set_out : SetsOut taker courier
-    pub number : courier.worker ≡ v
-    pub ran : RunsWorker n of old.inboxes.items until (worker_of (share, courier)) done
-    pub came : ComesHome (map (λ (worker : Worker). worker.courier) all.done) done.courier home
+    pub starts : StartsAs taker endpoint
+    pub number : endpoint.worker ≡ v
+    pub ran : RunsWorker n of old.inboxes.items until (worker_of (share, endpoint)) done
+    pub came : GathersDelivered (map (λ (worker : Worker). worker.endpoint) all.done) done.endpoint gathering
 
   takers_long : length old.takers.items ≡ length old.inboxes.items
   takers_long = as_long _ old.inboxes.items old.takers.items at.settled
@@ -45,37 +45,37 @@ module _ (n : NetTold) (of : List ℕ) (from until : ℕ) (old new : Workers) (a
   piece v h =
       let s = there old.shares.items v (subst (λ l. v < l) (sym at.shares) h) in
       let t = there old.takers.items v (subst (λ l. v < l) (sym takers_long) h) in
-      let c = beside SetsOut old.takers.items all.couriers all.set_out v t.0 t.1 in
-      let d = beside _ _ all.done all.ran v (worker_of (s.0, c.0)) (mapped worker_of (zip old.shares.items all.couriers) v (s.0, c.0) (paired old.shares.items all.couriers v s.0 c.0 s.1 c.1)) in
-      let g = beside _ _ new.takers.items all.home v d.0.courier (mapped (λ (worker : Worker). worker.courier) all.done v d.0 d.1) in
+      let c = beside StartsAs old.takers.items all.endpoints all.starts v t.0 t.1 in
+      let d = beside _ _ all.done all.ran v (worker_of (s.0, c.0)) (mapped worker_of (zip old.shares.items all.endpoints) v (s.0, c.0) (paired old.shares.items all.endpoints v s.0 c.0 s.1 c.1)) in
+      let g = beside _ _ new.takers.items all.gathering v d.0.endpoint (mapped (λ (worker : Worker). worker.endpoint) all.done v d.0 d.1) in
       let is_share = read old.shares.items v s.0 s.0 s.1 in
       let is_taker = read old.takers.items v t.0 t.0 t.1 in
       record {
         share = s.0;
         taker = t.0;
-        courier = c.0;
+        endpoint = c.0;
         done = d.0;
-        home = g.0;
+        gathering = g.0;
         done_at = d.1;
-        home_at = g.1;
+        gathering_at = g.1;
         here = subst (λ x. IsWorkerAt n of from at.motes old.first_out v x t.0) is_share (subst (λ x. IsWorkerAt n of from at.motes old.first_out v (get_or old.shares.items v s.0) x) is_taker (at.each v h s.0 t.0));
-        set_out = c.2;
-        number = numbered (length old.inboxes.items) all.couriers all.together.workers v h c.0 c.1;
+        starts = c.2;
+        number = numbered (length old.inboxes.items) all.endpoints all.together.workers v h c.0 c.1;
         ran = d.2;
         came = g.2;
       }
 
   module _ (short : until ≤ from + (system_of n).lookahead) (up : from ≤ until) (v : ℕ) (p : Piece v) where
-    taken_same : taken_by p.courier.taker ≡ taken_by p.taker
-    taken_same = ap copies_of p.set_out.same_taken
+    taken_same : taken_by p.endpoint.taker ≡ taken_by p.taker
+    taken_same = ap copies_of p.starts.same_taken
 
     pub comes : Each (IsDue of v from) p.ran.arrived
-    comes = arrived_come n of from at.motes old.first_out v p.share p.taker p.here at.first p.courier p.set_out p.ran.between p.ran.arrived p.ran.collects
+    comes = arrived_come n of from at.motes old.first_out v p.share p.taker p.here at.first p.endpoint p.starts p.ran.between p.ran.arrived p.ran.collects
 
-    pub window : RunsWindow n of v from until at.motes (taken_by p.done.courier.taker) p.done.share p.ran.sent
+    pub window : RunsWindow n of v from until at.motes (taken_by p.done.endpoint.taker) p.done.share p.ran.sent
     window =
-        subst (λ w. RunsWindow n of w from until at.motes (taken_by p.done.courier.taker) p.done.share p.ran.sent) p.number
+        subst (λ w. RunsWindow n of w from until at.motes (taken_by p.done.endpoint.taker) p.done.share p.ran.sent) p.number
         (p.ran.runs from at.motes
-        (subst (λ w. Keeps n of w from at.motes (taken_by p.courier.taker) p.share) (sym p.number) (subst (λ t. Keeps n of v from at.motes t p.share) (sym taken_same) p.here.keeps))
+        (subst (λ w. Keeps n of w from at.motes (taken_by p.endpoint.taker) p.share) (sym p.number) (subst (λ t. Keeps n of v from at.motes t p.share) (sym taken_same) p.here.keeps))
         up short
         (subst (λ w. Each (IsDue of w from) p.ran.arrived) (sym p.number) comes))

@@ -1,4 +1,4 @@
--- Workers that stand somewhere are ready to run when their couriers set out.
+-- Workers that stand somewhere are ready to run once their endpoints are made.
 use Rattle.std.proofs.Common.{◌≡◌, ℕ, suc, ◌<◌, ◌≤◌, ◌^◌, true, false, List, [], ◌∷◌, ◌++◌, length, map, get_or, refl, sym, ap, ◌∙◌, subst, arith, Option, Some, None}
 use Rattle.std.specs.List.{filter, zip, slice_get, range_with_len, AllZip, AllByRecursion as Each}
 use Rattle.std.proofs.lemmas.List.Elements.{filter-append}
@@ -9,9 +9,9 @@ use Rattle.window_laws.specs.Windows.{WakesFrom, is_from_sender}
 use Rattle.window_laws.proofs.Lists.{every_weaker, every_both}
 use Rattle.copy_inbox.specs.Items.{copies_of}
 use Rattle.copy_inbox.specs.Handles.{TakerView}
-use Rattle.copy_exchange.specs.declared.courier.Courier.{Courier}
-use Rattle.copy_exchange.specs.Couriers.{IsCourier, Collects, Together, SetsOut}
-use Rattle.copy_exchange.specs.Desks.{copies_in, taken_by, gathered_by}
+use Rattle.copy_exchange.specs.declared.endpoint.Endpoint.{Endpoint}
+use Rattle.copy_exchange.specs.Endpoints.{IsEndpoint, Collects, Together, StartsAs}
+use Rattle.copy_exchange.specs.Takers.{copies_in, taken_by, gathered_by}
 use Rattle.copy_exchange.specs.Inboxes.{IsPlain}
 use Rattle.worker_window.specs.declared.share.Share.{Share}
 use Rattle.worker_window.specs.Share.{Motes}
@@ -37,20 +37,20 @@ not_before from (Some m) c w h = omega arith
 
 -- what a worker takes in at the start of a window is what waited in its inbox
 module _ (n : NetTold) (of : List ℕ) (from : ℕ) (motes : Motes) (first : Option ℕ) (v : ℕ) (share : Share) (taker : TakerView) (here : IsWorkerAt n of from motes first v share taker) (first_from : WakesFrom from first)
-    (courier : Courier) (set_out : SetsOut taker courier) (between : Courier) (arrived : List RadioCopy) (collects : Collects courier between arrived) where
-  gathered_same : gathered_by courier.taker ≡ gathered_by taker
-  gathered_same = ap copies_in set_out.same_gathered
+    (endpoint : Endpoint) (starts : StartsAs taker endpoint) (between : Endpoint) (arrived : List RadioCopy) (collects : Collects endpoint between arrived) where
+  gathered_same : gathered_by endpoint.taker ≡ gathered_by taker
+  gathered_same = ap copies_in starts.same_gathered
 
-  taken_same : taken_by courier.taker ≡ taken_by taker
-  taken_same = ap copies_of set_out.same_taken
+  taken_same : taken_by endpoint.taker ≡ taken_by taker
+  taken_same = ap copies_of starts.same_taken
 
   all_foreign : Each (λ (c : RadioCopy). (is_own of v c.to ≡ true) × (is_own of v c.sender ≡ false)) arrived
-  all_foreign = arrived_have (λ (c : RadioCopy). (is_own of v c.to ≡ true) × (is_own of v c.sender ≡ false)) courier between arrived collects (subst (Each (λ (c : RadioCopy). (is_own of v c.to ≡ true) × (is_own of v c.sender ≡ false))) (sym gathered_same) (foreign n of motes v (gathered_by taker) here.gathered))
+  all_foreign = arrived_have (λ (c : RadioCopy). (is_own of v c.to ≡ true) × (is_own of v c.sender ≡ false)) endpoint between arrived collects (subst (Each (λ (c : RadioCopy). (is_own of v c.to ≡ true) × (is_own of v c.sender ≡ false))) (sym gathered_same) (foreign n of motes v (gathered_by taker) here.gathered))
 
   waited : (s : ℕ) → filter (is_from_sender s) arrived ≡ (here.waits s).rest
   waited s = goes_on (filter (is_from_sender s) (taken_by taker)) _ _ (
       ap (λ l. filter (is_from_sender s) l ++ filter (is_from_sender s) arrived) (sym taken_same)
-      ∙ (sym (filter-append (is_from_sender s) (taken_by courier.taker) arrived)
+      ∙ (sym (filter-append (is_from_sender s) (taken_by endpoint.taker) arrived)
       ∙ (ap (filter (is_from_sender s)) (sym collects.adds)
       ∙ (collects.in_order s
       ∙ (ap (filter (is_from_sender s)) gathered_same ∙ (here.waits s).all)))))
@@ -62,16 +62,16 @@ module _ (n : NetTold) (of : List ℕ) (from : ℕ) (motes : Motes) (first : Opt
   arrived_come = every_weaker _ _ (λ c g. record { to = g.0.0; sender = g.0.1; later = g.1 }) _ (every_both (λ (c : RadioCopy). (is_own of v c.to ≡ true) × (is_own of v c.sender ≡ false)) (λ (c : RadioCopy). from ≤ c.at) arrived all_foreign all_later)
 
 module _ (n : NetTold) (of : List ℕ) (from until : ℕ) (old : Workers) (at : IsAt n of from old) (up : from ≤ until) (early : until ≤ 2 ^ 40) (plain : Each IsPlain old.takers.items)
-    (couriers : List Courier) (together : Together old.inboxes.items couriers) (set_out : AllZip SetsOut old.takers.items couriers) where
-  one_ready : (v : ℕ) (s : Share) (c : Courier) → slice_get old.shares.items v ≡ Some s → slice_get couriers v ≡ Some c → IsReady n of old.inboxes.items until (worker_of (s, c))
+    (endpoints : List Endpoint) (together : Together old.inboxes.items endpoints) (starts : AllZip StartsAs old.takers.items endpoints) where
+  one_ready : (v : ℕ) (s : Share) (c : Endpoint) → slice_get old.shares.items v ≡ Some s → slice_get endpoints v ≡ Some c → IsReady n of old.inboxes.items until (worker_of (s, c))
   one_ready v s c e f =
       let h : v < length old.inboxes.items = subst (λ l. v < l) at.shares (inside old.shares.items v s e) in
       let t = there old.takers.items v (subst (λ l. v < l) (sym (as_long _ old.inboxes.items old.takers.items at.settled)) h) in
-      let b = beside SetsOut old.takers.items couriers set_out v t.0 t.1 in
-      let set : SetsOut t.0 c = subst (SetsOut t.0) (same_found (slice_get couriers v) b.0 c b.1 f) b.2 in
+      let b = beside StartsAs old.takers.items endpoints starts v t.0 t.1 in
+      let set : StartsAs t.0 c = subst (StartsAs t.0) (same_found (slice_get endpoints v) b.0 c b.1 f) b.2 in
       let here : IsWorkerAt n of from at.motes old.first_out v s t.0 = subst (λ x. IsWorkerAt n of from at.motes old.first_out v x t.0) (read old.shares.items v s s e)
       (subst (λ x. IsWorkerAt n of from at.motes old.first_out v (get_or old.shares.items v s) x) (read old.takers.items v t.0 t.0 t.1) (at.each v h s t.0)) in
-      let number : c.worker ≡ v = numbered (length old.inboxes.items) couriers together.workers v h c f in
+      let number : c.worker ≡ v = numbered (length old.inboxes.items) endpoints together.workers v h c f in
       let own : Each (λ (x : RadioCopy). is_own of v x.to ≡ true) (gathered_by t.0) = every_weaker (λ (x : RadioCopy). (is_own of v x.to ≡ true) × (is_own of v x.sender ≡ false)) (λ (x : RadioCopy). is_own of v x.to ≡ true) (λ x g. g.0) (gathered_by t.0) (foreign n of at.motes v (gathered_by t.0) here.gathered) in
       record {
         early = early;
@@ -87,10 +87,10 @@ module _ (n : NetTold) (of : List ℕ) (from until : ℕ) (old : Workers) (at : 
         };
         same = here.keeps.is_worker ∙ sym number;
         plain = set.same_marked ∙ each_at IsPlain old.takers.items v t.0 plain t.1;
-        courier = each_at (IsCourier old.inboxes.items) couriers v c together.each f;
+        endpoint = each_at (IsEndpoint old.inboxes.items) endpoints v c together.each f;
         own = subst (λ w. Each (λ (x : RadioCopy). is_own of w x.to ≡ true) (gathered_by c.taker)) (sym number)
             (subst (λ l. Each (λ (x : RadioCopy). is_own of v x.to ≡ true) l) (sym (ap copies_in set.same_gathered)) own);
       }
 
-  pub ready : Each (IsReady n of old.inboxes.items until) (map worker_of (zip old.shares.items couriers))
-  ready = each_zipped (IsReady n of old.inboxes.items until) worker_of old.shares.items couriers one_ready
+  pub ready : Each (IsReady n of old.inboxes.items until) (map worker_of (zip old.shares.items endpoints))
+  ready = each_zipped (IsReady n of old.inboxes.items until) worker_of old.shares.items endpoints one_ready

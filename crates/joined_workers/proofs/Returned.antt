@@ -1,4 +1,4 @@
--- The couriers of workers that ran are back.
+-- The endpoints of workers that ran, at the end of a window.
 use Rattle.std.proofs.Common.{◌≡◌, ◌⊎◌, ℕ, ◌==◌, true, false, List, [], ◌∷◌, length, map, sym, ap, ◌∙◌, arith, inl, inr}
 use Rattle.std.specs.Prelude.{slice_index}
 use Rattle.std.specs.List.{filter, zip, AllZip, AllByRecursion as Each}
@@ -7,8 +7,8 @@ use Rattle.radio_packet.specs.declared.copy.RadioCopy.{RadioCopy}
 use Rattle.mote_net.specs.Net.{NetTold}
 use Rattle.window_laws.proofs.Lists.{filter_none, every_weaker}
 use Rattle.copy_inbox.specs.Handles.{InboxId, TakerView}
-use Rattle.copy_exchange.specs.declared.courier.Courier.{Courier}
-use Rattle.copy_exchange.specs.Couriers.{Together, SetsOut, Returns, AllReturn}
+use Rattle.copy_exchange.specs.declared.endpoint.Endpoint.{Endpoint}
+use Rattle.copy_exchange.specs.Endpoints.{Together, StartsAs, Returns, AllReturn}
 use Rattle.window_laws.specs.Windows.{is_from_sender}
 use Rattle.copy_exchange.proofs.Windows.{returns_from}
 use Rattle.worker_window.specs.declared.share.Share.{Share}
@@ -37,32 +37,32 @@ none_from n of w s other sent out = filter_none (is_from_sender s) sent (every_w
             absurd (false≢true (sym other ∙ eq-eqb (slice_index of s) w its))
 
 module _ (n : NetTold) (of : List ℕ) (until : ℕ) (inboxes : List InboxId) where
-  one_back : (t : TakerView) (s : Share) (c : Courier) (d : Worker) → SetsOut t c → RunsWorker n of inboxes until (worker_of (s, c)) d → Returns inboxes (slice_index of) c d.courier
-  one_back t s c d set_out ran =
-      returns_from inboxes of (slice_index of) t c ran.between d.courier ran.arrived ran.sent set_out ran.collects ran.delivers ran.courier
+  one_back : (t : TakerView) (s : Share) (c : Endpoint) (d : Worker) → StartsAs t c → RunsWorker n of inboxes until (worker_of (s, c)) d → Returns inboxes (slice_index of) c d.endpoint
+  one_back t s c d starts ran =
+      returns_from inboxes of (slice_index of) t c ran.between d.endpoint ran.arrived ran.sent starts ran.collects ran.delivers ran.endpoint
       (λ k other. none_from n of c.worker k other ran.sent ran.out)
 
-  all_back : (takers : List TakerView) (shares : List Share) (couriers : List Courier) (done : List Worker) → AllZip SetsOut takers couriers → length couriers ≡ length shares
-      → AllZip (RunsWorker n of inboxes until) (map worker_of (zip shares couriers)) done → AllZip (Returns inboxes (slice_index of)) couriers (map (λ (worker : Worker). worker.courier) done)
-  all_back [] [] [] [] set_out long ran = tt
-  all_back [] [] [] (d ∷ ds) set_out long ran = absurd ran
-  all_back [] (s ∷ ss) [] ds set_out long ran = absurd (omega arith)
-  all_back [] ss (c ∷ cs) ds set_out long ran = absurd set_out
-  all_back (t ∷ ts) ss [] ds set_out long ran = absurd set_out
-  all_back (t ∷ ts) [] (c ∷ cs) ds set_out long ran = absurd (omega arith)
-  all_back (t ∷ ts) (s ∷ ss) (c ∷ cs) [] set_out long ran = absurd ran
-  all_back (t ∷ ts) (s ∷ ss) (c ∷ cs) (d ∷ ds) set_out long ran = (one_back t s c d set_out.0 ran.0, all_back ts ss cs ds set_out.1 (omega arith) ran.1)
+  all_back : (takers : List TakerView) (shares : List Share) (endpoints : List Endpoint) (done : List Worker) → AllZip StartsAs takers endpoints → length endpoints ≡ length shares
+      → AllZip (RunsWorker n of inboxes until) (map worker_of (zip shares endpoints)) done → AllZip (Returns inboxes (slice_index of)) endpoints (map (λ (worker : Worker). worker.endpoint) done)
+  all_back [] [] [] [] starts long ran = tt
+  all_back [] [] [] (d ∷ ds) starts long ran = absurd ran
+  all_back [] (s ∷ ss) [] ds starts long ran = absurd (omega arith)
+  all_back [] ss (c ∷ cs) ds starts long ran = absurd starts
+  all_back (t ∷ ts) ss [] ds starts long ran = absurd starts
+  all_back (t ∷ ts) [] (c ∷ cs) ds starts long ran = absurd (omega arith)
+  all_back (t ∷ ts) (s ∷ ss) (c ∷ cs) [] starts long ran = absurd ran
+  all_back (t ∷ ts) (s ∷ ss) (c ∷ cs) (d ∷ ds) starts long ran = (one_back t s c d starts.0 ran.0, all_back ts ss cs ds starts.1 (omega arith) ran.1)
 
-module _ (n : NetTold) (of : List ℕ) (from until : ℕ) (old : Workers) (at : IsAt n of from old) (couriers : List Courier) (done : List Worker)
-    (together : Together old.inboxes.items couriers) (set_out : AllZip SetsOut old.takers.items couriers)
-    (ran : AllZip (RunsWorker n of old.inboxes.items until) (map worker_of (zip old.shares.items couriers)) done) where
-  couriers_long : length couriers ≡ length old.shares.items
-  couriers_long = as_long _ old.takers.items couriers set_out ∙ (as_long _ old.inboxes.items old.takers.items at.settled ∙ sym at.shares)
+module _ (n : NetTold) (of : List ℕ) (from until : ℕ) (old : Workers) (at : IsAt n of from old) (endpoints : List Endpoint) (done : List Worker)
+    (together : Together old.inboxes.items endpoints) (starts : AllZip StartsAs old.takers.items endpoints)
+    (ran : AllZip (RunsWorker n of old.inboxes.items until) (map worker_of (zip old.shares.items endpoints)) done) where
+  endpoints_long : length endpoints ≡ length old.shares.items
+  endpoints_long = as_long _ old.takers.items endpoints starts ∙ (as_long _ old.inboxes.items old.takers.items at.settled ∙ sym at.shares)
 
-  pub returned : AllReturn old.inboxes.items (map (λ (worker : Worker). worker.courier) done)
+  pub returned : AllReturn old.inboxes.items (map (λ (worker : Worker). worker.endpoint) done)
   returned = record {
-    before = couriers;
+    before = endpoints;
     together = together;
     worker_of = slice_index of;
-    each = all_back n of until old.inboxes.items old.takers.items old.shares.items couriers done set_out couriers_long ran;
+    each = all_back n of until old.inboxes.items old.takers.items old.shares.items endpoints done starts endpoints_long ran;
   }

@@ -18,12 +18,12 @@ quiet : (end : ℕ) (next : Option ℕ) → WakesFrom (start_of_window end next)
 quiet end None = tt
 quiet end (Some moment) = min-le_left moment (end + 1)
 
-module _ (n : NetTold) (of : List ℕ) (reached end : ℕ) (crew : Workers) (from : ℕ) (at : IsAt n of reached crew) (low : reached ≤ end + 1) (begins : BeginsAt end crew from) where
+module _ (n : NetTold) (of : List ℕ) (reached end : ℕ) (group : Workers) (from : ℕ) (at : IsAt n of reached group) (low : reached ≤ end + 1) (begins : BeginsAt end group from) where
   pub begins_later : reached ≤ from
-  begins_later = subst (λ m. reached ≤ m) (sym begins.start) (no_sooner reached end begins.next (comes_no_sooner n of reached crew begins.next at begins.is) low)
+  begins_later = subst (λ m. reached ≤ m) (sym begins.start) (no_sooner reached end begins.next (comes_no_sooner n of reached group begins.next at begins.is) low)
 
-  pub stands_there : RunsForward (system_of n) → IsAt n of from crew
-  stands_there fine = stands n fine of reached from crew begins.next at begins.is begins_later (subst (λ m. WakesFrom m begins.next) (sym begins.start) (quiet end begins.next))
+  pub stands_there : RunsForward (system_of n) → IsAt n of from group
+  stands_there fine = stands n fine of reached from group begins.next at begins.is begins_later (subst (λ m. WakesFrom m begins.next) (sym begins.start) (quiet end begins.next))
 
 pub short_enough : (from length lookahead told until : ℕ) → until ≤ from + length → length ≤ lookahead → lookahead ≡ told → until ≤ from + told
 short_enough from length lookahead told until short within value = omega arith

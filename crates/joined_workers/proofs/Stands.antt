@@ -9,7 +9,7 @@ use Rattle.window_laws.specs.Windows.{WakesFrom, copies_by}
 use Rattle.window_laws.proofs.Lists.{every_append, every_weaker}
 use Rattle.net_agenda.specs.NetSystem.{system_of}
 use Rattle.copy_inbox.specs.Handles.{TakerView}
-use Rattle.copy_exchange.specs.Desks.{taken_by}
+use Rattle.copy_exchange.specs.Takers.{taken_by}
 use Rattle.worker_cut.specs.Crossed.{is_own, is_to, copies_known}
 use Rattle.worker_cut.proofs.Windows.{idle, receivers}
 use Rattle.worker_window.specs.declared.share.Share.{Share}
@@ -55,36 +55,36 @@ by_some : (workers : ℕ) (A : ℕ → RadioCopy → Type 0) (Q : RadioCopy → 
 by_some workers A Q [] h k = tt
 by_some workers A Q (x ∷ xs) h k = ((h k.0.0 k.0.1).0 k.0.2, by_some workers A Q xs (λ v l. (h v l).1) k.1)
 
-module _ (n : NetTold) (fine : RunsForward (system_of n)) (of : List ℕ) (from moment : ℕ) (crew : Workers) (next : Option ℕ) (at : IsAt n of from crew) (is : IsNextOfAll crew.first_out crew.shares.items next) (le : from ≤ moment) (wakes : WakesFrom moment next) where
+module _ (n : NetTold) (fine : RunsForward (system_of n)) (of : List ℕ) (from moment : ℕ) (group : Workers) (next : Option ℕ) (at : IsAt n of from group) (is : IsNextOfAll group.first_out group.shares.items next) (le : from ≤ moment) (wakes : WakesFrom moment next) where
   abbrev workers : ℕ
-  workers = length crew.inboxes.items
+  workers = length group.inboxes.items
 
   -- one worker
   record Piece (v : ℕ) : Type 0 where
     share : Share
     taker : TakerView
-    share_at : slice_get crew.shares.items v ≡ Some share
-    taker_at : slice_get crew.takers.items v ≡ Some taker
-    here : IsWorkerAt n of from at.motes crew.first_out v share taker
+    share_at : slice_get group.shares.items v ≡ Some share
+    taker_at : slice_get group.takers.items v ≡ Some taker
+    here : IsWorkerAt n of from at.motes group.first_out v share taker
     first : Option ℕ
     tells : TellsNext share first
     later : WakesFrom moment first
 
-  takers_long : length crew.takers.items ≡ workers
-  takers_long = as_long _ crew.inboxes.items crew.takers.items at.settled
+  takers_long : length group.takers.items ≡ workers
+  takers_long = as_long _ group.inboxes.items group.takers.items at.settled
 
   piece : (v : ℕ) → v < workers → Piece v
   piece v h =
-      let s = there crew.shares.items v (subst (λ l. v < l) (sym at.shares) h) in
-      let t = there crew.takers.items v (subst (λ l. v < l) (sym takers_long) h) in
-      let f = each_at _ crew.shares.items v s.0 is.each s.1 in
+      let s = there group.shares.items v (subst (λ l. v < l) (sym at.shares) h) in
+      let t = there group.takers.items v (subst (λ l. v < l) (sym takers_long) h) in
+      let f = each_at _ group.shares.items v s.0 is.each s.1 in
       record {
         share = s.0;
         taker = t.0;
         share_at = s.1;
         taker_at = t.1;
-        here = subst (λ x. IsWorkerAt n of from at.motes crew.first_out v x t.0) (read crew.shares.items v s.0 s.0 s.1)
-            (subst (λ x. IsWorkerAt n of from at.motes crew.first_out v (get_or crew.shares.items v s.0) x) (read crew.takers.items v t.0 t.0 t.1) (at.each v h s.0 t.0));
+        here = subst (λ x. IsWorkerAt n of from at.motes group.first_out v x t.0) (read group.shares.items v s.0 s.0 s.1)
+            (subst (λ x. IsWorkerAt n of from at.motes group.first_out v (get_or group.shares.items v s.0) x) (read group.takers.items v t.0 t.0 t.1) (at.each v h s.0 t.0));
         first = f.0;
         tells = f.1;
         later = f.2 moment wakes;
@@ -114,7 +114,7 @@ module _ (n : NetTold) (fine : RunsForward (system_of n)) (of : List ℕ) (from 
           let told = p.here.gathered s in
           let crossed_is = rw e at told in
           let taken = every_weaker (λ (c : RadioCopy). is_own of v c.to ≡ true → not (ltb c.at from) ≡ true → moment ≤ c.at) (λ (c : RadioCopy). is_own of v c.to ≡ true → (from ≤ c.at → moment ≤ c.at)) (λ c g a l. g a (not_late c.at from l)) _ (unfiltered (λ (c : RadioCopy). moment ≤ c.at) (λ c. is_own of v c.to) (λ c. not (ltb c.at from)) _ k) in
-          let rest = every_weaker (IsNotBefore crew.first_out) (λ (c : RadioCopy). is_own of v c.to ≡ true → (from ≤ c.at → moment ≤ c.at)) (λ c g a l. not_sooner moment crew.first_out c (is.out moment wakes) g) _ (p.here.waits s).later in
+          let rest = every_weaker (IsNotBefore group.first_out) (λ (c : RadioCopy). is_own of v c.to ≡ true → (from ≤ c.at → moment ≤ c.at)) (λ c g a l. not_sooner moment group.first_out c (is.out moment wakes) g) _ (p.here.waits s).later in
           let both = every_append (λ (c : RadioCopy). is_own of v c.to ≡ true → (from ≤ c.at → moment ≤ c.at)) _ _ taken rest in
           let gathered = subst (Each (λ (c : RadioCopy). is_own of v c.to ≡ true → (from ≤ c.at → moment ≤ c.at))) (sym (p.here.waits s).all ∙ crossed_is) both in
           every_weaker (λ (c : RadioCopy). is_to of v c ≡ true → is_own of v c.to ≡ true → (from ≤ c.at → moment ≤ c.at)) (λ (c : RadioCopy). is_own of v c.to ≡ true → (from ≤ c.at → moment ≤ c.at)) (λ c g a. g a a) _ (passed (λ (c : RadioCopy). is_own of v c.to ≡ true → (from ≤ c.at → moment ≤ c.at)) (is_to of v) _ gathered)
@@ -125,7 +125,7 @@ module _ (n : NetTold) (fine : RunsForward (system_of n)) (of : List ℕ) (from 
       by_some workers (λ v (c : RadioCopy). is_own of v c.to ≡ true) (λ (c : RadioCopy). from ≤ c.at → moment ≤ c.at) _ (λ v h. no_copy_to s v (piece v h))
       (every_weaker (λ (c : RadioCopy). c.to < length n.motes) (λ (c : RadioCopy). (v : ℕ) × (v < workers) × (is_own of v c.to ≡ true)) (λ c h. let w = some_worker (length n.motes) workers of at.cut c.to h in (w.0, w.2, own_by of w.0 c.to w.1)) _ (receivers (system_of n) fine at.motes s))
 
-  pub stands : IsAt n of moment crew
+  pub stands : IsAt n of moment group
   unfolding system_of
   stands = record {
     motes = at.motes;
@@ -137,22 +137,22 @@ module _ (n : NetTold) (fine : RunsForward (system_of n)) (of : List ℕ) (from 
     each = λ v h share taker. one v (piece v h) share taker;
   }
     where
-      one : (v : ℕ) → Piece v → (share : Share) (taker : TakerView) → IsWorkerAt n of moment at.motes crew.first_out v (get_or crew.shares.items v share) (get_or crew.takers.items v taker)
+      one : (v : ℕ) → Piece v → (share : Share) (taker : TakerView) → IsWorkerAt n of moment at.motes group.first_out v (get_or group.shares.items v share) (get_or group.takers.items v taker)
       one v p share taker =
-          subst (λ x. IsWorkerAt n of moment at.motes crew.first_out v x (get_or crew.takers.items v taker)) (sym (read crew.shares.items v p.share share p.share_at))
-          (subst (λ x. IsWorkerAt n of moment at.motes crew.first_out v p.share x) (sym (read crew.takers.items v p.taker taker p.taker_at)) (record { keeps = keeps_on v p; gathered = p.here.gathered; waits = p.here.waits }))
+          subst (λ x. IsWorkerAt n of moment at.motes group.first_out v x (get_or group.takers.items v taker)) (sym (read group.shares.items v p.share share p.share_at))
+          (subst (λ x. IsWorkerAt n of moment at.motes group.first_out v p.share x) (sym (read group.takers.items v p.taker taker p.taker_at)) (record { keeps = keeps_on v p; gathered = p.here.gathered; waits = p.here.waits }))
 
-module _ (n : NetTold) (of : List ℕ) (from : ℕ) (crew : Workers) (next : Option ℕ) (at : IsAt n of from crew) (is : IsNextOfAll crew.first_out crew.shares.items next) where
-  takers_here : length crew.takers.items ≡ length crew.inboxes.items
-  takers_here = as_long _ crew.inboxes.items crew.takers.items at.settled
+module _ (n : NetTold) (of : List ℕ) (from : ℕ) (group : Workers) (next : Option ℕ) (at : IsAt n of from group) (is : IsNextOfAll group.first_out group.shares.items next) where
+  takers_here : length group.takers.items ≡ length group.inboxes.items
+  takers_here = as_long _ group.inboxes.items group.takers.items at.settled
 
   pub comes_no_sooner : WakesFrom from next
-  comes_no_sooner = is.greatest from at.first (each_from _ crew.shares.items from_share)
+  comes_no_sooner = is.greatest from at.first (each_from _ group.shares.items from_share)
     where
-      from_share : (v : ℕ) (s : Share) → slice_get crew.shares.items v ≡ Some s → (first : Option ℕ) → TellsNext s first → WakesFrom from first
+      from_share : (v : ℕ) (s : Share) → slice_get group.shares.items v ≡ Some s → (first : Option ℕ) → TellsNext s first → WakesFrom from first
       from_share v s e first tells =
-          let h : v < length crew.inboxes.items = subst (λ l. v < l) at.shares (inside crew.shares.items v s e) in
-          let t = there crew.takers.items v (subst (λ l. v < l) (sym takers_here) h) in
-          let here : IsWorkerAt n of from at.motes crew.first_out v s t.0 = subst (λ x. IsWorkerAt n of from at.motes crew.first_out v x t.0) (read crew.shares.items v s s e)
-          (subst (λ x. IsWorkerAt n of from at.motes crew.first_out v (get_or crew.shares.items v s) x) (read crew.takers.items v t.0 t.0 t.1) (at.each v h s t.0)) in
+          let h : v < length group.inboxes.items = subst (λ l. v < l) at.shares (inside group.shares.items v s e) in
+          let t = there group.takers.items v (subst (λ l. v < l) (sym takers_here) h) in
+          let here : IsWorkerAt n of from at.motes group.first_out v s t.0 = subst (λ x. IsWorkerAt n of from at.motes group.first_out v x t.0) (read group.shares.items v s s e)
+          (subst (λ x. IsWorkerAt n of from at.motes group.first_out v (get_or group.shares.items v s) x) (read group.takers.items v t.0 t.0 t.1) (at.each v h s t.0)) in
           (tells n of v from at.motes (taken_by t.0) here.keeps).wakes

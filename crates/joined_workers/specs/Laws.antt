@@ -5,8 +5,8 @@ use Rattle.mote_net.specs.Net.{NetTold}
 use Rattle.window_laws.specs.System.{RunsForward}
 use Rattle.window_laws.specs.Windows.{WakesFrom}
 use Rattle.net_agenda.specs.NetSystem.{system_of}
-use Rattle.copy_exchange.specs.declared.courier.Courier.{Courier}
-use Rattle.copy_exchange.specs.Couriers.{Together, SetsOut, ComesHome}
+use Rattle.copy_exchange.specs.declared.endpoint.Endpoint.{Endpoint}
+use Rattle.copy_exchange.specs.Endpoints.{Together, StartsAs, GathersDelivered}
 use Rattle.copy_exchange.specs.Inboxes.{Settled}
 use Rattle.all_workers.specs.declared.workers.Workers.{Workers}
 use Rattle.all_workers.specs.declared.worker.Worker.{Worker}
@@ -18,14 +18,14 @@ use Rattle.joined_workers.specs.Worker.{RunsWorker}
 -- The senders of all workers were created together, each worker ran through the window with its own, and then all
 -- senders were gathered.
 pub record RunsAll (n : NetTold) (of : List ℕ) (until : ℕ) (old new : Workers) : Type 0 where
-  pub couriers : List Courier
+  pub endpoints : List Endpoint
   pub done : List Worker
-  pub together : Together old.inboxes.items couriers
-  pub set_out : AllZip SetsOut old.takers.items couriers
-  pub ran : AllZip (RunsWorker n of old.inboxes.items until) (map worker_of (zip old.shares.items couriers)) done
+  pub together : Together old.inboxes.items endpoints
+  pub starts : AllZip StartsAs old.takers.items endpoints
+  pub ran : AllZip (RunsWorker n of old.inboxes.items until) (map worker_of (zip old.shares.items endpoints)) done
   pub shares : new.shares.items ≡ map (λ worker. worker.share) done
-  pub home : AllZip (ComesHome (map (λ (worker : Worker). worker.courier) done))
-      (map (λ (worker : Worker). worker.courier) done) new.takers.items
+  pub gathering : AllZip (GathersDelivered (map (λ (worker : Worker). worker.endpoint) done))
+      (map (λ (worker : Worker). worker.endpoint) done) new.takers.items
   pub settled : Settled new.inboxes.items new.takers.items
   pub inboxes : new.inboxes.items ≡ old.inboxes.items
   pub first : FirstOfAll done new.first_out
@@ -38,6 +38,6 @@ WindowMovesOn = (n : NetTold) → RunsForward (system_of n) → (of : List ℕ) 
 
 -- the next moment at which something comes isn't sooner than where the workers stand, and until then they stand
 abbrev pub StandsUntilNext : Type 0
-StandsUntilNext = (n : NetTold) → RunsForward (system_of n) → (of : List ℕ) (from : ℕ) (crew : Workers)
-    → (next : Option ℕ) → IsAt n of from crew → IsNextOfAll crew.first_out crew.shares.items next
-    → WakesFrom from next × ((moment : ℕ) → from ≤ moment → WakesFrom moment next → IsAt n of moment crew)
+StandsUntilNext = (n : NetTold) → RunsForward (system_of n) → (of : List ℕ) (from : ℕ) (group : Workers)
+    → (next : Option ℕ) → IsAt n of from group → IsNextOfAll group.first_out group.shares.items next
+    → WakesFrom from next × ((moment : ℕ) → from ≤ moment → WakesFrom moment next → IsAt n of moment group)

@@ -15,7 +15,7 @@ pub record FirstOfAll (workers : List Worker) (first : Option ℕ) : Type 0 wher
   pub greatest : (moment : ℕ) → Each (λ (worker : Worker). WakesFrom moment worker.first_out) workers
       → WakesFrom moment first
 
--- nothing comes before this moment, neither what lies in the inboxes nor what is to come to the shares
+-- nothing comes before this moment, neither what lies in the inboxes nor the pending events of the shares
 pub record IsNextOfAll (first_out : Option ℕ) (shares : List Share) (next : Option ℕ) : Type 0 where
   pub out : (moment : ℕ) → WakesFrom moment next → WakesFrom moment first_out
   pub each : Each (λ share. (first : Option ℕ) × TellsNext share first

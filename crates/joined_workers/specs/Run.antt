@@ -12,9 +12,9 @@ start_of_window end None = end + 1
 start_of_window end (Some moment) = min moment (end + 1)
 
 -- where the next window of these workers begins
-pub record BeginsAt (end : ℕ) (crew : Workers) (from : ℕ) : Type 0 where
+pub record BeginsAt (end : ℕ) (group : Workers) (from : ℕ) : Type 0 where
   pub next : Option ℕ
-  pub is : IsNextOfAll crew.first_out crew.shares.items next
+  pub is : IsNextOfAll group.first_out group.shares.items next
   pub start : from ≡ start_of_window end next
 
 -- one window of all workers, which begins when something comes and may last so long

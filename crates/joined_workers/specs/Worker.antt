@@ -6,9 +6,9 @@ use Rattle.mote_net.specs.Net.{NetTold}
 use Rattle.window_laws.specs.Windows.{WakesFrom}
 use Rattle.net_agenda.specs.NetSystem.{system_of}
 use Rattle.copy_inbox.specs.Handles.{InboxId}
-use Rattle.copy_exchange.specs.declared.courier.Courier.{Courier}
-use Rattle.copy_exchange.specs.Couriers.{IsCourier, Collects, Delivers}
-use Rattle.copy_exchange.specs.Desks.{taken_by, gathered_by}
+use Rattle.copy_exchange.specs.declared.endpoint.Endpoint.{Endpoint}
+use Rattle.copy_exchange.specs.Endpoints.{IsEndpoint, Collects, Delivers}
+use Rattle.copy_exchange.specs.Takers.{taken_by, gathered_by}
 use Rattle.copy_exchange.specs.Inboxes.{IsPlain}
 use Rattle.worker_cut.specs.Crossed.{is_own, IsDue}
 use Rattle.worker_window.specs.Share.{Motes, Keeps}
@@ -16,18 +16,18 @@ use Rattle.worker_window.specs.Window.{CanRun, RunsWindow, GoesOut}
 use Rattle.all_workers.specs.Workers.{IsCut, IsNotBefore}
 use Rattle.all_workers.specs.declared.worker.Worker.{Worker}
 
--- A worker that can run through a window: its share and its courier are those of one worker, its inbox has no marks,
+-- A worker that can run through a window: its share and its endpoint are those of one worker, its inbox has no marks,
 -- all that was sent to it is for its motes, and what it takes in comes no sooner than its share stands.
 pub record IsReady (n : NetTold) (of : List ℕ) (inboxes : List InboxId) (until : ℕ) (worker : Worker) : Type 0 where
   pub early : until ≤ 2 ^ 40
   pub cut : IsCut (length n.motes) (length inboxes) of
-  pub takes_in : (between : Courier) (arrived : List RadioCopy) → Collects worker.courier between arrived
+  pub takes_in : (between : Endpoint) (arrived : List RadioCopy) → Collects worker.endpoint between arrived
       → CanRun n of until worker.share arrived
-  pub same : worker.share.worker ≡ worker.courier.worker
-  pub courier : IsCourier inboxes worker.courier
-  pub plain : IsPlain worker.courier.taker
-  pub own : Each (λ (copy : RadioCopy). is_own of worker.courier.worker copy.to ≡ true)
-      (gathered_by worker.courier.taker)
+  pub same : worker.share.worker ≡ worker.endpoint.worker
+  pub endpoint : IsEndpoint inboxes worker.endpoint
+  pub plain : IsPlain worker.endpoint.taker
+  pub own : Each (λ (copy : RadioCopy). is_own of worker.endpoint.worker copy.to ≡ true)
+      (gathered_by worker.endpoint.taker)
 
 -- the moment at which the first of these copies arrives, if there are any
 pub record IsFirstOf (copies : List RadioCopy) (first : Option ℕ) : Type 0 where
@@ -38,14 +38,14 @@ pub record IsFirstOf (copies : List RadioCopy) (first : Option ℕ) : Type 0 whe
 pub record RunsWorker (n : NetTold) (of : List ℕ) (inboxes : List InboxId) (until : ℕ) (old new : Worker) : Type 0 where
   pub arrived : List RadioCopy
   pub sent : List RadioCopy
-  pub between : Courier
-  pub collects : Collects old.courier between arrived
-  pub delivers : Delivers of between new.courier sent
-  pub courier : IsCourier inboxes new.courier
+  pub between : Endpoint
+  pub collects : Collects old.endpoint between arrived
+  pub delivers : Delivers of between new.endpoint sent
+  pub endpoint : IsEndpoint inboxes new.endpoint
   pub runs : (from : ℕ) (motes : Motes)
-      → Keeps n of old.courier.worker from motes (taken_by old.courier.taker) old.share
+      → Keeps n of old.endpoint.worker from motes (taken_by old.endpoint.taker) old.share
       → from ≤ until → until ≤ from + (system_of n).lookahead
-      → Each (IsDue of old.courier.worker from) arrived
-      → RunsWindow n of old.courier.worker from until motes (taken_by new.courier.taker) new.share sent
-  pub out : Each (GoesOut n of old.courier.worker) sent
+      → Each (IsDue of old.endpoint.worker from) arrived
+      → RunsWindow n of old.endpoint.worker from until motes (taken_by new.endpoint.taker) new.share sent
+  pub out : Each (GoesOut n of old.endpoint.worker) sent
   pub first : IsFirstOf sent new.first_out

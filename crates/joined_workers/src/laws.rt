@@ -1,4 +1,4 @@
-//! Laws of windows by joins. Each is the contract of a function that does nothing.
+//! Laws of windows by joins. Each is a theorem, stated as the contract of an empty function.
 
 ghost use Rattle.joined_workers.specs.Laws.{StandsUntilNext, WindowMovesOn};
 

@@ -8,4 +8,4 @@ mod window;
 mod worker;
 
 pub use run::run_windows;
-pub use worker::{CrewWindow, Runner};
+pub use worker::{Runner, WorkersWindow};

@@ -1,4 +1,4 @@
-//! What is to come first.
+//! The first pending event.
 
 ghost use Rattle.std.specs.Prelude.{◌≡◌};
 ghost use Rattle.worker_window.specs.Next.{TellsNext};
@@ -8,8 +8,8 @@ use crate::worker::sooner;
 use all_workers::{Worker, Workers};
 use worker_window::Share;
 
-/// The moment of what is to come first to a worker's motes: a wrapper that gives the proof of the loop over all shares
-/// one clause.
+/// The moment of the first pending event of a worker's motes: a wrapper that gives the proof of the loop over all
+/// shares one clause.
 fn next_of(share: &Share) -> Option<u64>
     ensures { TellsNext share.now result }
 {
@@ -46,9 +46,9 @@ fn next_of_all(first_out: Option<u64>, shares: &[Share]) -> Option<u64>
     next
 }
 
-/// The moment of what is to come first, in the shares or the inboxes, if anything is.
-pub fn next_moment(crew: &Workers) -> Option<u64>
-    ensures { IsNextOfAll crew.now.first_out crew.now.shares.items result }
+/// The moment of the first pending event, in the shares or the inboxes, if there is one.
+pub fn next_moment(group: &Workers) -> Option<u64>
+    ensures { IsNextOfAll group.now.first_out group.now.shares.items result }
 {
-    next_of_all(crew.first_out, &crew.shares)
+    next_of_all(group.first_out, &group.shares)
 }

@@ -23,13 +23,13 @@ use window_run::Gate;
 
 /// Where the next window begins: at the least moment at which something comes, or after the end, where nothing comes up
 /// to the end.
-fn window_start(crew: &Workers, end: u64) -> u64
+fn window_start(group: &Workers, end: u64) -> u64
     requires { end ≤ latest_end }
-    ensures value { BeginsAt end crew.now result }
+    ensures value { BeginsAt end group.now result }
     ensures within { result ≤ end + 1 }
 {
     let after = end + 1;
-    match next_moment(crew) {
+    match next_moment(group) {
         Some(moment) => moment.min(after),
         None => after,
     }
@@ -49,27 +49,27 @@ pub fn run_windows<R, G>(
     of: &[u16],
     longest: u32,
     gate: &G,
-    crew: Workers,
+    group: Workers,
 ) -> Result<Workers, Refused>
 where
     R: Threads + Wait + RandomSource + AllocGlobal + Sync,
     G: Gate + Sync,
-    requires few { length crew.inboxes.items ≤ 16 }
-    requires at { IsAt (net_of net.now) of.now 0 crew }
-    requires plain { Each IsPlain crew.takers.items }
+    requires few { length group.inboxes.items ≤ 16 }
+    requires at { IsAt (net_of net.now) of.now 0 group }
+    requires plain { Each IsPlain group.takers.items }
     ensures at { let n = net_of net.now in IfOk result (λ done. IsAt n of.now (suc n.end) done) }
-    ensures inboxes { IfOk result (λ done. done.inboxes.items ≡ crew.inboxes.items) }
+    ensures inboxes { IfOk result (λ done. done.inboxes.items ≡ group.inboxes.items) }
     ensures windows { let n = net_of net.now in
-        IfOk result (RunsToEnd n of.now (length_of_window (system_of n).lookahead longest) crew) }
+        IfOk result (RunsToEnd n of.now (length_of_window (system_of n).lookahead longest) group) }
 {
     let end = net.end();
     let length = window_length(lookahead_of(net), longest);
-    let mut crew = crew;
-    let mut from = window_start(&crew, end);
+    let mut group = group;
+    let mut from = window_start(&group, end);
     'windows: while from <= end {
         let until = window_end(from, length, end);
-        crew = run_window(rt, alloc, net, of, until, gate, crew)?;
-        from = window_start(&crew, end);
+        group = run_window(rt, alloc, net, of, until, gate, group)?;
+        from = window_start(&group, end);
     }
-    Ok(crew)
+    Ok(group)
 }

@@ -6,16 +6,16 @@ ghost use Rattle.fork_join.specs.declared.work.Refused.TheVariants.{Memory};
 ghost use Rattle.mote_net.specs.Net.{net_of};
 ghost use Rattle.net_agenda.specs.NetSystem.{system_of};
 ghost use Rattle.window_laws.specs.System.{RunsForward};
-ghost use Rattle.copy_exchange.specs.Couriers.{AllReturn, ComesHome};
+ghost use Rattle.copy_exchange.specs.Endpoints.{AllReturn, GathersDelivered};
 ghost use Rattle.copy_exchange.specs.Inboxes.{IsPlain, Settled};
 ghost use Rattle.all_workers.specs.Workers.{IsAt};
 ghost use Rattle.joined_workers.specs.Laws.{RunsAll};
 ghost use Rattle.joined_workers.specs.Worker.{IsReady, RunsWorker};
 
 use crate::next::first_of_all;
-use crate::worker::{CrewWindow, Runner};
-use all_workers::{Worker, Workers, parted, set_out, workers_of};
-use copy_exchange::{Courier, gathered};
+use crate::worker::{Runner, WorkersWindow};
+use all_workers::{Worker, Workers, make_endpoints, split_workers, workers_of};
+use copy_exchange::{Endpoint, gather_window};
 use copy_inbox::{Inbox, Taker};
 use fork_join::{Refused, fork_join};
 use mote_net::Net;
@@ -26,19 +26,19 @@ use std::thread::Threads;
 use window_run::Gate;
 
 /// After a window: each worker's taker, which has gathered what was delivered to it. Out of memory is the one error.
-fn come_home<R: Wait>(
+fn gather_endpoints<R: Wait>(
     rt: &R,
     alloc: Global,
     inboxes: &[Inbox],
-    couriers: Vec<Courier>,
+    endpoints: Vec<Endpoint>,
 ) -> Result<Vec<Taker>, Refused>
-    requires { AllReturn inboxes.now couriers.items }
+    requires { AllReturn inboxes.now endpoints.items }
     ensures settled { IfOk result (λ takers. Settled inboxes.now takers.items) }
     ensures plain { IfOk result (λ takers. Each IsPlain takers.items) }
-    ensures came_home { IfOk result (λ takers. AllZip (ComesHome couriers.items) couriers.items takers.items) }
+    ensures gathers { IfOk result (λ takers. AllZip (GathersDelivered endpoints.items) endpoints.items takers.items) }
     ensures refused { IfErr result (λ reason. reason ≡ Memory) }
 {
-    match gathered(rt, alloc, inboxes, couriers) {
+    match gather_window(rt, alloc, inboxes, endpoints) {
         Ok(takers) => Ok(takers),
         Err(_) => Err(Refused::Memory),
     }
@@ -49,7 +49,7 @@ fn run_together<R, G>(
     rt: &R,
     alloc: Global,
     workers: Vec<Worker>,
-    window: CrewWindow<'_>,
+    window: WorkersWindow<'_>,
     gate: &G,
 ) -> Result<Vec<Worker>, Refused>
 where
@@ -71,16 +71,16 @@ fn run_all<R, G>(
     of: &[u16],
     until: u64,
     gate: &G,
-    crew: Workers,
+    group: Workers,
 ) -> Result<Workers, Refused>
 where
     R: Threads + Wait + RandomSource + AllocGlobal + Sync,
     G: Gate + Sync,
     requires early { until ≤ 2 ^ 40 }
-    requires few { length crew.inboxes.items ≤ 16 }
-    requires stands { (from : ℕ) × IsAt (net_of net.now) of.now from crew × (from ≤ until) }
-    requires plain { Each IsPlain crew.takers.items }
-    ensures runs { IfOk result (RunsAll (net_of net.now) of.now until crew) }
+    requires few { length group.inboxes.items ≤ 16 }
+    requires stands { (from : ℕ) × IsAt (net_of net.now) of.now from group × (from ≤ until) }
+    requires plain { Each IsPlain group.takers.items }
+    ensures runs { IfOk result (RunsAll (net_of net.now) of.now until group) }
     ensures plain { IfOk result (λ done. Each IsPlain done.takers.items) }
 {
     let Workers {
@@ -88,10 +88,10 @@ where
         inboxes,
         takers,
         first_out: _,
-    } = crew;
-    let couriers = set_out(alloc, &inboxes, takers)?;
-    let workers = workers_of(alloc, shares, couriers)?;
-    let window = CrewWindow {
+    } = group;
+    let endpoints = make_endpoints(alloc, &inboxes, takers)?;
+    let workers = workers_of(alloc, shares, endpoints)?;
+    let window = WorkersWindow {
         net,
         of,
         inboxes: &inboxes,
@@ -99,8 +99,8 @@ where
     };
     let done = run_together(rt, alloc, workers, window, gate)?;
     let first_out = first_of_all(&done);
-    let (shares, couriers) = parted(alloc, done)?;
-    let takers = come_home(rt, alloc, &inboxes, couriers)?;
+    let (shares, endpoints) = split_workers(alloc, done)?;
+    let takers = gather_endpoints(rt, alloc, &inboxes, endpoints)?;
     Ok(Workers {
         shares,
         inboxes,
@@ -123,21 +123,21 @@ pub(crate) fn run_window<R, G>(
     of: &[u16],
     until: u64,
     gate: &G,
-    crew: Workers,
+    group: Workers,
 ) -> Result<Workers, Refused>
 where
     R: Threads + Wait + RandomSource + AllocGlobal + Sync,
     G: Gate + Sync,
     requires early { until ≤ 2 ^ 40 }
-    requires few { length crew.inboxes.items ≤ 16 }
-    requires stands { (from : ℕ) × IsAt (net_of net.now) of.now from crew × (from ≤ until) }
-    requires plain { Each IsPlain crew.takers.items }
-    ensures runs { IfOk result (RunsAll (net_of net.now) of.now until crew) }
+    requires few { length group.inboxes.items ≤ 16 }
+    requires stands { (from : ℕ) × IsAt (net_of net.now) of.now from group × (from ≤ until) }
+    requires plain { Each IsPlain group.takers.items }
+    ensures runs { IfOk result (RunsAll (net_of net.now) of.now until group) }
     ensures moves { let n = net_of net.now in RunsForward (system_of n) → IfOk result
-        (λ done. (from : ℕ) → IsAt n of.now from crew → from < until → until ≤ from + (system_of n).lookahead
+        (λ done. (from : ℕ) → IsAt n of.now from group → from < until → until ≤ from + (system_of n).lookahead
         → IsAt n of.now until done) }
-    ensures inboxes { IfOk result (λ done. done.inboxes.items ≡ crew.inboxes.items) }
+    ensures inboxes { IfOk result (λ done. done.inboxes.items ≡ group.inboxes.items) }
     ensures plain { IfOk result (λ done. Each IsPlain done.takers.items) }
 {
-    run_all(rt, alloc, net, of, until, gate, crew)
+    run_all(rt, alloc, net, of, until, gate, group)
 }

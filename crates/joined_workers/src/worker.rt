@@ -8,7 +8,7 @@ ghost use Rattle.window_laws.specs.Windows.{WakesFrom};
 ghost use Rattle.joined_workers.specs.Worker.{IsReady, RunsWorker, IsFirstOf};
 ghost use Rattle.all_workers.specs.Workers.{IsNotBefore};
 
-use all_workers::{Worker, refused};
+use all_workers::{Worker, refusal_of};
 use copy_inbox::Inbox;
 use fork_join::{Refused, Work};
 use mote_net::Net;
@@ -19,7 +19,7 @@ use window_run::Gate;
 
 /// What all workers of a window have in common.
 #[derive(Clone, Copy)]
-pub struct CrewWindow<'a> {
+pub struct WorkersWindow<'a> {
     pub net: &'a Net,
     /// The worker of each mote.
     pub of: &'a [u16],
@@ -33,7 +33,7 @@ pub struct CrewWindow<'a> {
 pub struct Runner<'a, R, G> {
     pub rt: &'a R,
     pub gate: &'a G,
-    pub window: CrewWindow<'a>,
+    pub window: WorkersWindow<'a>,
 }
 
 impl<R, G> Drop for Runner<'_, R, G> {
@@ -78,7 +78,7 @@ fn first_of(copies: &[RadioCopy]) -> Option<u64>
 fn run_worker<R: Wait + RandomSource + AllocGlobal, G: Gate>(
     rt: &R,
     gate: &G,
-    window: &CrewWindow<'_>,
+    window: &WorkersWindow<'_>,
     worker: Worker,
 ) -> Result<Worker, Refused>
     requires { IsReady (net_of window.now.net.now) window.now.of.now window.now.inboxes.now window.now.until worker }
@@ -89,24 +89,24 @@ fn run_worker<R: Wait + RandomSource + AllocGlobal, G: Gate>(
 {
     let Worker {
         mut share,
-        mut courier,
+        mut endpoint,
         first_out: _,
     } = worker;
-    let Ok(arrived) = courier.collect(rt, window.inboxes) else {
+    let Ok(arrived) = endpoint.collect(rt, window.inboxes) else {
         return Err(Refused::Memory);
     };
     let ran = share.run_window(rt, window.net, window.of, arrived, window.until, gate);
     let sent = match ran {
         Ok(sent) => sent,
-        Err(error) => return Err(refused(error)),
+        Err(error) => return Err(refusal_of(error)),
     };
     let first_out = first_of(&sent);
-    let Ok(()) = courier.deliver(rt, window.inboxes, window.of, sent) else {
+    let Ok(()) = endpoint.deliver(rt, window.inboxes, window.of, sent) else {
         return Err(Refused::Memory);
     };
     Ok(Worker {
         share,
-        courier,
+        endpoint,
         first_out,
     })
 }
@@ -123,7 +123,7 @@ impl<R: Wait + RandomSource + AllocGlobal, G: Gate> Work<Worker> for Runner<'_, 
     }
 
     fn may_start(&self, worker: &Worker) -> bool {
-        self.gate.start(worker.courier.worker)
+        self.gate.start(worker.endpoint.worker)
     }
 
     // No worker waits for another within a window.

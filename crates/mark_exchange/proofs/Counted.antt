@@ -7,9 +7,9 @@ use Rattle.radio_packet.specs.declared.copy.RadioCopy.{RadioCopy}
 use Rattle.copy_inbox.specs.declared.items.Carried.{Carried}
 use Rattle.copy_inbox.specs.declared.items.Carried.TheVariants.{Packet, Mark}
 use Rattle.copy_inbox.specs.declared.items.Item.{Item}
-use Rattle.copy_inbox.specs.declared.rule.Desk.{Desk}
+use Rattle.copy_inbox.specs.declared.rule.TakerState.{TakerState}
 use Rattle.copy_inbox.specs.Items.{copies_of, part}
-use Rattle.copy_inbox.specs.Handles.{TakerView, after_taking, IsNextTaken, desk_with}
+use Rattle.copy_inbox.specs.Handles.{TakerView, after_taking, IsNextTaken, state_with}
 use Rattle.copy_inbox.proofs.Parts.{part-append, part-here, part-else}
 use Rattle.copy_exchange.proofs.Lists.{each_join}
 use Rattle.copy_exchange.proofs.Parts.{copies-append}
@@ -37,7 +37,7 @@ few_marks (Packet c ∷ ws) = let h = few_marks ws in omega arith
 few_marks (Mark n ∷ ws) = let h = few_marks ws in omega arith
 
 -- the count doesn't overflow
-pub count_fits : (marks : List ℕ) (d : Desk) (x : Item) (n m : ℕ) → Counts marks d → IsNextTaken d x → x.what ≡ Mark n → m ≡ get_or marks x.sender m → m + 1 ≤ 2 ^ 62
+pub count_fits : (marks : List ℕ) (d : TakerState) (x : Item) (n m : ℕ) → Counts marks d → IsNextTaken d x → x.what ≡ Mark n → m ≡ get_or marks x.sender m → m + 1 ≤ 2 ^ 62
 count_fits marks d x n m c next is at =
     let e = at ∙ c.each x.sender m next.number in
     let here = marks_here x.sender d.taken x refl ∙ ap (λ w. marks_of x.sender d.taken + marks_in (w ∷ [])) is in
@@ -45,7 +45,7 @@ count_fits marks d x n m c next is at =
     let few = next.few in
     omega arith
 
-pub counts_packet : (marks : List ℕ) (d : Desk) (x : Item) (copy : RadioCopy) → Counts marks d → IsNextTaken d x → x.what ≡ Packet copy → Counts marks (desk_with d x)
+pub counts_packet : (marks : List ℕ) (d : TakerState) (x : Item) (copy : RadioCopy) → Counts marks d → IsNextTaken d x → x.what ≡ Packet copy → Counts marks (state_with d x)
 counts_packet marks d x copy c next is = record {
   all = c.all;
   each = λ s none lt. c.each s none lt ∙ ⊎_elim
@@ -55,7 +55,7 @@ counts_packet marks d x copy c next is = record {
       (eqb_tells x.sender s);
 }
 
-pub counts_mark : (marks : List ℕ) (d : Desk) (x : Item) (n m : ℕ) → Counts marks d → IsNextTaken d x → x.what ≡ Mark n → m ≡ get_or marks x.sender m → Counts (set marks x.sender (m + 1)) (desk_with d x)
+pub counts_mark : (marks : List ℕ) (d : TakerState) (x : Item) (n m : ℕ) → Counts marks d → IsNextTaken d x → x.what ≡ Mark n → m ≡ get_or marks x.sender m → Counts (set marks x.sender (m + 1)) (state_with d x)
 counts_mark marks d x n m c next is at =
     let all = c.all in
     let number = next.number in
@@ -78,22 +78,22 @@ module _ (of : List ℕ) (worker from : ℕ) where
   takes_none t = record {
     items = [];
     made = tt;
-    taker = λ i. record { inbox = t.inbox; desk = record { marked = t.desk.marked; made = t.desk.made; taken = sym (append-nil t.desk.taken) i; gathered = t.desk.gathered } };
+    taker = λ i. record { inbox = t.inbox; state = record { marked = t.state.marked; made = t.state.made; taken = sym (append-nil t.state.taken) i; gathered = t.state.gathered } };
     arrived = refl;
     due = tt;
   }
 
-  pub takes_more : (old mid new : TakerView) (x : Item) (copies more : List RadioCopy) → TakesDue of worker from old mid copies → x.sender < mid.desk.made → new ≡ after_taking mid (x ∷ []) → AddsCopy of worker from x copies more
+  pub takes_more : (old mid new : TakerView) (x : Item) (copies more : List RadioCopy) → TakesDue of worker from old mid copies → x.sender < mid.state.made → new ≡ after_taking mid (x ∷ []) → AddsCopy of worker from x copies more
       → TakesDue of worker from old new more
   takes_more old mid new x copies more h lt e a =
       let P : List RadioCopy → Type 0 = λ l. Each (IsDue of worker from) l in
-      let same : mid.desk.made ≡ old.desk.made = ap (λ (t : TakerView). t.desk.made) h.taker in
+      let same : mid.state.made ≡ old.state.made = ap (λ (t : TakerView). t.state.made) h.taker in
       let Q : ℕ → Type 0 = λ made. x.sender < made in
       record {
         items = h.items ++ x ∷ [];
-        made = each_join (λ (y : Item). y.sender < old.desk.made) h.items (x ∷ []) h.made (subst Q same lt, tt);
+        made = each_join (λ (y : Item). y.sender < old.state.made) h.items (x ∷ []) h.made (subst Q same lt, tt);
         taker = e ∙ (ap (λ t. after_taking t (x ∷ [])) h.taker
-            ∙ (λ i. record { inbox = old.inbox; desk = record { marked = old.desk.marked; made = old.desk.made; taken = append_assoc old.desk.taken h.items (x ∷ []) i; gathered = old.desk.gathered } }));
+            ∙ (λ i. record { inbox = old.inbox; state = record { marked = old.state.marked; made = old.state.made; taken = append_assoc old.state.taken h.items (x ∷ []) i; gathered = old.state.gathered } }));
         arrived = a.adds ∙ (ap (λ l. l ++ copies_of (x ∷ [])) h.arrived ∙ sym (copies-append h.items (x ∷ [])));
         due = subst P (sym a.adds) (each_join (IsDue of worker from) copies (copies_of (x ∷ [])) h.due a.due);
       }
@@ -120,6 +120,6 @@ takes_undue of worker from old mid new x copies h e undue = record {
   items = h.items;
   last = x;
   taker = e ∙ (ap (λ t. after_taking t (x ∷ [])) h.taker
-      ∙ (λ i. record { inbox = old.inbox; desk = record { marked = old.desk.marked; made = old.desk.made; taken = append_assoc old.desk.taken h.items (x ∷ []) i; gathered = old.desk.gathered } }));
+      ∙ (λ i. record { inbox = old.inbox; state = record { marked = old.state.marked; made = old.state.made; taken = append_assoc old.state.taken h.items (x ∷ []) i; gathered = old.state.gathered } }));
   undue = undue;
 }

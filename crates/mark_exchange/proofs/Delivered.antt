@@ -1,18 +1,18 @@
--- The courier of a worker for a whole run, window by window.
+-- The endpoint of a worker for a whole run, window by window.
 use Rattle.std.proofs.Common.{◌≡◌, ◌==◌, ℕ, List, [], ◌∷◌, ◌++◌, map, filter, ap, ◌∙◌, append_assoc}
 use Rattle.radio_packet.specs.declared.copy.RadioCopy.{RadioCopy}
 use Rattle.worker_cut.specs.Crossed.{is_to}
 use Rattle.copy_inbox.specs.declared.items.Carried.TheVariants.{Packet, Mark}
 use Rattle.copy_inbox.specs.Handles.{InboxId, TakerView}
-use Rattle.copy_exchange.specs.declared.courier.Courier.{Courier}
-use Rattle.copy_exchange.specs.Couriers.{IsSeated, Stays, PushesOut, PushesMarks, pushed_to, seat_of}
+use Rattle.copy_exchange.specs.declared.endpoint.Endpoint.{Endpoint}
+use Rattle.copy_exchange.specs.Endpoints.{IsSeated, Stays, PushesOut, PushesMarks, pushed_to, seat_of}
 use Rattle.copy_exchange.proofs.Delivered.{stays_on}
 use Rattle.copy_exchange.proofs.Marked.{seated_stays}
 use Rattle.mark_exchange.specs.Delivers.{PushesWindow}
 use Rattle.mark_exchange.specs.Due.{TakesDue}
 
 -- first the copies, and then the mark
-pub pushes_window : (of : List ℕ) (workers window : ℕ) (a b c : Courier) (copies : List RadioCopy) → PushesOut of a b copies → PushesMarks workers window b c → PushesWindow of workers window a c copies
+pub pushes_window : (of : List ℕ) (workers window : ℕ) (a b c : Endpoint) (copies : List RadioCopy) → PushesOut of a b copies → PushesMarks workers window b c → PushesWindow of workers window a c copies
 pushes_window of workers window a b c copies out marks = record {
   stays = stays_on a b c out.stays marks.stays;
   taker = marks.taker ∙ out.taker;
@@ -22,17 +22,17 @@ pushes_window of workers window a b c copies out marks = record {
 }
 
 -- what it takes changes no seat
-pub takes_stays : (of : List ℕ) (from : ℕ) (old new : Courier) (copies : List RadioCopy) → TakesDue of old.worker from old.taker new.taker copies → new.worker ≡ old.worker → new.senders ≡ old.senders → Stays old new
+pub takes_stays : (of : List ℕ) (from : ℕ) (old new : Endpoint) (copies : List RadioCopy) → TakesDue of old.worker from old.taker new.taker copies → new.worker ≡ old.worker → new.senders ≡ old.senders → Stays old new
 takes_stays of from old new copies took worker senders = record {
   worker = worker;
   inbox = ap (λ (t : TakerView). t.inbox) took.taker;
-  marked = ap (λ (t : TakerView). t.desk.marked) took.taker;
-  made = ap (λ (t : TakerView). t.desk.made) took.taker;
-  gathered = ap (λ (t : TakerView). t.desk.gathered) took.taker;
+  marked = ap (λ (t : TakerView). t.state.marked) took.taker;
+  made = ap (λ (t : TakerView). t.state.made) took.taker;
+  gathered = ap (λ (t : TakerView). t.state.gathered) took.taker;
   seats = ap (λ s. map seat_of s.items) senders;
 }
 
-pub takes_seated : (inboxes : List InboxId) (of : List ℕ) (from : ℕ) (old new : Courier) (copies : List RadioCopy) → TakesDue of old.worker from old.taker new.taker copies → new.worker ≡ old.worker → new.senders ≡ old.senders
+pub takes_seated : (inboxes : List InboxId) (of : List ℕ) (from : ℕ) (old new : Endpoint) (copies : List RadioCopy) → TakesDue of old.worker from old.taker new.taker copies → new.worker ≡ old.worker → new.senders ≡ old.senders
     → IsSeated inboxes old → IsSeated inboxes new
 takes_seated inboxes of from old new copies took worker senders seated =
     seated_stays inboxes old new (takes_stays of from old new copies took worker senders) seated

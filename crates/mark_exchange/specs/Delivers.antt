@@ -1,14 +1,14 @@
--- What a worker hands the others in one window.
+-- What a worker delivers to the others in one window.
 use Rattle.std.specs.Prelude.{◌≡◌, ℕ, ◌<◌, ◌==◌, false, List, [], ◌∷◌, ◌++◌, map, filter}
 use Rattle.radio_packet.specs.declared.copy.RadioCopy.{RadioCopy}
 use Rattle.worker_cut.specs.Crossed.{is_to}
 use Rattle.copy_inbox.specs.declared.items.Carried.TheVariants.{Packet, Mark}
-use Rattle.copy_exchange.specs.declared.courier.Courier.{Courier}
-use Rattle.copy_exchange.specs.Couriers.{Stays, pushed_to}
+use Rattle.copy_exchange.specs.declared.endpoint.Endpoint.{Endpoint}
+use Rattle.copy_exchange.specs.Endpoints.{Stays, pushed_to}
 
--- to each other of so many workers it pushed those of the copies that are for that worker's motes, in order, and behind
+-- to each other of so many workers it pushed those of the copies that are for that worker's motes, in order, and after
 -- them the mark of the window
-pub record PushesWindow (of : List ℕ) (workers window : ℕ) (old new : Courier) (copies : List RadioCopy) : Type 0 where
+pub record PushesWindow (of : List ℕ) (workers window : ℕ) (old new : Endpoint) (copies : List RadioCopy) : Type 0 where
   pub stays : Stays old new
   pub taker : new.taker ≡ old.taker
   pub pushes : (v : ℕ) → v < workers → (v == old.worker) ≡ false

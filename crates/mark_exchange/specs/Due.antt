@@ -10,17 +10,17 @@ use Rattle.copy_inbox.specs.Handles.{TakerView, after_taking}
 use Rattle.mark_exchange.specs.declared.take.MarkError.{MarkError}
 use Rattle.mark_exchange.specs.declared.take.MarkError.TheVariants.{Memory, Stopped, Undue}
 
--- the item carries a copy that isn't due
+-- the item is a copy that isn't due
 abbrev pub IsUndue : (of : List ℕ) → (worker from : ℕ) → Item → Type 0
 IsUndue of worker from x = (copy : RadioCopy) × (x.what ≡ Packet copy) × (IsDue of worker from copy → ⊥)
 
--- why an item wasn't taken in: memory was refused for a copy that is due, or the copy isn't due
+-- why an item wasn't taken in: an allocation failed for a copy that is due, or the copy isn't due
 abbrev pub Refuses : (of : List ℕ) → (worker from : ℕ) → Item → MarkError → Type 0
 Refuses of worker from x Memory = Each (IsDue of worker from) (copies_of (x ∷ []))
 Refuses of worker from x Stopped = ⊥
 Refuses of worker from x Undue = IsUndue of worker from x
 
--- the copy that the item carries, if any, is behind the others, and is due
+-- the copy of the item, if there is one, was appended to the others, and is due
 pub record AddsCopy (of : List ℕ) (worker from : ℕ) (x : Item) (old new : List RadioCopy) : Type 0 where
   pub adds : new ≡ old ++ copies_of (x ∷ [])
   pub due : Each (IsDue of worker from) (copies_of (x ∷ []))
@@ -28,12 +28,12 @@ pub record AddsCopy (of : List ℕ) (worker from : ℕ) (x : Item) (old new : Li
 -- items of senders that the taker made were taken, these are their copies, in order, and each is due
 pub record TakesDue (of : List ℕ) (worker from : ℕ) (old new : TakerView) (copies : List RadioCopy) : Type 0 where
   pub items : List Item
-  pub made : Each (λ (x : Item). x.sender < old.desk.made) items
+  pub made : Each (λ (x : Item). x.sender < old.state.made) items
   pub taker : new ≡ after_taking old items
   pub arrived : copies ≡ copies_of items
   pub due : Each (IsDue of worker from) copies
 
--- the last of the items that were taken carries a copy that isn't due
+-- the last of the items that were taken is a copy that isn't due
 pub record TakesUndue (of : List ℕ) (worker from : ℕ) (old new : TakerView) : Type 0 where
   pub items : List Item
   pub last : Item

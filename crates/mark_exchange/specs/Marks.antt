@@ -1,7 +1,7 @@
 -- Marks among what was pushed and taken.
 use Rattle.std.specs.Prelude.{◌≡◌, ℕ, ◌<◌, List, length, slice_index_or}
 use Rattle.copy_inbox.specs.declared.items.Item.{Item}
-use Rattle.copy_inbox.specs.declared.rule.Desk.{Desk}
+use Rattle.copy_inbox.specs.declared.rule.TakerState.{TakerState}
 use Rattle.copy_inbox.specs.Items.{part}
 use Rattle.mark_exchange.specs.Pushes.{marks_in}
 
@@ -10,7 +10,7 @@ abbrev pub marks_of : ℕ → List Item → ℕ
 marks_of s taken = marks_in (part s taken)
 
 -- these are the counts for each sender that the taker made
-pub record Counts (marks : List ℕ) (d : Desk) : Type 0 where
+pub record Counts (marks : List ℕ) (d : TakerState) : Type 0 where
   pub all : length marks ≡ d.made
   pub each : (s none : ℕ) → s < d.made → slice_index_or marks s none ≡ marks_of s d.taken
 

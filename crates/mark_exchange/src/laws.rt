@@ -1,4 +1,4 @@
-//! Laws of marks. Each is the contract of a function that does nothing.
+//! Laws of marks. Each is a theorem, stated as the contract of an empty function.
 
 ghost use Rattle.mark_exchange.specs.Laws.{AllIsTaken, EarlyIsUnseen};
 

@@ -1,8 +1,8 @@
 //! Taking until the marks of a window have come.
 
 ghost use Rattle.std.specs.Prelude.{◌≡◌, ◌↔◌, IfOk, IfErr, OnOk, OnErr, IsTrue};
-ghost use Rattle.copy_inbox.specs.declared.rule.Desk.{Desk};
-ghost use Rattle.copy_inbox.specs.Handles.{IsNextTaken, desk_with};
+ghost use Rattle.copy_inbox.specs.declared.rule.TakerState.{TakerState};
+ghost use Rattle.copy_inbox.specs.Handles.{IsNextTaken, state_with};
 ghost use Rattle.worker_cut.specs.Crossed.{is_own, IsDue};
 ghost use Rattle.mark_exchange.specs.declared.take.MarkError.TheVariants.{Stopped, Undue};
 ghost use Rattle.mark_exchange.specs.Due.{AddsCopy, Refuses, TakesDue, TakesUndue};
@@ -87,9 +87,10 @@ fn hear(
     arrived: &mut Vec<RadioCopy>,
     item: Item,
 ) -> Result<(), MarkError>
-    requires { (d : Desk) × Counts marks.old.items d × IsNextTaken d item }
+    requires { (d : TakerState) × Counts marks.old.items d × IsNextTaken d item }
     ensures counts { OnOk result
-        ((d : Desk) → Counts marks.old.items d → IsNextTaken d item → Counts marks.new.items (desk_with d item)) }
+        ((d : TakerState) → Counts marks.old.items d → IsNextTaken d item
+        → Counts marks.new.items (state_with d item)) }
     ensures arrived { OnOk result
         (AddsCopy standing.now.of.now standing.now.worker standing.now.from item arrived.old.items arrived.new.items) }
     ensures refused { IfErr result (Refuses standing.now.of.now standing.now.worker standing.now.from item) }
@@ -119,10 +120,10 @@ fn take_waiting<R: Wait>(
     waiting: &mut Waiting,
 ) -> Result<Vec<RadioCopy>, MarkError>
     requires inbox { taker.old.inbox ≡ inbox.now }
-    requires counts { Counts marks.old.items taker.old.desk }
+    requires counts { Counts marks.old.items taker.old.state }
     ensures took { IfOk result (λ copies. TakesDue standing.now.of.now standing.now.worker standing.now.from taker.old
         taker.new copies.items) }
-    ensures counts { OnOk result (Counts marks.new.items taker.new.desk) }
+    ensures counts { OnOk result (Counts marks.new.items taker.new.state) }
     ensures marked { OnOk result (AllPast window marks.new.items) }
     ensures stopped { IfErr result (λ error. error ≡ Stopped → IsTrue waiting.new.stopped) }
     ensures undue { IfErr result
@@ -158,10 +159,10 @@ pub fn take_marks<R: Wait>(
     waiting: &mut Waiting,
 ) -> Result<Vec<RadioCopy>, MarkError>
     requires inbox { taker.old.inbox ≡ inbox.now }
-    requires counts { Counts marks.old.items taker.old.desk }
+    requires counts { Counts marks.old.items taker.old.state }
     ensures took { IfOk result (λ copies. TakesDue standing.now.of.now standing.now.worker standing.now.from taker.old
         taker.new copies.items) }
-    ensures counts { OnOk result (Counts marks.new.items taker.new.desk) }
+    ensures counts { OnOk result (Counts marks.new.items taker.new.state) }
     ensures marked { OnOk result (AllPast window marks.new.items) }
     ensures undue { IfErr result
         (λ error. error ≡ Undue → TakesUndue standing.now.of.now standing.now.worker standing.now.from taker.old

@@ -150,7 +150,7 @@ abbrev pub TurnsAreRuns : Type 0
 TurnsAreRuns = (p : Plan) (senders : Senders p) (turns : List Turn) (c : Flagged)
     → RunTurns p senders start_flagged turns c → RunQueued p senders start_queued (steps_in turns) c.queued
 
--- where no turn is left but a failure, each worker is gone or behind all its windows
+-- where no turn is left but a failure, each worker is gone or has finished all its windows
 abbrev pub FlaggedStuckIsOver : Type 0
 FlaggedStuckIsOver = (p : Plan) (senders : Senders p) (turns : List Turn) (c : Flagged)
     → RunTurns p senders start_flagged turns c → IsStuckFlagged p senders c

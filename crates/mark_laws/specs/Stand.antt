@@ -6,9 +6,9 @@ use Rattle.copy_inbox.specs.Items.{BeginsWith}
 use Rattle.mark_exchange.specs.Pushes.{marks_in, pushes}
 use Rattle.mark_laws.specs.State.{Plan, State, IsPair}
 
--- From one worker to another: `behind` windows lie behind the first, `begun` behind the other. The first has pushed
--- the whole of the windows behind it, and nothing of a window that it hasn't begun. The other has taken a beginning of
--- that, with the marks of the windows behind itself.
+-- From one worker to another: the first has finished `behind` windows, the other `begun`. The first has pushed all of
+-- the windows that it has finished, and nothing of a window that it hasn't begun. The other has taken a prefix of that,
+-- with the marks of the windows that it itself has finished.
 pub record IsLine (windows behind begun : ℕ) (sent : ℕ → List RadioCopy) (pushed taken : List Carried) : Type 0 where
   pub whole : BeginsWith pushed (pushes behind sent)
   pub front : BeginsWith (pushes (min (suc behind) windows) sent) pushed

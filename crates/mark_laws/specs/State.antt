@@ -9,7 +9,7 @@ pub record Plan : Type 0 where
   pub windows : ℕ
   pub sent : (from to window : ℕ) → List RadioCopy
 
--- how many windows lie behind each worker, what one has pushed to another so far, and what the other has taken of it
+-- how many windows each worker has finished, what one has pushed to another so far, and what the other has taken of it
 pub record State : Type 0 where
   pub behind : ℕ → ℕ
   pub pushed : (from to : ℕ) → List Carried

@@ -6,7 +6,7 @@ use Rattle.mark_exchange.specs.Pushes.{marks_in, pushes}
 use Rattle.mark_laws.specs.State.{Plan, State, IsPair, set_at, set_pair, sum_below}
 
 -- one step of one worker, which is named first: it pushes an item to another, it takes an item of another, or it is
--- done with its window and goes on to the next, or behind them all
+-- done with its window and goes on to the next, or ends after the last
 pub data Event : Type 0 where
   Push : (worker to : ℕ) → Carried → Event
   Take : (worker of : ℕ) → Carried → Event
@@ -17,7 +17,7 @@ worker_of (Push v u x) = v
 worker_of (Take v u x) = v
 worker_of (GoOn v) = v
 
--- the worker has pushed all of the windows behind it and of the one that it is in
+-- the worker has pushed all of the windows that it has finished and of the one that it is in
 abbrev pub HasPushed : Plan → State → ℕ → Type 0
 HasPushed p w v = (u : ℕ) → IsPair p v u → w.pushed v u ≡ pushes (suc (w.behind v)) (p.sent v u)
 
@@ -66,7 +66,7 @@ Run p old (e ∷ events) new = MayHappen p old e × Run p (after old e) events n
 abbrev pub IsStuck : Plan → State → Type 0
 IsStuck p w = (e : Event) → MayHappen p w e → ⊥
 
--- all windows lie behind all workers, and all that they were to push was pushed and taken
+-- all workers have finished all windows, and all that they were to push was pushed and taken
 pub record IsAtEnd (p : Plan) (w : State) : Type 0 where
   pub behind : (v : ℕ) → v < p.workers → w.behind v ≡ p.windows
   pub pushed : (v u : ℕ) → IsPair p v u → w.pushed v u ≡ pushes p.windows (p.sent v u)

@@ -1,4 +1,4 @@
-//! The laws. Each is the contract of a function that does nothing.
+//! The laws. Each is a theorem, stated as the contract of an empty function.
 
 ghost use Rattle.mark_laws.specs.Laws.{AllStand, OneWindowAhead, SomeoneGoesOn, StuckIsAtEnd, EndIsStuck};
 ghost use Rattle.mark_laws.specs.Laws.{RunsAreBounded, FullRunsAreOfOneLength, EveryRunCanEnd, NobodyIsHeldUp};
@@ -7,8 +7,9 @@ ghost use Rattle.mark_laws.specs.Laws.{EachTakenPasses, TwoWindowsLieThere, Queu
 ghost use Rattle.mark_laws.specs.Laws.{QueuedStuckIsAtEnd, EveryQueuedRunCanEnd, OwnOrderDoesNotStick};
 ghost use Rattle.mark_laws.specs.Laws.{TurnsAreRuns, FlaggedStuckIsOver, UnlessOneFails, TurnsAreBounded};
 
-/// Whatever turns the workers take, each has pushed the whole of the windows behind it and nothing of a window that it
-/// hasn't begun, and each other has taken a beginning of that, with the marks of the windows behind itself.
+/// Whatever turns the workers take, each has pushed all of the windows that it has finished and nothing of a window
+/// that it hasn't begun, and each other has taken a prefix of that, with the marks of the windows that it itself has
+/// finished.
 pub fn all_stand()
     ensures { AllStand }
 {}
@@ -82,8 +83,8 @@ pub fn queues_do_not_stick()
 {}
 
 /// The same where a worker may fail or never start, which the others see by a flag once they wait in vain: when no
-/// turn is left but a failure, each worker is gone or behind all its windows; nobody goes unless one has failed; and
-/// there are only so many turns.
+/// turn is left but a failure, each worker is gone or has finished all its windows; nobody goes unless one has failed;
+/// and there are only so many turns.
 pub fn failures_do_not_stick()
     ensures runs { TurnsAreRuns }
     ensures over { FlaggedStuckIsOver }

@@ -117,8 +117,8 @@ module _ (n : NetTold) (of : List ℕ) (width windows workers : ℕ) (all : AllR
   owns y ly ny =
       let are = all.are_senders u lu in
       let w = are.of_worker y ly ny in
-      let number : number_of (all.sender u y) ≡ w.0.post.number = ap number_of w.1 in
-      let low : w.0.post.number < k = slice_get_within (all.senders u) w.0.post.number w.0 w.2 in
+      let number : number_of (all.sender u y) ≡ w.0.state.number = ap number_of w.1 in
+      let low : w.0.state.number < k = slice_get_within (all.senders u) w.0.state.number w.0 w.2 in
       let lt : number_of (all.sender u y) < k = omega arith in (
         lt,
         elim (cases_eq (owner (number_of (all.sender u y))) y) [

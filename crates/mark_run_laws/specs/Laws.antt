@@ -14,7 +14,7 @@ use Rattle.all_workers.specs.Workers.{IsCut}
 use Rattle.marked_workers.specs.All.{AllRan, IsOfTakers}
 use Rattle.marked_workers.specs.Bounds.{bound, windows_of}
 use Rattle.marked_workers.specs.Run.{RunsAllMarked}
-use Rattle.marked_workers.specs.Story.{Story}
+use Rattle.marked_workers.specs.WorkerHistory.{WorkerHistory}
 use Rattle.mark_run_laws.specs.Plan.{plan_of, number_of, state_of, RanWindow}
 
 -- what the contract of `run_marked` says of a run is enough: its takers are those of what all threads did
@@ -27,25 +27,25 @@ EachRunHasAll = (n : NetTold) (of : List ℕ) (width : ℕ) (old new : Workers)
 -- the threads end at the end of the protocol
 abbrev pub RunsEndAtEnd : Type 0
 RunsEndAtEnd = (n : NetTold) (of : List ℕ) (width windows workers : ℕ) (all : AllRan n of width windows workers)
-    → IsAtEnd (plan_of of windows workers all.story) (state_of n of width windows workers all)
+    → IsAtEnd (plan_of of windows workers all.history) (state_of n of width windows workers all)
 
 -- when a worker began the window after this one, it had taken the marks of this one from each other
 abbrev pub MarksLeadOn : Type 0
 MarksLeadOn = (n : NetTold) (of : List ℕ) (width windows workers : ℕ) (all : AllRan n of width windows workers)
-    → (window other worker : ℕ) → window < windows → IsPair (plan_of of windows workers all.story) other worker
-    → window < marks_in (part (number_of (all.sender worker other)) ((all.story worker).taken (suc window)))
+    → (window other worker : ℕ) → window < windows → IsPair (plan_of of windows workers all.history) other worker
+    → window < marks_in (part (number_of (all.sender worker other)) ((all.history worker).taken (suc window)))
 
 -- no two senders on an inbox have one number
 abbrev pub SendersAreApart : Type 0
 SendersAreApart = (n : NetTold) (of : List ℕ) (width windows workers : ℕ) (all : AllRan n of width windows workers)
     → (v w u : ℕ)
-    → IsPair (plan_of of windows workers all.story) v u → IsPair (plan_of of windows workers all.story) w u
+    → IsPair (plan_of of windows workers all.history) v u → IsPair (plan_of of windows workers all.history) w u
     → number_of (all.sender u v) ≡ number_of (all.sender u w) → v ≡ w
 
 -- where each other worker ran its motes in each window that it has begun, each copy that a worker may take is due
 abbrev pub NoCopyIsUndue : Type 0
-NoCopyIsUndue = (n : NetTold) (of : List ℕ) (width windows workers : ℕ) (story : ℕ → Story) (w : State)
-    → IsReached (plan_of of windows workers story) w → (worker other : ℕ)
-    → ((k : ℕ) → k ≤ w.behind other → k < windows → RanWindow n of width other (story other) k)
-    → (copy : RadioCopy) → MayTake (plan_of of windows workers story) w worker other (Packet copy)
+NoCopyIsUndue = (n : NetTold) (of : List ℕ) (width windows workers : ℕ) (history : ℕ → WorkerHistory) (w : State)
+    → IsReached (plan_of of windows workers history) w → (worker other : ℕ)
+    → ((k : ℕ) → k ≤ w.behind other → k < windows → RanWindow n of width other (history other) k)
+    → (copy : RadioCopy) → MayTake (plan_of of windows workers history) w worker other (Packet copy)
     → IsDue of worker (bound width n.end (suc (w.behind worker))) copy

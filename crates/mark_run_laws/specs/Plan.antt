@@ -5,23 +5,23 @@ use Rattle.mote_net.specs.Net.{NetTold}
 use Rattle.worker_cut.specs.Crossed.{is_to}
 use Rattle.copy_inbox.specs.Items.{copies_of, part}
 use Rattle.copy_inbox.specs.Handles.{SenderView}
-use Rattle.copy_exchange.specs.Couriers.{pushed_list}
+use Rattle.copy_exchange.specs.Endpoints.{pushed_list}
 use Rattle.mark_laws.specs.State.{Plan, State}
 use Rattle.marked_workers.specs.All.{AllRan}
 use Rattle.marked_workers.specs.Bounds.{bound}
-use Rattle.marked_workers.specs.Story.{Story, RunsMotes}
+use Rattle.marked_workers.specs.WorkerHistory.{WorkerHistory, RunsMotes}
 
 -- what the motes of each worker sent to those of each other, window by window
-abbrev pub plan_of : (of : List ℕ) → (windows workers : ℕ) → (story : ℕ → Story) → Plan
-plan_of of windows workers story = record {
+abbrev pub plan_of : (of : List ℕ) → (windows workers : ℕ) → (history : ℕ → WorkerHistory) → Plan
+plan_of of windows workers history = record {
   workers = workers;
   windows = windows;
-  sent = λ from to k. filter (is_to of to) ((story from).sent k);
+  sent = λ from to k. filter (is_to of to) ((history from).sent k);
 }
 
 abbrev pub number_of : Option SenderView → ℕ
 number_of None = 0
-number_of (Some s) = s.post.number
+number_of (Some s) = s.state.number
 
 -- what each has pushed to each other, and what the other has taken of it, when all have run all windows
 abbrev pub state_of : (n : NetTold) (of : List ℕ) (width windows workers : ℕ) → AllRan n of width windows workers
@@ -32,8 +32,8 @@ state_of n of width windows workers all = record {
   taken = λ from to. part (number_of (all.sender to from)) (all.taken to);
 }
 
--- in this window the motes of the worker ran as its story says
-abbrev pub RanWindow : NetTold → (of : List ℕ) → (width worker : ℕ) → Story → (window : ℕ) → Type 0
-RanWindow n of width worker story k =
-    RunsMotes n of worker (bound width n.end k) (bound width n.end (suc k)) (story.motes k) (story.motes (suc k))
-    (copies_of (story.taken k)) (story.sent k)
+-- in this window the motes of the worker ran as its history says
+abbrev pub RanWindow : NetTold → (of : List ℕ) → (width worker : ℕ) → WorkerHistory → (window : ℕ) → Type 0
+RanWindow n of width worker history k =
+    RunsMotes n of worker (bound width n.end k) (bound width n.end (suc k)) (history.motes k) (history.motes (suc k))
+    (copies_of (history.taken k)) (history.sent k)

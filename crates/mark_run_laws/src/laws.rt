@@ -1,4 +1,4 @@
-//! The laws. Each is the contract of a function that does nothing.
+//! The laws. Each is a theorem, stated as the contract of an empty function.
 
 ghost use Rattle.mark_run_laws.specs.Laws.{EachRunHasAll, RunsEndAtEnd, MarksLeadOn, SendersAreApart, NoCopyIsUndue};
 

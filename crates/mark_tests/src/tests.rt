@@ -2,12 +2,12 @@
 //! mote 1 worker 1's, and mote 2 worker 2's.
 
 ghost use Rattle.std.specs.Prelude.{◌≡◌, true, [], IfOk, IsTrue, OnOk};
-ghost use Rattle.copy_inbox.specs.Views.{make_desk};
+ghost use Rattle.copy_inbox.specs.Views.{make_taker_state};
 ghost use Rattle.mark_exchange.specs.Marks.{Counts};
 
-use copy_exchange::Courier;
+use copy_exchange::Endpoint;
 use copy_inbox::{Inbox, InboxError, Sender, Taker};
-use mark_exchange::{MarkCourier, Standing};
+use mark_exchange::{MarkEndpoint, Standing};
 use radio_packet::RadioCopy;
 use std::alloc::{AllocError, Global};
 use std::sync::Wait;
@@ -34,8 +34,8 @@ fn copy(at: u64, number: u64) -> RadioCopy {
 /// A new inbox with marks, its taker, and the senders of workers 0 and 1.
 fn make(alloc: Global) -> Result<(Inbox, Taker, Sender, Sender), InboxError>
     ensures inbox { IfOk result (λ made. (made.1.inbox ≡ made.0) × (made.2.inbox ≡ made.0) × (made.3.inbox ≡ made.0)) }
-    ensures taker { IfOk result (λ made. made.1.desk ≡ make_desk true 2 [] []) }
-    ensures senders { IfOk result (λ made. (made.2.post.marked ≡ true) × (made.3.post.marked ≡ true)) }
+    ensures taker { IfOk result (λ made. made.1.state ≡ make_taker_state true 2 [] []) }
+    ensures senders { IfOk result (λ made. (made.2.state.marked ≡ true) × (made.3.state.marked ≡ true)) }
 {
     let (inbox, mut taker) = Inbox::make_marked(alloc)?;
     let first = inbox.sender(&mut taker)?;
@@ -43,18 +43,18 @@ fn make(alloc: Global) -> Result<(Inbox, Taker, Sender, Sender), InboxError>
     Ok((inbox, taker, first, second))
 }
 
-/// What worker 2 carries.
-fn carrier(alloc: Global, taker: Taker) -> Result<MarkCourier, InboxError>
-    requires { taker.desk ≡ make_desk true 2 [] [] }
-    ensures taker { IfOk result (λ carrier. carrier.courier.taker ≡ taker) }
-    ensures counts { IfOk result (λ carrier. Counts carrier.marks.items carrier.courier.taker.desk) }
+/// The endpoint of worker 2.
+fn make_worker_2(alloc: Global, taker: Taker) -> Result<MarkEndpoint, InboxError>
+    requires { taker.state ≡ make_taker_state true 2 [] [] }
+    ensures taker { IfOk result (λ worker_2. worker_2.endpoint.taker ≡ taker) }
+    ensures counts { IfOk result (λ worker_2. Counts worker_2.marks.items worker_2.endpoint.taker.state) }
 {
-    let courier = Courier {
+    let endpoint = Endpoint {
         worker: 2,
         taker,
         senders: Vec::new(alloc),
     };
-    MarkCourier::new(alloc, courier, 2)
+    MarkEndpoint::new(alloc, endpoint, 2)
 }
 
 /// Pushes a copy, if there is one, and then the mark of a window.
@@ -66,9 +66,9 @@ fn push_window<R: Wait>(
     window: u64,
 ) -> Result<(), InboxError>
     requires inbox { sender.old.inbox ≡ inbox.now }
-    requires marked { sender.old.post.marked ≡ true }
+    requires marked { sender.old.state.marked ≡ true }
     ensures inbox { OnOk result (sender.new.inbox ≡ inbox.now) }
-    ensures marked { OnOk result (sender.new.post.marked ≡ true) }
+    ensures marked { OnOk result (sender.new.state.marked ≡ true) }
 {
     if let Some(out) = out {
         if inbox.push_copy(rt, sender, out).is_err() {
@@ -87,22 +87,23 @@ fn write_window<R: Wait>(
     alloc: Global,
     text: &mut String,
     inbox: &Inbox,
-    carrier: &mut MarkCourier,
+    worker_2: &mut MarkEndpoint,
     stop: &AtomicBool,
     from: u64,
     window: u64,
 ) -> Result<bool, AllocError>
-    requires inbox { carrier.old.courier.taker.inbox ≡ inbox.now }
-    requires counts { Counts carrier.old.marks.items carrier.old.courier.taker.desk }
-    ensures inbox { IfOk result (λ took. IsTrue took → carrier.new.courier.taker.inbox ≡ inbox.now) }
-    ensures counts { IfOk result (λ took. IsTrue took → Counts carrier.new.marks.items carrier.new.courier.taker.desk) }
+    requires inbox { worker_2.old.endpoint.taker.inbox ≡ inbox.now }
+    requires counts { Counts worker_2.old.marks.items worker_2.old.endpoint.taker.state }
+    ensures inbox { IfOk result (λ took. IsTrue took → worker_2.new.endpoint.taker.inbox ≡ inbox.now) }
+    ensures counts { IfOk result
+        (λ took. IsTrue took → Counts worker_2.new.marks.items worker_2.new.endpoint.taker.state) }
 {
     let standing = Standing {
         worker: 2,
         of: &OF,
         from,
     };
-    match carrier.take_window(rt, alloc, inbox, stop, &standing, window) {
+    match worker_2.take_window(rt, alloc, inbox, stop, &standing, window) {
         Ok(copies) => {
             for copy in copies.as_slice() {
                 write!(text, "{} {}, ", copy.at, copy.number)?;
@@ -124,42 +125,42 @@ fn write_windows<R: Wait>(
     alloc: Global,
     text: &mut String,
     inbox: &Inbox,
-    carrier: &mut MarkCourier,
+    worker_2: &mut MarkEndpoint,
     first: &mut Sender,
     second: &mut Sender,
 ) -> Result<(), InboxError>
-    requires inbox { (carrier.old.courier.taker.inbox ≡ inbox.now) × (first.old.inbox ≡ inbox.now)
+    requires inbox { (worker_2.old.endpoint.taker.inbox ≡ inbox.now) × (first.old.inbox ≡ inbox.now)
         × (second.old.inbox ≡ inbox.now) }
-    requires marked { (first.old.post.marked ≡ true) × (second.old.post.marked ≡ true) }
-    requires counts { Counts carrier.old.marks.items carrier.old.courier.taker.desk }
+    requires marked { (first.old.state.marked ≡ true) × (second.old.state.marked ≡ true) }
+    requires counts { Counts worker_2.old.marks.items worker_2.old.endpoint.taker.state }
 {
     // It is looked at only where a mark is missing.
     let stop = AtomicBool::new(true);
     push_window(rt, inbox, first, Some(copy(5, 0)), 0)?;
     push_window(rt, inbox, first, Some(copy(9, 1)), 1)?;
     push_window(rt, inbox, second, None, 0)?;
-    if !write_window(rt, alloc, text, inbox, carrier, &stop, 5, 0)? {
+    if !write_window(rt, alloc, text, inbox, worker_2, &stop, 5, 0)? {
         return Ok(());
     }
     push_window(rt, inbox, second, None, 1)?;
-    if !write_window(rt, alloc, text, inbox, carrier, &stop, 9, 1)? {
+    if !write_window(rt, alloc, text, inbox, worker_2, &stop, 9, 1)? {
         return Ok(());
     }
     push_window(rt, inbox, first, Some(copy(9, 2)), 2)?;
-    write_window(rt, alloc, text, inbox, carrier, &stop, 10, 2)?;
+    write_window(rt, alloc, text, inbox, worker_2, &stop, 10, 2)?;
     Ok(())
 }
 
 /// What is written of these windows.
 fn write_taken<R: Wait>(rt: &R, alloc: Global, text: &mut String) -> Result<(), InboxError> {
     let (inbox, taker, mut first, mut second) = make(alloc)?;
-    let mut carrier = carrier(alloc, taker)?;
+    let mut worker_2 = make_worker_2(alloc, taker)?;
     write_windows(
         rt,
         alloc,
         text,
         &inbox,
-        &mut carrier,
+        &mut worker_2,
         &mut first,
         &mut second,
     )
@@ -168,10 +169,10 @@ fn write_taken<R: Wait>(rt: &R, alloc: Global, text: &mut String) -> Result<(), 
 /// What is written where the mark of worker 1 is missing, and the flag is set.
 fn write_stopped<R: Wait>(rt: &R, alloc: Global, text: &mut String) -> Result<(), InboxError> {
     let (inbox, taker, mut first, _second) = make(alloc)?;
-    let mut carrier = carrier(alloc, taker)?;
+    let mut worker_2 = make_worker_2(alloc, taker)?;
     push_window(rt, &inbox, &mut first, None, 0)?;
     let stop = AtomicBool::new(true);
-    write_window(rt, alloc, text, &inbox, &mut carrier, &stop, 5, 0)?;
+    write_window(rt, alloc, text, &inbox, &mut worker_2, &stop, 5, 0)?;
     Ok(())
 }
 
@@ -188,13 +189,13 @@ fn write_woken<R: Threads + Wait + Clock + Sync>(
     text: &mut String,
 ) -> Result<(), InboxError> {
     let (inbox, taker, mut first, _second) = make(alloc)?;
-    let mut carrier = carrier(alloc, taker)?;
+    let mut worker_2 = make_worker_2(alloc, taker)?;
     push_window(rt, &inbox, &mut first, None, 0)?;
     let stop = AtomicBool::new(false);
     let (_, took) = thread::join(
         rt,
         || set_late(rt, &stop),
-        || write_window(rt, alloc, text, &inbox, &mut carrier, &stop, 5, 0),
+        || write_window(rt, alloc, text, &inbox, &mut worker_2, &stop, 5, 0),
     );
     took?;
     Ok(())

@@ -7,15 +7,15 @@ use Rattle.window_laws.specs.System.{RunsForward}
 use Rattle.window_laws.specs.Windows.{first_mote, Windows, WakesFrom}
 use Rattle.net_agenda.specs.NetSystem.{system_of}
 use Rattle.worker_cut.specs.Crossed.{is_own, crossed}
-use Rattle.copy_inbox.specs.declared.rule.Desk.{Desk}
+use Rattle.copy_inbox.specs.declared.rule.TakerState.{TakerState}
 use Rattle.copy_inbox.specs.Gathered.{Whole}
 use Rattle.copy_inbox.specs.Items.{copies_of, part, BeginsWith}
 use Rattle.copy_inbox.specs.Handles.{InboxId, TakerView, SenderView, AllGathered, PacketsLeft}
-use Rattle.copy_inbox.specs.Views.{make_desk}
-use Rattle.copy_exchange.specs.Desks.{taken_by, gathered_by, IsOrderly}
+use Rattle.copy_inbox.specs.Views.{make_taker_state}
+use Rattle.copy_exchange.specs.Takers.{taken_by, gathered_by, IsOrderly}
 use Rattle.copy_exchange.specs.Inboxes.{IsSettled}
 use Rattle.copy_exchange.proofs.Gathers.{OneOf, with_joined, gather_is}
-use Rattle.copy_exchange.proofs.Homes.{zip_each}
+use Rattle.copy_exchange.proofs.AfterWindow.{zip_each}
 use Rattle.copy_exchange.proofs.Parts.{from}
 use Rattle.mark_exchange.specs.Pushes.{packets_in}
 use Rattle.mark_exchange.proofs.Early.{packets_pushes}
@@ -28,10 +28,10 @@ use Rattle.all_workers.proofs.Lookups.{there, inside, read, same_found, each_at,
 use Rattle.all_workers.proofs.Same.{keeps_same}
 use Rattle.all_workers.proofs.Step.{own_of, own_by}
 use Rattle.marked_workers.specs.Bounds.{bound, AreWindows}
-use Rattle.marked_workers.specs.Crew.{EndsMarked, EndAllMarked}
-use Rattle.copy_exchange.specs.Couriers.{pushed_list}
+use Rattle.marked_workers.specs.AtEnd.{EndsMarked, EndAllMarked}
+use Rattle.copy_exchange.specs.Endpoints.{pushed_list}
 use Rattle.marked_workers.specs.Senders.{AreSenders}
-use Rattle.marked_workers.specs.Story.{Story, RunsWindows}
+use Rattle.marked_workers.specs.WorkerHistory.{WorkerHistory, RunsWindows}
 use Rattle.marked_workers.specs.All.{AllRan, HasGathered, IsOfTakers}
 use Rattle.marked_workers.proofs.Bounds.{at_the_end}
 use Rattle.marked_workers.proofs.Pairs.{not_other, pair, copies_from, copies_none}
@@ -39,36 +39,36 @@ use Rattle.marked_workers.proofs.Seen.{nobodys, sent_so_far, of_worker, of_nobod
 use Rattle.marked_workers.proofs.Settles.{pair_taken, all_taken, one, gathered_all, whole_then, no_mark, stands, same_of_each}
 use Rattle.marked_workers.proofs.Stages.{stage, own_stage, Reached, reached}
 
-module _ (n : NetTold) (of : List ℕ) (width windows : ℕ) (crew : Workers) (h : EndAllMarked n of width windows crew) where
+module _ (n : NetTold) (of : List ℕ) (width windows : ℕ) (group : Workers) (h : EndAllMarked n of width windows group) where
   abbrev workers : ℕ
-  workers = length crew.inboxes.items
+  workers = length group.inboxes.items
 
-  -- of one worker: its taker's desk before it gathered, the senders that it gathered, and what it saw
+  -- of one worker: its taker's state before it gathered, the senders that it gathered, and what it saw
   record Part : Type 0 where
-    desk : Desk
+    state : TakerState
     senders : List SenderView
-    story : Story
+    history : WorkerHistory
 
   record IsPart (v : ℕ) (z : Part) : Type 0 where
     share : Share
     taker : TakerView
-    share_at : slice_get crew.shares.items v ≡ Some share
-    taker_at : slice_get crew.takers.items v ≡ Some taker
-    ran : RunsWindows n of width windows workers v z.desk.made z.desk.taken (λ u. pushed_list (h.sender u v)) z.story
-    keeps : Keeps n of v (bound width n.end windows) (z.story.motes windows) (copies_of z.desk.taken) share
-    are_senders : AreSenders workers v (h.sender v) z.desk.made z.senders
-    begun : Each (λ (s : SenderView). BeginsWith s.post.pushed (part s.post.number z.desk.taken)) z.senders
-    gathers : HasGathered z.desk.made z.desk.taken z.senders taker
+    share_at : slice_get group.shares.items v ≡ Some share
+    taker_at : slice_get group.takers.items v ≡ Some taker
+    ran : RunsWindows n of width windows workers v z.state.made z.state.taken (λ u. pushed_list (h.sender u v)) z.history
+    keeps : Keeps n of v (bound width n.end windows) (z.history.motes windows) (copies_of z.state.taken) share
+    are_senders : AreSenders workers v (h.sender v) z.state.made z.senders
+    begun : Each (λ (s : SenderView). BeginsWith s.state.pushed (part s.state.number z.state.taken)) z.senders
+    gathers : HasGathered z.state.made z.state.taken z.senders taker
     inbox : InboxId
-    taker_is : taker ≡ record { inbox = inbox; desk = with_joined z.senders (record z.desk { gathered = [] }) }
+    taker_is : taker ≡ record { inbox = inbox; state = with_joined z.senders (record z.state { gathered = [] }) }
 
   is_part : (v : ℕ) → v < workers → (z : Part) × IsPart v z
   is_part v low =
-      let s = there crew.shares.items v (subst (λ l. v < l) (sym h.shares) low) in
-      let t = there crew.takers.items v (subst (λ l. v < l) (sym h.takers) low) in
-      let e : EndsMarked n of width windows workers h.sender v s.0 t.0 = subst (λ x. EndsMarked n of width windows workers h.sender v x t.0) (read crew.shares.items v s.0 s.0 s.1)
-      (subst (λ x. EndsMarked n of width windows workers h.sender v (get_or crew.shares.items v s.0) x) (read crew.takers.items v t.0 t.0 t.1) (h.each v low s.0 t.0)) in (
-        record { desk = e.before.desk; senders = e.senders; story = e.promise.story },
+      let s = there group.shares.items v (subst (λ l. v < l) (sym h.shares) low) in
+      let t = there group.takers.items v (subst (λ l. v < l) (sym h.takers) low) in
+      let e : EndsMarked n of width windows workers h.sender v s.0 t.0 = subst (λ x. EndsMarked n of width windows workers h.sender v x t.0) (read group.shares.items v s.0 s.0 s.1)
+      (subst (λ x. EndsMarked n of width windows workers h.sender v (get_or group.shares.items v s.0) x) (read group.takers.items v t.0 t.0 t.1) (h.each_worker v low s.0 t.0)) in (
+        record { state = e.before.state; senders = e.senders; history = e.promise.history },
         record {
           share = s.0;
           taker = t.0;
@@ -89,15 +89,15 @@ module _ (n : NetTold) (of : List ℕ) (width windows : ℕ) (crew : Workers) (h
           taker_is =
               e.gathered
               ∙ (gather_is e.before e.senders
-              ∙ ap (λ g. record { inbox = e.before.inbox; desk = with_joined e.senders (record e.before.desk { gathered = g }) }) e.promise.nobody);
+              ∙ ap (λ g. record { inbox = e.before.inbox; state = with_joined e.senders (record e.before.state { gathered = g }) }) e.promise.nobody);
         },
       )
 
   no_part : Part
   no_part = record {
-    desk = make_desk false 0 [] [];
+    state = make_taker_state false 0 [] [];
     senders = [];
-    story = record { motes = λ k. first_mote (system_of n); taken = λ k. []; sent = λ k. [] };
+    history = record { motes = λ k. first_mote (system_of n); taken = λ k. []; sent = λ k. [] };
   }
 
   parts : (f : ℕ → Part) × ((v : ℕ) → v < workers → IsPart v (f v))
@@ -105,23 +105,23 @@ module _ (n : NetTold) (of : List ℕ) (width windows : ℕ) (crew : Workers) (h
 
   abbrev all : AllRan n of width windows workers
   all = record {
-    made = λ v. (parts.0 v).desk.made;
-    taken = λ v. (parts.0 v).desk.taken;
+    made = λ v. (parts.0 v).state.made;
+    taken = λ v. (parts.0 v).state.taken;
     sender = h.sender;
     senders = λ u. (parts.0 u).senders;
-    story = λ v. (parts.0 v).story;
+    history = λ v. (parts.0 v).history;
     ran = λ v low. (parts.1 v low).ran;
     are_senders = λ u low. (parts.1 u low).are_senders;
     begun = λ u low. (parts.1 u low).begun;
   }
 
-  is_of_takers : IsOfTakers all crew.takers.items
+  is_of_takers : IsOfTakers all group.takers.items
   is_of_takers v low t is =
       let p = parts.1 v low in
-      subst (HasGathered (all.made v) (all.taken v) (all.senders v)) (same_found (slice_get crew.takers.items v) p.taker t p.taker_at is) p.gathers
+      subst (HasGathered (all.made v) (all.taken v) (all.senders v)) (same_found (slice_get group.takers.items v) p.taker t p.taker_at is) p.gathers
 
   -- what all workers did
-  pub all_ran : (a : AllRan n of width windows (length crew.inboxes.items)) × IsOfTakers a crew.takers.items
+  pub all_ran : (a : AllRan n of width windows (length group.inboxes.items)) × IsOfTakers a group.takers.items
   all_ran = (all, is_of_takers)
 
   module _ (fine : RunsForward (system_of n)) (short : width ≤ (system_of n).lookahead) (are : AreWindows width n.end windows) where
@@ -141,11 +141,11 @@ module _ (n : NetTold) (of : List ℕ) (width windows : ℕ) (crew : Workers) (h
       p : IsPart v z
       p = parts.1 v low
 
-      all_had : (s : ℕ) → from s (copies_of (z.story.taken windows)) ≡ from s (copies_of z.desk.taken)
+      all_had : (s : ℕ) → from s (copies_of (z.history.taken windows)) ≡ from s (copies_of z.state.taken)
       all_had s = ap (λ l. from s (copies_of l)) p.ran.all
 
       -- what was taken of the motes of others is all that was sent to this worker
-      had_all : (s : ℕ) → is_own of v s ≡ false → (o : Option ℕ) → slice_get of s ≡ o → from s (copies_of z.desk.taken) ≡ from s (sent_so_far n of width windows workers all h.cut are v windows)
+      had_all : (s : ℕ) → is_own of v s ≡ false → (o : Option ℕ) → slice_get of s ≡ o → from s (copies_of z.state.taken) ≡ from s (sent_so_far n of width windows workers all h.cut are v windows)
       had_all s other None e =
           sym (all_had s)
           ∙ (copies_none n of width windows workers all v low windows (omega arith) s (λ w lw nw. nobodys of w s e)
@@ -160,7 +160,7 @@ module _ (n : NetTold) (of : List ℕ) (width windows : ℕ) (crew : Workers) (h
           ∙ (ap (λ l. from s (packets_in l)) (pair_taken n of width windows workers all v low w lw ne)
           ∙ (ap (from s) (packets_pushes windows _) ∙ sym (of_worker n of width windows workers all h.cut are v windows s w (omega arith) lw e)))))
 
-      crossed_is : (s : ℕ) → from s (copies_of z.desk.taken) ≡ crossed (system_of n) of motes v s
+      crossed_is : (s : ℕ) → from s (copies_of z.state.taken) ≡ crossed (system_of n) of motes v s
       crossed_is s = elim (cases_Bool (is_own of v s)) [
         | inl e ↦ rw e (sym (all_had s) ∙ copies_none n of width windows workers all v low windows (omega arith) s (λ w lw nw. not_other of v w s (own_of of v s e) (λ q. nw (sym q))))
         | inr e ↦ had_all s e (slice_get of s) refl ∙ there_at_last.told v low s
@@ -172,54 +172,54 @@ module _ (n : NetTold) (of : List ℕ) (width windows : ℕ) (crew : Workers) (h
       taken_gathered : (s : ℕ) → from s (taken_by p.taker) ≡ from s (gathered_by p.taker)
       taken_gathered s =
           subst (λ t. from s (taken_by t) ≡ from s (gathered_by t)) (sym p.taker_is)
-          (same_of_each workers v (h.sender v) z.desk z.senders p.are_senders p.ran.of_made p.begun (all_taken n of width windows workers all v low) its_one s)
+          (same_of_each workers v (h.sender v) z.state z.senders p.are_senders p.ran.of_made p.begun (all_taken n of width windows workers all v low) its_one s)
 
-      at_worker : IsWorkerAt n of (suc n.end) motes crew.first_out v p.share p.taker
+      at_worker : IsWorkerAt n of (suc n.end) motes group.first_out v p.share p.taker
       at_worker = record {
         keeps = subst (λ l. Keeps n of v (suc n.end) motes l p.share) (sym (ap taken_by p.taker_is))
-            (keeps_same n of v (z.story.motes windows) motes (own_stage n fine of width windows workers all h.cut are short v low windows) (suc n.end) (copies_of z.desk.taken) p.share
-            (subst (λ t. Keeps n of v t (z.story.motes windows) (copies_of z.desk.taken) p.share) at_last p.keeps));
+            (keeps_same n of v (z.history.motes windows) motes (own_stage n fine of width windows workers all h.cut are short v low windows) (suc n.end) (copies_of z.state.taken) p.share
+            (subst (λ t. Keeps n of v t (z.history.motes windows) (copies_of z.state.taken) p.share) at_last p.keeps));
         gathered = λ s. sym (taken_gathered s) ∙ (ap (λ t. from s (taken_by t)) p.taker_is ∙ crossed_is s);
         waits = λ s. record { rest = []; all = sym (append-nil (from s (taken_by p.taker)) ∙ taken_gathered s); later = tt };
       }
 
-      whole_at : Whole p.taker.desk.gathered p.taker.desk.taken
-      whole_at = subst (λ (t : TakerView). Whole t.desk.gathered t.desk.taken) (sym p.taker_is)
-          (whole_then workers v (h.sender v) z.desk z.senders p.are_senders p.ran.of_made p.begun (all_taken n of width windows workers all v low) its_one)
+      whole_at : Whole p.taker.state.gathered p.taker.state.taken
+      whole_at = subst (λ (t : TakerView). Whole t.state.gathered t.state.taken) (sym p.taker_is)
+          (whole_then workers v (h.sender v) z.state z.senders p.are_senders p.ran.of_made p.begun (all_taken n of width windows workers all v low) its_one)
 
-      settled_one : (id : InboxId) (taker : TakerView) → IsSettled (get_or crew.inboxes.items v id) (get_or crew.takers.items v taker)
+      settled_one : (id : InboxId) (taker : TakerView) → IsSettled (get_or group.inboxes.items v id) (get_or group.takers.items v taker)
       settled_one id taker =
-          let is = read crew.takers.items v p.taker taker p.taker_at in
-          subst (IsSettled (get_or crew.inboxes.items v id)) (sym is) (record {
-            its = ap (λ (t : TakerView). t.inbox) (sym is) ∙ h.its v id taker low;
-            stands = subst (λ (t : TakerView). IsOrderly t.desk) (sym p.taker_is) (stands workers v (h.sender v) z.desk z.senders p.are_senders p.ran.of_made p.begun (all_taken n of width windows workers all v low) its_one);
-            no_mark = subst (λ (t : TakerView). PacketsLeft t.desk) (sym p.taker_is) (no_mark workers v (h.sender v) z.desk z.senders p.are_senders p.ran.of_made p.begun (all_taken n of width windows workers all v low) its_one);
-            all = subst (λ (t : TakerView). AllGathered t.desk) (sym p.taker_is) (gathered_all workers v (h.sender v) z.desk z.senders p.are_senders p.ran.of_made p.begun (all_taken n of width windows workers all v low) its_one);
+          let is = read group.takers.items v p.taker taker p.taker_at in
+          subst (IsSettled (get_or group.inboxes.items v id)) (sym is) (record {
+            its = ap (λ (t : TakerView). t.inbox) (sym is) ∙ h.inbox_of_taker v id taker low;
+            stands = subst (λ (t : TakerView). IsOrderly t.state) (sym p.taker_is) (stands workers v (h.sender v) z.state z.senders p.are_senders p.ran.of_made p.begun (all_taken n of width windows workers all v low) its_one);
+            no_mark = subst (λ (t : TakerView). PacketsLeft t.state) (sym p.taker_is) (no_mark workers v (h.sender v) z.state z.senders p.are_senders p.ran.of_made p.begun (all_taken n of width windows workers all v low) its_one);
+            all = subst (λ (t : TakerView). AllGathered t.state) (sym p.taker_is) (gathered_all workers v (h.sender v) z.state z.senders p.are_senders p.ran.of_made p.begun (all_taken n of width windows workers all v low) its_one);
           })
 
-      worker_at : (share : Share) (taker : TakerView) → IsWorkerAt n of (suc n.end) motes crew.first_out v (get_or crew.shares.items v share) (get_or crew.takers.items v taker)
+      worker_at : (share : Share) (taker : TakerView) → IsWorkerAt n of (suc n.end) motes group.first_out v (get_or group.shares.items v share) (get_or group.takers.items v taker)
       worker_at share taker =
-          subst (λ x. IsWorkerAt n of (suc n.end) motes crew.first_out v x (get_or crew.takers.items v taker)) (sym (read crew.shares.items v p.share share p.share_at))
-          (subst (λ x. IsWorkerAt n of (suc n.end) motes crew.first_out v p.share x) (sym (read crew.takers.items v p.taker taker p.taker_at)) at_worker)
+          subst (λ x. IsWorkerAt n of (suc n.end) motes group.first_out v x (get_or group.takers.items v taker)) (sym (read group.shares.items v p.share share p.share_at))
+          (subst (λ x. IsWorkerAt n of (suc n.end) motes group.first_out v p.share x) (sym (read group.takers.items v p.taker taker p.taker_at)) at_worker)
 
-    pub all_at_end : IsAt n of (suc n.end) crew
+    pub all_at_end : IsAt n of (suc n.end) group
     all_at_end = record {
       motes = motes;
       led = subst (λ t. Windows (system_of n) 0 t (first_mote (system_of n)) motes) at_last there_at_last.led;
       cut = h.cut;
       shares = h.shares;
-      settled = zip_each IsSettled crew.inboxes.items crew.takers.items h.takers (λ v id taker low. settled_one v low id taker);
+      settled = zip_each IsSettled group.inboxes.items group.takers.items h.takers (λ v id taker low. settled_one v low id taker);
       first = subst (WakesFrom (suc n.end)) (sym h.first_out) tt;
       each = λ v low share taker. worker_at v low share taker;
     }
 
-    pub all_whole : Each (λ (t : TakerView). Whole t.desk.gathered t.desk.taken) crew.takers.items
+    pub all_whole : Each (λ (t : TakerView). Whole t.state.gathered t.state.taken) group.takers.items
     unfolding parts p
-    all_whole = each_from _ crew.takers.items (λ v t e.
-        let low : v < workers = subst (λ l. v < l) h.takers (inside crew.takers.items v t e) in
+    all_whole = each_from _ group.takers.items (λ v t e.
+        let low : v < workers = subst (λ l. v < l) h.takers (inside group.takers.items v t e) in
         let p : IsPart v (parts.0 v) = parts.1 v low in
-        subst (λ (x : TakerView). Whole x.desk.gathered x.desk.taken) (same_found (slice_get crew.takers.items v) p.taker t p.taker_at e) (whole_at v low))
+        subst (λ (x : TakerView). Whole x.state.gathered x.state.taken) (same_found (slice_get group.takers.items v) p.taker t p.taker_at e) (whole_at v low))
 
 pub ends : (n : NetTold) → RunsForward (system_of n) → (of : List ℕ) (width windows : ℕ) → width ≤ (system_of n).lookahead → AreWindows width n.end windows
-    → (crew : Workers) → EndAllMarked n of width windows crew → IsAt n of (suc n.end) crew × Each (λ (t : TakerView). Whole t.desk.gathered t.desk.taken) crew.takers.items
-ends n fine of width windows short are crew all = (all_at_end n of width windows crew all fine short are, all_whole n of width windows crew all fine short are)
+    → (group : Workers) → EndAllMarked n of width windows group → IsAt n of (suc n.end) group × Each (λ (t : TakerView). Whole t.state.gathered t.state.taken) group.takers.items
+ends n fine of width windows short are group all = (all_at_end n of width windows group all fine short are, all_whole n of width windows group all fine short are)

@@ -14,7 +14,7 @@ use Rattle.copy_inbox.specs.Items.{copies_of, part, OfMade}
 use Rattle.mark_exchange.specs.Pushes.{marks_in, pushes}
 use Rattle.worker_window.specs.Share.{Motes}
 use Rattle.marked_workers.specs.Bounds.{bound}
-use Rattle.marked_workers.specs.Story.{Story, RunsMotes, RunsWindows}
+use Rattle.marked_workers.specs.WorkerHistory.{WorkerHistory, RunsMotes, RunsWindows}
 
 -- one of a family changed
 abbrev pub edit : {X : Type 0} → (ℕ → X) → ℕ → X → ℕ → X
@@ -45,25 +45,25 @@ runs_none n of width workers worker made = record {
   pushes_then = λ v low ne. refl;
 }
 
-module _ (n : NetTold) (of : List ℕ) (width workers worker made k : ℕ) (taken more : List Item) (pushed pushes_now : ℕ → List Carried) (story : Story) (next : Motes) (sent : List RadioCopy) where
-  abbrev pub longer : Story
-  longer = record { motes = edit story.motes (suc k) next; taken = edit story.taken (suc k) (taken ++ more); sent = edit story.sent k sent }
+module _ (n : NetTold) (of : List ℕ) (width workers worker made k : ℕ) (taken more : List Item) (pushed pushes_now : ℕ → List Carried) (history : WorkerHistory) (next : Motes) (sent : List RadioCopy) where
+  abbrev pub longer : WorkerHistory
+  longer = record { motes = edit history.motes (suc k) next; taken = edit history.taken (suc k) (taken ++ more); sent = edit history.sent k sent }
 
   -- the worker ran window k, pushed what it sent in it and the mark, and then took more, until it had the marks of
   -- window k too
-  module _ (ran : RunsWindows n of width k workers worker made taken pushed story)
-      (window : RunsMotes n of worker (bound width n.end k) (bound width n.end (suc k)) (story.motes k) next (copies_of taken) sent)
+  module _ (ran : RunsWindows n of width k workers worker made taken pushed history)
+      (window : RunsMotes n of worker (bound width n.end k) (bound width n.end (suc k)) (history.motes k) next (copies_of taken) sent)
       (lead : (s : ℕ) → s < made → suc k ≤ marks_in (part s (taken ++ more)))
       (of_made : OfMade made (taken ++ more))
       (pushes_more : (v : ℕ) → v < workers → v ≢ worker → pushes_now v ≡ pushed v ++ (map Packet (filter (is_to of v) sent) ++ Mark k ∷ [])) where
-    old_motes : (j : ℕ) → j ≤ k → longer.motes j ≡ story.motes j
-    old_motes j le = edit_other story.motes (suc k) next j (λ e. absurd (omega arith))
+    old_motes : (j : ℕ) → j ≤ k → longer.motes j ≡ history.motes j
+    old_motes j le = edit_other history.motes (suc k) next j (λ e. absurd (omega arith))
 
-    old_taken : (j : ℕ) → j ≤ k → longer.taken j ≡ story.taken j
-    old_taken j le = edit_other story.taken (suc k) (taken ++ more) j (λ e. absurd (omega arith))
+    old_taken : (j : ℕ) → j ≤ k → longer.taken j ≡ history.taken j
+    old_taken j le = edit_other history.taken (suc k) (taken ++ more) j (λ e. absurd (omega arith))
 
-    old_sent : (j : ℕ) → j < k → longer.sent j ≡ story.sent j
-    old_sent j low = edit_other story.sent k sent j (λ e. absurd (omega arith))
+    old_sent : (j : ℕ) → j < k → longer.sent j ≡ history.sent j
+    old_sent j low = edit_other history.sent k sent j (λ e. absurd (omega arith))
 
     abbrev Runs : ℕ → Type 0
     Runs j = RunsMotes n of worker (bound width n.end j) (bound width n.end (suc j)) (longer.motes j) (longer.motes (suc j)) (copies_of (longer.taken j)) (longer.sent j)
@@ -71,16 +71,16 @@ module _ (n : NetTold) (of : List ℕ) (width workers worker made k : ℕ) (take
     runs_old : (j : ℕ) → j < k → Runs j
     runs_old j low =
         subst (λ x. RunsMotes n of worker (bound width n.end j) (bound width n.end (suc j)) x (longer.motes (suc j)) (copies_of (longer.taken j)) (longer.sent j)) (sym (old_motes j (omega arith)))
-        (subst (λ x. RunsMotes n of worker (bound width n.end j) (bound width n.end (suc j)) (story.motes j) x (copies_of (longer.taken j)) (longer.sent j)) (sym (old_motes (suc j) (omega arith)))
-        (subst (λ x. RunsMotes n of worker (bound width n.end j) (bound width n.end (suc j)) (story.motes j) (story.motes (suc j)) (copies_of x) (longer.sent j)) (sym (old_taken j (omega arith)))
-        (subst (λ x. RunsMotes n of worker (bound width n.end j) (bound width n.end (suc j)) (story.motes j) (story.motes (suc j)) (copies_of (story.taken j)) x) (sym (old_sent j low)) (ran.runs j low))))
+        (subst (λ x. RunsMotes n of worker (bound width n.end j) (bound width n.end (suc j)) (history.motes j) x (copies_of (longer.taken j)) (longer.sent j)) (sym (old_motes (suc j) (omega arith)))
+        (subst (λ x. RunsMotes n of worker (bound width n.end j) (bound width n.end (suc j)) (history.motes j) (history.motes (suc j)) (copies_of x) (longer.sent j)) (sym (old_taken j (omega arith)))
+        (subst (λ x. RunsMotes n of worker (bound width n.end j) (bound width n.end (suc j)) (history.motes j) (history.motes (suc j)) (copies_of (history.taken j)) x) (sym (old_sent j low)) (ran.runs j low))))
 
     runs_last : Runs k
     runs_last =
         subst (λ x. RunsMotes n of worker (bound width n.end k) (bound width n.end (suc k)) x (longer.motes (suc k)) (copies_of (longer.taken k)) (longer.sent k)) (sym (old_motes k (omega arith)))
-        (subst (λ x. RunsMotes n of worker (bound width n.end k) (bound width n.end (suc k)) (story.motes k) x (copies_of (longer.taken k)) (longer.sent k)) (sym (edit_same story.motes (suc k) next))
-        (subst (λ x. RunsMotes n of worker (bound width n.end k) (bound width n.end (suc k)) (story.motes k) next (copies_of x) (longer.sent k)) (sym (old_taken k (omega arith) ∙ ran.all))
-        (subst (λ x. RunsMotes n of worker (bound width n.end k) (bound width n.end (suc k)) (story.motes k) next (copies_of taken) x) (sym (edit_same story.sent k sent)) window)))
+        (subst (λ x. RunsMotes n of worker (bound width n.end k) (bound width n.end (suc k)) (history.motes k) x (copies_of (longer.taken k)) (longer.sent k)) (sym (edit_same history.motes (suc k) next))
+        (subst (λ x. RunsMotes n of worker (bound width n.end k) (bound width n.end (suc k)) (history.motes k) next (copies_of x) (longer.sent k)) (sym (old_taken k (omega arith) ∙ ran.all))
+        (subst (λ x. RunsMotes n of worker (bound width n.end k) (bound width n.end (suc k)) (history.motes k) next (copies_of taken) x) (sym (edit_same history.sent k sent)) window)))
 
     goes_old : (j : ℕ) → j < k → (rest : List Item) × (longer.taken (suc j) ≡ longer.taken j ++ rest)
     goes_old j low =
@@ -88,10 +88,10 @@ module _ (n : NetTold) (of : List ℕ) (width workers worker made k : ℕ) (take
         (old.0, old_taken (suc j) (omega arith) ∙ (old.1 ∙ ap (λ l. l ++ old.0) (sym (old_taken j (omega arith)))))
 
     goes_last : (rest : List Item) × (longer.taken (suc k) ≡ longer.taken k ++ rest)
-    goes_last = (more, edit_same story.taken (suc k) (taken ++ more) ∙ ap (λ l. l ++ more) (sym (old_taken k (omega arith) ∙ ran.all)))
+    goes_last = (more, edit_same history.taken (suc k) (taken ++ more) ∙ ap (λ l. l ++ more) (sym (old_taken k (omega arith) ∙ ran.all)))
 
     lead_last : (s : ℕ) → s < made → suc k ≤ marks_in (part s (longer.taken (suc k)))
-    lead_last s low = subst (λ l. suc k ≤ marks_in (part s l)) (sym (edit_same story.taken (suc k) (taken ++ more))) (lead s low)
+    lead_last s low = subst (λ l. suc k ≤ marks_in (part s l)) (sym (edit_same history.taken (suc k) (taken ++ more))) (lead s low)
 
     lead_old : (j : ℕ) → j ≤ k → (s : ℕ) → s < made → j ≤ marks_in (part s (longer.taken j))
     lead_old j le s low = subst (λ l. j ≤ marks_in (part s l)) (sym (old_taken j le)) (ran.marks_lead j le s low)
@@ -100,7 +100,7 @@ module _ (n : NetTold) (of : List ℕ) (width workers worker made k : ℕ) (take
     runs_longer = record {
       first = old_motes 0 (omega arith) ∙ ran.first;
       nothing = old_taken 0 (omega arith) ∙ ran.nothing;
-      all = edit_same story.taken (suc k) (taken ++ more);
+      all = edit_same history.taken (suc k) (taken ++ more);
       goes_on = λ j low. elim (cases_eq j k) [
         | inl e ↦ subst (λ i. (rest : List Item) × (longer.taken (suc i) ≡ longer.taken i ++ rest)) (sym e) goes_last
         | inr ne ↦ goes_old j (omega (arith, ne))
@@ -113,6 +113,6 @@ module _ (n : NetTold) (of : List ℕ) (width workers worker made k : ℕ) (take
       runs = λ j low. elim (cases_eq j k) [ inl e ↦ subst Runs (sym e) runs_last | inr ne ↦ runs_old j (omega (arith, ne)) ];
       pushes_then = λ v low ne.
           pushes_more v low ne
-          ∙ (ap (λ l. l ++ (map Packet (filter (is_to of v) sent) ++ Mark k ∷ [])) (ran.pushes_then v low ne ∙ pushes_same k (λ j. filter (is_to of v) (story.sent j)) (λ j. filter (is_to of v) (longer.sent j)) (λ j lt. ap (filter (is_to of v)) (sym (old_sent j lt))))
-          ∙ ap (λ l. pushes k (λ j. filter (is_to of v) (longer.sent j)) ++ (map Packet (filter (is_to of v) l) ++ Mark k ∷ [])) (sym (edit_same story.sent k sent)));
+          ∙ (ap (λ l. l ++ (map Packet (filter (is_to of v) sent) ++ Mark k ∷ [])) (ran.pushes_then v low ne ∙ pushes_same k (λ j. filter (is_to of v) (history.sent j)) (λ j. filter (is_to of v) (longer.sent j)) (λ j lt. ap (filter (is_to of v)) (sym (old_sent j lt))))
+          ∙ ap (λ l. pushes k (λ j. filter (is_to of v) (longer.sent j)) ++ (map Packet (filter (is_to of v) l) ++ Mark k ∷ [])) (sym (edit_same history.sent k sent)));
     }

@@ -16,15 +16,15 @@ use Rattle.mark_exchange.specs.Pushes.{packets_in, pushes}
 use Rattle.mark_exchange.proofs.Early.{packets_append, packets_pushes}
 use Rattle.worker_window.specs.Window.{GoesOut}
 use Rattle.all_workers.proofs.Lookups.{there, inside, read, mapped, same_found, each_at}
-use Rattle.copy_exchange.specs.Couriers.{pushed_list}
+use Rattle.copy_exchange.specs.Endpoints.{pushed_list}
 use Rattle.marked_workers.specs.All.{AllRan}
 use Rattle.marked_workers.proofs.Fronts.{part_begins}
 use Rattle.marked_workers.proofs.Lists.{first_none, none_before}
 
 -- each sender has the number of its place
-pub numbered_at : (senders : List SenderView) → map (λ (s : SenderView). s.post.number) senders ≡ range_with_len 0 (length senders) → (j : ℕ) (s : SenderView) → slice_get senders j ≡ Some s → s.post.number ≡ j
+pub numbered_at : (senders : List SenderView) → map (λ (s : SenderView). s.state.number) senders ≡ range_with_len 0 (length senders) → (j : ℕ) (s : SenderView) → slice_get senders j ≡ Some s → s.state.number ≡ j
 numbered_at senders numbered j s e =
-    sym (read (map (λ (x : SenderView). x.post.number) senders) j s.post.number 0 (mapped (λ (x : SenderView). x.post.number) senders j s e))
+    sym (read (map (λ (x : SenderView). x.state.number) senders) j s.state.number 0 (mapped (λ (x : SenderView). x.state.number) senders j s e))
     ∙ (ap (λ l. get_or l j 0) numbered ∙ (get_or-range_with_len 0 (length senders) j 0 (inside senders j s e) ∙ omega arith))
 
 -- a mote has one worker
@@ -40,48 +40,48 @@ foreign_none n of v s other sent goes =
 module _ (n : NetTold) (of : List ℕ) (width windows workers : ℕ) (all : AllRan n of width windows workers) where
   -- what worker v sent to the motes of worker u, in each window
   abbrev pub sent_to : (v u : ℕ) → ℕ → List RadioCopy
-  sent_to v u k = filter (is_to of u) ((all.story v).sent k)
+  sent_to v u k = filter (is_to of u) ((all.history v).sent k)
 
   pub none_sent : (v u s k : ℕ) → v < workers → k < windows → is_own of v s ≡ false → from s (sent_to v u k) ≡ []
   none_sent v u s k there_is low other =
-      filter_filter (is_from_sender s) (is_to of u) ((all.story v).sent k)
-      ∙ ap (filter (is_to of u)) (foreign_none n of v s other ((all.story v).sent k) ((all.ran v there_is).runs k low).goes)
+      filter_filter (is_from_sender s) (is_to of u) ((all.history v).sent k)
+      ∙ ap (filter (is_to of u)) (foreign_none n of v s other ((all.history v).sent k) ((all.ran v there_is).runs k low).goes)
 
   -- the sender of worker v on the inbox of worker u
   pub record Pair (u v : ℕ) : Type 0 where
     pub number : ℕ
     pub was_made : number < all.made u
     pub begins : BeginsWith (pushes windows (sent_to v u)) (part number (all.taken u))
-    pub only : (s : SenderView) → all.sender u v ≡ Some s → s.post.number ≡ number
+    pub only : (s : SenderView) → all.sender u v ≡ Some s → s.state.number ≡ number
 
   pub pair : (u v : ℕ) → u < workers → v < workers → v ≢ u → Pair u v
   pair u v lu lv ne =
       let are = all.are_senders u lu in
       let w = are.of_worker v lv ne in
-      let is : w.0.post.pushed ≡ pushes windows (sent_to v u) = sym (ap pushed_list w.1) ∙ (all.ran v lv).pushes_then u lu (λ e. ne (sym e)) in
-      let low = inside (all.senders u) w.0.post.number w.0 w.2 in
+      let is : w.0.state.pushed ≡ pushes windows (sent_to v u) = sym (ap pushed_list w.1) ∙ (all.ran v lv).pushes_then u lu (λ e. ne (sym e)) in
+      let low = inside (all.senders u) w.0.state.number w.0 w.2 in
       let long = are.made_is in
       record {
-        number = w.0.post.number;
+        number = w.0.state.number;
         was_made = omega arith;
-        begins = subst (λ l. BeginsWith l (part w.0.post.number (all.taken u))) is
-            (each_at (λ (s : SenderView). BeginsWith s.post.pushed (part s.post.number (all.taken u))) (all.senders u) w.0.post.number w.0 (all.begun u lu) w.2);
-        only = λ s e. ap (λ (x : SenderView). x.post.number) (same_found (all.sender u v) s w.0 e w.1);
+        begins = subst (λ l. BeginsWith l (part w.0.state.number (all.taken u))) is
+            (each_at (λ (s : SenderView). BeginsWith s.state.pushed (part s.state.number (all.taken u))) (all.senders u) w.0.state.number w.0 (all.begun u lu) w.2);
+        only = λ s e. ap (λ (x : SenderView). x.state.number) (same_found (all.sender u v) s w.0 e w.1);
       }
 
   module _ (u : ℕ) (lu : u < workers) (k : ℕ) (le : k ≤ windows) where
     -- what had come of it before the window is a beginning of what was pushed
-    pub front : (v : ℕ) (lv : v < workers) (ne : v ≢ u) → BeginsWith (pushes windows (sent_to v u)) (part (pair u v lu lv ne).number ((all.story u).taken k))
+    pub front : (v : ℕ) (lv : v < workers) (ne : v ≢ u) → BeginsWith (pushes windows (sent_to v u)) (part (pair u v lu lv ne).number ((all.history u).taken k))
     front v lv ne =
         let p = pair u v lu lv ne in
-        let more = part_begins n of width windows workers u (all.made u) (all.taken u) (λ w. pushed_list (all.sender w u)) (all.story u) (all.ran u lu) k le p.number in
-        (more.0 ++ p.begins.0, p.begins.1 ∙ (ap (λ l. l ++ p.begins.0) more.1 ∙ append_assoc (part p.number ((all.story u).taken k)) more.0 p.begins.0))
+        let more = part_begins n of width windows workers u (all.made u) (all.taken u) (λ w. pushed_list (all.sender w u)) (all.history u) (all.ran u lu) k le p.number in
+        (more.0 ++ p.begins.0, p.begins.1 ∙ (ap (λ l. l ++ p.begins.0) more.1 ∙ append_assoc (part p.number ((all.history u).taken k)) more.0 p.begins.0))
 
     module _ (s : ℕ) where
-      none_of_pair : (v : ℕ) (lv : v < workers) (ne : v ≢ u) → is_own of v s ≡ false → from s (packets_in (part (pair u v lu lv ne).number ((all.story u).taken k))) ≡ []
+      none_of_pair : (v : ℕ) (lv : v < workers) (ne : v ≢ u) → is_own of v s ≡ false → from s (packets_in (part (pair u v lu lv ne).number ((all.history u).taken k))) ≡ []
       none_of_pair v lv ne other =
           let f = front v lv ne in
-          let had = part (pair u v lu lv ne).number ((all.story u).taken k) in
+          let had = part (pair u v lu lv ne).number ((all.history u).taken k) in
           first_none (from s (packets_in had)) (from s (packets_in f.0))
           (sym (from-append s (packets_in had) (packets_in f.0))
           ∙ (ap (from s) (sym (packets_append had f.0))
@@ -89,10 +89,10 @@ module _ (n : NetTold) (of : List ℕ) (width windows workers : ℕ) (all : AllR
           ∙ (ap (from s) (packets_pushes windows (sent_to v u)) ∙ none_before s (sent_to v u) windows (λ j low. none_sent v u s j lv low other)))))
 
       -- a sender has no copies of motes of other workers
-      part_none : (j : ℕ) → ((v : ℕ) → v < workers → v ≢ u → (a : SenderView) → all.sender u v ≡ Some a → a.post.number ≡ j → is_own of v s ≡ false) → from s (packets_in (part j ((all.story u).taken k))) ≡ []
+      part_none : (j : ℕ) → ((v : ℕ) → v < workers → v ≢ u → (a : SenderView) → all.sender u v ≡ Some a → a.state.number ≡ j → is_own of v s ≡ false) → from s (packets_in (part j ((all.history u).taken k))) ≡ []
       part_none j other = of_case (cases_lt j (all.made u))
         where
-          of_case : (j < all.made u) ⊎ (all.made u ≤ j) → from s (packets_in (part j ((all.story u).taken k))) ≡ []
+          of_case : (j < all.made u) ⊎ (all.made u ≤ j) → from s (packets_in (part j ((all.history u).taken k))) ≡ []
           of_case (inl low) =
               let are = all.are_senders u lu in
               let long = are.made_is in
@@ -100,17 +100,17 @@ module _ (n : NetTold) (of : List ℕ) (width windows workers : ℕ) (all : AllR
               let w = are.worker_of j a.0 a.1 in
               let number = numbered_at (all.senders u) are.numbered j a.0 a.1 in
               let same = sym ((pair u w.0 lu w.1 w.2).only a.0 w.3) ∙ number in
-              subst (λ i. from s (packets_in (part i ((all.story u).taken k))) ≡ []) same (none_of_pair w.0 w.1 w.2 (other w.0 w.1 w.2 a.0 w.3 number))
+              subst (λ i. from s (packets_in (part i ((all.history u).taken k))) ≡ []) same (none_of_pair w.0 w.1 w.2 (other w.0 w.1 w.2 a.0 w.3 number))
           of_case (inr high) =
-              let more = part_begins n of width windows workers u (all.made u) (all.taken u) (λ w. pushed_list (all.sender w u)) (all.story u) (all.ran u lu) k le j in
-              ap (λ l. from s (packets_in l)) (first_none (part j ((all.story u).taken k)) more.0 (sym more.1 ∙ (all.ran u lu).of_made j high))
+              let more = part_begins n of width windows workers u (all.made u) (all.taken u) (λ w. pushed_list (all.sender w u)) (all.history u) (all.ran u lu) k le j in
+              ap (λ l. from s (packets_in l)) (first_none (part j ((all.history u).taken k)) more.0 (sym more.1 ∙ (all.ran u lu).of_made j high))
 
-      pub copies_from : (v : ℕ) (lv : v < workers) (ne : v ≢ u) → slice_get of s ≡ Some v → from s (copies_of ((all.story u).taken k)) ≡ from s (packets_in (part (pair u v lu lv ne).number ((all.story u).taken k)))
-      copies_from v lv ne e = of_one_sender s (pair u v lu lv ne).number ((all.story u).taken k) (λ j other. part_none j (λ w lw nw a at number.
+      pub copies_from : (v : ℕ) (lv : v < workers) (ne : v ≢ u) → slice_get of s ≡ Some v → from s (copies_of ((all.history u).taken k)) ≡ from s (packets_in (part (pair u v lu lv ne).number ((all.history u).taken k)))
+      copies_from v lv ne e = of_one_sender s (pair u v lu lv ne).number ((all.history u).taken k) (λ j other. part_none j (λ w lw nw a at number.
           not_other of v w s e (λ same. other (sym number ∙ (pair u v lu lv ne).only a (subst (λ x. all.sender u x ≡ Some a) (sym same) at)))))
 
-      pub copies_none : ((v : ℕ) → v < workers → v ≢ u → is_own of v s ≡ false) → from s (copies_of ((all.story u).taken k)) ≡ []
+      pub copies_none : ((v : ℕ) → v < workers → v ≢ u → is_own of v s ≡ false) → from s (copies_of ((all.history u).taken k)) ≡ []
       copies_none none =
           let j : ℕ = all.made u in
-          of_one_sender s j ((all.story u).taken k) (λ i other. part_none i (λ v lv nv a at number. none v lv nv))
+          of_one_sender s j ((all.history u).taken k) (λ i other. part_none i (λ v lv nv a at number. none v lv nv))
           ∙ part_none j (λ v lv nv a at number. none v lv nv)

@@ -9,48 +9,48 @@ use Rattle.worker_cut.specs.Crossed.{is_to}
 use Rattle.copy_inbox.specs.declared.items.Carried.{Carried}
 use Rattle.copy_inbox.specs.declared.items.Carried.TheVariants.{Packet, Mark}
 use Rattle.copy_inbox.specs.declared.items.Item.{Item}
-use Rattle.copy_inbox.specs.declared.rule.Desk.{Desk}
+use Rattle.copy_inbox.specs.declared.rule.TakerState.{TakerState}
 use Rattle.copy_inbox.specs.Items.{copies_of, part, OfMade}
-use Rattle.copy_inbox.specs.Views.{make_desk}
+use Rattle.copy_inbox.specs.Views.{make_taker_state}
 use Rattle.copy_exchange.proofs.Parts.{copies-append}
 use Rattle.mark_exchange.specs.Pushes.{marks_in}
 use Rattle.worker_window.specs.declared.share.Share.{Share}
 use Rattle.worker_window.specs.Share.{Keeps}
 use Rattle.worker_window.specs.Window.{RunsWindow, GoesOut}
 use Rattle.marked_workers.specs.Bounds.{bound}
-use Rattle.marked_workers.specs.Story.{RunsMotes, RunsWindows, RunsMarked}
+use Rattle.marked_workers.specs.WorkerHistory.{RunsMotes, RunsWindows, RunsMarked}
 use Rattle.marked_workers.proofs.Bounds.{at_first}
 use Rattle.marked_workers.proofs.Longer.{edit_same, runs_none, longer, runs_longer}
 
 -- with a new share, and a taker that has taken nothing
-pub promise_first : (n : NetTold) (of : List ℕ) (width workers worker : ℕ) (share : Share) (desk : Desk) → desk.taken ≡ [] → desk.gathered ≡ []
-    → Keeps n of worker 0 (first_mote (system_of n)) [] share → RunsMarked n of width 0 workers worker share desk (λ v. [])
-promise_first n of width workers worker share desk taken nobody keeps = record {
-  story = record { motes = λ k. first_mote (system_of n); taken = λ k. []; sent = λ k. [] };
-  ran = subst (λ l. RunsWindows n of width 0 workers worker desk.made l (λ v. []) (record { motes = λ k. first_mote (system_of n); taken = λ k. []; sent = λ k. [] })) (sym taken)
-      (runs_none n of width workers worker desk.made);
+pub promise_first : (n : NetTold) (of : List ℕ) (width workers worker : ℕ) (share : Share) (state : TakerState) → state.taken ≡ [] → state.gathered ≡ []
+    → Keeps n of worker 0 (first_mote (system_of n)) [] share → RunsMarked n of width 0 workers worker share state (λ v. [])
+promise_first n of width workers worker share state taken nobody keeps = record {
+  history = record { motes = λ k. first_mote (system_of n); taken = λ k. []; sent = λ k. [] };
+  ran = subst (λ l. RunsWindows n of width 0 workers worker state.made l (λ v. []) (record { motes = λ k. first_mote (system_of n); taken = λ k. []; sent = λ k. [] })) (sym taken)
+      (runs_none n of width workers worker state.made);
   keeps = subst (λ l. Keeps n of worker (bound width n.end 0) (first_mote (system_of n)) (copies_of l) share) (sym taken)
       (subst (λ t. Keeps n of worker t (first_mote (system_of n)) [] share) (sym (at_first width n.end)) keeps);
   nobody = nobody;
 }
 
-module _ (n : NetTold) (of : List ℕ) (width workers worker k : ℕ) (share ran_share last_share : Share) (desk : Desk) (pushed pushes_now : ℕ → List Carried) (more : List Item) (sent : List RadioCopy)
-    (promise : RunsMarked n of width k workers worker share desk pushed)
-    (window : RunsWindow n of worker (bound width n.end k) (bound width n.end (suc k)) (promise.story.motes k) (copies_of desk.taken) ran_share sent)
+module _ (n : NetTold) (of : List ℕ) (width workers worker k : ℕ) (share ran_share last_share : Share) (state : TakerState) (pushed pushes_now : ℕ → List Carried) (more : List Item) (sent : List RadioCopy)
+    (promise : RunsMarked n of width k workers worker share state pushed)
+    (window : RunsWindow n of worker (bound width n.end k) (bound width n.end (suc k)) (promise.history.motes k) (copies_of state.taken) ran_share sent)
     (goes : Each (GoesOut n of worker) sent)
-    (lead : (s : ℕ) → s < desk.made → suc k ≤ marks_in (part s (desk.taken ++ more)))
-    (of_made : OfMade desk.made (desk.taken ++ more))
+    (lead : (s : ℕ) → s < state.made → suc k ≤ marks_in (part s (state.taken ++ more)))
+    (of_made : OfMade state.made (state.taken ++ more))
     (pushes_more : (v : ℕ) → v < workers → v ≢ worker → pushes_now v ≡ pushed v ++ (map Packet (filter (is_to of v) sent) ++ Mark k ∷ []))
-    (keeps : Keeps n of worker (bound width n.end (suc k)) window.next (copies_of desk.taken ++ copies_of more) last_share) where
-  motes_ran : RunsMotes n of worker (bound width n.end k) (bound width n.end (suc k)) (promise.story.motes k) window.next (copies_of desk.taken) sent
+    (keeps : Keeps n of worker (bound width n.end (suc k)) window.next (copies_of state.taken ++ copies_of more) last_share) where
+  motes_ran : RunsMotes n of worker (bound width n.end k) (bound width n.end (suc k)) (promise.history.motes k) window.next (copies_of state.taken) sent
   motes_ran = record { runs = window.runs; out = window.out; goes = goes; late = window.late }
 
   -- the window was run, its copies and the mark were pushed, and more was taken until all marks of the window were there
-  pub promise_next : RunsMarked n of width (suc k) workers worker last_share (make_desk desk.marked desk.made (desk.taken ++ more) desk.gathered) pushes_now
+  pub promise_next : RunsMarked n of width (suc k) workers worker last_share (make_taker_state state.marked state.made (state.taken ++ more) state.gathered) pushes_now
   promise_next = record {
-    story = longer n of width workers worker desk.made k desk.taken more pushed pushes_now promise.story window.next sent;
-    ran = runs_longer n of width workers worker desk.made k desk.taken more pushed pushes_now promise.story window.next sent promise.ran motes_ran lead of_made pushes_more;
-    keeps = subst (λ m. Keeps n of worker (bound width n.end (suc k)) m (copies_of (desk.taken ++ more)) last_share) (sym (edit_same promise.story.motes (suc k) window.next))
-        (subst (λ l. Keeps n of worker (bound width n.end (suc k)) window.next l last_share) (sym (copies-append desk.taken more)) keeps);
+    history = longer n of width workers worker state.made k state.taken more pushed pushes_now promise.history window.next sent;
+    ran = runs_longer n of width workers worker state.made k state.taken more pushed pushes_now promise.history window.next sent promise.ran motes_ran lead of_made pushes_more;
+    keeps = subst (λ m. Keeps n of worker (bound width n.end (suc k)) m (copies_of (state.taken ++ more)) last_share) (sym (edit_same promise.history.motes (suc k) window.next))
+        (subst (λ l. Keeps n of worker (bound width n.end (suc k)) window.next l last_share) (sym (copies-append state.taken more)) keeps);
     nobody = promise.nobody;
   }

@@ -11,11 +11,11 @@ use Rattle.copy_inbox.specs.declared.items.Carried.{Carried}
 use Rattle.copy_inbox.specs.Gathered.{Whole}
 use Rattle.copy_inbox.specs.Items.{BeginsWith, part}
 use Rattle.copy_inbox.specs.Handles.{InboxId, TakerView, SenderView, after_gather}
-use Rattle.copy_exchange.specs.declared.courier.Courier.{Courier}
-use Rattle.copy_exchange.specs.Couriers.{IsSeated, Stays, Together, pushed_list, pushed_to, senders_to}
-use Rattle.copy_exchange.specs.Steps.{TellsOf, gather_posts}
+use Rattle.copy_exchange.specs.declared.endpoint.Endpoint.{Endpoint}
+use Rattle.copy_exchange.specs.Endpoints.{IsSeated, Stays, Together, pushed_list, pushed_to, senders_to}
+use Rattle.copy_exchange.specs.Steps.{TellsOf, gather_senders}
 use Rattle.copy_exchange.proofs.Gathers.{gather_is}
-use Rattle.copy_exchange.proofs.Homes.{same_workers}
+use Rattle.copy_exchange.proofs.AfterWindow.{same_workers}
 use Rattle.copy_exchange.proofs.Open.{SendersOfOthers, are_senders, sender_of, sender_is}
 use Rattle.worker_window.specs.declared.share.Share.{Share}
 use Rattle.all_workers.specs.declared.workers.Workers.{Workers}
@@ -25,10 +25,10 @@ use Rattle.all_workers.proofs.Lookups.{there, read, mapped, beside, as_long}
 use Rattle.all_workers.proofs.Numbered.{numbered}
 use Rattle.all_workers.specs.declared.worker.Worker.{Worker}
 use Rattle.marked_workers.specs.Bounds.{windows_of}
-use Rattle.marked_workers.specs.Crew.{EndsMarked, EndAllMarked}
-use Rattle.marked_workers.specs.Run.{RunsAllMarked, couriers_of}
+use Rattle.marked_workers.specs.AtEnd.{EndsMarked, EndAllMarked}
+use Rattle.marked_workers.specs.Run.{RunsAllMarked, endpoints_of}
 use Rattle.marked_workers.specs.Senders.{AreSenders}
-use Rattle.marked_workers.specs.Story.{RunsMarked}
+use Rattle.marked_workers.specs.WorkerHistory.{RunsMarked}
 use Rattle.marked_workers.specs.Thread.{RunsAllWindows}
 use Rattle.marked_workers.proofs.Bounds.{are_windows}
 use Rattle.marked_workers.proofs.Ends.{ends}
@@ -37,40 +37,40 @@ of_others : (workers worker : ℕ) (sender : ℕ → Option SenderView) (made : 
 of_others workers worker sender made senders h = record { numbered = h.numbered; made_is = h.made_is; others = h.others; of_worker = h.of_worker; worker_of = h.worker_of }
 
 module _ (n : NetTold) (of : List ℕ) (width windows : ℕ) (inboxes : List InboxId) where
-  all_stay : (xs ys : List Worker) → AllZip (RunsAllWindows n of width windows inboxes) xs ys → AllZip Stays (couriers_of xs) (couriers_of ys)
+  all_stay : (xs ys : List Worker) → AllZip (RunsAllWindows n of width windows inboxes) xs ys → AllZip Stays (endpoints_of xs) (endpoints_of ys)
   all_stay [] [] h = tt
   all_stay [] (y ∷ ys) h = h
   all_stay (x ∷ xs) [] h = h
   all_stay (x ∷ xs) (y ∷ ys) h = (h.0.stays, all_stay xs ys h.1)
 
-  pub all_seated : (xs ys : List Worker) → AllZip (RunsAllWindows n of width windows inboxes) xs ys → Each (IsSeated inboxes) (couriers_of ys)
+  pub all_seated : (xs ys : List Worker) → AllZip (RunsAllWindows n of width windows inboxes) xs ys → Each (IsSeated inboxes) (endpoints_of ys)
   all_seated [] [] h = tt
   all_seated [] (y ∷ ys) h = absurd h
   all_seated (x ∷ xs) [] h = tt
   all_seated (x ∷ xs) (y ∷ ys) h = (h.0.seated, all_seated xs ys h.1)
 
-  -- the couriers are back, each that of its worker
-  pub all_back : (xs ys : List Worker) → Together inboxes (couriers_of xs) → AllZip (RunsAllWindows n of width windows inboxes) xs ys
-      → map (λ (c : Courier). c.worker) (couriers_of ys) ≡ range_with_len 0 (length inboxes)
-  all_back xs ys together ran = same_workers (couriers_of xs) (couriers_of ys) (all_stay xs ys ran) ∙ together.workers
+  -- the endpoints at the end, each that of its worker
+  pub all_back : (xs ys : List Worker) → Together inboxes (endpoints_of xs) → AllZip (RunsAllWindows n of width windows inboxes) xs ys
+      → map (λ (c : Endpoint). c.worker) (endpoints_of ys) ≡ range_with_len 0 (length inboxes)
+  all_back xs ys together ran = same_workers (endpoints_of xs) (endpoints_of ys) (all_stay xs ys ran) ∙ together.workers
 
 module _ (n : NetTold) (of : List ℕ) (width : ℕ) (old new : Workers) (cut : IsCut (length n.motes) (length new.inboxes.items) of) (ran : RunsAllMarked n of width old new) where
   abbrev ids : List InboxId
   ids = new.inboxes.items
 
-  abbrev set_out : List Courier
-  set_out = couriers_of ran.first
+  abbrev starts : List Endpoint
+  starts = endpoints_of ran.first
 
-  abbrev back : List Courier
-  back = couriers_of ran.done
+  abbrev back : List Endpoint
+  back = endpoints_of ran.done
 
   first_long : length ran.first ≡ length ids
-  first_long = sym (length-map ran.first (λ (x : Worker). x.courier)) ∙ (sym (length-map set_out (λ (c : Courier). c.worker)) ∙ (ap length ran.together.workers ∙ length-range_with_len 0 (length ids)))
+  first_long = sym (length-map ran.first (λ (x : Worker). x.endpoint)) ∙ (sym (length-map starts (λ (c : Endpoint). c.worker)) ∙ (ap length ran.together.workers ∙ length-range_with_len 0 (length ids)))
 
   done_long : length ran.done ≡ length ids
   done_long = as_long _ ran.first ran.done ran.ran ∙ first_long
 
-  stays : AllZip Stays set_out back
+  stays : AllZip Stays starts back
   stays = all_stay n of width (windows_of width n.end) ids ran.first ran.done ran.ran
 
   seated : Each (IsSeated ids) back
@@ -79,40 +79,40 @@ module _ (n : NetTold) (of : List ℕ) (width : ℕ) (old new : Workers) (cut : 
   -- one worker, its number, and its taker
   module _ (v : ℕ) (low : v < length ids) (w : Worker) (at_first : slice_get ran.first v ≡ Some w) (d : Worker) (at_done : slice_get ran.done v ≡ Some d)
       (has_run : RunsAllWindows n of width (windows_of width n.end) ids w d) (t : TakerView) (at_taker : slice_get new.takers.items v ≡ Some t) where
-    its : w.courier.worker ≡ v
-    its = numbered (length ids) set_out ran.together.workers v low w.courier (mapped (λ (x : Worker). x.courier) ran.first v w at_first)
+    its : w.endpoint.worker ≡ v
+    its = numbered (length ids) starts ran.together.workers v low w.endpoint (mapped (λ (x : Worker). x.endpoint) ran.first v w at_first)
 
-    at_back : slice_get back v ≡ Some d.courier
-    at_back = mapped (λ (x : Worker). x.courier) ran.done v d at_done
+    at_back : slice_get back v ≡ Some d.endpoint
+    at_back = mapped (λ (x : Worker). x.endpoint) ran.done v d at_done
 
-    taker_is : t ≡ gather_posts d.courier.taker (senders_to back v)
-    taker_is = ran.back.taker v d.courier t at_back at_taker
+    taker_is : t ≡ gather_senders d.endpoint.taker (senders_to back v)
+    taker_is = ran.back.taker v d.endpoint t at_back at_taker
 
-    taker_inbox : t.inbox ≡ d.courier.taker.inbox
-    taker_inbox = ap (λ (x : TakerView). x.inbox) (ran.back.taker v d.courier t at_back at_taker ∙ gather_is d.courier.taker (senders_to back v))
+    taker_inbox : t.inbox ≡ d.endpoint.taker.inbox
+    taker_inbox = ap (λ (x : TakerView). x.inbox) (ran.back.taker v d.endpoint t at_back at_taker ∙ gather_is d.endpoint.taker (senders_to back v))
 
-    its_inbox : slice_get ids v ≡ Some d.courier.taker.inbox
-    its_inbox = subst (λ k. slice_get ids k ≡ Some d.courier.taker.inbox) (has_run.stays.worker ∙ its) has_run.seated.taker
+    its_inbox : slice_get ids v ≡ Some d.endpoint.taker.inbox
+    its_inbox = subst (λ k. slice_get ids k ≡ Some d.endpoint.taker.inbox) (has_run.stays.worker ∙ its) has_run.seated.taker
 
-    pushed_same : (u : ℕ) → pushed_to d.courier u ≡ pushed_list (sender_of back u v)
-    pushed_same u = ap pushed_list (sym (sender_is back u v d.courier at_back))
+    pushed_same : (u : ℕ) → pushed_to d.endpoint u ≡ pushed_list (sender_of back u v)
+    pushed_same u = ap pushed_list (sym (sender_is back u v d.endpoint at_back))
 
-    promise : RunsMarked n of width (windows_of width n.end) (length ids) v d.share d.courier.taker.desk (λ u. pushed_list (sender_of back u v))
-    promise = subst (λ k. RunsMarked n of width (windows_of width n.end) (length ids) k d.share d.courier.taker.desk (λ u. pushed_list (sender_of back u v))) its
-        (subst (λ (p : ℕ → List Carried). RunsMarked n of width (windows_of width n.end) (length ids) w.courier.worker d.share d.courier.taker.desk p) (λ i u. pushed_same u i) has_run.promise)
+    promise : RunsMarked n of width (windows_of width n.end) (length ids) v d.share d.endpoint.taker.state (λ u. pushed_list (sender_of back u v))
+    promise = subst (λ k. RunsMarked n of width (windows_of width n.end) (length ids) k d.share d.endpoint.taker.state (λ u. pushed_list (sender_of back u v))) its
+        (subst (λ (p : ℕ → List Carried). RunsMarked n of width (windows_of width n.end) (length ids) w.endpoint.worker d.share d.endpoint.taker.state p) (λ i u. pushed_same u i) has_run.promise)
 
     pub one_ends : EndsMarked n of width (windows_of width n.end) (length ids) (sender_of back) v d.share t
     one_ends = record {
-      before = d.courier.taker;
+      before = d.endpoint.taker;
       promise = promise;
       senders = senders_to back v;
-      are_senders = of_others (length ids) v (sender_of back v) d.courier.taker.desk.made (senders_to back v) (are_senders ids set_out back ran.together ran.none_gathered stays seated v d.courier at_back);
-      begun = every_weaker (λ (s : SenderView). TellsOf d.courier.taker.desk s.post) (λ (s : SenderView). BeginsWith s.post.pushed (part s.post.number d.courier.taker.desk.taken)) (λ s h. h.begun) (senders_to back v) (ran.back.told v d.courier at_back);
+      are_senders = of_others (length ids) v (sender_of back v) d.endpoint.taker.state.made (senders_to back v) (are_senders ids starts back ran.together ran.none_gathered stays seated v d.endpoint at_back);
+      begun = every_weaker (λ (s : SenderView). TellsOf d.endpoint.taker.state s.state) (λ (s : SenderView). BeginsWith s.state.pushed (part s.state.number d.endpoint.taker.state.taken)) (λ s h. h.begun) (senders_to back v) (ran.back.told v d.endpoint at_back);
       gathered = taker_is;
     }
 
   takers_long : length new.takers.items ≡ length ids
-  takers_long = ran.back.count ∙ (length-map ran.done (λ (x : Worker). x.courier) ∙ done_long)
+  takers_long = ran.back.count ∙ (length-map ran.done (λ (x : Worker). x.endpoint) ∙ done_long)
 
   -- what stands at a worker's place
   pub record Stands (v : ℕ) : Type 0 where
@@ -144,22 +144,22 @@ module _ (n : NetTold) (of : List ℕ) (width : ℕ) (old new : Workers) (cut : 
       let s = stands v low in
       ap (λ (x : TakerView). x.inbox) (read new.takers.items v s.t taker s.at_taker)
       ∙ (taker_inbox v low s.w s.at_first s.d s.at_done s.has_run s.t s.at_taker
-      ∙ sym (read ids v s.d.courier.taker.inbox id (its_inbox v low s.w s.at_first s.d s.at_done s.has_run s.t s.at_taker)))
+      ∙ sym (read ids v s.d.endpoint.taker.inbox id (its_inbox v low s.w s.at_first s.d s.at_done s.has_run s.t s.at_taker)))
 
   pub ends_marked : EndAllMarked n of width (windows_of width n.end) new
   ends_marked = record {
     cut = cut;
     shares = ap length ran.shares ∙ (length-map ran.done (λ (w : Worker). w.share) ∙ done_long);
     takers = takers_long;
-    its = each_its;
+    inbox_of_taker = each_its;
     first_out = ran.first_out;
     sender = sender_of back;
-    each = each_ends;
+    each_worker = each_ends;
   }
 
 -- all workers stand at the end, where no window was longer than the lookahead
 pub ended : (n : NetTold) → RunsForward (system_of n) → (of : List ℕ) (width : ℕ) → 0 < width → width ≤ (system_of n).lookahead
-    → (old new : Workers) → IsCut (length n.motes) (length old.inboxes.items) of → RunsAllMarked n of width old new → IsAt n of (suc n.end) new × Each (λ (t : TakerView). Whole t.desk.gathered t.desk.taken) new.takers.items
+    → (old new : Workers) → IsCut (length n.motes) (length old.inboxes.items) of → RunsAllMarked n of width old new → IsAt n of (suc n.end) new × Each (λ (t : TakerView). Whole t.state.gathered t.state.taken) new.takers.items
 ended n fine of width wide short old new cut ran =
     let cut_now : IsCut (length n.motes) (length new.inboxes.items) of = subst (λ (l : List InboxId). IsCut (length n.motes) (length l) of) (sym ran.inboxes) cut in
     ends n fine of width (windows_of width n.end) short (are_windows width n.end wide) new (ends_marked n of width old new cut_now ran)

@@ -7,14 +7,14 @@ use Rattle.mote_net.specs.Net.{NetTold}
 use Rattle.window_laws.proofs.Lists.{every_weaker}
 use Rattle.worker_cut.specs.Crossed.{is_own}
 use Rattle.copy_inbox.specs.declared.items.Item.{Item}
-use Rattle.copy_inbox.specs.declared.rule.Desk.{Desk}
+use Rattle.copy_inbox.specs.declared.rule.TakerState.{TakerState}
 use Rattle.copy_inbox.specs.declared.rule.Gathered.{Gathered}
 use Rattle.copy_inbox.specs.Items.{copies_of, Packets, part, BeginsWith, OfMade}
 use Rattle.copy_inbox.specs.Gathered.{is_gathered, untaken_of, Whole}
 use Rattle.copy_inbox.specs.Handles.{TakerView, SenderView, after_gather, AllGathered, PacketsLeft}
 use Rattle.copy_inbox.proofs.Parts.{part-not_nil}
-use Rattle.copy_exchange.specs.Couriers.{AreOpen, pushed_list}
-use Rattle.copy_exchange.specs.Desks.{copies_in, IsOrderly}
+use Rattle.copy_exchange.specs.Endpoints.{AreOpen, pushed_list}
+use Rattle.copy_exchange.specs.Takers.{copies_in, IsOrderly}
 use Rattle.copy_exchange.proofs.Gathers.{OneOf, copies_by, as_gathered, joined, with_joined, all_gathered, stands_then}
 use Rattle.copy_exchange.proofs.Parts.{from}
 use Rattle.mark_exchange.specs.Pushes.{packets_in, pushes, marks_in}
@@ -36,7 +36,7 @@ module _ (n : NetTold) (of : List ℕ) (width windows workers : ℕ) (all : AllR
     there : worker < workers
     other : worker ≢ u
     at : all.sender u worker ≡ Some a
-    pushed : a.post.pushed ≡ pushes windows (sent_to n of width windows workers all worker u)
+    pushed : a.state.pushed ≡ pushes windows (sent_to n of width windows workers all worker u)
 
   owner : (j : ℕ) (a : SenderView) → slice_get (all.senders u) j ≡ Some a → Owner a
   owner j a e =
@@ -57,7 +57,7 @@ module _ (n : NetTold) (of : List ℕ) (width windows workers : ℕ) (all : AllR
       all_is_taken windows (sent_to n of width windows workers all v u) (part p.number (all.taken u)) p.begins
       (subst (λ l. windows ≤ marks_in (part p.number l)) ran.all (ran.marks_lead windows (omega arith) p.number p.was_made))
 
-  pub all_taken : Each (λ (a : SenderView). part a.post.number (all.taken u) ≡ a.post.pushed) (all.senders u)
+  pub all_taken : Each (λ (a : SenderView). part a.state.number (all.taken u) ≡ a.state.pushed) (all.senders u)
   all_taken = each_from _ (all.senders u) (λ j a e.
       let o = owner j a e in
       ap (λ i. part i (all.taken u)) ((pair n of width windows workers all u o.worker lu o.there o.other).only a o.at) ∙ (pair_taken o.worker o.there o.other ∙ sym o.pushed))
@@ -86,10 +86,10 @@ module _ (n : NetTold) (of : List ℕ) (width windows workers : ℕ) (all : AllR
             each = each_from _ (all.senders u) (λ j a f. by_owner p a (owner j a f));
           }
         where
-          by_owner : (p : Pair n of width windows workers all u v) (a : SenderView) → Owner a → (a.post.number ≡ p.number) ⊎ (from s (copies_by a) ≡ [])
+          by_owner : (p : Pair n of width windows workers all u v) (a : SenderView) → Owner a → (a.state.number ≡ p.number) ⊎ (from s (copies_by a) ≡ [])
           by_owner p a o = of_same (cases_eq v o.worker)
             where
-              of_same : (v ≡ o.worker) ⊎ (v ≡ o.worker → ⊥) → (a.post.number ≡ p.number) ⊎ (from s (copies_by a) ≡ [])
+              of_same : (v ≡ o.worker) ⊎ (v ≡ o.worker → ⊥) → (a.state.number ≡ p.number) ⊎ (from s (copies_by a) ≡ [])
               of_same (inl same) = inl (p.only a (subst (λ w. all.sender u w ≡ Some a) (sym same) o.at))
               of_same (inr else_) = inr (none_of_owner s a o (not_other of v o.worker s e else_))
 
@@ -107,10 +107,10 @@ none_left [] h = refl
 none_left (x ∷ xs) h = absurd (part-not_nil x xs (h x.sender))
 
 -- a taker that has taken and gathered nothing, however many senders it made
-abbrev before_all : Desk → Desk
+abbrev before_all : TakerState → TakerState
 before_all d = record d { taken = []; gathered = [] }
 
-stands_before : (d : Desk) → IsOrderly (before_all d)
+stands_before : (d : TakerState) → IsOrderly (before_all d)
 stands_before d = record {
   in_order = λ rest is s. ap (λ l. from s (copies_of l)) (none_left rest (λ k. is.1 k refl));
   begun = tt;
@@ -124,9 +124,9 @@ joined_each : (P : Gathered → Type 0) (made : ℕ) (ss : List SenderView) (gs 
 joined_each P made [] gs h k = k
 joined_each P made (a ∷ ss) gs h k = joined_each P made ss (as_gathered made a ∷ gs) h.1 (h.0, k)
 
-module _ (workers worker : ℕ) (sender : ℕ → Option SenderView) (d : Desk) (ss : List SenderView) (are : AreSenders workers worker sender d.made ss) (of_made : OfMade d.made d.taken)
-    (begun : Each (λ (a : SenderView). BeginsWith a.post.pushed (part a.post.number d.taken)) ss) (whole : Each (λ (a : SenderView). part a.post.number d.taken ≡ a.post.pushed) ss) (one : (s : ℕ) → OneOf s ss) where
-  abbrev then : Desk
+module _ (workers worker : ℕ) (sender : ℕ → Option SenderView) (d : TakerState) (ss : List SenderView) (are : AreSenders workers worker sender d.made ss) (of_made : OfMade d.made d.taken)
+    (begun : Each (λ (a : SenderView). BeginsWith a.state.pushed (part a.state.number d.taken)) ss) (whole : Each (λ (a : SenderView). part a.state.number d.taken ≡ a.state.pushed) ss) (one : (s : ℕ) → OneOf s ss) where
+  abbrev then : TakerState
   then = with_joined ss (record d { gathered = [] })
 
   are_open : AreOpen ss (before_all d)
@@ -146,10 +146,10 @@ module _ (workers worker : ℕ) (sender : ℕ → Option SenderView) (d : Desk) 
 
   -- nothing is left, so no mark
   pub no_mark : PacketsLeft then
-  no_mark = joined_each (λ g. Packets (untaken_of d.taken g)) d.made ss [] (every_weaker (λ (a : SenderView). part a.post.number d.taken ≡ a.post.pushed) (λ a. Packets (untaken_of d.taken (as_gathered d.made a))) nothing_left ss whole) tt
+  no_mark = joined_each (λ g. Packets (untaken_of d.taken g)) d.made ss [] (every_weaker (λ (a : SenderView). part a.state.number d.taken ≡ a.state.pushed) (λ a. Packets (untaken_of d.taken (as_gathered d.made a))) nothing_left ss whole) tt
     where
-      nothing_left : (a : SenderView) → part a.post.number d.taken ≡ a.post.pushed → Packets (untaken_of d.taken (as_gathered d.made a))
-      nothing_left a e = subst (λ l. Packets (drop (length l) a.post.pushed)) (sym e) (subst Packets (sym (drop-length a.post.pushed)) tt)
+      nothing_left : (a : SenderView) → part a.state.number d.taken ≡ a.state.pushed → Packets (untaken_of d.taken (as_gathered d.made a))
+      nothing_left a e = subst (λ l. Packets (drop (length l) a.state.pushed)) (sym e) (subst Packets (sym (drop-length a.state.pushed)) tt)
 
   no_others : (s : ℕ) → is_gathered then.gathered s ≡ false → part s d.taken ≡ []
   no_others s e = of_case (cases_lt s d.made)

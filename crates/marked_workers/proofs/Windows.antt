@@ -10,15 +10,15 @@ use Rattle.worker_cut.specs.Crossed.{is_to, IsDue}
 use Rattle.copy_inbox.specs.declared.items.Carried.{Carried}
 use Rattle.copy_inbox.specs.declared.items.Carried.TheVariants.{Packet, Mark}
 use Rattle.copy_inbox.specs.declared.items.Item.{Item}
-use Rattle.copy_inbox.specs.declared.rule.Desk.{Desk}
+use Rattle.copy_inbox.specs.declared.rule.TakerState.{TakerState}
 use Rattle.copy_inbox.specs.Items.{copies_of, part, OfMade}
 use Rattle.copy_inbox.specs.Handles.{InboxId, TakerView, after_taking}
 use Rattle.copy_inbox.proofs.Parts.{part-append, part-else}
-use Rattle.copy_exchange.specs.Couriers.{IsSeated, Reaches, Stays, pushed_list, pushed_to}
+use Rattle.copy_exchange.specs.Endpoints.{IsSeated, Reaches, Stays, pushed_list, pushed_to}
 use Rattle.copy_exchange.proofs.Delivered.{stays_on}
 use Rattle.copy_exchange.proofs.Marked.{marks_stay, stays_same}
-use Rattle.copy_exchange.specs.declared.courier.Courier.{Courier}
-use Rattle.mark_exchange.specs.declared.courier.MarkCourier.{MarkCourier}
+use Rattle.copy_exchange.specs.declared.endpoint.Endpoint.{Endpoint}
+use Rattle.mark_exchange.specs.declared.endpoint.MarkEndpoint.{MarkEndpoint}
 use Rattle.mark_exchange.specs.Marks.{Counts}
 use Rattle.mark_exchange.specs.Pushes.{marks_in}
 use Rattle.mark_exchange.proofs.Delivered.{takes_stays, takes_seated}
@@ -29,8 +29,8 @@ use Rattle.all_workers.proofs.Sent.{leaves_sent}
 use Rattle.all_workers.specs.declared.worker.Worker.{Worker}
 use Rattle.marked_workers.specs.declared.worker.MarkWorker.{MarkWorker}
 use Rattle.marked_workers.specs.Bounds.{bound, windows_of, AreWindows}
-use Rattle.marked_workers.specs.Story.{RunsMarked}
-use Rattle.marked_workers.specs.Thread.{IsFirst, IsManned, IsSame, SendsWindow, TakesWindow, HasRun, RunsAllWindows}
+use Rattle.marked_workers.specs.WorkerHistory.{RunsMarked}
+use Rattle.marked_workers.specs.Thread.{IsFirst, IsStarted, IsSame, SendsWindow, TakesWindow, HasRun, RunsAllWindows}
 use Rattle.marked_workers.proofs.Bounds.{are_windows, begins_before, no_wider}
 use Rattle.marked_workers.proofs.Promise.{promise_first, promise_next}
 
@@ -49,10 +49,10 @@ of_made_more : (made : ℕ) (xs ys : List Item) → OfMade made xs → Each (λ 
 of_made_more made xs ys h more s le = part-append s xs ys ∙ (ap (λ l. l ++ part s ys) (h s le) ∙ none_of_others made ys more s le)
 
 -- a worker before its first window, with its counts of marks
-pub manned : (n : NetTold) (of : List ℕ) (inboxes : List InboxId) (w : Worker) (m : MarkCourier) → IsFirst n of inboxes w → m.courier ≡ w.courier
-    → Counts m.marks.items w.courier.taker.desk → IsManned n of inboxes (record { share = w.share; carries = m })
-manned n of inboxes w m first same counts =
-    subst (λ (x : Courier). IsManned n of inboxes (record { share = w.share; carries = record m { courier = x } })) (sym same) (record {
+pub started : (n : NetTold) (of : List ℕ) (inboxes : List InboxId) (w : Worker) (m : MarkEndpoint) → IsFirst n of inboxes w → m.endpoint ≡ w.endpoint
+    → Counts m.marks.items w.endpoint.taker.state → IsStarted n of inboxes (record { share = w.share; exchange = m })
+started n of inboxes w m first same counts =
+    subst (λ (x : Endpoint). IsStarted n of inboxes (record { share = w.share; exchange = record m { endpoint = x } })) (sym same) (record {
       cut = first.cut;
       keeps = first.keeps;
       seated = first.seated;
@@ -67,20 +67,20 @@ manned n of inboxes w m first same counts =
 pub told_of : (n : NetTold) (of : List ℕ) (width windows : ℕ) (inboxes : List InboxId) (w d : Worker) (m e : MarkWorker) → IsSame w m → IsSame d e
     → HasRun n of width windows inboxes m e → RunsAllWindows n of width windows inboxes w d
 told_of n of width windows inboxes w d m e before after ran = record {
-  stays = subst (λ x. Stays x d.courier) before.courier (subst (Stays m.carries.courier) after.courier ran.stays);
-  promise = subst (λ (x : Courier). RunsMarked n of width windows (length inboxes) x.worker d.share d.courier.taker.desk (pushed_to d.courier)) before.courier
-      (subst (λ (x : Courier). RunsMarked n of width windows (length inboxes) m.carries.courier.worker d.share x.taker.desk (pushed_to x)) after.courier
-      (subst (λ s. RunsMarked n of width windows (length inboxes) m.carries.courier.worker s e.carries.courier.taker.desk (pushed_to e.carries.courier)) after.share ran.promise));
-  seated = subst (IsSeated inboxes) after.courier ran.seated;
+  stays = subst (λ x. Stays x d.endpoint) before.endpoint (subst (Stays m.exchange.endpoint) after.endpoint ran.stays);
+  promise = subst (λ (x : Endpoint). RunsMarked n of width windows (length inboxes) x.worker d.share d.endpoint.taker.state (pushed_to d.endpoint)) before.endpoint
+      (subst (λ (x : Endpoint). RunsMarked n of width windows (length inboxes) m.exchange.endpoint.worker d.share x.taker.state (pushed_to x)) after.endpoint
+      (subst (λ s. RunsMarked n of width windows (length inboxes) m.exchange.endpoint.worker s e.exchange.endpoint.taker.state (pushed_to e.exchange.endpoint)) after.share ran.promise));
+  seated = subst (IsSeated inboxes) after.endpoint ran.seated;
 }
 
 -- before its first window
-pub no_window : (n : NetTold) (of : List ℕ) (width : ℕ) (inboxes : List InboxId) (w : MarkWorker) → IsManned n of inboxes w → HasRun n of width 0 inboxes w w
+pub no_window : (n : NetTold) (of : List ℕ) (width : ℕ) (inboxes : List InboxId) (w : MarkWorker) → IsStarted n of inboxes w → HasRun n of width 0 inboxes w w
 no_window n of width inboxes w m = record {
-  stays = stays_same w.carries.courier;
-  promise = subst (λ (p : ℕ → List Carried). RunsMarked n of width 0 (length inboxes) w.carries.courier.worker w.share w.carries.courier.taker.desk p)
+  stays = stays_same w.exchange.endpoint;
+  promise = subst (λ (p : ℕ → List Carried). RunsMarked n of width 0 (length inboxes) w.exchange.endpoint.worker w.share w.exchange.endpoint.taker.state p)
       (λ i v. sym (m.none_pushed v) i)
-      (promise_first n of width (length inboxes) w.carries.courier.worker w.share w.carries.courier.taker.desk m.none_taken m.none_gathered m.keeps);
+      (promise_first n of width (length inboxes) w.exchange.endpoint.worker w.share w.exchange.endpoint.taker.state m.none_taken m.none_gathered m.keeps);
   seated = m.seated;
   marked = m.marked;
   counts = m.counts;
@@ -98,55 +98,55 @@ module _ (n : NetTold) (of : List ℕ) (width k until : ℕ) (inboxes : List Inb
   -- can run through the next
   pub can_run : CanRun n of until old.share []
   can_run = record {
-    worker = first.carries.courier.worker;
+    worker = first.exchange.endpoint.worker;
     from = bound width n.end k;
-    motes = stands.promise.story.motes k;
-    taken = copies_of old.carries.courier.taker.desk.taken;
+    motes = stands.promise.history.motes k;
+    taken = copies_of old.exchange.endpoint.taker.state.taken;
     keeps = stands.promise.keeps;
     order = up;
     come = tt;
   }
 
   -- and once it did, it is behind one more
-  module _ (short : width ≤ (system_of n).lookahead) (between new : MarkWorker) (sends : SendsWindow n of (length inboxes) k until old between) (seated : IsSeated inboxes between.carries.courier) (takes : TakesWindow of k until between new) where
+  module _ (short : width ≤ (system_of n).lookahead) (between new : MarkWorker) (sends : SendsWindow n of (length inboxes) k until old between) (seated : IsSeated inboxes between.exchange.endpoint) (takes : TakesWindow of k until between new) where
     abbrev worker : ℕ
-    worker = first.carries.courier.worker
+    worker = first.exchange.endpoint.worker
 
-    abbrev desk : Desk
-    desk = old.carries.courier.taker.desk
+    abbrev state : TakerState
+    state = old.exchange.endpoint.taker.state
 
     abbrev more : List Item
     more = takes.took.items
 
-    ran : RunsWindow n of worker (bound width n.end k) until (stands.promise.story.motes k) (copies_of desk.taken) between.share sends.sent
+    ran : RunsWindow n of worker (bound width n.end k) until (stands.promise.history.motes k) (copies_of state.taken) between.share sends.sent
     ran =
         let b = no_wider width n.end (windows_of width n.end) are k low in
         let e = at in
         let s = short in
-        sends.runs worker (bound width n.end k) (stands.promise.story.motes k) (copies_of desk.taken) stands.promise.keeps up (omega arith)
+        sends.runs worker (bound width n.end k) (stands.promise.history.motes k) (copies_of state.taken) stands.promise.keeps up (omega arith)
 
     goes : Each (GoesOut n of worker) sends.sent
     goes = subst (λ w. Each (GoesOut n of w) sends.sent) stands.promise.keeps.is_worker sends.out
 
-    taker_is : new.carries.courier.taker ≡ after_taking old.carries.courier.taker more
+    taker_is : new.exchange.endpoint.taker ≡ after_taking old.exchange.endpoint.taker more
     taker_is = takes.took.taker ∙ ap (λ t. after_taking t more) sends.pushes.taker
 
-    between_made : between.carries.courier.taker.desk.made ≡ desk.made
-    between_made = ap (λ (t : TakerView). t.desk.made) sends.pushes.taker
+    between_made : between.exchange.endpoint.taker.state.made ≡ state.made
+    between_made = ap (λ (t : TakerView). t.state.made) sends.pushes.taker
 
-    of_made : OfMade desk.made (desk.taken ++ more)
-    of_made = of_made_more desk.made desk.taken more stands.promise.ran.of_made (subst (λ m. Each (λ (x : Item). x.sender < m) more) between_made takes.took.made)
+    of_made : OfMade state.made (state.taken ++ more)
+    of_made = of_made_more state.made state.taken more stands.promise.ran.of_made (subst (λ m. Each (λ (x : Item). x.sender < m) more) between_made takes.took.made)
 
-    lead : (s : ℕ) → s < desk.made → suc k ≤ marks_in (part s (desk.taken ++ more))
+    lead : (s : ℕ) → s < state.made → suc k ≤ marks_in (part s (state.taken ++ more))
     lead s there =
-        let made : new.carries.courier.taker.desk.made ≡ desk.made = ap (λ (t : TakerView). t.desk.made) taker_is in
-        let taken : new.carries.courier.taker.desk.taken ≡ desk.taken ++ more = ap (λ (t : TakerView). t.desk.taken) taker_is in
+        let made : new.exchange.endpoint.taker.state.made ≡ state.made = ap (λ (t : TakerView). t.state.made) taker_is in
+        let taken : new.exchange.endpoint.taker.state.taken ≡ state.taken ++ more = ap (λ (t : TakerView). t.state.taken) taker_is in
         let all = takes.counts.all in
         let counted = takes.counts.each s 0 (omega arith) ∙ ap (λ l. marks_in (part s l)) taken in
         let past = takes.past s 0 (omega arith) in
         omega arith
 
-    pushes_more : (v : ℕ) → v < length inboxes → v ≢ worker → pushed_to new.carries.courier v ≡ pushed_to old.carries.courier v ++ (map Packet (filter (is_to of v) sends.sent) ++ Mark k ∷ [])
+    pushes_more : (v : ℕ) → v < length inboxes → v ≢ worker → pushed_to new.exchange.endpoint v ≡ pushed_to old.exchange.endpoint v ++ (map Packet (filter (is_to of v) sends.sent) ++ Mark k ∷ [])
     pushes_more v there other =
         ap (λ s. pushed_list (get_or s.items v None)) takes.senders
         ∙ sends.pushes.pushes v there (ap (λ w. v == w) stands.stays.worker ∙ ne_eqb v worker other)
@@ -154,29 +154,29 @@ module _ (n : NetTold) (of : List ℕ) (width k until : ℕ) (inboxes : List Inb
     arrived_come : Each (IsDue of worker until) takes.arrived
     arrived_come = subst (λ w. Each (IsDue of w until) takes.arrived) (sends.pushes.stays.worker ∙ stands.stays.worker) takes.took.due
 
-    keeps : Keeps n of worker until ran.next (copies_of desk.taken ++ copies_of more) new.share
-    keeps = subst (λ l. Keeps n of worker until ran.next (copies_of desk.taken ++ l) new.share) takes.took.arrived
-        (takes.keeps n of worker until ran.next (copies_of desk.taken) ran.keeps arrived_come)
+    keeps : Keeps n of worker until ran.next (copies_of state.taken ++ copies_of more) new.share
+    keeps = subst (λ l. Keeps n of worker until ran.next (copies_of state.taken ++ l) new.share) takes.took.arrived
+        (takes.keeps n of worker until ran.next (copies_of state.taken) ran.keeps arrived_come)
 
-    stays : Stays old.carries.courier new.carries.courier
-    stays = stays_on old.carries.courier between.carries.courier new.carries.courier sends.pushes.stays
-        (takes_stays of until between.carries.courier new.carries.courier takes.arrived takes.took takes.worker takes.senders)
+    stays : Stays old.exchange.endpoint new.exchange.endpoint
+    stays = stays_on old.exchange.endpoint between.exchange.endpoint new.exchange.endpoint sends.pushes.stays
+        (takes_stays of until between.exchange.endpoint new.exchange.endpoint takes.arrived takes.took takes.worker takes.senders)
 
     pub one_more : HasRun n of width (suc k) inboxes first new
     one_more = record {
-      stays = stays_on first.carries.courier old.carries.courier new.carries.courier stands.stays stays;
-      promise = subst (λ (t : TakerView). RunsMarked n of width (suc k) (length inboxes) worker new.share t.desk (pushed_to new.carries.courier)) (sym taker_is) promise;
-      seated = takes_seated inboxes of until between.carries.courier new.carries.courier takes.arrived takes.took takes.worker takes.senders seated;
-      marked = marks_stay old.carries.courier new.carries.courier stays stands.marked;
+      stays = stays_on first.exchange.endpoint old.exchange.endpoint new.exchange.endpoint stands.stays stays;
+      promise = subst (λ (t : TakerView). RunsMarked n of width (suc k) (length inboxes) worker new.share t.state (pushed_to new.exchange.endpoint)) (sym taker_is) promise;
+      seated = takes_seated inboxes of until between.exchange.endpoint new.exchange.endpoint takes.arrived takes.took takes.worker takes.senders seated;
+      marked = marks_stay old.exchange.endpoint new.exchange.endpoint stays stands.marked;
       counts = takes.counts;
     }
       where
         Ran : ℕ → Type 0
-        Ran t = (r : RunsWindow n of worker (bound width n.end k) t (stands.promise.story.motes k) (copies_of desk.taken) between.share sends.sent)
-            × Keeps n of worker t r.next (copies_of desk.taken ++ copies_of more) new.share
+        Ran t = (r : RunsWindow n of worker (bound width n.end k) t (stands.promise.history.motes k) (copies_of state.taken) between.share sends.sent)
+            × Keeps n of worker t r.next (copies_of state.taken ++ copies_of more) new.share
 
         ran_to : Ran (bound width n.end (suc k))
         ran_to = subst Ran at (ran, keeps)
 
-        promise : RunsMarked n of width (suc k) (length inboxes) worker new.share (after_taking old.carries.courier.taker more).desk (pushed_to new.carries.courier)
-        promise = promise_next n of width (length inboxes) worker k old.share between.share new.share desk (pushed_to old.carries.courier) (pushed_to new.carries.courier) more sends.sent stands.promise ran_to.0 goes lead of_made pushes_more ran_to.1
+        promise : RunsMarked n of width (suc k) (length inboxes) worker new.share (after_taking old.exchange.endpoint.taker more).state (pushed_to new.exchange.endpoint)
+        promise = promise_next n of width (length inboxes) worker k old.share between.share new.share state (pushed_to old.exchange.endpoint) (pushed_to new.exchange.endpoint) more sends.sent stands.promise ran_to.0 goes lead of_made pushes_more ran_to.1

@@ -5,32 +5,33 @@ use Rattle.mote_net.specs.Net.{NetTold}
 use Rattle.copy_inbox.specs.declared.items.Item.{Item}
 use Rattle.copy_inbox.specs.Items.{part, BeginsWith}
 use Rattle.copy_inbox.specs.Handles.{SenderView, TakerView}
-use Rattle.copy_exchange.specs.Couriers.{pushed_list}
-use Rattle.copy_exchange.specs.Steps.{gather_posts}
+use Rattle.copy_exchange.specs.Endpoints.{pushed_list}
+use Rattle.copy_exchange.specs.Steps.{gather_senders}
 use Rattle.marked_workers.specs.Senders.{AreSenders}
-use Rattle.marked_workers.specs.Story.{Story, RunsWindows}
+use Rattle.marked_workers.specs.WorkerHistory.{WorkerHistory, RunsWindows}
 
--- Each worker ran its windows by its story, and has taken of each sender on its inbox a beginning of what was pushed.
+-- Each worker ran its windows as its history says, and has taken of each sender on its inbox a beginning of what was
+-- pushed.
 -- `sender inbox worker` is the sender of a worker on an inbox.
 pub record AllRan (n : NetTold) (of : List ℕ) (width windows workers : ℕ) : Type 0 where
   pub made : ℕ → ℕ
   pub taken : ℕ → List Item
   pub sender : (inbox worker : ℕ) → Option SenderView
   pub senders : (inbox : ℕ) → List SenderView
-  pub story : ℕ → Story
+  pub history : ℕ → WorkerHistory
   pub ran : (v : ℕ) → v < workers
-      → RunsWindows n of width windows workers v (made v) (taken v) (λ u. pushed_list (sender u v)) (story v)
+      → RunsWindows n of width windows workers v (made v) (taken v) (λ u. pushed_list (sender u v)) (history v)
   pub are_senders : (u : ℕ) → u < workers → AreSenders workers u (sender u) (made u) (senders u)
   pub begun : (u : ℕ) → u < workers
-      → Each (λ (s : SenderView). BeginsWith s.post.pushed (part s.post.number (taken u))) (senders u)
+      → Each (λ (s : SenderView). BeginsWith s.state.pushed (part s.state.number (taken u))) (senders u)
 
 -- a taker that had taken these items, of so many senders, and then gathered these
 pub record HasGathered (made : ℕ) (taken : List Item) (senders : List SenderView) (taker : TakerView) : Type 0 where
   pub before : TakerView
-  pub is_made : before.desk.made ≡ made
-  pub is_taken : before.desk.taken ≡ taken
-  pub nobody : before.desk.gathered ≡ []
-  pub gathered : taker ≡ gather_posts before senders
+  pub is_made : before.state.made ≡ made
+  pub is_taken : before.state.taken ≡ taken
+  pub nobody : before.state.gathered ≡ []
+  pub gathered : taker ≡ gather_senders before senders
 
 -- Just that was taken by these takers, and just those senders are gathered.
 abbrev pub IsOfTakers : {n : NetTold} {of : List ℕ} {width windows workers : ℕ}

@@ -1,8 +1,8 @@
 pub mod All
+pub mod AtEnd
 pub mod Bounds
-pub mod Crew
 pub mod Refusals
 pub mod Run
 pub mod Senders
-pub mod Story
 pub mod Thread
+pub mod WorkerHistory

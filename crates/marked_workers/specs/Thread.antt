@@ -6,7 +6,7 @@ use Rattle.mote_net.specs.Net.{NetTold}
 use Rattle.window_laws.specs.Windows.{first_mote}
 use Rattle.net_agenda.specs.NetSystem.{system_of}
 use Rattle.copy_inbox.specs.Handles.{InboxId}
-use Rattle.copy_exchange.specs.Couriers.{HasMarks, HasPushedNothing, IsSeated, Stays, pushed_to}
+use Rattle.copy_exchange.specs.Endpoints.{HasMarks, HasPushedNothing, IsSeated, Stays, pushed_to}
 use Rattle.mark_exchange.specs.Delivers.{PushesWindow}
 use Rattle.mark_exchange.specs.Due.{TakesDue}
 use Rattle.mark_exchange.specs.Marks.{AllPast, Counts}
@@ -16,72 +16,73 @@ use Rattle.worker_cut.specs.Crossed.{IsDue}
 use Rattle.all_workers.specs.Workers.{IsCut}
 use Rattle.all_workers.specs.declared.worker.Worker.{Worker}
 use Rattle.marked_workers.specs.declared.worker.MarkWorker.{MarkWorker}
-use Rattle.marked_workers.specs.Story.{RunsMarked}
+use Rattle.marked_workers.specs.WorkerHistory.{RunsMarked}
 
 -- A worker before its first window: its share is as it began, on its inbox a sender of each other worker was made, and
 -- nothing was pushed or taken.
 pub record IsFirst (n : NetTold) (of : List ℕ) (inboxes : List InboxId) (w : Worker) : Type 0 where
   pub cut : IsCut (length n.motes) (length inboxes) of
-  pub keeps : Keeps n of w.courier.worker 0 (first_mote (system_of n)) [] w.share
-  pub seated : IsSeated inboxes w.courier
-  pub marked : HasMarks w.courier
-  pub made : suc w.courier.taker.desk.made ≡ length inboxes
-  pub none_taken : w.courier.taker.desk.taken ≡ []
-  pub none_gathered : w.courier.taker.desk.gathered ≡ []
-  pub none_pushed : HasPushedNothing w.courier
+  pub keeps : Keeps n of w.endpoint.worker 0 (first_mote (system_of n)) [] w.share
+  pub seated : IsSeated inboxes w.endpoint
+  pub marked : HasMarks w.endpoint
+  pub made : suc w.endpoint.taker.state.made ≡ length inboxes
+  pub none_taken : w.endpoint.taker.state.taken ≡ []
+  pub none_gathered : w.endpoint.taker.state.gathered ≡ []
+  pub none_pushed : HasPushedNothing w.endpoint
 
 -- the same worker, with counts of marks
 pub record IsSame (w : Worker) (m : MarkWorker) : Type 0 where
   pub share : m.share ≡ w.share
-  pub courier : m.carries.courier ≡ w.courier
+  pub endpoint : m.exchange.endpoint ≡ w.endpoint
 
 -- a worker in its thread before its first window
-pub record IsManned (n : NetTold) (of : List ℕ) (inboxes : List InboxId) (w : MarkWorker) : Type 0 where
+pub record IsStarted (n : NetTold) (of : List ℕ) (inboxes : List InboxId) (w : MarkWorker) : Type 0 where
   pub cut : IsCut (length n.motes) (length inboxes) of
-  pub keeps : Keeps n of w.carries.courier.worker 0 (first_mote (system_of n)) [] w.share
-  pub seated : IsSeated inboxes w.carries.courier
-  pub marked : HasMarks w.carries.courier
-  pub counts : Counts w.carries.marks.items w.carries.courier.taker.desk
-  pub none_taken : w.carries.courier.taker.desk.taken ≡ []
-  pub none_gathered : w.carries.courier.taker.desk.gathered ≡ []
-  pub none_pushed : HasPushedNothing w.carries.courier
+  pub keeps : Keeps n of w.exchange.endpoint.worker 0 (first_mote (system_of n)) [] w.share
+  pub seated : IsSeated inboxes w.exchange.endpoint
+  pub marked : HasMarks w.exchange.endpoint
+  pub counts : Counts w.exchange.marks.items w.exchange.endpoint.taker.state
+  pub none_taken : w.exchange.endpoint.taker.state.taken ≡ []
+  pub none_gathered : w.exchange.endpoint.taker.state.gathered ≡ []
+  pub none_pushed : HasPushedNothing w.exchange.endpoint
 
--- its motes ran through a window, and what they sent to others went out, with the window's mark behind it
+-- its motes ran through a window, and what they sent to others went out, with the window's mark after it
 pub record SendsWindow (n : NetTold) (of : List ℕ) (workers window until : ℕ) (old new : MarkWorker) : Type 0 where
   pub sent : List RadioCopy
   pub runs : (worker from : ℕ) (motes : Motes) (taken : List RadioCopy) → Keeps n of worker from motes taken old.share
       → from ≤ until → until ≤ from + (system_of n).lookahead
       → RunsWindow n of worker from until motes taken new.share sent
   pub out : Each (GoesOut n of old.share.worker) sent
-  pub pushes : PushesWindow of workers window old.carries.courier new.carries.courier sent
-  pub marks : new.carries.marks ≡ old.carries.marks
+  pub pushes : PushesWindow of workers window old.exchange.endpoint new.exchange.endpoint sent
+  pub marks : new.exchange.marks ≡ old.exchange.marks
 
 -- it took items until the window's mark of each other worker had come, and what they carry is in its share
 pub record TakesWindow (of : List ℕ) (window until : ℕ) (old new : MarkWorker) : Type 0 where
   pub arrived : List RadioCopy
-  pub took : TakesDue of old.carries.courier.worker until old.carries.courier.taker new.carries.courier.taker arrived
-  pub counts : Counts new.carries.marks.items new.carries.courier.taker.desk
-  pub past : AllPast window new.carries.marks.items
-  pub worker : new.carries.courier.worker ≡ old.carries.courier.worker
-  pub senders : new.carries.courier.senders ≡ old.carries.courier.senders
+  pub took : TakesDue of old.exchange.endpoint.worker until old.exchange.endpoint.taker new.exchange.endpoint.taker
+      arrived
+  pub counts : Counts new.exchange.marks.items new.exchange.endpoint.taker.state
+  pub past : AllPast window new.exchange.marks.items
+  pub worker : new.exchange.endpoint.worker ≡ old.exchange.endpoint.worker
+  pub senders : new.exchange.endpoint.senders ≡ old.exchange.endpoint.senders
   pub keeps : (n : NetTold) (whose : List ℕ) (worker from : ℕ) (motes : Motes) (taken : List RadioCopy)
       → Keeps n whose worker from motes taken old.share
       → Each (IsDue whose worker from) arrived → Keeps n whose worker from motes (taken ++ arrived) new.share
 
--- a worker, since its first window, behind so many windows
+-- a worker after so many windows, since its first
 pub record HasRun (n : NetTold) (of : List ℕ) (width windows : ℕ) (inboxes : List InboxId)
     (first now : MarkWorker) : Type 0 where
-  pub stays : Stays first.carries.courier now.carries.courier
-  pub promise : RunsMarked n of width windows (length inboxes) first.carries.courier.worker now.share
-      now.carries.courier.taker.desk (pushed_to now.carries.courier)
-  pub seated : IsSeated inboxes now.carries.courier
-  pub marked : HasMarks now.carries.courier
-  pub counts : Counts now.carries.marks.items now.carries.courier.taker.desk
+  pub stays : Stays first.exchange.endpoint now.exchange.endpoint
+  pub promise : RunsMarked n of width windows (length inboxes) first.exchange.endpoint.worker now.share
+      now.exchange.endpoint.taker.state (pushed_to now.exchange.endpoint)
+  pub seated : IsSeated inboxes now.exchange.endpoint
+  pub marked : HasMarks now.exchange.endpoint
+  pub counts : Counts now.exchange.marks.items now.exchange.endpoint.taker.state
 
 -- all that a worker's thread does: it ran so many windows
 pub record RunsAllWindows (n : NetTold) (of : List ℕ) (width windows : ℕ) (inboxes : List InboxId)
     (first now : Worker) : Type 0 where
-  pub stays : Stays first.courier now.courier
-  pub promise : RunsMarked n of width windows (length inboxes) first.courier.worker now.share
-      now.courier.taker.desk (pushed_to now.courier)
-  pub seated : IsSeated inboxes now.courier
+  pub stays : Stays first.endpoint now.endpoint
+  pub promise : RunsMarked n of width windows (length inboxes) first.endpoint.worker now.share
+      now.endpoint.taker.state (pushed_to now.endpoint)
+  pub seated : IsSeated inboxes now.endpoint

@@ -1,6 +1,6 @@
-//! The law of the windows with marks. It is the contract of a function that does nothing.
+//! The law of the windows with marks. It is a theorem, stated as the contract of an empty function.
 
-ghost use Rattle.marked_workers.specs.Crew.{MarkedWindowsLeadToTheEnd};
+ghost use Rattle.marked_workers.specs.AtEnd.{MarkedWindowsLeadToTheEnd};
 
 /// What each worker's thread promises of its own values, put together: where each worker ran all windows, beginning
 /// each once the marks of all windows before had come from each other worker, and where all senders were then

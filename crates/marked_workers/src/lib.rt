@@ -1,4 +1,4 @@
-//! Workers that live for the whole run, and hand copies and marks to one another through their inboxes.
+//! Workers that live for the whole run, and exchange copies and marks through their inboxes.
 #![tactic(auto)]
 
 pub mod laws;
@@ -8,4 +8,4 @@ mod worker;
 
 pub use run::run_marked;
 pub use thread::MarkRunner;
-pub use worker::{CrewRun, MarkWorker};
+pub use worker::{MarkWorker, WorkersRun};

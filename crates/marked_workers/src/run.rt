@@ -6,7 +6,7 @@ ghost use Rattle.fork_join.specs.declared.work.Refused.TheVariants.{Memory};
 ghost use Rattle.mote_net.specs.Net.{net_of};
 ghost use Rattle.net_agenda.specs.NetSystem.{system_of};
 ghost use Rattle.copy_inbox.specs.Gathered.{Whole};
-ghost use Rattle.copy_exchange.specs.Couriers.{IsSeated};
+ghost use Rattle.copy_exchange.specs.Endpoints.{IsSeated};
 ghost use Rattle.copy_exchange.specs.Inboxes.{IsFresh};
 ghost use Rattle.copy_exchange.specs.Steps.{GathersBack};
 ghost use Rattle.all_workers.specs.Workers.{IsAt};
@@ -18,9 +18,11 @@ ghost use Rattle.marked_workers.specs.Run.{RunsAllMarked};
 ghost use Rattle.marked_workers.specs.Thread.{IsFirst, RunsAllWindows};
 
 use crate::thread::MarkRunner;
-use crate::worker::CrewRun;
-use all_workers::{Worker, Workers, lookahead_of, parted, set_out, window_length, workers_of};
-use copy_exchange::{Courier, gather_back};
+use crate::worker::WorkersRun;
+use all_workers::{
+    Worker, Workers, lookahead_of, make_endpoints, split_workers, window_length, workers_of,
+};
+use copy_exchange::{Endpoint, gather_back};
 use copy_inbox::{Inbox, Taker};
 use fork_join::{Refused, fork_join};
 use mote_net::Net;
@@ -32,18 +34,18 @@ use std::thread::Threads;
 use window_run::Gate;
 
 /// At the end: each worker's taker, which has gathered the senders on its inbox. Out of memory is the one error.
-fn come_home<R: Wait>(
+fn gather_endpoints<R: Wait>(
     rt: &R,
     alloc: Global,
     inboxes: &[Inbox],
-    couriers: Vec<Courier>,
+    endpoints: Vec<Endpoint>,
 ) -> Result<Vec<Taker>, Refused>
-    requires workers { map (λ courier. courier.worker) couriers.items ≡ range_with_len 0 (length inboxes.now) }
-    requires seated { Each (IsSeated inboxes.now) couriers.items }
-    ensures back { IfOk result (λ takers. GathersBack couriers.items takers.items) }
+    requires workers { map (λ endpoint. endpoint.worker) endpoints.items ≡ range_with_len 0 (length inboxes.now) }
+    requires seated { Each (IsSeated inboxes.now) endpoints.items }
+    ensures back { IfOk result (λ takers. GathersBack endpoints.items takers.items) }
     ensures refused { IfErr result (λ reason. reason ≡ Memory) }
 {
-    match gather_back(rt, alloc, inboxes, couriers) {
+    match gather_back(rt, alloc, inboxes, endpoints) {
         Ok(takers) => Ok(takers),
         Err(_) => Err(Refused::Memory),
     }
@@ -54,7 +56,7 @@ fn run_together<R, G>(
     rt: &R,
     alloc: Global,
     workers: Vec<Worker>,
-    run: CrewRun<'_>,
+    run: WorkersRun<'_>,
     gate: &G,
 ) -> Result<Vec<Worker>, Refused>
 where
@@ -77,30 +79,30 @@ fn run_threads<R, G>(
     of: &[u16],
     width: u64,
     gate: &G,
-    crew: Workers,
+    group: Workers,
 ) -> Result<Workers, Refused>
 where
     R: Threads + Wait + RandomSource + AllocGlobal + Sync,
     G: Gate + Sync,
     requires wide { 0 < width }
     requires short { width ≤ (system_of (net_of net.now)).lookahead }
-    requires few { length crew.inboxes.items ≤ 16 }
-    requires cut { IsCut (length (net_of net.now).motes) (length crew.inboxes.items) of.now }
-    requires fresh { AllZip IsFresh crew.inboxes.items crew.takers.items }
-    requires marked { Each (λ taker. taker.desk.marked ≡ true) crew.takers.items }
-    requires first { AreFirst (net_of net.now) of.now (length crew.inboxes.items) crew.shares.items }
-    ensures { IfOk result (RunsAllMarked (net_of net.now) of.now width crew) }
+    requires few { length group.inboxes.items ≤ 16 }
+    requires cut { IsCut (length (net_of net.now).motes) (length group.inboxes.items) of.now }
+    requires fresh { AllZip IsFresh group.inboxes.items group.takers.items }
+    requires marked { Each (λ taker. taker.state.marked ≡ true) group.takers.items }
+    requires first { AreFirst (net_of net.now) of.now (length group.inboxes.items) group.shares.items }
+    ensures { IfOk result (RunsAllMarked (net_of net.now) of.now width group) }
 {
     let Workers {
         shares,
         inboxes,
         takers,
         first_out: _,
-    } = crew;
-    let couriers = set_out(alloc, &inboxes, takers)?;
-    let workers = workers_of(alloc, shares, couriers)?;
+    } = group;
+    let endpoints = make_endpoints(alloc, &inboxes, takers)?;
+    let workers = workers_of(alloc, shares, endpoints)?;
     let stop = AtomicBool::new(false);
-    let run = CrewRun {
+    let run = WorkersRun {
         net,
         of,
         inboxes: &inboxes,
@@ -108,8 +110,8 @@ where
         stop: &stop,
     };
     let done = run_together(rt, alloc, workers, run, gate)?;
-    let (shares, couriers) = parted(alloc, done)?;
-    let takers = come_home(rt, alloc, &inboxes, couriers)?;
+    let (shares, endpoints) = split_workers(alloc, done)?;
+    let takers = gather_endpoints(rt, alloc, &inboxes, endpoints)?;
     Ok(Workers {
         shares,
         inboxes,
@@ -132,24 +134,24 @@ pub fn run_marked<R, G>(
     of: &[u16],
     longest: u32,
     gate: &G,
-    crew: Workers,
+    group: Workers,
 ) -> Result<Workers, Refused>
 where
     R: Threads + Wait + RandomSource + AllocGlobal + Sync,
     G: Gate + Sync,
-    requires few { length crew.inboxes.items ≤ 16 }
-    requires cut { IsCut (length (net_of net.now).motes) (length crew.inboxes.items) of.now }
-    requires fresh { AllZip IsFresh crew.inboxes.items crew.takers.items }
-    requires marked { Each (λ taker. taker.desk.marked ≡ true) crew.takers.items }
-    requires first { AreFirst (net_of net.now) of.now (length crew.inboxes.items) crew.shares.items }
+    requires few { length group.inboxes.items ≤ 16 }
+    requires cut { IsCut (length (net_of net.now).motes) (length group.inboxes.items) of.now }
+    requires fresh { AllZip IsFresh group.inboxes.items group.takers.items }
+    requires marked { Each (λ taker. taker.state.marked ≡ true) group.takers.items }
+    requires first { AreFirst (net_of net.now) of.now (length group.inboxes.items) group.shares.items }
     ensures at { let n = net_of net.now in IfOk result (λ done. IsAt n of.now (suc n.end) done) }
-    ensures inboxes { IfOk result (λ done. done.inboxes.items ≡ crew.inboxes.items) }
+    ensures inboxes { IfOk result (λ done. done.inboxes.items ≡ group.inboxes.items) }
     // Each worker ran all windows of this length.
     ensures windows { let n = net_of net.now in
-        IfOk result (RunsAllMarked n of.now (length_of_window (system_of n).lookahead longest) crew) }
+        IfOk result (RunsAllMarked n of.now (length_of_window (system_of n).lookahead longest) group) }
     ensures all_taken { IfOk result
-        (λ done. Each (λ taker. Whole taker.desk.gathered taker.desk.taken) done.takers.items) }
+        (λ done. Each (λ taker. Whole taker.state.gathered taker.state.taken) done.takers.items) }
 {
     let width = window_length(lookahead_of(net), longest);
-    run_threads(rt, alloc, net, of, width, gate, crew)
+    run_threads(rt, alloc, net, of, width, gate, group)
 }

@@ -4,20 +4,20 @@ ghost use Rattle.std.specs.Prelude.{◌≡◌, ◌≢◌, ℕ, ◌^◌, ◌<◌,
 ghost use Rattle.fork_join.specs.declared.work.Refused.TheVariants.{Memory, Stopped, Thread};
 ghost use Rattle.mote_net.specs.Net.{net_of};
 ghost use Rattle.net_agenda.specs.NetSystem.{system_of};
-ghost use Rattle.copy_exchange.specs.Couriers.{HasMarks, IsSeated};
+ghost use Rattle.copy_exchange.specs.Endpoints.{HasMarks, IsSeated};
 ghost use Rattle.mark_exchange.specs.Marks.{Counts};
 ghost use Rattle.worker_window.specs.Window.{CanRun};
 ghost use Rattle.all_workers.specs.Workers.{IsCut};
 ghost use Rattle.marked_workers.specs.Bounds.{bound, windows_of};
 ghost use Rattle.marked_workers.specs.Refusals.{refused_of};
 ghost use Rattle.marked_workers.specs.declared.worker.MarkWorker.{MarkWorker as MarkWorkerOfCode};
-ghost use Rattle.marked_workers.specs.Thread.{IsFirst, IsManned, IsSame, HasRun, RunsAllWindows};
+ghost use Rattle.marked_workers.specs.Thread.{IsFirst, IsStarted, IsSame, HasRun, RunsAllWindows};
 ghost use Rattle.marked_workers.specs.Thread.{SendsWindow, TakesWindow};
 
-use crate::worker::{CrewRun, MarkWorker};
-use all_workers::{Worker, refused, window_end};
+use crate::worker::{MarkWorker, WorkersRun};
+use all_workers::{Worker, refusal_of, window_end};
 use fork_join::{Refused, Work};
-use mark_exchange::{MarkCourier, MarkError, Standing};
+use mark_exchange::{MarkEndpoint, MarkError, Standing};
 use std::alloc::{AllocGlobal, Global};
 use std::random::RandomSource;
 use std::sync::Wait;
@@ -28,7 +28,7 @@ use window_run::Gate;
 pub struct MarkRunner<'a, R, G> {
     pub rt: &'a R,
     pub gate: &'a G,
-    pub run: CrewRun<'a>,
+    pub run: WorkersRun<'a>,
 }
 
 impl<R, G> Drop for MarkRunner<'_, R, G> {
@@ -41,11 +41,11 @@ impl<R, G> Drop for MarkRunner<'_, R, G> {
     }
 }
 
-/// The worker's motes run through a window, and what they send to others goes out, with the window's mark behind it.
+/// The worker's motes run through a window, and what they send to others goes out, with the window's mark after it.
 fn send_window<R: Wait + RandomSource + AllocGlobal, G: Gate>(
     rt: &R,
     gate: &G,
-    run: &CrewRun<'_>,
+    run: &WorkersRun<'_>,
     worker: &mut MarkWorker,
     window: u64,
     until: u64,
@@ -53,11 +53,11 @@ fn send_window<R: Wait + RandomSource + AllocGlobal, G: Gate>(
     requires early { until ≤ 2 ^ 40 }
     requires cut { IsCut (length (net_of run.now.net.now).motes) (length run.now.inboxes.now) run.now.of.now }
     requires ready { CanRun (net_of run.now.net.now) run.now.of.now until worker.old.share [] }
-    requires seated { IsSeated run.now.inboxes.now worker.old.carries.courier }
-    requires marked { HasMarks worker.old.carries.courier }
+    requires seated { IsSeated run.now.inboxes.now worker.old.exchange.endpoint }
+    requires marked { HasMarks worker.old.exchange.endpoint }
     ensures sends { OnOk result (SendsWindow (net_of run.now.net.now) run.now.of.now (length run.now.inboxes.now)
         window until worker.old worker.new) }
-    ensures seated { OnOk result (IsSeated run.now.inboxes.now worker.new.carries.courier) }
+    ensures seated { OnOk result (IsSeated run.now.inboxes.now worker.new.exchange.endpoint) }
     ensures refused { IfErr result (λ reason. reason ≢ Stopped) }
 {
     let none = Vec::new(rt.alloc());
@@ -66,10 +66,10 @@ fn send_window<R: Wait + RandomSource + AllocGlobal, G: Gate>(
         .run_window(rt, run.net, run.of, none, until, gate);
     let sent = match ran {
         Ok(sent) => sent,
-        Err(error) => return Err(refused(error)),
+        Err(error) => return Err(refusal_of(error)),
     };
     let Ok(()) = worker
-        .carries
+        .exchange
         .deliver_window(rt, run.inboxes, run.of, &sent, window)
     else {
         return Err(Refused::Memory);
@@ -91,17 +91,17 @@ fn gave_up(error: MarkError) -> Refused
 /// The worker takes items until each other worker's mark of the window has come, and takes in the copies among them.
 fn take_window<R: Wait + AllocGlobal>(
     rt: &R,
-    run: &CrewRun<'_>,
+    run: &WorkersRun<'_>,
     worker: &mut MarkWorker,
     window: u64,
     until: u64,
 ) -> Result<(), Refused>
-    requires seated { IsSeated run.now.inboxes.now worker.old.carries.courier }
-    requires counts { Counts worker.old.carries.marks.items worker.old.carries.courier.taker.desk }
+    requires seated { IsSeated run.now.inboxes.now worker.old.exchange.endpoint }
+    requires counts { Counts worker.old.exchange.marks.items worker.old.exchange.endpoint.taker.state }
     ensures takes { OnOk result (TakesWindow run.now.of.now window until worker.old worker.new) }
     ensures refused { IfErr result (λ reason. reason ≢ Thread) }
 {
-    let number = worker.carries.courier.worker;
+    let number = worker.exchange.endpoint.worker;
     let inbox = &run.inboxes[usize::from(number)];
     let standing = Standing {
         worker: number,
@@ -109,7 +109,7 @@ fn take_window<R: Wait + AllocGlobal>(
         from: until,
     };
     let took = worker
-        .carries
+        .exchange
         .take_window(rt, rt.alloc(), inbox, run.stop, &standing, window);
     let arrived = match took {
         Ok(arrived) => arrived,
@@ -123,7 +123,7 @@ fn take_window<R: Wait + AllocGlobal>(
 fn run_one<R: Wait + RandomSource + AllocGlobal, G: Gate>(
     rt: &R,
     gate: &G,
-    run: &CrewRun<'_>,
+    run: &WorkersRun<'_>,
     worker: &mut MarkWorker,
     window: u64,
     until: u64,
@@ -151,12 +151,12 @@ fn run_one<R: Wait + RandomSource + AllocGlobal, G: Gate>(
 fn run_windows<R: Wait + RandomSource + AllocGlobal, G: Gate>(
     rt: &R,
     gate: &G,
-    run: &CrewRun<'_>,
+    run: &WorkersRun<'_>,
     worker: MarkWorker,
 ) -> Result<MarkWorker, Refused>
     requires wide { 0 < run.now.width }
     requires short { run.now.width ≤ (system_of (net_of run.now.net.now)).lookahead }
-    requires manned { IsManned (net_of run.now.net.now) run.now.of.now run.now.inboxes.now worker }
+    requires started { IsStarted (net_of run.now.net.now) run.now.of.now run.now.inboxes.now worker }
     ensures { let n = net_of run.now.net.now in IfOk result
         (HasRun n run.now.of.now run.now.width (windows_of run.now.width n.end) run.now.inboxes.now worker) }
 {
@@ -174,20 +174,20 @@ fn run_windows<R: Wait + RandomSource + AllocGlobal, G: Gate>(
 }
 
 /// The worker with a count of marks for each sender on its inbox.
-fn with_marks(alloc: Global, run: &CrewRun<'_>, worker: Worker) -> Result<MarkWorker, Refused>
+fn with_marks(alloc: Global, run: &WorkersRun<'_>, worker: Worker) -> Result<MarkWorker, Refused>
     requires { IsFirst (net_of run.now.net.now) run.now.of.now run.now.inboxes.now worker }
     ensures same { IfOk result (IsSame worker) }
-    ensures manned { IfOk result (IsManned (net_of run.now.net.now) run.now.of.now run.now.inboxes.now) }
+    ensures started { IfOk result (IsStarted (net_of run.now.net.now) run.now.of.now run.now.inboxes.now) }
     ensures refused { IfErr result (λ reason. reason ≡ Memory) }
 {
     let Worker {
         share,
-        courier,
+        endpoint,
         first_out: _,
     } = worker;
     let others = run.inboxes.len().saturating_sub(1);
-    match MarkCourier::new(alloc, courier, others) {
-        Ok(carries) => Ok(MarkWorker { share, carries }),
+    match MarkEndpoint::new(alloc, endpoint, others) {
+        Ok(exchange) => Ok(MarkWorker { share, exchange }),
         Err(_) => Err(Refused::Memory),
     }
 }
@@ -196,15 +196,15 @@ fn with_marks(alloc: Global, run: &CrewRun<'_>, worker: Worker) -> Result<MarkWo
 fn without_marks(worker: MarkWorker) -> Worker
     ensures { IsSame result worker }
 {
-    let MarkWorker { share, carries } = worker;
-    let MarkCourier {
-        courier,
+    let MarkWorker { share, exchange } = worker;
+    let MarkEndpoint {
+        endpoint,
         marks: _,
         waiting: _,
-    } = carries;
+    } = exchange;
     Worker {
         share,
-        courier,
+        endpoint,
         first_out: None,
     }
 }
@@ -216,7 +216,7 @@ fn without_marks(worker: MarkWorker) -> Worker
 fn run_through<R: Wait + RandomSource + AllocGlobal, G: Gate>(
     rt: &R,
     gate: &G,
-    run: &CrewRun<'_>,
+    run: &WorkersRun<'_>,
     worker: Worker,
 ) -> Result<Worker, Refused>
     requires wide { 0 < run.now.width }
@@ -247,7 +247,7 @@ impl<R: Wait + RandomSource + AllocGlobal, G: Gate> Work<Worker> for MarkRunner<
     }
 
     fn may_start(&self, worker: &Worker) -> bool {
-        self.gate.start(worker.courier.worker)
+        self.gate.start(worker.endpoint.worker)
     }
 
     fn give_up(&self) {

@@ -1,21 +1,21 @@
 //! A worker that lives for the whole run.
 
 use copy_inbox::Inbox;
-use mark_exchange::MarkCourier;
+use mark_exchange::MarkEndpoint;
 use mote_net::Net;
 use std::sync::atomic::AtomicBool;
 use worker_window::Share;
 
-/// A worker in its thread: its share of the net, and its taker and senders, with the marks that it took of each worker.
+/// A worker in its thread: its share of the net, and its endpoint, with the marks that it took of each worker.
 #[derive(Drop)]
 pub struct MarkWorker {
     pub share: Share,
-    pub carries: MarkCourier,
+    pub exchange: MarkEndpoint,
 }
 
 /// What all workers of a run have in common.
 #[derive(Clone, Copy)]
-pub struct CrewRun<'a> {
+pub struct WorkersRun<'a> {
     pub net: &'a Net,
     /// The worker of each mote.
     pub of: &'a [u16],

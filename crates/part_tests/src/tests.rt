@@ -64,8 +64,8 @@ fn write_rest<R: Wait>(
     taker: Taker,
 ) -> Result<(), InboxError>
     requires inbox { taker.inbox ≡ inbox }
-    requires gathered { AllGathered taker.desk }
-    requires packets { NoMarkLeft taker.desk }
+    requires gathered { AllGathered taker.state }
+    requires packets { NoMarkLeft taker.state }
 {
     let rest = inbox.close(rt, taker)?;
     write_copies(text, rest.as_slice())?;

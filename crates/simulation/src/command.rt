@@ -60,7 +60,7 @@ fn status_of_words<W: Write, E: Write>(error: &clap::Error, output: &mut W, erro
 ///
 /// # Errors
 /// `Read` where it can't be opened.
-fn opened<T: Files>(rt: &T, file: &str) -> Result<T::File, SimError>
+fn open_file<T: Files>(rt: &T, file: &str) -> Result<T::File, SimError>
     ensures { IfErr result (λ e. e ≡ fault.Read) }
 {
     match fs::open(rt, file) {
@@ -87,7 +87,7 @@ where
     ensures some { SimulatedSome (way_of options.now) (W.contents output.old) (W.contents output.new) result }
     ensures unwritten { IfErr result (Unwritten (W.contents output.old) (W.contents output.new)) }
 {
-    let mut input = opened(rt, file)?;
+    let mut input = open_file(rt, file)?;
     simulate(rt, rt.alloc(), &mut input, output, options, gate)
 }
 

@@ -114,7 +114,7 @@ impl<G: Gate> Future for ShareWindow<'_, G> {
             return cx.yield_now();
         }
         let slots = mem::replace(&mut self.slots, Vec::new(self.alloc));
-        Poll::Ready(gathered(self.alloc, slots))
+        Poll::Ready(collect_outs(self.alloc, slots))
     }
 }
 
@@ -145,7 +145,10 @@ fn all_done<G: Gate>(slots: &[Slot<'_, G>]) -> bool
 }
 
 /// What the windows gave.
-fn gathered<G: Gate>(alloc: Global, slots: Vec<Slot<'_, G>>) -> Result<Vec<WindowOut>, MoteError>
+fn collect_outs<G: Gate>(
+    alloc: Global,
+    slots: Vec<Slot<'_, G>>,
+) -> Result<Vec<WindowOut>, MoteError>
     requires { list_all is_done slots.items ≡ true }
     ensures given { IfOk result (λ outs. SlotsGive slots.entry.items outs.items) }
     ensures err { IfErr result (λ e. e ≡ Memory) }

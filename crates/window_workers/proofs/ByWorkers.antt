@@ -19,7 +19,7 @@ use Rattle.window_laws.proofs.Lists.{every_map, every_weaker}
 use Rattle.window_laws.proofs.Pending.{pending_left}
 use Rattle.window_laws.proofs.Unique.{run_is_one}
 use Rattle.copy_inbox.specs.Handles.{TakerView}
-use Rattle.copy_exchange.specs.Desks.{taken_by, gathered_by}
+use Rattle.copy_exchange.specs.Takers.{taken_by, gathered_by}
 use Rattle.worker_cut.proofs.Carried.{carried}
 use Rattle.worker_cut.proofs.Windows.{coming, coming_pending, senders}
 use Rattle.worker_window.specs.declared.share.Ended.{Ended}
@@ -41,7 +41,7 @@ use Rattle.window_workers.proofs.Waiting.{taken_by_end}
 abbrev told_of : List (List Line) → List Packet → ℕ → ReportTold
 told_of traces log left = record { traces = traces; log = log; left = left }
 
-module _ (n : NetTold) (fault : medium_fault n.radio ≡ None) (placed : length n.radio.places ≡ length n.motes) (of : List ℕ) (crew : Workers) (at : IsAt n of (suc n.end) crew) (ended : List Ended) (ends : AllZip TellsWhatItKept crew.shares.items ended) where
+module _ (n : NetTold) (fault : medium_fault n.radio ≡ None) (placed : length n.radio.places ≡ length n.motes) (of : List ℕ) (group : Workers) (at : IsAt n of (suc n.end) group) (ended : List Ended) (ends : AllZip TellsWhatItKept group.shares.items ended) where
   fine : RunsForward (system_of n)
   fine = system_is n fault placed
 
@@ -52,7 +52,7 @@ module _ (n : NetTold) (fault : medium_fault n.radio ≡ None) (placed : length 
   by_windows : (log : List Packet) (is : IsLogOf n (logs_of ended) log) → IsReportOf n (told_of (map (λ number. (at.motes number).lines) (up_to (length n.motes))) (map (packet_with_fates n.radio) is.sorted) all_left)
   by_windows log is = windows_commute n fault placed at.motes at.led is.sorted (record {
     joined = logs_of ended;
-    is_joined = is_joined n fine of crew at ended ends;
+    is_joined = is_joined n fine of group at ended ends;
     same = is.same;
     sorted = is.in_order;
   }) (coming (system_of n) fine (suc n.end) at.motes) (pending_left (system_of n) at.motes (coming (system_of n) fine (suc n.end) at.motes) n.end (coming_pending (system_of n) fine (suc n.end) at.motes at.led))
@@ -71,35 +71,35 @@ module _ (n : NetTold) (fault : medium_fault n.radio ≡ None) (placed : length 
 
   -- what the workers told, joined, is the report
   pub told_is : (r : Report) → AreTracesOf of ended r.traces.items → IsLogOf n (logs_of ended) (map told_line r.medium.items)
-      → sum_by (λ (one : Ended). one.left) ended + sum_by (λ (pair : Pair). length (gathered_by pair.1)) (zip crew.inboxes.items crew.takers.items)
-      ≡ r.left + sum_by (λ (pair : Pair). length (taken_by pair.1)) (zip crew.inboxes.items crew.takers.items)
+      → sum_by (λ (one : Ended). one.left) ended + sum_by (λ (pair : Pair). length (gathered_by pair.1)) (zip group.inboxes.items group.takers.items)
+      ≡ r.left + sum_by (λ (pair : Pair). length (taken_by pair.1)) (zip group.inboxes.items group.takers.items)
       → IsReportOf n (report_of r)
   told_is r traces log sums =
-      report_is (report_of r) (traces_are n fine of crew at ended ends r.traces.items traces) log
-      (left_is n fine of crew at ended ends r.left (zip crew.inboxes.items crew.takers.items) (zip_long crew.inboxes.items crew.takers.items (takers_long n fine of crew at ended ends))
-      (λ v pair e. second_at crew.inboxes.items crew.takers.items v pair e) sums)
+      report_is (report_of r) (traces_are n fine of group at ended ends r.traces.items traces) log
+      (left_is n fine of group at ended ends r.left (zip group.inboxes.items group.takers.items) (zip_long group.inboxes.items group.takers.items (takers_long n fine of group at ended ends))
+      (λ v pair e. second_at group.inboxes.items group.takers.items v pair e) sums)
 
   -- the report's packets are those of the motes, in order
   packets_are : (r : ReportTold) → IsReportOf n r → packets_told r ≡ as_log (logs_of ended)
   packets_are r report =
-      let by = is_report n fine of crew at ended ends in
+      let by = is_report n fine of group at ended ends in
       ap packets_told report.told
       ∙ (sent_packets n report.last.log
       ∙ (ap (λ net. net.log) (run_is_one (system_of n) n.end by.run report.run) ∙ sym by.log_is))
 
-  carried_to : (r : ReportTold) → IsReportOf n r → (v : ℕ) → v < length crew.inboxes.items → (taker : TakerView) → slice_get crew.takers.items v ≡ Some taker → HasCarried n of (packets_told r) v taker
+  carried_to : (r : ReportTold) → IsReportOf n r → (v : ℕ) → v < length group.inboxes.items → (taker : TakerView) → slice_get group.takers.items v ≡ Some taker → HasCarried n of (packets_told r) v taker
   unfolding system_of
   carried_to r report v h taker e =
-      let s = there crew.shares.items v (subst (λ l. v < l) (sym at.shares) h) in
-      let here : IsWorkerAt n of (suc n.end) at.motes crew.first_out v (get_or crew.shares.items v s.0) taker =
-      subst (λ x. IsWorkerAt n of (suc n.end) at.motes crew.first_out v (get_or crew.shares.items v s.0) x) (read crew.takers.items v taker taker e) (at.each v h s.0 taker) in
+      let s = there group.shares.items v (subst (λ l. v < l) (sym at.shares) h) in
+      let here : IsWorkerAt n of (suc n.end) at.motes group.first_out v (get_or group.shares.items v s.0) taker =
+      subst (λ x. IsWorkerAt n of (suc n.end) at.motes group.first_out v (get_or group.shares.items v s.0) x) (read group.takers.items v taker taker e) (at.each v h s.0 taker) in
       record {
-        gathered = rw (packets_are r report) (carried (system_of n) fine of at.motes v _ (logs_of ended) (senders (system_of n) fine (suc n.end) at.motes at.led) (is_joined n fine of crew at ended ends) here.gathered);
-        taken = taken_by_end n fine of (suc n.end) at.motes at.led crew.first_out at.first v (get_or crew.shares.items v s.0) taker here n.end refl;
+        gathered = rw (packets_are r report) (carried (system_of n) fine of at.motes v _ (logs_of ended) (senders (system_of n) fine (suc n.end) at.motes at.led) (is_joined n fine of group at ended ends) here.gathered);
+        taken = taken_by_end n fine of (suc n.end) at.motes at.led group.first_out at.first v (get_or group.shares.items v s.0) taker here n.end refl;
       }
 
-  pub all_carried : (r : ReportTold) → IsReportOf n r → AllCarried n of r (zip crew.inboxes.items crew.takers.items)
-  all_carried r report v pair e = carried_to r report v (zip_inside crew.inboxes.items crew.takers.items v pair e) pair.1 (second_at crew.inboxes.items crew.takers.items v pair e)
+  pub all_carried : (r : ReportTold) → IsReportOf n r → AllCarried n of r (zip group.inboxes.items group.takers.items)
+  all_carried r report v pair e = carried_to r report v (zip_inside group.inboxes.items group.takers.items v pair e) pair.1 (second_at group.inboxes.items group.takers.items v pair e)
 
 -- ---- what every report has
 pub one_trace_each : (n : NetTold) (r : Report) → IsReportOf n (report_of r) → length r.traces.items ≡ length n.motes

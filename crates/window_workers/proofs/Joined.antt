@@ -18,7 +18,7 @@ use Rattle.window_laws.specs.Windows.{is_sent_by, IsJoined, as_log, sends_by, co
 use Rattle.window_laws.proofs.Lists.{every_append, every_both, every_filter, every_flat_map, every_passes, every_weaker}
 use Rattle.window_laws.proofs.Order.{sorted_permutes}
 use Rattle.copy_inbox.specs.Handles.{TakerView}
-use Rattle.copy_exchange.specs.Desks.{taken_by, gathered_by}
+use Rattle.copy_exchange.specs.Takers.{taken_by, gathered_by}
 use Rattle.worker_cut.specs.Crossed.{is_own, is_to}
 use Rattle.worker_cut.proofs.Counts.{IsHad, by_worker, total}
 use Rattle.worker_cut.proofs.Windows.{at_the_end, coming, receivers}
@@ -46,33 +46,33 @@ nobody of s i h = ap (λ o. option_map_or (λ w. eqb w i) o false) (beyond of s 
 not_mine : (of : List ℕ) (s w i : ℕ) → slice_get of s ≡ Some w → (i ≡ w → ⊥) → is_own of i s ≡ false
 not_mine of s w i e ne = ap (λ o. option_map_or (λ w. eqb w i) o false) e ∙ ne_eqb w i (λ q. ne (sym q))
 
-module _ (n : NetTold) (fine : RunsForward (system_of n)) (of : List ℕ) (crew : Workers) (at : IsAt n of (suc n.end) crew) (ended : List Ended) (ends : AllZip TellsWhatItKept crew.shares.items ended) where
+module _ (n : NetTold) (fine : RunsForward (system_of n)) (of : List ℕ) (group : Workers) (at : IsAt n of (suc n.end) group) (ended : List Ended) (ends : AllZip TellsWhatItKept group.shares.items ended) where
   abbrev workers : ℕ
-  workers = length crew.inboxes.items
+  workers = length group.inboxes.items
 
   -- one worker at the end
   record Piece (v : ℕ) (one : Ended) : Type 0 where
     share : Share
     taker : TakerView
-    taker_at : slice_get crew.takers.items v ≡ Some taker
-    here : IsWorkerAt n of (suc n.end) at.motes crew.first_out v share taker
+    taker_at : slice_get group.takers.items v ≡ Some taker
+    here : IsWorkerAt n of (suc n.end) at.motes group.first_out v share taker
     tells : TellsAtEnd n of v (suc n.end) at.motes (taken_by taker) one
 
   pub ended_long : length ended ≡ workers
-  ended_long = as_long TellsWhatItKept crew.shares.items ended ends ∙ at.shares
+  ended_long = as_long TellsWhatItKept group.shares.items ended ends ∙ at.shares
 
-  pub takers_long : length crew.takers.items ≡ workers
-  takers_long = as_long _ crew.inboxes.items crew.takers.items at.settled
+  pub takers_long : length group.takers.items ≡ workers
+  takers_long = as_long _ group.inboxes.items group.takers.items at.settled
 
   piece : (v : ℕ) (one : Ended) → slice_get ended v ≡ Some one → Piece v one
   piece v one e =
       let h : v < workers = subst (λ l. v < l) ended_long (inside ended v one e) in
-      let s = there crew.shares.items v (subst (λ l. v < l) (sym at.shares) h) in
-      let t = there crew.takers.items v (subst (λ l. v < l) (sym takers_long) h) in
-      let o = beside TellsWhatItKept crew.shares.items ended ends v s.0 s.1 in
-      let is_here : IsWorkerAt n of (suc n.end) at.motes crew.first_out v s.0 t.0 =
-      subst (λ x. IsWorkerAt n of (suc n.end) at.motes crew.first_out v x t.0) (read crew.shares.items v s.0 s.0 s.1)
-      (subst (λ x. IsWorkerAt n of (suc n.end) at.motes crew.first_out v (get_or crew.shares.items v s.0) x) (read crew.takers.items v t.0 t.0 t.1) (at.each v h s.0 t.0)) in
+      let s = there group.shares.items v (subst (λ l. v < l) (sym at.shares) h) in
+      let t = there group.takers.items v (subst (λ l. v < l) (sym takers_long) h) in
+      let o = beside TellsWhatItKept group.shares.items ended ends v s.0 s.1 in
+      let is_here : IsWorkerAt n of (suc n.end) at.motes group.first_out v s.0 t.0 =
+      subst (λ x. IsWorkerAt n of (suc n.end) at.motes group.first_out v x t.0) (read group.shares.items v s.0 s.0 s.1)
+      (subst (λ x. IsWorkerAt n of (suc n.end) at.motes group.first_out v (get_or group.shares.items v s.0) x) (read group.takers.items v t.0 t.0 t.1) (at.each v h s.0 t.0)) in
       record {
         share = s.0;
         taker = t.0;
@@ -149,7 +149,7 @@ module _ (n : NetTold) (fine : RunsForward (system_of n)) (of : List ℕ) (crew 
         each ks,
       )
 
-  pub left_is : (left : ℕ) (pairs : List Pair) → length pairs ≡ workers → ((v : ℕ) (pair : Pair) → slice_get pairs v ≡ Some pair → slice_get crew.takers.items v ≡ Some pair.1)
+  pub left_is : (left : ℕ) (pairs : List Pair) → length pairs ≡ workers → ((v : ℕ) (pair : Pair) → slice_get pairs v ≡ Some pair → slice_get group.takers.items v ≡ Some pair.1)
       → sum_by (λ (one : Ended). one.left) ended + sum_by (λ (pair : Pair). length (gathered_by pair.1)) pairs ≡ left + sum_by (λ (pair : Pair). length (taken_by pair.1)) pairs
       → left ≡ length (coming (system_of n) fine (suc n.end) at.motes)
   left_is left pairs long takers sums =
@@ -162,6 +162,6 @@ module _ (n : NetTold) (fine : RunsForward (system_of n)) (of : List ℕ) (crew 
           → one.left + length (gathered_by pair.1) ≡ length (filter (is_to of v) (coming (system_of n) fine (suc n.end) at.motes)) + length (taken_by pair.1)
       each v one pair e f =
           let p = piece v one e in
-          let same : p.taker ≡ pair.1 = same_found crew.takers.items v p.taker pair.1 p.taker_at (takers v pair f) in
+          let same : p.taker ≡ pair.1 = same_found group.takers.items v p.taker pair.1 p.taker_at (takers v pair f) in
           subst (λ t. one.left + length (gathered_by t) ≡ length (filter (is_to of v) (coming (system_of n) fine (suc n.end) at.motes)) + length (taken_by t)) same
-          (left_here n fine of (suc n.end) at.motes at.led crew.first_out at.first v p.share p.taker p.here one.left p.tells.rest p.tells.left p.tells.rest_is)
+          (left_here n fine of (suc n.end) at.motes at.led group.first_out at.first v p.share p.taker p.here one.left p.tells.rest p.tells.left p.tells.rest_is)

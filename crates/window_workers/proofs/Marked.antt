@@ -17,8 +17,8 @@ whole_known (g ∷ gs) taken h =
     let rest = whole_known gs taken h.1 in
     omega (arith, none, rest, sum_by-cons (λ (k : Gathered). length (untaken_of taken k)) g gs)
 
-pub none_known : (inboxes : List InboxId) (takers : List TakerView) → Each (λ (t : TakerView). Whole t.desk.gathered t.desk.taken) takers
-    → Each (λ (pair : Pair). known_of pair.1.desk.gathered pair.1.desk.taken ≡ 0) (zip inboxes takers)
+pub none_known : (inboxes : List InboxId) (takers : List TakerView) → Each (λ (t : TakerView). Whole t.state.gathered t.state.taken) takers
+    → Each (λ (pair : Pair). known_of pair.1.state.gathered pair.1.state.taken ≡ 0) (zip inboxes takers)
 none_known [] takers h = tt
 none_known (i ∷ is) [] h = tt
-none_known (i ∷ is) (t ∷ ts) h = (whole_known t.desk.gathered t.desk.taken h.0, none_known is ts h.1)
+none_known (i ∷ is) (t ∷ ts) h = (whole_known t.state.gathered t.state.taken h.0, none_known is ts h.1)

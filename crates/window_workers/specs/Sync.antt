@@ -10,4 +10,4 @@ has_marks Marks = true
 
 -- the inbox is one for this kind
 abbrev pub IsFor : SyncKind → TakerView → Type 0
-IsFor sync t = t.desk.marked ≡ has_marks sync
+IsFor sync t = t.state.marked ≡ has_marks sync

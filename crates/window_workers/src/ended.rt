@@ -2,7 +2,7 @@
 
 ghost use Rattle.std.specs.Prelude.{◌≡◌, ◌+◌, length, IfOk};
 ghost use Rattle.std.specs.List.{AllByRecursion as Each, AllZip, sum_by};
-ghost use Rattle.copy_exchange.specs.Desks.{taken_by, gathered_by};
+ghost use Rattle.copy_exchange.specs.Takers.{taken_by, gathered_by};
 ghost use Rattle.copy_exchange.specs.Inboxes.{IsSettled};
 ghost use Rattle.window_workers.specs.Over.{TellsWhatItKept};
 

@@ -23,7 +23,7 @@ use crate::refusal::of_refused;
 use crate::sync::SyncKind;
 use crate::traces::joined_traces;
 use all_workers::Workers;
-use copy_exchange::{make_inboxes, paired, parted};
+use copy_exchange::{make_inboxes, pair_inboxes, split_pairs};
 use copy_inbox::{Inbox, Taker};
 use joined_workers::run_windows;
 use marked_workers::run_marked;
@@ -37,17 +37,17 @@ use std::thread::Threads;
 use window_run::Gate;
 use worker_cut::Cut;
 
-/// What the workers have to tell at the end, and their inboxes. `of` tells the worker of each mote.
-fn told(
+/// The workers' report at the end, and their inboxes. `of` tells the worker of each mote.
+fn make_report(
     alloc: Global,
     net: &Net,
     of: &[u16],
-    crew: Workers,
+    group: Workers,
 ) -> Result<(Report, Vec<(Inbox, Taker)>), RunError>
-    requires { let n = net_of net.now in IsAt n of.now (suc n.end) crew }
+    requires { let n = net_of net.now in IsAt n of.now (suc n.end) group }
     ensures report { IfOk result (λ r. IsReportOf (net_of net.now) (report_of r.0)) }
-    ensures inboxes { IfOk result (λ r. map (λ pair. pair.0) r.1.items ≡ crew.inboxes.items) }
-    ensures pairs { IfOk result (λ r. r.1.items ≡ zip crew.inboxes.items crew.takers.items) }
+    ensures inboxes { IfOk result (λ r. map (λ pair. pair.0) r.1.items ≡ group.inboxes.items) }
+    ensures pairs { IfOk result (λ r. r.1.items ≡ zip group.inboxes.items group.takers.items) }
     ensures settled { IfOk result (λ r. Each (λ pair. IsSettled pair.0 pair.1) r.1.items) }
     ensures carried { IfOk result (λ r. AllCarried (net_of net.now) of.now (report_of r.0) r.1.items) }
     ensures err { IfErr result (λ e. e ≡ RunError.Memory) }
@@ -60,8 +60,8 @@ fn told(
         inboxes,
         takers,
         first_out: _,
-    } = crew;
-    let Ok(pairs) = paired(alloc, inboxes, takers) else {
+    } = group;
+    let Ok(pairs) = pair_inboxes(alloc, inboxes, takers) else {
         return Err(RunError::Memory);
     };
     let ended = end_all(alloc, shares)?;
@@ -77,7 +77,7 @@ fn told(
 }
 
 /// All windows of the run, by workers with this kind of synchronization.
-fn run_crew<R, G>(
+fn run_by_kind<R, G>(
     rt: &R,
     alloc: Global,
     net: &Net,
@@ -85,29 +85,29 @@ fn run_crew<R, G>(
     longest: u32,
     sync: SyncKind,
     gate: &G,
-    crew: Workers,
+    group: Workers,
 ) -> Result<Workers, RunError>
 where
     R: Threads + Wait + RandomSource + AllocGlobal + Sync,
     G: Gate + Sync,
-    requires few { length crew.inboxes.items ≤ 16 }
-    requires cut { IsCut (length (net_of net.now).motes) (length crew.inboxes.items) of.now }
-    requires at { IsAt (net_of net.now) of.now 0 crew }
-    requires fresh { AllZip IsFresh crew.inboxes.items crew.takers.items }
-    requires kind { Each (IsFor sync) crew.takers.items }
-    requires first { AreFirst (net_of net.now) of.now (length crew.inboxes.items) crew.shares.items }
+    requires few { length group.inboxes.items ≤ 16 }
+    requires cut { IsCut (length (net_of net.now).motes) (length group.inboxes.items) of.now }
+    requires at { IsAt (net_of net.now) of.now 0 group }
+    requires fresh { AllZip IsFresh group.inboxes.items group.takers.items }
+    requires kind { Each (IsFor sync) group.takers.items }
+    requires first { AreFirst (net_of net.now) of.now (length group.inboxes.items) group.shares.items }
     ensures at { let n = net_of net.now in IfOk result (λ done. IsAt n of.now (suc n.end) done) }
-    ensures inboxes { IfOk result (λ done. done.inboxes.items ≡ crew.inboxes.items) }
+    ensures inboxes { IfOk result (λ done. done.inboxes.items ≡ group.inboxes.items) }
     ensures all_taken { IfOk result (λ done. sync ≡ Marks
-        → Each (λ taker. Whole taker.desk.gathered taker.desk.taken) done.takers.items) }
+        → Each (λ taker. Whole taker.state.gathered taker.state.taken) done.takers.items) }
     ensures err { IfErr result (IsAnswerTo sync None) }
 {
     let ran = match sync {
-        SyncKind::Joins => run_windows(rt, alloc, net, of, longest, gate, crew),
-        SyncKind::Marks => run_marked(rt, alloc, net, of, longest, gate, crew),
+        SyncKind::Joins => run_windows(rt, alloc, net, of, longest, gate, group),
+        SyncKind::Marks => run_marked(rt, alloc, net, of, longest, gate, group),
     };
     match ran {
-        Ok(crew) => Ok(crew),
+        Ok(group) => Ok(group),
         Err(refused) => Err(of_refused(sync, refused)),
     }
 }
@@ -147,7 +147,7 @@ where
     ensures settled { IfOk result (λ r. Each (λ pair. IsSettled pair.0 pair.1) r.1.items) }
     // With marks nothing is left in them.
     ensures none_known { IfOk result (λ r. sync ≡ Marks
-        → Each (λ pair. known_of pair.1.desk.gathered pair.1.desk.taken ≡ 0) r.1.items) }
+        → Each (λ pair. known_of pair.1.state.gathered pair.1.state.taken ≡ 0) r.1.items) }
     // They carried the copies that went from worker to worker, each once and nothing else.
     ensures carried { IfOk result (λ r. AllCarried (net_of net.now) cut.now.of.items (report_of r.0) r.1.items) }
     // A fault of the cut is answered exactly where there is one.
@@ -160,14 +160,14 @@ where
     if let Some(fault) = fault_of(net.motes(), pairs.len(), of) {
         return Err(fault);
     }
-    let Ok((inboxes, takers)) = parted(alloc, pairs) else {
+    let Ok((inboxes, takers)) = split_pairs(alloc, pairs) else {
         return Err(RunError::Memory);
     };
-    let Ok(crew) = Workers::start(alloc, net, of, inboxes, takers) else {
+    let Ok(group) = Workers::start(alloc, net, of, inboxes, takers) else {
         return Err(RunError::Memory);
     };
-    let crew = run_crew(rt, alloc, net, of, cut.longest, sync, gate, crew)?;
-    told(alloc, net, of, crew)
+    let group = run_by_kind(rt, alloc, net, of, cut.longest, sync, gate, group)?;
+    make_report(alloc, net, of, group)
 }
 
 /// The report of a net, by so many workers, each in threads of its own: that of one thread, whatever the cut, and

@@ -1,4 +1,4 @@
-//! Laws of what crosses between workers. Each is the contract of a function that does nothing.
+//! Laws of what crosses between workers. Each is a theorem, stated as the contract of an empty function.
 
 ghost use Rattle.window_laws.specs.System.{System};
 ghost use Rattle.worker_cut.specs.Laws.{InboxIsWhole, CrossedOnce};

@@ -211,7 +211,7 @@ fn is_of_one_thread(alloc: Global, net: &Net, report: &Report) -> bool {
 }
 
 /// What a report is beside that of one thread.
-fn told(alloc: Global, net: &Net, report: &Report) -> Outcome {
+fn compare(alloc: Global, net: &Net, report: &Report) -> Outcome {
     if is_of_one_thread(alloc, net, report) {
         Outcome::Same(report.left)
     } else {
@@ -220,7 +220,7 @@ fn told(alloc: Global, net: &Net, report: &Report) -> Outcome {
 }
 
 /// What comes of a run by workers with this kind of synchronization and this gate.
-fn told_by_workers<R, G>(
+fn run_by_workers<R, G>(
     rt: &R,
     net: &Net,
     sync: SyncKind,
@@ -233,7 +233,7 @@ where
 {
     let cut = cut_of(rt.alloc(), run)?;
     match run_workers(rt, rt.alloc(), net, run.workers, &cut, sync, gate) {
-        Ok(report) => Ok(told(rt.alloc(), net, &report)),
+        Ok(report) => Ok(compare(rt.alloc(), net, &report)),
         Err(error) => Ok(Outcome::Fault(error)),
     }
 }

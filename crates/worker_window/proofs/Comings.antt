@@ -226,11 +226,11 @@ module _ (n : NetTold) (of : List ℕ) (worker from until : ℕ) (motes : Motes)
     keeps = record {
       is_worker = coming.stands.is_worker;
       places = coming.stands.places;
-      numbers = λ k h. coming.stands.numbers k (home k h);
-      nodes = λ k h. coming.stands.nodes k (home k h);
-      wakes = λ k h. coming.stands.wakes k (home k h);
-      quiet = λ k h. coming.stands.quiet k (home k h);
-      behind = λ k h. coming.stands.behind k (home k h);
+      numbers = λ k h. coming.stands.numbers k (present k h);
+      nodes = λ k h. coming.stands.nodes k (present k h);
+      wakes = λ k h. coming.stands.wakes k (present k h);
+      quiet = λ k h. coming.stands.quiet k (present k h);
+      behind = λ k h. coming.stands.behind k (present k h);
       traces_kept = coming.stands.traces_kept;
       traces = coming.stands.traces;
       log = coming.stands.log;
@@ -247,5 +247,5 @@ module _ (n : NetTold) (of : List ℕ) (worker from until : ℕ) (motes : Motes)
       here : (k : ℕ) → (all_mine k && not (is_one_of k coming.rest)) ≡ all_mine k
       here k = ap (λ ks. all_mine k && not (is_one_of k ks)) none ∙ and_yes (all_mine k)
 
-      home : (k : ℕ) → all_mine k ≡ true → (all_mine k && not (is_one_of k coming.rest)) ≡ true
-      home k h = here k ∙ h
+      present : (k : ℕ) → all_mine k ≡ true → (all_mine k && not (is_one_of k coming.rest)) ≡ true
+      present k h = here k ∙ h

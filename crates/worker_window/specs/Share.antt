@@ -53,18 +53,18 @@ pub record HasToCome (n : NetTold) (own : ℕ → Bool) (from : ℕ) (motes : Mo
   pub copies : (s : ℕ) → filter (is_from_sender s) (packets items)
       ≡ filter (is_to_come own from) (copies_known (system_of n) own motes taken s)
 
--- The share of a worker at a moment, before which no event is pending, while some of its motes are at home: their nodes
--- and wakes, the lines and packets of all its motes so far, and the agenda. No mote at home has failed, and the last
+-- The share of a worker at a moment, before which no event is pending, while some of its motes are in it: their nodes
+-- and wakes, the lines and packets of all its motes so far, and the agenda. No mote in it has failed, and the last
 -- turn of each was before that moment. `taken` are all copies that ever came from other workers.
-pub record IsShare (n : NetTold) (of : List ℕ) (worker : ℕ) (home : ℕ → Bool) (from : ℕ) (motes : Motes)
+pub record IsShare (n : NetTold) (of : List ℕ) (worker : ℕ) (present : ℕ → Bool) (from : ℕ) (motes : Motes)
     (taken : List RadioCopy) (share : Share) : Type 0 where
   pub is_worker : share.worker ≡ worker
   pub places : length share.motes.items ≡ length n.motes
-  pub numbers : (k : ℕ) → home k ≡ true → number_of (motes k).state ≡ k
-  pub nodes : (k : ℕ) → home k ≡ true → node_at (tree_at n k) (mote_here share.motes.items k) ≡ Some (motes k).state
-  pub wakes : (k : ℕ) → home k ≡ true → (motes k).wake ≡ wake_of (motes k).state
-  pub quiet : (k : ℕ) → home k ≡ true → WakesFrom from (motes k).wake
-  pub behind : (k : ℕ) → home k ≡ true → is_past from (motes k).state.last ≡ false
+  pub numbers : (k : ℕ) → present k ≡ true → number_of (motes k).state ≡ k
+  pub nodes : (k : ℕ) → present k ≡ true → node_at (tree_at n k) (mote_here share.motes.items k) ≡ Some (motes k).state
+  pub wakes : (k : ℕ) → present k ≡ true → (motes k).wake ≡ wake_of (motes k).state
+  pub quiet : (k : ℕ) → present k ≡ true → WakesFrom from (motes k).wake
+  pub behind : (k : ℕ) → present k ≡ true → is_past from (motes k).state.last ≡ false
   pub traces_kept : length share.traces.items ≡ length n.motes
   pub traces : (k : ℕ) → is_own of worker k ≡ true → (d : Vec Line Global)
       → (slice_index_or share.traces.items k d).items ≡ (motes k).lines
@@ -73,7 +73,7 @@ pub record IsShare (n : NetTold) (of : List ℕ) (worker : ℕ) (home : ℕ → 
   pub fates : HaveFates n.radio share.log.items
   pub agenda : HasToCome n (is_own of worker) from motes taken share.agenda.buckets
 
--- with all of its motes at home, as between windows
+-- with all of its motes in it, as between windows
 abbrev pub Keeps : NetTold → (of : List ℕ) → (worker from : ℕ) → Motes → (taken : List RadioCopy) → Share → Type 0
 Keeps n of worker from motes taken share = IsShare n of worker (is_own of worker) from motes taken share
 

@@ -3,11 +3,13 @@
 ghost use Rattle.std.specs.Prelude.{◌≡◌, ◌≤◌, ◌+◌, length, IfOk};
 ghost use Rattle.std.specs.List.{AllByRecursion as Each};
 ghost use Rattle.copy_inbox.specs.Handles.{TakerView};
-ghost use Rattle.copy_exchange.specs.Couriers.{IsCourier, SetsOut, Returns};
+ghost use Rattle.copy_exchange.specs.Endpoints.{IsEndpoint, StartsAs, Returns};
 ghost use Rattle.copy_exchange.specs.Inboxes.{IsPlain, IsSettled, Settled};
 
 use super::{same_text, write_copies, write_rest};
-use copy_exchange::{Courier, couriers, gathered, known, make_inboxes, paired, parted};
+use copy_exchange::{
+    Endpoint, endpoints, gather_window, known, make_inboxes, pair_inboxes, split_pairs,
+};
 use copy_inbox::{Inbox, InboxError, Taker};
 use radio_packet::RadioCopy;
 use std::alloc::{AllocError, Global};
@@ -35,22 +37,22 @@ fn through<R: Wait>(
     alloc: Global,
     text: &mut String,
     inboxes: &[Inbox],
-    courier: Courier,
+    endpoint: Endpoint,
     out: &[RadioCopy],
-) -> Result<Courier, InboxError>
+) -> Result<Endpoint, InboxError>
     requires two { length inboxes.now ≡ 2 }
-    requires courier { IsCourier inboxes.now courier }
-    requires plain { IsPlain courier.taker }
-    requires out { Each (λ copy. (copy.sender ≡ courier.worker) × (copy.to + courier.worker ≡ 1)) out.now }
-    ensures { IfOk result (λ back. (t : TakerView) → SetsOut t courier → Returns inboxes.now (λ s. s) courier back) }
+    requires endpoint { IsEndpoint inboxes.now endpoint }
+    requires plain { IsPlain endpoint.taker }
+    requires out { Each (λ copy. (copy.sender ≡ endpoint.worker) × (copy.to + endpoint.worker ≡ 1)) out.now }
+    ensures { IfOk result (λ back. (t : TakerView) → StartsAs t endpoint → Returns inboxes.now (λ s. s) endpoint back) }
 {
-    let mut courier = courier;
-    let taken = courier.collect(rt, inboxes)?;
+    let mut endpoint = endpoint;
+    let taken = endpoint.collect(rt, inboxes)?;
     let sent = Vec::from_slice(alloc, out)?;
-    courier.deliver(rt, inboxes, &[0, 1], sent)?;
+    endpoint.deliver(rt, inboxes, &[0, 1], sent)?;
     text.push_str("took|")?;
     write_copies(text, taken.as_slice())?;
-    Ok(courier)
+    Ok(endpoint)
 }
 
 /// A window of both workers, worker 0 first: what each took is written down, and the takers are those after it.
@@ -71,8 +73,8 @@ fn a_window<R: Wait>(
     ensures settled { IfOk result (λ takers. Settled inboxes.now takers.items) }
     ensures plain { IfOk result (λ takers. Each IsPlain takers.items) }
 {
-    let mut couriers = couriers(alloc, inboxes, takers)?;
-    let (Some(second), Some(first)) = (couriers.pop(), couriers.pop()) else {
+    let mut endpoints = endpoints(alloc, inboxes, takers)?;
+    let (Some(second), Some(first)) = (endpoints.pop(), endpoints.pop()) else {
         return Err(InboxError::Memory);
     };
     let first = through(rt, alloc, text, inboxes, first, out_of_first)?;
@@ -80,7 +82,7 @@ fn a_window<R: Wait>(
     let mut back = Vec::with_capacity(alloc, 2)?;
     back.push_reserved(first);
     back.push_reserved(second);
-    gathered(rt, alloc, inboxes, back)
+    gather_window(rt, alloc, inboxes, back)
 }
 
 /// Writes down how many copies are known in each inbox.
@@ -140,9 +142,9 @@ fn write_all_left<R: Wait>(
 
 /// Writes down what two new inboxes give in two windows, and when they end.
 fn write_windows<R: Wait>(rt: &R, alloc: Global, text: &mut String) -> Result<(), InboxError> {
-    let (inboxes, takers) = parted(alloc, make_inboxes(alloc, 2, false)?)?;
+    let (inboxes, takers) = split_pairs(alloc, make_inboxes(alloc, 2, false)?)?;
     let takers = two_turns(rt, alloc, text, &inboxes, takers)?;
-    write_all_left(rt, text, paired(alloc, inboxes, takers)?)
+    write_all_left(rt, text, pair_inboxes(alloc, inboxes, takers)?)
 }
 
 /// What is delivered in one window is taken in the next, and nothing else: not what the other worker delivers

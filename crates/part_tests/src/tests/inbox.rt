@@ -2,7 +2,7 @@
 
 ghost use Rattle.std.specs.Prelude.{◌≡◌, false, [], IfOk, OnOk};
 ghost use Rattle.copy_inbox.specs.Handles.{AllGathered, after_sender};
-ghost use Rattle.copy_inbox.specs.Views.{make_desk, make_post};
+ghost use Rattle.copy_inbox.specs.Views.{make_taker_state, make_sender_state};
 
 use super::{same_text, write_copies, write_rest};
 use copy_inbox::{Inbox, InboxError, Sender, Taker};
@@ -26,7 +26,7 @@ pub(crate) fn copy(sender: u16, number: u64) -> RadioCopy {
 /// A new inbox, with marks or without, and its taker.
 fn make(alloc: Global, marked: bool) -> Result<(Inbox, Taker), InboxError>
     ensures inbox { IfOk result (λ made. made.1.inbox ≡ made.0) }
-    ensures empty { IfOk result (λ made. made.1.desk ≡ make_desk marked 0 [] []) }
+    ensures empty { IfOk result (λ made. made.1.state ≡ make_taker_state marked 0 [] []) }
 {
     if marked {
         Inbox::make_marked(alloc)
@@ -38,8 +38,8 @@ fn make(alloc: Global, marked: bool) -> Result<(Inbox, Taker), InboxError>
 /// A new inbox, with marks or without, its taker, and a sender.
 pub(crate) fn with_one(alloc: Global, marked: bool) -> Result<(Inbox, Taker, Sender), InboxError>
     ensures inbox { IfOk result (λ made. (made.1.inbox ≡ made.0) × (made.2.inbox ≡ made.0)) }
-    ensures taker { IfOk result (λ made. made.1.desk ≡ make_desk marked 1 [] []) }
-    ensures sender { IfOk result (λ made. made.2.post ≡ make_post marked 0 []) }
+    ensures taker { IfOk result (λ made. made.1.state ≡ make_taker_state marked 1 [] []) }
+    ensures sender { IfOk result (λ made. made.2.state ≡ make_sender_state marked 0 []) }
 {
     let (inbox, mut taker) = make(alloc, marked)?;
     let sender = inbox.sender(&mut taker)?;
@@ -52,9 +52,9 @@ pub(crate) fn with_two(
     marked: bool,
 ) -> Result<(Inbox, Taker, Sender, Sender), InboxError>
     ensures inbox { IfOk result (λ made. (made.1.inbox ≡ made.0) × (made.2.inbox ≡ made.0) × (made.3.inbox ≡ made.0)) }
-    ensures taker { IfOk result (λ made. made.1.desk ≡ make_desk marked 2 [] []) }
-    ensures senders { IfOk result (λ made. (made.2.post ≡ make_post marked 0 [])
-        × (made.3.post ≡ make_post marked 1 [])) }
+    ensures taker { IfOk result (λ made. made.1.state ≡ make_taker_state marked 2 [] []) }
+    ensures senders { IfOk result (λ made. (made.2.state ≡ make_sender_state marked 0 [])
+        × (made.3.state ≡ make_sender_state marked 1 [])) }
 {
     let (inbox, mut taker, first) = with_one(alloc, marked)?;
     let second = inbox.sender(&mut taker)?;
@@ -64,8 +64,8 @@ pub(crate) fn with_two(
 // Pushes a copy. Where memory is refused, it is not there to be taken.
 pub(crate) fn push<R: Wait>(rt: &R, inbox: &Inbox, sender: &mut Sender, copied: RadioCopy)
     requires { sender.old.inbox ≡ inbox.now }
-    ensures { (sender.new.inbox ≡ inbox.now) × (sender.new.post.number ≡ sender.old.post.number)
-        × (sender.new.post.marked ≡ sender.old.post.marked) }
+    ensures { (sender.new.inbox ≡ inbox.now) × (sender.new.state.number ≡ sender.old.state.number)
+        × (sender.new.state.marked ≡ sender.old.state.marked) }
 {
     let _ = inbox.push_copy(rt, sender, copied);
 }
@@ -79,8 +79,8 @@ fn push_each<R: Wait>(
     copies: &[RadioCopy],
 ) -> (Sender, Sender)
     requires { (first.inbox ≡ inbox.now) × (second.inbox ≡ inbox.now) }
-    ensures first { (result.0.inbox ≡ inbox.now) × (result.0.post.number ≡ first.post.number) }
-    ensures second { (result.1.inbox ≡ inbox.now) × (result.1.post.number ≡ second.post.number) }
+    ensures first { (result.0.inbox ≡ inbox.now) × (result.0.state.number ≡ first.state.number) }
+    ensures second { (result.1.inbox ≡ inbox.now) × (result.1.state.number ≡ second.state.number) }
 {
     for copied in copies {
         if copied.sender == 0 {
@@ -106,9 +106,9 @@ fn drain<R: Wait>(
     taker: &mut Taker,
     most: u64,
 ) -> Result<Vec<RadioCopy>, InboxError>
-    requires { (taker.old.inbox ≡ inbox.now) × (taker.old.desk.marked ≡ false) }
-    ensures { (taker.new.inbox ≡ inbox.now) × (taker.new.desk.marked ≡ false)
-        × (taker.new.desk.made ≡ taker.old.desk.made) × (taker.new.desk.gathered ≡ taker.old.desk.gathered) }
+    requires { (taker.old.inbox ≡ inbox.now) × (taker.old.state.marked ≡ false) }
+    ensures { (taker.new.inbox ≡ inbox.now) × (taker.new.state.marked ≡ false)
+        × (taker.new.state.made ≡ taker.old.state.made) × (taker.new.state.gathered ≡ taker.old.state.gathered) }
 {
     let known = inbox.known(taker);
     inbox.drain(rt, taker, most.min(known))
@@ -123,9 +123,9 @@ fn write_taken<R: Wait>(
     taker: &mut Taker,
     most: u64,
 ) -> Result<(), InboxError>
-    requires { (taker.old.inbox ≡ inbox.now) × (taker.old.desk.marked ≡ false) }
-    ensures { (taker.new.inbox ≡ inbox.now) × (taker.new.desk.marked ≡ false)
-        × (taker.new.desk.made ≡ taker.old.desk.made) × (taker.new.desk.gathered ≡ taker.old.desk.gathered) }
+    requires { (taker.old.inbox ≡ inbox.now) × (taker.old.state.marked ≡ false) }
+    ensures { (taker.new.inbox ≡ inbox.now) × (taker.new.state.marked ≡ false)
+        × (taker.new.state.made ≡ taker.old.state.made) × (taker.new.state.gathered ≡ taker.old.state.gathered) }
 {
     write_known(text, inbox, taker)?;
     let taken = drain(rt, inbox, taker, most)?;
@@ -143,11 +143,11 @@ fn write_both_gathered<R: Wait>(
     senders: (Sender, Sender),
     most: (u64, u64),
 ) -> Result<(), InboxError>
-    requires taker { (taker.old.inbox ≡ inbox.now) × (taker.old.desk ≡ make_desk false 2 [] []) }
-    requires first { (senders.0.inbox ≡ inbox.now) × (senders.0.post.number ≡ 0) }
-    requires second { (senders.1.inbox ≡ inbox.now) × (senders.1.post.number ≡ 1) }
-    ensures taker { OnOk result ((taker.new.inbox ≡ inbox.now) × (taker.new.desk.marked ≡ false)) }
-    ensures gathered { OnOk result (AllGathered taker.new.desk) }
+    requires taker { (taker.old.inbox ≡ inbox.now) × (taker.old.state ≡ make_taker_state false 2 [] []) }
+    requires first { (senders.0.inbox ≡ inbox.now) × (senders.0.state.number ≡ 0) }
+    requires second { (senders.1.inbox ≡ inbox.now) × (senders.1.state.number ≡ 1) }
+    ensures taker { OnOk result ((taker.new.inbox ≡ inbox.now) × (taker.new.state.marked ≡ false)) }
+    ensures gathered { OnOk result (AllGathered taker.new.state) }
 {
     write_known(text, inbox, taker)?;
     let (first, second) = senders;
@@ -178,9 +178,9 @@ fn write_one_behind_the_other<R: Wait>(
     inbox: &Inbox,
     taker: &mut Taker,
 ) -> Result<(), InboxError>
-    requires { (taker.old.inbox ≡ inbox.now) × (taker.old.desk ≡ make_desk false 0 [] []) }
-    ensures taker { OnOk result ((taker.new.inbox ≡ inbox.now) × (taker.new.desk.marked ≡ false)) }
-    ensures gathered { OnOk result (AllGathered taker.new.desk) }
+    requires { (taker.old.inbox ≡ inbox.now) × (taker.old.state ≡ make_taker_state false 0 [] []) }
+    ensures taker { OnOk result ((taker.new.inbox ≡ inbox.now) × (taker.new.state.marked ≡ false)) }
+    ensures gathered { OnOk result (AllGathered taker.new.state) }
 {
     let mut first = inbox.sender(taker)?;
     push(rt, inbox, &mut first, copy(0, 7));
@@ -234,7 +234,7 @@ fn in_one_thread(rt: HostRuntime) -> Result<(), Fail> {
 // A new inbox, with marks or without. Where memory is refused, it is asked for again.
 pub(crate) fn make_again(alloc: Global, marked: bool) -> Result<(Inbox, Taker), InboxError>
     ensures inbox { IfOk result (λ made. made.1.inbox ≡ made.0) }
-    ensures empty { IfOk result (λ made. made.1.desk ≡ make_desk marked 0 [] []) }
+    ensures empty { IfOk result (λ made. made.1.state ≡ make_taker_state marked 0 [] []) }
 {
     match make(alloc, marked) {
         Ok(made) => Ok(made),
@@ -246,7 +246,8 @@ pub(crate) fn make_again(alloc: Global, marked: bool) -> Result<(Inbox, Taker), 
 pub(crate) fn sender_again(inbox: &Inbox, taker: &mut Taker) -> Result<Sender, InboxError>
     requires { taker.old.inbox ≡ inbox.now }
     ensures inbox { IfOk result (λ sender. sender.inbox ≡ inbox.now) }
-    ensures fresh { IfOk result (λ sender. sender.post ≡ make_post taker.old.desk.marked taker.old.desk.made []) }
+    ensures fresh { IfOk result
+        (λ sender. sender.state ≡ make_sender_state taker.old.state.marked taker.old.state.made []) }
     ensures taker { OnOk result (taker.new ≡ after_sender taker.old) }
 {
     match inbox.sender(taker) {
@@ -258,8 +259,8 @@ pub(crate) fn sender_again(inbox: &Inbox, taker: &mut Taker) -> Result<Sender, I
 // Pushes a copy. Where memory is refused, what comes back is pushed.
 pub(crate) fn push_again<R: Wait>(rt: &R, inbox: &Inbox, sender: &mut Sender, copied: RadioCopy)
     requires { sender.old.inbox ≡ inbox.now }
-    ensures { (sender.new.inbox ≡ inbox.now) × (sender.new.post.number ≡ sender.old.post.number)
-        × (sender.new.post.marked ≡ sender.old.post.marked) }
+    ensures { (sender.new.inbox ≡ inbox.now) × (sender.new.state.number ≡ sender.old.state.number)
+        × (sender.new.state.marked ≡ sender.old.state.marked) }
 {
     if let Err(back) = inbox.push_copy(rt, sender, copied) {
         push(rt, inbox, sender, back);
@@ -269,7 +270,7 @@ pub(crate) fn push_again<R: Wait>(rt: &R, inbox: &Inbox, sender: &mut Sender, co
 // Pushes so many copies, numbered from 0.
 fn push_all_again<R: Wait>(rt: &R, inbox: &Inbox, mut sender: Sender, count: u64) -> Sender
     requires { sender.inbox ≡ inbox.now }
-    ensures { (result.inbox ≡ inbox.now) × (result.post.number ≡ sender.post.number) }
+    ensures { (result.inbox ≡ inbox.now) × (result.state.number ≡ sender.state.number) }
 {
     for number in 0..count {
         push_again(rt, inbox, &mut sender, copy(0, number));
@@ -279,9 +280,9 @@ fn push_all_again<R: Wait>(rt: &R, inbox: &Inbox, mut sender: Sender, count: u64
 
 // Whether the copies that are taken are so many of one sender, in order. Where memory is refused, they are taken again.
 fn takes_again<R: Wait>(rt: &R, inbox: &Inbox, taker: &mut Taker, count: u64) -> bool
-    requires { (taker.old.inbox ≡ inbox.now) × (taker.old.desk.marked ≡ false) }
-    ensures { (taker.new.inbox ≡ inbox.now) × (taker.new.desk.marked ≡ false)
-        × (taker.new.desk.made ≡ taker.old.desk.made) × (taker.new.desk.gathered ≡ taker.old.desk.gathered) }
+    requires { (taker.old.inbox ≡ inbox.now) × (taker.old.state.marked ≡ false) }
+    ensures { (taker.new.inbox ≡ inbox.now) × (taker.new.state.marked ≡ false)
+        × (taker.new.state.made ≡ taker.old.state.made) × (taker.new.state.gathered ≡ taker.old.state.gathered) }
 {
     if let Ok(copies) = drain(rt, inbox, taker, count) {
         return are_of(copies.as_slice(), 0, count);
@@ -294,8 +295,8 @@ fn takes_again<R: Wait>(rt: &R, inbox: &Inbox, taker: &mut Taker, count: u64) ->
 
 // Whether the closing gives this copy alone. Where memory is refused, it gives up what was left.
 fn closes_with<R: Wait>(rt: &R, inbox: Inbox, taker: Taker, last: RadioCopy) -> bool
-    requires inbox { (taker.inbox ≡ inbox) × (taker.desk.marked ≡ false) }
-    requires gathered { AllGathered taker.desk }
+    requires inbox { (taker.inbox ≡ inbox) × (taker.state.marked ≡ false) }
+    requires gathered { AllGathered taker.state }
 {
     match inbox.close(rt, taker) {
         Ok(rest) => rest.as_slice() == [last].as_slice(),
@@ -332,7 +333,7 @@ fn each_allocation_refused(rt: HostRuntime) -> Result<(), Fail> {
 // Pushes copies numbered from 0, until one comes back.
 fn push_all<R: Wait>(rt: &R, inbox: &Inbox, mut sender: Sender, mote: u16, count: u64) -> Sender
     requires { sender.inbox ≡ inbox.now }
-    ensures { (result.inbox ≡ inbox.now) × (result.post.number ≡ sender.post.number) }
+    ensures { (result.inbox ≡ inbox.now) × (result.state.number ≡ sender.state.number) }
 {
     for number in 0..count {
         if inbox
@@ -354,18 +355,18 @@ fn push_both<R: Threads + Wait + Sync>(
     count: u64,
 ) -> (Sender, Sender)
     requires { (first.inbox ≡ inbox.now) × (second.inbox ≡ inbox.now) }
-    ensures first { (result.0.inbox ≡ inbox.now) × (result.0.post.number ≡ first.post.number) }
-    ensures second { (result.1.inbox ≡ inbox.now) × (result.1.post.number ≡ second.post.number) }
+    ensures first { (result.0.inbox ≡ inbox.now) × (result.0.state.number ≡ first.state.number) }
+    ensures second { (result.1.inbox ≡ inbox.now) × (result.1.state.number ≡ second.state.number) }
 {
     thread::join(
         rt,
         move ||
             requires { first.inbox ≡ inbox.now }
-            ensures { (result.inbox ≡ inbox.entry.now) × (result.post.number ≡ first.post.number) }
+            ensures { (result.inbox ≡ inbox.entry.now) × (result.state.number ≡ first.state.number) }
         { push_all(rt, inbox, first, 0, count) },
         move ||
             requires { second.inbox ≡ inbox.now }
-            ensures { (result.inbox ≡ inbox.entry.now) × (result.post.number ≡ second.post.number) }
+            ensures { (result.inbox ≡ inbox.entry.now) × (result.state.number ≡ second.state.number) }
         { push_all(rt, inbox, second, 1, count) },
     )
 }
@@ -380,20 +381,20 @@ fn push_all_three<R: Threads + Wait + Sync>(
     count: u64,
 ) -> ((Sender, Sender), Sender)
     requires { (first.inbox ≡ inbox.now) × (second.inbox ≡ inbox.now) × (third.inbox ≡ inbox.now) }
-    ensures first { (result.0.0.inbox ≡ inbox.now) × (result.0.0.post.number ≡ first.post.number) }
-    ensures second { (result.0.1.inbox ≡ inbox.now) × (result.0.1.post.number ≡ second.post.number) }
-    ensures third { (result.1.inbox ≡ inbox.now) × (result.1.post.number ≡ third.post.number) }
+    ensures first { (result.0.0.inbox ≡ inbox.now) × (result.0.0.state.number ≡ first.state.number) }
+    ensures second { (result.0.1.inbox ≡ inbox.now) × (result.0.1.state.number ≡ second.state.number) }
+    ensures third { (result.1.inbox ≡ inbox.now) × (result.1.state.number ≡ third.state.number) }
 {
     thread::join(
         rt,
         move ||
             requires { (first.inbox ≡ inbox.now) × (second.inbox ≡ inbox.now) }
-            ensures { (result.0.inbox ≡ inbox.entry.now) × (result.0.post.number ≡ first.post.number)
-                × (result.1.inbox ≡ inbox.entry.now) × (result.1.post.number ≡ second.post.number) }
+            ensures { (result.0.inbox ≡ inbox.entry.now) × (result.0.state.number ≡ first.state.number)
+                × (result.1.inbox ≡ inbox.entry.now) × (result.1.state.number ≡ second.state.number) }
         { push_both(rt, inbox, first, second, count) },
         move ||
             requires { third.inbox ≡ inbox.now }
-            ensures { (result.inbox ≡ inbox.entry.now) × (result.post.number ≡ third.post.number) }
+            ensures { (result.inbox ≡ inbox.entry.now) × (result.state.number ≡ third.state.number) }
         { push_all(rt, inbox, third, 2, count) },
     )
 }
@@ -428,9 +429,9 @@ fn are_in_order(copies: &[RadioCopy], count: u64) -> bool {
 
 // Takes all that is known, and tells whether that is so many copies of sender 0, in order.
 fn takes_known<R: Wait>(rt: &R, inbox: &Inbox, mut taker: Taker, count: u64) -> (Taker, bool)
-    requires { (taker.inbox ≡ inbox.now) × (taker.desk.marked ≡ false) }
-    ensures { (result.0.desk.marked ≡ false) × (result.0.inbox ≡ inbox.now) × (result.0.desk.made ≡ taker.desk.made)
-        × (result.0.desk.gathered ≡ taker.desk.gathered) }
+    requires { (taker.inbox ≡ inbox.now) × (taker.state.marked ≡ false) }
+    ensures { (result.0.state.marked ≡ false) × (result.0.inbox ≡ inbox.now) × (result.0.state.made ≡ taker.state.made)
+        × (result.0.state.gathered ≡ taker.state.gathered) }
 {
     let known = inbox.known(&taker);
     let taken = match inbox.drain(rt, &mut taker, known) {
@@ -448,21 +449,21 @@ fn take_beside<R: Threads + Wait + Sync>(
     second: Sender,
     count: u64,
 ) -> ((Taker, bool), Sender)
-    requires { (taker.inbox ≡ inbox.now) × (taker.desk.marked ≡ false) × (second.inbox ≡ inbox.now) }
-    ensures taker { (result.0.0.desk.marked ≡ false) × (result.0.0.inbox ≡ inbox.now)
-        × (result.0.0.desk.made ≡ taker.desk.made) × (result.0.0.desk.gathered ≡ taker.desk.gathered) }
-    ensures second { (result.1.inbox ≡ inbox.now) × (result.1.post.number ≡ second.post.number) }
+    requires { (taker.inbox ≡ inbox.now) × (taker.state.marked ≡ false) × (second.inbox ≡ inbox.now) }
+    ensures taker { (result.0.0.state.marked ≡ false) × (result.0.0.inbox ≡ inbox.now)
+        × (result.0.0.state.made ≡ taker.state.made) × (result.0.0.state.gathered ≡ taker.state.gathered) }
+    ensures second { (result.1.inbox ≡ inbox.now) × (result.1.state.number ≡ second.state.number) }
 {
     thread::join(
         rt,
         move ||
-            requires { (taker.inbox ≡ inbox.now) × (taker.desk.marked ≡ false) }
-            ensures { (result.0.desk.marked ≡ false) × (result.0.inbox ≡ inbox.entry.now)
-                × (result.0.desk.made ≡ taker.desk.made) × (result.0.desk.gathered ≡ taker.desk.gathered) }
+            requires { (taker.inbox ≡ inbox.now) × (taker.state.marked ≡ false) }
+            ensures { (result.0.state.marked ≡ false) × (result.0.inbox ≡ inbox.entry.now)
+                × (result.0.state.made ≡ taker.state.made) × (result.0.state.gathered ≡ taker.state.gathered) }
         { takes_known(rt, inbox, taker, count) },
         move ||
             requires { second.inbox ≡ inbox.now }
-            ensures { (result.inbox ≡ inbox.entry.now) × (result.post.number ≡ second.post.number) }
+            ensures { (result.inbox ≡ inbox.entry.now) × (result.state.number ≡ second.state.number) }
         { push_all(rt, inbox, second, 1, count) },
     )
 }

@@ -150,7 +150,7 @@ fn write_acts(alloc: Global, text: &mut String, program: &str, acts: &[Act]) -> 
 }
 
 /// What is written of that.
-fn told(alloc: Global, program: &str, acts: &[Act]) -> Result<String, Fail> {
+fn trial_text(alloc: Global, program: &str, acts: &[Act]) -> Result<String, Fail> {
     let mut text = String::new(alloc);
     write_acts(alloc, &mut text, program, acts)?;
     Ok(text)
@@ -158,7 +158,7 @@ fn told(alloc: Global, program: &str, acts: &[Act]) -> Result<String, Fail> {
 
 /// Fails where something else is written of that.
 fn tells(alloc: Global, program: &str, acts: &[Act], want: &str) -> Result<(), Fail> {
-    let told = told(alloc, program, acts)?;
+    let told = trial_text(alloc, program, acts)?;
     same_text(told.as_str(), want)
 }
 

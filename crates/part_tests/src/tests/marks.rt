@@ -1,7 +1,7 @@
 //! Inboxes with marks, in one thread and in two.
 
 ghost use Rattle.std.specs.Prelude.{◌≡◌, true, [], OnOk};
-ghost use Rattle.copy_inbox.specs.Views.{make_desk};
+ghost use Rattle.copy_inbox.specs.Views.{make_taker_state};
 
 use super::inbox::{
     copy, make_again, push, push_again, sender_again, with_one, with_two, write_known,
@@ -17,9 +17,9 @@ use std::thread::Threads;
 // Pushes a mark. Where memory is refused, it is not there to be taken.
 fn push_mark<R: Wait>(rt: &R, inbox: &Inbox, sender: &mut Sender, window: u64)
     requires inbox { sender.old.inbox ≡ inbox.now }
-    requires marked { sender.old.post.marked ≡ true }
-    ensures { (sender.new.inbox ≡ inbox.now) × (sender.new.post.number ≡ sender.old.post.number)
-        × (sender.new.post.marked ≡ true) }
+    requires marked { sender.old.state.marked ≡ true }
+    ensures { (sender.new.inbox ≡ inbox.now) × (sender.new.state.number ≡ sender.old.state.number)
+        × (sender.new.state.marked ≡ true) }
 {
     let _ = inbox.push_mark(rt, sender, window);
 }
@@ -45,8 +45,8 @@ fn write_nexts<R: Wait>(
     count: u8,
 ) -> Result<(), AllocError>
     requires { taker.old.inbox ≡ inbox.now }
-    ensures { (taker.new.inbox ≡ inbox.now) × (taker.new.desk.made ≡ taker.old.desk.made)
-        × (taker.new.desk.gathered ≡ taker.old.desk.gathered) }
+    ensures { (taker.new.inbox ≡ inbox.now) × (taker.new.state.made ≡ taker.old.state.made)
+        × (taker.new.state.gathered ≡ taker.old.state.gathered) }
 {
     for _ in 0..count {
         write_item(text, inbox.take_next(rt, taker))?;
@@ -65,8 +65,8 @@ fn write_end<R: Wait>(
     second: Sender,
 ) -> Result<(), InboxError>
     requires inbox { (taker.inbox ≡ inbox) × (first.inbox ≡ inbox) × (second.inbox ≡ inbox) }
-    requires taker { (taker.desk.made ≡ 2) × (taker.desk.gathered ≡ []) }
-    requires numbers { (first.post.number ≡ 0) × (second.post.number ≡ 1) }
+    requires taker { (taker.state.made ≡ 2) × (taker.state.gathered ≡ []) }
+    requires numbers { (first.state.number ≡ 0) × (second.state.number ≡ 1) }
 {
     inbox.gather(rt, &mut taker, first);
     inbox.gather(rt, &mut taker, second);
@@ -86,11 +86,11 @@ fn write_pushed_marks<R: Wait>(
     second: &mut Sender,
 ) -> Result<(), AllocError>
     requires inbox { (taker.old.inbox ≡ inbox.now) × (first.old.inbox ≡ inbox.now) × (second.old.inbox ≡ inbox.now) }
-    requires marked { (first.old.post.marked ≡ true) × (second.old.post.marked ≡ true) }
-    ensures taker { (taker.new.inbox ≡ inbox.now) × (taker.new.desk.made ≡ taker.old.desk.made)
-        × (taker.new.desk.gathered ≡ taker.old.desk.gathered) }
-    ensures first { (first.new.inbox ≡ inbox.now) × (first.new.post.number ≡ first.old.post.number) }
-    ensures second { (second.new.inbox ≡ inbox.now) × (second.new.post.number ≡ second.old.post.number) }
+    requires marked { (first.old.state.marked ≡ true) × (second.old.state.marked ≡ true) }
+    ensures taker { (taker.new.inbox ≡ inbox.now) × (taker.new.state.made ≡ taker.old.state.made)
+        × (taker.new.state.gathered ≡ taker.old.state.gathered) }
+    ensures first { (first.new.inbox ≡ inbox.now) × (first.new.state.number ≡ first.old.state.number) }
+    ensures second { (second.new.inbox ≡ inbox.now) × (second.new.state.number ≡ second.old.state.number) }
 {
     push(rt, inbox, first, copy(0, 7));
     push_mark(rt, inbox, first, 0);
@@ -181,8 +181,8 @@ fn items_one_by_one(rt: HostRuntime) -> Result<(), Fail> {
 // Pushes a mark. Where memory is refused, what comes back is pushed.
 fn push_mark_again<R: Wait>(rt: &R, inbox: &Inbox, sender: &mut Sender, window: u64)
     requires inbox { sender.old.inbox ≡ inbox.now }
-    requires marked { sender.old.post.marked ≡ true }
-    ensures { (sender.new.inbox ≡ inbox.now) × (sender.new.post.marked ≡ true) }
+    requires marked { sender.old.state.marked ≡ true }
+    ensures { (sender.new.inbox ≡ inbox.now) × (sender.new.state.marked ≡ true) }
 {
     if let Err(back) = inbox.push_mark(rt, sender, window) {
         push_mark(rt, inbox, sender, back);
@@ -192,7 +192,7 @@ fn push_mark_again<R: Wait>(rt: &R, inbox: &Inbox, sender: &mut Sender, window: 
 // Pushes so many windows of a copy and a mark each.
 fn push_windows_again<R: Wait>(rt: &R, inbox: &Inbox, mut sender: Sender, windows: u64) -> Sender
     requires inbox { sender.inbox ≡ inbox.now }
-    requires marked { sender.post.marked ≡ true }
+    requires marked { sender.state.marked ≡ true }
     ensures { result.inbox ≡ inbox.now }
 {
     for window in 0..windows {
@@ -246,8 +246,8 @@ fn each_allocation_refused_of_marks(rt: HostRuntime) -> Result<(), Fail> {
 // Pushes three copies and the mark of a window.
 fn push_window<R: Wait>(rt: &R, inbox: &Inbox, sender: &mut Sender, window: u64)
     requires inbox { sender.old.inbox ≡ inbox.now }
-    requires marked { sender.old.post.marked ≡ true }
-    ensures { (sender.new.inbox ≡ inbox.now) × (sender.new.post.marked ≡ true) }
+    requires marked { sender.old.state.marked ≡ true }
+    ensures { (sender.new.inbox ≡ inbox.now) × (sender.new.state.marked ≡ true) }
 {
     for number in 0..3u64 {
         push(rt, inbox, sender, copy(0, number));
@@ -258,7 +258,7 @@ fn push_window<R: Wait>(rt: &R, inbox: &Inbox, sender: &mut Sender, window: u64)
 // Pushes so many windows.
 fn push_windows<R: Wait>(rt: &R, inbox: &Inbox, mut sender: Sender, windows: u64)
     requires inbox { sender.inbox ≡ inbox.now }
-    requires marked { sender.post.marked ≡ true }
+    requires marked { sender.state.marked ≡ true }
 {
     for window in 0..windows {
         push_window(rt, inbox, &mut sender, window);
@@ -328,7 +328,7 @@ fn both<R: Threads + Wait + Sync>(rt: &R, alloc: Global, windows: u64) -> Result
     let ((), full) = thread::join(
         rt,
         move ||
-            requires { (sender.inbox ≡ shared.now) × (sender.post.marked ≡ true) }
+            requires { (sender.inbox ≡ shared.now) × (sender.state.marked ≡ true) }
         { push_windows(rt, shared, sender, windows) },
         move ||
             requires { taker.inbox ≡ shared.now }

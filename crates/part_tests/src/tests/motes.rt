@@ -119,7 +119,7 @@ fn write_turns(
 }
 
 /// What is written of that.
-fn told(alloc: Global, number: u16, program: &str, turns: &[Turn]) -> Result<String, Fail> {
+fn trial_text(alloc: Global, number: u16, program: &str, turns: &[Turn]) -> Result<String, Fail> {
     let mut text = String::new(alloc);
     write_turns(alloc, &mut text, number, program, turns)?;
     Ok(text)
@@ -133,7 +133,7 @@ fn tells(
     turns: &[Turn],
     want: &str,
 ) -> Result<(), Fail> {
-    let told = told(alloc, number, program, turns)?;
+    let told = trial_text(alloc, number, program, turns)?;
     same_text(told.as_str(), want)
 }
 

@@ -138,7 +138,7 @@ fn write_acts(
 }
 
 /// What is written of that.
-fn told(alloc: Global, program: &str, units: u32, acts: &[Act]) -> Result<String, Fail> {
+fn trial_text(alloc: Global, program: &str, units: u32, acts: &[Act]) -> Result<String, Fail> {
     let program = read(alloc, program)?;
     let mut text = String::new(alloc);
     if program.processes() > 0 {
@@ -149,7 +149,7 @@ fn told(alloc: Global, program: &str, units: u32, acts: &[Act]) -> Result<String
 
 /// Fails where something else is written of that.
 fn tells(alloc: Global, program: &str, units: u32, acts: &[Act], want: &str) -> Result<(), Fail> {
-    let told = told(alloc, program, units, acts)?;
+    let told = trial_text(alloc, program, units, acts)?;
     same_text(told.as_str(), want)
 }
 

@@ -37,7 +37,7 @@ fn write_answers(text: &mut String, queue: &mut EventQueue) -> Result<(), AllocE
 }
 
 /// What is written of a queue with room for one event.
-fn told(alloc: Global) -> Result<String, Fail> {
+fn trial_text(alloc: Global) -> Result<String, Fail> {
     let mut text = String::new(alloc);
     let mut queue = EventQueue::new(alloc, 1)?;
     write_answers(&mut text, &mut queue)?;
@@ -47,7 +47,7 @@ fn told(alloc: Global) -> Result<String, Fail> {
 /// Serials count what was accepted: a refused event has none.
 #[test]
 fn small_parts(rt: HostRuntime) -> Result<(), Fail> {
-    let told = told(rt.alloc())?;
+    let told = trial_text(rt.alloc())?;
     same_text(
         told.as_str(),
         "Ok(0) Err(Full) Some(Posted { serial: 0, target: All, event: Event { \

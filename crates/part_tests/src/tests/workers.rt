@@ -103,7 +103,7 @@ impl Work<u64> for AddTen {
     }
 }
 
-fn joined<R: Threads + Wait + Sync>(
+fn run_all<R: Threads + Wait + Sync>(
     rt: &R,
     alloc: Global,
     work: &AddTen,
@@ -122,7 +122,7 @@ fn write_joined<R: Threads + Wait + Sync>(
     work: AddTen,
     workers: &[u64],
 ) -> Result<(), AllocError> {
-    let done = joined(rt, alloc, &work, workers);
+    let done = run_all(rt, alloc, &work, workers);
     let asked = work.asked.load(SeqCst);
     let given_up = work.given_up.load(SeqCst);
     write!(text, "{done:?} {asked} {given_up}|")

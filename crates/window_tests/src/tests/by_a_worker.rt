@@ -133,7 +133,7 @@ fn write_outs(text: &mut String, outs: &[WindowOut]) -> Result<(), AllocError> {
 }
 
 /// What is written of them.
-fn told(alloc: Global, outs: &[WindowOut]) -> Result<String, AllocError> {
+fn trial_text(alloc: Global, outs: &[WindowOut]) -> Result<String, AllocError> {
     let mut text = String::new(alloc);
     write_outs(&mut text, outs)?;
     Ok(text)
@@ -145,7 +145,7 @@ fn give<R: Wait + RandomSource + AllocGlobal>(rt: &R, net: &Net, want: &str) -> 
         return Err(Fail::new(format_args!("not two motes")));
     }
     let outs = outs_with_a_copy(rt, net)?;
-    let told = told(rt.alloc(), outs.as_slice())?;
+    let told = trial_text(rt.alloc(), outs.as_slice())?;
     same_text(told.as_str(), want)
 }
 

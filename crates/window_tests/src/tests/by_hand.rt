@@ -93,7 +93,7 @@ fn write_three_polls(
 }
 
 /// What is written of that.
-fn told(
+fn trial_text(
     alloc: Global,
     bench: &Bench,
     mote: Mote,
@@ -107,14 +107,14 @@ fn told(
 }
 
 /// The same of a new mote to which no copy comes.
-fn told_of_a_new_mote(alloc: Global, bench: &Bench) -> Result<String, Fail> {
+fn new_mote_text(alloc: Global, bench: &Bench) -> Result<String, Fail> {
     let mote = Mote::new(alloc, 0, &bench.program, 32)?;
-    Ok(told(alloc, bench, mote, Vec::new(alloc))?)
+    Ok(trial_text(alloc, bench, mote, Vec::new(alloc))?)
 }
 
 /// Fails where something else is written of that.
 fn new_mote_gives(alloc: Global, bench: &Bench, want: &str) -> Result<(), Fail> {
-    let told = told_of_a_new_mote(alloc, bench)?;
+    let told = new_mote_text(alloc, bench)?;
     same_text(told.as_str(), want)
 }
 
@@ -128,7 +128,7 @@ fn goes_on_or_fails(told: &str) -> Result<(), Fail> {
 
 /// Fails where the window of a new mote neither goes on nor is given up.
 fn new_mote_goes_on_or_fails(alloc: Global, bench: &Bench) -> Result<(), Fail> {
-    let told = told_of_a_new_mote(alloc, bench)?;
+    let told = new_mote_text(alloc, bench)?;
     goes_on_or_fails(told.as_str())
 }
 
@@ -165,7 +165,7 @@ fn one_copy(alloc: Global) -> Result<Vec<RadioCopy>, AllocError>
 fn late_copy_gives(alloc: Global, bench: &Bench, want: &str) -> Result<(), Fail> {
     let mote = turned_mote(alloc, &bench.program)?;
     let copies = one_copy(alloc)?;
-    let told = told(alloc, bench, mote, copies)?;
+    let told = trial_text(alloc, bench, mote, copies)?;
     same_text(told.as_str(), want)
 }
 

@@ -1,7 +1,7 @@
 //! Runs again and again by many workers with marks, of which most have no mote: none of them stops since another has
 //! ended.
 
-use super::{BUSY_TRIO, Outcome, by, told_by_workers};
+use super::{BUSY_TRIO, Outcome, by, run_by_workers};
 use net_scenario::{Net, read_scenario};
 use std::alloc::{AllocError, AllocGlobal};
 use std::random::RandomSource;
@@ -16,7 +16,7 @@ where
     R: Threads + Wait + Sync + RandomSource + AllocGlobal,
 {
     for _ in 0..10u8 {
-        let told = told_by_workers(rt, net, SyncKind::Marks, &by(16, &[0, 5, 10], 1), &NoGate)?;
+        let told = run_by_workers(rt, net, SyncKind::Marks, &by(16, &[0, 5, 10], 1), &NoGate)?;
         if !matches!(told, Outcome::Same(_)) {
             return Ok(false);
         }

@@ -1,8 +1,8 @@
 //! Cuts: who runs which mote, how long windows are, and what doesn't fit.
 
 use super::{
-    COPY_PAST_THE_END, PACKET_AFTER_TIMER, Run, THREE_APART, TWO_SENDERS, by, same_text,
-    told_by_workers,
+    COPY_PAST_THE_END, PACKET_AFTER_TIMER, Run, THREE_APART, TWO_SENDERS, by, run_by_workers,
+    same_text,
 };
 use net_scenario::{Net, read_scenario};
 use std::alloc::{AllocError, AllocGlobal, Global};
@@ -47,7 +47,7 @@ where
     R: Threads + Wait + Sync + RandomSource + AllocGlobal,
 {
     for run in runs {
-        let told = told_by_workers(rt, net, sync, run, &NoGate)?;
+        let told = run_by_workers(rt, net, sync, run, &NoGate)?;
         write!(text, "{told:?}|")?;
     }
     Ok(())

@@ -1,7 +1,7 @@
 //! That no window is longer than is wished, by workers of either kind: no worker comes to its next window while another
 //! is in this one.
 
-use super::{BUSY_PAIR, by, same_text, told_by_workers};
+use super::{BUSY_PAIR, by, run_by_workers, same_text};
 use net_scenario::{Net, read_scenario};
 use std::alloc::{AllocError, AllocGlobal};
 use std::random::RandomSource;
@@ -50,7 +50,7 @@ where
     R: Threads + Wait + Sync + RandomSource + AllocGlobal,
 {
     let gate = new_ahead();
-    let told = told_by_workers(rt, net, sync, &by(2, &[0, 1], 1), &gate)?;
+    let told = run_by_workers(rt, net, sync, &by(2, &[0, 1], 1), &gate)?;
     write!(text, "{told:?} {}|", gate.seen.load(SeqCst))
 }
 

@@ -2,7 +2,7 @@
 //! a turn, so a lock that is held round each turn lets none of them meet.
 
 use super::inboxes::write_inboxes;
-use super::{BUSY_PAIR, BUSY_TRIO, Run, by, same_text, told_by_workers};
+use super::{BUSY_PAIR, BUSY_TRIO, Run, by, run_by_workers, same_text};
 use net_scenario::{Net, read_scenario};
 use std::alloc::{AllocError, AllocGlobal};
 use std::random::RandomSource;
@@ -72,7 +72,7 @@ where
     R: Threads + Wait + Sync + RandomSource + AllocGlobal,
 {
     let gate = make_rendezvous(run.workers);
-    let told = told_by_workers(rt, net, sync, run, &gate)?;
+    let told = run_by_workers(rt, net, sync, run, &gate)?;
     write!(text, "{told:?}|")?;
     write_meetings(text, &gate)?;
     let gate = make_rendezvous(run.workers);

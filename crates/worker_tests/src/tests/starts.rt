@@ -1,7 +1,7 @@
 //! How often threads are started, a start that is refused, and which error of several is told.
 
 use super::{
-    BUSY_PAIR, BUSY_TRIO, PACKET_AFTER_TIMER, Run, TWO_SENDERS, by, same_text, told_by_workers,
+    BUSY_PAIR, BUSY_TRIO, PACKET_AFTER_TIMER, Run, TWO_SENDERS, by, run_by_workers, same_text,
 };
 use net_scenario::{Net, read_scenario};
 use std::alloc::{AllocError, AllocGlobal};
@@ -63,7 +63,7 @@ where
 {
     for (run, shut) in runs {
         let gate = new_watch(run.of, *shut);
-        let told = told_by_workers(rt, net, sync, run, &gate)?;
+        let told = run_by_workers(rt, net, sync, run, &gate)?;
         let asked = gate.starts.load(SeqCst);
         let turns = gate.own.load(SeqCst);
         write!(text, "{told:?} {asked} {turns}|")?;

@@ -11,7 +11,7 @@ loop-preserved c =
     let p = c.push_reserved.ensures in
     let made = c.in_ok-make_inbox.ensures in
     let F : InboxId × TakerView → Type 0 = λ pair. IsFresh pair.0 pair.1 in
-    let K : InboxId × TakerView → Type 0 = λ pair. pair.1.desk.marked ≡ c.args.marked in
+    let K : InboxId × TakerView → Type 0 = λ pair. pair.1.state.marked ≡ c.args.marked in
     let room = i.room in
     let capacity = p.capacity in
     record {

@@ -1,5 +1,5 @@
 use Rattle.copy_exchange.specs.Steps.{AreTakersOf}
-use Rattle.copy_exchange.proofs.Homes.{GathersRows}
+use Rattle.copy_exchange.proofs.AfterWindow.{GathersRows}
 use Rattle.copy_exchange.proofs.window.gather_back.Given as goal
 
 abbrev pub invariant-loop-senders : goal.invariant-loop-senders

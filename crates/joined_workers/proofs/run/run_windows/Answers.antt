@@ -10,20 +10,20 @@ use Rattle.joined_workers.proofs.run.run_windows.Goals as goal
 
 pub windows-init : goal.windows-init
 windows-init g c = record {
-  at = stands_there (net_of c.args.net.now) c.args.of.now 0 c.end-end.result c.args.crew c.window_start-from.result c.requires.at (omega arith) c.window_start-from.ensures.value c.lookahead_of.ensures.forward;
+  at = stands_there (net_of c.args.net.now) c.args.of.now 0 c.end-end.result c.args.group c.window_start-from.result c.requires.at (omega arith) c.window_start-from.ensures.value c.lookahead_of.ensures.forward;
   plain = c.requires.plain;
   early = c.window_start-from.ensures.within;
   inboxes = refl;
   windows = (0, refl);
-  begins = subst (λ (e : ℕ). BeginsAt e c.args.crew c.window_start-from.result) c.end-end.ensures.value c.window_start-from.ensures.value;
+  begins = subst (λ (e : ℕ). BeginsAt e c.args.group c.window_start-from.result) c.end-end.ensures.value c.window_start-from.ensures.value;
 }
 
 pub windows-smaller : goal.windows-smaller
 windows-smaller g c =
     let up = c.window_end-until.ensures.later in
     let short = short_enough c.windows.from c.window_length-length.result c.lookahead_of.result _ c.window_end-until.result c.window_end-until.ensures.short c.window_length-length.ensures.within c.lookahead_of.ensures.value in
-    let moved = c.in_ok-crew.ensures.moves c.lookahead_of.ensures.forward c.windows.from c.windows.invariant.at up short in
-    let on = begins_later (net_of c.args.net.now) c.args.of.now c.window_end-until.result c.end-end.result c.in_ok-crew.crew _ moved c.window_end-until.ensures.within c.window_start-from-in-windows.ensures.value in
+    let moved = c.in_ok-group.ensures.moves c.lookahead_of.ensures.forward c.windows.from c.windows.invariant.at up short in
+    let on = begins_later (net_of c.args.net.now) c.args.of.now c.window_end-until.result c.end-end.result c.in_ok-group.group _ moved c.window_end-until.ensures.within c.window_start-from-in-windows.ensures.value in
     let there = c.windows-test.true in
     omega arith
 
@@ -31,7 +31,7 @@ pub windows-preserved : goal.windows-preserved
 windows-preserved g c =
     let up = c.window_end-until.ensures.later in
     let short = short_enough c.windows.from c.window_length-length.result c.lookahead_of.result _ c.window_end-until.result c.window_end-until.ensures.short c.window_length-length.ensures.within c.lookahead_of.ensures.value in
-    let moved = c.in_ok-crew.ensures.moves c.lookahead_of.ensures.forward c.windows.from c.windows.invariant.at up short in
+    let moved = c.in_ok-group.ensures.moves c.lookahead_of.ensures.forward c.windows.from c.windows.invariant.at up short in
     let n = net_of c.args.net.now in
     let length = length_of_window (system_of n).lookahead c.args.longest in
     let is : c.window_end-until.result ≡ end_of_window n.end length c.windows.from =
@@ -39,19 +39,19 @@ windows-preserved g c =
     ∙ (ap (λ e. end_of_window e c.window_length-length.result c.windows.from) c.end-end.ensures.value
     ∙ ap (λ l. end_of_window n.end l c.windows.from) (c.window_length-length.ensures.value ∙ ap (λ l. length_of_window l c.args.longest) c.lookahead_of.ensures.value)) in
     -- the window that was run is the next one
-    let next : RunsNext n c.args.of.now length c.windows.crew c.in_ok-crew.crew = record {
+    let next : RunsNext n c.args.of.now length c.windows.group c.in_ok-group.group = record {
       from = c.windows.from;
       begins = c.windows.invariant.begins;
       there = (let end = c.end-end.ensures.value in let before = c.windows-test.true in omega arith);
-      runs = subst (λ (until : ℕ). RunsAll n c.args.of.now until c.windows.crew c.in_ok-crew.crew) is c.in_ok-crew.ensures.runs;
+      runs = subst (λ (until : ℕ). RunsAll n c.args.of.now until c.windows.group c.in_ok-group.group) is c.in_ok-group.ensures.runs;
     } in
     record {
-      at = stands_there (net_of c.args.net.now) c.args.of.now c.window_end-until.result c.end-end.result c.in_ok-crew.crew _ moved c.window_end-until.ensures.within c.window_start-from-in-windows.ensures.value c.lookahead_of.ensures.forward;
-      plain = c.in_ok-crew.ensures.plain;
+      at = stands_there (net_of c.args.net.now) c.args.of.now c.window_end-until.result c.end-end.result c.in_ok-group.group _ moved c.window_end-until.ensures.within c.window_start-from-in-windows.ensures.value c.lookahead_of.ensures.forward;
+      plain = c.in_ok-group.ensures.plain;
       early = c.window_start-from-in-windows.ensures.within;
-      inboxes = c.in_ok-crew.ensures.inboxes ∙ c.windows.invariant.inboxes;
-      windows = (suc c.windows.invariant.windows.0, (c.windows.crew, c.windows.invariant.windows.1, next));
-      begins = subst (λ (e : ℕ). BeginsAt e c.in_ok-crew.crew c.window_start-from-in-windows.result) c.end-end.ensures.value c.window_start-from-in-windows.ensures.value;
+      inboxes = c.in_ok-group.ensures.inboxes ∙ c.windows.invariant.inboxes;
+      windows = (suc c.windows.invariant.windows.0, (c.windows.group, c.windows.invariant.windows.1, next));
+      begins = subst (λ (e : ℕ). BeginsAt e c.in_ok-group.group c.window_start-from-in-windows.result) c.end-end.ensures.value c.window_start-from-in-windows.ensures.value;
     }
 
 pub returns-clause-windows : goal.returns-clause-windows

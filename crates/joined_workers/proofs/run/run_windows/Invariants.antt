@@ -10,12 +10,12 @@ use Rattle.joined_workers.proofs.run.run_windows.Given as goal
 
 abbrev pub invariant-windows : goal.invariant-windows
 invariant-windows g l = record {
-  at : IsAt (net_of l.net) l.of l.from l.crew;
-  plain : Each IsPlain l.crew.takers.items;
+  at : IsAt (net_of l.net) l.of l.from l.group;
+  plain : Each IsPlain l.group.takers.items;
   early : l.from ≤ l.end + 1;
-  inboxes : l.crew.inboxes.items ≡ l.fn.crew.inboxes.items;
-  windows : (k : ℕ) × RunsWindows (net_of l.net) l.of (length_of_window (system_of (net_of l.net)).lookahead l.longest) k l.fn.crew l.crew;
-  begins : BeginsAt (net_of l.net).end l.crew l.from;
+  inboxes : l.group.inboxes.items ≡ l.fn.group.inboxes.items;
+  windows : (k : ℕ) × RunsWindows (net_of l.net) l.of (length_of_window (system_of (net_of l.net)).lookahead l.longest) k l.fn.group l.group;
+  begins : BeginsAt (net_of l.net).end l.group l.from;
 }
 
 abbrev pub decreases-windows : goal.decreases-windows

@@ -5,13 +5,13 @@ use Rattle.joined_workers.proofs.window.run_all.Goals as goal
 
 pub run_together-requires-after_bounds : goal.run_together-requires-after_bounds
 run_together-requires-after_bounds g c κs within =
-    let together = rw c.deref.ensures.value at c.in_ok-couriers.ensures.together in
+    let together = rw c.deref.ensures.value at c.in_ok-endpoints.ensures.together in
     rw (c.deref-2.ensures.value, c.in_ok-workers.ensures.workers)
-    (ready (net_of c.args.net.now) c.args.of.now c.requires.stands.0 c.args.until c.args.crew c.requires.stands.1 c.requires.stands.2 c.requires.early c.requires.plain c.in_ok-couriers.couriers.items together c.in_ok-couriers.ensures.set_out)
+    (ready (net_of c.args.net.now) c.args.of.now c.requires.stands.0 c.args.until c.args.group c.requires.stands.1 c.requires.stands.2 c.requires.early c.requires.plain c.in_ok-endpoints.endpoints.items together c.in_ok-endpoints.ensures.starts)
 
-pub come_home-requires : goal.come_home-requires
-come_home-requires g c =
-    let together = rw c.deref.ensures.value at c.in_ok-couriers.ensures.together in
+pub gather_endpoints-requires : goal.gather_endpoints-requires
+gather_endpoints-requires g c =
+    let together = rw c.deref.ensures.value at c.in_ok-endpoints.ensures.together in
     let ran = rw (c.deref-2.ensures.value, c.in_ok-workers.ensures.workers) at c.in_ok-done.ensures in
-    rw (c.deref-4.ensures.value, c.in_ok-shares.ensures.couriers)
-    (returned (net_of c.args.net.now) c.args.of.now c.requires.stands.0 c.args.until c.args.crew c.requires.stands.1 c.in_ok-couriers.couriers.items c.in_ok-done.done.items together c.in_ok-couriers.ensures.set_out ran)
+    rw (c.deref-4.ensures.value, c.in_ok-shares.ensures.endpoints)
+    (returned (net_of c.args.net.now) c.args.of.now c.requires.stands.0 c.args.until c.args.group c.requires.stands.1 c.in_ok-endpoints.endpoints.items c.in_ok-done.done.items together c.in_ok-endpoints.ensures.starts ran)

@@ -2,7 +2,7 @@ use Rattle.std.proofs.Common.{◌≡◌, sym, ap, ◌∙◌, subst, true, length
 use Rattle.std.specs.List.{AllByRecursion as Each}
 use Rattle.radio_packet.specs.declared.copy.RadioCopy.{RadioCopy}
 use Rattle.mote_net.specs.Net.{net_of}
-use Rattle.copy_exchange.specs.Desks.{taken_by, gathered_by}
+use Rattle.copy_exchange.specs.Takers.{taken_by, gathered_by}
 use Rattle.worker_cut.specs.Crossed.{is_own}
 use Rattle.worker_window.specs.Window.{RunsWindow, GoesOut}
 use Rattle.all_workers.proofs.Sent.{leaves_sent}
@@ -15,8 +15,8 @@ run_window-ran-requires-clause-ready g c = c.requires.takes_in c.collect.new.sel
 
 pub run_window-ran-requires-clause-to_own : goal.run_window-ran-requires-clause-to_own
 run_window-ran-requires-clause-to_own g c =
-    arrived_have (λ (copy : RadioCopy). is_own c.args.window.now.of.now c.args.worker.share.worker copy.to ≡ true) c.args.worker.courier c.collect.new.self c.in-Ok.arrived.items c.in-Ok.ensures.collects
-    (subst (λ w. Each (λ (copy : RadioCopy). is_own c.args.window.now.of.now w copy.to ≡ true) (gathered_by c.args.worker.courier.taker)) (sym c.requires.same) c.requires.own)
+    arrived_have (λ (copy : RadioCopy). is_own c.args.window.now.of.now c.args.worker.share.worker copy.to ≡ true) c.args.worker.endpoint c.collect.new.self c.in-Ok.arrived.items c.in-Ok.ensures.collects
+    (subst (λ w. Each (λ (copy : RadioCopy). is_own c.args.window.now.of.now w copy.to ≡ true) (gathered_by c.args.worker.endpoint.taker)) (sym c.requires.same) c.requires.own)
 
 pub deliver-requires-clause-leaves : goal.deliver-requires-clause-leaves
 deliver-requires-clause-leaves g c =
@@ -30,11 +30,11 @@ returns-clause-runs g c = record {
   between = c.collect.new.self;
   collects = c.in-Ok.ensures.collects;
   delivers = c.in-Ok-deliver.ensures.delivers;
-  courier = c.in-Ok-deliver.ensures.courier;
+  endpoint = c.in-Ok-deliver.ensures.endpoint;
   runs = λ from motes keeps le short later.
-      subst (λ t. RunsWindow (net_of c.args.window.now.net.now) c.args.window.now.of.now c.args.worker.courier.worker from c.args.window.now.until motes t c.run_window-ran.new.self c.in-Ok-ran.sent.items)
+      subst (λ t. RunsWindow (net_of c.args.window.now.net.now) c.args.window.now.of.now c.args.worker.endpoint.worker from c.args.window.now.until motes t c.run_window-ran.new.self c.in-Ok-ran.sent.items)
       (sym (ap taken_by c.in-Ok-deliver.ensures.delivers.taker ∙ c.in-Ok.ensures.collects.adds))
-      (c.in-Ok-ran.ensures.window c.args.worker.courier.worker from motes (taken_by c.args.worker.courier.taker) keeps le short later);
+      (c.in-Ok-ran.ensures.window c.args.worker.endpoint.worker from motes (taken_by c.args.worker.endpoint.taker) keeps le short later);
   out = subst (λ w. Each (GoesOut (net_of c.args.window.now.net.now) c.args.window.now.of.now w) c.in-Ok-ran.sent.items) c.requires.same c.in-Ok-ran.ensures.out;
   first = subst (λ l. IsFirstOf l c.first_of-first_out.result) c.deref.ensures.value c.first_of-first_out.ensures;
 }

@@ -11,5 +11,5 @@ loop-preserved-in-Continue-1 g c =
     let heard = c.in_ok-hear-in-Some-take_next.ensures in
     record {
       took = takes_more c.args.standing.now.of.now c.args.standing.now.worker c.args.standing.now.from c.args.taker.now c.loop.taker c.take_next.new.taker item c.loop.arrived.items c.hear.new.arrived.items c.loop.invariant.took told.next.number told.taken heard.arrived;
-      counts = subst (λ (t : TakerView). Counts c.hear.new.marks.items t.desk) (sym told.taken) (heard.counts c.loop.taker.desk c.loop.invariant.counts told.next);
+      counts = subst (λ (t : TakerView). Counts c.hear.new.marks.items t.state) (sym told.taken) (heard.counts c.loop.taker.state c.loop.invariant.counts told.next);
     }

@@ -8,47 +8,47 @@ use Rattle.marked_workers.proofs.Ready.{ready, together_first, none_gathered_fir
 use Rattle.marked_workers.proofs.Runs.{all_back, all_seated}
 use Rattle.marked_workers.proofs.run.run_threads.Goals as goal
 
-pub set_out-requires-clause-settled : goal.set_out-requires-clause-settled
-set_out-requires-clause-settled g c = rw c.deref.ensures.value (all_settled c.args.crew.inboxes.items c.args.crew.takers.items c.requires.fresh)
+pub make_endpoints-requires-clause-settled : goal.make_endpoints-requires-clause-settled
+make_endpoints-requires-clause-settled g c = rw c.deref.ensures.value (all_settled c.args.group.inboxes.items c.args.group.takers.items c.requires.fresh)
 
 pub run_together-requires-clause-first : goal.run_together-requires-clause-first
 run_together-requires-clause-first g c κs within =
-    let ids = c.args.crew.inboxes.items in
-    let together = rw c.deref.ensures.value at c.in_ok-couriers.ensures.together in
+    let ids = c.args.group.inboxes.items in
+    let together = rw c.deref.ensures.value at c.in_ok-endpoints.ensures.together in
     rw (c.deref-2.ensures.value, c.in_ok-workers.ensures.workers)
-    (ready ids c.args.crew.takers.items c.requires.fresh c.in_ok-couriers.couriers.items together c.in_ok-couriers.ensures.set_out (net_of c.args.net.now) c.args.of.now c.requires.cut c.args.crew.shares.items c.requires.first
-    c.in_ok-couriers.ensures.nothing (c.in_ok-couriers.ensures.marked c.requires.marked))
+    (ready ids c.args.group.takers.items c.requires.fresh c.in_ok-endpoints.endpoints.items together c.in_ok-endpoints.ensures.starts (net_of c.args.net.now) c.args.of.now c.requires.cut c.args.group.shares.items c.requires.first
+    c.in_ok-endpoints.ensures.nothing (c.in_ok-endpoints.ensures.marked c.requires.marked))
 
-pub come_home-requires-clause-workers : goal.come_home-requires-clause-workers
-come_home-requires-clause-workers g c =
+pub gather_endpoints-requires-clause-workers : goal.gather_endpoints-requires-clause-workers
+gather_endpoints-requires-clause-workers g c =
     let n = net_of c.args.net.now in
-    let ids = c.args.crew.inboxes.items in
-    let together = rw c.deref.ensures.value at c.in_ok-couriers.ensures.together in
+    let ids = c.args.group.inboxes.items in
+    let together = rw c.deref.ensures.value at c.in_ok-endpoints.ensures.together in
     let ran = rw (c.deref-2.ensures.value, c.in_ok-workers.ensures.workers) at c.in_ok-done.ensures in
-    rw (c.deref-3.ensures.value, c.in_ok-shares.ensures.couriers)
+    rw (c.deref-3.ensures.value, c.in_ok-shares.ensures.endpoints)
     (all_back n c.args.of.now c.args.width (windows_of c.args.width n.end) ids _ c.in_ok-done.done.items
-    (together_first ids c.args.crew.takers.items c.requires.fresh c.in_ok-couriers.couriers.items together c.in_ok-couriers.ensures.set_out c.args.crew.shares.items c.requires.first.count)
+    (together_first ids c.args.group.takers.items c.requires.fresh c.in_ok-endpoints.endpoints.items together c.in_ok-endpoints.ensures.starts c.args.group.shares.items c.requires.first.count)
     ran)
 
-pub come_home-requires-clause-seated : goal.come_home-requires-clause-seated
-come_home-requires-clause-seated g c =
+pub gather_endpoints-requires-clause-seated : goal.gather_endpoints-requires-clause-seated
+gather_endpoints-requires-clause-seated g c =
     let n = net_of c.args.net.now in
     let ran = rw (c.deref-2.ensures.value, c.in_ok-workers.ensures.workers) at c.in_ok-done.ensures in
-    rw (c.deref-3.ensures.value, c.in_ok-shares.ensures.couriers)
-    (all_seated n c.args.of.now c.args.width (windows_of c.args.width n.end) c.args.crew.inboxes.items (map worker_of (zip c.args.crew.shares.items c.in_ok-couriers.couriers.items)) c.in_ok-done.done.items ran)
+    rw (c.deref-3.ensures.value, c.in_ok-shares.ensures.endpoints)
+    (all_seated n c.args.of.now c.args.width (windows_of c.args.width n.end) c.args.group.inboxes.items (map worker_of (zip c.args.group.shares.items c.in_ok-endpoints.endpoints.items)) c.in_ok-done.done.items ran)
 
 pub returns : goal.returns
 returns g c =
-    let ids = c.args.crew.inboxes.items in
-    let together = rw c.deref.ensures.value at c.in_ok-couriers.ensures.together in
+    let ids = c.args.group.inboxes.items in
+    let together = rw c.deref.ensures.value at c.in_ok-endpoints.ensures.together in
     record {
-      first = map worker_of (zip c.args.crew.shares.items c.in_ok-couriers.couriers.items);
+      first = map worker_of (zip c.args.group.shares.items c.in_ok-endpoints.endpoints.items);
       done = c.in_ok-done.done.items;
-      together = together_first ids c.args.crew.takers.items c.requires.fresh c.in_ok-couriers.couriers.items together c.in_ok-couriers.ensures.set_out c.args.crew.shares.items c.requires.first.count;
-      none_gathered = none_gathered_first ids c.args.crew.takers.items c.requires.fresh c.in_ok-couriers.couriers.items together c.in_ok-couriers.ensures.set_out c.args.crew.shares.items c.requires.first.count;
+      together = together_first ids c.args.group.takers.items c.requires.fresh c.in_ok-endpoints.endpoints.items together c.in_ok-endpoints.ensures.starts c.args.group.shares.items c.requires.first.count;
+      none_gathered = none_gathered_first ids c.args.group.takers.items c.requires.fresh c.in_ok-endpoints.endpoints.items together c.in_ok-endpoints.ensures.starts c.args.group.shares.items c.requires.first.count;
       ran = rw (c.deref-2.ensures.value, c.in_ok-workers.ensures.workers) at c.in_ok-done.ensures;
       shares = c.in_ok-shares.ensures.shares;
-      back = rw c.in_ok-shares.ensures.couriers at c.in_ok-takers.ensures.back;
+      back = rw c.in_ok-shares.ensures.endpoints at c.in_ok-takers.ensures.back;
       inboxes = refl;
       first_out = refl;
     }

@@ -11,7 +11,7 @@ pub windows-init : goal.windows-init
 windows-init g c =
     let n = net_of c.args.run.now.net.now in
     record {
-      ran = no_window n c.args.run.now.of.now c.args.run.now.width c.args.run.now.inboxes.now c.args.worker c.requires.manned;
+      ran = no_window n c.args.run.now.of.now c.args.run.now.width c.args.run.now.inboxes.now c.args.worker c.requires.started;
       at = sym (at_first c.args.run.now.width n.end);
       few = omega arith;
     }

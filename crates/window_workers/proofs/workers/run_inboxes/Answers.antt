@@ -51,42 +51,42 @@ start-requires-clause-cut g c =
 pub start-requires-clause-fresh : goal.start-requires-clause-fresh
 start-requires-clause-fresh g c = are_fresh c.args.pairs.items c.in-Ok.inboxes.items c.in-Ok.takers.items c.in-Ok.ensures.inboxes c.in-Ok.ensures.takers c.requires.fresh
 
-pub run_crew-requires-clause-cut : goal.run_crew-requires-clause-cut
-run_crew-requires-clause-cut g c κs within =
-    is_cut c.motes.result (length (net_of c.args.net.now).motes) c.len.result c.args.pairs.items c.in-Ok-start.crew.inboxes.items c.as_slice-of.result.now
+pub run_by_kind-requires-clause-cut : goal.run_by_kind-requires-clause-cut
+run_by_kind-requires-clause-cut g c κs within =
+    is_cut c.motes.result (length (net_of c.args.net.now).motes) c.len.result c.args.pairs.items c.in-Ok-start.group.inboxes.items c.as_slice-of.result.now
     (sym c.fault_of.ensures ∙ c.in_default.is) c.motes.ensures.value (c.len.ensures ∙ pairs_long c.args.pairs) (c.in-Ok-start.ensures.inboxes ∙ c.in-Ok.ensures.inboxes)
 
-pub run_crew-requires-clause-fresh : goal.run_crew-requires-clause-fresh
-run_crew-requires-clause-fresh g c κs within =
-    are_fresh c.args.pairs.items c.in-Ok-start.crew.inboxes.items c.in-Ok-start.crew.takers.items
+pub run_by_kind-requires-clause-fresh : goal.run_by_kind-requires-clause-fresh
+run_by_kind-requires-clause-fresh g c κs within =
+    are_fresh c.args.pairs.items c.in-Ok-start.group.inboxes.items c.in-Ok-start.group.takers.items
     (c.in-Ok-start.ensures.inboxes ∙ c.in-Ok.ensures.inboxes) (c.in-Ok-start.ensures.takers ∙ c.in-Ok.ensures.takers) c.requires.fresh
 
-pub run_crew-requires-clause-kind : goal.run_crew-requires-clause-kind
-run_crew-requires-clause-kind g c κs within =
+pub run_by_kind-requires-clause-kind : goal.run_by_kind-requires-clause-kind
+run_by_kind-requires-clause-kind g c κs within =
     subst (Each (IsFor c.args.sync)) (sym (c.in-Ok-start.ensures.takers ∙ c.in-Ok.ensures.takers)) (seconds_have (IsFor c.args.sync) c.args.pairs.items c.requires.kind)
 
-pub run_crew-requires-clause-first : goal.run_crew-requires-clause-first
-run_crew-requires-clause-first g c κs within =
-    subst (λ l. AreFirst (net_of c.args.net.now) c.as_slice-of.result.now (length l) c.in-Ok-start.crew.shares.items) (sym c.in-Ok-start.ensures.inboxes) c.in-Ok-start.ensures.first
+pub run_by_kind-requires-clause-first : goal.run_by_kind-requires-clause-first
+run_by_kind-requires-clause-first g c κs within =
+    subst (λ l. AreFirst (net_of c.args.net.now) c.as_slice-of.result.now (length l) c.in-Ok-start.group.shares.items) (sym c.in-Ok-start.ensures.inboxes) c.in-Ok-start.ensures.first
 
 pub returns-clause-traces : goal.returns-clause-traces
 returns-clause-traces g c =
     let n = net_of c.args.net.now in
-    if_ok (λ (r : Report × Vec Pair Global). IsReportOf n (report_of r.0)) (λ (r : Report × Vec Pair Global). vec_len r.0.traces ≡ length n.motes) c.told.result (λ r h. long_as r.0.traces ∙ one_trace_each n r.0 h) c.told.ensures.report
+    if_ok (λ (r : Report × Vec Pair Global). IsReportOf n (report_of r.0)) (λ (r : Report × Vec Pair Global). vec_len r.0.traces ≡ length n.motes) c.make_report.result (λ r h. long_as r.0.traces ∙ one_trace_each n r.0 h) c.make_report.ensures.report
 
 pub returns-clause-handed_on : goal.returns-clause-handed_on
 returns-clause-handed_on g c =
     let n = net_of c.args.net.now in
-    if_ok (λ (r : Report × Vec Pair Global). IsReportOf n (report_of r.0)) (λ (r : Report × Vec Pair Global). All (λ (v : Vec Line Global). IsInOrder v.items) r.0.traces.items) c.told.result (λ r h. all_hand_on n r.0 h) c.told.ensures.report
+    if_ok (λ (r : Report × Vec Pair Global). IsReportOf n (report_of r.0)) (λ (r : Report × Vec Pair Global). All (λ (v : Vec Line Global). IsInOrder v.items) r.0.traces.items) c.make_report.result (λ r h. all_hand_on n r.0 h) c.make_report.ensures.report
 
 pub returns-clause-carried : goal.returns-clause-carried
 returns-clause-carried g c =
     let n = net_of c.args.net.now in
-    subst (λ l. IfOk c.told.result (λ (r : Report × Vec Pair Global). AllCarried n l (report_of r.0) r.1.items)) c.as_slice-of.ensures.value c.told.ensures.carried
+    subst (λ l. IfOk c.make_report.result (λ (r : Report × Vec Pair Global). AllCarried n l (report_of r.0) r.1.items)) c.as_slice-of.ensures.value c.make_report.ensures.carried
 
 pub returns-clause-none_known : goal.returns-clause-none_known
 returns-clause-none_known g c =
-    let crew = c.in_ok-crew.crew in
-    let NoneKnown : List Pair → Type 0 = Each (λ (pair : Pair). known_of pair.1.desk.gathered pair.1.desk.taken ≡ 0) in
-    if_ok (λ (r : Report × Vec Pair Global). r.1.items ≡ zip crew.inboxes.items crew.takers.items) (λ (r : Report × Vec Pair Global). c.args.sync ≡ Marks → NoneKnown r.1.items) c.told.result
-    (λ r e marks. subst NoneKnown (sym e) (none_known crew.inboxes.items crew.takers.items (c.in_ok-crew.ensures.all_taken marks))) c.told.ensures.pairs
+    let group = c.in_ok-group.group in
+    let NoneKnown : List Pair → Type 0 = Each (λ (pair : Pair). known_of pair.1.state.gathered pair.1.state.taken ≡ 0) in
+    if_ok (λ (r : Report × Vec Pair Global). r.1.items ≡ zip group.inboxes.items group.takers.items) (λ (r : Report × Vec Pair Global). c.args.sync ≡ Marks → NoneKnown r.1.items) c.make_report.result
+    (λ r e marks. subst NoneKnown (sym e) (none_known group.inboxes.items group.takers.items (c.in_ok-group.ensures.all_taken marks))) c.make_report.ensures.pairs

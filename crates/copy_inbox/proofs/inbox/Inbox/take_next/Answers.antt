@@ -1,21 +1,21 @@
 use Rattle.std.proofs.Common.{◌≡◌, ap, subst}
-use Rattle.copy_inbox.specs.declared.rule.Desk.{Desk}
+use Rattle.copy_inbox.specs.declared.rule.TakerState.{TakerState}
 use Rattle.copy_inbox.specs.Gathered.{known_of}
-use Rattle.copy_inbox.specs.Handles.{desk_in, IsNextTaken}
+use Rattle.copy_inbox.specs.Handles.{taker_state_in, IsNextTaken}
 use Rattle.copy_inbox.proofs.Moves.{takes_as, learns}
 use Rattle.copy_inbox.proofs.Kept.{next_made, next_few, next_down, keeps_taken}
 use Rattle.copy_inbox.proofs.Takers.{next_known, none_known}
 use Rattle.copy_inbox.proofs.inbox.Inbox.take_next.Goals as goal
 
 pub pop_as-requires-clause-rule : goal.pop_as-requires-clause-rule
-pop_as-requires-clause-rule g c = (takes_as _ _ (desk_in c.taker.inside.pass.me.view.client) c.taker.invariant.0.taker.is, learns _ _)
+pop_as-requires-clause-rule g c = (takes_as _ _ (taker_state_in c.taker.inside.pass.me.view.client) c.taker.invariant.0.taker.is, learns _ _)
 
 pub returns-in_err-item-clause-none : goal.returns-in_err-item-clause-none
 returns-in_err-item-clause-none g c =
     let told = c.in_err-item.ensures.rule in
     let none = none_known _ _ _ c.taker.invariant.0.taker told.1 in
-    let P : Desk → Type 0 = λ d. known_of d.gathered d.taken ≡ 0 in
-    rw c.from_residual.ensures (subst P (ap (λ t. t.desk) c.taker.view_is) none)
+    let P : TakerState → Type 0 = λ d. known_of d.gathered d.taken ≡ 0 in
+    rw c.from_residual.ensures (subst P (ap (λ t. t.state) c.taker.view_is) none)
 
 pub count_taken-gathered-requires-clause-made : goal.count_taken-gathered-requires-clause-made
 count_taken-gathered-requires-clause-made g c =
@@ -42,8 +42,8 @@ pub returns-clause-next : goal.returns-clause-next
 returns-clause-next g c =
     let told = c.in_ok-item.ensures.rule in
     let next = next_known c.taker.inside.pass.me.view.client c.in_ok-item.item told.0.1.0 c.taker.invariant.0.taker.is told.0.1.1 in
-    let P : Desk → Type 0 = λ d. IsNextTaken d c.in_ok-item.item in
-    subst P (ap (λ t. t.desk) c.taker.view_is) next
+    let P : TakerState → Type 0 = λ d. IsNextTaken d c.in_ok-item.item in
+    subst P (ap (λ t. t.state) c.taker.view_is) next
 
 pub returns-clause-begun : goal.returns-clause-begun
 returns-clause-begun g c =

@@ -17,13 +17,13 @@ loop-preserved g c =
 
 pub returns-clause-whole : goal.returns-clause-whole
 returns-clause-whole g c = λ all later.
-    let P : TakerView → Type 0 = λ t. TookFronts t.desk.gathered t.desk.taken in
+    let P : TakerView → Type 0 = λ t. TookFronts t.state.gathered t.state.taken in
     let begun = subst P c.taker.view_is c.taker.invariant.0.taker.begun in
     let end = c.loop-test.false in
     let top = c.loop.auto.counter-end in
     let known = c.loop.invariant.drained.later later (omega arith) in
     let none : known_to c.loop.taker ≡ 0 = omega arith in
-    whole_of c.loop.taker.desk.gathered c.loop.taker.desk.taken none begun
+    whole_of c.loop.taker.state.gathered c.loop.taker.state.taken none begun
 
 pub returns-clause-others : goal.returns-clause-others
 returns-clause-others g c = λ all later.

@@ -1,14 +1,14 @@
 use Rattle.std.proofs.Common.{ap, arith, subst, ◌∙◌}
-use Rattle.copy_inbox.specs.declared.rule.Post.{Post}
+use Rattle.copy_inbox.specs.declared.rule.SenderState.{SenderState}
 use Rattle.copy_inbox.specs.Items.{BeginsWith, Packets, part}
-use Rattle.copy_inbox.specs.Handles.{desk_in, post_in}
+use Rattle.copy_inbox.specs.Handles.{taker_state_in, sender_state_in}
 use Rattle.copy_inbox.proofs.Moves.{merges_as, learns}
 use Rattle.copy_inbox.proofs.Kept.{joined_first, joined_there, joined_at, keeps_joined, keeps_forgetting}
 use Rattle.copy_inbox.proofs.Takers.{joined_less, joined_fits, joined_begins, joined_packets}
 use Rattle.copy_inbox.proofs.inbox.Sender.join.Goals as goal
 
 pub absorb-requires-clause-rule : goal.absorb-requires-clause-rule
-absorb-requires-clause-rule g c = merges_as _ _ (desk_in c.taker.inside.pass.me.view.client) _ _ (post_in c.self.inside.pass.me.view.client) c.taker.invariant.0.taker.is c.self.invariant.0.is
+absorb-requires-clause-rule g c = merges_as _ _ (taker_state_in c.taker.inside.pass.me.view.client) _ _ (sender_state_in c.self.inside.pass.me.view.client) c.taker.invariant.0.taker.is c.self.invariant.0.is
 
 pub len_as-held-requires-clause-rule : goal.len_as-held-requires-clause-rule
 len_as-held-requires-clause-rule g c = learns _ _
@@ -55,13 +55,13 @@ pub returns-clause-begun : goal.returns-clause-begun
 returns-clause-begun g c =
     let held = c.len_as-held.ensures.rule in
     let b = joined_begins c.taker.inside.pass.me.view.client c.self.inside.pass.me.view.client _ c.len_as-held.new.pass.me.view.client _ _ _ held.0 c.taker.invariant.0.taker c.self.invariant.0 c.absorb.ensures.rule held.2 c.len_as-held.ensures.queue.2 in
-    let P : Post → Type 0 = λ p. BeginsWith p.pushed (part p.number (desk_in c.len_as-held.new.pass.me.view.client).taken) in
-    subst P (ap (λ s. s.post) c.self.view_is) b
+    let P : SenderState → Type 0 = λ p. BeginsWith p.pushed (part p.number (taker_state_in c.len_as-held.new.pass.me.view.client).taken) in
+    subst P (ap (λ s. s.state) c.self.view_is) b
 
 pub returns-clause-plain : goal.returns-clause-plain
 returns-clause-plain g c = λ none.
     let held = c.len_as-held.ensures.rule in
-    let none' = ap (λ t. t.desk.marked) c.taker.view_is ∙ none in
+    let none' = ap (λ t. t.state.marked) c.taker.view_is ∙ none in
     let b = joined_packets c.taker.inside.pass.me.view.client c.self.inside.pass.me.view.client _ _ _ _ held.0 c.taker.invariant.0.taker c.self.invariant.0 c.absorb.ensures.rule held.2 none' in
-    let P : Post → Type 0 = λ p. Packets p.pushed in
-    subst P (ap (λ s. s.post) c.self.view_is) b
+    let P : SenderState → Type 0 = λ p. Packets p.pushed in
+    subst P (ap (λ s. s.state) c.self.view_is) b

@@ -5,7 +5,7 @@ use Rattle.std.specs.List.{AllByRecursion as Each}
 use Rattle.radio_packet.specs.declared.copy.RadioCopy.{RadioCopy}
 use Rattle.window_laws.specs.Windows.{is_from_sender}
 use Rattle.worker_cut.specs.Crossed.{is_own}
-use Rattle.copy_exchange.specs.Couriers.{Leaves}
+use Rattle.copy_exchange.specs.Endpoints.{Leaves}
 use Rattle.copy_exchange.proofs.Lists.{each_map}
 use Rattle.copy_exchange.proofs.Parts.{from-cons}
 use Rattle.copy_exchange.proofs.Windows.{returns_from}
@@ -37,7 +37,7 @@ own s w (x ∷ xs) e h =
 
 pub deliver-requires-clause-leaves : goal.deliver-requires-clause-leaves
 deliver-requires-clause-leaves g c =
-    let w : ℕ = c.args.courier.worker in
+    let w : ℕ = c.args.endpoint.worker in
     let same = c.in_ok-taken.ensures.collects.stays.worker in
     let across = subst (Each (Across w)) (sym c.in_ok-sent.ensures.items) c.requires.out in
     let all = each_map (Across w) (Leaves (0 ∷ 1 ∷ []) (length c.args.inboxes.now) w) c.in_ok-sent.sent.items
@@ -45,9 +45,9 @@ deliver-requires-clause-leaves g c =
     subst (λ (k : ℕ). Each (Leaves (0 ∷ 1 ∷ []) (length c.args.inboxes.now) k) c.in_ok-sent.sent.items) (sym same) all
 
 pub returns : goal.returns
-returns g c t set_out =
-    let across = subst (Each (Across c.args.courier.worker)) (sym c.in_ok-sent.ensures.items) c.requires.out in
-    returns_from c.args.inboxes.now (0 ∷ 1 ∷ []) (λ s. s) t c.args.courier c.collect.new.self c.deliver.new.self
-    c.in_ok-taken.taken.items c.in_ok-sent.sent.items set_out
-    c.in_ok-taken.ensures.collects c.in_ok-deliver.ensures.delivers c.in_ok-deliver.ensures.courier
-    (λ s other. own s c.args.courier.worker c.in_ok-sent.sent.items other across)
+returns g c t starts =
+    let across = subst (Each (Across c.args.endpoint.worker)) (sym c.in_ok-sent.ensures.items) c.requires.out in
+    returns_from c.args.inboxes.now (0 ∷ 1 ∷ []) (λ s. s) t c.args.endpoint c.collect.new.self c.deliver.new.self
+    c.in_ok-taken.taken.items c.in_ok-sent.sent.items starts
+    c.in_ok-taken.ensures.collects c.in_ok-deliver.ensures.delivers c.in_ok-deliver.ensures.endpoint
+    (λ s other. own s c.args.endpoint.worker c.in_ok-sent.sent.items other across)

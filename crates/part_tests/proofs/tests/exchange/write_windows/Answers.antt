@@ -36,6 +36,6 @@ write_all_left-requires g c =
     c.in_ok-takers.ensures.settled in
     let P : List (InboxId × TakerView) → Type 0 = λ l. Each (λ pair. IsSettled pair.0 pair.1) l in
     record {
-      settled = subst P (sym c.in_ok-paired.ensures) (settled_pairs c.in_ok-inboxes.inboxes.items
+      settled = subst P (sym c.in_ok-pair_inboxes.ensures) (settled_pairs c.in_ok-inboxes.inboxes.items
           c.in_ok-takers.takers.items settled);
     }

@@ -1,9 +1,0 @@
-use Rattle.std.proofs.Common.{take}
-use Rattle.copy_exchange.specs.Couriers.{IsSeated, Delivers}
-use Rattle.copy_exchange.proofs.courier.Courier.deliver.Given as goal
-
-abbrev pub invariant-loop-copy : goal.invariant-loop-copy
-invariant-loop-copy g l = record {
-  seated : IsSeated l.inboxes l.self;
-  delivers : Delivers l.of l.fn.self l.self (take l.copy-index l.copy-items);
-}

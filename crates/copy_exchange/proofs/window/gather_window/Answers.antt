@@ -1,0 +1,37 @@
+use Rattle.std.proofs.Common.{Vec}
+use Rattle.std.specs.List.{AllByRecursion as Each, AllZip}
+use Rattle.std.specs.declared.alloc.Global.{Global}
+use Rattle.std.proofs.lemmas.Result.{IfOk-weaker}
+use Rattle.copy_inbox.specs.Handles.{TakerView}
+use Rattle.copy_exchange.specs.Endpoints.{GathersDelivered}
+use Rattle.copy_exchange.specs.Inboxes.{IsPlain, Settled}
+use Rattle.copy_exchange.specs.Steps.{GathersBack}
+use Rattle.copy_exchange.proofs.AfterWindow.{workers, all_seated, settled, plain_after, gathers_delivered}
+use Rattle.copy_exchange.proofs.window.gather_window.Goals as goal
+
+pub gather_back-requires-clause-workers : goal.gather_back-requires-clause-workers
+gather_back-requires-clause-workers g c = workers c.args.inboxes.now c.args.endpoints.items c.requires
+
+pub gather_back-requires-clause-seated : goal.gather_back-requires-clause-seated
+gather_back-requires-clause-seated g c = all_seated c.args.inboxes.now c.args.endpoints.items c.requires
+
+pub returns-clause-settled : goal.returns-clause-settled
+returns-clause-settled g c = IfOk-weaker c.gather_back.result
+    (λ (ts : Vec TakerView Global). GathersBack c.args.endpoints.items ts.items)
+    (λ (ts : Vec TakerView Global). Settled c.args.inboxes.now ts.items)
+    (λ ts back. settled c.args.inboxes.now c.args.endpoints.items c.requires ts.items back)
+    c.gather_back.ensures
+
+pub returns-clause-plain : goal.returns-clause-plain
+returns-clause-plain g c = IfOk-weaker c.gather_back.result
+    (λ (ts : Vec TakerView Global). GathersBack c.args.endpoints.items ts.items)
+    (λ (ts : Vec TakerView Global). Each IsPlain ts.items)
+    (λ ts back. plain_after c.args.inboxes.now c.args.endpoints.items c.requires ts.items back)
+    c.gather_back.ensures
+
+pub returns-clause-gathers : goal.returns-clause-gathers
+returns-clause-gathers g c = IfOk-weaker c.gather_back.result
+    (λ (ts : Vec TakerView Global). GathersBack c.args.endpoints.items ts.items)
+    (λ (ts : Vec TakerView Global). AllZip (GathersDelivered c.args.endpoints.items) c.args.endpoints.items ts.items)
+    (λ ts back. gathers_delivered c.args.inboxes.now c.args.endpoints.items c.requires ts.items back)
+    c.gather_back.ensures

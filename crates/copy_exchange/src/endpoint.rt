@@ -1,0 +1,186 @@
+//! A worker's endpoint of the exchange: its taker, and its senders on the inboxes of the others.
+
+ghost use Rattle.std.specs.Prelude.{[], ◌∷◌, ◌<◌, true, length, IfOk, IfSome, OnOk, OnErr, ◌≡◌};
+ghost use Rattle.std.specs.List.{AllByRecursion as Each};
+ghost use Rattle.copy_exchange.specs.Endpoints.{IsEndpoint, IsSeated, HasMarks, Collects, Delivers, Leaves, Reaches};
+ghost use Rattle.copy_exchange.specs.Endpoints.{PushesOut, PushesMarks, sender_to};
+ghost use Rattle.copy_exchange.specs.Inboxes.{IsPlain};
+ghost use Rattle.copy_exchange.specs.Steps.{MarksOne};
+
+use copy_inbox::{Inbox, InboxError, Sender, Taker};
+use radio_packet::RadioCopy;
+use std::sync::Wait;
+
+/// Takes and delivers copies for one worker while its thread runs: it has the worker's taker, and a sender on the inbox
+/// of each other worker.
+pub struct Endpoint {
+    /// The number of its worker.
+    pub worker: u16,
+    pub taker: Taker,
+    /// For each worker the sender on its inbox; none on the endpoint's own.
+    pub senders: Vec<Option<Sender>>,
+}
+
+/// By hand, so that an endpoint is dropped by one call: the check of a function that owns one sees no more of it.
+impl Drop for Endpoint {
+    fn drop(self) {
+        let Endpoint {
+            worker: _,
+            taker: _,
+            senders: _,
+        } = self;
+    }
+}
+
+impl Endpoint {
+    /// Its taker and its senders.
+    pub fn into_parts(self) -> (Taker, Vec<Option<Sender>>)
+        ensures { (result.0 ≡ self.taker) × (result.1 ≡ self.senders) }
+    {
+        let Endpoint {
+            worker: _,
+            taker,
+            senders,
+        } = self;
+        (taker, senders)
+    }
+
+    /// Takes all copies that other workers delivered in earlier windows, while they may already deliver more. The inbox
+    /// has no marks. A refusal changes nothing.
+    pub fn collect<R: Wait>(
+        &mut self,
+        rt: &R,
+        inboxes: &[Inbox],
+    ) -> Result<Vec<RadioCopy>, InboxError>
+        requires endpoint { IsEndpoint inboxes.now self.old }
+        requires plain { IsPlain self.old.taker }
+        ensures collects { IfOk result (λ copies. Collects self.old self.new copies.items) }
+        ensures endpoint { OnOk result (IsEndpoint inboxes.now self.new) }
+        ensures refused { OnErr result (self.new ≡ self.old) }
+    {
+        let inbox = &inboxes[usize::from(self.worker)];
+        let known = inbox.known(&self.taker);
+        inbox.drain(rt, &mut self.taker, known)
+    }
+
+    /// Delivers each copy, in order, to the worker of its receiver, `of` being the worker of each mote. A copy that
+    /// comes back is [`InboxError::Memory`]; what was delivered before it stays.
+    pub fn deliver<R: Wait>(
+        &mut self,
+        rt: &R,
+        inboxes: &[Inbox],
+        of: &[u16],
+        copies: Vec<RadioCopy>,
+    ) -> Result<(), InboxError>
+        requires endpoint { IsEndpoint inboxes.now self.old }
+        requires leaves { Each (Leaves of.now (length inboxes.now) self.old.worker) copies.items }
+        ensures delivers { OnOk result (Delivers of.now self.old self.new copies.items) }
+        ensures endpoint { OnOk result (IsEndpoint inboxes.now self.new) }
+    {
+        for copy in &copies {
+            self.deliver_one(rt, inboxes, of, *copy)?;
+        }
+        Ok(())
+    }
+
+    /// Pushes, of these copies, each one that is for a mote of another worker to that worker, in order; `of` is the
+    /// worker of each mote. A copy that comes back is [`InboxError::Memory`]; what was pushed before it stays.
+    pub fn push_copies<R: Wait>(
+        &mut self,
+        rt: &R,
+        inboxes: &[Inbox],
+        of: &[u16],
+        copies: &[RadioCopy],
+    ) -> Result<(), InboxError>
+        requires seated { IsSeated inboxes.now self.old }
+        requires reaches { Each (Reaches of.now (length inboxes.now)) copies.now }
+        ensures pushes { OnOk result (PushesOut of.now self.old self.new copies.now) }
+        ensures seated { OnOk result (IsSeated inboxes.now self.new) }
+    {
+        for copy in copies {
+            self.push_out(rt, inboxes, of, *copy)?;
+        }
+        Ok(())
+    }
+
+    // Pushes one copy, where it is for a mote of another worker.
+    fn push_out<R: Wait>(
+        &mut self,
+        rt: &R,
+        inboxes: &[Inbox],
+        of: &[u16],
+        copy: RadioCopy,
+    ) -> Result<(), InboxError>
+        requires seated { IsSeated inboxes.now self.old }
+        requires reaches { Reaches of.now (length inboxes.now) copy }
+        ensures pushes { OnOk result (PushesOut of.now self.old self.new (copy ∷ [])) }
+        ensures seated { OnOk result (IsSeated inboxes.now self.new) }
+    {
+        if of[usize::from(copy.to)] == self.worker {
+            return Ok(());
+        }
+        self.deliver_one(rt, inboxes, of, copy)
+    }
+
+    /// Pushes the mark of a window to each other worker. The inboxes have marks. A mark that comes back is
+    /// [`InboxError::Memory`]; what was pushed before it stays.
+    pub fn push_marks<R: Wait>(
+        &mut self,
+        rt: &R,
+        inboxes: &[Inbox],
+        window: u64,
+    ) -> Result<(), InboxError>
+        requires seated { IsSeated inboxes.now self.old }
+        requires marked { HasMarks self.old }
+        ensures pushes { OnOk result (PushesMarks (length inboxes.now) window self.old self.new) }
+        ensures seated { OnOk result (IsSeated inboxes.now self.new) }
+    {
+        for to in 0..inboxes.len() {
+            self.push_mark_to(rt, &inboxes[to], to, window)?;
+        }
+        Ok(())
+    }
+
+    // Pushes the mark through the sender at a place, where there is one.
+    fn push_mark_to<R: Wait>(
+        &mut self,
+        rt: &R,
+        inbox: &Inbox,
+        to: usize,
+        window: u64,
+    ) -> Result<(), InboxError>
+        requires there { to < length self.old.senders.items }
+        requires sender { IfSome (sender_to self.old to) (λ s. (s.inbox ≡ inbox.now) × (s.state.marked ≡ true)) }
+        ensures marks { OnOk result (MarksOne to window self.old self.new) }
+    {
+        if let Some(sender) = &mut self.senders[to] {
+            inbox
+                .push_mark(rt, sender, window)
+                .map_err(|_| InboxError::Memory)?;
+        }
+        Ok(())
+    }
+
+    // Delivers one copy.
+    fn deliver_one<R: Wait>(
+        &mut self,
+        rt: &R,
+        inboxes: &[Inbox],
+        of: &[u16],
+        copy: RadioCopy,
+    ) -> Result<(), InboxError>
+        requires seated { IsSeated inboxes.now self.old }
+        requires leaves { Leaves of.now (length inboxes.now) self.old.worker copy }
+        ensures delivers { OnOk result (Delivers of.now self.old self.new (copy ∷ [])) }
+        ensures seated { OnOk result (IsSeated inboxes.now self.new) }
+    {
+        let to = usize::from(of[usize::from(copy.to)]);
+        let Some(sender) = &mut self.senders[to] else {
+            unreachable!();
+        };
+        inboxes[to]
+            .push_copy(rt, sender, copy)
+            .map_err(|_| InboxError::Memory)?;
+        Ok(())
+    }
+}

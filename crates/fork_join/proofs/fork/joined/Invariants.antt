@@ -1,7 +1,0 @@
-use Rattle.std.proofs.Common.{◌≡◌, None}
-use Rattle.fork_join.specs.Kept.{AllKept}
-use Rattle.fork_join.proofs.fork.joined.Given as goal
-
--- while nothing has failed, each answer was kept
-abbrev pub invariant-loop-handle : goal.invariant-loop-handle
-invariant-loop-handle g l = l.failed ≡ None → AllKept g.W.Work.makes l.yielded l.done.items

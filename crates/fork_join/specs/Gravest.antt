@@ -1,0 +1,14 @@
+-- Which of several reasons is reported, where several workers gave up.
+use Rattle.std.specs.Prelude.{Option, Some, None}
+use Rattle.fork_join.specs.declared.work.Refused.{Refused}
+use Rattle.fork_join.specs.declared.work.Refused.TheVariants.{Memory, Thread, Stopped}
+
+-- a worker that stopped did so because another failed, whose reason goes first; else the first is reported
+abbrev pub graver : (first other : Refused) → Refused
+graver Memory other = Memory
+graver Thread other = Thread
+graver Stopped other = other
+
+abbrev pub gravest : (so_far : Option Refused) → (other : Refused) → Refused
+gravest None other = other
+gravest (Some first) other = graver first other

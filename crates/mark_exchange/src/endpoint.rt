@@ -1,0 +1,118 @@
+//! The endpoint of a worker with marks, for the whole run.
+
+ghost use Rattle.std.specs.Prelude.{◌≡◌, [], length, IfErr, IfOk, OnOk};
+ghost use Rattle.std.specs.List.{AllByRecursion as Each};
+ghost use Rattle.copy_exchange.specs.Endpoints.{HasMarks, IsSeated, Reaches};
+ghost use Rattle.mark_exchange.specs.Delivers.{PushesWindow};
+ghost use Rattle.mark_exchange.specs.declared.take.MarkError.TheVariants.{Undue};
+ghost use Rattle.mark_exchange.specs.Due.{TakesDue, TakesUndue};
+ghost use Rattle.mark_exchange.specs.Marks.{Counts, AllPast};
+
+use crate::heard::no_marks;
+use crate::take::{MarkError, Standing, take_marks};
+use crate::wait::Waiting;
+use copy_exchange::Endpoint;
+use copy_inbox::{Inbox, InboxError};
+use radio_packet::RadioCopy;
+use std::alloc::Global;
+use std::sync::Wait;
+use std::sync::atomic::AtomicBool;
+
+/// The endpoint of a worker that lives for the whole run, and how many marks it took of each sender on its inbox.
+#[derive(Drop)]
+pub struct MarkEndpoint {
+    pub endpoint: Endpoint,
+    /// By the senders' numbers.
+    pub marks: Vec<u64>,
+    /// How it waits for them.
+    pub waiting: Waiting,
+}
+
+impl MarkEndpoint {
+    /// The endpoint of a worker that has taken nothing yet. So many senders were made on its inbox.
+    pub fn new(
+        alloc: Global,
+        endpoint: Endpoint,
+        senders: usize,
+    ) -> Result<MarkEndpoint, InboxError>
+        requires made { endpoint.taker.state.made ≡ senders }
+        requires taken { endpoint.taker.state.taken ≡ [] }
+        ensures endpoint { IfOk result (λ made. made.endpoint ≡ endpoint) }
+        ensures counts { IfOk result (λ made. Counts made.marks.items endpoint.taker.state) }
+    {
+        let marks = no_marks(alloc, senders)?;
+        Ok(MarkEndpoint {
+            endpoint,
+            marks,
+            waiting: Waiting::new(),
+        })
+    }
+
+    /// Pushes the copies of a window, each to the worker of its receiver, and then the window's mark to each other
+    /// worker; `of` is the worker of each mote. What comes back is [`InboxError::Memory`]; what was pushed before it
+    /// stays.
+    pub fn deliver_window<R: Wait>(
+        &mut self,
+        rt: &R,
+        inboxes: &[Inbox],
+        of: &[u16],
+        copies: &[RadioCopy],
+        window: u64,
+    ) -> Result<(), InboxError>
+        requires seated { IsSeated inboxes.now self.old.endpoint }
+        requires marked { HasMarks self.old.endpoint }
+        requires reaches { Each (Reaches of.now (length inboxes.now)) copies.now }
+        ensures pushes { OnOk result
+            (PushesWindow of.now (length inboxes.now) window self.old.endpoint self.new.endpoint copies.now) }
+        ensures seated { OnOk result (IsSeated inboxes.now self.new.endpoint) }
+        ensures counts { OnOk result (self.new.marks ≡ self.old.marks) }
+    {
+        self.endpoint.push_copies(rt, inboxes, of, copies)?;
+        self.endpoint.push_marks(rt, inboxes, window)
+    }
+
+    /// Takes items until of each sender the mark of the window has come, those of later windows too where they come
+    /// before, and gives the copies. `stop` is the flag that a worker sets which fails.
+    ///
+    /// # Errors
+    /// `Memory`; `Stopped` where the flag was seen set while a mark was missing; `Undue` where a copy came that isn't
+    /// for a mote of this worker from a mote of another, or that arrives before this worker's next window.
+    pub fn take_window<R: Wait>(
+        &mut self,
+        rt: &R,
+        alloc: Global,
+        inbox: &Inbox,
+        stop: &AtomicBool,
+        standing: &Standing<'_>,
+        window: u64,
+    ) -> Result<Vec<RadioCopy>, MarkError>
+        requires inbox { self.old.endpoint.taker.inbox ≡ inbox.now }
+        requires counts { Counts self.old.marks.items self.old.endpoint.taker.state }
+        ensures took { IfOk result (λ copies. TakesDue standing.now.of.now standing.now.worker standing.now.from
+            self.old.endpoint.taker self.new.endpoint.taker copies.items) }
+        ensures counts { OnOk result (Counts self.new.marks.items self.new.endpoint.taker.state) }
+        ensures marked { OnOk result (AllPast window self.new.marks.items) }
+        ensures worker { self.new.endpoint.worker ≡ self.old.endpoint.worker }
+        ensures senders { self.new.endpoint.senders ≡ self.old.endpoint.senders }
+        ensures undue { IfErr result
+            (λ error. error ≡ Undue → TakesUndue standing.now.of.now standing.now.worker standing.now.from
+            self.old.endpoint.taker self.new.endpoint.taker) }
+    {
+        let MarkEndpoint {
+            endpoint,
+            marks,
+            waiting,
+        } = self;
+        take_marks(
+            rt,
+            alloc,
+            inbox,
+            stop,
+            standing,
+            &mut endpoint.taker,
+            marks,
+            window,
+            waiting,
+        )
+    }
+}

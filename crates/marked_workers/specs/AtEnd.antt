@@ -1,0 +1,51 @@
+-- All workers at the end of a run with marks.
+use Rattle.std.specs.Prelude.{ℕ, ◌≡◌, suc, ◌<◌, ◌≤◌, List, length, slice_index_or, Option, None}
+use Rattle.std.specs.List.{AllByRecursion as Each}
+use Rattle.mote_net.specs.Net.{NetTold}
+use Rattle.window_laws.specs.System.{RunsForward}
+use Rattle.net_agenda.specs.NetSystem.{system_of}
+use Rattle.copy_inbox.specs.Gathered.{Whole}
+use Rattle.copy_inbox.specs.Items.{part, BeginsWith}
+use Rattle.copy_inbox.specs.Handles.{InboxId, TakerView, SenderView}
+use Rattle.worker_window.specs.declared.share.Share.{Share}
+use Rattle.all_workers.specs.declared.workers.Workers.{Workers}
+use Rattle.all_workers.specs.Workers.{IsAt}
+use Rattle.all_workers.specs.Workers.{IsCut}
+use Rattle.marked_workers.specs.Bounds.{AreWindows}
+use Rattle.copy_exchange.specs.Endpoints.{pushed_list}
+use Rattle.copy_exchange.specs.Steps.{gather_senders}
+use Rattle.marked_workers.specs.Senders.{AreSenders}
+use Rattle.marked_workers.specs.WorkerHistory.{RunsMarked}
+
+-- One worker when all threads are joined: it ran all windows as it promised, and then gathered the senders on its
+-- inbox, of each of which it had taken a beginning of what was pushed. `sender inbox worker` is the sender of a
+-- worker on an inbox.
+pub record EndsMarked (n : NetTold) (of : List ℕ) (width windows workers : ℕ)
+    (sender : (inbox worker : ℕ) → Option SenderView) (worker : ℕ) (share : Share) (taker : TakerView) : Type 0 where
+  pub before : TakerView
+  pub promise : RunsMarked n of width windows workers worker share before.state (λ v. pushed_list (sender v worker))
+  pub senders : List SenderView
+  pub are_senders : AreSenders workers worker (sender worker) before.state.made senders
+  pub begun : Each (λ (s : SenderView). BeginsWith s.state.pushed (part s.state.number before.state.taken)) senders
+  pub gathered : taker ≡ gather_senders before senders
+
+-- all workers
+pub record EndAllMarked (n : NetTold) (of : List ℕ) (width windows : ℕ) (group : Workers) : Type 0 where
+  pub cut : IsCut (length n.motes) (length group.inboxes.items) of
+  pub shares : length group.shares.items ≡ length group.inboxes.items
+  pub takers : length group.takers.items ≡ length group.inboxes.items
+  pub inbox_of_taker : (worker : ℕ) (id : InboxId) (taker : TakerView) → worker < length group.inboxes.items
+      → (slice_index_or group.takers.items worker taker).inbox ≡ slice_index_or group.inboxes.items worker id
+  pub first_out : group.first_out ≡ None
+  pub sender : (inbox worker : ℕ) → Option SenderView
+  pub each_worker : (worker : ℕ) → worker < length group.inboxes.items → (share : Share) (taker : TakerView)
+      → EndsMarked n of width windows (length group.inboxes.items) sender worker
+      (slice_index_or group.shares.items worker share) (slice_index_or group.takers.items worker taker)
+
+-- However the threads took turns, all workers stand at the end, as if all copies had been exchanged between the
+-- windows, and each has taken all that was pushed to it, every mark too.
+abbrev pub MarkedWindowsLeadToTheEnd : Type 0
+MarkedWindowsLeadToTheEnd = (n : NetTold) → RunsForward (system_of n) → (of : List ℕ) (width windows : ℕ)
+    → width ≤ (system_of n).lookahead → AreWindows width n.end windows
+    → (group : Workers) → EndAllMarked n of width windows group
+    → IsAt n of (suc n.end) group × Each (λ (t : TakerView). Whole t.state.gathered t.state.taken) group.takers.items

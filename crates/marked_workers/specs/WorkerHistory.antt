@@ -1,0 +1,58 @@
+-- What one worker's thread promises of its own values, for all windows.
+use Rattle.std.specs.Prelude.{ℕ, ◌≡◌, ◌≢◌, suc, ◌<◌, ◌≤◌, true, List, [], ◌++◌}
+use Rattle.std.specs.List.{filter, AllByRecursion as Each}
+use Rattle.radio_packet.specs.declared.copy.RadioCopy.{RadioCopy}
+use Rattle.mote_net.specs.Net.{NetTold}
+use Rattle.window_laws.specs.Windows.{first_mote, is_from_sender}
+use Rattle.net_agenda.specs.NetSystem.{system_of}
+use Rattle.worker_cut.specs.Crossed.{is_own, is_to}
+use Rattle.copy_inbox.specs.declared.items.Carried.{Carried}
+use Rattle.copy_inbox.specs.declared.items.Item.{Item}
+use Rattle.copy_inbox.specs.declared.rule.TakerState.{TakerState}
+use Rattle.copy_inbox.specs.Items.{copies_of, part, OfMade}
+use Rattle.mark_exchange.specs.Pushes.{marks_in, pushes}
+use Rattle.worker_window.specs.declared.share.Share.{Share}
+use Rattle.worker_window.specs.Share.{Motes, Keeps}
+use Rattle.worker_window.specs.Window.{RunsOwn, GoesOut, copies_out}
+use Rattle.marked_workers.specs.Bounds.{bound}
+
+-- What a worker had before each window, its motes and all items that it had taken by then, and what its motes sent to
+-- others in it.
+pub record WorkerHistory : Type 0 where
+  pub motes : ℕ → Motes
+  pub taken : ℕ → List Item
+  pub sent : ℕ → List RadioCopy
+
+-- one window of the worker's motes, on the copies that it had taken by then
+pub record RunsMotes (n : NetTold) (of : List ℕ) (worker from until : ℕ) (motes next : Motes)
+    (taken sent : List RadioCopy) : Type 0 where
+  pub runs : (k : ℕ) → is_own of worker k ≡ true → RunsOwn n (is_own of worker) from until motes next taken k
+  pub out : (s : ℕ) → copies_out n (is_own of worker) next s
+      ≡ copies_out n (is_own of worker) motes s ++ filter (is_from_sender s) sent
+  pub goes : Each (GoesOut n of worker) sent
+  pub late : Each (λ (copy : RadioCopy). until ≤ copy.at) sent
+
+-- So many windows of one worker, from the first moment on. Before each window it had taken, of each sender that was
+-- made on its inbox, the marks of all windows before. What it pushed to another worker is, window by window, the
+-- copies for that worker's motes and then the mark.
+pub record RunsWindows (n : NetTold) (of : List ℕ) (width windows workers worker made : ℕ) (taken : List Item)
+    (pushed : ℕ → List Carried) (history : WorkerHistory) : Type 0 where
+  pub first : history.motes 0 ≡ first_mote (system_of n)
+  pub nothing : history.taken 0 ≡ []
+  pub all : history.taken windows ≡ taken
+  pub goes_on : (k : ℕ) → k < windows → (more : List Item) × (history.taken (suc k) ≡ history.taken k ++ more)
+  pub marks_lead : (k : ℕ) → k ≤ windows → (sender : ℕ) → sender < made → k ≤ marks_in (part sender (history.taken k))
+  pub of_made : OfMade made taken
+  pub runs : (k : ℕ) → k < windows → RunsMotes n of worker (bound width n.end k) (bound width n.end (suc k))
+      (history.motes k) (history.motes (suc k)) (copies_of (history.taken k)) (history.sent k)
+  pub pushes_then : (v : ℕ) → v < workers → v ≢ worker
+      → pushed v ≡ pushes windows (λ k. filter (is_to of v) (history.sent k))
+
+-- The promise: there were such windows, and the share keeps the motes at their end. The taker has taken all this, and
+-- gathered nobody.
+pub record RunsMarked (n : NetTold) (of : List ℕ) (width windows workers worker : ℕ) (share : Share)
+    (state : TakerState) (pushed : ℕ → List Carried) : Type 0 where
+  pub history : WorkerHistory
+  pub ran : RunsWindows n of width windows workers worker state.made state.taken pushed history
+  pub keeps : Keeps n of worker (bound width n.end windows) (history.motes windows) (copies_of state.taken) share
+  pub nobody : state.gathered ≡ []

@@ -1,0 +1,66 @@
+use Rattle.std.proofs.Common.{◌≡◌, ◌+◌, ◌<◌, length, map, None, sym, ap, ◌∙◌, subst, arith}
+use Rattle.std.specs.List.{sum_by, AllByRecursion as Each}
+use Rattle.mote_net.specs.Net.{net_of}
+use Rattle.net_agenda.proofs.Systems.{system_is}
+use Rattle.radio_medium.specs.Medium.{Radio, medium_fault}
+use Rattle.copy_exchange.specs.Takers.{taken_by, gathered_by}
+use Rattle.copy_exchange.specs.Inboxes.{IsSettled}
+use Rattle.worker_window.specs.declared.share.Ended.{Ended}
+use Rattle.net_report.specs.declared.Report.{Report}
+use Rattle.net_report.specs.Report.{report_of}
+use Rattle.window_workers.specs.Carried.{Pair, AllCarried}
+use Rattle.window_workers.proofs.ByWorkers.{told_is, all_carried}
+use Rattle.window_workers.proofs.Joined.{all_fates, all_places, workers_there}
+use Rattle.window_workers.proofs.Logs.{as_many, places_kept, traces_kept}
+use Rattle.window_workers.proofs.Pairs.{each_zip, firsts}
+use Rattle.window_workers.proofs.workers.make_report.Goals as goal
+
+pub left_of_all-requires : goal.left_of_all-requires
+left_of_all-requires c =
+    subst (Each (λ (pair : Pair). IsSettled pair.0 pair.1)) (sym (c.deref-2.ensures.value ∙ c.in-Ok.ensures))
+    (each_zip IsSettled c.args.group.inboxes.items c.args.group.takers.items c.requires.settled)
+
+pub joined_traces-requires-clause-workers : goal.joined_traces-requires-clause-workers
+joined_traces-requires-clause-workers c =
+    let n = net_of c.args.net.now in
+    let fault : medium_fault n.radio ≡ None = ap medium_fault (sym c.medium.ensures.value) ∙ c.lookahead-ahead.ensures.no_fault in
+    let placed : length n.radio.places ≡ length n.motes = ap (λ (r : Radio). length r.places) (sym c.medium.ensures.value) ∙ c.medium.ensures.placed in
+    subst (λ k. Each (λ worker. worker < k) c.args.of.now) (sym (as_many c.in_ok-ended.ended.items c.in_ok-medium.rest.items c.in_ok-medium.ensures.traces))
+    (workers_there n (system_is n fault placed) c.args.of.now c.args.group c.requires c.in_ok-ended.ended.items c.in_ok-ended.ensures)
+
+pub joined_traces-requires-clause-places : goal.joined_traces-requires-clause-places
+joined_traces-requires-clause-places c =
+    let n = net_of c.args.net.now in
+    let fault : medium_fault n.radio ≡ None = ap medium_fault (sym c.medium.ensures.value) ∙ c.lookahead-ahead.ensures.no_fault in
+    let placed : length n.radio.places ≡ length n.motes = ap (λ (r : Radio). length r.places) (sym c.medium.ensures.value) ∙ c.medium.ensures.placed in
+    places_kept (length c.args.of.now) c.in_ok-ended.ended.items c.in_ok-medium.rest.items c.in_ok-medium.ensures.traces
+    (all_places n (system_is n fault placed) c.args.of.now c.args.group c.requires c.in_ok-ended.ended.items c.in_ok-ended.ensures)
+
+pub returns-clause-report : goal.returns-clause-report
+returns-clause-report c =
+    let n = net_of c.args.net.now in
+    let fault : medium_fault n.radio ≡ None = ap medium_fault (sym c.medium.ensures.value) ∙ c.lookahead-ahead.ensures.no_fault in
+    let placed : length n.radio.places ≡ length n.motes = ap (λ (r : Radio). length r.places) (sym c.medium.ensures.value) ∙ c.medium.ensures.placed in
+    let r : Report = record { traces = c.in_ok-traces.traces; medium = c.in_ok-medium.medium; left = c.in_ok-left.left } in
+    told_is n fault placed c.args.of.now c.args.group c.requires c.in_ok-ended.ended.items c.in_ok-ended.ensures r
+    (traces_kept c.args.of.now c.in_ok-ended.ended.items c.in_ok-medium.rest.items c.in_ok-traces.traces.items c.in_ok-medium.ensures.traces c.in_ok-traces.ensures)
+    (c.in_ok-medium.ensures.log n (all_fates n (system_is n fault placed) c.args.of.now c.args.group c.requires c.in_ok-ended.ended.items c.in_ok-ended.ensures))
+    (subst (λ l. sum_by (λ (one : Ended). one.left) c.in_ok-ended.ended.items + sum_by (λ (pair : Pair). length (gathered_by pair.1)) l ≡ c.in_ok-left.left + sum_by (λ (pair : Pair). length (taken_by pair.1)) l) (c.deref-2.ensures.value ∙ c.in-Ok.ensures)
+    (subst (λ l. sum_by (λ (one : Ended). one.left) l + sum_by (λ (pair : Pair). length (gathered_by pair.1)) c.deref-2.result.now ≡ c.in_ok-left.left + sum_by (λ (pair : Pair). length (taken_by pair.1)) c.deref-2.result.now) c.deref.ensures.value c.in_ok-left.ensures))
+
+pub returns-clause-inboxes : goal.returns-clause-inboxes
+returns-clause-inboxes c = ap (map (λ (pair : Pair). pair.0)) c.in-Ok.ensures ∙ firsts IsSettled c.args.group.inboxes.items c.args.group.takers.items c.requires.settled
+
+pub returns-clause-settled : goal.returns-clause-settled
+returns-clause-settled c =
+    subst (Each (λ (pair : Pair). IsSettled pair.0 pair.1)) (sym c.in-Ok.ensures)
+    (each_zip IsSettled c.args.group.inboxes.items c.args.group.takers.items c.requires.settled)
+
+pub returns-clause-carried : goal.returns-clause-carried
+returns-clause-carried c =
+    let n = net_of c.args.net.now in
+    let fault : medium_fault n.radio ≡ None = ap medium_fault (sym c.medium.ensures.value) ∙ c.lookahead-ahead.ensures.no_fault in
+    let placed : length n.radio.places ≡ length n.motes = ap (λ (r : Radio). length r.places) (sym c.medium.ensures.value) ∙ c.medium.ensures.placed in
+    let r : Report = record { traces = c.in_ok-traces.traces; medium = c.in_ok-medium.medium; left = c.in_ok-left.left } in
+    subst (AllCarried n c.args.of.now (report_of r)) (sym c.in-Ok.ensures)
+    (all_carried n fault placed c.args.of.now c.args.group c.requires c.in_ok-ended.ended.items c.in_ok-ended.ensures (report_of r) (returns-clause-report c))
