@@ -101,15 +101,23 @@ impl Machine {
     }
 
     /// Whether this incarnation is on the process list. Where they are numbered, it stands at its number or nowhere.
+    #[inline(always)]
     #[tactic(auto, using(crate::proofs::Numbered::held_there, crate::proofs::Numbered::held_past))]
     pub fn is_on_list(&self, member: Member) -> bool
         ensures { result ≡ holds_member self.now.members.items member }
     {
-        if self.is_numbered {
-            let place = member.incarnation as usize;
-            return place < self.members.len()
-                && is_same(member.process, self.members[place].process);
+        if !self.is_numbered {
+            return self.is_among_all(member);
         }
+        let place = member.incarnation as usize;
+        place < self.members.len() && is_same(member.process, self.members[place].process)
+    }
+
+    /// Whether this incarnation is on the process list, by a look at each.
+    #[inline(never)]
+    fn is_among_all(&self, member: Member) -> bool
+        ensures { result ≡ holds_member self.now.members.items member }
+    {
         self.members.iter().any(|x| member.incarnation == x.incarnation
             && place_of(member.process) == place_of(x.process))
     }
