@@ -3,7 +3,7 @@
 ghost use Rattle.std.specs.Prelude.{◌≡◌, ◌↔◌, IfOk, IfErr, OnOk, OnErr, IsTrue};
 ghost use Rattle.copy_inbox.specs.declared.rule.TakerState.{TakerState};
 ghost use Rattle.copy_inbox.specs.Handles.{IsNextTaken, state_with};
-ghost use Rattle.worker_cut.specs.Crossed.{is_own, IsDue};
+ghost use Rattle.worker_cut.specs.Crossed.{IsDue};
 ghost use Rattle.mark_exchange.specs.declared.take.MarkError.TheVariants.{Stopped, Undue};
 ghost use Rattle.mark_exchange.specs.Due.{AddsCopy, Refuses, TakesDue, TakesUndue};
 ghost use Rattle.mark_exchange.specs.Marks.{Counts, AllPast};
@@ -15,6 +15,7 @@ use radio_packet::RadioCopy;
 use std::alloc::{AllocError, AllocFailed, Global};
 use std::sync::Wait;
 use std::sync::atomic::AtomicBool;
+use worker_cut::is_own;
 
 /// Why a worker took no further.
 #[derive(Clone, Copy, Debug, PartialEq, Eq)]
@@ -55,16 +56,6 @@ pub struct Standing<'a> {
     pub of: &'a [u16],
     /// The moment at which its next window begins.
     pub from: u64,
-}
-
-/// Whether a mote is one of this worker's: `of` tells the worker of each mote.
-fn is_own(of: &[u16], worker: u16, mote: u16) -> bool
-    ensures { result ≡ is_own of.now worker mote }
-{
-    match of.get(usize::from(mote)) {
-        Some(other) => *other == worker,
-        None => false,
-    }
 }
 
 /// Whether the copy is for a mote of the worker, from a mote of another, and comes no sooner than it stands.

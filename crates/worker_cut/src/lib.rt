@@ -3,5 +3,7 @@
 
 mod cut;
 pub mod laws;
+mod own;
 
 pub use cut::Cut;
+pub use own::is_own;

@@ -8,7 +8,6 @@ ghost use Rattle.window_laws.specs.Windows.{first_mote};
 ghost use Rattle.mote_net.specs.Net.{NetTold, net_of};
 ghost use Rattle.net_agenda.specs.NetSystem.{first_node_in, system_of, tree_at};
 ghost use Rattle.net_agenda.specs.Changes.{Adds};
-ghost use Rattle.worker_cut.specs.Crossed.{is_own};
 ghost use Rattle.worker_window.specs.Next.{TellsNext};
 ghost use Rattle.worker_window.specs.Share.{Motes, Keeps, node_at};
 ghost use Rattle.worker_window.specs.Ended.{TellsAtEnd};
@@ -20,6 +19,7 @@ use net_agenda::{Agenda, new_mote};
 use net_report::LogLine;
 use process_kernel::Line;
 use std::alloc::{AllocError, Global};
+use worker_cut::is_own;
 
 /// What one worker of a net has. Motes and traces stand by the number of the mote, with none and an empty one for the
 /// motes of other workers; the packets of the worker's motes, each mote's in order; the pending events of its motes;
@@ -56,16 +56,6 @@ pub struct Ended {
     pub traces: Vec<Vec<Line>>,
     pub log: Vec<LogLine>,
     pub left: u64,
-}
-
-/// Whether a mote is one of this worker's: `of` tells the worker of each mote.
-pub(crate) fn is_own(of: &[u16], worker: u16, mote: u16) -> bool
-    ensures { result ≡ is_own of.now worker mote }
-{
-    match of.get(usize::from(mote)) {
-        Some(other) => *other == worker,
-        None => false,
-    }
 }
 
 /// A mote of the worker as it begins: it wakes at 0. There is none for a mote of another worker.

@@ -20,7 +20,7 @@ ghost use Rattle.worker_window.specs.Leaving.{MotesLeave, HasNumber, IsOutOfNet,
 
 use crate::calls::{CalledMotes, gather};
 use crate::rooms::Rooms;
-use crate::share::{Share, is_own};
+use crate::share::Share;
 use mote_net::Net;
 use mote_node::Mote;
 use net_agenda::{Agenda, add_lines};
@@ -32,6 +32,7 @@ use std::random::RandomSource;
 use std::slice::from_ref;
 use std::sync::Wait;
 use window_run::{Gate, Resident, ShareError, WindowOut, WindowRoom, run_share};
+use worker_cut::is_own;
 
 /// A wake that isn't before a moment.
 fn wake_from(until: u64, wake: Option<u64>) -> Option<u64>
