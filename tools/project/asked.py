@@ -1,4 +1,4 @@
-"""What the words of ./run ask for: looked at before a build, so that none begins where the program would refuse them."""
+"""What the words of ./run ask for, looked at before a build: none begins where the program would refuse them."""
 from __future__ import annotations
 
 import re

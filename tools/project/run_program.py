@@ -9,16 +9,15 @@ from __future__ import annotations
 
 import os
 import shutil
-import signal
 import stat
 import subprocess
 import sys
-from collections.abc import Sequence
 from pathlib import Path
 from typing import NoReturn
 
 from motesim.programs import is_program
 from project.asked import Asked, asked_by
+from project.attended import as_another_program, attend
 from project.tree import PROGRAM, TOP, is_built
 
 NAME = PROGRAM.name
@@ -28,9 +27,6 @@ HELP_OF_RUN = """
   --unproved         (of ./run) Compiles the program without any proof, in a minute or two, keeps it and runs it
   --version          (of ./run) Says which version this is"""
 FAILED, MISUSED = 1, 2
-# What Python ignores, and no program that is run should.
-SIGNALS_OF_PYTHON = signal.SIGPIPE, signal.SIGXFSZ
-ENDING = signal.SIGTERM, signal.SIGHUP, signal.SIGINT
 
 
 def say(line: str) -> None:
@@ -42,38 +38,6 @@ def say(line: str) -> None:
 def fail(line: str) -> NoReturn:
     say(line)
     sys.exit(FAILED)
-
-
-def as_another_program() -> None:
-    """Has this process end by signals as one does that isn't Python."""
-    for number in SIGNALS_OF_PYTHON:
-        signal.signal(number, signal.SIG_DFL)
-    if signal.getsignal(signal.SIGINT) == signal.default_int_handler:
-        signal.signal(signal.SIGINT, signal.SIG_DFL)
-
-
-def attend(program: Path, words: Sequence[str], stdin: int | None = None) -> int:
-    """Runs a command, ends it where this process is ended, and returns its status."""
-    # (a signal that comes before there is a command to end waits)
-    before = signal.pthread_sigmask(signal.SIG_BLOCK, ENDING)
-
-    def prepare() -> None:
-        # (a terminal's interrupt comes to both processes, and this one passes it on)
-        signal.signal(signal.SIGINT, signal.SIG_IGN)
-        signal.pthread_sigmask(signal.SIG_SETMASK, before)
-
-    def end(number: int, _: object) -> None:
-        running.terminate()
-        sys.exit(128 + number)
-
-    running = subprocess.Popen([NAME, *words], executable=program, stdin=stdin, preexec_fn=prepare)
-    for number in ENDING:
-        # (nohup has one of them ignored)
-        if signal.getsignal(number) != signal.SIG_IGN:
-            signal.signal(number, end)
-    signal.pthread_sigmask(signal.SIG_SETMASK, before)
-    status = running.wait()
-    return status if status >= 0 else 128 - status
 
 
 def can_be_read(file: str) -> bool:
@@ -135,7 +99,7 @@ def new_program(is_unproved: bool) -> Path:
     if not shutil.which('rt'):
         fail("the program isn't built, and to build it takes the Rattle kit's rt and Python 3.11")
     # (standard input is the program's)
-    if attend(TOP / 'tools/build', [], subprocess.DEVNULL):
+    if attend(TOP / 'tools/build', [NAME], subprocess.DEVNULL):
         sys.exit(FAILED)
     return PROGRAM
 
@@ -160,7 +124,7 @@ def run_words(program: Path, asked: Asked) -> NoReturn:
     has_help = asked.wants_help and os.isatty(1)
     if not (has_help or (asked.file and os.isatty(2))):
         os.execv(program, [NAME, *asked.words])
-    status = attend(program, asked.words)
+    status = attend(program, [NAME, *asked.words])
     if status == 0 and has_help:
         print(HELP_OF_RUN)
     if status == FAILED:
