@@ -21,7 +21,7 @@ from project import kit
 from project.estimate import Crate, Estimate, Log, by_shares, minutes
 from project.progress import Line
 from project.shares import minutes_from_nothing, shares
-from project.tree import PROGRAM, TOP
+from project.tree import PROGRAM, TOP, is_built
 
 NAME = PROGRAM.name
 
@@ -67,13 +67,6 @@ class Progress:
         log.flush()
         self.line.say('%s is not proved (%s):' % (crate.name, log.path))
         self.line.print(log.path.read_text('utf-8', 'replace'), '')
-
-
-def is_built() -> bool:
-    """Whether the program is there, and none of the sources is newer."""
-    parts = [it for name in kit.parts() for it in TOP.glob('crates/*/' + name)]
-    sources = [TOP / 'crates.txt', *parts, *(it for part in parts for it in part.rglob('*'))]
-    return PROGRAM.is_file() and max(it.stat().st_mtime for it in sources) <= PROGRAM.stat().st_mtime
 
 
 def make(crate: kit.Crate, jobs: int, began: float) -> bool:

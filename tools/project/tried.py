@@ -11,10 +11,9 @@ from collections.abc import Callable, Mapping
 from pathlib import Path
 from typing import NamedTuple
 
-from project.tree import TOP
+from project.tree import PARTS, TOP
 
 KEPT = TOP / 'log/wrong_bodies.tsv'
-PARTS = 'src', 'specs', 'proofs'
 
 
 class Tried(NamedTuple):

@@ -10,7 +10,7 @@ from unittest import mock
 import here
 from motesim.faults import Fault
 from motesim.version import KIT
-from project import kit
+from project import kit, tree
 
 
 @unittest.skipUnless(shutil.which('rt'), 'the command rt of the Rattle kit is not here')
@@ -23,6 +23,9 @@ class AtHand(unittest.TestCase):
 
     def test_it_has_all_that_is_taken(self):
         self.assertEqual(kit.lacking_in(kit.rt()), [])
+
+    def test_a_check_reads_the_parts_that_the_tools_know(self):
+        self.assertEqual(kit.parts(), tree.PARTS)
 
     def test_a_crate_that_leaves_the_processors_is_called_nicely(self):
         kit._building()
