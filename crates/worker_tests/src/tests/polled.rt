@@ -3,7 +3,6 @@
 ghost use Rattle.std.specs.Prelude.{◌≡◌, ◌≤◌, ◌^◌, true, IfOk};
 ghost use Rattle.window_run.specs.Window.{is_rising};
 
-use super::{same_text, write_lines};
 use futures::Future;
 use futures::task::Poll;
 use futures::test::MockTask;
@@ -14,6 +13,7 @@ use radio_packet::RadioCopy;
 use std::alloc::{AllocError, Global};
 use std::random::RandomSource;
 use std::test::Fail;
+use test_helpers::{same_text, write_lines};
 use window_run::{MoteWindow, NoGate};
 
 /// A process that prints, and yields for ever.
@@ -92,52 +92,25 @@ fn write_three_polls(
     Ok(())
 }
 
-/// What is written of that.
-fn told(
+/// Fails where something else is written of that.
+fn gives(
     alloc: Global,
     bench: &Bench,
     mote: Mote,
     copies: Vec<RadioCopy>,
-) -> Result<String, AllocError>
+    want: &str,
+) -> Result<(), Fail>
     requires { is_rising copies.items ≡ true }
 {
     let mut text = String::new(alloc);
     write_three_polls(&mut text, alloc, bench, mote, copies)?;
-    Ok(text)
+    same_text(text.as_str(), want)
 }
 
 /// The same of a new mote to which no copy comes.
-fn told_of_a_new_mote(alloc: Global, bench: &Bench) -> Result<String, Fail> {
-    let mote = Mote::new(alloc, 0, &bench.program, 32)?;
-    Ok(told(alloc, bench, mote, Vec::new(alloc))?)
-}
-
-/// Fails where something else is written of that.
 fn new_mote_gives(alloc: Global, bench: &Bench, want: &str) -> Result<(), Fail> {
-    let told = told_of_a_new_mote(alloc, bench)?;
-    same_text(told.as_str(), want)
-}
-
-/// Fails where this isn't told of a window that goes on, or is given up as an allocation failed.
-fn goes_on_or_fails(told: &str) -> Result<(), Fail> {
-    if told.starts_with("pending|") || told == "Memory|Failed|Failed|" {
-        return Ok(());
-    }
-    Err(Fail::new(format_args!("{told}")))
-}
-
-/// Fails where the window of a new mote neither goes on nor is given up.
-fn new_mote_goes_on_or_fails(alloc: Global, bench: &Bench) -> Result<(), Fail> {
-    let told = told_of_a_new_mote(alloc, bench)?;
-    goes_on_or_fails(told.as_str())
-}
-
-/// A window whose turn found no memory is given up. With each allocation refused in turn this is looked at;
-/// with ample memory the window goes on.
-#[test]
-fn a_refused_turn(rt: HostRuntime) -> Result<(), Fail> {
-    let bench = new_bench(&rt, PRINT_THEN_YIELD)?;
-    new_mote_goes_on_or_fails(rt.alloc(), &bench)
+    let mote = Mote::new(alloc, 0, &bench.program, 32)?;
+    gives(alloc, bench, mote, Vec::new(alloc), want)
 }
 
 /// A mote that had a turn at 5.
@@ -165,8 +138,7 @@ fn one_copy(alloc: Global) -> Result<Vec<RadioCopy>, AllocError>
 fn late_copy_gives(alloc: Global, bench: &Bench, want: &str) -> Result<(), Fail> {
     let mote = turned_mote(alloc, &bench.program)?;
     let copies = one_copy(alloc)?;
-    let told = told(alloc, bench, mote, copies)?;
-    same_text(told.as_str(), want)
+    gives(alloc, bench, mote, copies, want)
 }
 
 /// Fails where three polls give something else of a mote that has one turn, and of one to which a copy comes too late.
