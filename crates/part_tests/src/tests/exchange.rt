@@ -6,13 +6,14 @@ ghost use Rattle.copy_inbox.specs.Handles.{TakerView};
 ghost use Rattle.copy_exchange.specs.Couriers.{IsCourier, SetsOut, Returns};
 ghost use Rattle.copy_exchange.specs.Inboxes.{IsPlain, IsSettled, Settled};
 
-use super::{same_text, write_copies, write_rest};
+use super::write_rest;
 use copy_exchange::{Courier, couriers, gathered, known, make_inboxes, paired, parted};
 use copy_inbox::{Inbox, InboxError, Taker};
 use radio_packet::RadioCopy;
 use std::alloc::{AllocError, Global};
 use std::sync::Wait;
 use std::test::Fail;
+use test_helpers::{same_text, write_copies};
 
 /// A copy of one worker's mote for the mote of the other. Mote 0 is worker 0's, and mote 1 is worker 1's.
 fn copy(sender: u16, number: u64) -> RadioCopy
