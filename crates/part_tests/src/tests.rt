@@ -3,7 +3,6 @@
 //! proof costs most.
 
 mod canonical;
-mod exchange;
 mod inbox;
 mod kernels;
 mod looked_up;

@@ -23,19 +23,19 @@ use test_helpers::same_text;
 /// A scenario and its report.
 #[derive(Clone, Copy)]
 struct Told<'a> {
-    scenario: &'a [u8],
+    scenario: &'a str,
     report: &'a [u8],
 }
 
 /// A process prints, and yields for ever.
 const PRINT_THEN_YIELD: Told = Told {
-    scenario: test_helpers::PRINT_THEN_YIELD.as_bytes(),
+    scenario: test_helpers::PRINT_THEN_YIELD,
     report: b"mote 0 p\n0 start etimer\n0 start ctimer\n0 start radio\n0 start a\n0 print a 1\nmedium\nleft 0\n",
 };
 
 /// A receiver between two senders.
 const TWO_SENDERS: Told = Told {
-    scenario: test_helpers::TWO_SENDERS.as_bytes(),
+    scenario: test_helpers::TWO_SENDERS,
     report: b"\
         mote 0 s\n0 start etimer\n0 start ctimer\n0 start radio\n0 start a\n0 send 0 5\n0 leave a\n\
         mote 1 r\n0 start etimer\n0 start ctimer\n0 start radio\n0 start r\n2 recv 0 0 5\n\
@@ -211,12 +211,18 @@ fn write_answer(
     text.push('|')
 }
 
-fn write_trial<T>(rt: &T, text: &mut String, trial: Trial) -> Result<(), AllocError>
+/// Writes down what comes of that, with these bytes in the place of its scenario.
+fn write_trial<T>(
+    rt: &T,
+    text: &mut String,
+    trial: Trial,
+    scenario: &[u8],
+) -> Result<(), AllocError>
 where
     T: AllocGlobal + Threads + Wait + RandomSource + Sync,
 {
     let mut reader = Source {
-        rest: trial.told.scenario,
+        rest: scenario,
         most: 16,
         calls: trial.reads,
     };
@@ -229,11 +235,19 @@ where
 }
 
 /// Fails where something else is written down of that.
-fn tells<T>(rt: &T, trial: Trial, want: &str) -> Result<(), Fail>
+fn bytes_tell<T>(rt: &T, trial: Trial, scenario: &[u8], want: &str) -> Result<(), Fail>
 where
     T: AllocGlobal + Threads + Wait + RandomSource + Sync,
 {
     let mut text = String::new(rt.alloc());
-    write_trial(rt, &mut text, trial)?;
+    write_trial(rt, &mut text, trial, scenario)?;
     same_text(text.as_str(), want)
+}
+
+/// Fails where something else is written down of a simulation.
+fn tells<T>(rt: &T, trial: Trial, want: &str) -> Result<(), Fail>
+where
+    T: AllocGlobal + Threads + Wait + RandomSource + Sync,
+{
+    bytes_tell(rt, trial, trial.told.scenario.as_bytes(), want)
 }

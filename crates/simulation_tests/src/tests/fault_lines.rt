@@ -54,7 +54,7 @@ fn faults_of_the_run(rt: HostRuntime) -> Result<(), Fail> {
 /// these two fail or take nothing then.
 #[derive(Clone, Copy)]
 struct Streams<'a> {
-    scenario: &'a [u8],
+    scenario: &'a str,
     reads: usize,
     writes: usize,
     lines: usize,
@@ -67,7 +67,7 @@ where
     T: AllocGlobal + Files + Threads + Wait + RandomSource + Sync,
 {
     let mut input = Source {
-        rest: streams.scenario,
+        rest: streams.scenario.as_bytes(),
         most: 16,
         calls: streams.reads,
     };
@@ -94,7 +94,7 @@ where
 
 /// Streams that are whole.
 const WHOLE: Streams<'static> = Streams {
-    scenario: PRINT_THEN_YIELD.scenario,
+    scenario: test_helpers::PRINT_THEN_YIELD,
     reads: usize::MAX,
     writes: usize::MAX,
     lines: usize::MAX,
@@ -109,7 +109,7 @@ const TAKES_NONE: Streams<'static> = Streams {
 
 /// The same of an empty scenario.
 const EMPTY: Streams<'static> = Streams {
-    scenario: b"",
+    scenario: "",
     ..TAKES_NONE
 };
 

@@ -18,7 +18,7 @@ enum Ended {
 /// calls, which gives 16 bytes a call, and the writer after so many, which takes a byte a call.
 fn outcome(alloc: Global, reads: usize, writes: usize, fails: bool) -> (Ended, Option<usize>) {
     let mut reader = Source {
-        rest: PRINT_THEN_YIELD.scenario,
+        rest: PRINT_THEN_YIELD.scenario.as_bytes(),
         most: 16,
         calls: reads,
     };

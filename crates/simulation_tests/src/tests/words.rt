@@ -63,7 +63,7 @@ where
     };
     write!(text, "{:?} ", asked.options.workers)?;
     let mut input = Source {
-        rest: TWO_SENDERS.scenario,
+        rest: TWO_SENDERS.scenario.as_bytes(),
         most: usize::MAX,
         calls: usize::MAX,
     };
