@@ -1,7 +1,6 @@
 //! Inboxes with marks, in one thread and in two.
 
-ghost use Rattle.std.specs.Prelude.{◌≡◌, true, [], OnOk};
-ghost use Rattle.copy_inbox.specs.Views.{make_desk};
+ghost use Rattle.std.specs.Prelude.{◌≡◌, true, []};
 
 use super::inbox::{copy, push, with_one, with_two, write_known};
 use super::write_rest;
