@@ -1,7 +1,6 @@
 //! What no scenario and no command line shows: streams that fail, gates, and calls with options that the words can't
 //! ask for. Most tests have a text written of what came of some runs, and compare it in a function that they share.
-//! Those of
-//! `simulate` have one reader, one writer and one gate, so that what they call is compiled for these alone.
+//! Those of `simulate` have one reader, one writer and one gate, so that what they call is compiled for these alone.
 
 mod fault_lines;
 mod input;
@@ -19,57 +18,24 @@ use std::sync::atomic::AtomicU64;
 use std::sync::atomic::Ordering::SeqCst;
 use std::test::Fail;
 use std::thread::Threads;
+use test_helpers::same_text;
 
 /// A scenario and its report.
 #[derive(Clone, Copy)]
 struct Told<'a> {
-    scenario: &'a [u8],
+    scenario: &'a str,
     report: &'a [u8],
 }
 
 /// A process prints, and yields for ever.
 const PRINT_THEN_YIELD: Told = Told {
-    scenario: b"\
-        version = 1\n\
-        end = 5\n\
-        [medium]\n\
-        range = 10\n\
-        base = 1\n\
-        per = 100\n\
-        [programs]\n\
-        p = \"process a; autostart a; code a { body { print 1; yield; print 2; } }\"\n\
-        [[mote]]\n\
-        x = 0\n\
-        y = 0\n\
-        program = \"p\"\n",
+    scenario: test_helpers::PRINT_THEN_YIELD,
     report: b"mote 0 p\n0 start etimer\n0 start ctimer\n0 start radio\n0 start a\n0 print a 1\nmedium\nleft 0\n",
 };
 
-/// A receiver between two senders. There are two windows: the packets are sent at 0, and come at 2.
+/// A receiver between two senders.
 const TWO_SENDERS: Told = Told {
-    scenario: b"\
-        version = 1\n\
-        end = 9\n\
-        [medium]\n\
-        range = 5\n\
-        base = 2\n\
-        per = 100\n\
-        [programs]\n\
-        s = \"process a; autostart a; code a { body { send (self + 5); } }\"\n\
-        r = \"process r; autostart r; receiver r; code r { body { while 1 { yield; if is(packet) { \
-        print from; print data; } } } }\"\n\
-        [[mote]]\n\
-        x = 0\n\
-        y = 0\n\
-        program = \"s\"\n\
-        [[mote]]\n\
-        x = 5\n\
-        y = 0\n\
-        program = \"r\"\n\
-        [[mote]]\n\
-        x = 10\n\
-        y = 0\n\
-        program = \"s\"\n",
+    scenario: test_helpers::TWO_SENDERS,
     report: b"\
         mote 0 s\n0 start etimer\n0 start ctimer\n0 start radio\n0 start a\n0 send 0 5\n0 leave a\n\
         mote 1 r\n0 start etimer\n0 start ctimer\n0 start radio\n0 start r\n2 recv 0 0 5\n\
@@ -245,12 +211,18 @@ fn write_answer(
     text.push('|')
 }
 
-fn write_trial<T>(rt: &T, text: &mut String, trial: Trial) -> Result<(), AllocError>
+/// Writes down what comes of that, with these bytes in the place of its scenario.
+fn write_trial<T>(
+    rt: &T,
+    text: &mut String,
+    trial: Trial,
+    scenario: &[u8],
+) -> Result<(), AllocError>
 where
     T: AllocGlobal + Threads + Wait + RandomSource + Sync,
 {
     let mut reader = Source {
-        rest: trial.told.scenario,
+        rest: scenario,
         most: 16,
         calls: trial.reads,
     };
@@ -262,33 +234,20 @@ where
     write_answer(text, &answer, front, &gate)
 }
 
-/// What is written down of that.
-fn told_of<T>(rt: &T, trial: Trial) -> Result<String, AllocError>
+/// Fails where something else is written down of that.
+fn bytes_tell<T>(rt: &T, trial: Trial, scenario: &[u8], want: &str) -> Result<(), Fail>
 where
     T: AllocGlobal + Threads + Wait + RandomSource + Sync,
 {
     let mut text = String::new(rt.alloc());
-    write_trial(rt, &mut text, trial)?;
-    Ok(text)
+    write_trial(rt, &mut text, trial, scenario)?;
+    same_text(text.as_str(), want)
 }
 
-/// Fails where something else is written down of that.
+/// Fails where something else is written down of a simulation.
 fn tells<T>(rt: &T, trial: Trial, want: &str) -> Result<(), Fail>
 where
     T: AllocGlobal + Threads + Wait + RandomSource + Sync,
 {
-    let told = told_of(rt, trial)?;
-    let options = trial.options;
-    if told.as_str() == want {
-        return Ok(());
-    }
-    Err(Fail::new(format_args!("{told} in place of {want}, by {options:?}")))
-}
-
-/// Fails where two texts differ, and shows both.
-fn same_text(told: &str, want: &str) -> Result<(), Fail> {
-    if told == want {
-        return Ok(());
-    }
-    Err(Fail::new(format_args!("{told} in place of {want}")))
+    bytes_tell(rt, trial, trial.told.scenario.as_bytes(), want)
 }

@@ -1,45 +1,22 @@
 //! Most tests write what they see into one text and compare it once, in a function that they share: so a test owns
 //! little where it can end early, which is what its proof costs most.
 
-mod again;
-mod cuts;
 mod held_back;
 mod inboxes;
+mod marks;
+mod nets;
 mod overlaps;
-mod starts;
+mod polled;
+mod residents;
+mod runs;
+mod shares;
 
 use net_scenario::Net;
 use std::alloc::{AllocError, AllocGlobal, Global};
 use std::random::RandomSource;
 use std::sync::Wait;
-use std::test::Fail;
 use std::thread::Threads;
 use window_workers::{Cut, Gate, Report, RunError, SyncKind, run_serial, run_workers};
-
-/// A receiver between two senders.
-const TWO_SENDERS: &str = "\
-    version = 1\n\
-    end = 9\n\
-    [medium]\n\
-    range = 5\n\
-    base = 2\n\
-    per = 100\n\
-    [programs]\n\
-    s = \"process a; autostart a; code a { body { send (self + 5); } }\"\n\
-    r = \"process r; autostart r; receiver r; code r { body { while 1 { yield; if is(packet) { print from; \
-    print data; } } } }\"\n\
-    [[mote]]\n\
-    x = 0\n\
-    y = 0\n\
-    program = \"s\"\n\
-    [[mote]]\n\
-    x = 5\n\
-    y = 0\n\
-    program = \"r\"\n\
-    [[mote]]\n\
-    x = 10\n\
-    y = 0\n\
-    program = \"s\"\n";
 
 /// A mote that sends at 2 to one beside it, which gets the packet at 5.
 const PACKET_AFTER_TIMER: &str = "\
@@ -82,29 +59,6 @@ const COPY_PAST_THE_END: &str = "\
     x = 0\n\
     y = 1\n\
     program = \"r\"\n";
-
-/// Three motes that don't hear one another.
-const THREE_APART: &str = "\
-    version = 1\n\
-    end = 9\n\
-    [medium]\n\
-    range = 10\n\
-    base = 1\n\
-    per = 100\n\
-    [programs]\n\
-    p = \"process a; autostart a; code a { body { print 1; yield; print 2; } }\"\n\
-    [[mote]]\n\
-    x = 0\n\
-    y = 0\n\
-    program = \"p\"\n\
-    [[mote]]\n\
-    x = 20\n\
-    y = 0\n\
-    program = \"p\"\n\
-    [[mote]]\n\
-    x = 40\n\
-    y = 0\n\
-    program = \"p\"\n";
 
 /// Two motes that don't hear one another, each with a turn at the moments 0, 1 and 2.
 const BUSY_PAIR: &str = "\
@@ -150,13 +104,8 @@ const BUSY_TRIO: &str = "\
     y = 0\n\
     program = \"p\"\n";
 
-/// Fails where two texts differ, and shows both.
-fn same_text(told: &str, want: &str) -> Result<(), Fail> {
-    if told == want {
-        return Ok(());
-    }
-    Err(Fail::new(format_args!("{told} in place of {want}")))
-}
+/// Both kinds of synchronization.
+const SYNCS: [SyncKind; 2] = [SyncKind::Joins, SyncKind::Marks];
 
 /// A run: how many workers there are, the worker of each mote, and how long windows are at most.
 #[derive(Clone, Copy)]

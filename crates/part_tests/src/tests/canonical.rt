@@ -1,9 +1,10 @@
 //! Canonical texts, written by hand.
 
-use super::same_text;
+use super::PRINT_THEN_YIELD;
 use mote_program::{print_program, read};
 use std::alloc::Global;
 use std::test::Fail;
+use test_helpers::same_text;
 
 /// The canonical text of the program of a text.
 fn canonical(alloc: Global, text: &str) -> Result<String, Fail> {
@@ -22,9 +23,6 @@ fn prints(alloc: Global, text: &str, want: &str) -> Result<(), Fail> {
     has_canonical(alloc, text, want)?;
     has_canonical(alloc, want, want)
 }
-
-const PRINT_THEN_YIELD: &str =
-    "process a; autostart a; code a { body { print 1; yield; print 2; } }";
 
 const PRINT_THEN_YIELD_PRINTED: &str = "process a;
 autostart a;

@@ -1,10 +1,10 @@
 //! Runs of an inbox, in one thread and in several.
 
 ghost use Rattle.std.specs.Prelude.{◌≡◌, false, [], IfOk, OnOk};
-ghost use Rattle.copy_inbox.specs.Handles.{AllGathered, after_sender};
+ghost use Rattle.copy_inbox.specs.Handles.{AllGathered};
 ghost use Rattle.copy_inbox.specs.Views.{make_taker_state, make_sender_state};
 
-use super::{same_text, write_copies, write_rest};
+use super::write_rest;
 use copy_inbox::{Inbox, InboxError, Sender, Taker};
 use radio_packet::RadioCopy;
 use std::alloc::{AllocError, Global};
@@ -12,6 +12,7 @@ use std::sync::Wait;
 use std::test::*;
 use std::thread;
 use std::thread::Threads;
+use test_helpers::{same_text, write_copies};
 
 pub(crate) fn copy(sender: u16, number: u64) -> RadioCopy {
     RadioCopy {
@@ -231,105 +232,6 @@ fn in_one_thread(rt: HostRuntime) -> Result<(), Fail> {
     )
 }
 
-// A new inbox, with marks or without. Where memory is refused, it is asked for again.
-pub(crate) fn make_again(alloc: Global, marked: bool) -> Result<(Inbox, Taker), InboxError>
-    ensures inbox { IfOk result (λ made. made.1.inbox ≡ made.0) }
-    ensures empty { IfOk result (λ made. made.1.state ≡ make_taker_state marked 0 [] []) }
-{
-    match make(alloc, marked) {
-        Ok(made) => Ok(made),
-        Err(InboxError::Memory) => make(alloc, marked),
-    }
-}
-
-// A new sender. Where memory is refused, it is asked for again.
-pub(crate) fn sender_again(inbox: &Inbox, taker: &mut Taker) -> Result<Sender, InboxError>
-    requires { taker.old.inbox ≡ inbox.now }
-    ensures inbox { IfOk result (λ sender. sender.inbox ≡ inbox.now) }
-    ensures fresh { IfOk result
-        (λ sender. sender.state ≡ make_sender_state taker.old.state.marked taker.old.state.made []) }
-    ensures taker { OnOk result (taker.new ≡ after_sender taker.old) }
-{
-    match inbox.sender(taker) {
-        Ok(sender) => Ok(sender),
-        Err(InboxError::Memory) => inbox.sender(taker),
-    }
-}
-
-// Pushes a copy. Where memory is refused, what comes back is pushed.
-pub(crate) fn push_again<R: Wait>(rt: &R, inbox: &Inbox, sender: &mut Sender, copied: RadioCopy)
-    requires { sender.old.inbox ≡ inbox.now }
-    ensures { (sender.new.inbox ≡ inbox.now) × (sender.new.state.number ≡ sender.old.state.number)
-        × (sender.new.state.marked ≡ sender.old.state.marked) }
-{
-    if let Err(back) = inbox.push_copy(rt, sender, copied) {
-        push(rt, inbox, sender, back);
-    }
-}
-
-// Pushes so many copies, numbered from 0.
-fn push_all_again<R: Wait>(rt: &R, inbox: &Inbox, mut sender: Sender, count: u64) -> Sender
-    requires { sender.inbox ≡ inbox.now }
-    ensures { (result.inbox ≡ inbox.now) × (result.state.number ≡ sender.state.number) }
-{
-    for number in 0..count {
-        push_again(rt, inbox, &mut sender, copy(0, number));
-    }
-    sender
-}
-
-// Whether the copies that are taken are so many of one sender, in order. Where memory is refused, they are taken again.
-fn takes_again<R: Wait>(rt: &R, inbox: &Inbox, taker: &mut Taker, count: u64) -> bool
-    requires { (taker.old.inbox ≡ inbox.now) × (taker.old.state.marked ≡ false) }
-    ensures { (taker.new.inbox ≡ inbox.now) × (taker.new.state.marked ≡ false)
-        × (taker.new.state.made ≡ taker.old.state.made) × (taker.new.state.gathered ≡ taker.old.state.gathered) }
-{
-    if let Ok(copies) = drain(rt, inbox, taker, count) {
-        return are_of(copies.as_slice(), 0, count);
-    }
-    match drain(rt, inbox, taker, count) {
-        Ok(copies) => are_of(copies.as_slice(), 0, count),
-        Err(_) => false,
-    }
-}
-
-// Whether the closing gives this copy alone. Where memory is refused, it gives up what was left.
-fn closes_with<R: Wait>(rt: &R, inbox: Inbox, taker: Taker, last: RadioCopy) -> bool
-    requires inbox { (taker.inbox ≡ inbox) × (taker.state.marked ≡ false) }
-    requires gathered { AllGathered taker.state }
-{
-    match inbox.close(rt, taker) {
-        Ok(rest) => rest.as_slice() == [last].as_slice(),
-        Err(InboxError::Memory) => true,
-    }
-}
-
-// Whether 70 copies are known of one sender, the first 69 are taken, one is left, and the closing gives it.
-fn gives_all<R: Wait>(rt: &R, alloc: Global) -> Result<[bool; 4], InboxError> {
-    let (inbox, mut taker) = make_again(alloc, false)?;
-    let sender = sender_again(&inbox, &mut taker)?;
-    // More than two of the queue's blocks.
-    let sender = push_all_again(rt, &inbox, sender, 70);
-    inbox.gather(rt, &mut taker, sender);
-    let known = inbox.known(&taker) == 70;
-    let taken = takes_again(rt, &inbox, &mut taker, 69);
-    let left = inbox.known(&taker) == 1;
-    Ok([
-        known,
-        taken,
-        left,
-        closes_with(rt, inbox, taker, copy(0, 69)),
-    ])
-}
-
-/// Where one allocation is refused, the call that was refused is made again, and all is as if it hadn't been. With
-/// ample memory no call is refused; each allocation of this test was made to fail in turn.
-#[test]
-fn each_allocation_refused(rt: HostRuntime) -> Result<(), Fail> {
-    assert!(rt; gives_all(&rt, rt.alloc())? == [true; 4]);
-    Ok(())
-}
-
 // Pushes copies numbered from 0, until one comes back.
 fn push_all<R: Wait>(rt: &R, inbox: &Inbox, mut sender: Sender, mote: u16, count: u64) -> Sender
     requires { sender.inbox ≡ inbox.now }
@@ -371,115 +273,63 @@ fn push_both<R: Threads + Wait + Sync>(
     )
 }
 
-// Three threads push copies.
-fn push_all_three<R: Threads + Wait + Sync>(
-    rt: &R,
-    inbox: &Inbox,
-    first: Sender,
-    second: Sender,
-    third: Sender,
-    count: u64,
-) -> ((Sender, Sender), Sender)
-    requires { (first.inbox ≡ inbox.now) × (second.inbox ≡ inbox.now) × (third.inbox ≡ inbox.now) }
-    ensures first { (result.0.0.inbox ≡ inbox.now) × (result.0.0.state.number ≡ first.state.number) }
-    ensures second { (result.0.1.inbox ≡ inbox.now) × (result.0.1.state.number ≡ second.state.number) }
-    ensures third { (result.1.inbox ≡ inbox.now) × (result.1.state.number ≡ third.state.number) }
-{
-    thread::join(
-        rt,
-        move ||
-            requires { (first.inbox ≡ inbox.now) × (second.inbox ≡ inbox.now) }
-            ensures { (result.0.inbox ≡ inbox.entry.now) × (result.0.state.number ≡ first.state.number)
-                × (result.1.inbox ≡ inbox.entry.now) × (result.1.state.number ≡ second.state.number) }
-        { push_both(rt, inbox, first, second, count) },
-        move ||
-            requires { third.inbox ≡ inbox.now }
-            ensures { (result.inbox ≡ inbox.entry.now) × (result.state.number ≡ third.state.number) }
-        { push_all(rt, inbox, third, 2, count) },
-    )
-}
-
-// What the inbox gives when it is closed, once three threads have pushed copies.
-fn from_three<R: Threads + Wait + Sync>(
+// What the inbox gives when it is closed, once two threads have pushed copies.
+fn from_two<R: Threads + Wait + Sync>(
     rt: &R,
     alloc: Global,
     count: u64,
 ) -> Result<Vec<RadioCopy>, InboxError> {
     let (inbox, mut taker, first, second) = with_two(alloc, false)?;
-    let third = inbox.sender(&mut taker)?;
-    let ((first, second), third) = push_all_three(rt, &inbox, first, second, third, count);
-    inbox.gather(rt, &mut taker, third);
-    inbox.gather(rt, &mut taker, first);
+    let (first, second) = push_both(rt, &inbox, first, second, count);
     inbox.gather(rt, &mut taker, second);
+    inbox.gather(rt, &mut taker, first);
     inbox.close(rt, taker)
 }
 
-// Whether these are so many copies of each of three senders, those of each in its order.
+// Whether these are so many copies of each of two senders, those of each in its order.
 fn are_in_order(copies: &[RadioCopy], count: u64) -> bool {
-    let mut next = [0u64; 3];
+    let mut next = [0u64; 2];
     for copied in copies {
         let mote = usize::from(copied.sender);
-        if mote >= 3 || *copied != copy(copied.sender, next[mote]) {
+        if mote >= 2 || *copied != copy(copied.sender, next[mote]) {
             return false;
         }
         next[mote] = next[mote].wrapping_add(1);
     }
-    next == [count; 3]
+    next == [count; 2]
 }
 
 // Takes all that is known, and tells whether that is so many copies of sender 0, in order.
-fn takes_known<R: Wait>(rt: &R, inbox: &Inbox, mut taker: Taker, count: u64) -> (Taker, bool)
+fn takes_known<R: Wait>(rt: &R, inbox: &Inbox, mut taker: Taker, count: u64) -> bool
     requires { (taker.inbox ≡ inbox.now) × (taker.state.marked ≡ false) }
-    ensures { (result.0.state.marked ≡ false) × (result.0.inbox ≡ inbox.now) × (result.0.state.made ≡ taker.state.made)
-        × (result.0.state.gathered ≡ taker.state.gathered) }
 {
     let known = inbox.known(&taker);
-    let taken = match inbox.drain(rt, &mut taker, known) {
+    match inbox.drain(rt, &mut taker, known) {
         Ok(copies) => are_of(copies.as_slice(), 0, count),
         Err(_) => false,
-    };
-    (taker, taken)
+    }
 }
 
-// Takes all that is known while another thread pushes.
-fn take_beside<R: Threads + Wait + Sync>(
+// The same while another thread pushes behind that.
+fn takes_beside<R: Threads + Wait + Sync>(
     rt: &R,
     inbox: &Inbox,
     taker: Taker,
     second: Sender,
     count: u64,
-) -> ((Taker, bool), Sender)
+) -> bool
     requires { (taker.inbox ≡ inbox.now) × (taker.state.marked ≡ false) × (second.inbox ≡ inbox.now) }
-    ensures taker { (result.0.0.state.marked ≡ false) × (result.0.0.inbox ≡ inbox.now)
-        × (result.0.0.state.made ≡ taker.state.made) × (result.0.0.state.gathered ≡ taker.state.gathered) }
-    ensures second { (result.1.inbox ≡ inbox.now) × (result.1.state.number ≡ second.state.number) }
 {
-    thread::join(
+    let (_second, taken) = thread::join(
         rt,
         move ||
-            requires { (taker.inbox ≡ inbox.now) × (taker.state.marked ≡ false) }
-            ensures { (result.0.state.marked ≡ false) × (result.0.inbox ≡ inbox.entry.now)
-                × (result.0.state.made ≡ taker.state.made) × (result.0.state.gathered ≡ taker.state.gathered) }
-        { takes_known(rt, inbox, taker, count) },
-        move ||
             requires { second.inbox ≡ inbox.now }
-            ensures { (result.inbox ≡ inbox.entry.now) × (result.state.number ≡ second.state.number) }
         { push_all(rt, inbox, second, 1, count) },
-    )
-}
-
-// One sender's copies are taken while another pushes behind that. Whether those are all of that one, and what is left.
-fn while_another_pushes<R: Threads + Wait + Sync>(
-    rt: &R,
-    alloc: Global,
-    count: u64,
-) -> Result<(bool, Vec<RadioCopy>), InboxError> {
-    let (inbox, mut taker, first, second) = with_two(alloc, false)?;
-    let first = push_all(rt, &inbox, first, 0, count);
-    inbox.gather(rt, &mut taker, first);
-    let ((mut taker, taken), second) = take_beside(rt, &inbox, taker, second, count);
-    inbox.gather(rt, &mut taker, second);
-    Ok((taken, inbox.close(rt, taker)?))
+        move ||
+            requires { (taker.inbox ≡ inbox.now) × (taker.state.marked ≡ false) }
+        { takes_known(rt, inbox, taker, count) },
+    );
+    taken
 }
 
 // Whether these are so many copies of one sender, in order.
@@ -494,30 +344,31 @@ fn are_of(copies: &[RadioCopy], mote: u16, count: u64) -> bool {
     number == count
 }
 
-// Three threads push so many copies each: all come out, those of each sender in its order.
-fn three_come_out<R: Threads + Wait + Sync>(
+// Two threads push so many copies each: all come out, those of each sender in its order.
+fn two_come_out<R: Threads + Wait + Sync>(
     rt: &R,
     alloc: Global,
     count: u64,
 ) -> Result<bool, InboxError> {
-    let copies = from_three(rt, alloc, count)?;
+    let copies = from_two(rt, alloc, count)?;
     Ok(are_in_order(copies.as_slice(), count))
 }
 
 // The taker takes what it knows of one sender while another pushes behind that.
-fn both_come_out<R: Threads + Wait + Sync>(
+fn first_comes_out<R: Threads + Wait + Sync>(
     rt: &R,
     alloc: Global,
     count: u64,
 ) -> Result<bool, InboxError> {
-    let (taken, rest) = while_another_pushes(rt, alloc, count)?;
-    Ok(taken && are_of(rest.as_slice(), 1, count))
+    let (inbox, mut taker, first, second) = with_two(alloc, false)?;
+    let first = push_all(rt, &inbox, first, 0, count);
+    inbox.gather(rt, &mut taker, first);
+    Ok(takes_beside(rt, &inbox, taker, second, count))
 }
 
 /// Each thread pushes 1,000 copies.
 #[test]
 fn between_threads(rt: HostRuntime) -> Result<(), Fail> {
-    assert!(rt; three_come_out(&rt, rt.alloc(), 1000)?);
-    assert!(rt; both_come_out(&rt, rt.alloc(), 1000)?);
+    assert!(rt; two_come_out(&rt, rt.alloc(), 1000)? && first_comes_out(&rt, rt.alloc(), 1000)?);
     Ok(())
 }

@@ -1,12 +1,12 @@
 //! Kernels of whole programs, with their answers and lines worked by hand.
 
-use super::{same_text, write_lines, write_sends};
 use mote_program::read;
 use process_kernel::{Kernel, KernelError, Out, Ran};
 use program_tree::{Proc, Program};
 use radio_packet::Arrival;
 use std::alloc::Global;
 use std::test::Fail;
+use test_helpers::{same_text, write_lines, write_sends};
 
 /// A process that sends one packet.
 const SENDER: &str = "process a; autostart a; code a { body { send (self + 5); yield; } }";
@@ -149,17 +149,11 @@ fn write_acts(alloc: Global, text: &mut String, program: &str, acts: &[Act]) -> 
     Ok(())
 }
 
-/// What is written of that.
-fn trial_text(alloc: Global, program: &str, acts: &[Act]) -> Result<String, Fail> {
-    let mut text = String::new(alloc);
-    write_acts(alloc, &mut text, program, acts)?;
-    Ok(text)
-}
-
 /// Fails where something else is written of that.
 fn tells(alloc: Global, program: &str, acts: &[Act], want: &str) -> Result<(), Fail> {
-    let told = trial_text(alloc, program, acts)?;
-    same_text(told.as_str(), want)
+    let mut text = String::new(alloc);
+    write_acts(alloc, &mut text, program, acts)?;
+    same_text(text.as_str(), want)
 }
 
 /// Programs, what is done to their kernels, and what is written of that.

@@ -1,18 +1,16 @@
 //! Inboxes with marks, in one thread and in two.
 
-ghost use Rattle.std.specs.Prelude.{◌≡◌, true, [], OnOk};
-ghost use Rattle.copy_inbox.specs.Views.{make_taker_state};
+ghost use Rattle.std.specs.Prelude.{◌≡◌, true, []};
 
-use super::inbox::{
-    copy, make_again, push, push_again, sender_again, with_one, with_two, write_known,
-};
-use super::{same_text, write_copy, write_rest};
+use super::inbox::{copy, push, with_one, with_two, write_known};
+use super::write_rest;
 use copy_inbox::{Carried, Inbox, InboxError, Item, Sender, Taker};
 use std::alloc::{AllocError, Global};
 use std::sync::Wait;
 use std::test::*;
 use std::thread;
 use std::thread::Threads;
+use test_helpers::{same_text, write_copies};
 
 // Pushes a mark. Where memory is refused, it is not there to be taken.
 fn push_mark<R: Wait>(rt: &R, inbox: &Inbox, sender: &mut Sender, window: u64)
@@ -31,7 +29,7 @@ fn write_item(text: &mut String, item: Option<Item>) -> Result<(), AllocError> {
     };
     write!(text, "of {} ", item.sender)?;
     match item.what {
-        Carried::Packet(copied) => write_copy(text, &copied),
+        Carried::Packet(copied) => write_copies(text, &[copied]),
         Carried::Mark(window) => write!(text, "mark {window}|"),
     }
 }
@@ -176,71 +174,6 @@ fn items_one_by_one(rt: HostRuntime) -> Result<(), Fail> {
         "of 0 5 1 0 7 9|of 0 mark 0|of 1 mark 0|none|known marks|known 0|known 3|of 0 mark 0|known 2|of 0 5 1 0 0 9|\
          of 0 mark 1|none|known 0|no marks|none|of 1 5 1 1 0 9|of 0 5 1 0 0 9|none|",
     )
-}
-
-// Pushes a mark. Where memory is refused, what comes back is pushed.
-fn push_mark_again<R: Wait>(rt: &R, inbox: &Inbox, sender: &mut Sender, window: u64)
-    requires inbox { sender.old.inbox ≡ inbox.now }
-    requires marked { sender.old.state.marked ≡ true }
-    ensures { (sender.new.inbox ≡ inbox.now) × (sender.new.state.marked ≡ true) }
-{
-    if let Err(back) = inbox.push_mark(rt, sender, window) {
-        push_mark(rt, inbox, sender, back);
-    }
-}
-
-// Pushes so many windows of a copy and a mark each.
-fn push_windows_again<R: Wait>(rt: &R, inbox: &Inbox, mut sender: Sender, windows: u64) -> Sender
-    requires inbox { sender.inbox ≡ inbox.now }
-    requires marked { sender.state.marked ≡ true }
-    ensures { result.inbox ≡ inbox.now }
-{
-    for window in 0..windows {
-        push_again(rt, inbox, &mut sender, copy(0, window));
-        push_mark_again(rt, inbox, &mut sender, window);
-    }
-    sender
-}
-
-// Whether so many windows of a copy and a mark each are taken.
-fn takes_windows<R: Wait>(rt: &R, inbox: &Inbox, taker: &mut Taker, windows: u64) -> bool
-    requires { taker.old.inbox ≡ inbox.now }
-    ensures { taker.new.inbox ≡ inbox.now }
-{
-    for window in 0..windows {
-        let packet = Item {
-            sender: 0,
-            what: Carried::Packet(copy(0, window)),
-        };
-        let mark = Item {
-            sender: 0,
-            what: Carried::Mark(window),
-        };
-        if inbox.take_next(rt, taker) != Some(packet) || inbox.take_next(rt, taker) != Some(mark) {
-            return false;
-        }
-    }
-    true
-}
-
-// Whether the copies and marks of 35 windows are known, are taken in order, and are all.
-fn gives_all_windows<R: Wait>(rt: &R, alloc: Global) -> Result<[bool; 3], InboxError> {
-    let (inbox, mut taker) = make_again(alloc, true)?;
-    let sender = sender_again(&inbox, &mut taker)?;
-    // More than two of the queue's blocks.
-    let sender = push_windows_again(rt, &inbox, sender, 35);
-    inbox.gather(rt, &mut taker, sender);
-    let known = inbox.known(&taker) == 70;
-    let taken = takes_windows(rt, &inbox, &mut taker, 35);
-    Ok([known, taken, inbox.known(&taker) == 0])
-}
-
-/// Where one allocation is refused, the copy or mark that comes back is pushed again, and all is as if it hadn't been.
-/// With ample memory no call is refused; each allocation of this test was made to fail in turn.
-#[test]
-fn each_allocation_refused_of_marks(rt: HostRuntime) -> Result<(), Fail> {
-    assert!(rt; gives_all_windows(&rt, rt.alloc())? == [true; 3]);
-    Ok(())
 }
 
 // Pushes three copies and the mark of a window.

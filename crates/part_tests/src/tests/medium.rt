@@ -2,11 +2,11 @@
 
 ghost use Rattle.std.specs.Prelude.{◌≡◌, ◌≤◌, ◌<◌, length, IfOk};
 
-use super::{same_text, write_copies};
 use radio_medium::{Loss, Medium, MediumError, Place};
 use radio_packet::Sent;
 use std::alloc::{AllocError, Global};
 use std::test::Fail;
+use test_helpers::{same_text, write_copies};
 
 /// Writes down what becomes of the copies of a packet.
 fn write_fates(text: &mut String, medium: &Medium, sent: &Sent) -> Result<(), AllocError>

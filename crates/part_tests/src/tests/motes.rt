@@ -1,6 +1,6 @@
 //! Turns of motes, with their lines worked by hand.
 
-use super::{PRINT_THEN_YIELD, same_text, write_lines, write_sends};
+use super::PRINT_THEN_YIELD;
 use mote_node::{Mote, MoteError, TurnOut};
 use mote_program::read;
 use process_kernel::KernelError;
@@ -8,6 +8,7 @@ use program_tree::Program;
 use radio_packet::Arrival;
 use std::alloc::{AllocError, Global};
 use std::test::Fail;
+use test_helpers::{same_text, write_lines, write_sends};
 
 /// A mote with its program.
 struct Bench {
@@ -42,14 +43,12 @@ struct Turn {
 }
 
 /// A turn at which nothing arrives.
-const fn quiet(moment: u16) -> Turn {
-    Turn {
-        moment,
-        packets: 0,
-        sender: 0,
-        value: 0,
-    }
-}
+const QUIET: Turn = Turn {
+    moment: 0,
+    packets: 0,
+    sender: 0,
+    value: 0,
+};
 
 /// The packets that arrive at a turn.
 fn arrivals(alloc: Global, turn: Turn) -> Result<Vec<Arrival>, AllocError> {
@@ -118,13 +117,6 @@ fn write_turns(
     Ok(())
 }
 
-/// What is written of that.
-fn trial_text(alloc: Global, number: u16, program: &str, turns: &[Turn]) -> Result<String, Fail> {
-    let mut text = String::new(alloc);
-    write_turns(alloc, &mut text, number, program, turns)?;
-    Ok(text)
-}
-
 /// Fails where something else is written of that.
 fn tells(
     alloc: Global,
@@ -133,20 +125,15 @@ fn tells(
     turns: &[Turn],
     want: &str,
 ) -> Result<(), Fail> {
-    let told = trial_text(alloc, number, program, turns)?;
-    same_text(told.as_str(), want)
+    let mut text = String::new(alloc);
+    write_turns(alloc, &mut text, number, program, turns)?;
+    same_text(text.as_str(), want)
 }
 
 /// A turn at a moment that isn't above the last turn's is refused, and the next one that is above it isn't.
 const PAST_TURN: &str =
     "Some(0)|0 Start(Etimer)|0 Start(Ctimer)|0 Start(Radio)|0 Start(Own(0))|0 Print(Own(0), 1)|\
      wake None|None|Past|None|wake None|None|";
-
-#[test]
-fn past_turn(rt: HostRuntime) -> Result<(), Fail> {
-    let turns = [quiet(0), quiet(0), quiet(1)];
-    tells(rt.alloc(), 7, PRINT_THEN_YIELD, &turns, PAST_TURN)
-}
 
 /// A program without a receiver is deaf to the packet of mote 4.
 const DEAF: &str =
@@ -170,25 +157,51 @@ const SENT: &str =
     "Some(0)|0 Start(Etimer)|0 Start(Ctimer)|0 Start(Radio)|0 Start(Own(0))|0 Send(0, 5)|\
      0 Leave(Own(0))|sent 0 0 0 5|wake None|None|";
 
-/// A mote that prints, one that receives, and one that sends.
+/// The numbers of motes, their programs and turns, and what is written of them.
+const CASES: [(u16, &str, &[Turn], &str); 4] = [
+    (
+        7,
+        PRINT_THEN_YIELD,
+        &[QUIET, QUIET, Turn { moment: 1, ..QUIET }],
+        PAST_TURN,
+    ),
+    (
+        0,
+        PRINT_THEN_YIELD,
+        &[
+            QUIET,
+            Turn {
+                moment: 2,
+                packets: 1,
+                sender: 4,
+                value: 9,
+            },
+        ],
+        DEAF,
+    ),
+    (
+        1,
+        RECEIVER,
+        &[
+            QUIET,
+            Turn {
+                moment: 3,
+                packets: 9,
+                ..QUIET
+            },
+        ],
+        NINE,
+    ),
+    (0, SENDER, &[QUIET], SENT),
+];
+
+/// Motes that print, one that receives, and one that sends.
 #[test]
 fn mote_by_hand(rt: HostRuntime) -> Result<(), Fail> {
-    let alloc = rt.alloc();
-    let heard = Turn {
-        moment: 2,
-        packets: 1,
-        sender: 4,
-        value: 9,
-    };
-    let nine = Turn {
-        moment: 3,
-        packets: 9,
-        sender: 0,
-        value: 0,
-    };
-    tells(alloc, 0, PRINT_THEN_YIELD, &[quiet(0), heard], DEAF)?;
-    tells(alloc, 1, RECEIVER, &[quiet(0), nine], NINE)?;
-    tells(alloc, 0, SENDER, &[quiet(0)], SENT)
+    for (number, program, turns, want) in CASES {
+        tells(rt.alloc(), number, program, turns, want)?;
+    }
+    Ok(())
 }
 
 /// The numbers by which the errors of motes and of kernels are told.

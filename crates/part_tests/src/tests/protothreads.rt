@@ -2,12 +2,12 @@
 
 ghost use Rattle.std.specs.Prelude.{[], ◌∷◌};
 
-use super::same_text;
 use mote_program::read;
 use program_tree::{Event, ProcessText};
-use protothread::{Fuel, Look, Op, Part, PtState, Semaphore, Step, Thread, Vars};
+use protothread::{Fuel, Look, Part, PtState, Semaphore, Step, Thread, Vars};
 use std::alloc::{AllocError, Global};
 use std::test::Fail;
+use test_helpers::same_text;
 
 /// One fixed state of a mote: one timer that nobody owns, one process that runs, and one semaphore.
 #[derive(Clone, Copy)]
@@ -137,27 +137,33 @@ fn write_acts(
     Ok(())
 }
 
-/// What is written of that.
-fn trial_text(alloc: Global, program: &str, units: u32, acts: &[Act]) -> Result<String, Fail> {
-    let program = read(alloc, program)?;
+/// Fails where something else is written of that.
+fn code_tells(
+    alloc: Global,
+    code: &ProcessText,
+    units: u32,
+    acts: &[Act],
+    want: &str,
+) -> Result<(), Fail> {
     let mut text = String::new(alloc);
-    if program.processes() > 0 {
-        write_acts(&mut text, program.process(0), units, acts)?;
-    }
-    Ok(text)
+    write_acts(&mut text, code, units, acts)?;
+    same_text(text.as_str(), want)
 }
 
-/// Fails where something else is written of that.
+/// The same of a program's first process.
 fn tells(alloc: Global, program: &str, units: u32, acts: &[Act], want: &str) -> Result<(), Fail> {
-    let told = trial_text(alloc, program, units, acts)?;
-    same_text(told.as_str(), want)
+    let program = read(alloc, program)?;
+    if program.processes() == 0 {
+        return Err(Fail::new(format_args!("no process")));
+    }
+    code_tells(alloc, program.process(0), units, acts, want)
 }
 
 /// CONTINUE of `process.h`, with a word.
 const GO_ON: Act = Act::Event(0x85, 3);
 
 /// Programs with their units, what is done with them, and what is written of that.
-const CASES: [(&str, u32, &[Act], &str); 13] = [
+const CASES: [(&str, u32, &[Act], &str); 14] = [
     // From wait to wait.
     (
         "process a; code a { body { print 1; yield; print 2; } }",
@@ -268,6 +274,19 @@ const CASES: [(&str, u32, &[Act], &str); 13] = [
         ],
         "Done(Ended) 10|Done(Ended) 10|Op(Print(5)) 9|Op(Print(6)) 8|Op(Print(7)) 7|",
     ),
+    // Values are of 16 bits, and each expression takes one unit.
+    (
+        "process a; code a { body { print (65535 + 2); print (1 - 2); print (257 * 256); print (7 / 2); print (7 / \
+         0); print (7 % 4); print (7 % 0); print (2 == 2); print (2 != 2); print (2 < 3); print (3 <= 2); print (3 \
+         > 3); print (3 >= 3); print (2 && 4); print (2 && 0); print (0 || 4); print (0 || 0); print !0; print !5; \
+         print data; print from; print now; print self; } }",
+        23,
+        &[Act::Event(0x86, 258); 23],
+        "Op(Print(1)) 22|Op(Print(65535)) 21|Op(Print(256)) 20|Op(Print(3)) 19|Op(Print(0)) 18|Op(Print(3)) 17|\
+         Op(Print(0)) 16|Op(Print(1)) 15|Op(Print(0)) 14|Op(Print(1)) 13|Op(Print(0)) 12|Op(Print(0)) 11|\
+         Op(Print(1)) 10|Op(Print(1)) 9|Op(Print(0)) 8|Op(Print(1)) 7|Op(Print(0)) 6|Op(Print(1)) 5|Op(Print(0)) 4|\
+         Op(Print(258)) 3|Op(Print(3)) 2|Op(Print(5)) 1|Op(Print(9)) 0|",
+    ),
 ];
 
 /// What threads do, call by call.
@@ -289,67 +308,6 @@ fn states_have_their_numbers(rt: HostRuntime) {
     ] {
         assert!(rt; state.number() == number && state.scheduled() == scheduled);
     }
-}
-
-/// What a thread of the body prints at once, for the only unit that it has.
-fn printed(code: &ProcessText) -> Option<u16> {
-    let mut bench = Bench {
-        thread: Thread::fresh(Part::Body),
-        vars: Vars::new(code),
-        fuel: Fuel::new(1),
-    };
-    match bench.advance(code, 0x86, 258) {
-        Step::Op(Op::Print(value)) if bench.fuel.left() == 0 => Some(value),
-        _ => None,
-    }
-}
-
-/// The value of an expression, as it is printed.
-fn value_of(alloc: Global, expression: &str) -> Result<Option<u16>, Fail> {
-    let text = format!(in alloc; "process a; code a {{ body {{ print {expression}; }} }}")?;
-    let program = read(alloc, text.as_str())?;
-    if program.processes() == 0 {
-        return Ok(None);
-    }
-    Ok(printed(program.process(0)))
-}
-
-/// Expressions with their values.
-const VALUES: [(&str, u16); 23] = [
-    ("(65535 + 2)", 1),
-    ("(1 - 2)", 65_535),
-    ("(257 * 256)", 256),
-    ("(7 / 2)", 3),
-    ("(7 / 0)", 0),
-    ("(7 % 4)", 3),
-    ("(7 % 0)", 0),
-    ("(2 == 2)", 1),
-    ("(2 != 2)", 0),
-    ("(2 < 3)", 1),
-    ("(3 <= 2)", 0),
-    ("(3 > 3)", 0),
-    ("(3 >= 3)", 1),
-    ("(2 && 4)", 1),
-    ("(2 && 0)", 0),
-    ("(0 || 4)", 1),
-    ("(0 || 0)", 0),
-    ("!0", 1),
-    ("!5", 0),
-    ("data", 258),
-    ("from", 3),
-    ("now", 5),
-    ("self", 9),
-];
-
-#[test]
-fn values_are_of_16_bits(rt: HostRuntime) -> Result<(), Fail> {
-    for (expression, value) in VALUES {
-        assert!(rt;
-            value_of(rt.alloc(), expression)? == Some(value),
-            "{expression}"
-        );
-    }
-    Ok(())
 }
 
 #[test]

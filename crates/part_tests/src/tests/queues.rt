@@ -2,11 +2,11 @@
 
 ghost use Rattle.std.specs.Prelude.{◌≡◌, ◌+◌, ◌<◌, ◌≤◌};
 
-use super::same_text;
 use event_queue::{EventQueue, Full};
 use program_tree::{Event, Target};
 use std::alloc::{AllocError, Global};
 use std::test::Fail;
+use test_helpers::same_text;
 
 const EVENT: Event = Event {
     number: 139,
@@ -36,20 +36,22 @@ fn write_answers(text: &mut String, queue: &mut EventQueue) -> Result<(), AllocE
     write!(text, "{first:?} {second:?} {taken:?} {third:?}")
 }
 
-/// What is written of a queue with room for one event.
-fn trial_text(alloc: Global) -> Result<String, Fail> {
+/// Fails where something else is written of that.
+fn tells(alloc: Global, queue: &mut EventQueue, want: &str) -> Result<(), Fail>
+    requires { queue.old.accepted ≡ 0 }
+{
     let mut text = String::new(alloc);
-    let mut queue = EventQueue::new(alloc, 1)?;
-    write_answers(&mut text, &mut queue)?;
-    Ok(text)
+    write_answers(&mut text, queue)?;
+    same_text(text.as_str(), want)
 }
 
-/// Serials count what was accepted: a refused event has none.
+/// A queue with room for one event. Serials count what was accepted: a refused event has none.
 #[test]
 fn small_parts(rt: HostRuntime) -> Result<(), Fail> {
-    let told = trial_text(rt.alloc())?;
-    same_text(
-        told.as_str(),
+    let mut queue = EventQueue::new(rt.alloc(), 1)?;
+    tells(
+        rt.alloc(),
+        &mut queue,
         "Ok(0) Err(Full) Some(Posted { serial: 0, target: All, event: Event { \
          number: 139, word: 7, sender: 0 } }) Ok(1)",
     )

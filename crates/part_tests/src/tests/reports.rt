@@ -2,7 +2,6 @@
 
 ghost use Rattle.std.specs.Prelude.{◌≡◌, IfOk, vec_len};
 
-use super::same_text;
 use net_report::{LogLine, Report};
 use net_scenario::{Net, read_scenario};
 use process_kernel::{Line, What};
@@ -11,6 +10,7 @@ use radio_packet::{Fate, Sent};
 use std::alloc::{AllocError, Global};
 use std::str;
 use std::test::Fail;
+use test_helpers::same_text;
 use trace_printer::write_report;
 
 /// One mote, whose program has two events and two processes.
@@ -31,19 +31,12 @@ const ALL: Target = Target::All;
 
 const TO_A: Target = Target::One(A);
 
-fn line(at: u64, what: What) -> Line {
-    Line { at, what }
-}
-
 /// The report of one mote with this trace.
-pub(crate) fn report_of_one(alloc: Global, trace: &[Line]) -> Result<Report, AllocError>
+pub(crate) fn report_of_trace(alloc: Global, trace: Vec<Line>) -> Result<Report, AllocError>
     ensures { IfOk result (λ r. vec_len r.traces ≡ 1) }
 {
-    let trace = Vec::from_slice(alloc, trace)?;
-    let mut traces = Vec::new(alloc);
-    traces.push(trace)?;
     Ok(Report {
-        traces,
+        traces: vec![in alloc; trace]?,
         medium: Vec::new(alloc),
         left: 0,
     })
@@ -61,17 +54,20 @@ fn same_bytes(told: &[u8], want: &str) -> Result<(), Fail> {
 fn lines_of(alloc: Global, happens: &[(u64, What)]) -> Result<Vec<Line>, AllocError> {
     let mut lines = Vec::new(alloc);
     for (at, what) in happens {
-        lines.push(line(*at, *what))?;
+        lines.push(Line {
+            at: *at,
+            what: *what,
+        })?;
     }
     Ok(lines)
 }
 
 /// The report of one mote in which this happens.
-fn report_of(alloc: Global, happens: &[(u64, What)]) -> Result<Report, AllocError>
+pub(crate) fn report_of(alloc: Global, happens: &[(u64, What)]) -> Result<Report, AllocError>
     ensures { IfOk result (λ r. vec_len r.traces ≡ 1) }
 {
-    let lines = lines_of(alloc, happens)?;
-    report_of_one(alloc, lines.as_slice())
+    let trace = lines_of(alloc, happens)?;
+    report_of_trace(alloc, trace)
 }
 
 /// Writes the report of one mote in which this happens, behind what is written.
@@ -138,19 +134,22 @@ fn write_kinds(alloc: Global, net: &Net, output: &mut Vec<u8>) -> Result<(), Fai
     Ok(())
 }
 
-/// The traces of a mote that halts and one that ends.
+/// What happens to a mote that halts.
+const FIRST_TRACE: [(u64, What); 2] = [(0, What::Start(A)), (0, What::Halt)];
+
+/// What happens to one that ends.
+const SECOND_TRACE: [(u64, What); 3] = [
+    (0, What::Print(A, 65535)),
+    (1_000_000, What::Leave(A)),
+    (1_000_000, What::Leave(Proc::Radio)),
+];
+
+/// Their traces.
 fn two_traces(alloc: Global) -> Result<Vec<Vec<Line>>, AllocError>
     ensures { IfOk result (λ traces. vec_len traces ≡ 2) }
 {
-    let first = Vec::from_slice(alloc, &[line(0, What::Start(A)), line(0, What::Halt)])?;
-    let second = Vec::from_slice(
-        alloc,
-        &[
-            line(0, What::Print(A, 65535)),
-            line(1000000, What::Leave(A)),
-            line(1000000, What::Leave(Proc::Radio)),
-        ],
-    )?;
+    let first = lines_of(alloc, &FIRST_TRACE)?;
+    let second = lines_of(alloc, &SECOND_TRACE)?;
     Ok(vec![in alloc; first, second]?)
 }
 
@@ -159,23 +158,27 @@ fn log_line(alloc: Global, sent: Sent, fates: &[Fate]) -> Result<LogLine, AllocE
     Ok(LogLine { sent, fates })
 }
 
-/// A packet with a copy that arrives and one that is lost, and a packet that nobody hears.
+/// A packet with a copy that arrives and one that is lost.
+const HEARD: Sent = Sent {
+    at: 2,
+    sender: 1,
+    number: 0,
+    value: 9,
+};
+
+const HEARD_FATES: [Fate; 2] = [Fate { to: 0, at: Some(5) }, Fate { to: 3, at: None }];
+
+/// A packet that nobody hears.
+const UNHEARD: Sent = Sent {
+    at: 7,
+    sender: 0,
+    number: 40,
+    value: 65535,
+};
+
 fn two_packets(alloc: Global) -> Result<Vec<LogLine>, AllocError> {
-    let heard = Sent {
-        at: 2,
-        sender: 1,
-        number: 0,
-        value: 9,
-    };
-    let unheard = Sent {
-        at: 7,
-        sender: 0,
-        number: 40,
-        value: 65535,
-    };
-    let fates = [Fate { to: 0, at: Some(5) }, Fate { to: 3, at: None }];
-    let first = log_line(alloc, heard, &fates)?;
-    let second = log_line(alloc, unheard, &[])?;
+    let first = log_line(alloc, HEARD, &HEARD_FATES)?;
+    let second = log_line(alloc, UNHEARD, &[])?;
     Ok(vec![in alloc; first, second]?)
 }
 

@@ -2,7 +2,6 @@
 
 ghost use Rattle.std.specs.Prelude.{◌≡◌, ◌+◌, ◌^◌, ◌%◌};
 
-use super::same_text;
 use fork_join::{Refused, Work, fork_join};
 use std::alloc::{AllocError, Global};
 use std::sync::Wait;
@@ -10,6 +9,7 @@ use std::sync::atomic::AtomicU64;
 use std::sync::atomic::Ordering::SeqCst;
 use std::test::Fail;
 use std::thread::Threads;
+use test_helpers::same_text;
 
 /// Adds ten to the number of each worker, but gives up at some, and lets one not start.
 struct AddTen {

@@ -3,7 +3,7 @@
 ghost use Rattle.std.specs.Prelude.{◌≡◌, IfOk, length, vec_len};
 ghost use Rattle.mote_net.specs.Net.{net_of};
 
-use super::reports::report_of_one;
+use super::reports::{report_of, report_of_trace};
 use net_report::Report;
 use net_scenario::{Net, read_scenario};
 use process_kernel::{Line, What};
@@ -12,15 +12,10 @@ use std::alloc::{AllocError, Global};
 use std::io;
 use std::io::Write;
 use std::test::Fail;
+use test_helpers::PRINT_THEN_YIELD;
 use trace_printer::{PrintError, write_report};
 
-/// One mote, whose process prints and then yields for ever.
-const PRINT_THEN_YIELD: &str =
-    "version = 1\nend = 5\n[medium]\nrange = 10\nbase = 1\nper = 100\n[programs]\n\
-     p = \"process a; autostart a; code a { body { print 1; yield; print 2; } }\"\n\
-     [[mote]]\nx = 0\ny = 0\nprogram = \"p\"\n";
-
-/// What its run reports behind the starts of the system processes.
+/// What the run of `PRINT_THEN_YIELD` reports behind the starts of the system processes.
 const OUTPUT: &str = "mote 0 p\n0 start a\n0 print a 1\nmedium\nleft 0\n";
 
 /// How many lines the trace of many lines has.
@@ -80,19 +75,30 @@ fn gets(alloc: Global, net: &Net, report: &Report, wanted: &[u8], most: usize, r
     told == answer && bytes.len() == room && wanted.starts_with(bytes)
 }
 
-/// What the run of `PRINT_THEN_YIELD` reports behind the starts of the system processes.
-fn report_alone(alloc: Global) -> Result<Report, AllocError>
-    ensures { IfOk result (λ r. vec_len r.traces ≡ 1) }
+/// The same where so many bytes of room are lacking.
+fn gets_each(
+    alloc: Global,
+    net: &Net,
+    report: &Report,
+    wanted: &[u8],
+    most: usize,
+    lacks: &[usize],
+) -> bool
+    requires { vec_len report.now.traces ≡ length (net_of net.now).motes }
 {
-    let start = Line {
-        at: 0,
-        what: What::Start(Proc::Own(0)),
-    };
-    let print = Line {
-        at: 0,
-        what: What::Print(Proc::Own(0), 1),
-    };
-    report_of_one(alloc, &[start, print])
+    for lack in lacks {
+        if !gets(
+            alloc,
+            net,
+            report,
+            wanted,
+            most,
+            wanted.len().saturating_sub(*lack),
+        ) {
+            return false;
+        }
+    }
+    true
 }
 
 /// Whether a writer that takes nothing is told to have failed.
@@ -107,28 +113,30 @@ fn takes_nothing(alloc: Global, net: &Net, report: &Report) -> bool
     write_report(alloc, net, report, &mut closed) == Err(PrintError::Write)
 }
 
-/// Fails where a writer that takes one byte a call gets something else, whatever room it has, and where one that takes
-/// nothing isn't told to have failed.
-fn byte_by_byte(alloc: Global, net: &Net, report: &Report) -> Result<(), Fail>
+/// Whether a writer that takes one byte a call gets as much of the report of few lines as it has room for.
+fn gets_byte_by_byte(alloc: Global, net: &Net, report: &Report) -> bool
     requires { vec_len report.now.traces ≡ length (net_of net.now).motes }
 {
     for room in 0..=OUTPUT.len() {
         if !gets(alloc, net, report, OUTPUT.as_bytes(), 1, room) {
-            return Err(Fail::new(format_args!("after {room} calls")));
+            return false;
         }
     }
-    if takes_nothing(alloc, net, report) {
-        return Ok(());
-    }
-    Err(Fail::new(format_args!("where nothing is taken")))
+    true
 }
 
-/// Fails where a report of few lines isn't written so.
-fn few_lines(alloc: Global, net: &Net) -> Result<(), Fail>
+/// What the run of `PRINT_THEN_YIELD` does behind the starts of the system processes.
+const FEW: [(u64, What); 2] = [
+    (0, What::Start(Proc::Own(0))),
+    (0, What::Print(Proc::Own(0), 1)),
+];
+
+/// Whether the report of few lines is written so, and a writer that takes nothing is told.
+fn few_lines(alloc: Global, net: &Net) -> Result<bool, AllocError>
     requires { length (net_of net.now).motes ≡ 1 }
 {
-    let report = report_alone(alloc)?;
-    byte_by_byte(alloc, net, &report)
+    let report = report_of(alloc, &FEW)?;
+    Ok(gets_byte_by_byte(alloc, net, &report) && takes_nothing(alloc, net, &report))
 }
 
 fn sends(alloc: Global) -> Result<Vec<Line>, AllocError> {
@@ -142,11 +150,12 @@ fn sends(alloc: Global) -> Result<Vec<Line>, AllocError> {
     Ok(trace)
 }
 
+/// The report of one mote that sends so often.
 fn report_of_sends(alloc: Global) -> Result<Report, AllocError>
     ensures { IfOk result (λ r. vec_len r.traces ≡ 1) }
 {
     let trace = sends(alloc)?;
-    report_of_one(alloc, trace.as_slice())
+    report_of_trace(alloc, trace)
 }
 
 /// Writes the text of that report.
@@ -159,42 +168,30 @@ fn write_wanted(text: &mut String) -> Result<(), AllocError> {
     text.push_str("medium\nleft 0\n")
 }
 
-/// Fails where a writer that takes 1,000 bytes a call gets something else, whether it lacks room or not.
-fn page_by_page(alloc: Global, net: &Net, report: &Report, wanted: &[u8]) -> Result<(), Fail>
-    requires { vec_len report.now.traces ≡ length (net_of net.now).motes }
-{
-    for lacks in [0usize, 1, 2, 65_536, 200_000] {
-        let room = wanted.len().saturating_sub(lacks);
-        if !gets(alloc, net, report, wanted, 1_000, room) {
-            return Err(Fail::new(format_args!("{lacks}")));
-        }
-    }
-    Ok(())
-}
+/// How many bytes of room are lacking for the report of many lines.
+const LACKS: [usize; 5] = [0, 1, 2, 65_536, 200_000];
 
-/// Fails where the report of many lines isn't written as this text.
-fn are_written(alloc: Global, net: &Net, wanted: &str) -> Result<(), Fail>
+/// Whether a writer that takes 1,000 bytes a call gets as much of this report as it has room for.
+fn many_lines(alloc: Global, net: &Net, wanted: &str) -> Result<bool, AllocError>
     requires { length (net_of net.now).motes ≡ 1 }
 {
     let report = report_of_sends(alloc)?;
-    page_by_page(alloc, net, &report, wanted.as_bytes())
-}
-
-fn many_lines(alloc: Global, net: &Net) -> Result<(), Fail>
-    requires { length (net_of net.now).motes ≡ 1 }
-{
-    let mut text = String::new(alloc);
-    write_wanted(&mut text)?;
-    are_written(alloc, net, text.as_str())
+    Ok(gets_each(alloc, net, &report, wanted.as_bytes(), 1_000, &LACKS))
 }
 
 /// Fails where a writer of the report of the only mote of a net isn't treated so.
-fn few_and_many(alloc: Global, net: &Net) -> Result<(), Fail> {
-    if net.motes() != 1 {
-        return Err(Fail::new(format_args!("not one mote")));
+fn few_and_many(alloc: Global, net: &Net, wanted: &str) -> Result<(), Fail> {
+    if net.motes() == 1 && few_lines(alloc, net)? && many_lines(alloc, net, wanted)? {
+        return Ok(());
     }
-    few_lines(alloc, net)?;
-    many_lines(alloc, net)
+    Err(Fail::new(format_args!("otherwise")))
+}
+
+/// The same of a net that has one.
+fn gets_written(alloc: Global, net: &Net) -> Result<(), Fail> {
+    let mut text = String::new(alloc);
+    write_wanted(&mut text)?;
+    few_and_many(alloc, net, text.as_str())
 }
 
 #[test]
@@ -202,5 +199,5 @@ fn writers_with_little_room(rt: HostRuntime) -> Result<(), Fail> {
     let numbers = [PrintError::Write.number(), PrintError::Memory.number()];
     assert!(rt; numbers == [1, 2]);
     let net = read_scenario(rt.alloc(), PRINT_THEN_YIELD)?;
-    few_and_many(rt.alloc(), &net)
+    gets_written(rt.alloc(), &net)
 }

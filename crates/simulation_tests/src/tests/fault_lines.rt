@@ -1,6 +1,6 @@
 //! What the program writes and answers where a stream fails, and for the faults of a run.
 
-use super::{PRINT_THEN_YIELD, Sink, Source, front_of, same_text};
+use super::{PRINT_THEN_YIELD, Sink, Source, front_of};
 use simulation::{RunError, SimError, run_command, status_of};
 use std::alloc::{AllocError, Global};
 use std::random::RandomSource;
@@ -8,6 +8,7 @@ use std::rt::Files;
 use std::sync::Wait;
 use std::test::Fail;
 use std::thread::Threads;
+use test_helpers::same_text;
 
 /// Writes down ASCII bytes.
 fn write_bytes(text: &mut String, bytes: &[u8]) -> Result<(), AllocError> {
@@ -25,27 +26,24 @@ fn write_fault(alloc: Global, text: &mut String, fault: RunError) -> Result<(), 
     write_bytes(text, &errors.bytes)
 }
 
-/// What is written down of all faults of a run.
-fn faults_told(alloc: Global) -> Result<String, AllocError> {
-    let mut text = String::new(alloc);
-    for fault in [
-        RunError::Workers,
-        RunError::CutLength,
-        RunError::CutWorker,
-        RunError::Memory,
-        RunError::Thread,
-        RunError::Stopped,
-    ] {
-        write_fault(alloc, &mut text, fault)?;
-    }
-    Ok(text)
-}
+/// The faults of a run.
+const FAULTS: [RunError; 6] = [
+    RunError::Workers,
+    RunError::CutLength,
+    RunError::CutWorker,
+    RunError::Memory,
+    RunError::Thread,
+    RunError::Stopped,
+];
 
 #[test]
 fn faults_of_the_run(rt: HostRuntime) -> Result<(), Fail> {
-    let told = faults_told(rt.alloc())?;
+    let mut text = String::new(rt.alloc());
+    for fault in FAULTS {
+        write_fault(rt.alloc(), &mut text, fault)?;
+    }
     same_text(
-        told.as_str(),
+        text.as_str(),
         "\
             1 motesim: run fault 1\n1 motesim: run fault 2\n1 motesim: run fault 3\n1 motesim: out of memory\n\
             1 motesim: run fault 5\n1 motesim: run fault 6\n",
@@ -56,7 +54,7 @@ fn faults_of_the_run(rt: HostRuntime) -> Result<(), Fail> {
 /// these two fail or take nothing then.
 #[derive(Clone, Copy)]
 struct Streams<'a> {
-    scenario: &'a [u8],
+    scenario: &'a str,
     reads: usize,
     writes: usize,
     lines: usize,
@@ -69,7 +67,7 @@ where
     T: AllocGlobal + Files + Threads + Wait + RandomSource + Sync,
 {
     let mut input = Source {
-        rest: streams.scenario,
+        rest: streams.scenario.as_bytes(),
         most: 16,
         calls: streams.reads,
     };
@@ -82,8 +80,8 @@ where
     text.push('|')
 }
 
-/// What is written down of some runs of the program.
-fn commands_told<T>(rt: &T, runs: &[Streams]) -> Result<String, AllocError>
+/// Fails where something else is written down of some runs of the program.
+fn commands_tell<T>(rt: &T, runs: &[Streams], want: &str) -> Result<(), Fail>
 where
     T: AllocGlobal + Files + Threads + Wait + RandomSource + Sync,
 {
@@ -91,44 +89,49 @@ where
     for streams in runs {
         write_command(rt, &mut text, *streams)?;
     }
-    Ok(text)
+    same_text(text.as_str(), want)
 }
+
+/// Streams that are whole.
+const WHOLE: Streams<'static> = Streams {
+    scenario: test_helpers::PRINT_THEN_YIELD,
+    reads: usize::MAX,
+    writes: usize::MAX,
+    lines: usize::MAX,
+    fails: true,
+};
+
+/// The same, whose writers take nothing in the place of failing.
+const TAKES_NONE: Streams<'static> = Streams {
+    fails: false,
+    ..WHOLE
+};
+
+/// The same of an empty scenario.
+const EMPTY: Streams<'static> = Streams {
+    scenario: "",
+    ..TAKES_NONE
+};
 
 /// The input fails; the output fails, or takes nothing; a fault's line can't be written, as a whole or from some place
 /// on.
+const FAILING: [Streams<'static>; 6] = [
+    WHOLE,
+    Streams { reads: 3, ..WHOLE },
+    Streams { writes: 7, ..WHOLE },
+    Streams {
+        writes: 7,
+        ..TAKES_NONE
+    },
+    Streams { lines: 0, ..EMPTY },
+    Streams { lines: 7, ..EMPTY },
+];
+
 #[test]
 fn failing_streams(rt: HostRuntime) -> Result<(), Fail> {
-    let whole = Streams {
-        scenario: PRINT_THEN_YIELD.scenario,
-        reads: usize::MAX,
-        writes: usize::MAX,
-        lines: usize::MAX,
-        fails: true,
-    };
-    let takes_none = Streams {
-        fails: false,
-        ..whole
-    };
-    let empty = Streams {
-        scenario: b"",
-        ..takes_none
-    };
-    let told = commands_told(
+    commands_tell(
         &rt,
-        &[
-            whole,
-            Streams { reads: 3, ..whole },
-            Streams { writes: 7, ..whole },
-            Streams {
-                writes: 7,
-                ..takes_none
-            },
-            Streams { lines: 0, ..empty },
-            Streams { lines: 7, ..empty },
-        ],
-    )?;
-    same_text(
-        told.as_str(),
+        &FAILING,
         "\
             0 Some(89) |1 Some(0) motesim: read fault\n|1 Some(7) motesim: write fault\n\
             |1 Some(7) motesim: write fault\n|1 Some(0) |1 Some(0) motesim|",

@@ -1,6 +1,6 @@
 //! What the words of the command line ask for.
 
-use super::{Sink, Source, TWO_SENDERS, Watch, front_of, same_text, write_answer};
+use super::{Sink, Source, TWO_SENDERS, Watch, front_of, write_answer};
 use simulation::{asked_by, simulate_asked};
 use std::alloc::{AllocError, Global};
 use std::random::RandomSource;
@@ -8,6 +8,7 @@ use std::rt::Files;
 use std::sync::Wait;
 use std::test::Fail;
 use std::thread::Threads;
+use test_helpers::same_text;
 
 /// Writes down what these words ask for: the file, the number of workers, the cut, and how workers wait for one
 /// another.
@@ -23,34 +24,28 @@ fn write_asked(alloc: Global, text: &mut String, words: &[&str]) -> Result<(), A
     )
 }
 
-/// What is written down of these command lines.
-fn asked_of(alloc: Global, lines: &[&[&str]]) -> Result<String, AllocError> {
-    let mut text = String::new(alloc);
-    for words in lines {
-        write_asked(alloc, &mut text, words)?;
-    }
-    Ok(text)
-}
+/// Command lines.
+const ASKED: [&[&str]; 10] = [
+    &["motesim"],
+    &["motesim", "--workers", "2"],
+    &["motesim", "--cut", "block"],
+    &["motesim", "--cut=stripe"],
+    &["motesim", "a.toml"],
+    &["motesim", "--workers=16", "a.toml", "--cut", "stripe"],
+    &["motesim", "--sync", "joins"],
+    &["motesim", "--sync=marks"],
+    &["motesim", "--sync", "marks", "--workers", "4", "a.toml"],
+    &["motesim", "--sync", "x"],
+];
 
 #[test]
 fn what_the_words_ask_for(rt: HostRuntime) -> Result<(), Fail> {
-    let told = asked_of(
-        rt.alloc(),
-        &[
-            &["motesim"],
-            &["motesim", "--workers", "2"],
-            &["motesim", "--cut", "block"],
-            &["motesim", "--cut=stripe"],
-            &["motesim", "a.toml"],
-            &["motesim", "--workers=16", "a.toml", "--cut", "stripe"],
-            &["motesim", "--sync", "joins"],
-            &["motesim", "--sync=marks"],
-            &["motesim", "--sync", "marks", "--workers", "4", "a.toml"],
-            &["motesim", "--sync", "x"],
-        ],
-    )?;
+    let mut text = String::new(rt.alloc());
+    for words in ASKED {
+        write_asked(rt.alloc(), &mut text, words)?;
+    }
     same_text(
-        told.as_str(),
+        text.as_str(),
         "\
             None None Block Joins|None Some(2) Block Joins|None None Block Joins|None None Stripe Joins|\
             Some(\"a.toml\") None Block Joins|Some(\"a.toml\") Some(16) Stripe Joins|None None Block Joins|\
@@ -68,7 +63,7 @@ where
     };
     write!(text, "{:?} ", asked.options.workers)?;
     let mut input = Source {
-        rest: TWO_SENDERS.scenario,
+        rest: TWO_SENDERS.scenario.as_bytes(),
         most: usize::MAX,
         calls: usize::MAX,
     };
@@ -79,8 +74,8 @@ where
     write_answer(text, &answer, front, &gate)
 }
 
-/// What is written down of these command lines.
-fn runs_of<T>(rt: &T, lines: &[&[&str]]) -> Result<String, AllocError>
+/// Fails where something else is written down of these command lines.
+fn runs_tell<T>(rt: &T, lines: &[&[&str]], want: &str) -> Result<(), Fail>
 where
     T: AllocGlobal + Files + Threads + Wait + RandomSource + Sync,
 {
@@ -88,56 +83,39 @@ where
     for words in lines {
         write_run(rt, &mut text, words)?;
     }
-    Ok(text)
+    same_text(text.as_str(), want)
 }
 
-/// Fails where something else is written down of these command lines.
-fn tells_runs<T>(rt: &T, lines: &[&[&str]], want: &str) -> Result<(), Fail>
-where
-    T: AllocGlobal + Files + Threads + Wait + RandomSource + Sync,
-{
-    let told = runs_of(rt, lines)?;
-    same_text(told.as_str(), want)
-}
+/// Command lines without workers, then with joins, then with marks.
+const RUNS: [&[&str]; 9] = [
+    &["motesim"],
+    &["motesim", "--cut", "stripe"],
+    &["motesim", "--sync", "marks"],
+    &["motesim", "--workers", "1"],
+    &["motesim", "--workers=3", "--cut", "stripe"],
+    &["motesim", "--cut=block", "--workers", "16", "--sync=joins"],
+    &["motesim", "--workers", "04"],
+    &["motesim", "--workers=3", "--sync", "marks"],
+    &[
+        "motesim",
+        "--sync=marks",
+        "--cut",
+        "stripe",
+        "--workers",
+        "16",
+    ],
+];
 
 /// By joins each worker is started in each of two windows, by marks once. Of sixteen workers, blocks give the motes to
 /// 0, 5 and 10, and stripes to 0, 1 and 2, as of three or four.
 #[test]
 fn runs_by_the_words(rt: HostRuntime) -> Result<(), Fail> {
-    tells_runs(
+    runs_tell(
         &rt,
-        &[
-            &["motesim"],
-            &["motesim", "--cut", "stripe"],
-            &["motesim", "--sync", "marks"],
-        ],
-        "None Ok(()) Some(405) 0 0 0|None Ok(()) Some(405) 0 0 0|None Ok(()) Some(405) 0 0 0|",
-    )?;
-    tells_runs(
-        &rt,
-        &[
-            &["motesim", "--workers", "1"],
-            &["motesim", "--workers=3", "--cut", "stripe"],
-            &["motesim", "--cut=block", "--workers", "16", "--sync=joins"],
-            &["motesim", "--workers", "04"],
-        ],
+        &RUNS,
         "\
+            None Ok(()) Some(405) 0 0 0|None Ok(()) Some(405) 0 0 0|None Ok(()) Some(405) 0 0 0|\
             Some(1) Ok(()) Some(405) 2 1 3|Some(3) Ok(()) Some(405) 6 4 0|Some(16) Ok(()) Some(405) 32 1 3|\
-            Some(4) Ok(()) Some(405) 8 4 0|",
-    )?;
-    tells_runs(
-        &rt,
-        &[
-            &["motesim", "--workers=3", "--sync", "marks"],
-            &[
-                "motesim",
-                "--sync=marks",
-                "--cut",
-                "stripe",
-                "--workers",
-                "16",
-            ],
-        ],
-        "Some(3) Ok(()) Some(405) 3 4 0|Some(16) Ok(()) Some(405) 16 4 0|",
+            Some(4) Ok(()) Some(405) 8 4 0|Some(3) Ok(()) Some(405) 3 4 0|Some(16) Ok(()) Some(405) 16 4 0|",
     )
 }

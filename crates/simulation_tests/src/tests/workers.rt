@@ -1,6 +1,6 @@
 //! Simulations by workers: who takes which turn, how many threads there are, and what comes where there are none.
 
-use super::{PRINT_THEN_YIELD, TWO_SENDERS, Told, Trial, tells};
+use super::{PRINT_THEN_YIELD, TWO_SENDERS, Told, Trial, bytes_tell, tells};
 use simulation::{CutKind, Options, SyncKind};
 use std::random::RandomSource;
 use std::sync::Wait;
@@ -31,7 +31,7 @@ fn default_options(rt: HostRuntime) {
 
 /// Four motes that hear no other, with one turn each.
 const FOUR_MOTES: Told = Told {
-    scenario: b"\
+    scenario: "\
         version = 1\n\
         end = 5\n\
         [medium]\n\
@@ -174,17 +174,8 @@ where
 {
     let trial = Trial::new(PRINT_THEN_YIELD, options, &[0]);
     tells(rt, trial, "Err(Run(Workers)) Some(0) 0|")?;
-    for (scenario, want) in [
-        (b"end = \xff".as_slice(), "Err(NotText) Some(0) 0|"),
-        (b"end =".as_slice(), "Err(Scenario(Toml)) Some(0) 0|"),
-    ] {
-        let told = Told {
-            scenario,
-            ..PRINT_THEN_YIELD
-        };
-        tells(rt, Trial { told, ..trial }, want)?;
-    }
-    Ok(())
+    bytes_tell(rt, trial, b"end = \xff", "Err(NotText) Some(0) 0|")?;
+    bytes_tell(rt, trial, b"end =", "Err(Scenario(Toml)) Some(0) 0|")
 }
 
 #[test]

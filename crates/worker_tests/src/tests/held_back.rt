@@ -1,7 +1,7 @@
 //! That no window is longer than is wished, by workers of either kind: no worker comes to its next window while another
 //! is in this one.
 
-use super::{BUSY_PAIR, by, run_by_workers, same_text};
+use super::{BUSY_PAIR, SYNCS, by, run_by_workers};
 use net_scenario::{Net, read_scenario};
 use std::alloc::{AllocError, AllocGlobal};
 use std::random::RandomSource;
@@ -10,6 +10,7 @@ use std::sync::atomic::AtomicU64;
 use std::sync::atomic::Ordering::SeqCst;
 use std::test::Fail;
 use std::thread::Threads;
+use test_helpers::same_text;
 use window_workers::{Gate, SyncKind};
 
 /// Worker 1 waits inside its turn at 0, for a while, until worker 0 comes to its turn at 1.
@@ -19,13 +20,6 @@ struct Ahead {
     came: AtomicU64,
     /// 1 once worker 1 saw that inside its turn at 0.
     seen: AtomicU64,
-}
-
-fn new_ahead() -> Ahead {
-    Ahead {
-        came: AtomicU64::new(0),
-        seen: AtomicU64::new(0),
-    }
 }
 
 impl Gate for Ahead {
@@ -49,26 +43,29 @@ fn write_run<R>(rt: &R, net: &Net, sync: SyncKind, text: &mut String) -> Result<
 where
     R: Threads + Wait + Sync + RandomSource + AllocGlobal,
 {
-    let gate = new_ahead();
+    let gate = Ahead {
+        came: AtomicU64::new(0),
+        seen: AtomicU64::new(0),
+    };
     let told = run_by_workers(rt, net, sync, &by(2, &[0, 1], 1), &gate)?;
     write!(text, "{told:?} {}|", gate.seen.load(SeqCst))
 }
 
-/// What is written of that, with joins and then with marks.
-fn ahead_told<R>(rt: &R, net: &Net) -> Result<String, AllocError>
+/// Fails where worker 0 gets ahead, with joins or with marks.
+fn holds_back<R>(rt: &R, net: &Net) -> Result<(), Fail>
 where
     R: Threads + Wait + Sync + RandomSource + AllocGlobal,
 {
     let mut text = String::new(rt.alloc());
-    write_run(rt, net, SyncKind::Joins, &mut text)?;
-    write_run(rt, net, SyncKind::Marks, &mut text)?;
-    Ok(text)
+    for sync in SYNCS {
+        write_run(rt, net, sync, &mut text)?;
+    }
+    same_text(text.as_str(), "Same(0) 0|Same(0) 0|")
 }
 
 /// The motes don't hear one another, so one window would do for all; windows of one moment are wished.
 #[test]
 fn windows_hold_the_faster_back(rt: HostRuntime) -> Result<(), Fail> {
     let net = read_scenario(rt.alloc(), BUSY_PAIR)?;
-    let told = ahead_told(&rt, &net)?;
-    same_text(told.as_str(), "Same(0) 0|Same(0) 0|")
+    holds_back(&rt, &net)
 }

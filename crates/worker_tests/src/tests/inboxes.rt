@@ -3,7 +3,7 @@ ghost use Rattle.std.specs.Prelude.{IfOk};
 ghost use Rattle.std.specs.List.{AllByRecursion as Each};
 ghost use Rattle.copy_exchange.specs.Inboxes.{IsSettled};
 
-use super::{COPY_PAST_THE_END, Outcome, Run, THREE_APART, by, compare, cut_of, same_text};
+use super::{BUSY_TRIO, COPY_PAST_THE_END, Outcome, Run, by, cut_of, told};
 use copy_exchange::make_inboxes;
 use copy_inbox::{Inbox, Taker};
 use net_scenario::{Net, read_scenario};
@@ -12,6 +12,7 @@ use std::random::RandomSource;
 use std::sync::Wait;
 use std::test::Fail;
 use std::thread::Threads;
+use test_helpers::same_text;
 use window_workers::{Gate, NoGate, SyncKind, run_inboxes};
 
 /// What comes of a run over new inboxes, one for each worker, and these at its end; none where there is no report.
@@ -30,7 +31,7 @@ where
     let cut = cut_of(rt.alloc(), run)?;
     let pairs = make_inboxes(rt.alloc(), usize::from(run.workers), sync.has_marks())?;
     match run_inboxes(rt, rt.alloc(), net, &cut, sync, gate, pairs) {
-        Ok((report, pairs)) => Ok((compare(rt.alloc(), net, &report), pairs)),
+        Ok((report, pairs)) => Ok((told(rt.alloc(), net, &report), pairs)),
         Err(error) => Ok((Outcome::Fault(error), Vec::new(rt.alloc()))),
     }
 }
@@ -65,8 +66,8 @@ where
     write_closed(rt, pairs, text)
 }
 
-/// What is written of these runs.
-fn inboxes_told<R>(rt: &R, net: &Net, sync: SyncKind, runs: &[Run<'_>]) -> Result<String, Fail>
+/// Fails where something else is written of these runs.
+fn tells_by<R>(rt: &R, net: &Net, sync: SyncKind, runs: &[Run<'_>], want: &str) -> Result<(), Fail>
 where
     R: Threads + Wait + Sync + RandomSource + AllocGlobal,
 {
@@ -74,7 +75,7 @@ where
     for run in runs {
         write_inboxes(rt, net, sync, run, &NoGate, &mut text)?;
     }
-    Ok(text)
+    same_text(text.as_str(), want)
 }
 
 /// Fails where something else is written of these runs of a scenario: this with joins, and that with marks.
@@ -83,11 +84,8 @@ where
     R: Threads + Wait + Sync + RandomSource + AllocGlobal,
 {
     let net = read_scenario(rt.alloc(), scenario)?;
-    for (sync, want) in [(SyncKind::Joins, joins), (SyncKind::Marks, marks)] {
-        let told = inboxes_told(rt, &net, sync, runs)?;
-        same_text(told.as_str(), want)?;
-    }
-    Ok(())
+    tells_by(rt, &net, SyncKind::Joins, runs, joins)?;
+    tells_by(rt, &net, SyncKind::Marks, runs, marks)
 }
 
 /// The copy that would arrive after the end lies in the inbox of its receiver's worker; with marks that worker took it
@@ -115,5 +113,5 @@ fn refused_inboxes(rt: HostRuntime) -> Result<(), Fail> {
         by(2, &[0, 0, 1], 0),
     ];
     let want = "Fault(Workers)|Fault(Workers)|Fault(CutWorker)|Fault(CutLength)|Same(0)|0 []|0 []|";
-    tells(&rt, THREE_APART, &runs, want, want)
+    tells(&rt, BUSY_TRIO, &runs, want, want)
 }

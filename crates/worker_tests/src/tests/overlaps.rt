@@ -2,7 +2,7 @@
 //! a turn, so a lock that is held round each turn lets none of them meet.
 
 use super::inboxes::write_inboxes;
-use super::{BUSY_PAIR, BUSY_TRIO, Run, by, run_by_workers, same_text};
+use super::{BUSY_PAIR, BUSY_TRIO, Run, SYNCS, by, run_by_workers};
 use net_scenario::{Net, read_scenario};
 use std::alloc::{AllocError, AllocGlobal};
 use std::random::RandomSource;
@@ -11,6 +11,7 @@ use std::sync::atomic::AtomicU64;
 use std::sync::atomic::Ordering::SeqCst;
 use std::test::Fail;
 use std::thread::Threads;
+use test_helpers::same_text;
 use window_workers::{Gate, SyncKind};
 
 /// Each worker waits inside its turn of a moment, for a while, until all came to theirs.
@@ -77,19 +78,19 @@ where
     write_meetings(text, &gate)?;
     let gate = make_rendezvous(run.workers);
     write_inboxes(rt, net, sync, run, &gate, text)?;
-    write_meetings(text, &gate)?;
-    Ok(())
+    Ok(write_meetings(text, &gate)?)
 }
 
-/// What is written of that, with joins and then with marks.
-fn meetings_told<R>(rt: &R, net: &Net, run: &Run<'_>) -> Result<String, Fail>
+/// Fails where something else is written of a net, with joins and then with marks.
+fn meet<R>(rt: &R, net: &Net, run: &Run<'_>, want: &str) -> Result<(), Fail>
 where
     R: Threads + Wait + Sync + RandomSource + AllocGlobal,
 {
     let mut text = String::new(rt.alloc());
-    write_run(rt, net, SyncKind::Joins, run, &mut text)?;
-    write_run(rt, net, SyncKind::Marks, run, &mut text)?;
-    Ok(text)
+    for sync in SYNCS {
+        write_run(rt, net, sync, run, &mut text)?;
+    }
+    same_text(text.as_str(), want)
 }
 
 /// Fails where something else is written of a scenario.
@@ -98,8 +99,7 @@ where
     R: Threads + Wait + Sync + RandomSource + AllocGlobal,
 {
     let net = read_scenario(rt.alloc(), scenario)?;
-    let told = meetings_told(rt, &net, run)?;
-    same_text(told.as_str(), want)
+    meet(rt, &net, run, want)
 }
 
 /// Two workers with a mote each meet in each of three windows.

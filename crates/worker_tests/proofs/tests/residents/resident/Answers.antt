@@ -1,8 +1,8 @@
 use Rattle.std.specs.List.{slice_get}
 use Rattle.program_tree.specs.Program.{tree_of}
 use Rattle.mote_net.specs.Net.{net_of}
-use Rattle.window_tests.proofs.NewMotes.{new_goes_on}
-use Rattle.window_tests.proofs.tests.by_a_worker.resident.Goals as goal
+use Rattle.worker_tests.proofs.NewMotes.{new_goes_on}
+use Rattle.worker_tests.proofs.tests.residents.resident.Goals as goal
 
 pub returns-clause-goes_on : goal.returns-clause-goes_on
 returns-clause-goes_on c = λ until.

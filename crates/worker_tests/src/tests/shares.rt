@@ -3,31 +3,12 @@
 ghost use Rattle.std.specs.Prelude.{◌≡◌, length};
 ghost use Rattle.mote_net.specs.Net.{net_of};
 
-use super::same_text;
+use super::COPY_PAST_THE_END;
 use net_scenario::{Net, read_scenario};
 use radio_packet::RadioCopy;
 use std::alloc::{AllocError, Global};
 use std::test::Fail;
 use worker_window::Share;
-
-/// Two motes.
-const TWO_MOTES: &str = "\
-    version = 1\n\
-    end = 4\n\
-    [medium]\n\
-    range = 1\n\
-    base = 3\n\
-    per = 100\n\
-    [programs]\n\
-    p = \"process a; code a { body { } }\"\n\
-    [[mote]]\n\
-    x = 0\n\
-    y = 0\n\
-    program = \"p\"\n\
-    [[mote]]\n\
-    x = 0\n\
-    y = 1\n\
-    program = \"p\"\n";
 
 /// A packet of mote 0 on its way to mote 1.
 fn copy_at(at: u64, number: u64) -> RadioCopy {
@@ -50,19 +31,17 @@ fn left_of_three(alloc: Global, net: &Net) -> Result<u64, AllocError>
     Ok(share.end()?.left)
 }
 
-/// What is told of that, where the net has two motes.
-fn left_told(alloc: Global, net: &Net) -> Result<String, AllocError> {
-    if net.motes() != 2 {
-        return String::from_str(alloc, "not two motes");
+/// Fails where it isn't three, of a net of two motes.
+fn leaves_three(alloc: Global, net: &Net) -> Result<(), Fail> {
+    if net.motes() == 2 && left_of_three(alloc, net)? == 3 {
+        return Ok(());
     }
-    let left = left_of_three(alloc, net)?;
-    format!(in alloc; "{left}")
+    Err(Fail::new(format_args!("otherwise")))
 }
 
 /// All copies that a share takes in are to come.
 #[test]
 fn copies_taken_in(rt: HostRuntime) -> Result<(), Fail> {
-    let net = read_scenario(rt.alloc(), TWO_MOTES)?;
-    let told = left_told(rt.alloc(), &net)?;
-    same_text(told.as_str(), "3")
+    let net = read_scenario(rt.alloc(), COPY_PAST_THE_END)?;
+    leaves_three(rt.alloc(), &net)
 }

@@ -16,6 +16,7 @@ use std::test::Fail;
 use std::thread;
 use std::thread::Threads;
 use std::time::{Clock, Duration};
+use test_helpers::same_text;
 
 /// The worker of each mote.
 const OF: [u16; 3] = [0, 1, 2];
@@ -199,14 +200,6 @@ fn write_woken<R: Threads + Wait + Clock + Sync>(
     );
     took?;
     Ok(())
-}
-
-/// Fails where the texts differ.
-fn same_text(text: &str, want: &str) -> Result<(), Fail> {
-    if text == want {
-        return Ok(());
-    }
-    Err(Fail::new(format_args!("{text} in place of {want}")))
 }
 
 #[test]

@@ -3,24 +3,10 @@
 ghost use Rattle.std.specs.Prelude.{◌<◌, length};
 ghost use Rattle.mote_net.specs.Net.{net_of};
 
-use super::same_text;
 use net_scenario::{Net, read_scenario};
 use std::alloc::{AllocError, Global};
 use std::test::Fail;
-
-const PRINT_THEN_YIELD: &str = "\
-    version = 1\n\
-    end = 5\n\
-    [medium]\n\
-    range = 10\n\
-    base = 1\n\
-    per = 100\n\
-    [programs]\n\
-    p = \"process a; autostart a; code a { body { print 1; yield; print 2; } }\"\n\
-    [[mote]]\n\
-    x = 0\n\
-    y = 0\n\
-    program = \"p\"\n";
+use test_helpers::{PRINT_THEN_YIELD, same_text};
 
 const THREE_MOTES: &str = "\
     version = 2\n\
@@ -96,18 +82,17 @@ fn write_net(text: &mut String, net: &Net) -> Result<(), AllocError> {
     Ok(())
 }
 
-/// What is written of that.
-fn net_told(alloc: Global, net: &Net) -> Result<String, AllocError> {
+/// Fails where something else is written of a net.
+fn net_tells(alloc: Global, net: &Net, want: &str) -> Result<(), Fail> {
     let mut text = String::new(alloc);
     write_net(&mut text, net)?;
-    Ok(text)
+    same_text(text.as_str(), want)
 }
 
 /// Fails where something else is written of a scenario's net.
 fn tells(alloc: Global, scenario: &str, want: &str) -> Result<(), Fail> {
     let net = read_scenario(alloc, scenario)?;
-    let told = net_told(alloc, &net)?;
-    same_text(told.as_str(), want)
+    net_tells(alloc, &net, want)
 }
 
 #[test]
@@ -137,16 +122,10 @@ fn fault_number(alloc: Global, text: &str) -> u8 {
     }
 }
 
-/// The length of a text that is too long, and the number of its fault.
-fn too_long_told(alloc: Global) -> Result<String, AllocError> {
-    let text = long_comment(alloc)?;
-    let number = fault_number(alloc, text.as_str());
-    format!(in alloc; "{} {number}", text.len())
-}
-
 /// One byte more than a text may have is told before all that the text lacks.
 #[test]
 fn text_too_long(rt: HostRuntime) -> Result<(), Fail> {
-    let told = too_long_told(rt.alloc())?;
-    same_text(told.as_str(), "1048577 5")
+    let text = long_comment(rt.alloc())?;
+    assert!(rt; text.len() == 1_048_577 && fault_number(rt.alloc(), text.as_str()) == 5);
+    Ok(())
 }

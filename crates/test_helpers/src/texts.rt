@@ -1,0 +1,46 @@
+//! Texts of what was told, and their comparison.
+
+use radio_packet::{RadioCopy, Sent};
+use std::alloc::AllocError;
+use std::test::Fail;
+use trace_lines::Line;
+
+/// Fails where two texts differ, and shows both.
+pub fn same_text(told: &str, want: &str) -> Result<(), Fail> {
+    if told == want {
+        return Ok(());
+    }
+    Err(Fail::new(format_args!("{told} in place of {want}")))
+}
+
+/// Writes down each copy: when it arrives and where, its sender, its number and its value.
+pub fn write_copies(text: &mut String, copies: &[RadioCopy]) -> Result<(), AllocError> {
+    for copy in copies {
+        write!(
+            text,
+            "{} {} {} {} {}|",
+            copy.at, copy.to, copy.sender, copy.number, copy.value
+        )?;
+    }
+    Ok(())
+}
+
+/// Writes each line down as its moment and what happened.
+pub fn write_lines(text: &mut String, lines: &[Line]) -> Result<(), AllocError> {
+    for line in lines {
+        write!(text, "{} {:?}|", line.at, line.what)?;
+    }
+    Ok(())
+}
+
+/// Writes down each packet that was sent: its moment, its sender, its number and its value.
+pub fn write_sends(text: &mut String, sends: &[Sent]) -> Result<(), AllocError> {
+    for sent in sends {
+        write!(
+            text,
+            "sent {} {} {} {}|",
+            sent.at, sent.sender, sent.number, sent.value
+        )?;
+    }
+    Ok(())
+}
