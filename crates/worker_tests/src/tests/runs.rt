@@ -1,8 +1,6 @@
 //! Runs by any cut: what comes of them, how often threads are started, and who takes the turns.
 
-use super::{
-    BUSY_PAIR, BUSY_TRIO, COPY_PAST_THE_END, PACKET_AFTER_TIMER, Run, by, run_by_workers,
-};
+use super::{BUSY_PAIR, BUSY_TRIO, COPY_PAST_THE_END, PACKET_AFTER_TIMER, Run, by, run_by_workers};
 use net_scenario::{Net, read_scenario};
 use std::alloc::{AllocError, AllocGlobal, Global};
 use std::random::RandomSource;
