@@ -1,3 +1,4 @@
+pub mod Beyond
 pub mod Copies
 pub mod Delays
 pub mod Elements

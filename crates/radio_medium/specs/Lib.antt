@@ -1,4 +1,5 @@
 pub mod Errors
+pub mod Groups
 pub mod Laws
 pub mod Links
 pub mod Medium

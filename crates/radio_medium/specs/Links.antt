@@ -1,7 +1,7 @@
 -- What a medium keeps to find the copies of a packet: for each mote, who hears it.
-use Rattle.std.specs.Prelude.{◌≡◌, ℕ, ◌+◌, ◌<◌, ◌^◌, min, ◌==◌, ◌&&◌, true, false, if◌then◌else◌, cond, ◌⊎◌, List, map}
-use Rattle.std.specs.Prelude.{Option, Some, None, IsSome, Result, Ok, Err}
-use Rattle.std.specs.List.{reduce}
+use Rattle.std.specs.Prelude.{◌≡◌, ℕ, ◌+◌, ◌<◌, ◌^◌, min, ◌==◌, ◌&&◌, true, false, if◌then◌else◌, cond, ◌⊎◌}
+use Rattle.std.specs.Prelude.{List, filter, map, Option, Some, None, IsSome, Result, Ok, Err}
+use Rattle.std.specs.List.{range_with_len, reduce}
 use Rattle.std.specs.Option.{ForSome}
 use Rattle.std.specs.HashMap.{get, HashMap}
 use Rattle.std.specs.declared.hash.FoldHasher.{FoldHasher}
@@ -14,7 +14,7 @@ use Rattle.radio_medium.specs.declared.link.Link.{Link}
 use Rattle.radio_medium.specs.declared.losses.Loss.{Loss}
 use Rattle.radio_medium.specs.declared.place.Place.{Place}
 use Rattle.radio_medium.specs.declared.reach.Reach.{Reach}
-use Rattle.radio_medium.specs.Medium.{Radio, IsWithinLimits, motes, receivers, delay, delays, medium_fault}
+use Rattle.radio_medium.specs.Medium.{Radio, IsWithinLimits, motes, hears, receivers, delay, delays, medium_fault}
 use Rattle.radio_medium.specs.Medium.{every_of, is_for_pair, is_good, is_lost, has_bad_loss}
 
 -- the medium of these places and this reach, with these losses
@@ -59,6 +59,10 @@ link_of radio every s r = record { to = r; delay = delay radio s r; every = ever
 -- the links from mote s to those that hear it
 unfoldable pub links_of : Radio → (every : ℕ → ℕ → Option ℕ) → (s : ℕ) → List Link
 links_of radio every s = map (link_of radio every s) (receivers radio s)
+
+-- those of them to motes whose numbers are below this one
+abbrev pub links_below : Radio → (every : ℕ → ℕ → Option ℕ) → (s n : ℕ) → List Link
+links_below radio every s n = map (link_of radio every s) (filter (λ r. hears radio r s) (range_with_len 0 n))
 
 -- the fate of the copy of a packet on this link
 abbrev pub fate_by : Sent → Link → Fate

@@ -2,6 +2,7 @@
 #![tactic(auto)]
 
 mod error;
+mod groups;
 pub mod laws;
 mod link;
 mod losses;

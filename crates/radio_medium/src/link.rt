@@ -3,9 +3,11 @@
 ghost use Rattle.std.specs.Prelude.{◌≡◌, ◌^◌, ◌<◌, ◌≤◌, ℕ, length, min, [], All, map, IfOk, if◌then◌else◌, Some, None};
 ghost use Rattle.std.specs.List.{filter_map, flat_map, fold, reduce};
 ghost use Rattle.radio_medium.specs.Medium.{hears, motes, IsWithinLimits, copy_of};
-ghost use Rattle.radio_medium.specs.Links.{EveryByPair, every_at, radio_from, link_of, links_of, fate_by};
-ghost use Rattle.radio_medium.specs.Links.{IsFit, with_least};
+ghost use Rattle.radio_medium.specs.Groups.{AreGroups};
+ghost use Rattle.radio_medium.specs.Links.{EveryByPair, every_at, radio_from, link_of, links_of, links_below};
+ghost use Rattle.radio_medium.specs.Links.{fate_by, IsFit, with_least};
 
+use crate::groups::{GROUP_SIZE, Group, groups_of};
 use crate::losses::{EveryByPair, is_lost};
 use crate::place::Place;
 use crate::reach::Reach;
@@ -101,9 +103,10 @@ pub(crate) fn all_links(
         IfOk result (λ all. map (λ links. links.items) all.items
         ≡ map (links_of radio (every_at every.now)) (motes radio)) }
 {
+    let groups = groups_of(alloc, places)?;
     let mut all = Vec::with_capacity(alloc, places.len())?;
     for sender in 0..places.len() as u16 {
-        all.push(links_from(alloc, places, reach, every, sender)?)?;
+        all.push(links_from(alloc, places, &groups, reach, every, sender)?)?;
     }
     Ok(all)
 }
@@ -112,11 +115,13 @@ pub(crate) fn all_links(
 fn links_from(
     alloc: Global,
     places: &[Place],
+    groups: &[Group],
     reach: Reach,
     every: &EveryByPair,
     sender: u16,
 ) -> Result<Vec<Link>, AllocError>
     requires limits { IsWithinLimits (radio_from places.now reach []) }
+    requires groups { AreGroups places.now groups.now }
     requires per { 0 < reach.per }
     requires there { sender < length places.now }
     ensures { let radio = radio_from places.now reach [] in
@@ -124,14 +129,53 @@ fn links_from(
 {
     let from = places[usize::from(sender)];
     let mut links = Vec::new(alloc);
-    for to in 0..places.len() as u16 {
+    for index in 0..groups.len() {
+        if groups[index].is_near(reach.range, from) {
+            let first = index * GROUP_SIZE;
+            let after = places.len().min(first + GROUP_SIZE);
+            put_links(
+                &mut links,
+                places,
+                reach,
+                every,
+                sender,
+                first as u16,
+                after as u16,
+            )?;
+        }
+    }
+    Ok(links)
+}
+
+/// Puts the links from a mote to those of these numbers that hear it behind the links to those before.
+fn put_links(
+    links: &mut Vec<Link>,
+    places: &[Place],
+    reach: Reach,
+    every: &EveryByPair,
+    sender: u16,
+    first: u16,
+    after: u16,
+) -> Result<(), AllocError>
+    requires limits { IsWithinLimits (radio_from places.now reach []) }
+    requires per { 0 < reach.per }
+    requires there { sender < length places.now }
+    requires order { first ≤ after }
+    requires motes { after ≤ length places.now }
+    requires so_far { let radio = radio_from places.now reach [] in
+        links.old.items ≡ links_below radio (every_at every.now) sender first }
+    ensures { let radio = radio_from places.now reach [] in
+        IfOk result (λ _. links.new.items ≡ links_below radio (every_at every.now) sender after) }
+{
+    let from = places[usize::from(sender)];
+    for to in first..after {
         if reach.joins(from, places[usize::from(to)]) {
             if let Some(link) = link_between(places, reach, every, sender, to) {
                 links.push(link)?;
             }
         }
     }
-    Ok(links)
+    Ok(())
 }
 
 /// The link from one mote to another, if that one hears it.

@@ -12,7 +12,7 @@ pub struct Place {
 
 /// How far apart two numbers are. The square of this costs no test of which is less.
 #[inline(always)]
-fn gap(a: i32, b: i32) -> u64
+pub(crate) fn gap(a: i32, b: i32) -> u64
     ensures { result ≡ unsigned_abs (a -ℤ b) }
 {
     (i64::from(a) - i64::from(b)).unsigned_abs()

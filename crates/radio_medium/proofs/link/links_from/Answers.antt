@@ -1,24 +1,31 @@
-use Rattle.std.proofs.Common.{◌≡◌, ◌∙◌, [], length, arith, sym, refl}
+use Rattle.std.proofs.Common.{◌≡◌, ◌∙◌, ◌+◌, ◌*◌, ◌<◌, [], length, min, ap, arith}
 use Rattle.radio_medium.specs.Medium.{receivers}
-use Rattle.radio_medium.specs.Links.{every_at, links_of, radio_from}
-use Rattle.radio_medium.proofs.Hearing.{far_off}
-use Rattle.radio_medium.proofs.LinkLemmas.{links_step_some, links_step_none}
+use Rattle.radio_medium.specs.Links.{every_at, links_of, links_below, radio_from}
+use Rattle.radio_medium.proofs.Beyond.{links_beyond}
 use Rattle.radio_medium.proofs.link.links_from.Goals as goal
-use Rattle.radio_medium.proofs.link.links_from.Goals.{then-joins+in-Some+in_ok-push, then-joins+in_default, else-joins}
+use Rattle.radio_medium.proofs.link.links_from.Goals.{then-is_near+in_ok-put_links, else-is_near}
 
-pub loop-to-preserved : goal.loop-to-preserved
-loop-to-preserved c =
-    let radio = radio_from c.args.places.now c.args.reach [] in
+pub loop-index-preserved : goal.loop-index-preserved
+loop-index-preserved c =
+    let places = c.args.places.now in
+    let radio = radio_from places c.args.reach [] in
     let every = every_at c.args.every.now in
     let s = c.args.sender in
-    let n = c.loop-to.to in
-    let joins = rw (c.from.ensures, c.from-in-loop-to.ensures) at c.joins.ensures in
-    elim c.if-joins.branch [
-      | then-joins+in-Some+in_ok-push w ↦ rw (w.links-is, w.in_ok-push.ensures.items) (links_step_some radio every s n _ _ c.loop-to.invariant w.in-Some.ensures)
-      | then-joins+in_default w ↦ rw w.links-is (links_step_none radio every s n _ c.loop-to.invariant w.in_default.ensures)
-      | else-joins w ↦ rw w.links-is (links_step_none radio every s n _ c.loop-to.invariant (rw (far_off radio n s (sym joins ∙ w.if-joins.false)) refl))
+    let i = c.loop-index.index in
+    let some : i * 32 < length places = c.requires.groups.filled i (omega arith) in
+    let first : min (length places) (i * 32) ≡ i * 32 = omega arith in
+    let next : min (length places) (i * 32 + 32) ≡ min (length places) ((i + 1) * 32) = omega arith in
+    let near = rw c.from.ensures at c.is_near.ensures in
+    elim c.if-is_near.branch [
+      | then-is_near+in_ok-put_links w ↦ rw w.links-is (w.in_ok-put_links.ensures ∙ ap (λ k. links_below radio every s k) (omega arith))
+      | else-is_near w ↦ rw w.links-is
+          (links_beyond places c.args.reach every s (i * 32) (min (length places) (i * 32 + 32)) _ _ (omega arith) (c.requires.groups.hold i _ (omega arith)) (near w.if-is_near.false) (rw first at c.loop-index.invariant)
+          ∙ ap (λ k. links_below radio every s k) next)
     ]
 
 pub returns : goal.returns
 unfolding links_of receivers
-returns c = let all : c.loop-to.to ≡ length c.args.places.now = omega arith in rw all at c.loop-to.invariant
+returns c =
+    let enough = c.requires.groups.enough in
+    let all : min (length c.args.places.now) (c.loop-index.index * 32) ≡ length c.args.places.now = omega arith in
+    rw all at c.loop-index.invariant

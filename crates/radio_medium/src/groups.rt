@@ -1,0 +1,89 @@
+//! Groups of motes by number: where a whole group is too far to hear a mote, none of its motes is looked at.
+
+ghost use Rattle.std.specs.Prelude.{◌≡◌, ◌*◌, ◌-◌, ◌-ℤ◌, ◌<◌, ◌≤◌, ℕ, false, nat_le, unsigned_abs, IfOk, length};
+ghost use Rattle.radio_medium.specs.Groups.{AreGroups, HoldsMotes, Holds, IsBeyond};
+
+use crate::place::{Place, gap};
+use std::alloc::{AllocError, Global};
+
+/// How many motes are in a group; the last one may have fewer.
+pub(crate) const GROUP_SIZE: usize = 32;
+
+/// The place of one mote of a group, and how far the others are from it at most, along each axis.
+#[derive(Clone, Copy)]
+pub(crate) struct Group {
+    pub(crate) centre: Place,
+    pub(crate) x: u64,
+    pub(crate) y: u64,
+}
+
+impl Group {
+    /// The group with one mote more.
+    fn with(self, place: Place) -> Group
+        ensures place { Holds result place }
+        ensures others { (p : Place) → Holds self p → Holds result p }
+    {
+        Group {
+            centre: self.centre,
+            x: self.x.max(gap(self.centre.x, place.x)),
+            y: self.y.max(gap(self.centre.y, place.y)),
+        }
+    }
+
+    /// The group of the motes with these numbers.
+    fn of(places: &[Place], first: usize, after: usize) -> Group
+        requires some { first < after }
+        requires motes { after ≤ length places.now }
+        ensures { HoldsMotes places.now first after result }
+    {
+        let mut group = Group {
+            centre: places[first],
+            x: 0,
+            y: 0,
+        };
+        for mote in first..after {
+            group = group.with(places[mote]);
+        }
+        group
+    }
+
+    /// Whether a mote of the group may be within the range of a place. Most groups are too far by one axis alone.
+    #[tactic(auto, using(crate::proofs::Beyond::beyond_x, crate::proofs::Beyond::beyond_y))]
+    pub(crate) fn is_near(self, range: u32, from: Place) -> bool
+        ensures { result ≡ false → IsBeyond self range from }
+    {
+        reaches(range, from.x, self.centre.x, self.x)
+            && reaches(range, from.y, self.centre.y, self.y)
+    }
+}
+
+/// Whether a number is no farther from the centre of a group than the range and its farthest mote together.
+fn reaches(range: u32, from: i32, centre: i32, farthest: u64) -> bool
+    ensures { result ≡ nat_le (unsigned_abs (from -ℤ centre) - range) farthest }
+{
+    gap(from, centre).saturating_sub(u64::from(range)) <= farthest
+}
+
+/// How many groups so many motes are in.
+fn count_of(motes: usize) -> usize
+    requires { motes ≤ 1000 }
+    ensures enough { motes ≤ result * 32 }
+    ensures filled { (i : ℕ) → i < result → i * 32 < motes }
+{
+    (motes + (GROUP_SIZE - 1)) / GROUP_SIZE
+}
+
+/// All motes by groups, in the order of their numbers.
+pub(crate) fn groups_of(alloc: Global, places: &[Place]) -> Result<Vec<Group>, AllocError>
+    requires { length places.now ≤ 1000 }
+    ensures { IfOk result (λ groups. AreGroups places.now groups.items) }
+{
+    let count = count_of(places.len());
+    let mut groups = Vec::with_capacity(alloc, count)?;
+    for index in 0..count {
+        let first = index * GROUP_SIZE;
+        let after = places.len().min(first + GROUP_SIZE);
+        groups.push(Group::of(places, first, after))?;
+    }
+    Ok(groups)
+}
