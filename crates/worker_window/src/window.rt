@@ -16,7 +16,7 @@ ghost use Rattle.worker_window.specs.Share.{Motes, Keeps, mote_here, wake_from};
 ghost use Rattle.worker_window.specs.Window.{CanRun, GoesOut, RunsWindow};
 ghost use Rattle.worker_window.specs.Log.{HaveFates, packets_in};
 ghost use Rattle.worker_window.specs.Sending.{copies_away, own_items};
-ghost use Rattle.worker_window.specs.Leaving.{MotesLeave, HasNumber, IsOutOfNet, MoteReturns};
+ghost use Rattle.worker_window.specs.Leaving.{MotesLeave, HasNumber, IsOutOfMote, MoteReturns};
 
 use crate::calls::{CalledMotes, gather};
 use crate::rooms::Rooms;
@@ -211,9 +211,9 @@ impl Share {
         out: WindowOut,
         away: &mut Vec<RadioCopy>,
     ) -> Result<(), AllocError>
-        requires motes { IsOutOfNet (length self.old.motes.items) out }
-        requires traces { IsOutOfNet (length self.old.traces.items) out }
-        requires places { IsOutOfNet (length medium.now.places) out }
+        requires motes { IsOutOfMote (length self.old.motes.items) out }
+        requires traces { IsOutOfMote (length self.old.traces.items) out }
+        requires places { IsOutOfMote (length medium.now.places) out }
         ensures { OnOk result ((number : ℕ) → HasNumber number out.mote
             → MoteReturns medium.now of.now number pending out self.old self.new away.old.items away.new.items) }
     {
