@@ -1,6 +1,5 @@
-//! All workers of a net, as both kinds of synchronization have them: before the first window and between two windows,
-//! how long a window is, the senders that are created before the workers' threads, and what
-//! each thread has.
+//! What both kinds of workers share: the group between two windows, a window's length, the making of the endpoints, and
+//! one worker.
 #![tactic(auto)]
 
 pub mod laws;

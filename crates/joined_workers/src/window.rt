@@ -62,8 +62,7 @@ where
     fork_join(rt, alloc, workers, &Runner { rt, gate, window })
 }
 
-/// Runs all workers through one window: senders are created, each worker runs in its thread, and the senders are
-/// collected.
+/// Runs all workers through one window: senders are made, each worker runs in its thread, and the senders are gathered.
 fn run_all<R, G>(
     rt: &R,
     alloc: Global,

@@ -13,8 +13,8 @@ use Rattle.marked_workers.specs.Thread.{RunsAllWindows}
 abbrev pub endpoints_of : List Worker → List Endpoint
 endpoints_of workers = map (λ worker. worker.endpoint) workers
 
--- the senders of all workers were created together, each worker ran all windows in its thread, and the senders were
--- then gathered
+-- the senders of all workers were made together, each worker ran all windows in its thread, and the senders were then
+-- gathered
 pub record RunsAllMarked (n : NetTold) (of : List ℕ) (width : ℕ) (old new : Workers) : Type 0 where
   pub first : List Worker
   pub done : List Worker

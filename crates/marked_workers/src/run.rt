@@ -71,7 +71,7 @@ where
     fork_join(rt, alloc, workers, &MarkRunner { rt, gate, run })
 }
 
-/// Senders are created, each worker runs all its windows in its thread, and the senders are collected.
+/// Senders are made, each worker runs all its windows in its thread, and the senders are gathered.
 fn run_threads<R, G>(
     rt: &R,
     alloc: Global,
