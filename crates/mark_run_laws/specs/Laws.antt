@@ -46,6 +46,6 @@ SendersAreApart = (n : NetTold) (of : List ℕ) (width windows workers : ℕ) (a
 abbrev pub NoCopyIsUndue : Type 0
 NoCopyIsUndue = (n : NetTold) (of : List ℕ) (width windows workers : ℕ) (history : ℕ → WorkerHistory) (w : State)
     → IsReached (plan_of of windows workers history) w → (worker other : ℕ)
-    → ((k : ℕ) → k ≤ w.behind other → k < windows → RanWindow n of width other (history other) k)
+    → ((k : ℕ) → k ≤ w.finished other → k < windows → RanWindow n of width other (history other) k)
     → (copy : RadioCopy) → MayTake (plan_of of windows workers history) w worker other (Packet copy)
-    → IsDue of worker (bound width n.end (suc (w.behind worker))) copy
+    → IsDue of worker (bound width n.end (suc (w.finished worker))) copy
