@@ -230,7 +230,7 @@ module _ (n : NetTold) (of : List ℕ) (worker from until : ℕ) (motes : Motes)
       nodes = λ k h. coming.stands.nodes k (present k h);
       wakes = λ k h. coming.stands.wakes k (present k h);
       quiet = λ k h. coming.stands.quiet k (present k h);
-      behind = λ k h. coming.stands.behind k (present k h);
+      turned_before = λ k h. coming.stands.turned_before k (present k h);
       traces_kept = coming.stands.traces_kept;
       traces = coming.stands.traces;
       log = coming.stands.log;
