@@ -53,11 +53,11 @@ fn send_window<R: Wait + RandomSource + AllocGlobal, G: Gate>(
     requires early { until ≤ 2 ^ 40 }
     requires cut { IsCut (length (net_of run.now.net.now).motes) (length run.now.inboxes.now) run.now.of.now }
     requires ready { CanRun (net_of run.now.net.now) run.now.of.now until worker.old.share [] }
-    requires seated { IsSeated run.now.inboxes.now worker.old.exchange.endpoint }
-    requires marked { HasMarks worker.old.exchange.endpoint }
+    requires seated { IsSeated run.now.inboxes.now worker.old.endpoint.base }
+    requires marked { HasMarks worker.old.endpoint.base }
     ensures sends { OnOk result (SendsWindow (net_of run.now.net.now) run.now.of.now (length run.now.inboxes.now)
         window until worker.old worker.new) }
-    ensures seated { OnOk result (IsSeated run.now.inboxes.now worker.new.exchange.endpoint) }
+    ensures seated { OnOk result (IsSeated run.now.inboxes.now worker.new.endpoint.base) }
     ensures refused { IfErr result (λ reason. reason ≢ Stopped) }
 {
     let none = Vec::new(rt.alloc());
@@ -69,7 +69,7 @@ fn send_window<R: Wait + RandomSource + AllocGlobal, G: Gate>(
         Err(error) => return Err(refusal_of(error)),
     };
     let Ok(()) = worker
-        .exchange
+        .endpoint
         .deliver_window(rt, run.inboxes, run.of, &sent, window)
     else {
         return Err(Refused::Memory);
@@ -96,12 +96,12 @@ fn take_window<R: Wait + AllocGlobal>(
     window: u64,
     until: u64,
 ) -> Result<(), Refused>
-    requires seated { IsSeated run.now.inboxes.now worker.old.exchange.endpoint }
-    requires counts { Counts worker.old.exchange.marks.items worker.old.exchange.endpoint.taker.state }
+    requires seated { IsSeated run.now.inboxes.now worker.old.endpoint.base }
+    requires counts { Counts worker.old.endpoint.marks.items worker.old.endpoint.base.taker.state }
     ensures takes { OnOk result (TakesWindow run.now.of.now window until worker.old worker.new) }
     ensures refused { IfErr result (λ reason. reason ≢ Thread) }
 {
-    let number = worker.exchange.endpoint.worker;
+    let number = worker.endpoint.base.worker;
     let inbox = &run.inboxes[usize::from(number)];
     let standing = Standing {
         worker: number,
@@ -109,7 +109,7 @@ fn take_window<R: Wait + AllocGlobal>(
         from: until,
     };
     let took = worker
-        .exchange
+        .endpoint
         .take_window(rt, rt.alloc(), inbox, run.stop, &standing, window);
     let arrived = match took {
         Ok(arrived) => arrived,
@@ -187,7 +187,10 @@ fn with_marks(alloc: Global, run: &WorkersRun<'_>, worker: Worker) -> Result<Mar
     } = worker;
     let others = run.inboxes.len().saturating_sub(1);
     match MarkEndpoint::new(alloc, endpoint, others) {
-        Ok(exchange) => Ok(MarkWorker { share, exchange }),
+        Ok(marked) => Ok(MarkWorker {
+            share,
+            endpoint: marked,
+        }),
         Err(_) => Err(Refused::Memory),
     }
 }
@@ -196,15 +199,15 @@ fn with_marks(alloc: Global, run: &WorkersRun<'_>, worker: Worker) -> Result<Mar
 fn without_marks(worker: MarkWorker) -> Worker
     ensures { IsSame result worker }
 {
-    let MarkWorker { share, exchange } = worker;
+    let MarkWorker { share, endpoint } = worker;
     let MarkEndpoint {
-        endpoint,
+        base,
         marks: _,
         waiting: _,
-    } = exchange;
+    } = endpoint;
     Worker {
         share,
-        endpoint,
+        endpoint: base,
         first_out: None,
     }
 }
