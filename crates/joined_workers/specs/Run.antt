@@ -25,15 +25,15 @@ pub record RunsNext (n : NetTold) (of : List ℕ) (length : ℕ) (old new : Work
   pub runs : RunsAll n of (end_of_window n.end length from) old new
 
 -- so many of these, one after another
-abbrev pub RunsWindows : NetTold → List ℕ → (length windows : ℕ) → (old new : Workers) → Type 0
-RunsWindows n of length zero old new = new ≡ old
-RunsWindows n of length (suc k) old new =
-    (between : Workers) × RunsWindows n of length k old between × RunsNext n of length between new
+abbrev pub GroupRunsWindows : NetTold → List ℕ → (length windows : ℕ) → (old new : Workers) → Type 0
+GroupRunsWindows n of length zero old new = new ≡ old
+GroupRunsWindows n of length (suc k) old new =
+    (between : Workers) × GroupRunsWindows n of length k old between × RunsNext n of length between new
 
 -- all of them: then nothing comes up to the end
 pub record RunsToEnd (n : NetTold) (of : List ℕ) (length : ℕ) (old new : Workers) : Type 0 where
   pub windows : ℕ
-  pub runs : RunsWindows n of length windows old new
+  pub runs : GroupRunsWindows n of length windows old new
   pub next : ℕ
   pub begins : BeginsAt n.end new next
   pub over : n.end < next

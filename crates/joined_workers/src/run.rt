@@ -11,7 +11,7 @@ ghost use Rattle.joined_workers.specs.Run.{BeginsAt, RunsToEnd};
 ghost use Rattle.all_workers.specs.WindowLength.{length_of_window};
 
 use crate::next::next_moment;
-use crate::window::run_window;
+use crate::window::run_group_window;
 use all_workers::{Workers, lookahead_of, window_end, window_length};
 use fork_join::Refused;
 use mote_net::Net;
@@ -42,7 +42,7 @@ fn window_start(group: &Workers, end: u64) -> u64
 /// # Errors
 /// `Memory`, or `Thread` where a thread couldn't be started, the gate refused a start, or the executor answered an
 /// error: that of the lowest worker that has one.
-pub fn run_windows<R, G>(
+pub fn run_group<R, G>(
     rt: &R,
     alloc: Global,
     net: &Net,
@@ -68,7 +68,7 @@ where
     let mut from = window_start(&group, end);
     'windows: while from <= end {
         let until = window_end(from, length, end);
-        group = run_window(rt, alloc, net, of, until, gate, group)?;
+        group = run_group_window(rt, alloc, net, of, until, gate, group)?;
         from = window_start(&group, end);
     }
     Ok(group)

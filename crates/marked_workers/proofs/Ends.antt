@@ -31,7 +31,7 @@ use Rattle.marked_workers.specs.Bounds.{bound, AreWindows}
 use Rattle.marked_workers.specs.AtEnd.{EndsMarked, EndAllMarked}
 use Rattle.copy_exchange.specs.Endpoints.{pushed_list}
 use Rattle.marked_workers.specs.Senders.{AreSenders}
-use Rattle.marked_workers.specs.WorkerHistory.{WorkerHistory, RunsWindows}
+use Rattle.marked_workers.specs.WorkerHistory.{WorkerHistory, WorkerRunsWindows}
 use Rattle.marked_workers.specs.All.{AllRan, HasGathered, IsOfTakers}
 use Rattle.marked_workers.proofs.Bounds.{at_the_end}
 use Rattle.marked_workers.proofs.Pairs.{not_other, pair, copies_from, copies_none}
@@ -54,7 +54,7 @@ module _ (n : NetTold) (of : List ℕ) (width windows : ℕ) (group : Workers) (
     taker : TakerView
     share_at : slice_get group.shares.items v ≡ Some share
     taker_at : slice_get group.takers.items v ≡ Some taker
-    ran : RunsWindows n of width windows workers v z.state.made z.state.taken (λ u. pushed_list (h.sender u v)) z.history
+    ran : WorkerRunsWindows n of width windows workers v z.state.made z.state.taken (λ u. pushed_list (h.sender u v)) z.history
     keeps : Keeps n of v (bound width n.end windows) (z.history.motes windows) (copies_of z.state.taken) share
     are_senders : AreSenders workers v (h.sender v) z.state.made z.senders
     begun : Each (λ (s : SenderView). BeginsWith s.state.pushed (part s.state.number z.state.taken)) z.senders

@@ -26,10 +26,10 @@ use Rattle.all_workers.proofs.Numbered.{numbered}
 use Rattle.all_workers.specs.declared.worker.Worker.{Worker}
 use Rattle.marked_workers.specs.Bounds.{windows_of}
 use Rattle.marked_workers.specs.AtEnd.{EndsMarked, EndAllMarked}
-use Rattle.marked_workers.specs.Run.{RunsAllMarked, endpoints_of}
+use Rattle.marked_workers.specs.Run.{GroupRunsMarked, endpoints_of}
 use Rattle.marked_workers.specs.Senders.{AreSenders}
-use Rattle.marked_workers.specs.WorkerHistory.{RunsMarked}
-use Rattle.marked_workers.specs.Thread.{RunsAllWindows}
+use Rattle.marked_workers.specs.WorkerHistory.{WorkerRunsMarked}
+use Rattle.marked_workers.specs.Thread.{WorkerRunsAllWindows}
 use Rattle.marked_workers.proofs.Bounds.{are_windows}
 use Rattle.marked_workers.proofs.Ends.{ends}
 
@@ -37,24 +37,24 @@ of_others : (workers worker : ℕ) (sender : ℕ → Option SenderView) (made : 
 of_others workers worker sender made senders h = record { numbered = h.numbered; made_is = h.made_is; others = h.others; of_worker = h.of_worker; worker_of = h.worker_of }
 
 module _ (n : NetTold) (of : List ℕ) (width windows : ℕ) (inboxes : List InboxId) where
-  all_stay : (xs ys : List Worker) → AllZip (RunsAllWindows n of width windows inboxes) xs ys → AllZip Stays (endpoints_of xs) (endpoints_of ys)
+  all_stay : (xs ys : List Worker) → AllZip (WorkerRunsAllWindows n of width windows inboxes) xs ys → AllZip Stays (endpoints_of xs) (endpoints_of ys)
   all_stay [] [] h = tt
   all_stay [] (y ∷ ys) h = h
   all_stay (x ∷ xs) [] h = h
   all_stay (x ∷ xs) (y ∷ ys) h = (h.0.stays, all_stay xs ys h.1)
 
-  pub all_seated : (xs ys : List Worker) → AllZip (RunsAllWindows n of width windows inboxes) xs ys → Each (IsSeated inboxes) (endpoints_of ys)
+  pub all_seated : (xs ys : List Worker) → AllZip (WorkerRunsAllWindows n of width windows inboxes) xs ys → Each (IsSeated inboxes) (endpoints_of ys)
   all_seated [] [] h = tt
   all_seated [] (y ∷ ys) h = absurd h
   all_seated (x ∷ xs) [] h = tt
   all_seated (x ∷ xs) (y ∷ ys) h = (h.0.seated, all_seated xs ys h.1)
 
   -- the endpoints at the end, each that of its worker
-  pub all_back : (xs ys : List Worker) → Together inboxes (endpoints_of xs) → AllZip (RunsAllWindows n of width windows inboxes) xs ys
+  pub all_back : (xs ys : List Worker) → Together inboxes (endpoints_of xs) → AllZip (WorkerRunsAllWindows n of width windows inboxes) xs ys
       → map (λ (c : Endpoint). c.worker) (endpoints_of ys) ≡ range_with_len 0 (length inboxes)
   all_back xs ys together ran = same_workers (endpoints_of xs) (endpoints_of ys) (all_stay xs ys ran) ∙ together.workers
 
-module _ (n : NetTold) (of : List ℕ) (width : ℕ) (old new : Workers) (cut : IsCut (length n.motes) (length new.inboxes.items) of) (ran : RunsAllMarked n of width old new) where
+module _ (n : NetTold) (of : List ℕ) (width : ℕ) (old new : Workers) (cut : IsCut (length n.motes) (length new.inboxes.items) of) (ran : GroupRunsMarked n of width old new) where
   abbrev ids : List InboxId
   ids = new.inboxes.items
 
@@ -78,7 +78,7 @@ module _ (n : NetTold) (of : List ℕ) (width : ℕ) (old new : Workers) (cut : 
 
   -- one worker, its number, and its taker
   module _ (v : ℕ) (low : v < length ids) (w : Worker) (at_first : slice_get ran.first v ≡ Some w) (d : Worker) (at_done : slice_get ran.done v ≡ Some d)
-      (has_run : RunsAllWindows n of width (windows_of width n.end) ids w d) (t : TakerView) (at_taker : slice_get new.takers.items v ≡ Some t) where
+      (has_run : WorkerRunsAllWindows n of width (windows_of width n.end) ids w d) (t : TakerView) (at_taker : slice_get new.takers.items v ≡ Some t) where
     its : w.endpoint.worker ≡ v
     its = numbered (length ids) starts ran.together.workers v low w.endpoint (mapped (λ (x : Worker). x.endpoint) ran.first v w at_first)
 
@@ -97,9 +97,9 @@ module _ (n : NetTold) (of : List ℕ) (width : ℕ) (old new : Workers) (cut : 
     pushed_same : (u : ℕ) → pushed_to d.endpoint u ≡ pushed_list (sender_of back u v)
     pushed_same u = ap pushed_list (sym (sender_is back u v d.endpoint at_back))
 
-    promise : RunsMarked n of width (windows_of width n.end) (length ids) v d.share d.endpoint.taker.state (λ u. pushed_list (sender_of back u v))
-    promise = subst (λ k. RunsMarked n of width (windows_of width n.end) (length ids) k d.share d.endpoint.taker.state (λ u. pushed_list (sender_of back u v))) its
-        (subst (λ (p : ℕ → List Carried). RunsMarked n of width (windows_of width n.end) (length ids) w.endpoint.worker d.share d.endpoint.taker.state p) (λ i u. pushed_same u i) has_run.promise)
+    promise : WorkerRunsMarked n of width (windows_of width n.end) (length ids) v d.share d.endpoint.taker.state (λ u. pushed_list (sender_of back u v))
+    promise = subst (λ k. WorkerRunsMarked n of width (windows_of width n.end) (length ids) k d.share d.endpoint.taker.state (λ u. pushed_list (sender_of back u v))) its
+        (subst (λ (p : ℕ → List Carried). WorkerRunsMarked n of width (windows_of width n.end) (length ids) w.endpoint.worker d.share d.endpoint.taker.state p) (λ i u. pushed_same u i) has_run.promise)
 
     pub one_ends : EndsMarked n of width (windows_of width n.end) (length ids) (sender_of back) v d.share t
     one_ends = record {
@@ -120,14 +120,14 @@ module _ (n : NetTold) (of : List ℕ) (width : ℕ) (old new : Workers) (cut : 
     pub at_first : slice_get ran.first v ≡ Some w
     pub d : Worker
     pub at_done : slice_get ran.done v ≡ Some d
-    pub has_run : RunsAllWindows n of width (windows_of width n.end) ids w d
+    pub has_run : WorkerRunsAllWindows n of width (windows_of width n.end) ids w d
     pub t : TakerView
     pub at_taker : slice_get new.takers.items v ≡ Some t
 
   stands : (v : ℕ) → v < length ids → Stands v
   stands v low =
       let w = there ran.first v (subst (λ l. v < l) (sym first_long) low) in
-      let d = beside (RunsAllWindows n of width (windows_of width n.end) ids) ran.first ran.done ran.ran v w.0 w.1 in
+      let d = beside (WorkerRunsAllWindows n of width (windows_of width n.end) ids) ran.first ran.done ran.ran v w.0 w.1 in
       let t = there new.takers.items v (subst (λ l. v < l) (sym takers_long) low) in
       record { w = w.0; at_first = w.1; d = d.0; at_done = d.1; has_run = d.2; t = t.0; at_taker = t.1 }
 
@@ -159,7 +159,7 @@ module _ (n : NetTold) (of : List ℕ) (width : ℕ) (old new : Workers) (cut : 
 
 -- all workers stand at the end, where no window was longer than the lookahead
 pub ended : (n : NetTold) → RunsForward (system_of n) → (of : List ℕ) (width : ℕ) → 0 < width → width ≤ (system_of n).lookahead
-    → (old new : Workers) → IsCut (length n.motes) (length old.inboxes.items) of → RunsAllMarked n of width old new → IsAt n of (suc n.end) new × Each (λ (t : TakerView). Whole t.state.gathered t.state.taken) new.takers.items
+    → (old new : Workers) → IsCut (length n.motes) (length old.inboxes.items) of → GroupRunsMarked n of width old new → IsAt n of (suc n.end) new × Each (λ (t : TakerView). Whole t.state.gathered t.state.taken) new.takers.items
 ended n fine of width wide short old new cut ran =
     let cut_now : IsCut (length n.motes) (length new.inboxes.items) of = subst (λ (l : List InboxId). IsCut (length n.motes) (length l) of) (sym ran.inboxes) cut in
     ends n fine of width (windows_of width n.end) short (are_windows width n.end wide) new (ends_marked n of width old new cut_now ran)

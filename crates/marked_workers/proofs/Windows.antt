@@ -29,8 +29,8 @@ use Rattle.all_workers.proofs.Sent.{leaves_sent}
 use Rattle.all_workers.specs.declared.worker.Worker.{Worker}
 use Rattle.marked_workers.specs.declared.worker.MarkWorker.{MarkWorker}
 use Rattle.marked_workers.specs.Bounds.{bound, windows_of, AreWindows}
-use Rattle.marked_workers.specs.WorkerHistory.{RunsMarked}
-use Rattle.marked_workers.specs.Thread.{IsFirst, IsStarted, IsSame, SendsWindow, TakesWindow, HasRun, RunsAllWindows}
+use Rattle.marked_workers.specs.WorkerHistory.{WorkerRunsMarked}
+use Rattle.marked_workers.specs.Thread.{IsFirst, IsStarted, IsSame, SendsWindow, TakesWindow, HasRun, WorkerRunsAllWindows}
 use Rattle.marked_workers.proofs.Bounds.{are_windows, begins_before, no_wider}
 use Rattle.marked_workers.proofs.Promise.{promise_first, promise_next}
 
@@ -65,12 +65,12 @@ started n of inboxes w m first same counts =
 
 -- and behind all its windows, without them
 pub told_of : (n : NetTold) (of : List ℕ) (width windows : ℕ) (inboxes : List InboxId) (w d : Worker) (m e : MarkWorker) → IsSame w m → IsSame d e
-    → HasRun n of width windows inboxes m e → RunsAllWindows n of width windows inboxes w d
+    → HasRun n of width windows inboxes m e → WorkerRunsAllWindows n of width windows inboxes w d
 told_of n of width windows inboxes w d m e before after ran = record {
   stays = subst (λ x. Stays x d.endpoint) before.endpoint (subst (Stays m.endpoint.base) after.endpoint ran.stays);
-  promise = subst (λ (x : Endpoint). RunsMarked n of width windows (length inboxes) x.worker d.share d.endpoint.taker.state (pushed_to d.endpoint)) before.endpoint
-      (subst (λ (x : Endpoint). RunsMarked n of width windows (length inboxes) m.endpoint.base.worker d.share x.taker.state (pushed_to x)) after.endpoint
-      (subst (λ s. RunsMarked n of width windows (length inboxes) m.endpoint.base.worker s e.endpoint.base.taker.state (pushed_to e.endpoint.base)) after.share ran.promise));
+  promise = subst (λ (x : Endpoint). WorkerRunsMarked n of width windows (length inboxes) x.worker d.share d.endpoint.taker.state (pushed_to d.endpoint)) before.endpoint
+      (subst (λ (x : Endpoint). WorkerRunsMarked n of width windows (length inboxes) m.endpoint.base.worker d.share x.taker.state (pushed_to x)) after.endpoint
+      (subst (λ s. WorkerRunsMarked n of width windows (length inboxes) m.endpoint.base.worker s e.endpoint.base.taker.state (pushed_to e.endpoint.base)) after.share ran.promise));
   seated = subst (IsSeated inboxes) after.endpoint ran.seated;
 }
 
@@ -78,7 +78,7 @@ told_of n of width windows inboxes w d m e before after ran = record {
 pub no_window : (n : NetTold) (of : List ℕ) (width : ℕ) (inboxes : List InboxId) (w : MarkWorker) → IsStarted n of inboxes w → HasRun n of width 0 inboxes w w
 no_window n of width inboxes w m = record {
   stays = stays_same w.endpoint.base;
-  promise = subst (λ (p : ℕ → List Carried). RunsMarked n of width 0 (length inboxes) w.endpoint.base.worker w.share w.endpoint.base.taker.state p)
+  promise = subst (λ (p : ℕ → List Carried). WorkerRunsMarked n of width 0 (length inboxes) w.endpoint.base.worker w.share w.endpoint.base.taker.state p)
       (λ i v. sym (m.none_pushed v) i)
       (promise_first n of width (length inboxes) w.endpoint.base.worker w.share w.endpoint.base.taker.state m.none_taken m.none_gathered m.keeps);
   seated = m.seated;
@@ -165,7 +165,7 @@ module _ (n : NetTold) (of : List ℕ) (width k until : ℕ) (inboxes : List Inb
     pub one_more : HasRun n of width (suc k) inboxes first new
     one_more = record {
       stays = stays_on first.endpoint.base old.endpoint.base new.endpoint.base stands.stays stays;
-      promise = subst (λ (t : TakerView). RunsMarked n of width (suc k) (length inboxes) worker new.share t.state (pushed_to new.endpoint.base)) (sym taker_is) promise;
+      promise = subst (λ (t : TakerView). WorkerRunsMarked n of width (suc k) (length inboxes) worker new.share t.state (pushed_to new.endpoint.base)) (sym taker_is) promise;
       seated = takes_seated inboxes of until between.endpoint.base new.endpoint.base takes.arrived takes.took takes.worker takes.senders seated;
       marked = marks_stay old.endpoint.base new.endpoint.base stays stands.marked;
       counts = takes.counts;
@@ -178,5 +178,5 @@ module _ (n : NetTold) (of : List ℕ) (width k until : ℕ) (inboxes : List Inb
         ran_to : Ran (bound width n.end (suc k))
         ran_to = subst Ran at (ran, keeps)
 
-        promise : RunsMarked n of width (suc k) (length inboxes) worker new.share (after_taking old.endpoint.base.taker more).state (pushed_to new.endpoint.base)
+        promise : WorkerRunsMarked n of width (suc k) (length inboxes) worker new.share (after_taking old.endpoint.base.taker more).state (pushed_to new.endpoint.base)
         promise = promise_next n of width (length inboxes) worker k old.share between.share new.share state (pushed_to old.endpoint.base) (pushed_to new.endpoint.base) more sends.sent stands.promise ran_to.0 goes lead of_made pushes_more ran_to.1

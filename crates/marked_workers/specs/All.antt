@@ -8,7 +8,7 @@ use Rattle.copy_inbox.specs.Handles.{SenderView, TakerView}
 use Rattle.copy_exchange.specs.Endpoints.{pushed_list}
 use Rattle.copy_exchange.specs.Steps.{gather_senders}
 use Rattle.marked_workers.specs.Senders.{AreSenders}
-use Rattle.marked_workers.specs.WorkerHistory.{WorkerHistory, RunsWindows}
+use Rattle.marked_workers.specs.WorkerHistory.{WorkerHistory, WorkerRunsWindows}
 
 -- Each worker ran its windows as its history says, and has taken of each sender on its inbox a beginning of what was
 -- pushed.
@@ -20,7 +20,7 @@ pub record AllRan (n : NetTold) (of : List ℕ) (width windows workers : ℕ) : 
   pub senders : (inbox : ℕ) → List SenderView
   pub history : ℕ → WorkerHistory
   pub ran : (v : ℕ) → v < workers
-      → RunsWindows n of width windows workers v (made v) (taken v) (λ u. pushed_list (sender u v)) (history v)
+      → WorkerRunsWindows n of width windows workers v (made v) (taken v) (λ u. pushed_list (sender u v)) (history v)
   pub are_senders : (u : ℕ) → u < workers → AreSenders workers u (sender u) (made u) (senders u)
   pub begun : (u : ℕ) → u < workers
       → Each (λ (s : SenderView). BeginsWith s.state.pushed (part s.state.number (taken u))) (senders u)

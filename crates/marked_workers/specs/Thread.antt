@@ -16,7 +16,7 @@ use Rattle.worker_cut.specs.Crossed.{IsDue}
 use Rattle.all_workers.specs.Workers.{IsCut}
 use Rattle.all_workers.specs.declared.worker.Worker.{Worker}
 use Rattle.marked_workers.specs.declared.worker.MarkWorker.{MarkWorker}
-use Rattle.marked_workers.specs.WorkerHistory.{RunsMarked}
+use Rattle.marked_workers.specs.WorkerHistory.{WorkerRunsMarked}
 
 -- A worker before its first window: its share is as it began, on its inbox a sender of each other worker was made, and
 -- nothing was pushed or taken.
@@ -73,16 +73,16 @@ pub record TakesWindow (of : List ℕ) (window until : ℕ) (old new : MarkWorke
 pub record HasRun (n : NetTold) (of : List ℕ) (width windows : ℕ) (inboxes : List InboxId)
     (first now : MarkWorker) : Type 0 where
   pub stays : Stays first.endpoint.base now.endpoint.base
-  pub promise : RunsMarked n of width windows (length inboxes) first.endpoint.base.worker now.share
+  pub promise : WorkerRunsMarked n of width windows (length inboxes) first.endpoint.base.worker now.share
       now.endpoint.base.taker.state (pushed_to now.endpoint.base)
   pub seated : IsSeated inboxes now.endpoint.base
   pub marked : HasMarks now.endpoint.base
   pub counts : Counts now.endpoint.marks.items now.endpoint.base.taker.state
 
 -- all that a worker's thread does: it ran so many windows
-pub record RunsAllWindows (n : NetTold) (of : List ℕ) (width windows : ℕ) (inboxes : List InboxId)
+pub record WorkerRunsAllWindows (n : NetTold) (of : List ℕ) (width windows : ℕ) (inboxes : List InboxId)
     (first now : Worker) : Type 0 where
   pub stays : Stays first.endpoint now.endpoint
-  pub promise : RunsMarked n of width windows (length inboxes) first.endpoint.worker now.share
+  pub promise : WorkerRunsMarked n of width windows (length inboxes) first.endpoint.worker now.share
       now.endpoint.taker.state (pushed_to now.endpoint)
   pub seated : IsSeated inboxes now.endpoint

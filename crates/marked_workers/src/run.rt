@@ -14,8 +14,8 @@ ghost use Rattle.all_workers.specs.WindowLength.{length_of_window};
 ghost use Rattle.all_workers.specs.Start.{AreFirst};
 ghost use Rattle.all_workers.specs.Workers.{IsCut};
 ghost use Rattle.marked_workers.specs.Bounds.{windows_of};
-ghost use Rattle.marked_workers.specs.Run.{RunsAllMarked};
-ghost use Rattle.marked_workers.specs.Thread.{IsFirst, RunsAllWindows};
+ghost use Rattle.marked_workers.specs.Run.{GroupRunsMarked};
+ghost use Rattle.marked_workers.specs.Thread.{IsFirst, WorkerRunsAllWindows};
 
 use crate::thread::MarkRunner;
 use crate::worker::WorkersRun;
@@ -65,7 +65,7 @@ where
     requires wide { 0 < run.width }
     requires short { run.width ≤ (system_of (net_of run.net.now)).lookahead }
     requires first { Each (IsFirst (net_of run.net.now) run.of.now run.inboxes.now) workers.items }
-    ensures { let n = net_of run.entry.net.now in IfOk result (λ done. AllZip (RunsAllWindows n run.entry.of.now
+    ensures { let n = net_of run.entry.net.now in IfOk result (λ done. AllZip (WorkerRunsAllWindows n run.entry.of.now
         run.entry.width (windows_of run.entry.width n.end) run.entry.inboxes.now) workers.items done.items) }
 {
     fork_join(rt, alloc, workers, &MarkRunner { rt, gate, run })
@@ -91,7 +91,7 @@ where
     requires fresh { AllZip IsFresh group.inboxes.items group.takers.items }
     requires marked { Each (λ taker. taker.state.marked ≡ true) group.takers.items }
     requires first { AreFirst (net_of net.now) of.now (length group.inboxes.items) group.shares.items }
-    ensures { IfOk result (RunsAllMarked (net_of net.now) of.now width group) }
+    ensures { IfOk result (GroupRunsMarked (net_of net.now) of.now width group) }
 {
     let Workers {
         shares,
@@ -148,7 +148,7 @@ where
     ensures inboxes { IfOk result (λ done. done.inboxes.items ≡ group.inboxes.items) }
     // Each worker ran all windows of this length.
     ensures windows { let n = net_of net.now in
-        IfOk result (RunsAllMarked n of.now (length_of_window (system_of n).lookahead longest) group) }
+        IfOk result (GroupRunsMarked n of.now (length_of_window (system_of n).lookahead longest) group) }
     ensures all_taken { IfOk result
         (λ done. Each (λ taker. Whole taker.state.gathered taker.state.taken) done.takers.items) }
 {

@@ -11,7 +11,7 @@ ghost use Rattle.all_workers.specs.Workers.{IsCut};
 ghost use Rattle.marked_workers.specs.Bounds.{bound, windows_of};
 ghost use Rattle.marked_workers.specs.Refusals.{refused_of};
 ghost use Rattle.marked_workers.specs.declared.worker.MarkWorker.{MarkWorker as MarkWorkerOfCode};
-ghost use Rattle.marked_workers.specs.Thread.{IsFirst, IsStarted, IsSame, HasRun, RunsAllWindows};
+ghost use Rattle.marked_workers.specs.Thread.{IsFirst, IsStarted, IsSame, HasRun, WorkerRunsAllWindows};
 ghost use Rattle.marked_workers.specs.Thread.{SendsWindow, TakesWindow};
 
 use crate::worker::{MarkWorker, WorkersRun};
@@ -148,7 +148,7 @@ fn run_one<R: Wait + RandomSource + AllocGlobal, G: Gate>(
 ///
 /// # Errors
 /// `Memory`; `Thread` where the executor answered an error; `Stopped` where it stopped because another worker failed.
-fn run_windows<R: Wait + RandomSource + AllocGlobal, G: Gate>(
+fn run_worker<R: Wait + RandomSource + AllocGlobal, G: Gate>(
     rt: &R,
     gate: &G,
     run: &WorkersRun<'_>,
@@ -215,7 +215,7 @@ fn without_marks(worker: MarkWorker) -> Worker
 /// All that a worker does in its thread.
 ///
 /// # Errors
-/// As [`run_windows`].
+/// As [`run_worker`].
 fn run_through<R: Wait + RandomSource + AllocGlobal, G: Gate>(
     rt: &R,
     gate: &G,
@@ -225,11 +225,11 @@ fn run_through<R: Wait + RandomSource + AllocGlobal, G: Gate>(
     requires wide { 0 < run.now.width }
     requires short { run.now.width ≤ (system_of (net_of run.now.net.now)).lookahead }
     requires first { IsFirst (net_of run.now.net.now) run.now.of.now run.now.inboxes.now worker }
-    ensures { let n = net_of run.now.net.now in IfOk result
-        (RunsAllWindows n run.now.of.now run.now.width (windows_of run.now.width n.end) run.now.inboxes.now worker) }
+    ensures { let n = net_of run.now.net.now in IfOk result (WorkerRunsAllWindows
+        n run.now.of.now run.now.width (windows_of run.now.width n.end) run.now.inboxes.now worker) }
 {
     let worker = with_marks(rt.alloc(), run, worker)?;
-    let done = run_windows(rt, gate, run, worker)?;
+    let done = run_worker(rt, gate, run, worker)?;
     Ok(without_marks(done))
 }
 
@@ -237,7 +237,7 @@ impl<R: Wait + RandomSource + AllocGlobal, G: Gate> Work<Worker> for MarkRunner<
     ghost ready = { λ w worker. (0 < w.run.width) × (w.run.width ≤ (system_of (net_of w.run.net.now)).lookahead)
         × IsFirst (net_of w.run.net.now) w.run.of.now w.run.inboxes.now worker };
 
-    ghost makes = { λ w old new. let n = net_of w.run.net.now in RunsAllWindows n w.run.of.now w.run.width
+    ghost makes = { λ w old new. let n = net_of w.run.net.now in WorkerRunsAllWindows n w.run.of.now w.run.width
         (windows_of w.run.width n.end) w.run.inboxes.now old new };
 
     fn work(&self, worker: Worker) -> Result<Worker, Refused> {
