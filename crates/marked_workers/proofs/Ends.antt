@@ -32,7 +32,7 @@ use Rattle.marked_workers.specs.AtEnd.{EndsMarked, EndAllMarked}
 use Rattle.copy_exchange.specs.Endpoints.{pushed_list}
 use Rattle.marked_workers.specs.Senders.{AreSenders}
 use Rattle.marked_workers.specs.WorkerHistory.{WorkerHistory, WorkerRunsWindows}
-use Rattle.marked_workers.specs.All.{AllRan, HasGathered, IsOfTakers}
+use Rattle.marked_workers.specs.All.{AllRan, GatheredSenders, IsOfTakers}
 use Rattle.marked_workers.proofs.Bounds.{at_the_end}
 use Rattle.marked_workers.proofs.Pairs.{not_other, pair, copies_from, copies_none}
 use Rattle.marked_workers.proofs.Seen.{nobodys, sent_so_far, of_worker, of_nobody}
@@ -58,7 +58,7 @@ module _ (n : NetTold) (of : List ℕ) (width windows : ℕ) (group : Workers) (
     keeps : Keeps n of v (bound width n.end windows) (z.history.motes windows) (copies_of z.state.taken) share
     are_senders : AreSenders workers v (h.sender v) z.state.made z.senders
     begun : Each (λ (s : SenderView). BeginsWith s.state.pushed (part s.state.number z.state.taken)) z.senders
-    gathers : HasGathered z.state.made z.state.taken z.senders taker
+    gathers : GatheredSenders z.state.made z.state.taken z.senders taker
     inbox : InboxId
     taker_is : taker ≡ record { inbox = inbox; state = with_joined z.senders (record z.state { gathered = [] }) }
 
@@ -118,7 +118,7 @@ module _ (n : NetTold) (of : List ℕ) (width windows : ℕ) (group : Workers) (
   is_of_takers : IsOfTakers all group.takers.items
   is_of_takers v low t is =
       let p = parts.1 v low in
-      subst (HasGathered (all.made v) (all.taken v) (all.senders v)) (same_found (slice_get group.takers.items v) p.taker t p.taker_at is) p.gathers
+      subst (GatheredSenders (all.made v) (all.taken v) (all.senders v)) (same_found (slice_get group.takers.items v) p.taker t p.taker_at is) p.gathers
 
   -- what all workers did
   pub all_ran : (a : AllRan n of width windows (length group.inboxes.items)) × IsOfTakers a group.takers.items

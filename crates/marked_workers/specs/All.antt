@@ -26,7 +26,7 @@ pub record AllRan (n : NetTold) (of : List ℕ) (width windows workers : ℕ) : 
       → Each (λ (s : SenderView). BeginsWith s.state.pushed (part s.state.number (taken u))) (senders u)
 
 -- a taker that had taken these items, of so many senders, and then gathered these
-pub record HasGathered (made : ℕ) (taken : List Item) (senders : List SenderView) (taker : TakerView) : Type 0 where
+pub record GatheredSenders (made : ℕ) (taken : List Item) (senders : List SenderView) (taker : TakerView) : Type 0 where
   pub before : TakerView
   pub is_made : before.state.made ≡ made
   pub is_taken : before.state.taken ≡ taken
@@ -37,4 +37,4 @@ pub record HasGathered (made : ℕ) (taken : List Item) (senders : List SenderVi
 abbrev pub IsOfTakers : {n : NetTold} {of : List ℕ} {width windows workers : ℕ}
     → AllRan n of width windows workers → List TakerView → Type 0
 IsOfTakers {n} {of} {width} {windows} {workers} all takers = (v : ℕ) → v < workers → (taker : TakerView)
-    → slice_get takers v ≡ Some taker → HasGathered (all.made v) (all.taken v) (all.senders v) taker
+    → slice_get takers v ≡ Some taker → GatheredSenders (all.made v) (all.taken v) (all.senders v) taker

@@ -9,7 +9,7 @@ ghost use Rattle.mark_exchange.specs.Marks.{Counts};
 ghost use Rattle.worker_window.specs.Window.{CanRun};
 ghost use Rattle.all_workers.specs.Workers.{IsCut};
 ghost use Rattle.marked_workers.specs.Bounds.{bound, windows_of};
-ghost use Rattle.marked_workers.specs.Refusals.{refused_of};
+ghost use Rattle.marked_workers.specs.Refusals.{refused_of_marks};
 ghost use Rattle.marked_workers.specs.declared.worker.MarkWorker.{MarkWorker as MarkWorkerOfCode};
 ghost use Rattle.marked_workers.specs.Thread.{IsFirst, IsStarted, IsSame, HasRun, WorkerRunsAllWindows};
 ghost use Rattle.marked_workers.specs.Thread.{SendsWindow, TakesWindow};
@@ -80,7 +80,7 @@ fn send_window<R: Wait + RandomSource + AllocGlobal, G: Gate>(
 /// Why a worker gave up that took no further. A copy that isn't due comes only where another worker has broken the
 /// protocol, which none does.
 fn gave_up(error: MarkError) -> Refused
-    ensures { result ≡ refused_of error }
+    ensures { result ≡ refused_of_marks error }
 {
     match error {
         MarkError::Memory => Refused::Memory,
