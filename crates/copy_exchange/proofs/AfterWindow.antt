@@ -16,7 +16,7 @@ use Rattle.copy_exchange.specs.Takers.{copies_in, IsOrderly}
 use Rattle.copy_exchange.specs.Endpoints.{IsEndpoint, IsSeated, IsCollected, DeliversOwn, Stays, AreOpen, Returns, AllReturn, GathersDelivered, sender_to, senders_to, seat_of}
 use Rattle.copy_exchange.specs.Inboxes.{IsPlain, IsSettled, Settled}
 use Rattle.copy_exchange.specs.Steps.{AreTakersOf, GathersRow, GathersBack, TellsOf, gather_into, gather_senders, at_place}
-use Rattle.copy_exchange.proofs.Gathers.{gather_is, with_joined, numbers_of, joined_copies, all_gathered, stands_then, packets_then, OneOf}
+use Rattle.copy_exchange.proofs.Gathers.{gather_is, with_joined, numbers_of, joined_copies, all_gathered, orderly_then, packets_then, OneOf}
 use Rattle.copy_exchange.proofs.Delivered.{seated}
 use Rattle.copy_exchange.proofs.Lists.{each_from, each_join, each_map}
 use Rattle.copy_exchange.proofs.Rows.{into_inbox}
@@ -140,7 +140,7 @@ module _ (inboxes : List InboxId) (cs : List Endpoint) (back : AllReturn inboxes
       let d : TakerState = c.taker.state in
       let P : TakerView → Type 0 = λ t. (IsOrderly t.state × AllGathered t.state) × GathersDelivered cs c t in
       let then_ : P (record { inbox = c.taker.inbox; state = with_joined ss d }) = (
-        (stands_then ss d endpoint.stands done.0 are_open (λ s. one s c.worker), all_gathered ss d endpoint.stands done.0 are_open (λ s. one s c.worker)),
+        (orderly_then ss d endpoint.orderly done.0 are_open (λ s. one s c.worker), all_gathered ss d endpoint.orderly done.0 are_open (λ s. one s c.worker)),
         record {
           same_marked = refl;
           same_taken = refl;
@@ -163,7 +163,7 @@ module _ (inboxes : List InboxId) (cs : List Endpoint) (back : AllReturn inboxes
       let P : TakerView → Type 0 = λ t. PacketsLeft t.state in
       record {
         its = ap (λ (t : TakerView). t.inbox) is;
-        stands = h.1.0;
+        orderly = h.1.0;
         all = h.1.1;
         no_mark = subst P (sym is) (packets_then ss c.taker.state h.3.0 packets);
       }

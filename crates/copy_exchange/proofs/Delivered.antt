@@ -173,7 +173,7 @@ seated inboxes c h = record { taker = h.taker; count = h.count; each = h.each }
 pub endpoint_again : (inboxes : List InboxId) (of : List ℕ) (a b : Endpoint) (copies : List RadioCopy) → IsEndpoint inboxes a → Delivers of a b copies → IsSeated inboxes b → IsEndpoint inboxes b
 endpoint_again inboxes of a b copies h d s =
     let P : TakerView → Type 0 = λ t. IsOrderly t.state in
-    record { taker = s.taker; count = s.count; each = s.each; stands = subst P (sym d.taker) h.stands }
+    record { taker = s.taker; count = s.count; each = s.each; orderly = subst P (sym d.taker) h.orderly }
 
 -- ---- the copies for other workers
 pub pushes_none : (of : List ℕ) (c : Endpoint) → PushesOut of c c []

@@ -64,7 +64,7 @@ pub record IsEndpoint (inboxes : List InboxId) (e : Endpoint) : Type 0 where
   pub taker : slice_get inboxes e.worker ≡ Some e.taker.inbox
   pub count : length e.senders.items ≡ length inboxes
   pub each : (v : ℕ) (id : InboxId) → slice_get inboxes v ≡ Some id → IsSenderOn id (v == e.worker) (sender_to e v)
-  pub stands : IsOrderly e.taker.state
+  pub orderly : IsOrderly e.taker.state
 
 -- all that was gathered before this window is taken
 abbrev pub IsCollected : Endpoint → Type 0

@@ -36,7 +36,7 @@ use Rattle.marked_workers.specs.All.{AllRan, GatheredSenders, IsOfTakers}
 use Rattle.marked_workers.proofs.Bounds.{at_the_end}
 use Rattle.marked_workers.proofs.Pairs.{not_other, pair, copies_from, copies_none}
 use Rattle.marked_workers.proofs.Seen.{nobodys, sent_so_far, of_worker, of_nobody}
-use Rattle.marked_workers.proofs.Settles.{pair_taken, all_taken, one, gathered_all, whole_then, no_mark, stands, same_of_each}
+use Rattle.marked_workers.proofs.Settles.{pair_taken, all_taken, one, gathered_all, whole_then, no_mark, orderly, same_of_each}
 use Rattle.marked_workers.proofs.Stages.{stage, own_stage, Reached, reached}
 
 module _ (n : NetTold) (of : List ℕ) (width windows : ℕ) (group : Workers) (h : EndAllMarked n of width windows group) where
@@ -192,7 +192,7 @@ module _ (n : NetTold) (of : List ℕ) (width windows : ℕ) (group : Workers) (
           let is = read group.takers.items v p.taker taker p.taker_at in
           subst (IsSettled (get_or group.inboxes.items v id)) (sym is) (record {
             its = ap (λ (t : TakerView). t.inbox) (sym is) ∙ h.inbox_of_taker v id taker low;
-            stands = subst (λ (t : TakerView). IsOrderly t.state) (sym p.taker_is) (stands workers v (h.sender v) z.state z.senders p.are_senders p.ran.of_made p.begun (all_taken n of width windows workers all v low) its_one);
+            orderly = subst (λ (t : TakerView). IsOrderly t.state) (sym p.taker_is) (orderly workers v (h.sender v) z.state z.senders p.are_senders p.ran.of_made p.begun (all_taken n of width windows workers all v low) its_one);
             no_mark = subst (λ (t : TakerView). PacketsLeft t.state) (sym p.taker_is) (no_mark workers v (h.sender v) z.state z.senders p.are_senders p.ran.of_made p.begun (all_taken n of width windows workers all v low) its_one);
             all = subst (λ (t : TakerView). AllGathered t.state) (sym p.taker_is) (gathered_all workers v (h.sender v) z.state z.senders p.are_senders p.ran.of_made p.begun (all_taken n of width windows workers all v low) its_one);
           })
