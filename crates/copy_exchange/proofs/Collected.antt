@@ -87,7 +87,7 @@ module _ (inboxes : List InboxId) (c : Endpoint) (t : TakerView) (r : Result (Ve
           marked = ap (λ (u : TakerView). u.state.marked) takes.2;
           made = ap (λ (u : TakerView). u.state.made) takes.2;
           gathered = ap (λ (u : TakerView). u.state.gathered) takes.2;
-          seats = refl;
+          identities = refl;
         };
         plain = ap (λ (u : TakerView). u.state.marked) takes.2 ∙ plain;
         adds = adds c.taker t copies.items takes;

@@ -209,13 +209,13 @@ at_this : (pass_of : ℕ → Option ℕ) (n : ℕ) (o : Option ℕ) (s : ℕ) �
 at_this pass_of n o s e = ap (λ b. cond b o (pass_of s)) (eq-eqb s n e)
 
 -- a sender with a pass isn't the one without
-seated : (pass_of : ℕ → Option ℕ) (s n pass : ℕ) → pass_of s ≡ Some pass → pass_of n ≡ None → s ≢ n
-seated pass_of s n pass a b e = let k : pass_of s ≡ pass_of n = ap pass_of e in absurd cc
+pass_tells_apart : (pass_of : ℕ → Option ℕ) (s n pass : ℕ) → pass_of s ≡ Some pass → pass_of n ≡ None → s ≢ n
+pass_tells_apart pass_of s n pass a b e = let k : pass_of s ≡ pass_of n = ap pass_of e in absurd cc
 
 fits_fork : (taker : ℕ) (pass_of : ℕ → Option ℕ) (d e : TakerState) (pushed : ℕ → List Carried) (n : ℕ) (o : Option ℕ) (j : ℕ) (u : View)
     → j ≢ taker → pass_of n ≡ None → d.marked ≡ e.marked → PassFits taker pass_of d pushed j u → PassFits taker (λ s. cond (eqb s n) o (pass_of s)) e pushed j u
 fits_fork taker pass_of d e pushed n o j (Taking k) apart none m f = absurd (apart f.0)
-fits_fork taker pass_of d e pushed n o j (Sending q) apart none m f = (at_other pass_of n o q.number (seated pass_of q.number n j f.0 none) ∙ f.0, f.1, f.2 ∙ m)
+fits_fork taker pass_of d e pushed n o j (Sending q) apart none m f = (at_other pass_of n o q.number (pass_tells_apart pass_of q.number n j f.0 none) ∙ f.0, f.1, f.2 ∙ m)
 fits_fork taker pass_of d e pushed n o j Spent apart none m f = f
 
 pub forks : (pass : ℕ) (d : TakerState) → Forks InboxRule pass (Taking d) (with_one_more (Taking d)) (next_sender (Taking d))
@@ -291,7 +291,7 @@ merges pass d other p items views h at two at' =
     let N : ℕ → View → Type 0 = λ j u. j ≢ other → F j u in
     let now : All N vs = all_set N views pass (Taking w) (λ _. (mine.0, refl))
     (λ j u apart e n. fits_join h.taker h.pass_of h.taker_state w h.pushed p.number other j u (λ k. apart (k ∙ sym mine.0)) theirs.0 n (ap (λ (D : TakerState). D.marked) (sym mine.1)) (h.fits j u e)) in
-    let made : p.number < d.made = below d.made p.number (λ le. seated h.pass_of p.number p.number other theirs.0 (s.unmade p.number le).1 refl) in
+    let made : p.number < d.made = below d.made p.number (λ le. pass_tells_apart h.pass_of p.number p.number other theirs.0 (s.unmade p.number le).1 refl) in
     let none : Each (λ (k : Gathered). h.pass_of k.number ≡ None) d.gathered = each_map d.gathered (λ k j. j.spent) s.joined in
     record {
       taker = h.taker;
@@ -309,7 +309,7 @@ merges pass d other p items views h at two at' =
             (eqb_tells p.number t);
         joined = (
           record { was_made = made; spent = at_this h.pass_of p.number None p.number refl; all = sym theirs.1; behind = behind-fresh p.number d.made items (λ u le. part-nil_right u d.taken items (s.parts u ∙ (s.unmade u le).0)) },
-          each_map d.gathered (λ k j. record { was_made = j.was_made; spent = at_other h.pass_of p.number None k.number (λ e. seated h.pass_of p.number k.number other theirs.0 j.spent (sym e)) ∙ j.spent; all = j.all; behind = j.behind }) s.joined,
+          each_map d.gathered (λ k j. record { was_made = j.was_made; spent = at_other h.pass_of p.number None k.number (λ e. pass_tells_apart h.pass_of p.number k.number other theirs.0 j.spent (sym e)) ∙ j.spent; all = j.all; behind = j.behind }) s.joined,
         );
         apart = (not_gathered h.pass_of d.gathered p.number other none theirs.0, s.apart);
         plain = s.plain;

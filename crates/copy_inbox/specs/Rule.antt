@@ -18,8 +18,8 @@ abbrev pub Behind : ℕ → ℕ → List Item → Type 0
 Behind s made [] = Unit {0}
 Behind s made (x ∷ xs) = (made ≤ x.sender → part s (x ∷ xs) ≡ []) × Behind s made xs
 
--- the one taker's pass knows what was taken and gathered; a sender's is the pass of its number, and knows what the sender
--- pushed, and whether there are marks
+-- a pass with the taker's view is the taker's, and one with a sender's view is that sender's; all of them know alike
+-- whether there are marks
 abbrev pub PassFits : ℕ → (ℕ → Option ℕ) → TakerState → (ℕ → List Carried) → ℕ → View → Type 0
 PassFits taker pass_of d pushed pass (Taking e) = (pass ≡ taker) × (e ≡ d)
 PassFits taker pass_of d pushed pass (Sending p) =

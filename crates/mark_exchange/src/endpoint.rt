@@ -2,7 +2,7 @@
 
 ghost use Rattle.std.specs.Prelude.{◌≡◌, [], length, IfErr, IfOk, OnOk};
 ghost use Rattle.std.specs.List.{AllByRecursion as Each};
-ghost use Rattle.copy_exchange.specs.Endpoints.{HasMarks, IsSeated, Reaches};
+ghost use Rattle.copy_exchange.specs.Endpoints.{HasMarks, IsOnInboxes, Reaches};
 ghost use Rattle.mark_exchange.specs.Delivers.{PushesWindow};
 ghost use Rattle.mark_exchange.specs.declared.take.MarkError.TheVariants.{Undue};
 ghost use Rattle.mark_exchange.specs.Due.{TakesDue, TakesUndue};
@@ -55,12 +55,12 @@ impl MarkEndpoint {
         copies: &[RadioCopy],
         window: u64,
     ) -> Result<(), InboxError>
-        requires seated { IsSeated inboxes.now self.old.base }
+        requires on_inboxes { IsOnInboxes inboxes.now self.old.base }
         requires marked { HasMarks self.old.base }
         requires reaches { Each (Reaches of.now (length inboxes.now)) copies.now }
         ensures pushes { OnOk result
             (PushesWindow of.now (length inboxes.now) window self.old.base self.new.base copies.now) }
-        ensures seated { OnOk result (IsSeated inboxes.now self.new.base) }
+        ensures on_inboxes { OnOk result (IsOnInboxes inboxes.now self.new.base) }
         ensures counts { OnOk result (self.new.marks ≡ self.old.marks) }
     {
         self.base.push_copies(rt, inboxes, of, copies)?;

@@ -12,7 +12,7 @@ use Rattle.copy_inbox.specs.Gathered.{Whole}
 use Rattle.copy_inbox.specs.Items.{BeginsWith, part}
 use Rattle.copy_inbox.specs.Handles.{InboxId, TakerView, SenderView, after_gather}
 use Rattle.copy_exchange.specs.declared.endpoint.Endpoint.{Endpoint}
-use Rattle.copy_exchange.specs.Endpoints.{IsSeated, Stays, Together, pushed_list, pushed_to, senders_to}
+use Rattle.copy_exchange.specs.Endpoints.{IsOnInboxes, Stays, Together, pushed_list, pushed_to, senders_to}
 use Rattle.copy_exchange.specs.Steps.{TellsOf, gather_senders}
 use Rattle.copy_exchange.proofs.Gathers.{gather_is}
 use Rattle.copy_exchange.proofs.AfterWindow.{same_workers}
@@ -43,11 +43,11 @@ module _ (n : NetTold) (of : List ℕ) (width windows : ℕ) (inboxes : List Inb
   all_stay (x ∷ xs) [] h = h
   all_stay (x ∷ xs) (y ∷ ys) h = (h.0.stays, all_stay xs ys h.1)
 
-  pub all_seated : (xs ys : List Worker) → AllZip (WorkerRunsAllWindows n of width windows inboxes) xs ys → Each (IsSeated inboxes) (endpoints_of ys)
-  all_seated [] [] h = tt
-  all_seated [] (y ∷ ys) h = absurd h
-  all_seated (x ∷ xs) [] h = tt
-  all_seated (x ∷ xs) (y ∷ ys) h = (h.0.seated, all_seated xs ys h.1)
+  pub all_on_inboxes : (xs ys : List Worker) → AllZip (WorkerRunsAllWindows n of width windows inboxes) xs ys → Each (IsOnInboxes inboxes) (endpoints_of ys)
+  all_on_inboxes [] [] h = tt
+  all_on_inboxes [] (y ∷ ys) h = absurd h
+  all_on_inboxes (x ∷ xs) [] h = tt
+  all_on_inboxes (x ∷ xs) (y ∷ ys) h = (h.0.on_inboxes, all_on_inboxes xs ys h.1)
 
   -- the endpoints at the end, each that of its worker
   pub all_back : (xs ys : List Worker) → Together inboxes (endpoints_of xs) → AllZip (WorkerRunsAllWindows n of width windows inboxes) xs ys
@@ -73,8 +73,8 @@ module _ (n : NetTold) (of : List ℕ) (width : ℕ) (old new : Workers) (cut : 
   stays : AllZip Stays starts back
   stays = all_stay n of width (windows_of width n.end) ids ran.first ran.done ran.ran
 
-  seated : Each (IsSeated ids) back
-  seated = all_seated n of width (windows_of width n.end) ids ran.first ran.done ran.ran
+  on_inboxes : Each (IsOnInboxes ids) back
+  on_inboxes = all_on_inboxes n of width (windows_of width n.end) ids ran.first ran.done ran.ran
 
   -- one worker, its number, and its taker
   module _ (v : ℕ) (low : v < length ids) (w : Worker) (at_first : slice_get ran.first v ≡ Some w) (d : Worker) (at_done : slice_get ran.done v ≡ Some d)
@@ -92,7 +92,7 @@ module _ (n : NetTold) (of : List ℕ) (width : ℕ) (old new : Workers) (cut : 
     taker_inbox = ap (λ (x : TakerView). x.inbox) (ran.back.taker v d.endpoint t at_back at_taker ∙ gather_is d.endpoint.taker (senders_to back v))
 
     its_inbox : slice_get ids v ≡ Some d.endpoint.taker.inbox
-    its_inbox = subst (λ k. slice_get ids k ≡ Some d.endpoint.taker.inbox) (has_run.stays.worker ∙ its) has_run.seated.taker
+    its_inbox = subst (λ k. slice_get ids k ≡ Some d.endpoint.taker.inbox) (has_run.stays.worker ∙ its) has_run.on_inboxes.taker
 
     pushed_same : (u : ℕ) → pushed_to d.endpoint u ≡ pushed_list (sender_of back u v)
     pushed_same u = ap pushed_list (sym (sender_is back u v d.endpoint at_back))
@@ -106,7 +106,7 @@ module _ (n : NetTold) (of : List ℕ) (width : ℕ) (old new : Workers) (cut : 
       before = d.endpoint.taker;
       promise = promise;
       senders = senders_to back v;
-      are_senders = of_others (length ids) v (sender_of back v) d.endpoint.taker.state.made (senders_to back v) (are_senders ids starts back ran.together ran.none_gathered stays seated v d.endpoint at_back);
+      are_senders = of_others (length ids) v (sender_of back v) d.endpoint.taker.state.made (senders_to back v) (are_senders ids starts back ran.together ran.none_gathered stays on_inboxes v d.endpoint at_back);
       begun = every_weaker (λ (s : SenderView). TellsOf d.endpoint.taker.state s.state) (λ (s : SenderView). BeginsWith s.state.pushed (part s.state.number d.endpoint.taker.state.taken)) (λ s h. h.begun) (senders_to back v) (ran.back.told v d.endpoint at_back);
       gathered = taker_is;
     }

@@ -14,14 +14,14 @@ use Rattle.copy_inbox.specs.declared.rule.TakerState.{TakerState}
 use Rattle.copy_inbox.specs.Items.{copies_of, part, OfMade}
 use Rattle.copy_inbox.specs.Handles.{InboxId, TakerView, after_taking}
 use Rattle.copy_inbox.proofs.Parts.{part-append, part-else}
-use Rattle.copy_exchange.specs.Endpoints.{IsSeated, Reaches, Stays, pushed_list, pushed_to}
+use Rattle.copy_exchange.specs.Endpoints.{IsOnInboxes, Reaches, Stays, pushed_list, pushed_to}
 use Rattle.copy_exchange.proofs.Delivered.{stays_on}
 use Rattle.copy_exchange.proofs.Marked.{marks_stay, stays_same}
 use Rattle.copy_exchange.specs.declared.endpoint.Endpoint.{Endpoint}
 use Rattle.mark_exchange.specs.declared.endpoint.MarkEndpoint.{MarkEndpoint}
 use Rattle.mark_exchange.specs.Marks.{Counts}
 use Rattle.mark_exchange.specs.Pushes.{marks_in}
-use Rattle.mark_exchange.proofs.Delivered.{takes_stays, takes_seated}
+use Rattle.mark_exchange.proofs.Delivered.{takes_stays, takes_on_inboxes}
 use Rattle.worker_window.specs.Share.{Keeps}
 use Rattle.worker_window.specs.Window.{CanRun, GoesOut, RunsWindow}
 use Rattle.all_workers.specs.Workers.{IsCut}
@@ -55,7 +55,7 @@ started n of inboxes w m first same counts =
     subst (λ (x : Endpoint). IsStarted n of inboxes (record { share = w.share; endpoint = record m { base = x } })) (sym same) (record {
       cut = first.cut;
       keeps = first.keeps;
-      seated = first.seated;
+      on_inboxes = first.on_inboxes;
       marked = first.marked;
       counts = counts;
       none_taken = first.none_taken;
@@ -71,7 +71,7 @@ told_of n of width windows inboxes w d m e before after ran = record {
   promise = subst (λ (x : Endpoint). WorkerRunsMarked n of width windows (length inboxes) x.worker d.share d.endpoint.taker.state (pushed_to d.endpoint)) before.endpoint
       (subst (λ (x : Endpoint). WorkerRunsMarked n of width windows (length inboxes) m.endpoint.base.worker d.share x.taker.state (pushed_to x)) after.endpoint
       (subst (λ s. WorkerRunsMarked n of width windows (length inboxes) m.endpoint.base.worker s e.endpoint.base.taker.state (pushed_to e.endpoint.base)) after.share ran.promise));
-  seated = subst (IsSeated inboxes) after.endpoint ran.seated;
+  on_inboxes = subst (IsOnInboxes inboxes) after.endpoint ran.on_inboxes;
 }
 
 -- before its first window
@@ -81,7 +81,7 @@ no_window n of width inboxes w m = record {
   promise = subst (λ (p : ℕ → List Carried). WorkerRunsMarked n of width 0 (length inboxes) w.endpoint.base.worker w.share w.endpoint.base.taker.state p)
       (λ i v. sym (m.none_pushed v) i)
       (promise_first n of width (length inboxes) w.endpoint.base.worker w.share w.endpoint.base.taker.state m.none_taken m.none_gathered m.keeps);
-  seated = m.seated;
+  on_inboxes = m.on_inboxes;
   marked = m.marked;
   counts = m.counts;
 }
@@ -108,7 +108,7 @@ module _ (n : NetTold) (of : List ℕ) (width k until : ℕ) (inboxes : List Inb
   }
 
   -- and once it did, it is behind one more
-  module _ (short : width ≤ (system_of n).lookahead) (between new : MarkWorker) (sends : SendsWindow n of (length inboxes) k until old between) (seated : IsSeated inboxes between.endpoint.base) (takes : TakesWindow of k until between new) where
+  module _ (short : width ≤ (system_of n).lookahead) (between new : MarkWorker) (sends : SendsWindow n of (length inboxes) k until old between) (on_inboxes : IsOnInboxes inboxes between.endpoint.base) (takes : TakesWindow of k until between new) where
     abbrev worker : ℕ
     worker = first.endpoint.base.worker
 
@@ -166,7 +166,7 @@ module _ (n : NetTold) (of : List ℕ) (width k until : ℕ) (inboxes : List Inb
     one_more = record {
       stays = stays_on first.endpoint.base old.endpoint.base new.endpoint.base stands.stays stays;
       promise = subst (λ (t : TakerView). WorkerRunsMarked n of width (suc k) (length inboxes) worker new.share t.state (pushed_to new.endpoint.base)) (sym taker_is) promise;
-      seated = takes_seated inboxes of until between.endpoint.base new.endpoint.base takes.arrived takes.took takes.worker takes.senders seated;
+      on_inboxes = takes_on_inboxes inboxes of until between.endpoint.base new.endpoint.base takes.arrived takes.took takes.worker takes.senders on_inboxes;
       marked = marks_stay old.endpoint.base new.endpoint.base stays stands.marked;
       counts = takes.counts;
     }

@@ -6,7 +6,7 @@ use Rattle.mote_net.specs.Net.{NetTold}
 use Rattle.window_laws.specs.Windows.{first_mote}
 use Rattle.net_agenda.specs.NetSystem.{system_of}
 use Rattle.copy_inbox.specs.Handles.{InboxId}
-use Rattle.copy_exchange.specs.Endpoints.{HasMarks, HasPushedNothing, IsSeated, Stays, pushed_to}
+use Rattle.copy_exchange.specs.Endpoints.{HasMarks, HasPushedNothing, IsOnInboxes, Stays, pushed_to}
 use Rattle.mark_exchange.specs.Delivers.{PushesWindow}
 use Rattle.mark_exchange.specs.Due.{TakesDue}
 use Rattle.mark_exchange.specs.Marks.{AllPast, Counts}
@@ -23,7 +23,7 @@ use Rattle.marked_workers.specs.WorkerHistory.{WorkerRunsMarked}
 pub record IsFirst (n : NetTold) (of : List ℕ) (inboxes : List InboxId) (w : Worker) : Type 0 where
   pub cut : IsCut (length n.motes) (length inboxes) of
   pub keeps : Keeps n of w.endpoint.worker 0 (first_mote (system_of n)) [] w.share
-  pub seated : IsSeated inboxes w.endpoint
+  pub on_inboxes : IsOnInboxes inboxes w.endpoint
   pub marked : HasMarks w.endpoint
   pub made : suc w.endpoint.taker.state.made ≡ length inboxes
   pub none_taken : w.endpoint.taker.state.taken ≡ []
@@ -39,7 +39,7 @@ pub record IsSame (w : Worker) (m : MarkWorker) : Type 0 where
 pub record IsStarted (n : NetTold) (of : List ℕ) (inboxes : List InboxId) (w : MarkWorker) : Type 0 where
   pub cut : IsCut (length n.motes) (length inboxes) of
   pub keeps : Keeps n of w.endpoint.base.worker 0 (first_mote (system_of n)) [] w.share
-  pub seated : IsSeated inboxes w.endpoint.base
+  pub on_inboxes : IsOnInboxes inboxes w.endpoint.base
   pub marked : HasMarks w.endpoint.base
   pub counts : Counts w.endpoint.marks.items w.endpoint.base.taker.state
   pub none_taken : w.endpoint.base.taker.state.taken ≡ []
@@ -75,7 +75,7 @@ pub record HasRun (n : NetTold) (of : List ℕ) (width windows : ℕ) (inboxes :
   pub stays : Stays first.endpoint.base now.endpoint.base
   pub promise : WorkerRunsMarked n of width windows (length inboxes) first.endpoint.base.worker now.share
       now.endpoint.base.taker.state (pushed_to now.endpoint.base)
-  pub seated : IsSeated inboxes now.endpoint.base
+  pub on_inboxes : IsOnInboxes inboxes now.endpoint.base
   pub marked : HasMarks now.endpoint.base
   pub counts : Counts now.endpoint.marks.items now.endpoint.base.taker.state
 
@@ -85,4 +85,4 @@ pub record WorkerRunsAllWindows (n : NetTold) (of : List ℕ) (width windows : �
   pub stays : Stays first.endpoint now.endpoint
   pub promise : WorkerRunsMarked n of width windows (length inboxes) first.endpoint.worker now.share
       now.endpoint.taker.state (pushed_to now.endpoint)
-  pub seated : IsSeated inboxes now.endpoint
+  pub on_inboxes : IsOnInboxes inboxes now.endpoint

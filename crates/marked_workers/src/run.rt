@@ -6,7 +6,7 @@ ghost use Rattle.fork_join.specs.declared.work.Refused.TheVariants.{Memory};
 ghost use Rattle.mote_net.specs.Net.{net_of};
 ghost use Rattle.net_agenda.specs.NetSystem.{system_of};
 ghost use Rattle.copy_inbox.specs.Gathered.{Whole};
-ghost use Rattle.copy_exchange.specs.Endpoints.{IsSeated};
+ghost use Rattle.copy_exchange.specs.Endpoints.{IsOnInboxes};
 ghost use Rattle.copy_exchange.specs.Inboxes.{IsFresh};
 ghost use Rattle.copy_exchange.specs.Steps.{GathersBack};
 ghost use Rattle.all_workers.specs.Workers.{IsAt};
@@ -41,7 +41,7 @@ fn gather_endpoints<R: Wait>(
     endpoints: Vec<Endpoint>,
 ) -> Result<Vec<Taker>, Refused>
     requires workers { map (λ endpoint. endpoint.worker) endpoints.items ≡ range_with_len 0 (length inboxes.now) }
-    requires seated { Each (IsSeated inboxes.now) endpoints.items }
+    requires on_inboxes { Each (IsOnInboxes inboxes.now) endpoints.items }
     ensures back { IfOk result (λ takers. GathersBack endpoints.items takers.items) }
     ensures refused { IfErr result (λ reason. reason ≡ Memory) }
 {

@@ -4,7 +4,7 @@ ghost use Rattle.std.specs.Prelude.{◌≡◌, ◌≢◌, ℕ, ◌^◌, ◌<◌,
 ghost use Rattle.fork_join.specs.declared.work.Refused.TheVariants.{Memory, Stopped, Thread};
 ghost use Rattle.mote_net.specs.Net.{net_of};
 ghost use Rattle.net_agenda.specs.NetSystem.{system_of};
-ghost use Rattle.copy_exchange.specs.Endpoints.{HasMarks, IsSeated};
+ghost use Rattle.copy_exchange.specs.Endpoints.{HasMarks, IsOnInboxes};
 ghost use Rattle.mark_exchange.specs.Marks.{Counts};
 ghost use Rattle.worker_window.specs.Window.{CanRun};
 ghost use Rattle.all_workers.specs.Workers.{IsCut};
@@ -53,11 +53,11 @@ fn send_window<R: Wait + RandomSource + AllocGlobal, G: Gate>(
     requires early { until ≤ 2 ^ 40 }
     requires cut { IsCut (length (net_of run.now.net.now).motes) (length run.now.inboxes.now) run.now.of.now }
     requires ready { CanRun (net_of run.now.net.now) run.now.of.now until worker.old.share [] }
-    requires seated { IsSeated run.now.inboxes.now worker.old.endpoint.base }
+    requires on_inboxes { IsOnInboxes run.now.inboxes.now worker.old.endpoint.base }
     requires marked { HasMarks worker.old.endpoint.base }
     ensures sends { OnOk result (SendsWindow (net_of run.now.net.now) run.now.of.now (length run.now.inboxes.now)
         window until worker.old worker.new) }
-    ensures seated { OnOk result (IsSeated run.now.inboxes.now worker.new.endpoint.base) }
+    ensures on_inboxes { OnOk result (IsOnInboxes run.now.inboxes.now worker.new.endpoint.base) }
     ensures refused { IfErr result (λ reason. reason ≢ Stopped) }
 {
     let none = Vec::new(rt.alloc());
@@ -96,7 +96,7 @@ fn take_window<R: Wait + AllocGlobal>(
     window: u64,
     until: u64,
 ) -> Result<(), Refused>
-    requires seated { IsSeated run.now.inboxes.now worker.old.endpoint.base }
+    requires on_inboxes { IsOnInboxes run.now.inboxes.now worker.old.endpoint.base }
     requires counts { Counts worker.old.endpoint.marks.items worker.old.endpoint.base.taker.state }
     ensures takes { OnOk result (TakesWindow run.now.of.now window until worker.old worker.new) }
     ensures refused { IfErr result (λ reason. reason ≢ Thread) }
