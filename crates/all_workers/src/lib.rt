@@ -11,6 +11,6 @@ mod workers;
 
 pub use refusal::refusal_of;
 pub use senders::make_endpoints;
-pub use windows::{lookahead_of, window_end, window_length};
+pub use windows::{lookahead_of, window_end, window_width};
 pub use worker::{Worker, split_workers, workers_of};
 pub use workers::Workers;
