@@ -84,7 +84,7 @@ pub(crate) fn leave(
             number,
             mote,
             copies,
-            room: rooms.window(),
+            room: rooms.take(),
         })?;
     }
     Ok(residents)
@@ -236,7 +236,7 @@ impl Share {
             &mut self.log,
         )?;
         add_lines(&mut self.traces, number, &mut room.lines)?;
-        self.rooms.keep(room)?;
+        self.rooms.put_back(room)?;
         self.motes[usize::from(number)] = Some(mote);
         Ok(())
     }
