@@ -1,5 +1,4 @@
-//! What both kinds of workers share: the group between two windows, a window's length, the making of the endpoints, and
-//! one worker.
+//! What both kinds of workers share: the group between windows, a window's width, the making of endpoints, one worker.
 #![tactic(auto)]
 
 pub mod laws;

@@ -74,7 +74,8 @@ fn sender_on(inbox: &Inbox, taker: &mut Taker, own: bool) -> Result<Option<Sende
     Ok(Some(sender))
 }
 
-/// After a window: each worker's taker gathers what was delivered to it. The inboxes have no marks.
+/// After a window: [`gather_back`] with another contract, on what was delivered to each worker. The inboxes have no
+/// marks.
 pub fn gather_window<R: Wait>(
     rt: &R,
     alloc: Global,

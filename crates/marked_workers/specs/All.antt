@@ -25,7 +25,7 @@ pub record AllRan (n : NetTold) (of : List ℕ) (width windows workers : ℕ) : 
   pub begun : (u : ℕ) → u < workers
       → Each (λ (s : SenderView). BeginsWith s.state.pushed (part s.state.number (taken u))) (senders u)
 
--- a taker that had taken these items, of so many senders, and then gathered these
+-- a taker that had taken these items, of so many senders, and then gathered these senders
 pub record GatheredSenders (made : ℕ) (taken : List Item) (senders : List SenderView) (taker : TakerView) : Type 0 where
   pub before : TakerView
   pub is_made : before.state.made ≡ made
@@ -33,7 +33,7 @@ pub record GatheredSenders (made : ℕ) (taken : List Item) (senders : List Send
   pub nobody : before.state.gathered ≡ []
   pub gathered : taker ≡ gather_senders before senders
 
--- Just that was taken by these takers, and just those senders are gathered.
+-- These takers took and gathered what `all` says, and no more.
 abbrev pub IsOfTakers : {n : NetTold} {of : List ℕ} {width windows workers : ℕ}
     → AllRan n of width windows workers → List TakerView → Type 0
 IsOfTakers {n} {of} {width} {windows} {workers} all takers = (v : ℕ) → v < workers → (taker : TakerView)

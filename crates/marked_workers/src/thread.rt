@@ -24,7 +24,7 @@ use std::sync::Wait;
 use std::sync::atomic::Ordering;
 use window_run::Gate;
 
-/// What each worker's thread needs besides: the runtime, the gate into its turns, and the run.
+/// What each thread needs besides its worker: the runtime, the gate into its turns, and the run.
 pub struct MarkRunner<'a, R, G> {
     pub rt: &'a R,
     pub gate: &'a G,

@@ -98,7 +98,8 @@ fn last_wake(wakes: &mut Vec<Option<u64>>) -> Option<u64>
     wakes.pop().unwrap()
 }
 
-/// A copy goes on its way: one for a mote of the worker becomes a pending event, another goes away.
+/// A copy goes on its way: one for a mote of the worker becomes a pending event; one for another worker's mote is
+/// appended to `away`.
 fn send_copy(
     of: &[u16],
     worker: u16,
@@ -174,7 +175,7 @@ fn send_fates(
 }
 
 /// The packets of a mote go out, and are logged with the fates of their copies: the copies for the worker's own motes
-/// become pending events, the others go away.
+/// become pending events, the others are appended to `away`.
 pub(crate) fn send_all(
     medium: &Medium,
     of: &[u16],
@@ -201,8 +202,8 @@ pub(crate) fn send_all(
 }
 
 impl Share {
-    /// A mote comes back from its window: its next wake becomes pending in the place of the one that is, if one is; its
-    /// packets go out, and its lines and packets are kept. The copies for other workers' motes go away.
+    /// A mote comes back from its window: its old wake leaves the agenda, its next one enters; its packets go out, and
+    /// its lines and packets are kept. The copies for other workers' motes are appended to `away`.
     fn take_back(
         &mut self,
         medium: &Medium,
