@@ -3,7 +3,7 @@ ghost use Rattle.std.specs.Prelude.{IfOk};
 ghost use Rattle.std.specs.List.{AllByRecursion as Each};
 ghost use Rattle.copy_exchange.specs.Inboxes.{IsSettled};
 
-use super::{BUSY_TRIO, COPY_PAST_THE_END, Outcome, Run, by, cut_of, told};
+use super::{BUSY_TRIO, COPY_PAST_THE_END, Outcome, Run, by, compare, cut_of};
 use copy_exchange::make_inboxes;
 use copy_inbox::{Inbox, Taker};
 use net_scenario::{Net, read_scenario};
@@ -31,7 +31,7 @@ where
     let cut = cut_of(rt.alloc(), run)?;
     let pairs = make_inboxes(rt.alloc(), usize::from(run.workers), sync.has_marks())?;
     match run_inboxes(rt, rt.alloc(), net, &cut, sync, gate, pairs) {
-        Ok((report, pairs)) => Ok((told(rt.alloc(), net, &report), pairs)),
+        Ok((report, pairs)) => Ok((compare(rt.alloc(), net, &report), pairs)),
         Err(error) => Ok((Outcome::Fault(error), Vec::new(rt.alloc()))),
     }
 }
