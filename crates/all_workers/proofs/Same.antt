@@ -36,7 +36,7 @@ module _ (n : NetTold) (of : List ℕ) (worker : ℕ) (a b : Motes) (same : (k :
     nodes = λ k m. h.nodes k m ∙ ap (λ x. Some x.state) (same k m);
     wakes = λ k m. subst (λ x. x.wake ≡ wake_of x.state) (same k m) (h.wakes k m);
     quiet = λ k m. subst (λ x. WakesFrom from x.wake) (same k m) (h.quiet k m);
-    behind = λ k m. subst (λ x. is_past from x.state.last ≡ false) (same k m) (h.behind k m);
+    turned_before = λ k m. subst (λ x. is_past from x.state.last ≡ false) (same k m) (h.turned_before k m);
     traces_kept = h.traces_kept;
     traces = λ k m d. h.traces k m d ∙ ap (λ x. x.lines) (same k m);
     log = λ s. h.log s ∙ own_sends s;

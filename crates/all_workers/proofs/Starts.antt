@@ -26,8 +26,8 @@ no_parts : (rest : List Item) → ((s : ℕ) → part s rest ≡ []) → rest �
 no_parts [] h = refl
 no_parts (x ∷ rest) h = let e = rw (eq-eqb x.sender x.sender refl) at (h x.sender) in cc
 
-stands_first : (marked : Bool) → IsOrderly (make_taker_state marked 0 [] [])
-stands_first marked = record {
+orderly_first : (marked : Bool) → IsOrderly (make_taker_state marked 0 [] [])
+orderly_first marked = record {
   in_order = λ rest is s. ap (λ l. filter (λ (c : RadioCopy). eqb c.sender s) (copies_of l)) (no_parts rest (λ u. is.1 u refl));
   begun = tt;
   unseen = λ s e. refl;
@@ -39,7 +39,7 @@ stands_first marked = record {
 settled_first : (inbox : InboxId) (t : TakerView) → IsFresh inbox t → IsSettled inbox t
 settled_first inbox t fresh = record {
   its = fresh.0;
-  stands = subst IsOrderly (sym fresh.1) (stands_first t.state.marked);
+  orderly = subst IsOrderly (sym fresh.1) (orderly_first t.state.marked);
   all = λ s low. absurd (let e = ap (λ d. d.made) fresh.1 in omega arith);
   no_mark = subst PacketsLeft (sym fresh.1) tt;
 }

@@ -12,7 +12,7 @@ use Rattle.window_laws.proofs.Lists.{filter_filter, filter_none, every_weaker}
 use Rattle.window_laws.proofs.History.{history, unseen_since}
 use Rattle.net_agenda.specs.NetSystem.{system_of}
 use Rattle.worker_cut.specs.Crossed.{is_own, is_to, crossed, leaves}
-use Rattle.worker_cut.specs.Laws.{HasGathered}
+use Rattle.worker_cut.specs.Laws.{GatheredCopies}
 use Rattle.worker_cut.proofs.Crossed.{inbox_is, crossed_next}
 use Rattle.worker_cut.proofs.Windows.{one_more, same_copies}
 use Rattle.worker_window.specs.Share.{Motes}
@@ -54,7 +54,7 @@ none_early until (x ∷ xs) e =
 
 module _ (n : NetTold) (fine : RunsForward (system_of n)) (of : List ℕ) (workers : ℕ) (cut : IsCut (length n.motes) workers of) (from until : ℕ) (motes : Motes) (up : from < until) (short : until ≤ from + (system_of n).lookahead)
     (taken gathered : ℕ → List RadioCopy) (sent : ℕ → List RadioCopy) (nexts : ℕ → Motes)
-    (told : (v : ℕ) → v < workers → HasGathered (system_of n) of motes v (gathered v))
+    (told : (v : ℕ) → v < workers → GatheredCopies (system_of n) of motes v (gathered v))
     (took : (v : ℕ) → v < workers → (s : ℕ) → filter (is_from_sender s) (taken v) ≡ filter (is_from_sender s) (gathered v))
     (runs : (v : ℕ) → v < workers → (k : ℕ) → is_own of v k ≡ true → RunsOwn n (is_own of v) from until motes (nexts v) (taken v) k)
     (out : (v : ℕ) → v < workers → (s : ℕ) → copies_out n (is_own of v) (nexts v) s ≡ copies_out n (is_own of v) motes s ++ filter (is_from_sender s) (sent v))
@@ -99,7 +99,7 @@ module _ (n : NetTold) (fine : RunsForward (system_of n)) (of : List ℕ) (worke
 
   -- what each worker has gathered after the window
   pub told_next : (v : ℕ) → v < workers → (after : List RadioCopy) → ((s : ℕ) → filter (is_from_sender s) after ≡ filter (is_from_sender s) (gathered v) ++ out_of v s)
-      → HasGathered (system_of n) of next v after
+      → GatheredCopies (system_of n) of next v after
   unfolding system_of
   told_next v h after more s = more s ∙ (ap (λ l. l ++ out_of v s) (told v h s) ∙ by_worker (slice_get of s) refl)
     where

@@ -1,6 +1,6 @@
 pub mod Held
 pub mod Refusals
 pub mod Start
-pub mod WindowLength
+pub mod WindowWidth
 pub mod Worker
 pub mod Workers

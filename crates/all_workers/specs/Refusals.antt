@@ -5,6 +5,6 @@ use Rattle.window_run.specs.declared.share.ShareError.{ShareError}
 use Rattle.window_run.specs.declared.share.ShareError.TheVariants.{Memory, Thread}
 
 -- where its motes gave up in a window
-abbrev pub refused_of : ShareError → Refused
-refused_of Memory = why.Memory
-refused_of Thread = why.Thread
+abbrev pub refused_of_share : ShareError → Refused
+refused_of_share Memory = why.Memory
+refused_of_share Thread = why.Thread

@@ -1,4 +1,4 @@
--- One worker, of its share and its taker and senders.
+-- One worker, made of its share and its endpoint.
 use Rattle.std.specs.Prelude.{None}
 use Rattle.copy_exchange.specs.declared.endpoint.Endpoint.{Endpoint}
 use Rattle.worker_window.specs.declared.share.Share.{Share}

@@ -5,7 +5,7 @@ use Rattle.radio_packet.specs.declared.copy.RadioCopy.{RadioCopy}
 use Rattle.mote_net.specs.Net.{NetTold}
 use Rattle.window_laws.specs.Windows.{first_mote, Windows, WakesFrom, is_from_sender}
 use Rattle.net_agenda.specs.NetSystem.{system_of}
-use Rattle.worker_cut.specs.Laws.{HasGathered}
+use Rattle.worker_cut.specs.Laws.{GatheredCopies}
 use Rattle.copy_inbox.specs.Handles.{TakerView}
 use Rattle.copy_exchange.specs.Takers.{taken_by, gathered_by}
 use Rattle.copy_exchange.specs.Inboxes.{Settled}
@@ -35,17 +35,17 @@ pub record Waits (first : Option ℕ) (sender : ℕ) (taker : TakerView) : Type 
 pub record IsWorkerAt (n : NetTold) (of : List ℕ) (from : ℕ) (motes : Motes) (first : Option ℕ) (worker : ℕ)
     (share : Share) (taker : TakerView) : Type 0 where
   pub keeps : Keeps n of worker from motes (taken_by taker) share
-  pub gathered : HasGathered (system_of n) of motes worker (gathered_by taker)
+  pub gathered : GatheredCopies (system_of n) of motes worker (gathered_by taker)
   pub waits : (sender : ℕ) → Waits first sender taker
 
 -- The workers stand before a moment: the windows up to it led the motes there, and each worker has its part of it.
-pub record IsAt (n : NetTold) (of : List ℕ) (from : ℕ) (workers : Workers) : Type 0 where
+pub record IsAt (n : NetTold) (of : List ℕ) (from : ℕ) (group : Workers) : Type 0 where
   pub motes : Motes
   pub led : Windows (system_of n) 0 from (first_mote (system_of n)) motes
-  pub cut : IsCut (length n.motes) (length workers.inboxes.items) of
-  pub shares : length workers.shares.items ≡ length workers.inboxes.items
-  pub settled : Settled workers.inboxes.items workers.takers.items
-  pub first : WakesFrom from workers.first_out
-  pub each : (worker : ℕ) → worker < length workers.inboxes.items → (share : Share) (taker : TakerView)
-      → IsWorkerAt n of from motes workers.first_out worker
-      (slice_index_or workers.shares.items worker share) (slice_index_or workers.takers.items worker taker)
+  pub cut : IsCut (length n.motes) (length group.inboxes.items) of
+  pub shares : length group.shares.items ≡ length group.inboxes.items
+  pub settled : Settled group.inboxes.items group.takers.items
+  pub first : WakesFrom from group.first_out
+  pub each : (worker : ℕ) → worker < length group.inboxes.items → (share : Share) (taker : TakerView)
+      → IsWorkerAt n of from motes group.first_out worker
+      (slice_index_or group.shares.items worker share) (slice_index_or group.takers.items worker taker)

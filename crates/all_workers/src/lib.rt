@@ -1,6 +1,4 @@
-//! All workers of a net, as both kinds of synchronization have them: before the first window and between two windows,
-//! how long a window is, the senders that are created before the workers' threads, and what
-//! each thread has.
+//! What both kinds of workers share: the group between windows, a window's width, the making of endpoints, one worker.
 #![tactic(auto)]
 
 pub mod laws;
@@ -12,6 +10,6 @@ mod workers;
 
 pub use refusal::refusal_of;
 pub use senders::make_endpoints;
-pub use windows::{lookahead_of, window_end, window_length};
+pub use windows::{lookahead_of, window_end, window_width};
 pub use worker::{Worker, split_workers, workers_of};
 pub use workers::Workers;

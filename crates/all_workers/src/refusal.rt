@@ -1,14 +1,14 @@
 //! Why a worker gave up.
 
 ghost use Rattle.std.specs.Prelude.{◌≡◌};
-ghost use Rattle.all_workers.specs.Refusals.{refused_of};
+ghost use Rattle.all_workers.specs.Refusals.{refused_of_share};
 
 use fork_join::Refused;
 use window_run::ShareError;
 
 /// Why a worker gave up whose motes gave up in a window.
 pub fn refusal_of(error: ShareError) -> Refused
-    ensures { result ≡ refused_of error }
+    ensures { result ≡ refused_of_share error }
 {
     match error {
         ShareError::Memory => Refused::Memory,

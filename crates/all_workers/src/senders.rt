@@ -1,4 +1,4 @@
-//! The senders of all workers.
+//! The making of the endpoints.
 
 ghost use Rattle.std.specs.Prelude.{◌≡◌, ◌^◌, ◌≤◌, true, length, IfErr, IfOk};
 ghost use Rattle.std.specs.List.{AllByRecursion as Each, AllZip};
@@ -11,7 +11,7 @@ use copy_inbox::{Inbox, Taker};
 use fork_join::Refused;
 use std::alloc::Global;
 
-/// Creates each worker's senders, one on the inbox of each other worker. Out of memory is the one error.
+/// Makes each worker's endpoint, with a sender on the inbox of each other worker. Out of memory is the one error.
 pub fn make_endpoints(
     alloc: Global,
     inboxes: &[Inbox],

@@ -5,7 +5,7 @@ ghost use Rattle.mote_net.specs.Limits.{latest_end};
 ghost use Rattle.mote_net.specs.Net.{net_of};
 ghost use Rattle.net_agenda.specs.NetSystem.{system_of};
 ghost use Rattle.window_laws.specs.System.{RunsForward};
-ghost use Rattle.all_workers.specs.WindowLength.{end_of_window, length_of_window};
+ghost use Rattle.all_workers.specs.WindowWidth.{end_of_window, width_of_window};
 
 use mote_net::Net;
 
@@ -18,9 +18,9 @@ pub fn lookahead_of(net: &Net) -> u64
 }
 
 /// How long a window lasts: as long as the lookahead, or `longest`, where that is above 0 and less.
-pub fn window_length(lookahead: u64, longest: u32) -> u64
+pub fn window_width(lookahead: u64, longest: u32) -> u64
     requires { 0 < lookahead }
-    ensures value { result ≡ length_of_window lookahead longest }
+    ensures value { result ≡ width_of_window lookahead longest }
     ensures above_zero { 0 < result }
     ensures within { result ≤ lookahead }
     ensures told { 0 < longest → longest < lookahead → result ≡ longest }
@@ -33,14 +33,14 @@ pub fn window_length(lookahead: u64, longest: u32) -> u64
 }
 
 /// The moment before which a window ends that begins at or before the end and may last so long.
-pub fn window_end(from: u64, length: u64, end: u64) -> u64
-    requires above_zero { 0 < length }
+pub fn window_end(from: u64, width: u64, end: u64) -> u64
+    requires above_zero { 0 < width }
     requires early { end ≤ latest_end }
     requires from { from ≤ end }
-    ensures value { result ≡ end_of_window end length from }
+    ensures value { result ≡ end_of_window end width from }
     ensures later { from < result }
-    ensures short { result ≤ from + length }
+    ensures short { result ≤ from + width }
     ensures within { result ≤ end + 1 }
 {
-    from + length.min(end + 1 - from)
+    from + width.min(end + 1 - from)
 }

@@ -10,7 +10,7 @@ use fork_join::Refused;
 use std::alloc::Global;
 use worker_window::Share;
 
-/// A worker: its share of the net, and its endpoint: its taker and senders.
+/// A worker: its share of the net, and its endpoint.
 #[derive(Drop)]
 pub struct Worker {
     pub share: Share,
@@ -19,7 +19,7 @@ pub struct Worker {
     pub first_out: Option<u64>,
 }
 
-/// Each worker, of its share and its taker and senders.
+/// Each worker, made of its share and its endpoint.
 pub fn workers_of(
     alloc: Global,
     shares: Vec<Share>,
@@ -39,7 +39,7 @@ pub fn workers_of(
     Ok(workers)
 }
 
-/// The workers' shares, and their takers and senders.
+/// The workers' shares, and their endpoints.
 pub fn split_workers(
     alloc: Global,
     workers: Vec<Worker>,

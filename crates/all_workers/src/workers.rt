@@ -54,11 +54,11 @@ impl Workers {
         requires few { length inboxes.items ≤ 16 }
         requires cut { IsCut (length (net_of net.now).motes) (length inboxes.items) of.now }
         requires fresh { AllZip IsFresh inboxes.items takers.items }
-        ensures at { IfOk result (λ workers. IsAt (net_of net.now) of.now 0 workers) }
+        ensures at { IfOk result (λ group. IsAt (net_of net.now) of.now 0 group) }
         ensures first { IfOk result
-            (λ workers. AreFirst (net_of net.now) of.now (length inboxes.items) workers.shares.items) }
-        ensures inboxes { IfOk result (λ workers. workers.inboxes.items ≡ inboxes.items) }
-        ensures takers { IfOk result (λ workers. workers.takers.items ≡ takers.items) }
+            (λ group. AreFirst (net_of net.now) of.now (length inboxes.items) group.shares.items) }
+        ensures inboxes { IfOk result (λ group. group.inboxes.items ≡ inboxes.items) }
+        ensures takers { IfOk result (λ group. group.takers.items ≡ takers.items) }
         ensures err { IfErr result (λ e. e ≡ Memory) }
     {
         let shares = first_shares(alloc, net, of, inboxes.len() as u16)?;

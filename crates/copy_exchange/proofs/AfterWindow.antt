@@ -13,31 +13,31 @@ use Rattle.copy_inbox.specs.Gathered.{is_gathered}
 use Rattle.copy_inbox.specs.Handles.{InboxId, TakerView, SenderView, after_gather, AllGathered, PacketsLeft}
 use Rattle.copy_exchange.specs.declared.endpoint.Endpoint.{Endpoint}
 use Rattle.copy_exchange.specs.Takers.{copies_in, IsOrderly}
-use Rattle.copy_exchange.specs.Endpoints.{IsEndpoint, IsSeated, IsCollected, DeliversOwn, Stays, AreOpen, Returns, AllReturn, GathersDelivered, sender_to, senders_to, seat_of}
+use Rattle.copy_exchange.specs.Endpoints.{IsEndpoint, IsOnInboxes, IsCollected, DeliversOwn, Stays, AreOpen, Returns, AllReturn, GathersDelivered, sender_to, senders_to, identity_of}
 use Rattle.copy_exchange.specs.Inboxes.{IsPlain, IsSettled, Settled}
 use Rattle.copy_exchange.specs.Steps.{AreTakersOf, GathersRow, GathersBack, TellsOf, gather_into, gather_senders, at_place}
-use Rattle.copy_exchange.proofs.Gathers.{gather_is, with_joined, numbers_of, joined_copies, all_gathered, stands_then, packets_then, OneOf}
-use Rattle.copy_exchange.proofs.Delivered.{seated}
+use Rattle.copy_exchange.proofs.Gathers.{gather_is, with_joined, numbers_of, joined_copies, all_gathered, orderly_then, packets_then, OneOf}
+use Rattle.copy_exchange.proofs.Delivered.{on_inboxes}
 use Rattle.copy_exchange.proofs.Lists.{each_from, each_join, each_map}
 use Rattle.copy_exchange.proofs.Rows.{into_inbox}
 use Rattle.copy_exchange.proofs.Owns.{workers_of, delivered_is, one_of}
 
 -- ---- what stays is what is asked of the endpoints
-read_map : (l : List (Option SenderView)) (v : ℕ) → seat_of (get_or l v None) ≡ get_or (map seat_of l) v None
+read_map : (l : List (Option SenderView)) (v : ℕ) → identity_of (get_or l v None) ≡ get_or (map identity_of l) v None
 read_map [] v = refl
 read_map (x ∷ xs) zero = refl
 read_map (x ∷ xs) (suc v) = read_map xs v
 
-pub same_seat : (old new : Endpoint) (v : ℕ) → Stays old new → seat_of (sender_to new v) ≡ seat_of (sender_to old v)
-same_seat old new v h = read_map new.senders.items v ∙ (ap (λ l. get_or l v None) h.seats ∙ sym (read_map old.senders.items v))
+pub same_identity : (old new : Endpoint) (v : ℕ) → Stays old new → identity_of (sender_to new v) ≡ identity_of (sender_to old v)
+same_identity old new v h = read_map new.senders.items v ∙ (ap (λ l. get_or l v None) h.identities ∙ sym (read_map old.senders.items v))
 
-numbers_same : (o p : Option SenderView) (ss us : List SenderView) → seat_of o ≡ seat_of p → numbers_of ss ≡ numbers_of us → numbers_of (cons_option o ss) ≡ numbers_of (cons_option p us)
+numbers_same : (o p : Option SenderView) (ss us : List SenderView) → identity_of o ≡ identity_of p → numbers_of ss ≡ numbers_of us → numbers_of (cons_option o ss) ≡ numbers_of (cons_option p us)
 numbers_same None None ss us e h = h
 numbers_same None (Some q) ss us e h = absurd cc
 numbers_same (Some p) None ss us e h = absurd cc
 numbers_same (Some p) (Some q) ss us e h =
-    let seat : (p.inbox, p.state.number, p.state.marked) ≡ (q.inbox, q.state.number, q.state.marked) = cc in
-    let number : p.state.number ≡ q.state.number = ap (λ (x : InboxId × ℕ × Bool). x.1) seat in
+    let identity : (p.inbox, p.state.number, p.state.marked) ≡ (q.inbox, q.state.number, q.state.marked) = cc in
+    let number : p.state.number ≡ q.state.number = ap (λ (x : InboxId × ℕ × Bool). x.1) identity in
     λ i. number i ∷ h i
 
 pub same_workers : (old new : List Endpoint) → AllZip Stays old new → workers_of new ≡ workers_of old
@@ -48,7 +48,7 @@ same_workers (a ∷ as') [] h = absurd h
 
 same_numbers : (old new : List Endpoint) (v : ℕ) → AllZip Stays old new → numbers_of (senders_to new v) ≡ numbers_of (senders_to old v)
 same_numbers [] [] v h = refl
-same_numbers (a ∷ as') (b ∷ bs) v h = numbers_same (sender_to b v) (sender_to a v) (senders_to bs v) (senders_to as' v) (same_seat a b v h.0) (same_numbers as' bs v h.1)
+same_numbers (a ∷ as') (b ∷ bs) v h = numbers_same (sender_to b v) (sender_to a v) (senders_to bs v) (senders_to as' v) (same_identity a b v h.0) (same_numbers as' bs v h.1)
 same_numbers [] (b ∷ bs) v h = absurd h
 same_numbers (a ∷ as') [] v h = absurd h
 
@@ -117,8 +117,8 @@ module _ (inboxes : List InboxId) (cs : List Endpoint) (back : AllReturn inboxes
   pub owns : Each (DeliversOwn back.worker_of) cs
   owns = each_back inboxes back.worker_of (DeliversOwn back.worker_of) (λ a b r. r.own) before cs back.each
 
-  pub all_seated : Each (IsSeated inboxes) cs
-  all_seated = each_back inboxes back.worker_of (IsSeated inboxes) (λ a b r. seated inboxes b r.endpoint) before cs back.each
+  pub all_on_inboxes : Each (IsOnInboxes inboxes) cs
+  all_on_inboxes = each_back inboxes back.worker_of (IsOnInboxes inboxes) (λ a b r. on_inboxes inboxes b r.endpoint) before cs back.each
 
   one : (s v : ℕ) → OneOf s (senders_to cs v)
   one s v = one_of back.worker_of s v 0 cs (workers ∙ ap (range_with_len 0) (sym count)) owns
@@ -140,7 +140,7 @@ module _ (inboxes : List InboxId) (cs : List Endpoint) (back : AllReturn inboxes
       let d : TakerState = c.taker.state in
       let P : TakerView → Type 0 = λ t. (IsOrderly t.state × AllGathered t.state) × GathersDelivered cs c t in
       let then_ : P (record { inbox = c.taker.inbox; state = with_joined ss d }) = (
-        (stands_then ss d endpoint.stands done.0 are_open (λ s. one s c.worker), all_gathered ss d endpoint.stands done.0 are_open (λ s. one s c.worker)),
+        (orderly_then ss d endpoint.orderly done.0 are_open (λ s. one s c.worker), all_gathered ss d endpoint.orderly done.0 are_open (λ s. one s c.worker)),
         record {
           same_marked = refl;
           same_taken = refl;
@@ -163,7 +163,7 @@ module _ (inboxes : List InboxId) (cs : List Endpoint) (back : AllReturn inboxes
       let P : TakerView → Type 0 = λ t. PacketsLeft t.state in
       record {
         its = ap (λ (t : TakerView). t.inbox) is;
-        stands = h.1.0;
+        orderly = h.1.0;
         all = h.1.1;
         no_mark = subst P (sym is) (packets_then ss c.taker.state h.3.0 packets);
       }

@@ -6,7 +6,7 @@ use Rattle.std.proofs.lemmas.List.FromFn.{length-range_with_len}
 use Rattle.std.proofs.lemmas.Option.{get_or_from_slice_get, slice_get-get_or, slice_get-map, slice_get_within}
 use Rattle.copy_inbox.specs.Handles.{InboxId, TakerView, SenderView}
 use Rattle.copy_exchange.specs.declared.endpoint.Endpoint.{Endpoint}
-use Rattle.copy_exchange.specs.Endpoints.{IsSeated, IsSenderOn, sender_to, senders_to}
+use Rattle.copy_exchange.specs.Endpoints.{IsOnInboxes, IsSenderOn, sender_to, senders_to}
 use Rattle.copy_exchange.specs.Steps.{AreTakersOf, AreSendersOn, GathersBack, TellsOf, gather_senders}
 use Rattle.copy_exchange.proofs.AfterWindow.{Row, GathersRows, row_senders, pick}
 use Rattle.copy_exchange.proofs.Lists.{each_at}
@@ -16,7 +16,7 @@ sender_id : (id : InboxId) (own : Bool) (s : SenderView) → IsSenderOn id own (
 sender_id id true s h = absurd cc
 sender_id id false s h = h
 
-pub senders_on : (inboxes : List InboxId) (c : Endpoint) → IsSeated inboxes c → AreSendersOn inboxes c.senders.items
+pub senders_on : (inboxes : List InboxId) (c : Endpoint) → IsOnInboxes inboxes c → AreSendersOn inboxes c.senders.items
 senders_on inboxes c h = record {
   count = h.count;
   its = λ v id s lt at.
@@ -29,18 +29,18 @@ rows_of : (cs : List Endpoint) (v : ℕ) → row_senders (map (λ (c : Endpoint)
 rows_of [] v = refl
 rows_of (c ∷ cs) v = ap (cons_option (sender_to c v)) (rows_of cs v)
 
-each_row : (inboxes : List InboxId) (cs : List Endpoint) → Each (IsSeated inboxes) cs → Each (λ (r : Row). AreSendersOn inboxes r.items) (map (λ (c : Endpoint). c.senders) cs)
+each_row : (inboxes : List InboxId) (cs : List Endpoint) → Each (IsOnInboxes inboxes) cs → Each (λ (r : Row). AreSendersOn inboxes r.items) (map (λ (c : Endpoint). c.senders) cs)
 each_row inboxes [] h = tt
 each_row inboxes (c ∷ cs) h = (senders_on inboxes c h.0, each_row inboxes cs h.1)
 
-pub row_fits : (inboxes : List InboxId) (cs : List Endpoint) (rows : List Row) (k : ℕ) (row : Row) → Each (IsSeated inboxes) cs → rows ≡ map (λ (c : Endpoint). c.senders) cs → k < length rows → row ≡ get_or rows k row
+pub row_fits : (inboxes : List InboxId) (cs : List Endpoint) (rows : List Row) (k : ℕ) (row : Row) → Each (IsOnInboxes inboxes) cs → rows ≡ map (λ (c : Endpoint). c.senders) cs → k < length rows → row ≡ get_or rows k row
     → AreSendersOn inboxes row.items
-row_fits inboxes cs rows k row seated e lt is =
+row_fits inboxes cs rows k row on_inboxes e lt is =
     let P : Row → Type 0 = λ r. AreSendersOn inboxes r.items in
-    subst P (sym is) (each_at P rows k row (subst (λ (l : List Row). Each P l) (sym e) (each_row inboxes cs seated)) lt)
+    subst P (sym is) (each_at P rows k row (subst (λ (l : List Row). Each P l) (sym e) (each_row inboxes cs on_inboxes)) lt)
 
 -- ---- the takers that they are gathered by
-module _ (inboxes : List InboxId) (cs : List Endpoint) (workers : workers_of cs ≡ range_with_len 0 (length inboxes)) (seated : Each (IsSeated inboxes) cs) where
+module _ (inboxes : List InboxId) (cs : List Endpoint) (workers : workers_of cs ≡ range_with_len 0 (length inboxes)) (on_inboxes : Each (IsOnInboxes inboxes) cs) where
   long : length cs ≡ length inboxes
   long = sym (length-map cs (λ (c : Endpoint). c.worker)) ∙ (ap length workers ∙ length-range_with_len 0 (length inboxes))
 
@@ -50,7 +50,7 @@ module _ (inboxes : List InboxId) (cs : List Endpoint) (workers : workers_of cs 
     its = λ v id t lt.
         let n = long in
         let inside : v < length cs = omega arith in
-        let p = pick (IsSeated inboxes) 0 cs (workers ∙ ap (range_with_len 0) (sym long)) seated v inside in
+        let p = pick (IsOnInboxes inboxes) 0 cs (workers ∙ ap (range_with_len 0) (sym long)) on_inboxes v inside in
         let is = p.1 in
         let same : v ≡ p.0.worker = omega arith in
         ap (λ (u : TakerView). u.inbox) (p.2 t) ∙ sym (ap (λ k. get_or inboxes k id) same ∙ get_or_from_slice_get inboxes p.0.worker p.0.taker.inbox id p.4.taker);

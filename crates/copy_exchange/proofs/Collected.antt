@@ -22,8 +22,8 @@ rest_of_rest d items rest none r =
     let e : (d.taken ++ items) ++ rest ≡ d.taken ++ (items ++ rest) = append_assoc d.taken items rest in
     (subst (λ (l : List Item). Whole d.gathered l) e r.0, λ s unseen. ap (part s) (sym e) ∙ (r.1 s unseen ∙ none s unseen))
 
-stands_taking : (d : TakerState) (items : List Item) → IsOrderly d → NoOthers d.gathered d.taken (d.taken ++ items) → TookFronts d.gathered (d.taken ++ items) → IsOrderly (make_taker_state d.marked d.made (d.taken ++ items) d.gathered)
-stands_taking d items h none begun = record {
+orderly_taking : (d : TakerState) (items : List Item) → IsOrderly d → NoOthers d.gathered d.taken (d.taken ++ items) → TookFronts d.gathered (d.taken ++ items) → IsOrderly (make_taker_state d.marked d.made (d.taken ++ items) d.gathered)
+orderly_taking d items h none begun = record {
   in_order = λ rest r s.
       ap (λ l. from s (copies_of l)) (append_assoc d.taken items rest) ∙ h.in_order (items ++ rest) (rest_of_rest d items rest none r) s;
   begun = begun;
@@ -33,13 +33,13 @@ stands_taking d items h none begun = record {
   numbers = h.numbers;
 }
 
-pub stands_on : (old new : TakerView) (copies : List RadioCopy) → IsOrderly old.state → TakesCopies old new copies → NoOthers old.state.gathered old.state.taken new.state.taken → TookFronts new.state.gathered new.state.taken → IsOrderly new.state
-stands_on old new copies h takes none begun =
+pub orderly_on : (old new : TakerView) (copies : List RadioCopy) → IsOrderly old.state → TakesCopies old new copies → NoOthers old.state.gathered old.state.taken new.state.taken → TookFronts new.state.gathered new.state.taken → IsOrderly new.state
+orderly_on old new copies h takes none begun =
     let items : List Item = takes.0 in
     let e : new ≡ after_taking old items = takes.2 in
     let none' : NoOthers old.state.gathered old.state.taken (old.state.taken ++ items) = subst (λ (t : TakerView). NoOthers old.state.gathered old.state.taken t.state.taken) e none in
     let begun' : TookFronts old.state.gathered (old.state.taken ++ items) = subst (λ (t : TakerView). TookFronts t.state.gathered t.state.taken) e begun in
-    subst (λ (t : TakerView). IsOrderly t.state) (sym e) (stands_taking old.state items h none' begun')
+    subst (λ (t : TakerView). IsOrderly t.state) (sym e) (orderly_taking old.state items h none' begun')
 
 pub adds : (old new : TakerView) (copies : List RadioCopy) → TakesCopies old new copies → taken_by new ≡ taken_by old ++ copies
 adds old new copies takes = ap taken_by takes.2 ∙ (copies-append old.state.taken takes.0 ∙ ap (λ l. taken_by old ++ l) (packets_copies takes.0 copies takes.1))
@@ -71,7 +71,7 @@ module _ (inboxes : List InboxId) (c : Endpoint) (t : TakerView) (r : Result (Ve
         taker = endpoint.taker ∙ ap (λ (u : TakerView). Some u.inbox) (sym takes.2);
         count = endpoint.count;
         each = endpoint.each;
-        stands = stands_on c.taker t copies.items endpoint.stands takes others begun;
+        orderly = orderly_on c.taker t copies.items endpoint.orderly takes others begun;
       }
       cases (Err e) takes begun others = tt
 
@@ -87,11 +87,11 @@ module _ (inboxes : List InboxId) (c : Endpoint) (t : TakerView) (r : Result (Ve
           marked = ap (λ (u : TakerView). u.state.marked) takes.2;
           made = ap (λ (u : TakerView). u.state.made) takes.2;
           gathered = ap (λ (u : TakerView). u.state.gathered) takes.2;
-          seats = refl;
+          identities = refl;
         };
         plain = ap (λ (u : TakerView). u.state.marked) takes.2 ∙ plain;
         adds = adds c.taker t copies.items takes;
-        in_order = now_in_order c.taker t copies.items endpoint.stands takes others whole;
+        in_order = now_in_order c.taker t copies.items endpoint.orderly takes others whole;
         all = whole;
         delivers_none = λ v. refl;
       }

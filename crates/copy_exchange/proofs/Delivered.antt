@@ -15,7 +15,7 @@ use Rattle.copy_inbox.specs.Handles.{InboxId, TakerView, SenderView, after_pushi
 use Rattle.copy_exchange.specs.declared.endpoint.Endpoint.{Endpoint}
 use Rattle.copy_exchange.specs.Takers.{copies_pushed, IsOrderly}
 use Rattle.worker_cut.specs.Crossed.{is_to}
-use Rattle.copy_exchange.specs.Endpoints.{IsEndpoint, IsSeated, IsSenderOn, Leaves, Reaches, Stays, Delivers, PushesOut, sender_to, delivered, pushed_by, pushed_list, pushed_to, seat_of}
+use Rattle.copy_exchange.specs.Endpoints.{IsEndpoint, IsOnInboxes, IsSenderOn, Leaves, Reaches, Stays, Delivers, PushesOut, sender_to, delivered, pushed_by, pushed_list, pushed_to, identity_of}
 use Rattle.worker_cut.proofs.Owners.{own_is}
 use Rattle.copy_exchange.proofs.Parts.{pushed-append}
 
@@ -25,7 +25,7 @@ same_at (s ∷ ss) zero d e lt = refl
 same_at (s ∷ ss) (suc v) d e lt = same_at ss v d e (omega arith)
 
 -- the sender on the inbox of the receiver's worker
-module _ (inboxes : List InboxId) (of : List ℕ) (c : Endpoint) (copy : RadioCopy) (to mote : ℕ) (endpoint : IsSeated inboxes c) (leaves : Leaves of (length inboxes) c.worker copy)
+module _ (inboxes : List InboxId) (of : List ℕ) (c : Endpoint) (copy : RadioCopy) (to mote : ℕ) (endpoint : IsOnInboxes inboxes c) (leaves : Leaves of (length inboxes) c.worker copy)
     (at_mote : mote ≡ copy.to) (at_to : to ≡ get_or of mote 0) where
   pub to_is : to ≡ slice_index of copy.to
   to_is = at_to ∙ ap (λ k. slice_index of k) at_mote
@@ -66,7 +66,7 @@ sender_on id false s t e h = e ∙ h
 abbrev pub with_sender : Endpoint → (to : ℕ) → SenderView → Endpoint
 with_sender c to t = record { worker = c.worker; taker = c.taker; senders = with_item c.senders to (Some t) }
 
-module _ (inboxes : List InboxId) (of : List ℕ) (c : Endpoint) (copy : RadioCopy) (to : ℕ) (endpoint : IsSeated inboxes c) (inside : to < length inboxes) (there : copy.to < length of) (is : to ≡ slice_index of copy.to)
+module _ (inboxes : List InboxId) (of : List ℕ) (c : Endpoint) (copy : RadioCopy) (to : ℕ) (endpoint : IsOnInboxes inboxes c) (inside : to < length inboxes) (there : copy.to < length of) (is : to ≡ slice_index of copy.to)
     (s t : SenderView) (was : Some s ≡ get_or c.senders.items to (Some s)) (same_inbox : t.inbox ≡ s.inbox) (state : t.state ≡ after_pushing s.state (Packet copy)) where
   here : sender_to c to ≡ Some s
   here = let count = endpoint.count in same_at c.senders.items to None (Some s) (omega arith) ∙ sym was
@@ -77,7 +77,7 @@ module _ (inboxes : List InboxId) (of : List ℕ) (c : Endpoint) (copy : RadioCo
   then_else : (v : ℕ) → v ≢ to → sender_to (with_sender c to t) v ≡ sender_to c v
   then_else v n = get_or-set_other c.senders.items to v (Some t) None n
 
-  pub endpoint_with : IsSeated inboxes (with_sender c to t)
+  pub endpoint_with : IsOnInboxes inboxes (with_sender c to t)
   endpoint_with = record {
     taker = endpoint.taker;
     count = length-set c.senders.items to (Some t) ∙ endpoint.count;
@@ -126,7 +126,7 @@ module _ (inboxes : List InboxId) (of : List ℕ) (c : Endpoint) (copy : RadioCo
       marked = refl;
       made = refl;
       gathered = refl;
-      seats = map-set_same seat_of c.senders.items to (Some t) (Some s) (ap Some (λ i. (same_inbox i, (state i).number, (state i).marked)) ∙ ap seat_of was);
+      identities = map-set_same identity_of c.senders.items to (Some t) (Some s) (ap Some (λ i. (same_inbox i, (state i).number, (state i).marked)) ∙ ap identity_of was);
     };
     taker = refl;
     adds = adds_at;
@@ -141,12 +141,12 @@ stays_on a b c h k = record {
   marked = k.marked ∙ h.marked;
   made = k.made ∙ h.made;
   gathered = k.gathered ∙ h.gathered;
-  seats = k.seats ∙ h.seats;
+  identities = k.identities ∙ h.identities;
 }
 
 pub delivers_none : (of : List ℕ) (c : Endpoint) → Delivers of c c []
 delivers_none of c = record {
-  stays = record { worker = refl; inbox = refl; marked = refl; made = refl; gathered = refl; seats = refl };
+  stays = record { worker = refl; inbox = refl; marked = refl; made = refl; gathered = refl; identities = refl };
   taker = refl;
   adds = λ v. sym (append-nil (delivered c v));
   pushes = λ v. sym (append-nil (pushed_to c v));
@@ -166,19 +166,19 @@ delivers_more of a b c xs ys h k = record {
   pushes = λ v. k.pushes v ∙ (ap (λ l. l ++ map Packet (filter (is_to of v) ys)) (h.pushes v) ∙ packets_on of v (pushed_to a v) xs ys);
 }
 
--- ---- an endpoint of joins among those that are seated
-pub seated : (inboxes : List InboxId) (c : Endpoint) → IsEndpoint inboxes c → IsSeated inboxes c
-seated inboxes c h = record { taker = h.taker; count = h.count; each = h.each }
+-- ---- an endpoint of joins is one on these inboxes
+pub on_inboxes : (inboxes : List InboxId) (c : Endpoint) → IsEndpoint inboxes c → IsOnInboxes inboxes c
+on_inboxes inboxes c h = record { taker = h.taker; count = h.count; each = h.each }
 
-pub endpoint_again : (inboxes : List InboxId) (of : List ℕ) (a b : Endpoint) (copies : List RadioCopy) → IsEndpoint inboxes a → Delivers of a b copies → IsSeated inboxes b → IsEndpoint inboxes b
+pub endpoint_again : (inboxes : List InboxId) (of : List ℕ) (a b : Endpoint) (copies : List RadioCopy) → IsEndpoint inboxes a → Delivers of a b copies → IsOnInboxes inboxes b → IsEndpoint inboxes b
 endpoint_again inboxes of a b copies h d s =
     let P : TakerView → Type 0 = λ t. IsOrderly t.state in
-    record { taker = s.taker; count = s.count; each = s.each; stands = subst P (sym d.taker) h.stands }
+    record { taker = s.taker; count = s.count; each = s.each; orderly = subst P (sym d.taker) h.orderly }
 
 -- ---- the copies for other workers
 pub pushes_none : (of : List ℕ) (c : Endpoint) → PushesOut of c c []
 pushes_none of c = record {
-  stays = record { worker = refl; inbox = refl; marked = refl; made = refl; gathered = refl; seats = refl };
+  stays = record { worker = refl; inbox = refl; marked = refl; made = refl; gathered = refl; identities = refl };
   taker = refl;
   pushes = λ v other. sym (append-nil (pushed_to c v));
 }
@@ -186,7 +186,7 @@ pushes_none of c = record {
 -- a copy for one of its own motes isn't pushed
 pub pushes_own : (of : List ℕ) (workers : ℕ) (c : Endpoint) (copy : RadioCopy) → Reaches of workers copy → slice_index of copy.to ≡ c.worker → PushesOut of c c (copy ∷ [])
 pushes_own of workers c copy reaches own = record {
-  stays = record { worker = refl; inbox = refl; marked = refl; made = refl; gathered = refl; seats = refl };
+  stays = record { worker = refl; inbox = refl; marked = refl; made = refl; gathered = refl; identities = refl };
   taker = refl;
   pushes = λ v other.
       let e : is_to of v copy ≡ false = own_is of copy.to v reaches.there ∙ (ap (λ k. k == v) own ∙ turned v c.worker other) in

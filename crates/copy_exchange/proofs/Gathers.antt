@@ -186,9 +186,9 @@ fresh_parts taken rest first (a ∷ as') e none h =
     (ap (λ l. l ++ part a.state.number rest) (sym empty) ∙ (sym (part-append a.state.number taken rest) ∙ h.0), fresh_parts taken rest (first + 1) as' heads'.1 (λ i le. none i (omega arith)) h.1)
 
 -- ---- the taker afterwards
-module _ (ss : List SenderView) (d : TakerState) (stands : IsOrderly d) (whole : Whole d.gathered d.taken) (are_open : AreOpen ss d) (one : (s : ℕ) → OneOf s ss) where
+module _ (ss : List SenderView) (d : TakerState) (orderly : IsOrderly d) (whole : Whole d.gathered d.taken) (are_open : AreOpen ss d) (one : (s : ℕ) → OneOf s ss) where
   start : Gathering ss d
-  start = record { are_open = are_open; apart = stands.apart; begun = stands.begun; unseen = stands.unseen; numbers = stands.numbers }
+  start = record { are_open = are_open; apart = orderly.apart; begun = orderly.begun; unseen = orderly.unseen; numbers = orderly.numbers }
 
   end : Gathering [] (with_joined ss d)
   end = gathers_all ss d start
@@ -211,7 +211,7 @@ module _ (ss : List SenderView) (d : TakerState) (stands : IsOrderly d) (whole :
     not_gathered i open' = nothing_more (part i d.taken) (part i rest) (sym (part-append i d.taken rest) ∙ is_rest.1 i open')
 
     new_parts : Each (λ (a : SenderView). part a.state.number rest ≡ a.state.pushed) ss
-    new_parts = fresh_parts d.taken rest are_open.first ss are_open.numbered (λ i le. stands.unseen i (are_open.newer i le)) (each_new (λ g. part g.number (d.taken ++ rest) ≡ g.pushed) d.made ss d.gathered is_rest.0)
+    new_parts = fresh_parts d.taken rest are_open.first ss are_open.numbered (λ i le. orderly.unseen i (are_open.newer i le)) (each_new (λ g. part g.number (d.taken ++ rest) ≡ g.pushed) d.made ss d.gathered is_rest.0)
 
     only_in : (s : ℕ) → OnlyIn s (one s).number rest
     only_in s i other =
@@ -235,14 +235,14 @@ module _ (ss : List SenderView) (d : TakerState) (stands : IsOrderly d) (whole :
     then_in_order s =
         let j : ℕ = (one s).number in
         let before : from s (copies_of d.taken) ≡ from s (copies_in d.gathered) =
-        ap (λ l. from s (copies_of l)) (sym (append-nil d.taken)) ∙ stands.in_order [] (subst (λ (l : List Item). Whole d.gathered l) (sym (append-nil d.taken)) whole, λ i no. ap (part i) (append-nil d.taken)) s in
+        ap (λ l. from s (copies_of l)) (sym (append-nil d.taken)) ∙ orderly.in_order [] (subst (λ (l : List Item). Whole d.gathered l) (sym (append-nil d.taken)) whole, λ i no. ap (part i) (append-nil d.taken)) s in
         let now : from s (copies_of rest) ≡ from s (flat_map copies_by ss) =
         of_one_sender s j rest (only_in s) ∙ sym (all_of s j rest are_open.first ss are_open.numbered new_parts (one s).each (λ q. ap (λ l. from s (copies_pushed l)) (outside j q))) in
         ap (from s) (copies-append d.taken rest) ∙ (from-append s (copies_of d.taken) (copies_of rest)
         ∙ ((λ i. before i ++ now i) ∙ (sym (from-append s (copies_in d.gathered) (flat_map copies_by ss)) ∙ ap (from s) (sym (joined_copies d.made ss d.gathered)))))
 
-  pub stands_then : IsOrderly (with_joined ss d)
-  stands_then = record {
+  pub orderly_then : IsOrderly (with_joined ss d)
+  orderly_then = record {
     in_order = then_in_order;
     begun = end.begun;
     unseen = end.unseen;

@@ -8,49 +8,49 @@ use Rattle.copy_inbox.specs.declared.items.Carried.TheVariants.{Mark}
 use Rattle.copy_inbox.specs.declared.rule.SenderState.{SenderState}
 use Rattle.copy_inbox.specs.Handles.{InboxId, SenderView, after_pushing}
 use Rattle.copy_exchange.specs.declared.endpoint.Endpoint.{Endpoint}
-use Rattle.copy_exchange.specs.Endpoints.{IsSeated, IsSenderOn, HasMarks, Stays, PushesMarks, sender_to, pushed_list, pushed_to, seat_of}
+use Rattle.copy_exchange.specs.Endpoints.{IsOnInboxes, IsSenderOn, HasMarks, Stays, PushesMarks, sender_to, pushed_list, pushed_to, identity_of}
 use Rattle.copy_exchange.specs.Steps.{MarksOne, pushed_with_mark}
 use Rattle.copy_exchange.proofs.Delivered.{same_at, stays_on, with_sender}
-use Rattle.copy_exchange.proofs.AfterWindow.{same_seat}
+use Rattle.copy_exchange.proofs.AfterWindow.{same_identity}
 
--- ---- what a seat tells
-on_seat : (id : InboxId) (own : Bool) (o p : Option SenderView) → seat_of o ≡ seat_of p → IsSenderOn id own p → IsSenderOn id own o
-on_seat id true None None e h = refl
-on_seat id true None (Some q) e h = absurd cc
-on_seat id true (Some p) None e h = absurd cc
-on_seat id true (Some p) (Some q) e h = absurd cc
-on_seat id false None None e h = h
-on_seat id false None (Some q) e h = absurd cc
-on_seat id false (Some p) None e h = absurd cc
-on_seat id false (Some p) (Some q) e h =
-    let seat : (p.inbox, p.state.number, p.state.marked) ≡ (q.inbox, q.state.number, q.state.marked) = cc in
-    ap (λ (x : InboxId × ℕ × Bool). x.0) seat ∙ h
+-- ---- what the identity of a sender tells
+on_identity : (id : InboxId) (own : Bool) (o p : Option SenderView) → identity_of o ≡ identity_of p → IsSenderOn id own p → IsSenderOn id own o
+on_identity id true None None e h = refl
+on_identity id true None (Some q) e h = absurd cc
+on_identity id true (Some p) None e h = absurd cc
+on_identity id true (Some p) (Some q) e h = absurd cc
+on_identity id false None None e h = h
+on_identity id false None (Some q) e h = absurd cc
+on_identity id false (Some p) None e h = absurd cc
+on_identity id false (Some p) (Some q) e h =
+    let identity : (p.inbox, p.state.number, p.state.marked) ≡ (q.inbox, q.state.number, q.state.marked) = cc in
+    ap (λ (x : InboxId × ℕ × Bool). x.0) identity ∙ h
 
-marked_seat : (o p : Option SenderView) → seat_of o ≡ seat_of p → ((s : SenderView) → p ≡ Some s → s.state.marked ≡ true) → (s : SenderView) → o ≡ Some s → s.state.marked ≡ true
-marked_seat None p e h s is = absurd cc
-marked_seat (Some o) None e h s is = absurd cc
-marked_seat (Some o) (Some q) e h s is =
+marked_identity : (o p : Option SenderView) → identity_of o ≡ identity_of p → ((s : SenderView) → p ≡ Some s → s.state.marked ≡ true) → (s : SenderView) → o ≡ Some s → s.state.marked ≡ true
+marked_identity None p e h s is = absurd cc
+marked_identity (Some o) None e h s is = absurd cc
+marked_identity (Some o) (Some q) e h s is =
     let same : o ≡ s = cc in
-    let seat : (o.inbox, o.state.number, o.state.marked) ≡ (q.inbox, q.state.number, q.state.marked) = cc in
-    let marked : o.state.marked ≡ q.state.marked = ap (λ (x : InboxId × ℕ × Bool). x.2) seat in
+    let identity : (o.inbox, o.state.number, o.state.marked) ≡ (q.inbox, q.state.number, q.state.marked) = cc in
+    let marked : o.state.marked ≡ q.state.marked = ap (λ (x : InboxId × ℕ × Bool). x.2) identity in
     ap (λ (x : SenderView). x.state.marked) (sym same) ∙ (marked ∙ h q refl)
 
 -- ---- what stays of an endpoint
 pub marks_stay : (a b : Endpoint) → Stays a b → HasMarks a → HasMarks b
-marks_stay a b h marks v = marked_seat (sender_to b v) (sender_to a v) (same_seat a b v h) (marks v)
+marks_stay a b h marks v = marked_identity (sender_to b v) (sender_to a v) (same_identity a b v h) (marks v)
 
-pub seated_stays : (inboxes : List InboxId) (a b : Endpoint) → Stays a b → IsSeated inboxes a → IsSeated inboxes b
-seated_stays inboxes a b h s = record {
+pub on_inboxes_stays : (inboxes : List InboxId) (a b : Endpoint) → Stays a b → IsOnInboxes inboxes a → IsOnInboxes inboxes b
+on_inboxes_stays inboxes a b h s = record {
   taker = ap (slice_get inboxes) h.worker ∙ (s.taker ∙ ap Some (sym h.inbox));
-  count = sym (length-map b.senders.items seat_of) ∙ (ap length h.seats ∙ (length-map a.senders.items seat_of ∙ s.count));
+  count = sym (length-map b.senders.items identity_of) ∙ (ap length h.identities ∙ (length-map a.senders.items identity_of ∙ s.count));
   each = λ v id found.
       let P : ℕ → Type 0 = λ w. IsSenderOn id (v == w) (sender_to b v) in
-      subst P (sym h.worker) (on_seat id (v == a.worker) (sender_to b v) (sender_to a v) (same_seat a b v h) (s.each v id found));
+      subst P (sym h.worker) (on_identity id (v == a.worker) (sender_to b v) (sender_to a v) (same_identity a b v h) (s.each v id found));
 }
 
 -- ---- the mark through one sender
 pub stays_same : (c : Endpoint) → Stays c c
-stays_same c = record { worker = refl; inbox = refl; marked = refl; made = refl; gathered = refl; seats = refl }
+stays_same c = record { worker = refl; inbox = refl; marked = refl; made = refl; gathered = refl; identities = refl }
 
 pub marks_without : (c : Endpoint) (to window : ℕ) → sender_to c to ≡ None → MarksOne to window c c
 marks_without c to window none = record {
@@ -73,7 +73,7 @@ module _ (c : Endpoint) (to window : ℕ) (inside : to < length c.senders.items)
       marked = refl;
       made = refl;
       gathered = refl;
-      seats = map-set_same seat_of c.senders.items to (Some t) (Some s) (ap Some (λ i. (same_inbox i, (state i).number, (state i).marked)) ∙ ap seat_of was);
+      identities = map-set_same identity_of c.senders.items to (Some t) (Some s) (ap Some (λ i. (same_inbox i, (state i).number, (state i).marked)) ∙ ap identity_of was);
     };
     taker = refl;
     here = ap pushed_list (get_or-set_same c.senders.items to (Some t) None inside) ∙ (ap (λ (p : SenderState). p.pushed) state ∙ ap (λ o. pushed_with_mark o window) (sym there));
@@ -95,8 +95,8 @@ with_mark : (id : InboxId) (window : ℕ) (o : Option SenderView) → IsSenderOn
 with_mark id window None h = absurd h
 with_mark id window (Some s) h = refl
 
-pub marked_more : (inboxes : List InboxId) (to window : ℕ) (a b c : Endpoint) → IsSeated inboxes a → to < length inboxes → MarkedTo to window a b → MarksOne to window b c → MarkedTo (to + 1) window a c
-marked_more inboxes to window a b c seated inside h one = record {
+pub marked_more : (inboxes : List InboxId) (to window : ℕ) (a b c : Endpoint) → IsOnInboxes inboxes a → to < length inboxes → MarkedTo to window a b → MarksOne to window b c → MarkedTo (to + 1) window a c
+marked_more inboxes to window a b c on_inboxes inside h one = record {
   stays = stays_on a b c h.stays one.stays;
   taker = one.taker ∙ h.taker;
   pushes = λ v lt other. ⊎_elim
@@ -104,7 +104,7 @@ marked_more inboxes to window a b c seated inside h one = record {
       let id : InboxId = get_or inboxes to a.taker.inbox in
       let found : slice_get inboxes v ≡ Some id = ap (slice_get inboxes) q.1 ∙ slice_get-get_or inboxes to a.taker.inbox inside in
       let P : Bool → Type 0 = λ own. IsSenderOn id own (sender_to a v) in
-      let on : IsSenderOn id false (sender_to a v) = subst P other (seated.each v id found) in
+      let on : IsSenderOn id false (sender_to a v) = subst P other (on_inboxes.each v id found) in
       ap (pushed_to c) q.1 ∙ (one.here ∙ (ap (λ o. pushed_with_mark o window) (h.rest to (omega arith) ∙ ap (sender_to a) (sym q.1)) ∙ with_mark id window (sender_to a v) on)))
       (λ (q : (eqb v to ≡ false) × (v ≢ to)).
       let n = q.1 in
@@ -117,9 +117,9 @@ pub marked_all : (inboxes : List InboxId) (to window : ℕ) (a b : Endpoint) →
 marked_all inboxes to window a b all h = record { stays = h.stays; taker = h.taker; pushes = λ v lt other. h.pushes v (omega arith) other }
 
 -- ---- the sender on an inbox can push a mark
-pub can_mark : (inboxes : List InboxId) (c : Endpoint) (to : ℕ) (id : InboxId) → IsSeated inboxes c → HasMarks c → to < length inboxes → id ≡ get_or inboxes to id
+pub can_mark : (inboxes : List InboxId) (c : Endpoint) (to : ℕ) (id : InboxId) → IsOnInboxes inboxes c → HasMarks c → to < length inboxes → id ≡ get_or inboxes to id
     → IfSome (sender_to c to) (λ s. (s.inbox ≡ id) × (s.state.marked ≡ true))
-can_mark inboxes c to id seated marks lt at = of_sender (sender_to c to) refl
+can_mark inboxes c to id on_inboxes marks lt at = of_sender (sender_to c to) refl
   where
     found : slice_get inboxes to ≡ Some id
     found = slice_get-get_or inboxes to id lt ∙ ap Some (sym at)
@@ -132,4 +132,4 @@ can_mark inboxes c to id seated marks lt at = of_sender (sender_to c to) refl
     of_sender None e = tt
     of_sender (Some s) e =
         let P : Option SenderView → Type 0 = λ p. IsSenderOn id (to == c.worker) p in
-        (on_other (to == c.worker) s (subst P e (seated.each to id found)), marks to s e)
+        (on_other (to == c.worker) s (subst P e (on_inboxes.each to id found)), marks to s e)

@@ -11,8 +11,8 @@ use Rattle.copy_inbox.specs.declared.rule.TakerState.{TakerState}
 use Rattle.copy_inbox.specs.Gathered.{is_gathered}
 use Rattle.copy_inbox.specs.Handles.{InboxId, SenderView}
 use Rattle.copy_exchange.specs.declared.endpoint.Endpoint.{Endpoint}
-use Rattle.copy_exchange.specs.Endpoints.{IsEndpoint, IsSeated, IsSenderOn, Stays, AreOpen, Together, sender_to, senders_to}
-use Rattle.copy_exchange.proofs.Delivered.{seated}
+use Rattle.copy_exchange.specs.Endpoints.{IsEndpoint, IsOnInboxes, IsSenderOn, Stays, AreOpen, Together, sender_to, senders_to}
+use Rattle.copy_exchange.proofs.Delivered.{on_inboxes}
 use Rattle.copy_exchange.proofs.Gathers.{numbers_of}
 use Rattle.copy_exchange.proofs.AfterWindow.{same_workers, each_staying, open_staying}
 use Rattle.copy_exchange.proofs.Lists.{each_at, each_map}
@@ -110,7 +110,7 @@ first_is_0 ss d h none = ⊎_elim
     (λ (le : h.first ≤ 0). omega arith)
     (cases_lt 0 h.first)
 
-module _ (inboxes : List InboxId) (cs : List Endpoint) (workers : workers_of cs ≡ range_with_len 0 (length inboxes)) (each_seated : Each (IsSeated inboxes) cs) where
+module _ (inboxes : List InboxId) (cs : List Endpoint) (workers : workers_of cs ≡ range_with_len 0 (length inboxes)) (each_on_inboxes : Each (IsOnInboxes inboxes) cs) where
   long : length cs ≡ length inboxes
   long = sym (length-map cs (λ (c : Endpoint). c.worker)) ∙ (ap length workers ∙ length-range_with_len 0 (length inboxes))
 
@@ -123,17 +123,17 @@ module _ (inboxes : List InboxId) (cs : List Endpoint) (workers : workers_of cs 
       let n = long in
       let id : InboxId = get_or inboxes v c.taker.inbox in
       let found : slice_get inboxes v ≡ Some id = slice_get-get_or inboxes v c.taker.inbox (omega arith) in
-      one_missing id v 0 cs (omega arith) (omega arith) (workers ∙ ap (range_with_len 0) (sym long)) (each_map (IsSeated inboxes) (On id v) cs (λ x h. h.each v id found) each_seated) ∙ long
+      one_missing id v 0 cs (omega arith) (omega arith) (workers ∙ ap (range_with_len 0) (sym long)) (each_map (IsOnInboxes inboxes) (On id v) cs (λ x h. h.each v id found) each_on_inboxes) ∙ long
 
 -- on the inbox of each worker, where none is gathered yet, there is a sender of each other one
 pub made_for_others : (inboxes : List InboxId) (endpoints : List Endpoint) → Together inboxes endpoints → (v : ℕ) (c : Endpoint) → slice_get endpoints v ≡ Some c → c.taker.state.gathered ≡ [] → suc c.taker.state.made ≡ length inboxes
 made_for_others inboxes endpoints h v c at none =
-    let each_seated = each_map (IsEndpoint inboxes) (IsSeated inboxes) endpoints (seated inboxes) h.each in
+    let each_on_inboxes = each_map (IsEndpoint inboxes) (IsOnInboxes inboxes) endpoints (on_inboxes inboxes) h.each in
     let o : AreOpen (senders_to endpoints c.worker) c.taker.state = each_found (λ (x : Endpoint). AreOpen (senders_to endpoints x.worker) x.taker.state) endpoints v c h.are_open at in
     let first = first_is_0 (senders_to endpoints c.worker) c.taker.state o none in
     let made = o.made in
-    let same : length (senders_to endpoints c.worker) ≡ length (senders_to endpoints v) = ap (λ w. length (senders_to endpoints w)) (worker_is inboxes endpoints h.workers each_seated v c at) in
-    let others = all_but_one inboxes endpoints h.workers each_seated v c at in
+    let same : length (senders_to endpoints c.worker) ≡ length (senders_to endpoints v) = ap (λ w. length (senders_to endpoints w)) (worker_is inboxes endpoints h.workers each_on_inboxes v c at) in
+    let others = all_but_one inboxes endpoints h.workers each_on_inboxes v c at in
     omega arith
 
 -- ---- one sender of each other worker
@@ -159,7 +159,7 @@ module _ (inboxes : List InboxId) (before after : List Endpoint)
     (together : Together inboxes before)
     (none : Each (λ (c : Endpoint). c.taker.state.gathered ≡ []) before)
     (stays : AllZip Stays before after)
-    (each_seated : Each (IsSeated inboxes) after)
+    (each_on_inboxes : Each (IsOnInboxes inboxes) after)
     (v : ℕ) (c : Endpoint) (at : slice_get after v ≡ Some c) where
   workers : workers_of after ≡ range_with_len 0 (length inboxes)
   workers = same_workers before after stays ∙ together.workers
@@ -168,7 +168,7 @@ module _ (inboxes : List InboxId) (before after : List Endpoint)
   senders = senders_to after v
 
   its : c.worker ≡ v
-  its = worker_is inboxes after workers each_seated v c at
+  its = worker_is inboxes after workers each_on_inboxes v c at
 
   are_open : AreOpen senders c.taker.state
   are_open =
@@ -189,13 +189,13 @@ module _ (inboxes : List InboxId) (before after : List Endpoint)
   inbox = get_or inboxes v c.taker.inbox
 
   inside : v < length inboxes
-  inside = let n = long inboxes after workers each_seated in let lt = slice_get_within after v c at in omega arith
+  inside = let n = long inboxes after workers each_on_inboxes in let lt = slice_get_within after v c at in omega arith
 
   its_inbox : slice_get inboxes v ≡ Some inbox
   its_inbox = slice_get-get_or inboxes v c.taker.inbox inside
 
   on_it : (u : ℕ) (d : Endpoint) → slice_get after u ≡ Some d → On inbox v d
-  on_it u d there = (each_found (IsSeated inboxes) after u d each_seated there).each v inbox its_inbox
+  on_it u d there = (each_found (IsOnInboxes inboxes) after u d each_on_inboxes there).each v inbox its_inbox
 
   found_some : (o : Option SenderView) → IsSenderOn inbox false o → (s : SenderView) × (o ≡ Some s)
   found_some None h = absurd h
@@ -203,10 +203,10 @@ module _ (inboxes : List InboxId) (before after : List Endpoint)
 
   of_worker : (u : ℕ) → u < length inboxes → u ≢ v → (s : SenderView) × (sender_of after v u ≡ Some s) × (slice_get senders s.state.number ≡ Some s)
   of_worker u lt other =
-      let n = long inboxes after workers each_seated in
+      let n = long inboxes after workers each_on_inboxes in
       let d : Endpoint = get_or after u c in
       let there : slice_get after u ≡ Some d = slice_get-get_or after u c (omega arith) in
-      let its_worker = worker_is inboxes after workers each_seated u d there in
+      let its_worker = worker_is inboxes after workers each_on_inboxes u d there in
       let found = found_some (sender_to d v) (as_other inbox v d (λ same. other (sym (same ∙ its_worker))) (on_it u d there)) in
       let place = in_filter_map (λ (x : Endpoint). sender_to x v) after u d found.0 there found.1 in
       let number : found.0.state.number ≡ place.0 = at_range (λ (s : SenderView). s.state.number) senders (length senders) numbered place.0 found.0 place.1 in (
@@ -217,13 +217,13 @@ module _ (inboxes : List InboxId) (before after : List Endpoint)
 
   worker_of : (j : ℕ) (s : SenderView) → slice_get senders j ≡ Some s → (u : ℕ) × (u < length inboxes) × (u ≢ v) × (sender_of after v u ≡ Some s)
   worker_of j s is =
-      let n = long inboxes after workers each_seated in
+      let n = long inboxes after workers each_on_inboxes in
       let of_it = of_filter_map (λ (x : Endpoint). sender_to x v) after j s is in
       let u : ℕ = of_it.0 in
       let d : Endpoint = of_it.1 in
       let there : slice_get after u ≡ Some d = of_it.2 in
       let lt = slice_get_within after u d there in
-      let its_worker = worker_is inboxes after workers each_seated u d there in (
+      let its_worker = worker_is inboxes after workers each_on_inboxes u d there in (
         u,
         omega arith,
         λ same. absurd (let own = as_own inbox v d (sym (its_worker ∙ same)) (on_it u d there) in let some : sender_to d v ≡ Some s = of_it.3 in let clash : None ≡ Some s = sym own ∙ some in cc),
@@ -234,7 +234,7 @@ module _ (inboxes : List InboxId) (before after : List Endpoint)
   are_senders = record {
     numbered = numbered;
     made_is = let made = are_open.made in let zero_ = first in omega arith;
-    others = all_but_one inboxes after workers each_seated v c at;
+    others = all_but_one inboxes after workers each_on_inboxes v c at;
     of_worker = of_worker;
     worker_of = worker_of;
   }

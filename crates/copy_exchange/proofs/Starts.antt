@@ -29,8 +29,8 @@ below : (made : ℕ) (gs : List Gathered) → Each (λ (g : Gathered). (g.number
 below made [] h i le = refl
 below made (g ∷ gs) h i le = let number = h.0.0 in gathered_more g gs i (λ e. absurd (omega arith)) ∙ below made gs h.1 i le
 
-stands_more : (t : TakerView) (n : ℕ) → IsOrderly t.state → AllGathered t.state → IsOrderly (with_more t n).state
-stands_more t n h all =
+orderly_more : (t : TakerView) (n : ℕ) → IsOrderly t.state → AllGathered t.state → IsOrderly (with_more t n).state
+orderly_more t n h all =
     let made : ℕ = t.state.made in
     record {
       in_order = h.in_order;
@@ -287,7 +287,7 @@ module _ (inboxes : List InboxId) (olds ts : List TakerView) (rows : List Row) (
         taker = ap (slice_get inboxes) zero_ ∙ (inbox_at i t.inbox inside ∙ ap Some (sym (h.takers.its i t.inbox t inside)));
         count = row.count;
         each = row.each;
-        stands = subst P (sym (h.taker i t inside)) (stands_more (get_or olds i t) (length (row_senders rows i)) old.stands old.all);
+        orderly = subst P (sym (h.taker i t inside)) (orderly_more (get_or olds i t) (length (row_senders rows i)) old.orderly old.all);
       }
 
   open_at : (i : ℕ) (t : TakerView) (r : Row) → i < length ts → AreOpen (senders_to Made (0 + i)) (get_or ts i t).state
@@ -304,7 +304,7 @@ module _ (inboxes : List InboxId) (olds ts : List TakerView) (rows : List Row) (
         numbered = h.numbered i t inside;
         made = refl;
         older = old.all;
-        newer = below first (get_or olds i t).state.gathered old.stands.numbers;
+        newer = below first (get_or olds i t).state.gathered old.orderly.numbers;
       } in
       subst P (λ j. (sym senders j, sym (h.taker i t inside) j)) there
 

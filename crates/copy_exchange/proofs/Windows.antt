@@ -26,8 +26,8 @@ none_left : (rest : List Item) → ((s : ℕ) → part s rest ≡ []) → rest �
 none_left [] h = refl
 none_left (x ∷ xs) h = absurd (part-not_nil x xs (h x.sender))
 
-stands_fresh : (marked : Bool) → IsOrderly (make_taker_state marked 0 [] [])
-stands_fresh marked = record {
+orderly_fresh : (marked : Bool) → IsOrderly (make_taker_state marked 0 [] [])
+orderly_fresh marked = record {
   in_order = λ rest r s. ap (λ l. from s (copies_of l)) (none_left rest (λ k. r.1 k refl));
   begun = tt;
   unseen = λ s h. refl;
@@ -39,10 +39,10 @@ stands_fresh marked = record {
 settled_fresh : (inbox : InboxId) (t : TakerView) → IsFresh inbox t → IsSettled inbox t
 settled_fresh inbox t h =
     let P : TakerState → Type 0 = λ d. IsOrderly d × PacketsLeft d in
-    let then_ = subst P (sym h.1) (stands_fresh t.state.marked, tt) in
+    let then_ = subst P (sym h.1) (orderly_fresh t.state.marked, tt) in
     record {
       its = h.0;
-      stands = then_.0;
+      orderly = then_.0;
       all = λ s lt. absurd (let none : t.state.made ≡ 0 = ap (λ (d : TakerState). d.made) h.1 in omega arith);
       no_mark = then_.1;
     }

@@ -54,7 +54,7 @@ abbrev pub HasPushedNothing : Endpoint → Type 0
 HasPushedNothing e = (v : ℕ) → pushed_to e v ≡ []
 
 -- its taker and its senders are those of these inboxes
-pub record IsSeated (inboxes : List InboxId) (e : Endpoint) : Type 0 where
+pub record IsOnInboxes (inboxes : List InboxId) (e : Endpoint) : Type 0 where
   pub taker : slice_get inboxes e.worker ≡ Some e.taker.inbox
   pub count : length e.senders.items ≡ length inboxes
   pub each : (v : ℕ) (id : InboxId) → slice_get inboxes v ≡ Some id → IsSenderOn id (v == e.worker) (sender_to e v)
@@ -64,7 +64,7 @@ pub record IsEndpoint (inboxes : List InboxId) (e : Endpoint) : Type 0 where
   pub taker : slice_get inboxes e.worker ≡ Some e.taker.inbox
   pub count : length e.senders.items ≡ length inboxes
   pub each : (v : ℕ) (id : InboxId) → slice_get inboxes v ≡ Some id → IsSenderOn id (v == e.worker) (sender_to e v)
-  pub stands : IsOrderly e.taker.state
+  pub orderly : IsOrderly e.taker.state
 
 -- all that was gathered before this window is taken
 abbrev pub IsCollected : Endpoint → Type 0
@@ -76,9 +76,9 @@ DeliversOwn worker_of e = (s v : ℕ) → (worker_of s == e.worker) ≡ false �
 
 -- ---- from the start of a window to its end
 -- which sender it is, and whether its inbox has marks
-abbrev pub seat_of : Option SenderView → Option (InboxId × ℕ × Bool)
-seat_of None = None
-seat_of (Some s) = Some (s.inbox, s.state.number, s.state.marked)
+abbrev pub identity_of : Option SenderView → Option (InboxId × ℕ × Bool)
+identity_of None = None
+identity_of (Some s) = Some (s.inbox, s.state.number, s.state.marked)
 
 -- the same endpoint, whatever it took and delivered
 pub record Stays (old new : Endpoint) : Type 0 where
@@ -87,7 +87,7 @@ pub record Stays (old new : Endpoint) : Type 0 where
   pub marked : new.taker.state.marked ≡ old.taker.state.marked
   pub made : new.taker.state.made ≡ old.taker.state.made
   pub gathered : new.taker.state.gathered ≡ old.taker.state.gathered
-  pub seats : map seat_of new.senders.items ≡ map seat_of old.senders.items
+  pub identities : map identity_of new.senders.items ≡ map identity_of old.senders.items
 
 -- it took these copies, which are all that was gathered and not yet taken, of an inbox without marks
 pub record Collects (old new : Endpoint) (copies : List RadioCopy) : Type 0 where

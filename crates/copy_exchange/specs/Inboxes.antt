@@ -16,7 +16,7 @@ IsPlain t = t.state.marked ≡ false
 -- every sender is gathered, and no mark is left
 pub record IsSettled (inbox : InboxId) (t : TakerView) : Type 0 where
   pub its : t.inbox ≡ inbox
-  pub stands : IsOrderly t.state
+  pub orderly : IsOrderly t.state
   pub all : AllGathered t.state
   pub no_mark : PacketsLeft t.state
 

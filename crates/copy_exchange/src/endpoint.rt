@@ -2,7 +2,7 @@
 
 ghost use Rattle.std.specs.Prelude.{[], ◌∷◌, ◌<◌, true, length, IfOk, IfSome, OnOk, OnErr, ◌≡◌};
 ghost use Rattle.std.specs.List.{AllByRecursion as Each};
-ghost use Rattle.copy_exchange.specs.Endpoints.{IsEndpoint, IsSeated, HasMarks, Collects, Delivers, Leaves, Reaches};
+ghost use Rattle.copy_exchange.specs.Endpoints.{IsEndpoint, IsOnInboxes, HasMarks, Collects, Delivers, Leaves, Reaches};
 ghost use Rattle.copy_exchange.specs.Endpoints.{PushesOut, PushesMarks, sender_to};
 ghost use Rattle.copy_exchange.specs.Inboxes.{IsPlain};
 ghost use Rattle.copy_exchange.specs.Steps.{MarksOne};
@@ -92,10 +92,10 @@ impl Endpoint {
         of: &[u16],
         copies: &[RadioCopy],
     ) -> Result<(), InboxError>
-        requires seated { IsSeated inboxes.now self.old }
+        requires on_inboxes { IsOnInboxes inboxes.now self.old }
         requires reaches { Each (Reaches of.now (length inboxes.now)) copies.now }
         ensures pushes { OnOk result (PushesOut of.now self.old self.new copies.now) }
-        ensures seated { OnOk result (IsSeated inboxes.now self.new) }
+        ensures on_inboxes { OnOk result (IsOnInboxes inboxes.now self.new) }
     {
         for copy in copies {
             self.push_out(rt, inboxes, of, *copy)?;
@@ -111,10 +111,10 @@ impl Endpoint {
         of: &[u16],
         copy: RadioCopy,
     ) -> Result<(), InboxError>
-        requires seated { IsSeated inboxes.now self.old }
+        requires on_inboxes { IsOnInboxes inboxes.now self.old }
         requires reaches { Reaches of.now (length inboxes.now) copy }
         ensures pushes { OnOk result (PushesOut of.now self.old self.new (copy ∷ [])) }
-        ensures seated { OnOk result (IsSeated inboxes.now self.new) }
+        ensures on_inboxes { OnOk result (IsOnInboxes inboxes.now self.new) }
     {
         if of[usize::from(copy.to)] == self.worker {
             return Ok(());
@@ -130,10 +130,10 @@ impl Endpoint {
         inboxes: &[Inbox],
         window: u64,
     ) -> Result<(), InboxError>
-        requires seated { IsSeated inboxes.now self.old }
+        requires on_inboxes { IsOnInboxes inboxes.now self.old }
         requires marked { HasMarks self.old }
         ensures pushes { OnOk result (PushesMarks (length inboxes.now) window self.old self.new) }
-        ensures seated { OnOk result (IsSeated inboxes.now self.new) }
+        ensures on_inboxes { OnOk result (IsOnInboxes inboxes.now self.new) }
     {
         for to in 0..inboxes.len() {
             self.push_mark_to(rt, &inboxes[to], to, window)?;
@@ -169,10 +169,10 @@ impl Endpoint {
         of: &[u16],
         copy: RadioCopy,
     ) -> Result<(), InboxError>
-        requires seated { IsSeated inboxes.now self.old }
+        requires on_inboxes { IsOnInboxes inboxes.now self.old }
         requires leaves { Leaves of.now (length inboxes.now) self.old.worker copy }
         ensures delivers { OnOk result (Delivers of.now self.old self.new (copy ∷ [])) }
-        ensures seated { OnOk result (IsSeated inboxes.now self.new) }
+        ensures on_inboxes { OnOk result (IsOnInboxes inboxes.now self.new) }
     {
         let to = usize::from(of[usize::from(copy.to)]);
         let Some(sender) = &mut self.senders[to] else {

@@ -2,7 +2,7 @@
 
 ghost use Rattle.std.specs.Prelude.{◌≡◌, ◌≤◌, ◌^◌, true, length, map, IfOk, IfSome, OnOk};
 ghost use Rattle.std.specs.List.{AllByRecursion as Each, AllZip, range_with_len};
-ghost use Rattle.copy_exchange.specs.Endpoints.{IsSeated, Together, StartsAs, HasMarks, HasPushedNothing, AllReturn};
+ghost use Rattle.copy_exchange.specs.Endpoints.{IsOnInboxes, Together, StartsAs, HasMarks, HasPushedNothing, AllReturn};
 ghost use Rattle.copy_exchange.specs.Endpoints.{GathersDelivered};
 ghost use Rattle.copy_exchange.specs.Inboxes.{IsPlain, Settled};
 ghost use Rattle.copy_exchange.specs.Steps.{AreTakersOf, Opens, opened_taker, opened_sender, AreSendersOn};
@@ -74,7 +74,8 @@ fn sender_on(inbox: &Inbox, taker: &mut Taker, own: bool) -> Result<Option<Sende
     Ok(Some(sender))
 }
 
-/// After a window: each worker's taker gathers what was delivered to it. The inboxes have no marks.
+/// After a window: [`gather_back`] with another contract, on what was delivered to each worker. The inboxes have no
+/// marks.
 pub fn gather_window<R: Wait>(
     rt: &R,
     alloc: Global,
@@ -98,7 +99,7 @@ pub fn gather_back<R: Wait>(
     endpoints: Vec<Endpoint>,
 ) -> Result<Vec<Taker>, InboxError>
     requires workers { map (λ endpoint. endpoint.worker) endpoints.items ≡ range_with_len 0 (length inboxes.now) }
-    requires seated { Each (IsSeated inboxes.now) endpoints.items }
+    requires on_inboxes { Each (IsOnInboxes inboxes.now) endpoints.items }
     ensures { IfOk result (λ takers. GathersBack endpoints.items takers.items) }
 {
     let (mut takers, rows) = split_endpoints(alloc, endpoints)?;

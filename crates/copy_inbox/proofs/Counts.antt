@@ -32,8 +32,8 @@ tally-cons g gs items = sum_by-cons (λ (k : Gathered). length (part k.number it
 abbrev pub Adds : List Item → List Item → Gathered → Type 0
 Adds taken items g = part g.number (taken ++ items) ≡ g.pushed
 
-pub adds_of : (d : TakerState) (seat : ℕ → Option ℕ) (pushed : ℕ → List Carried) (items : List Item) → Sound d seat pushed items → Each (Adds d.taken items) d.gathered
-adds_of d seat pushed items s = each_map d.gathered (λ g j. s.parts g.number ∙ j.all) s.joined
+pub adds_of : (d : TakerState) (pass_of : ℕ → Option ℕ) (pushed : ℕ → List Carried) (items : List Item) → Sound d pass_of pushed items → Each (Adds d.taken items) d.gathered
+adds_of d pass_of pushed items s = each_map d.gathered (λ g j. s.parts g.number ∙ j.all) s.joined
 
 pub left_is : (g : Gathered) (taken items : List Item) → Adds taken items g → untaken_of taken g ≡ part g.number items
 left_is g taken items h = ap (drop (length (part g.number taken))) (sym h ∙ part-append g.number taken items) ∙ drop-append_seam (part g.number taken) (part g.number items)
@@ -46,8 +46,8 @@ known-is (g ∷ gs) taken items h = let e = ap length (left_is g taken items h.0
 pub begun_of : (gs : List Gathered) (taken items : List Item) → Each (Adds taken items) gs → TookFronts gs taken
 begun_of gs taken items h = each_map gs (λ g k. (part g.number items, sym k ∙ part-append g.number taken items)) h
 
-pub made_of : (d : TakerState) (seat : ℕ → Option ℕ) (pushed : ℕ → List Carried) (items : List Item) → Sound d seat pushed items → OfMade d.made d.taken
-made_of d seat pushed items s u le = part-nil_left u d.taken items (s.parts u ∙ (s.unmade u le).0)
+pub made_of : (d : TakerState) (pass_of : ℕ → Option ℕ) (pushed : ℕ → List Carried) (items : List Item) → Sound d pass_of pushed items → OfMade d.made d.taken
+made_of d pass_of pushed items s u le = part-nil_left u d.taken items (s.parts u ∙ (s.unmade u le).0)
 
 -- ---- one item more at the front
 pub front_counts : (gs : List Gathered) (x : Item) (items : List Item) → Apart gs → tally gs (x ∷ items) ≡ cond (is_gathered gs x.sender) 1 0 + tally gs items

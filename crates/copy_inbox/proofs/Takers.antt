@@ -60,16 +60,16 @@ more_as v w counts k e t = subst (λ (u : View). IsTaker u (counts ++ count 0 fa
     (more (taker_state_in v) counts k (subst (λ (u : View). IsTaker u counts k) t.is t))
 
 -- ---- an item taken
-pub next_of : (d : TakerState) (x : Item) (rest : List Item) (seat : ℕ → Option ℕ) (pushed : ℕ → List Carried) → Sound d seat pushed (x ∷ rest) → x.sender < d.made
-next_of d x rest seat pushed s = below d.made x.sender (λ le. part-not_nil x rest (part-nil_right x.sender d.taken (x ∷ rest) (s.parts x.sender ∙ (s.unmade x.sender le).0)))
+pub next_of : (d : TakerState) (x : Item) (rest : List Item) (pass_of : ℕ → Option ℕ) (pushed : ℕ → List Carried) → Sound d pass_of pushed (x ∷ rest) → x.sender < d.made
+next_of d x rest pass_of pushed s = below d.made x.sender (λ le. part-not_nil x rest (part-nil_right x.sender d.taken (x ∷ rest) (s.parts x.sender ∙ (s.unmade x.sender le).0)))
 
 moved : (gs : List Gathered) (taken rest : List Item) (x : Item) → Each (Adds taken (x ∷ rest)) gs → Each (Adds (taken ++ x ∷ []) rest) gs
 moved gs taken rest x h = each_map gs (λ g k. part-moved g.number taken rest x ∙ k) h
 
-counts_down : (d : TakerState) (x : Item) (rest : List Item) (seat : ℕ → Option ℕ) (pushed : ℕ → List Carried) → Sound d seat pushed (x ∷ rest)
+counts_down : (d : TakerState) (x : Item) (rest : List Item) (pass_of : ℕ → Option ℕ) (pushed : ℕ → List Carried) → Sound d pass_of pushed (x ∷ rest)
     → known_of d.gathered d.taken ≡ cond (is_gathered d.gathered x.sender) 1 0 + known_of d.gathered (d.taken ++ x ∷ [])
-counts_down d x rest seat pushed s =
-    let h = adds_of d seat pushed (x ∷ rest) s in
+counts_down d x rest pass_of pushed s =
+    let h = adds_of d pass_of pushed (x ∷ rest) s in
     let a = known-is d.gathered d.taken (x ∷ rest) h in
     let b = known-is d.gathered (d.taken ++ x ∷ []) rest (moved d.gathered d.taken rest x h) in
     let f = front_counts d.gathered x rest s.apart in
@@ -101,9 +101,9 @@ packets_after (g ∷ gs) taken x rest h p =
     let after : Adds (taken ++ x ∷ []) rest g = part-moved g.number taken rest x ∙ h.0 in
     (subst P (sym (left_is g (taken ++ x ∷ []) rest after)) (each_right (part g.number (x ∷ [])) (part g.number rest) all), packets_after gs taken x rest h.1 p.1)
 
-module _ (d : TakerState) (x : Item) (rest : List Item) (seat : ℕ → Option ℕ) (pushed : ℕ → List Carried) (s : Sound d seat pushed (x ∷ rest)) where
+module _ (d : TakerState) (x : Item) (rest : List Item) (pass_of : ℕ → Option ℕ) (pushed : ℕ → List Carried) (s : Sound d pass_of pushed (x ∷ rest)) where
   adds : Each (Adds d.taken (x ∷ rest)) d.gathered
-  adds = adds_of d seat pushed (x ∷ rest) s
+  adds = adds_of d pass_of pushed (x ∷ rest) s
 
   -- all that the sender pushed is packets, so the front is one
   plain_next : d.marked ≡ false → is_packet x.what ≡ true
@@ -116,7 +116,7 @@ module _ (d : TakerState) (x : Item) (rest : List Item) (seat : ℕ → Option �
   packet_next none = ⊎_elim
       (λ (plain : d.marked ≡ false). (plain_next plain, inl plain))
       (λ (all : AllGathered d × PacketsLeft d).
-      (packets_next d.gathered d.taken x rest adds all.1 (all.0 x.sender (next_of d x rest seat pushed s)), inr (all.0, packets_after d.gathered d.taken x rest adds all.1)))
+      (packets_next d.gathered d.taken x rest adds all.1 (all.0 x.sender (next_of d x rest pass_of pushed s)), inr (all.0, packets_after d.gathered d.taken x rest adds all.1)))
       none
 
   few_taken : length (part x.sender (d.taken ++ x ∷ [])) ≤ 2 ^ 62
@@ -127,12 +127,12 @@ module _ (d : TakerState) (x : Item) (rest : List Item) (seat : ℕ → Option �
 
   pub is_next : IsNextTaken d x
   is_next = record {
-    number = next_of d x rest seat pushed s;
+    number = next_of d x rest pass_of pushed s;
     few = few_taken;
-    known = counts_down d x rest seat pushed s;
+    known = counts_down d x rest pass_of pushed s;
     packet = packet_next;
     first = λ later some. let h = known-is d.gathered d.taken (x ∷ rest) adds in
-        front_known d.made d.gathered x rest (each_map d.gathered (λ g j. j.behind) s.joined) later (next_of d x rest seat pushed s) (subst (λ n. 0 < n) h some);
+        front_known d.made d.gathered x rest (each_map d.gathered (λ g j. j.behind) s.joined) later (next_of d x rest pass_of pushed s) (subst (λ n. 0 < n) h some);
   }
 
 taken_here : (s : ℕ) (taken : List Item) (x : Item) → x.sender ≡ s → length (part s (taken ++ x ∷ [])) ≡ length (part s taken) + 1
@@ -141,14 +141,14 @@ taken_here s taken x e = ap length (part-append s taken (x ∷ []) ∙ ap (λ l.
 taken_else : (s : ℕ) (taken : List Item) (x : Item) → x.sender ≢ s → part s (taken ++ x ∷ []) ≡ part s taken
 taken_else s taken x e = part-append s taken (x ∷ []) ∙ (ap (λ l. part s taken ++ l) (part-else s x [] e) ∙ append-nil (part s taken))
 
-pub took : (d : TakerState) (x : Item) (rest : List Item) (seat : ℕ → Option ℕ) (pushed : ℕ → List Carried) (counts : List Count) (k m : ℕ) → Sound d seat pushed (x ∷ rest)
+pub took : (d : TakerState) (x : Item) (rest : List Item) (pass_of : ℕ → Option ℕ) (pushed : ℕ → List Carried) (counts : List Count) (k m : ℕ) → Sound d pass_of pushed (x ∷ rest)
     → IsTaker (Taking d) counts k → k ≡ cond (is_gathered d.gathered x.sender) 1 0 + m
     → IsTaker (Taking (make_taker_state d.marked d.made (d.taken ++ x ∷ []) d.gathered)) (set counts x.sender (count (length (part x.sender d.taken) + 1) (is_gathered d.gathered x.sender))) m
-took d x rest seat pushed counts k m s t e =
+took d x rest pass_of pushed counts k m s t e =
     let new = count (length (part x.sender d.taken) + 1) (is_gathered d.gathered x.sender) in
-    let lt = next_of d x rest seat pushed s in
+    let lt = next_of d x rest pass_of pushed s in
     let long = t.made in
-    let h = moved d.gathered d.taken rest x (adds_of d seat pushed (x ∷ rest) s) in
+    let h = moved d.gathered d.taken rest x (adds_of d pass_of pushed (x ∷ rest) s) in
     record {
       is = refl;
       made = length-set counts x.sender new ∙ t.made;
@@ -161,7 +161,7 @@ took d x rest seat pushed counts k m s t e =
           get_or-set_other counts x.sender u new c q.1 ∙ (t.counted u c less ∙ same_count (length (part u d.taken)) (length (part u (d.taken ++ x ∷ []))) (is_gathered d.gathered u) (is_gathered d.gathered u)
           (ap length (sym (taken_else u d.taken x (λ z. q.1 (sym z))))) refl))
           (eqb_tells u x.sender);
-      known_is = let c = counts_down d x rest seat pushed s in let k' = t.known_is in omega arith;
+      known_is = let c = counts_down d x rest pass_of pushed s in let k' = t.known_is in omega arith;
       begun = begun_of d.gathered (d.taken ++ x ∷ []) rest h;
       of_made = λ u le. part-nil_left u (d.taken ++ x ∷ []) rest (part-moved u d.taken rest x ∙ (s.parts u ∙ (s.unmade u le).0));
       numbers = t.numbers;

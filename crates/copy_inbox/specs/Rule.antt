@@ -18,48 +18,49 @@ abbrev pub Behind : ℕ → ℕ → List Item → Type 0
 Behind s made [] = Unit {0}
 Behind s made (x ∷ xs) = (made ≤ x.sender → part s (x ∷ xs) ≡ []) × Behind s made xs
 
--- a pass that is the taker's is the one, and a pass that is a sender's is the one of its number; whether there are
--- marks, both know alike
+-- a pass with the taker's view is the taker's, and one with a sender's view is that sender's; all of them know alike
+-- whether there are marks
 abbrev pub PassFits : ℕ → (ℕ → Option ℕ) → TakerState → (ℕ → List Carried) → ℕ → View → Type 0
-PassFits taker seat d pushed pass (Taking e) = (pass ≡ taker) × (e ≡ d)
-PassFits taker seat d pushed pass (Sending p) =
-    (seat p.number ≡ Some pass) × (p.pushed ≡ pushed p.number) × (p.marked ≡ d.marked)
-PassFits taker seat d pushed pass Spent = Unit {0}
+PassFits taker pass_of d pushed pass (Taking e) = (pass ≡ taker) × (e ≡ d)
+PassFits taker pass_of d pushed pass (Sending p) =
+    (pass_of p.number ≡ Some pass) × (p.pushed ≡ pushed p.number) × (p.marked ≡ d.marked)
+PassFits taker pass_of d pushed pass Spent = Unit {0}
 
 -- of a gathered sender: it was made, its pass is spent, the taker knows all that it pushed, and in the queue no item of
 -- a sender that was made later stands before one of its own
-pub record Joined (made : ℕ) (seat : ℕ → Option ℕ) (pushed : ℕ → List Carried) (items : List Item)
+pub record Joined (made : ℕ) (pass_of : ℕ → Option ℕ) (pushed : ℕ → List Carried) (items : List Item)
     (g : Gathered) : Type 0 where
   pub was_made : g.number < made
-  pub spent : seat g.number ≡ None
+  pub spent : pass_of g.number ≡ None
   pub all : pushed g.number ≡ g.pushed
   pub behind : Behind g.number g.made items
 
 -- The items of each sender in what was taken, followed by the queue, are what it pushed, in order, and there are no
 -- other items. Each sender that was made has a pass, or is gathered. Where there are no marks, all that was pushed is
 -- packets.
-pub record Sound (d : TakerState) (seat : ℕ → Option ℕ) (pushed : ℕ → List Carried) (items : List Item) : Type 0 where
+pub record Sound (d : TakerState) (pass_of : ℕ → Option ℕ) (pushed : ℕ → List Carried)
+    (items : List Item) : Type 0 where
   pub parts : (s : ℕ) → part s (d.taken ++ items) ≡ pushed s
   pub few : (s : ℕ) → length (pushed s) ≤ 2 ^ 62
-  pub unmade : (s : ℕ) → d.made ≤ s → (pushed s ≡ []) × (seat s ≡ None)
-  pub still : (s : ℕ) → s < d.made → is_gathered d.gathered s ≡ false → (pass : ℕ) × (seat s ≡ Some pass)
-  pub joined : Each (Joined d.made seat pushed items) d.gathered
+  pub unmade : (s : ℕ) → d.made ≤ s → (pushed s ≡ []) × (pass_of s ≡ None)
+  pub still : (s : ℕ) → s < d.made → is_gathered d.gathered s ≡ false → (pass : ℕ) × (pass_of s ≡ Some pass)
+  pub joined : Each (Joined d.made pass_of pushed items) d.gathered
   pub apart : Apart d.gathered
   pub plain : d.marked ≡ false → (s : ℕ) → Packets (pushed s)
 
 -- The rule: of the items in the queue, the oldest first, and of the view of each pass. One pass is the taker's, and
--- its view is what was taken and gathered; `seat` has the pass of each sender that isn't gathered, whose view is what
--- it pushed.
+-- its view is what was taken and gathered; `pass_of` gives the pass of each sender that isn't gathered, whose view is
+-- what it pushed.
 pub record InboxRule (items : List Item) (views : List View) : Type 0 where
   pub taker : ℕ
-  pub seat : ℕ → Option ℕ
+  pub pass_of : ℕ → Option ℕ
   pub taker_state : TakerState
   pub pushed : ℕ → List Carried
-  pub sound : Sound taker_state seat pushed items
+  pub sound : Sound taker_state pass_of pushed items
   pub taking : get_elem? views taker ≡ some (Taking taker_state)
-  pub sending : (s pass : ℕ) → seat s ≡ Some pass
+  pub sending : (s pass : ℕ) → pass_of s ≡ Some pass
       → get_elem? views pass ≡ some (Sending (make_sender_state taker_state.marked s (pushed s)))
-  pub fits : (pass : ℕ) (v : View) → get_elem? views pass ≡ some v → PassFits taker seat taker_state pushed pass v
+  pub fits : (pass : ℕ) (v : View) → get_elem? views pass ≡ some v → PassFits taker pass_of taker_state pushed pass v
 
 -- ---- what a step tells the pass that takes it
 -- the rule held while the queue had these items and a pass had this view

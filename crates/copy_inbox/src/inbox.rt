@@ -12,9 +12,9 @@ ghost use Rattle.copy_inbox.specs.Handles.{after_taking, TakesCopies, Empties, A
 ghost use Rattle.copy_inbox.specs.Handles.{taker_state_in, sender_state_in, IsSender, IsNextTaken};
 ghost use Rattle.copy_inbox.specs.Kept.{KeepsCounts};
 
-use crate::bell::Bell;
 use crate::count::{Count, count_taken, forget_first};
 use crate::items::{Carried, Item};
+use crate::mark_count::MarkCount;
 use crate::rule::{Gathers, Makes, Marks, Pushes, Ruled, Takes, View};
 use crossbeam_queue::{RuledSegQueue, SegPass};
 use radio_packet::RadioCopy;
@@ -58,7 +58,7 @@ impl From<AllocError> for InboxError {
 /// sender has pushed, and what the taker has taken and gathered.
 pub struct Inbox {
     queue: RuledSegQueue<Item, View, Ruled>,
-    bell: Bell,
+    mark_count: MarkCount,
     alloc: Global,
 }
 
@@ -176,7 +176,7 @@ impl Inbox {
         };
         let inbox = Inbox {
             queue,
-            bell: Bell::new(),
+            mark_count: MarkCount::new(),
             alloc,
         };
         Ok((inbox, taker))
@@ -246,14 +246,14 @@ impl Inbox {
     {
         self.push(rt, sender, Carried::Mark(window))
             .map_err(|_| window)?;
-        self.bell.ring();
+        self.mark_count.add();
         Ok(())
     }
 
     /// Lets the taker sleep until so many marks have been pushed in all, but no longer than `longest`, and perhaps not
     /// as long.
     pub fn wait_for_marks<R: Wait>(&self, rt: &R, marks: u64, longest: Duration) {
-        self.bell.sleep(rt, marks, longest);
+        self.mark_count.sleep(rt, marks, longest);
     }
 
     // Adds a copy, or a mark where the inbox has such, to what the sender has pushed.
@@ -407,7 +407,7 @@ impl Drop for Inbox {
     fn drop(self) {
         let Self {
             queue,
-            bell: _,
+            mark_count: _,
             alloc: _,
         } = self;
         queue.destroy();

@@ -1,10 +1,10 @@
 //! An inbox: many threads push copies of packets into it, and one takes them. No copy is lost, doubled or made up.
 #![tactic(auto)]
 
-mod bell;
 mod count;
 mod inbox;
 mod items;
+mod mark_count;
 mod rule;
 
 pub use inbox::{Inbox, InboxError, Sender, Taker};

@@ -10,7 +10,7 @@ use Rattle.window_laws.specs.Windows.{is_from_sender}
 use Rattle.copy_exchange.specs.Takers.{SameOfEach, taken_by, gathered_by}
 use Rattle.net_agenda.specs.NetSystem.{system_of}
 use Rattle.worker_cut.specs.Crossed.{is_to, is_own}
-use Rattle.worker_cut.specs.Laws.{HasGathered}
+use Rattle.worker_cut.specs.Laws.{GatheredCopies}
 use Rattle.worker_window.specs.Share.{Motes}
 use Rattle.window_laws.proofs.Lists.{every_weaker, every_both, every_passes}
 use Rattle.all_workers.proofs.Sent.{every_of_each}
@@ -34,7 +34,7 @@ module _ (P : RadioCopy → Type 0) where
       (subst (Each P) collects.adds (every_same (taken_by new.taker) (gathered_by old.taker) collects.in_order h))
 
 -- what a worker gathered is for its motes, and no mote of its own sent it
-module _ (n : NetTold) (of : List ℕ) (motes : Motes) (v : ℕ) (gathered : List RadioCopy) (told : HasGathered (system_of n) of motes v gathered) where
+module _ (n : NetTold) (of : List ℕ) (motes : Motes) (v : ℕ) (gathered : List RadioCopy) (told : GatheredCopies (system_of n) of motes v gathered) where
   foreign_of : (s : ℕ) → Each (λ (c : RadioCopy). (is_own of v c.to ≡ true) × (is_own of v c.sender ≡ false)) (filter (is_from_sender s) gathered)
   foreign_of s = of_case (cases_Bool (is_own of v s))
     where

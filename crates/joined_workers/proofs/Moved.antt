@@ -15,7 +15,7 @@ use Rattle.copy_exchange.specs.Endpoints.{delivered, delivered_to}
 use Rattle.copy_exchange.specs.Takers.{copies_in, taken_by, gathered_by}
 use Rattle.copy_inbox.specs.Items.{copies_of}
 use Rattle.worker_cut.specs.Crossed.{is_own, is_to}
-use Rattle.worker_cut.specs.Laws.{HasGathered}
+use Rattle.worker_cut.specs.Laws.{GatheredCopies}
 use Rattle.worker_window.specs.declared.share.Share.{Share}
 use Rattle.worker_window.specs.Share.{Motes, Keeps}
 use Rattle.worker_window.specs.Window.{RunsOwn, GoesOut, copies_out}
@@ -45,7 +45,7 @@ module _ (n : NetTold) (fine : RunsForward (system_of n)) (of : List ℕ) (from 
   workers = length old.inboxes.items
 
   record IsPart (v : ℕ) (z : Told) : Type 0 where
-    told : HasGathered (system_of n) of at.motes v z.gathered
+    told : GatheredCopies (system_of n) of at.motes v z.gathered
     took : (s : ℕ) → filter (is_from_sender s) z.taken ≡ filter (is_from_sender s) z.gathered
     runs : (k : ℕ) → is_own of v k ≡ true → RunsOwn n (is_own of v) from until at.motes z.next z.taken k
     out : (s : ℕ) → copies_out n (is_own of v) z.next s ≡ copies_out n (is_own of v) at.motes s ++ filter (is_from_sender s) z.sent
@@ -110,7 +110,7 @@ module _ (n : NetTold) (fine : RunsForward (system_of n)) (of : List ℕ) (from 
   is_part : (v : ℕ) → v < workers → IsPart v (parts.0 v)
   is_part v h = parts.1 v h
 
-  told : (v : ℕ) → v < workers → HasGathered (system_of n) of at.motes v (gathered v)
+  told : (v : ℕ) → v < workers → GatheredCopies (system_of n) of at.motes v (gathered v)
   unfolding gathered
   told v h = (is_part v h).told
 

@@ -25,5 +25,5 @@ module _ (n : NetTold) (of : List ℕ) (reached end : ℕ) (group : Workers) (fr
   pub stands_there : RunsForward (system_of n) → IsAt n of from group
   stands_there fine = stands n fine of reached from group begins.next at begins.is begins_later (subst (λ m. WakesFrom m begins.next) (sym begins.start) (quiet end begins.next))
 
-pub short_enough : (from length lookahead told until : ℕ) → until ≤ from + length → length ≤ lookahead → lookahead ≡ told → until ≤ from + told
-short_enough from length lookahead told until short within value = omega arith
+pub short_enough : (from width lookahead told until : ℕ) → until ≤ from + width → width ≤ lookahead → lookahead ≡ told → until ≤ from + told
+short_enough from width lookahead told until short within value = omega arith

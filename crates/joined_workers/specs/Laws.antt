@@ -15,8 +15,8 @@ use Rattle.all_workers.specs.Workers.{IsAt}
 use Rattle.joined_workers.specs.Next.{IsNextOfAll, FirstOfAll}
 use Rattle.joined_workers.specs.Worker.{RunsWorker}
 
--- The senders of all workers were created together, each worker ran through the window with its own, and then all
--- senders were gathered.
+-- The senders of all workers were made together, each worker ran through the window with its own, and then all senders
+-- were gathered.
 pub record RunsAll (n : NetTold) (of : List ℕ) (until : ℕ) (old new : Workers) : Type 0 where
   pub endpoints : List Endpoint
   pub done : List Worker

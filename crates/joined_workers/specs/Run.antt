@@ -2,7 +2,7 @@
 use Rattle.std.specs.Prelude.{ℕ, zero, suc, ◌≡◌, ◌+◌, ◌<◌, ◌≤◌, min, List, Option, Some, None}
 use Rattle.mote_net.specs.Net.{NetTold}
 use Rattle.all_workers.specs.declared.workers.Workers.{Workers}
-use Rattle.all_workers.specs.WindowLength.{end_of_window}
+use Rattle.all_workers.specs.WindowWidth.{end_of_window}
 use Rattle.joined_workers.specs.Next.{IsNextOfAll}
 use Rattle.joined_workers.specs.Laws.{RunsAll}
 
@@ -18,22 +18,22 @@ pub record BeginsAt (end : ℕ) (group : Workers) (from : ℕ) : Type 0 where
   pub start : from ≡ start_of_window end next
 
 -- one window of all workers, which begins when something comes and may last so long
-pub record RunsNext (n : NetTold) (of : List ℕ) (length : ℕ) (old new : Workers) : Type 0 where
+pub record RunsNext (n : NetTold) (of : List ℕ) (width : ℕ) (old new : Workers) : Type 0 where
   pub from : ℕ
   pub begins : BeginsAt n.end old from
   pub there : from ≤ n.end
-  pub runs : RunsAll n of (end_of_window n.end length from) old new
+  pub runs : RunsAll n of (end_of_window n.end width from) old new
 
 -- so many of these, one after another
-abbrev pub RunsWindows : NetTold → List ℕ → (length windows : ℕ) → (old new : Workers) → Type 0
-RunsWindows n of length zero old new = new ≡ old
-RunsWindows n of length (suc k) old new =
-    (between : Workers) × RunsWindows n of length k old between × RunsNext n of length between new
+abbrev pub GroupRunsWindows : NetTold → List ℕ → (width windows : ℕ) → (old new : Workers) → Type 0
+GroupRunsWindows n of width zero old new = new ≡ old
+GroupRunsWindows n of width (suc k) old new =
+    (between : Workers) × GroupRunsWindows n of width k old between × RunsNext n of width between new
 
 -- all of them: then nothing comes up to the end
-pub record RunsToEnd (n : NetTold) (of : List ℕ) (length : ℕ) (old new : Workers) : Type 0 where
+pub record RunsToEnd (n : NetTold) (of : List ℕ) (width : ℕ) (old new : Workers) : Type 0 where
   pub windows : ℕ
-  pub runs : RunsWindows n of length windows old new
+  pub runs : GroupRunsWindows n of width windows old new
   pub next : ℕ
   pub begins : BeginsAt n.end new next
   pub over : n.end < next

@@ -9,8 +9,8 @@ pub fn a_window_moves_on()
     ensures { WindowMovesOn }
 {}
 
-/// Until something is to come, to a share or out of an inbox, the workers stand at each moment, and nothing comes
-/// before the moment at which they stand.
+/// Nothing comes to a share, or out of an inbox, before the moment at which the workers stand; and they stand at each
+/// later moment too, up to the one at which something comes next.
 pub fn workers_stand_until_next()
     ensures { StandsUntilNext }
 {}

@@ -7,5 +7,5 @@ mod run;
 mod window;
 mod worker;
 
-pub use run::run_windows;
+pub use run::run_group;
 pub use worker::{Runner, WorkersWindow};

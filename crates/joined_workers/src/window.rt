@@ -62,9 +62,8 @@ where
     fork_join(rt, alloc, workers, &Runner { rt, gate, window })
 }
 
-/// Runs all workers through one window: senders are created, each worker runs in its thread, and the senders are
-/// collected.
-fn run_all<R, G>(
+/// Runs all workers through one window: senders are made, each worker runs in its thread, and the senders are gathered.
+fn run_threads<R, G>(
     rt: &R,
     alloc: Global,
     net: &Net,
@@ -110,13 +109,13 @@ where
 }
 
 /// One window: each worker takes in what was sent to it, runs its motes up to `until`, and delivers what they sent, all
-/// in threads of their own; then all senders are gathered. It is a wrapper of `run_all` in whose proof what the workers
-/// did becomes a step of the run, by the law of windows.
+/// in threads of their own; then all senders are gathered. It is a wrapper of `run_threads` in whose proof what the
+/// workers did becomes a step of the run, by the law of windows.
 ///
 /// # Errors
 /// That of the first worker that has one; `Thread` where a thread couldn't be started, or the gate refused it; and
 /// `Memory`.
-pub(crate) fn run_window<R, G>(
+pub(crate) fn run_group_window<R, G>(
     rt: &R,
     alloc: Global,
     net: &Net,
@@ -139,5 +138,5 @@ where
     ensures inboxes { IfOk result (λ done. done.inboxes.items ≡ group.inboxes.items) }
     ensures plain { IfOk result (λ done. Each IsPlain done.takers.items) }
 {
-    run_all(rt, alloc, net, of, until, gate, group)
+    run_threads(rt, alloc, net, of, until, gate, group)
 }

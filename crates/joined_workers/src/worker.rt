@@ -29,7 +29,7 @@ pub struct WorkersWindow<'a> {
     pub until: u64,
 }
 
-/// What each worker's thread needs besides: the runtime, the gate into its turns, and the window.
+/// What each thread needs besides its worker: the runtime, the gate into its turns, and the window.
 pub struct Runner<'a, R, G> {
     pub rt: &'a R,
     pub gate: &'a G,

@@ -5,9 +5,9 @@ use Rattle.worker_cut.specs.Crossed.{is_to}
 use Rattle.copy_inbox.specs.declared.items.Carried.TheVariants.{Packet, Mark}
 use Rattle.copy_inbox.specs.Handles.{InboxId, TakerView}
 use Rattle.copy_exchange.specs.declared.endpoint.Endpoint.{Endpoint}
-use Rattle.copy_exchange.specs.Endpoints.{IsSeated, Stays, PushesOut, PushesMarks, pushed_to, seat_of}
+use Rattle.copy_exchange.specs.Endpoints.{IsOnInboxes, Stays, PushesOut, PushesMarks, pushed_to, identity_of}
 use Rattle.copy_exchange.proofs.Delivered.{stays_on}
-use Rattle.copy_exchange.proofs.Marked.{seated_stays}
+use Rattle.copy_exchange.proofs.Marked.{on_inboxes_stays}
 use Rattle.mark_exchange.specs.Delivers.{PushesWindow}
 use Rattle.mark_exchange.specs.Due.{TakesDue}
 
@@ -21,7 +21,7 @@ pushes_window of workers window a b c copies out marks = record {
       ∙ (ap (λ l. l ++ Mark window ∷ []) (out.pushes v other) ∙ append_assoc (pushed_to a v) (map Packet (filter (is_to of v) copies)) (Mark window ∷ []));
 }
 
--- what it takes changes no seat
+-- what it takes changes the identity of no sender
 pub takes_stays : (of : List ℕ) (from : ℕ) (old new : Endpoint) (copies : List RadioCopy) → TakesDue of old.worker from old.taker new.taker copies → new.worker ≡ old.worker → new.senders ≡ old.senders → Stays old new
 takes_stays of from old new copies took worker senders = record {
   worker = worker;
@@ -29,10 +29,10 @@ takes_stays of from old new copies took worker senders = record {
   marked = ap (λ (t : TakerView). t.state.marked) took.taker;
   made = ap (λ (t : TakerView). t.state.made) took.taker;
   gathered = ap (λ (t : TakerView). t.state.gathered) took.taker;
-  seats = ap (λ s. map seat_of s.items) senders;
+  identities = ap (λ s. map identity_of s.items) senders;
 }
 
-pub takes_seated : (inboxes : List InboxId) (of : List ℕ) (from : ℕ) (old new : Endpoint) (copies : List RadioCopy) → TakesDue of old.worker from old.taker new.taker copies → new.worker ≡ old.worker → new.senders ≡ old.senders
-    → IsSeated inboxes old → IsSeated inboxes new
-takes_seated inboxes of from old new copies took worker senders seated =
-    seated_stays inboxes old new (takes_stays of from old new copies took worker senders) seated
+pub takes_on_inboxes : (inboxes : List InboxId) (of : List ℕ) (from : ℕ) (old new : Endpoint) (copies : List RadioCopy) → TakesDue of old.worker from old.taker new.taker copies → new.worker ≡ old.worker → new.senders ≡ old.senders
+    → IsOnInboxes inboxes old → IsOnInboxes inboxes new
+takes_on_inboxes inboxes of from old new copies took worker senders on_inboxes =
+    on_inboxes_stays inboxes old new (takes_stays of from old new copies took worker senders) on_inboxes

@@ -2,7 +2,7 @@
 
 ghost use Rattle.std.specs.Prelude.{◌≡◌, [], length, IfErr, IfOk, OnOk};
 ghost use Rattle.std.specs.List.{AllByRecursion as Each};
-ghost use Rattle.copy_exchange.specs.Endpoints.{HasMarks, IsSeated, Reaches};
+ghost use Rattle.copy_exchange.specs.Endpoints.{HasMarks, IsOnInboxes, Reaches};
 ghost use Rattle.mark_exchange.specs.Delivers.{PushesWindow};
 ghost use Rattle.mark_exchange.specs.declared.take.MarkError.TheVariants.{Undue};
 ghost use Rattle.mark_exchange.specs.Due.{TakesDue, TakesUndue};
@@ -21,7 +21,7 @@ use std::sync::atomic::AtomicBool;
 /// The endpoint of a worker that lives for the whole run, and how many marks it took of each sender on its inbox.
 #[derive(Drop)]
 pub struct MarkEndpoint {
-    pub endpoint: Endpoint,
+    pub base: Endpoint,
     /// By the senders' numbers.
     pub marks: Vec<u64>,
     /// How it waits for them.
@@ -30,19 +30,15 @@ pub struct MarkEndpoint {
 
 impl MarkEndpoint {
     /// The endpoint of a worker that has taken nothing yet. So many senders were made on its inbox.
-    pub fn new(
-        alloc: Global,
-        endpoint: Endpoint,
-        senders: usize,
-    ) -> Result<MarkEndpoint, InboxError>
-        requires made { endpoint.taker.state.made ≡ senders }
-        requires taken { endpoint.taker.state.taken ≡ [] }
-        ensures endpoint { IfOk result (λ made. made.endpoint ≡ endpoint) }
-        ensures counts { IfOk result (λ made. Counts made.marks.items endpoint.taker.state) }
+    pub fn new(alloc: Global, base: Endpoint, senders: usize) -> Result<MarkEndpoint, InboxError>
+        requires made { base.taker.state.made ≡ senders }
+        requires taken { base.taker.state.taken ≡ [] }
+        ensures base { IfOk result (λ made. made.base ≡ base) }
+        ensures counts { IfOk result (λ made. Counts made.marks.items base.taker.state) }
     {
         let marks = no_marks(alloc, senders)?;
         Ok(MarkEndpoint {
-            endpoint,
+            base,
             marks,
             waiting: Waiting::new(),
         })
@@ -59,16 +55,16 @@ impl MarkEndpoint {
         copies: &[RadioCopy],
         window: u64,
     ) -> Result<(), InboxError>
-        requires seated { IsSeated inboxes.now self.old.endpoint }
-        requires marked { HasMarks self.old.endpoint }
+        requires on_inboxes { IsOnInboxes inboxes.now self.old.base }
+        requires marked { HasMarks self.old.base }
         requires reaches { Each (Reaches of.now (length inboxes.now)) copies.now }
         ensures pushes { OnOk result
-            (PushesWindow of.now (length inboxes.now) window self.old.endpoint self.new.endpoint copies.now) }
-        ensures seated { OnOk result (IsSeated inboxes.now self.new.endpoint) }
+            (PushesWindow of.now (length inboxes.now) window self.old.base self.new.base copies.now) }
+        ensures on_inboxes { OnOk result (IsOnInboxes inboxes.now self.new.base) }
         ensures counts { OnOk result (self.new.marks ≡ self.old.marks) }
     {
-        self.endpoint.push_copies(rt, inboxes, of, copies)?;
-        self.endpoint.push_marks(rt, inboxes, window)
+        self.base.push_copies(rt, inboxes, of, copies)?;
+        self.base.push_marks(rt, inboxes, window)
     }
 
     /// Takes items until of each sender the mark of the window has come, those of later windows too where they come
@@ -86,20 +82,20 @@ impl MarkEndpoint {
         standing: &Standing<'_>,
         window: u64,
     ) -> Result<Vec<RadioCopy>, MarkError>
-        requires inbox { self.old.endpoint.taker.inbox ≡ inbox.now }
-        requires counts { Counts self.old.marks.items self.old.endpoint.taker.state }
+        requires inbox { self.old.base.taker.inbox ≡ inbox.now }
+        requires counts { Counts self.old.marks.items self.old.base.taker.state }
         ensures took { IfOk result (λ copies. TakesDue standing.now.of.now standing.now.worker standing.now.from
-            self.old.endpoint.taker self.new.endpoint.taker copies.items) }
-        ensures counts { OnOk result (Counts self.new.marks.items self.new.endpoint.taker.state) }
+            self.old.base.taker self.new.base.taker copies.items) }
+        ensures counts { OnOk result (Counts self.new.marks.items self.new.base.taker.state) }
         ensures marked { OnOk result (AllPast window self.new.marks.items) }
-        ensures worker { self.new.endpoint.worker ≡ self.old.endpoint.worker }
-        ensures senders { self.new.endpoint.senders ≡ self.old.endpoint.senders }
+        ensures worker { self.new.base.worker ≡ self.old.base.worker }
+        ensures senders { self.new.base.senders ≡ self.old.base.senders }
         ensures undue { IfErr result
             (λ error. error ≡ Undue → TakesUndue standing.now.of.now standing.now.worker standing.now.from
-            self.old.endpoint.taker self.new.endpoint.taker) }
+            self.old.base.taker self.new.base.taker) }
     {
         let MarkEndpoint {
-            endpoint,
+            base,
             marks,
             waiting,
         } = self;
@@ -109,7 +105,7 @@ impl MarkEndpoint {
             inbox,
             stop,
             standing,
-            &mut endpoint.taker,
+            &mut base.taker,
             marks,
             window,
             waiting,

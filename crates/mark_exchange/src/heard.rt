@@ -29,7 +29,7 @@ pub fn all_past(marks: &[u64], window: u64) -> bool
     true
 }
 
-/// How many marks will have come of all senders together once of each more than this have.
+/// How many marks will have been pushed once each sender that lacks the window's mark has pushed it.
 pub fn marks_wanted(marks: &[u64], window: u64) -> u64 {
     let mut wanted: u64 = 0;
     for count in marks {

@@ -1,5 +1,6 @@
-//! What workers that live for a whole run exchange: the copies of each window, and after them a mark. No copy
-//! is lost, doubled or made up, and no window begins before the marks of the one before it have come.
+//! What workers that live for a whole run exchange: the copies of each window, and after them a mark. No copy is lost,
+//! doubled or made up, and a worker takes until the marks of a window have come. That it begins no window before those
+//! of the one before it have come is decided in `marked_workers`.
 #![tactic(auto)]
 
 mod endpoint;

@@ -38,8 +38,8 @@ impl Waiting {
         }
     }
 
-    /// Before each window. It will look twice as often as in the window before where it didn't have to sleep in that,
-    /// and half as often where it had to.
+    /// Begins the wait of a window. The worker looks twice as often as in the window before, if it didn't have to sleep
+    /// in that one, and else half as often.
     pub fn begin(&mut self) {
         self.stopped = false;
         self.looks = if self.left > 0 {

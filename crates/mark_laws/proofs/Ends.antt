@@ -31,13 +31,13 @@ longer n f v u x lv lu =
 module _ (p : Plan) where
   -- the steps that were made so far: each window that lies behind a worker, each item pushed, and each taken
   abbrev pub made : State → ℕ
-  made w = sum_below p.workers w.behind + (sum_pairs p.workers (lengths w.pushed) + sum_pairs p.workers (lengths w.taken))
+  made w = sum_below p.workers w.finished + (sum_pairs p.workers (lengths w.pushed) + sum_pairs p.workers (lengths w.taken))
 
   pub made_step : (w : State) (e : Event) → MayHappen p w e → made (after w e) ≡ suc (made w)
   made_step w (Push v u x) may = let a = longer p.workers w.pushed v u x may.pair.from_there may.pair.to_there in omega arith
   made_step w (Take v u x) may = let a = longer p.workers w.taken u v x may.pair.from_there may.pair.to_there in omega arith
   made_step w (GoOn v) may =
-      let a = sum_up p.workers w.behind (set_at w.behind v (suc (w.behind v))) v may.there (set_same w.behind v (suc (w.behind v))) (λ k ne. set_other w.behind v (suc (w.behind v)) k ne) in
+      let a = sum_up p.workers w.finished (set_at w.finished v (suc (w.finished v))) v may.there (set_same w.finished v (suc (w.finished v))) (λ k ne. set_other w.finished v (suc (w.finished v)) k ne) in
       omega arith
 
   pub made_run : (events : List Event) (w new : State) → Run p w events new → made new ≡ made w + length events
@@ -71,8 +71,8 @@ module _ (p : Plan) where
 
     few_pushed : (v u : ℕ) → IsPair p v u → length (w.pushed v u) ≤ length (pushes p.windows (p.sent v u))
     few_pushed v u pair =
-        let m : ℕ = min (suc (w.behind v)) p.windows in
-        let le : min (suc (w.behind v)) p.windows ≤ p.windows = omega arith in
+        let m : ℕ = min (suc (w.finished v)) p.windows in
+        let le : min (suc (w.finished v)) p.windows ≤ p.windows = omega arith in
         begins_length (pushes p.windows (p.sent v u)) (w.pushed v u)
         (begins_trans (pushes p.windows (p.sent v u)) (pushes m (p.sent v u)) (w.pushed v u) (pushes_grow m p.windows (p.sent v u) le) (s.lines v u pair).front)
 
@@ -84,7 +84,7 @@ module _ (p : Plan) where
 
     pub made_low : made w ≤ steps_of p
     made_low =
-        let a = sum_low p.workers w.behind (λ v. p.windows) s.within in
+        let a = sum_low p.workers w.finished (λ v. p.windows) s.within in
         let b = pairs_low p.workers (lengths w.pushed) (items_for p) (few w.pushed (λ v. (s.own v).0) few_pushed) in
         let c = pairs_low p.workers (lengths w.taken) (items_for p) (few w.taken (λ v. (s.own v).1) few_taken) in
         omega arith
@@ -106,7 +106,7 @@ module _ (p : Plan) where
 
     pub made_all : IsAtEnd p w → made w ≡ steps_of p
     made_all end =
-        let a = sum_same p.workers (λ v. p.windows) w.behind end.behind in
+        let a = sum_same p.workers (λ v. p.windows) w.finished end.finished in
         let b = pairs_same p.workers (items_for p) (lengths w.pushed) (just w.pushed (λ v. (s.own v).0) end.pushed) in
         let c = pairs_same p.workers (items_for p) (lengths w.taken) (just w.taken (λ v. (s.own v).1) end.taken) in
         omega arith

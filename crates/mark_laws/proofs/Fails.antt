@@ -52,7 +52,7 @@ module _ (p : Plan) (senders : Senders p) where
         let t = takes_first p senders c.queued s.order v y ys waits is in
         inl (Take v t.0 y.what, record { still = still; may = t.1 })
 
-    has_turn : w.behind v < p.windows → HasTurn
+    has_turn : w.finished v < p.windows → HasTurn
     has_turn runs = elim (phase p w s.order.stand v lv runs) [
       | inl next ↦ inl (Push v next.to next.x, record { still = still; may = next.may })
       | inr other ↦ elim other [
@@ -62,22 +62,22 @@ module _ (p : Plan) (senders : Senders p) where
     ]
 
   module _ (c : Flagged) (s : IsSound c) (stuck : IsStuckFlagged p senders c) where
-    over_then : c.stop ≡ true → (v : ℕ) → v < p.workers → (c.gone v ≡ true) ⊎ (c.queued.state.behind v ≡ p.windows)
+    over_then : c.stop ≡ true → (v : ℕ) → v < p.workers → (c.gone v ≡ true) ⊎ (c.queued.state.finished v ≡ p.windows)
     over_then stopped v lv = elim (cases_Bool (c.gone v)) [
       | inl gone ↦ inl gone
-      | inr still ↦ elim (cases_lt (c.queued.state.behind v) p.windows) [
+      | inr still ↦ elim (cases_lt (c.queued.state.finished v) p.windows) [
         | inl lt ↦ elim (has_turn c s stopped v lv still lt) [ inl t ↦ absurd (stuck.steps t.0 t.1) | inr may ↦ absurd (stuck.leaves v may) ]
         | inr ge ↦ inr (let le = s.order.stand.within v lv in omega arith)
       ]
     ]
 
-    done_else : c.stop ≡ false → (v : ℕ) → v < p.workers → c.queued.state.behind v ≡ p.windows
-    done_else going v lv = elim (cases_lt (c.queued.state.behind v) p.windows) [
+    done_else : c.stop ≡ false → (v : ℕ) → v < p.workers → c.queued.state.finished v ≡ p.windows
+    done_else going v lv = elim (cases_lt (c.queued.state.finished v) p.windows) [
       | inl lt ↦ absurd (let g = queued_goes_on p senders c.queued s.order v lv lt in stuck.steps g.0 (record { still = s.all_there going (worker_of g.0); may = g.1 }))
       | inr ge ↦ (let le = s.order.stand.within v lv in omega arith)
     ]
 
-    all_over : (v : ℕ) → v < p.workers → (c.gone v ≡ true) ⊎ (c.queued.state.behind v ≡ p.windows)
+    all_over : (v : ℕ) → v < p.workers → (c.gone v ≡ true) ⊎ (c.queued.state.finished v ≡ p.windows)
     all_over v lv = elim (cases_Bool c.stop) [ inl stopped ↦ over_then stopped v lv | inr going ↦ inr (done_else going v lv) ]
 
   -- ---- how many turns there are

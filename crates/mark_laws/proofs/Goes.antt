@@ -21,32 +21,32 @@ module _ (p : Plan) (w : State) (s : Stand p w) where
     pub may : MayPush p w v to x
 
   abbrev IsOut : (v u : ℕ) → Type 0
-  IsOut v u = IsPair p v u → w.pushed v u ≡ pushes (suc (w.behind v)) (p.sent v u)
+  IsOut v u = IsPair p v u → w.pushed v u ≡ pushes (suc (w.finished v)) (p.sent v u)
 
   -- all for the other was pushed, or the next of it may be
-  module _ (v u : ℕ) (pair : IsPair p v u) (runs : w.behind v < p.windows) where
-    up_to_now : BeginsWith (pushes (suc (w.behind v)) (p.sent v u)) (w.pushed v u)
+  module _ (v u : ℕ) (pair : IsPair p v u) (runs : w.finished v < p.windows) where
+    up_to_now : BeginsWith (pushes (suc (w.finished v)) (p.sent v u)) (w.pushed v u)
     up_to_now =
-        let e : min (suc (w.behind v)) p.windows ≡ suc (w.behind v) = omega arith in
+        let e : min (suc (w.finished v)) p.windows ≡ suc (w.finished v) = omega arith in
         subst (λ k. BeginsWith (pushes k (p.sent v u)) (w.pushed v u)) e (s.lines v u pair).front
 
-    pair_pushes : (w.pushed v u ≡ pushes (suc (w.behind v)) (p.sent v u)) ⊎ Next v
-    pair_pushes = elim (cases_lt (length (w.pushed v u)) (length (pushes (suc (w.behind v)) (p.sent v u)))) [
-      | inl lt ↦ (let n = next_of (pushes (suc (w.behind v)) (p.sent v u)) (w.pushed v u) up_to_now lt in inr (record { to = u; x = n.0; may = record { pair = pair; runs = runs; next = n.1 } }))
-      | inr ge ↦ inl (sym (all_of (pushes (suc (w.behind v)) (p.sent v u)) (w.pushed v u) up_to_now ge))
+    pair_pushes : (w.pushed v u ≡ pushes (suc (w.finished v)) (p.sent v u)) ⊎ Next v
+    pair_pushes = elim (cases_lt (length (w.pushed v u)) (length (pushes (suc (w.finished v)) (p.sent v u)))) [
+      | inl lt ↦ (let n = next_of (pushes (suc (w.finished v)) (p.sent v u)) (w.pushed v u) up_to_now lt in inr (record { to = u; x = n.0; may = record { pair = pair; runs = runs; next = n.1 } }))
+      | inr ge ↦ inl (sym (all_of (pushes (suc (w.finished v)) (p.sent v u)) (w.pushed v u) up_to_now ge))
     ]
 
-  out_or_next : (v : ℕ) → v < p.workers → w.behind v < p.windows → (u : ℕ) → u < p.workers → IsOut v u ⊎ Next v
+  out_or_next : (v : ℕ) → v < p.workers → w.finished v < p.windows → (u : ℕ) → u < p.workers → IsOut v u ⊎ Next v
   out_or_next v lv runs u lu = elim (cases_eq v u) [
     | inl e ↦ inl (λ pair. absurd (pair.apart e))
     | inr ne ↦ elim (pair_pushes v u (record { from_there = lv; to_there = lu; apart = ne }) runs) [ inl out ↦ inl (λ pair. out) | inr next ↦ inr next ]
   ]
 
   abbrev IsAllOut : (v : ℕ) → Type 0
-  IsAllOut v = w.behind v < p.windows → HasPushed p w v
+  IsAllOut v = w.finished v < p.windows → HasPushed p w v
 
   worker_pushes : (v : ℕ) → v < p.workers → IsAllOut v ⊎ Next v
-  worker_pushes v lv = elim (cases_lt (w.behind v) p.windows) [
+  worker_pushes v lv = elim (cases_lt (w.finished v) p.windows) [
     | inl runs ↦ elim (all_or_some (IsOut v) (λ u. Next v) p.workers (out_or_next v lv runs)) [
       | inl all ↦ inl (λ lt u pair. all u pair.to_there pair)
       | inr some ↦ inr some.2
@@ -55,18 +55,18 @@ module _ (p : Plan) (w : State) (s : Stand p w) where
   ]
 
   -- each worker that is in a window may push, may go on, or waits
-  module _ (v : ℕ) (lv : v < p.workers) (runs : w.behind v < p.windows) where
+  module _ (v : ℕ) (lv : v < p.workers) (runs : w.finished v < p.windows) where
     record Missing (u : ℕ) : Type 0 where
       pair : IsPair p u v
-      few : marks_in (w.taken u v) ≤ w.behind v
+      few : marks_in (w.taken u v) ≤ w.finished v
 
     abbrev IsHeard : ℕ → Type 0
-    IsHeard u = IsPair p u v → w.behind v < marks_in (w.taken u v)
+    IsHeard u = IsPair p u v → w.finished v < marks_in (w.taken u v)
 
     heard_or_missing : (u : ℕ) → u < p.workers → IsHeard u ⊎ Missing u
     heard_or_missing u lu = elim (cases_eq u v) [
       | inl e ↦ inl (λ pair. absurd (pair.apart e))
-      | inr ne ↦ elim (cases_lt (w.behind v) (marks_in (w.taken u v))) [
+      | inr ne ↦ elim (cases_lt (w.finished v) (marks_in (w.taken u v))) [
         | inl lt ↦ inl (λ pair. lt)
         | inr few ↦ inr (record { pair = record { from_there = lu; to_there = lv; apart = ne }; few = few })
       ]
@@ -82,20 +82,20 @@ module _ (p : Plan) (w : State) (s : Stand p w) where
     phase = elim (worker_pushes v lv) [ inl out ↦ inr (goes_or_waits (out runs)) | inr next ↦ inl next ]
 
   -- where all that are in a window have pushed all of it, one that is behind no other takes something or goes on
-  module _ (out : (v : ℕ) → v < p.workers → IsAllOut v) (v : ℕ) (lv : v < p.workers) (runs : w.behind v < p.windows) (least : (u : ℕ) → u < p.workers → w.behind v ≤ w.behind u) where
-    marks_wait : (u : ℕ) → IsPair p u v → w.behind v < marks_in (w.pushed u v)
+  module _ (out : (v : ℕ) → v < p.workers → IsAllOut v) (v : ℕ) (lv : v < p.workers) (runs : w.finished v < p.windows) (least : (u : ℕ) → u < p.workers → w.finished v ≤ w.finished u) where
+    marks_wait : (u : ℕ) → IsPair p u v → w.finished v < marks_in (w.pushed u v)
     marks_wait u pair =
         let low = least u pair.from_there in
-        elim (cases_lt (w.behind u) p.windows) [
-          | inl lt ↦ (let e = ap marks_in (out u pair.from_there lt v pair) in let m = marks_pushes (suc (w.behind u)) (p.sent u v) in omega arith)
+        elim (cases_lt (w.finished u) p.windows) [
+          | inl lt ↦ (let e = ap marks_in (out u pair.from_there lt v pair) in let m = marks_pushes (suc (w.finished u)) (p.sent u v) in omega arith)
           | inr over ↦ (
-              let b = begins_marks (w.pushed u v) (pushes (w.behind u) (p.sent u v)) (s.lines u v pair).whole in
-              let m = marks_pushes (w.behind u) (p.sent u v) in
+              let b = begins_marks (w.pushed u v) (pushes (w.finished u) (p.sent u v)) (s.lines u v pair).whole in
+              let m = marks_pushes (w.finished u) (p.sent u v) in
               omega arith
               )
         ]
 
-    takes : (u : ℕ) (pair : IsPair p u v) → marks_in (w.taken u v) ≤ w.behind v → (x : Carried) × MayTake p w v u x
+    takes : (u : ℕ) (pair : IsPair p u v) → marks_in (w.taken u v) ≤ w.finished v → (x : Carried) × MayTake p w v u x
     takes u pair few = elim (cases_lt (length (w.taken u v)) (length (w.pushed u v))) [
       | inl lt ↦ (
           let n = next_of (w.pushed u v) (w.taken u v) (s.lines u v pair).took lt in
@@ -114,10 +114,10 @@ module _ (p : Plan) (w : State) (s : Stand p w) where
       | inr waits ↦ (let t = takes waits.missing.0 waits.missing.1 waits.missing.2 in (Take v waits.missing.0 t.0, t.1))
     ]
 
-  pub goes_on : (v : ℕ) → v < p.workers → w.behind v < p.windows → (e : Event) × MayHappen p w e
+  pub goes_on : (v : ℕ) → v < p.workers → w.finished v < p.windows → (e : Event) × MayHappen p w e
   goes_on v lv lt = elim (all_or_some IsAllOut Next p.workers worker_pushes) [
     | inl out ↦ (
-        let m = lowest p.workers w.behind (w.behind v) v lv (omega arith) in
+        let m = lowest p.workers w.finished (w.finished v) v lv (omega arith) in
         let le = m.2 in
         least_goes_on out m.0 m.1 (omega arith) m.3
         )
@@ -125,16 +125,16 @@ module _ (p : Plan) (w : State) (s : Stand p w) where
   ]
 
   -- where all windows lie behind all workers, all was pushed and taken
-  module _ (done : (v : ℕ) → v < p.workers → w.behind v ≡ p.windows) where
+  module _ (done : (v : ℕ) → v < p.workers → w.finished v ≡ p.windows) where
     all_pushed : (v u : ℕ) → IsPair p v u → w.pushed v u ≡ pushes p.windows (p.sent v u)
     all_pushed v u pair =
         let line = s.lines v u pair in
         let is = done v pair.from_there in
-        let m : ℕ = min (suc (w.behind v)) p.windows in
-        let e : min (suc (w.behind v)) p.windows ≡ w.behind v = omega arith in
+        let m : ℕ = min (suc (w.finished v)) p.windows in
+        let e : min (suc (w.finished v)) p.windows ≡ w.finished v = omega arith in
         let l = begins_length (pushes m (p.sent v u)) (w.pushed v u) line.front in
         let same = ap (λ k. length (pushes k (p.sent v u))) e in
-        all_of (w.pushed v u) (pushes (w.behind v) (p.sent v u)) line.whole (omega arith) ∙ ap (λ k. pushes k (p.sent v u)) is
+        all_of (w.pushed v u) (pushes (w.finished v) (p.sent v u)) line.whole (omega arith) ∙ ap (λ k. pushes k (p.sent v u)) is
 
     all_taken : (v u : ℕ) → IsPair p v u → w.taken v u ≡ pushes p.windows (p.sent v u)
     all_taken v u pair =
@@ -144,16 +144,16 @@ module _ (p : Plan) (w : State) (s : Stand p w) where
         all_is_taken p.windows (p.sent v u) (w.taken v u) (subst (λ l. BeginsWith l (w.taken v u)) (all_pushed v u pair) line.took) (omega arith)
 
     pub at_end : IsAtEnd p w
-    at_end = record { behind = done; pushed = all_pushed; taken = all_taken }
+    at_end = record { finished = done; pushed = all_pushed; taken = all_taken }
 
   pub end_if_stuck : IsStuck p w → IsAtEnd p w
-  end_if_stuck stuck = at_end (λ v lv. elim (cases_lt (w.behind v) p.windows) [
+  end_if_stuck stuck = at_end (λ v lv. elim (cases_lt (w.finished v) p.windows) [
     | inl lt ↦ (let g = goes_on v lv lt in absurd (stuck g.0 g.1))
     | inr ge ↦ (let le = s.within v lv in omega arith)
   ])
 
   pub end_or_goes_on : IsAtEnd p w ⊎ ((e : Event) × MayHappen p w e)
-  end_or_goes_on = elim (all_or_some (λ v. w.behind v ≡ p.windows) (λ v. w.behind v < p.windows) p.workers (λ v lv. elim (cases_lt (w.behind v) p.windows) [
+  end_or_goes_on = elim (all_or_some (λ v. w.finished v ≡ p.windows) (λ v. w.finished v < p.windows) p.workers (λ v lv. elim (cases_lt (w.finished v) p.windows) [
     | inl lt ↦ inr lt
     | inr ge ↦ inl (let le = s.within v lv in omega arith)
   ])) [
@@ -168,6 +168,6 @@ pub stuck_is_at_end : StuckIsAtEnd
 stuck_is_at_end p w reached stuck = end_if_stuck p w (all_stand p w reached) stuck
 
 pub end_is_stuck : EndIsStuck
-end_is_stuck p w end (Push v u x) may = let is = end.behind v may.pair.from_there in let runs = may.runs in omega arith
-end_is_stuck p w end (Take v u x) may = let is = end.behind v may.pair.to_there in let runs = may.waits.runs in omega arith
-end_is_stuck p w end (GoOn v) may = let is = end.behind v may.there in let runs = may.runs in omega arith
+end_is_stuck p w end (Push v u x) may = let is = end.finished v may.pair.from_there in let runs = may.runs in omega arith
+end_is_stuck p w end (Take v u x) may = let is = end.finished v may.pair.to_there in let runs = may.waits.runs in omega arith
+end_is_stuck p w end (GoOn v) may = let is = end.finished v may.there in let runs = may.runs in omega arith

@@ -51,9 +51,9 @@ pub taken_is_of_window : TakenIsOfWindow
 taken_is_of_window p w reached v u x may =
     let line = (all_stand p w reached).lines u v may.pair in
     let sent : ℕ → List RadioCopy = p.sent u v in
-    let m : ℕ = min (suc (w.behind u)) p.windows in
-    let low : min (suc (w.behind u)) p.windows ≤ p.windows = omega arith in
-    let some : min (suc (w.behind u)) p.windows ≤ suc (w.behind u) = omega arith in
+    let m : ℕ = min (suc (w.finished u)) p.windows in
+    let low : min (suc (w.finished u)) p.windows ≤ p.windows = omega arith in
+    let some : min (suc (w.finished u)) p.windows ≤ suc (w.finished u) = omega arith in
     let D : ℕ → Carried → Type 0 = λ k y. (k < m) × IsOfWindow sent k y in
     let b = begins_trans (pushes m sent) (w.pushed u v) (w.taken u v ++ x ∷ []) line.front may.next in
     let e : pushes m sent ≡ w.taken u v ++ x ∷ b.0 = b.1 ∙ append_assoc (w.taken u v) (x ∷ []) b.0 in
@@ -86,7 +86,7 @@ no_copy_is_undue ends up p w reached v u late copy may =
     let from = taken_is_of_window p w reached v u (Packet copy) may in
     let D : RadioCopy → Type 0 = λ c. ends k ≤ c.at in
     let at = All-contains D (p.sent u v k) copy (All-from_recursion D (p.sent u v k) (late k from.begun from.there)) from.of_it in
-    let l = ends_later ends up (w.behind v) k from.not_before in
+    let l = ends_later ends up (w.finished v) k from.not_before in
     omega arith
 
 passes_before : (passes : ℕ → RadioCopy → Bool) → ((k : ℕ) (c : RadioCopy) → passes (suc k) c ≡ true → passes k c ≡ true) → (c : RadioCopy) (j k : ℕ) → j ≤ k → passes k c ≡ true → passes j c ≡ true
@@ -102,4 +102,4 @@ each_taken_passes passes down p w reached v u all copy may =
     let from = taken_is_of_window p w reached v u (Packet copy) may in
     let D : RadioCopy → Type 0 = λ c. passes k c ≡ true in
     let at : passes k copy ≡ true = All-contains D (p.sent u v k) copy (All-from_recursion D (p.sent u v k) (all k from.begun from.there)) from.of_it in
-    passes_before passes down copy (w.behind v) k from.not_before at
+    passes_before passes down copy (w.finished v) k from.not_before at

@@ -153,7 +153,7 @@ module _ (p : Plan) (senders : Senders p) where
     queued_step (Take v u x) may = oldest v u x may (q.queue v) refl
     queued_step (GoOn v) may = (GoOn v, may)
 
-    pub queued_goes_on : (v : ℕ) → v < p.workers → q.state.behind v < p.windows → (e : Event) × MayHappenQueued p senders q e
+    pub queued_goes_on : (v : ℕ) → v < p.workers → q.state.finished v < p.windows → (e : Event) × MayHappenQueued p senders q e
     queued_goes_on v lv lt = let g = goes_on p q.state h.stand v lv lt in queued_step g.0 g.1
 
     pub queued_end_or_goes_on : IsAtEnd p q.state ⊎ ((e : Event) × MayHappenQueued p senders q e)

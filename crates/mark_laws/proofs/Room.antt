@@ -58,10 +58,10 @@ two_windows_lie_there p w reached v u pair =
     let s = all_stand p w reached in
     let line = s.lines v u pair in
     let sent : ℕ → List RadioCopy = p.sent v u in
-    let k : ℕ = w.behind u in
-    let m : ℕ = min (suc (w.behind v)) p.windows in
+    let k : ℕ = w.finished u in
+    let m : ℕ = min (suc (w.finished v)) p.windows in
     let ahead = one_window_ahead p w reached v u pair.from_there pair.to_there in
-    let le : min (suc (w.behind v)) p.windows ≤ suc (suc (w.behind u)) = omega arith in
+    let le : min (suc (w.finished v)) p.windows ≤ suc (suc (w.finished u)) = omega arith in
     let taken = long_by_marks (suc (suc k)) k sent (w.taken v u)
     (begins_trans (pushes (suc (suc k)) sent) (pushes m sent) (w.taken v u) (pushes_grow m (suc (suc k)) sent le) (begins_trans (pushes m sent) (w.pushed v u) (w.taken v u) line.front line.took))
     (omega arith) line.heard in

@@ -15,7 +15,7 @@ use Rattle.mark_laws.proofs.Changes.{set_other, at_one, at_pair}
 
 module _ (p : Plan) where
   abbrev Line : State → (v u : ℕ) → (pushed taken : List Carried) → Type 0
-  Line w v u pushed taken = IsPair p v u → IsLine p.windows (w.behind v) (w.behind u) (p.sent v u) pushed taken
+  Line w v u pushed taken = IsPair p v u → IsLine p.windows (w.finished v) (w.finished u) (p.sent v u) pushed taken
 
   pub stand_first : Stand p start
   stand_first = record {
@@ -28,9 +28,9 @@ module _ (p : Plan) where
   line_push w v u x s may pair =
       let line = s.lines v u pair in
       let runs = may.runs in
-      let e : suc (w.behind v) ≡ min (suc (w.behind v)) p.windows = omega arith in
+      let e : suc (w.finished v) ≡ min (suc (w.finished v)) p.windows = omega arith in
       record {
-        whole = begins_more (w.pushed v u) (pushes (w.behind v) (p.sent v u)) (x ∷ []) line.whole;
+        whole = begins_more (w.pushed v u) (pushes (w.finished v) (p.sent v u)) (x ∷ []) line.whole;
         front = subst (λ k. BeginsWith (pushes k (p.sent v u)) (w.pushed v u ++ x ∷ [])) e may.next;
         took = begins_more (w.pushed v u) (w.taken v u) (x ∷ []) line.took;
         heard = line.heard;
@@ -64,14 +64,14 @@ module _ (p : Plan) where
 
   module _ (w : State) (v : ℕ) (s : Stand p w) (may : MayGoOn p w v) where
     abbrev k : ℕ
-    k = w.behind v
+    k = w.finished v
 
-    abbrev behind : ℕ → ℕ
-    behind = set_at w.behind v (suc k)
+    abbrev finished : ℕ → ℕ
+    finished = set_at w.finished v (suc k)
 
     -- what it has pushed is the whole of one window more
-    line_behind : (u : ℕ) → IsPair p v u → IsLine p.windows (suc k) (w.behind u) (p.sent v u) (w.pushed v u) (w.taken v u)
-    line_behind u pair =
+    line_finished : (u : ℕ) → IsPair p v u → IsLine p.windows (suc k) (w.finished u) (p.sent v u) (w.pushed v u) (w.taken v u)
+    line_finished u pair =
         let line = s.lines v u pair in
         let runs = may.runs in
         let m : ℕ = min (suc (suc k)) p.windows in
@@ -85,24 +85,24 @@ module _ (p : Plan) where
         }
 
     -- what it has taken has one mark more
-    line_begun : (u : ℕ) → IsPair p u v → IsLine p.windows (w.behind u) (suc k) (p.sent u v) (w.pushed u v) (w.taken u v)
+    line_begun : (u : ℕ) → IsPair p u v → IsLine p.windows (w.finished u) (suc k) (p.sent u v) (w.pushed u v) (w.taken u v)
     line_begun u pair =
         let line = s.lines u v pair in
         record { whole = line.whole; front = line.front; took = line.took; heard = may.heard u pair }
 
-    abbrev NewLine : (a b behind begun : ℕ) → Type 0
+    abbrev NewLine : (a b finished begun : ℕ) → Type 0
     NewLine a b before begun = IsPair p a b → IsLine p.windows before begun (p.sent a b) (w.pushed a b) (w.taken a b)
 
-    line_here : (b : ℕ) → NewLine v b (suc k) (behind b)
-    line_here b pair = subst (λ n. IsLine p.windows (suc k) n (p.sent v b) (w.pushed v b) (w.taken v b)) (sym (set_other w.behind v (suc k) b (λ e. pair.apart (sym e)))) (line_behind b pair)
+    line_here : (b : ℕ) → NewLine v b (suc k) (finished b)
+    line_here b pair = subst (λ n. IsLine p.windows (suc k) n (p.sent v b) (w.pushed v b) (w.taken v b)) (sym (set_other w.finished v (suc k) b (λ e. pair.apart (sym e)))) (line_finished b pair)
 
-    line_there : (a b : ℕ) → NewLine a b (w.behind a) (behind b)
-    line_there a b = at_one (λ j n. NewLine a j (w.behind a) n) w.behind v (suc k) (line_begun a) (λ j ne. s.lines a j) b
+    line_there : (a b : ℕ) → NewLine a b (w.finished a) (finished b)
+    line_there a b = at_one (λ j n. NewLine a j (w.finished a) n) w.finished v (suc k) (line_begun a) (λ j ne. s.lines a j) b
 
     stand_go_on : Stand p (after w (GoOn v))
     stand_go_on = record {
-      within = at_one (λ a n. a < p.workers → n ≤ p.windows) w.behind v (suc k) (λ low. may.runs) (λ a ne. s.within a);
-      lines = λ a b. at_one (λ i n. NewLine i b n (behind b)) w.behind v (suc k) (line_here b) (λ i ne. line_there i b) a;
+      within = at_one (λ a n. a < p.workers → n ≤ p.windows) w.finished v (suc k) (λ low. may.runs) (λ a ne. s.within a);
+      lines = λ a b. at_one (λ i n. NewLine i b n (finished b)) w.finished v (suc k) (line_here b) (λ i ne. line_there i b) a;
       own = s.own;
     }
 
@@ -120,15 +120,15 @@ all_stand p w reached = stand_run p reached.0 start w (stand_first p) reached.1
 
 pub one_window_ahead : OneWindowAhead
 one_window_ahead p w reached v u lv lu = elim (cases_eq v u) [
-  | inl e ↦ (let same = ap w.behind e in omega arith)
+  | inl e ↦ (let same = ap w.finished e in omega arith)
   | inr ne ↦ (
       let line = (all_stand p w reached).lines u v (record { from_there = lu; to_there = lv; apart = λ e. ne (sym e) }) in
-      let m : ℕ = min (suc (w.behind u)) p.windows in
+      let m : ℕ = min (suc (w.finished u)) p.windows in
       let h = line.heard in
       let a = begins_marks (w.pushed u v) (w.taken u v) line.took in
       let b = begins_marks (pushes m (p.sent u v)) (w.pushed u v) line.front in
       let c = marks_pushes m (p.sent u v) in
-      let d : min (suc (w.behind u)) p.windows ≤ suc (w.behind u) = omega arith in
+      let d : min (suc (w.finished u)) p.windows ≤ suc (w.finished u) = omega arith in
       omega arith
       )
 ]

@@ -14,50 +14,50 @@ use Rattle.mark_laws.proofs.Changes.{set_other, pair_apart, pair_beside, at_one,
 
 -- for one worker the states are the same, and to it more may have been pushed
 record IsSameFor (v : ℕ) (old new : State) : Type 0 where
-  behind : old.behind v ≡ new.behind v
+  finished : old.finished v ≡ new.finished v
   pushed : (u : ℕ) → old.pushed v u ≡ new.pushed v u
   taken : (u : ℕ) → old.taken u v ≡ new.taken u v
   more : (u : ℕ) → BeginsWith (new.pushed u v) (old.pushed u v)
 
 same_after : (w : State) (f : Event) (v : ℕ) → v ≢ worker_of f → IsSameFor v w (after w f)
 same_after w (Push a b y) v ne = record {
-  behind = refl;
+  finished = refl;
   pushed = λ u. sym (pair_apart w.pushed a b (w.pushed a b ++ y ∷ []) v u ne);
   taken = λ u. refl;
   more = λ u. at_pair (λ i j l. BeginsWith l (w.pushed i j)) w.pushed a b (w.pushed a b ++ y ∷ []) (y ∷ [], refl) (λ i j. begins_same (w.pushed i j) (w.pushed i j) refl) u v;
 }
 same_after w (Take a b y) v ne = record {
-  behind = refl;
+  finished = refl;
   pushed = λ u. refl;
   taken = λ u. sym (pair_beside w.taken b a (w.taken b a ++ y ∷ []) u v ne);
   more = λ u. begins_same (w.pushed u v) (w.pushed u v) refl;
 }
 same_after w (GoOn a) v ne = record {
-  behind = sym (set_other w.behind a (suc (w.behind a)) v ne);
+  finished = sym (set_other w.finished a (suc (w.finished a)) v ne);
   pushed = λ u. refl;
   taken = λ u. refl;
   more = λ u. begins_same (w.pushed u v) (w.pushed u v) refl;
 }
 
 module _ (p : Plan) (v : ℕ) (old new : State) (same : IsSameFor v old new) where
-  runs : old.behind v < p.windows → new.behind v < p.windows
-  runs lt = let P : ℕ → Type 0 = λ k. k < p.windows in subst P same.behind lt
+  runs : old.finished v < p.windows → new.finished v < p.windows
+  runs lt = let P : ℕ → Type 0 = λ k. k < p.windows in subst P same.finished lt
 
   has_pushed : HasPushed p old v → HasPushed p new v
-  has_pushed h u pair = sym (same.pushed u) ∙ (h u pair ∙ ap (λ k. pushes (suc k) (p.sent v u)) same.behind)
+  has_pushed h u pair = sym (same.pushed u) ∙ (h u pair ∙ ap (λ k. pushes (suc k) (p.sent v u)) same.finished)
 
   push_stays : (u : ℕ) (x : Carried) → MayPush p old v u x → MayPush p new v u x
   push_stays u x may = record {
     pair = may.pair;
     runs = runs may.runs;
-    next = subst₂ (λ k l. BeginsWith (pushes (suc k) (p.sent v u)) (l ++ x ∷ [])) same.behind (same.pushed u) may.next;
+    next = subst₂ (λ k l. BeginsWith (pushes (suc k) (p.sent v u)) (l ++ x ∷ [])) same.finished (same.pushed u) may.next;
   }
 
   waits_on : Waits p old v → Waits p new v
   waits_on h = record {
     runs = runs h.runs;
     has_pushed = has_pushed h.has_pushed;
-    missing = (h.missing.0, h.missing.1, subst₂ (λ l k. marks_in l ≤ k) (same.taken h.missing.0) same.behind h.missing.2);
+    missing = (h.missing.0, h.missing.1, subst₂ (λ l k. marks_in l ≤ k) (same.taken h.missing.0) same.finished h.missing.2);
   }
 
   take_stays : (u : ℕ) (x : Carried) → MayTake p old v u x → MayTake p new v u x
@@ -72,7 +72,7 @@ module _ (p : Plan) (v : ℕ) (old new : State) (same : IsSameFor v old new) whe
     there = may.there;
     runs = runs may.runs;
     has_pushed = has_pushed may.has_pushed;
-    heard = λ u pair. subst₂ (λ k l. k < marks_in l) same.behind (same.taken u) (may.heard u pair);
+    heard = λ u pair. subst₂ (λ k l. k < marks_in l) same.finished (same.taken u) (may.heard u pair);
   }
 
 pub nobody_is_held_up : NobodyIsHeldUp

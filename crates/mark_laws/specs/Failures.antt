@@ -27,7 +27,7 @@ pub record MayDo (p : Plan) (senders : Senders p) (c : Flagged) (e : Event) : Ty
 pub record MayFail (p : Plan) (c : Flagged) (worker : ℕ) : Type 0 where
   pub there : worker < p.workers
   pub still : c.gone worker ≡ false
-  pub runs : c.queued.state.behind worker < p.windows
+  pub runs : c.queued.state.finished worker < p.windows
 
 pub record MayLeave (p : Plan) (c : Flagged) (worker : ℕ) : Type 0 where
   pub there : worker < p.workers

@@ -22,11 +22,11 @@ AllStand = (p : Plan) (w : State) → IsReached p w → Stand p w
 -- no worker is more than one window ahead of another
 abbrev pub OneWindowAhead : Type 0
 OneWindowAhead = (p : Plan) (w : State) → IsReached p w → (v u : ℕ) → v < p.workers → u < p.workers
-    → w.behind v ≤ suc (w.behind u)
+    → w.finished v ≤ suc (w.finished u)
 
 -- while a window is left to any worker, some step may happen
 abbrev pub SomeoneGoesOn : Type 0
-SomeoneGoesOn = (p : Plan) (w : State) → IsReached p w → (v : ℕ) → v < p.workers → w.behind v < p.windows
+SomeoneGoesOn = (p : Plan) (w : State) → IsReached p w → (v : ℕ) → v < p.workers → w.finished v < p.windows
     → (e : Event) × MayHappen p w e
 
 -- what can't go on is at the end, and the end can't go on
@@ -63,9 +63,9 @@ IsOfWindow sent k (Mark n) = n ≡ k
 -- What a worker may take is of the window that the worker is in, or of the next one, which the other has then begun:
 -- of that whose number is how many marks it took of the other before.
 pub record ComesFrom (p : Plan) (w : State) (worker of window : ℕ) (x : Carried) : Type 0 where
-  pub not_before : w.behind worker ≤ window
-  pub not_behind : window ≤ suc (w.behind worker)
-  pub begun : window ≤ w.behind of
+  pub not_before : w.finished worker ≤ window
+  pub not_behind : window ≤ suc (w.finished worker)
+  pub begun : window ≤ w.finished of
   pub there : window < p.windows
   pub of_it : IsOfWindow (p.sent of worker) window x
 
@@ -75,7 +75,7 @@ TakenIsOfWindow = (p : Plan) (w : State) → IsReached p w → (v u : ℕ) (x : 
 
 -- of each copy that one has for another in a window that it has begun this holds, by the window and the copy
 abbrev pub InBegunWindows : Plan → State → (from to : ℕ) → (ℕ → RadioCopy → Type 0) → Type 0
-InBegunWindows p w u v Holds = (k : ℕ) → k ≤ w.behind u → k < p.windows → Each (Holds k) (p.sent u v k)
+InBegunWindows p w u v Holds = (k : ℕ) → k ≤ w.finished u → k < p.windows → Each (Holds k) (p.sent u v k)
 
 -- Windows end one after another, and in the windows that the other has begun each of its copies comes when the window
 -- has ended, or later: then what a worker takes comes when the window that it is in has ended, or later.
@@ -83,7 +83,7 @@ abbrev pub NoCopyIsUndue : Type 0
 NoCopyIsUndue = (ends : ℕ → ℕ) → ((k : ℕ) → ends k ≤ ends (suc k)) → (p : Plan) (w : State) → IsReached p w
     → (v u : ℕ)
     → InBegunWindows p w u v (λ k c. ends k ≤ c.at)
-    → (copy : RadioCopy) → MayTake p w v u (Packet copy) → ends (w.behind v) ≤ copy.at
+    → (copy : RadioCopy) → MayTake p w v u (Packet copy) → ends (w.finished v) ≤ copy.at
 
 -- The same for any test of copies that passes none for a window which it doesn't pass for the window before.
 abbrev pub EachTakenPasses : Type 0
@@ -91,13 +91,13 @@ EachTakenPasses = (passes : ℕ → RadioCopy → Bool)
     → ((k : ℕ) (c : RadioCopy) → passes (suc k) c ≡ true → passes k c ≡ true) → (p : Plan) (w : State)
     → IsReached p w → (v u : ℕ)
     → InBegunWindows p w u v (λ k c. passes k c ≡ true)
-    → (copy : RadioCopy) → MayTake p w v u (Packet copy) → passes (w.behind v) copy ≡ true
+    → (copy : RadioCopy) → MayTake p w v u (Packet copy) → passes (w.finished v) copy ≡ true
 
 -- what one has pushed to another and the other hasn't taken is no more than two windows have
 abbrev pub TwoWindowsLieThere : Type 0
 TwoWindowsLieThere = (p : Plan) (w : State) → IsReached p w → (v u : ℕ) → IsPair p v u
     → length (w.pushed v u) ≤ length (w.taken v u)
-    + ((length (p.sent v u (w.behind u)) + 1) + (length (p.sent v u (suc (w.behind u))) + 1))
+    + ((length (p.sent v u (w.finished u)) + 1) + (length (p.sent v u (suc (w.finished u))) + 1))
 
 -- ---- with the inboxes as they are
 -- senders can be numbered
@@ -113,7 +113,7 @@ QueuedRunsAreRuns = (p : Plan) (senders : Senders p) (events : List Event) (q : 
 abbrev pub QueuedSomeoneGoesOn : Type 0
 QueuedSomeoneGoesOn = (p : Plan) (senders : Senders p) (events : List Event) (q : Queued)
     → RunQueued p senders start_queued events q
-    → (v : ℕ) → v < p.workers → q.state.behind v < p.windows → (e : Event) × MayHappenQueued p senders q e
+    → (v : ℕ) → v < p.workers → q.state.finished v < p.windows → (e : Event) × MayHappenQueued p senders q e
 
 abbrev pub NobodyQueuedIsHeldUp : Type 0
 NobodyQueuedIsHeldUp = (p : Plan) (senders : Senders p) (q : Queued) (e f : Event) → MayHappenQueued p senders q e
@@ -154,7 +154,7 @@ TurnsAreRuns = (p : Plan) (senders : Senders p) (turns : List Turn) (c : Flagged
 abbrev pub FlaggedStuckIsOver : Type 0
 FlaggedStuckIsOver = (p : Plan) (senders : Senders p) (turns : List Turn) (c : Flagged)
     → RunTurns p senders start_flagged turns c → IsStuckFlagged p senders c
-    → (v : ℕ) → v < p.workers → (c.gone v ≡ true) ⊎ (c.queued.state.behind v ≡ p.windows)
+    → (v : ℕ) → v < p.workers → (c.gone v ≡ true) ⊎ (c.queued.state.finished v ≡ p.windows)
 
 -- where nobody has failed, nobody is gone, and where no turn is left but a failure, all is done
 abbrev pub UnlessOneFails : Type 0

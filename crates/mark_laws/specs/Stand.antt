@@ -6,18 +6,18 @@ use Rattle.copy_inbox.specs.Items.{BeginsWith}
 use Rattle.mark_exchange.specs.Pushes.{marks_in, pushes}
 use Rattle.mark_laws.specs.State.{Plan, State, IsPair}
 
--- From one worker to another: the first has finished `behind` windows, the other `begun`. The first has pushed all of
+-- From one worker to another: the first has finished so many windows, the other `begun`. The first has pushed all of
 -- the windows that it has finished, and nothing of a window that it hasn't begun. The other has taken a prefix of that,
 -- with the marks of the windows that it itself has finished.
-pub record IsLine (windows behind begun : ℕ) (sent : ℕ → List RadioCopy) (pushed taken : List Carried) : Type 0 where
-  pub whole : BeginsWith pushed (pushes behind sent)
-  pub front : BeginsWith (pushes (min (suc behind) windows) sent) pushed
+pub record IsLine (windows finished begun : ℕ) (sent : ℕ → List RadioCopy) (pushed taken : List Carried) : Type 0 where
+  pub whole : BeginsWith pushed (pushes finished sent)
+  pub front : BeginsWith (pushes (min (suc finished) windows) sent) pushed
   pub took : BeginsWith pushed taken
   pub heard : begun ≤ marks_in taken
 
 pub record Stand (p : Plan) (w : State) : Type 0 where
-  pub within : (v : ℕ) → v < p.workers → w.behind v ≤ p.windows
+  pub within : (v : ℕ) → v < p.workers → w.finished v ≤ p.windows
   pub lines : (v u : ℕ) → IsPair p v u
-      → IsLine p.windows (w.behind v) (w.behind u) (p.sent v u) (w.pushed v u) (w.taken v u)
+      → IsLine p.windows (w.finished v) (w.finished u) (p.sent v u) (w.pushed v u) (w.taken v u)
   -- nobody pushes to itself
   pub own : (v : ℕ) → w.pushed v v ≡ [] × (w.taken v v ≡ [])

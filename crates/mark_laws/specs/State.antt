@@ -11,13 +11,13 @@ pub record Plan : Type 0 where
 
 -- how many windows each worker has finished, what one has pushed to another so far, and what the other has taken of it
 pub record State : Type 0 where
-  pub behind : ℕ → ℕ
+  pub finished : ℕ → ℕ
   pub pushed : (from to : ℕ) → List Carried
   pub taken : (from to : ℕ) → List Carried
 
 -- before the first step
 abbrev pub start : State
-start = record { behind = λ v. 0; pushed = λ v u. []; taken = λ v u. [] }
+start = record { finished = λ v. 0; pushed = λ v u. []; taken = λ v u. [] }
 
 -- two workers
 pub record IsPair (p : Plan) (from to : ℕ) : Type 0 where

@@ -19,19 +19,19 @@ worker_of (GoOn v) = v
 
 -- the worker has pushed all of the windows that it has finished and of the one that it is in
 abbrev pub HasPushed : Plan → State → ℕ → Type 0
-HasPushed p w v = (u : ℕ) → IsPair p v u → w.pushed v u ≡ pushes (suc (w.behind v)) (p.sent v u)
+HasPushed p w v = (u : ℕ) → IsPair p v u → w.pushed v u ≡ pushes (suc (w.finished v)) (p.sent v u)
 
 -- a worker that is in a window pushes the next of what the windows up to this one have for the other
 pub record MayPush (p : Plan) (w : State) (worker to : ℕ) (x : Carried) : Type 0 where
   pub pair : IsPair p worker to
-  pub runs : w.behind worker < p.windows
-  pub next : BeginsWith (pushes (suc (w.behind worker)) (p.sent worker to)) (w.pushed worker to ++ x ∷ [])
+  pub runs : w.finished worker < p.windows
+  pub next : BeginsWith (pushes (suc (w.finished worker)) (p.sent worker to)) (w.pushed worker to ++ x ∷ [])
 
 -- a worker has pushed all, and has no mark of its window from some other
 pub record Waits (p : Plan) (w : State) (worker : ℕ) : Type 0 where
-  pub runs : w.behind worker < p.windows
+  pub runs : w.finished worker < p.windows
   pub has_pushed : HasPushed p w worker
-  pub missing : (other : ℕ) × IsPair p other worker × (marks_in (w.taken other worker) ≤ w.behind worker)
+  pub missing : (other : ℕ) × IsPair p other worker × (marks_in (w.taken other worker) ≤ w.finished worker)
 
 -- a worker that waits takes the next of what one of the others has pushed to it
 pub record MayTake (p : Plan) (w : State) (worker of : ℕ) (x : Carried) : Type 0 where
@@ -42,9 +42,9 @@ pub record MayTake (p : Plan) (w : State) (worker of : ℕ) (x : Carried) : Type
 -- a worker that has pushed all, and has the marks of its window from all others, goes on
 pub record MayGoOn (p : Plan) (w : State) (worker : ℕ) : Type 0 where
   pub there : worker < p.workers
-  pub runs : w.behind worker < p.windows
+  pub runs : w.finished worker < p.windows
   pub has_pushed : HasPushed p w worker
-  pub heard : (other : ℕ) → IsPair p other worker → w.behind worker < marks_in (w.taken other worker)
+  pub heard : (other : ℕ) → IsPair p other worker → w.finished worker < marks_in (w.taken other worker)
 
 abbrev pub MayHappen : Plan → State → Event → Type 0
 MayHappen p w (Push v u x) = MayPush p w v u x
@@ -55,7 +55,7 @@ MayHappen p w (GoOn v) = MayGoOn p w v
 abbrev pub after : State → Event → State
 after w (Push v u x) = record w { pushed = set_pair w.pushed v u (w.pushed v u ++ x ∷ []) }
 after w (Take v u x) = record w { taken = set_pair w.taken u v (w.taken u v ++ x ∷ []) }
-after w (GoOn v) = record w { behind = set_at w.behind v (suc (w.behind v)) }
+after w (GoOn v) = record w { finished = set_at w.finished v (suc (w.finished v)) }
 
 -- a run: each of these steps could happen when it did
 abbrev pub Run : Plan → State → List Event → State → Type 0
@@ -68,7 +68,7 @@ IsStuck p w = (e : Event) → MayHappen p w e → ⊥
 
 -- all workers have finished all windows, and all that they were to push was pushed and taken
 pub record IsAtEnd (p : Plan) (w : State) : Type 0 where
-  pub behind : (v : ℕ) → v < p.workers → w.behind v ≡ p.windows
+  pub finished : (v : ℕ) → v < p.workers → w.finished v ≡ p.windows
   pub pushed : (v u : ℕ) → IsPair p v u → w.pushed v u ≡ pushes p.windows (p.sent v u)
   pub taken : (v u : ℕ) → IsPair p v u → w.taken v u ≡ pushes p.windows (p.sent v u)
 

@@ -28,7 +28,7 @@ module _ (n : NetTold) (of : List ℕ) (width windows workers : ℕ) (all : AllR
 
 pub runs_end_at_end : RunsEndAtEnd
 runs_end_at_end n of width windows workers all = record {
-  behind = λ v lt. refl;
+  finished = λ v lt. refl;
   pushed = λ v u p. (all.ran v p.from_there).pushes_then u p.to_there (λ e. p.apart (sym e));
   taken = λ v u p.
       ap (λ i. part i (all.taken u)) (number_is n of width windows workers all v u p.from_there p.to_there p.apart)

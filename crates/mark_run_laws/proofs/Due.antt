@@ -21,9 +21,9 @@ bounds_rise : (width end k : ℕ) → bound width end k ≤ bound width end (suc
 bounds_rise width end k = let m = suc-mul k width in omega arith
 
 module _ (n : NetTold) (of : List ℕ) (width windows workers : ℕ) (history : ℕ → WorkerHistory) (w : State) (reached : IsReached (plan_of of windows workers history) w) (worker other : ℕ)
-    (ran : (k : ℕ) → k ≤ w.behind other → k < windows → RanWindow n of width other (history other) k)
+    (ran : (k : ℕ) → k ≤ w.finished other → k < windows → RanWindow n of width other (history other) k)
     (copy : RadioCopy) (may : MayTake (plan_of of windows workers history) w worker other (Packet copy)) where
-  later : bound width n.end (suc (w.behind worker)) ≤ copy.at
+  later : bound width n.end (suc (w.finished worker)) ≤ copy.at
   later =
       comes_later (λ k. bound width n.end (suc k)) (λ k. bounds_rise width n.end (suc k)) (plan_of of windows workers history) w reached worker other
       (λ k le lt. every_filter (λ (c : RadioCopy). bound width n.end (suc k) ≤ c.at) (λ (c : RadioCopy). bound width n.end (suc k) ≤ c.at) (is_to of worker) (λ c h yes. h) ((history other).sent k) (ran k le lt).late)

@@ -13,14 +13,14 @@ use Rattle.all_workers.specs.declared.workers.Workers.{Workers}
 use Rattle.all_workers.specs.Workers.{IsCut}
 use Rattle.marked_workers.specs.All.{AllRan, IsOfTakers}
 use Rattle.marked_workers.specs.Bounds.{bound, windows_of}
-use Rattle.marked_workers.specs.Run.{RunsAllMarked}
+use Rattle.marked_workers.specs.Run.{GroupRunsMarked}
 use Rattle.marked_workers.specs.WorkerHistory.{WorkerHistory}
 use Rattle.mark_run_laws.specs.Plan.{plan_of, number_of, state_of, RanWindow}
 
 -- what the contract of `run_marked` says of a run is enough: its takers are those of what all threads did
 abbrev pub EachRunHasAll : Type 0
 EachRunHasAll = (n : NetTold) (of : List ℕ) (width : ℕ) (old new : Workers)
-    → IsCut (length n.motes) (length old.inboxes.items) of → RunsAllMarked n of width old new
+    → IsCut (length n.motes) (length old.inboxes.items) of → GroupRunsMarked n of width old new
     → (all : AllRan n of width (windows_of width n.end) (length new.inboxes.items))
     × IsOfTakers all new.takers.items
 
@@ -46,6 +46,6 @@ SendersAreApart = (n : NetTold) (of : List ℕ) (width windows workers : ℕ) (a
 abbrev pub NoCopyIsUndue : Type 0
 NoCopyIsUndue = (n : NetTold) (of : List ℕ) (width windows workers : ℕ) (history : ℕ → WorkerHistory) (w : State)
     → IsReached (plan_of of windows workers history) w → (worker other : ℕ)
-    → ((k : ℕ) → k ≤ w.behind other → k < windows → RanWindow n of width other (history other) k)
+    → ((k : ℕ) → k ≤ w.finished other → k < windows → RanWindow n of width other (history other) k)
     → (copy : RadioCopy) → MayTake (plan_of of windows workers history) w worker other (Packet copy)
-    → IsDue of worker (bound width n.end (suc (w.behind worker))) copy
+    → IsDue of worker (bound width n.end (suc (w.finished worker))) copy

@@ -27,7 +27,7 @@ number_of (Some s) = s.state.number
 abbrev pub state_of : (n : NetTold) (of : List ℕ) (width windows workers : ℕ) → AllRan n of width windows workers
     → State
 state_of n of width windows workers all = record {
-  behind = λ v. windows;
+  finished = λ v. windows;
   pushed = λ from to. pushed_list (all.sender to from);
   taken = λ from to. part (number_of (all.sender to from)) (all.taken to);
 }

@@ -2,7 +2,7 @@
 
 ghost use Rattle.mark_run_laws.specs.Laws.{EachRunHasAll, RunsEndAtEnd, MarksLeadOn, SendersAreApart, NoCopyIsUndue};
 
-/// Where `run_marked` answers Ok, all threads together did what [`ends_at_the_end`] speaks of.
+/// Where `run_marked` answers Ok, all threads together did what [`ends_at_the_end`] compares with the protocol.
 pub fn each_run_has_all()
     ensures { EachRunHasAll }
 {}

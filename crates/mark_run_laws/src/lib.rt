@@ -1,4 +1,4 @@
-//! What the threads of a run with marks promise, held against the protocol by marks: laws on definitions alone.
+//! What the threads of a run with marks promise, compared with the protocol of marks: laws on definitions alone.
 #![tactic(auto)]
 
 pub mod laws;

@@ -31,12 +31,12 @@ use Rattle.marked_workers.specs.Bounds.{bound, AreWindows}
 use Rattle.marked_workers.specs.AtEnd.{EndsMarked, EndAllMarked}
 use Rattle.copy_exchange.specs.Endpoints.{pushed_list}
 use Rattle.marked_workers.specs.Senders.{AreSenders}
-use Rattle.marked_workers.specs.WorkerHistory.{WorkerHistory, RunsWindows}
-use Rattle.marked_workers.specs.All.{AllRan, HasGathered, IsOfTakers}
+use Rattle.marked_workers.specs.WorkerHistory.{WorkerHistory, WorkerRunsWindows}
+use Rattle.marked_workers.specs.All.{AllRan, GatheredSenders, IsOfTakers}
 use Rattle.marked_workers.proofs.Bounds.{at_the_end}
 use Rattle.marked_workers.proofs.Pairs.{not_other, pair, copies_from, copies_none}
 use Rattle.marked_workers.proofs.Seen.{nobodys, sent_so_far, of_worker, of_nobody}
-use Rattle.marked_workers.proofs.Settles.{pair_taken, all_taken, one, gathered_all, whole_then, no_mark, stands, same_of_each}
+use Rattle.marked_workers.proofs.Settles.{pair_taken, all_taken, one, gathered_all, whole_then, no_mark, orderly, same_of_each}
 use Rattle.marked_workers.proofs.Stages.{stage, own_stage, Reached, reached}
 
 module _ (n : NetTold) (of : List ℕ) (width windows : ℕ) (group : Workers) (h : EndAllMarked n of width windows group) where
@@ -54,11 +54,11 @@ module _ (n : NetTold) (of : List ℕ) (width windows : ℕ) (group : Workers) (
     taker : TakerView
     share_at : slice_get group.shares.items v ≡ Some share
     taker_at : slice_get group.takers.items v ≡ Some taker
-    ran : RunsWindows n of width windows workers v z.state.made z.state.taken (λ u. pushed_list (h.sender u v)) z.history
+    ran : WorkerRunsWindows n of width windows workers v z.state.made z.state.taken (λ u. pushed_list (h.sender u v)) z.history
     keeps : Keeps n of v (bound width n.end windows) (z.history.motes windows) (copies_of z.state.taken) share
     are_senders : AreSenders workers v (h.sender v) z.state.made z.senders
     begun : Each (λ (s : SenderView). BeginsWith s.state.pushed (part s.state.number z.state.taken)) z.senders
-    gathers : HasGathered z.state.made z.state.taken z.senders taker
+    gathers : GatheredSenders z.state.made z.state.taken z.senders taker
     inbox : InboxId
     taker_is : taker ≡ record { inbox = inbox; state = with_joined z.senders (record z.state { gathered = [] }) }
 
@@ -118,7 +118,7 @@ module _ (n : NetTold) (of : List ℕ) (width windows : ℕ) (group : Workers) (
   is_of_takers : IsOfTakers all group.takers.items
   is_of_takers v low t is =
       let p = parts.1 v low in
-      subst (HasGathered (all.made v) (all.taken v) (all.senders v)) (same_found (slice_get group.takers.items v) p.taker t p.taker_at is) p.gathers
+      subst (GatheredSenders (all.made v) (all.taken v) (all.senders v)) (same_found (slice_get group.takers.items v) p.taker t p.taker_at is) p.gathers
 
   -- what all workers did
   pub all_ran : (a : AllRan n of width windows (length group.inboxes.items)) × IsOfTakers a group.takers.items
@@ -192,7 +192,7 @@ module _ (n : NetTold) (of : List ℕ) (width windows : ℕ) (group : Workers) (
           let is = read group.takers.items v p.taker taker p.taker_at in
           subst (IsSettled (get_or group.inboxes.items v id)) (sym is) (record {
             its = ap (λ (t : TakerView). t.inbox) (sym is) ∙ h.inbox_of_taker v id taker low;
-            stands = subst (λ (t : TakerView). IsOrderly t.state) (sym p.taker_is) (stands workers v (h.sender v) z.state z.senders p.are_senders p.ran.of_made p.begun (all_taken n of width windows workers all v low) its_one);
+            orderly = subst (λ (t : TakerView). IsOrderly t.state) (sym p.taker_is) (orderly workers v (h.sender v) z.state z.senders p.are_senders p.ran.of_made p.begun (all_taken n of width windows workers all v low) its_one);
             no_mark = subst (λ (t : TakerView). PacketsLeft t.state) (sym p.taker_is) (no_mark workers v (h.sender v) z.state z.senders p.are_senders p.ran.of_made p.begun (all_taken n of width windows workers all v low) its_one);
             all = subst (λ (t : TakerView). AllGathered t.state) (sym p.taker_is) (gathered_all workers v (h.sender v) z.state z.senders p.are_senders p.ran.of_made p.begun (all_taken n of width windows workers all v low) its_one);
           })

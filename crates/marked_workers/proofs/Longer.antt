@@ -14,7 +14,7 @@ use Rattle.copy_inbox.specs.Items.{copies_of, part, OfMade}
 use Rattle.mark_exchange.specs.Pushes.{marks_in, pushes}
 use Rattle.worker_window.specs.Share.{Motes}
 use Rattle.marked_workers.specs.Bounds.{bound}
-use Rattle.marked_workers.specs.WorkerHistory.{WorkerHistory, RunsMotes, RunsWindows}
+use Rattle.marked_workers.specs.WorkerHistory.{WorkerHistory, RunsMotes, WorkerRunsWindows}
 
 -- one of a family changed
 abbrev pub edit : {X : Type 0} → (ℕ → X) → ℕ → X → ℕ → X
@@ -33,7 +33,7 @@ pushes_same (suc k) f g h =
     ∙ ap (λ l. pushes k g ++ (map Packet l ++ Mark k ∷ [])) (h k (omega arith))
 
 -- no window yet
-pub runs_none : (n : NetTold) (of : List ℕ) (width workers worker made : ℕ) → RunsWindows n of width 0 workers worker made [] (λ v. []) (record { motes = λ k. first_mote (system_of n); taken = λ k. []; sent = λ k. [] })
+pub runs_none : (n : NetTold) (of : List ℕ) (width workers worker made : ℕ) → WorkerRunsWindows n of width 0 workers worker made [] (λ v. []) (record { motes = λ k. first_mote (system_of n); taken = λ k. []; sent = λ k. [] })
 runs_none n of width workers worker made = record {
   first = refl;
   nothing = refl;
@@ -51,7 +51,7 @@ module _ (n : NetTold) (of : List ℕ) (width workers worker made k : ℕ) (take
 
   -- the worker ran window k, pushed what it sent in it and the mark, and then took more, until it had the marks of
   -- window k too
-  module _ (ran : RunsWindows n of width k workers worker made taken pushed history)
+  module _ (ran : WorkerRunsWindows n of width k workers worker made taken pushed history)
       (window : RunsMotes n of worker (bound width n.end k) (bound width n.end (suc k)) (history.motes k) next (copies_of taken) sent)
       (lead : (s : ℕ) → s < made → suc k ≤ marks_in (part s (taken ++ more)))
       (of_made : OfMade made (taken ++ more))
@@ -96,7 +96,7 @@ module _ (n : NetTold) (of : List ℕ) (width workers worker made k : ℕ) (take
     lead_old : (j : ℕ) → j ≤ k → (s : ℕ) → s < made → j ≤ marks_in (part s (longer.taken j))
     lead_old j le s low = subst (λ l. j ≤ marks_in (part s l)) (sym (old_taken j le)) (ran.marks_lead j le s low)
 
-    pub runs_longer : RunsWindows n of width (suc k) workers worker made (taken ++ more) pushes_now longer
+    pub runs_longer : WorkerRunsWindows n of width (suc k) workers worker made (taken ++ more) pushes_now longer
     runs_longer = record {
       first = old_motes 0 (omega arith) ∙ ran.first;
       nothing = old_taken 0 (omega arith) ∙ ran.nothing;

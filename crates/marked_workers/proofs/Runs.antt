@@ -12,7 +12,7 @@ use Rattle.copy_inbox.specs.Gathered.{Whole}
 use Rattle.copy_inbox.specs.Items.{BeginsWith, part}
 use Rattle.copy_inbox.specs.Handles.{InboxId, TakerView, SenderView, after_gather}
 use Rattle.copy_exchange.specs.declared.endpoint.Endpoint.{Endpoint}
-use Rattle.copy_exchange.specs.Endpoints.{IsSeated, Stays, Together, pushed_list, pushed_to, senders_to}
+use Rattle.copy_exchange.specs.Endpoints.{IsOnInboxes, Stays, Together, pushed_list, pushed_to, senders_to}
 use Rattle.copy_exchange.specs.Steps.{TellsOf, gather_senders}
 use Rattle.copy_exchange.proofs.Gathers.{gather_is}
 use Rattle.copy_exchange.proofs.AfterWindow.{same_workers}
@@ -26,10 +26,10 @@ use Rattle.all_workers.proofs.Numbered.{numbered}
 use Rattle.all_workers.specs.declared.worker.Worker.{Worker}
 use Rattle.marked_workers.specs.Bounds.{windows_of}
 use Rattle.marked_workers.specs.AtEnd.{EndsMarked, EndAllMarked}
-use Rattle.marked_workers.specs.Run.{RunsAllMarked, endpoints_of}
+use Rattle.marked_workers.specs.Run.{GroupRunsMarked, endpoints_of}
 use Rattle.marked_workers.specs.Senders.{AreSenders}
-use Rattle.marked_workers.specs.WorkerHistory.{RunsMarked}
-use Rattle.marked_workers.specs.Thread.{RunsAllWindows}
+use Rattle.marked_workers.specs.WorkerHistory.{WorkerRunsMarked}
+use Rattle.marked_workers.specs.Thread.{WorkerRunsAllWindows}
 use Rattle.marked_workers.proofs.Bounds.{are_windows}
 use Rattle.marked_workers.proofs.Ends.{ends}
 
@@ -37,24 +37,24 @@ of_others : (workers worker : ℕ) (sender : ℕ → Option SenderView) (made : 
 of_others workers worker sender made senders h = record { numbered = h.numbered; made_is = h.made_is; others = h.others; of_worker = h.of_worker; worker_of = h.worker_of }
 
 module _ (n : NetTold) (of : List ℕ) (width windows : ℕ) (inboxes : List InboxId) where
-  all_stay : (xs ys : List Worker) → AllZip (RunsAllWindows n of width windows inboxes) xs ys → AllZip Stays (endpoints_of xs) (endpoints_of ys)
+  all_stay : (xs ys : List Worker) → AllZip (WorkerRunsAllWindows n of width windows inboxes) xs ys → AllZip Stays (endpoints_of xs) (endpoints_of ys)
   all_stay [] [] h = tt
   all_stay [] (y ∷ ys) h = h
   all_stay (x ∷ xs) [] h = h
   all_stay (x ∷ xs) (y ∷ ys) h = (h.0.stays, all_stay xs ys h.1)
 
-  pub all_seated : (xs ys : List Worker) → AllZip (RunsAllWindows n of width windows inboxes) xs ys → Each (IsSeated inboxes) (endpoints_of ys)
-  all_seated [] [] h = tt
-  all_seated [] (y ∷ ys) h = absurd h
-  all_seated (x ∷ xs) [] h = tt
-  all_seated (x ∷ xs) (y ∷ ys) h = (h.0.seated, all_seated xs ys h.1)
+  pub all_on_inboxes : (xs ys : List Worker) → AllZip (WorkerRunsAllWindows n of width windows inboxes) xs ys → Each (IsOnInboxes inboxes) (endpoints_of ys)
+  all_on_inboxes [] [] h = tt
+  all_on_inboxes [] (y ∷ ys) h = absurd h
+  all_on_inboxes (x ∷ xs) [] h = tt
+  all_on_inboxes (x ∷ xs) (y ∷ ys) h = (h.0.on_inboxes, all_on_inboxes xs ys h.1)
 
   -- the endpoints at the end, each that of its worker
-  pub all_back : (xs ys : List Worker) → Together inboxes (endpoints_of xs) → AllZip (RunsAllWindows n of width windows inboxes) xs ys
+  pub all_back : (xs ys : List Worker) → Together inboxes (endpoints_of xs) → AllZip (WorkerRunsAllWindows n of width windows inboxes) xs ys
       → map (λ (c : Endpoint). c.worker) (endpoints_of ys) ≡ range_with_len 0 (length inboxes)
   all_back xs ys together ran = same_workers (endpoints_of xs) (endpoints_of ys) (all_stay xs ys ran) ∙ together.workers
 
-module _ (n : NetTold) (of : List ℕ) (width : ℕ) (old new : Workers) (cut : IsCut (length n.motes) (length new.inboxes.items) of) (ran : RunsAllMarked n of width old new) where
+module _ (n : NetTold) (of : List ℕ) (width : ℕ) (old new : Workers) (cut : IsCut (length n.motes) (length new.inboxes.items) of) (ran : GroupRunsMarked n of width old new) where
   abbrev ids : List InboxId
   ids = new.inboxes.items
 
@@ -73,12 +73,12 @@ module _ (n : NetTold) (of : List ℕ) (width : ℕ) (old new : Workers) (cut : 
   stays : AllZip Stays starts back
   stays = all_stay n of width (windows_of width n.end) ids ran.first ran.done ran.ran
 
-  seated : Each (IsSeated ids) back
-  seated = all_seated n of width (windows_of width n.end) ids ran.first ran.done ran.ran
+  on_inboxes : Each (IsOnInboxes ids) back
+  on_inboxes = all_on_inboxes n of width (windows_of width n.end) ids ran.first ran.done ran.ran
 
   -- one worker, its number, and its taker
   module _ (v : ℕ) (low : v < length ids) (w : Worker) (at_first : slice_get ran.first v ≡ Some w) (d : Worker) (at_done : slice_get ran.done v ≡ Some d)
-      (has_run : RunsAllWindows n of width (windows_of width n.end) ids w d) (t : TakerView) (at_taker : slice_get new.takers.items v ≡ Some t) where
+      (has_run : WorkerRunsAllWindows n of width (windows_of width n.end) ids w d) (t : TakerView) (at_taker : slice_get new.takers.items v ≡ Some t) where
     its : w.endpoint.worker ≡ v
     its = numbered (length ids) starts ran.together.workers v low w.endpoint (mapped (λ (x : Worker). x.endpoint) ran.first v w at_first)
 
@@ -92,21 +92,21 @@ module _ (n : NetTold) (of : List ℕ) (width : ℕ) (old new : Workers) (cut : 
     taker_inbox = ap (λ (x : TakerView). x.inbox) (ran.back.taker v d.endpoint t at_back at_taker ∙ gather_is d.endpoint.taker (senders_to back v))
 
     its_inbox : slice_get ids v ≡ Some d.endpoint.taker.inbox
-    its_inbox = subst (λ k. slice_get ids k ≡ Some d.endpoint.taker.inbox) (has_run.stays.worker ∙ its) has_run.seated.taker
+    its_inbox = subst (λ k. slice_get ids k ≡ Some d.endpoint.taker.inbox) (has_run.stays.worker ∙ its) has_run.on_inboxes.taker
 
     pushed_same : (u : ℕ) → pushed_to d.endpoint u ≡ pushed_list (sender_of back u v)
     pushed_same u = ap pushed_list (sym (sender_is back u v d.endpoint at_back))
 
-    promise : RunsMarked n of width (windows_of width n.end) (length ids) v d.share d.endpoint.taker.state (λ u. pushed_list (sender_of back u v))
-    promise = subst (λ k. RunsMarked n of width (windows_of width n.end) (length ids) k d.share d.endpoint.taker.state (λ u. pushed_list (sender_of back u v))) its
-        (subst (λ (p : ℕ → List Carried). RunsMarked n of width (windows_of width n.end) (length ids) w.endpoint.worker d.share d.endpoint.taker.state p) (λ i u. pushed_same u i) has_run.promise)
+    promise : WorkerRunsMarked n of width (windows_of width n.end) (length ids) v d.share d.endpoint.taker.state (λ u. pushed_list (sender_of back u v))
+    promise = subst (λ k. WorkerRunsMarked n of width (windows_of width n.end) (length ids) k d.share d.endpoint.taker.state (λ u. pushed_list (sender_of back u v))) its
+        (subst (λ (p : ℕ → List Carried). WorkerRunsMarked n of width (windows_of width n.end) (length ids) w.endpoint.worker d.share d.endpoint.taker.state p) (λ i u. pushed_same u i) has_run.promise)
 
     pub one_ends : EndsMarked n of width (windows_of width n.end) (length ids) (sender_of back) v d.share t
     one_ends = record {
       before = d.endpoint.taker;
       promise = promise;
       senders = senders_to back v;
-      are_senders = of_others (length ids) v (sender_of back v) d.endpoint.taker.state.made (senders_to back v) (are_senders ids starts back ran.together ran.none_gathered stays seated v d.endpoint at_back);
+      are_senders = of_others (length ids) v (sender_of back v) d.endpoint.taker.state.made (senders_to back v) (are_senders ids starts back ran.together ran.none_gathered stays on_inboxes v d.endpoint at_back);
       begun = every_weaker (λ (s : SenderView). TellsOf d.endpoint.taker.state s.state) (λ (s : SenderView). BeginsWith s.state.pushed (part s.state.number d.endpoint.taker.state.taken)) (λ s h. h.begun) (senders_to back v) (ran.back.told v d.endpoint at_back);
       gathered = taker_is;
     }
@@ -120,14 +120,14 @@ module _ (n : NetTold) (of : List ℕ) (width : ℕ) (old new : Workers) (cut : 
     pub at_first : slice_get ran.first v ≡ Some w
     pub d : Worker
     pub at_done : slice_get ran.done v ≡ Some d
-    pub has_run : RunsAllWindows n of width (windows_of width n.end) ids w d
+    pub has_run : WorkerRunsAllWindows n of width (windows_of width n.end) ids w d
     pub t : TakerView
     pub at_taker : slice_get new.takers.items v ≡ Some t
 
   stands : (v : ℕ) → v < length ids → Stands v
   stands v low =
       let w = there ran.first v (subst (λ l. v < l) (sym first_long) low) in
-      let d = beside (RunsAllWindows n of width (windows_of width n.end) ids) ran.first ran.done ran.ran v w.0 w.1 in
+      let d = beside (WorkerRunsAllWindows n of width (windows_of width n.end) ids) ran.first ran.done ran.ran v w.0 w.1 in
       let t = there new.takers.items v (subst (λ l. v < l) (sym takers_long) low) in
       record { w = w.0; at_first = w.1; d = d.0; at_done = d.1; has_run = d.2; t = t.0; at_taker = t.1 }
 
@@ -159,7 +159,7 @@ module _ (n : NetTold) (of : List ℕ) (width : ℕ) (old new : Workers) (cut : 
 
 -- all workers stand at the end, where no window was longer than the lookahead
 pub ended : (n : NetTold) → RunsForward (system_of n) → (of : List ℕ) (width : ℕ) → 0 < width → width ≤ (system_of n).lookahead
-    → (old new : Workers) → IsCut (length n.motes) (length old.inboxes.items) of → RunsAllMarked n of width old new → IsAt n of (suc n.end) new × Each (λ (t : TakerView). Whole t.state.gathered t.state.taken) new.takers.items
+    → (old new : Workers) → IsCut (length n.motes) (length old.inboxes.items) of → GroupRunsMarked n of width old new → IsAt n of (suc n.end) new × Each (λ (t : TakerView). Whole t.state.gathered t.state.taken) new.takers.items
 ended n fine of width wide short old new cut ran =
     let cut_now : IsCut (length n.motes) (length new.inboxes.items) of = subst (λ (l : List InboxId). IsCut (length n.motes) (length l) of) (sym ran.inboxes) cut in
     ends n fine of width (windows_of width n.end) short (are_windows width n.end wide) new (ends_marked n of width old new cut_now ran)

@@ -15,7 +15,7 @@ use Rattle.copy_inbox.specs.Handles.{TakerView, SenderView, after_gather, AllGat
 use Rattle.copy_inbox.proofs.Parts.{part-not_nil}
 use Rattle.copy_exchange.specs.Endpoints.{AreOpen, pushed_list}
 use Rattle.copy_exchange.specs.Takers.{copies_in, IsOrderly}
-use Rattle.copy_exchange.proofs.Gathers.{OneOf, copies_by, as_gathered, joined, with_joined, all_gathered, stands_then}
+use Rattle.copy_exchange.proofs.Gathers.{OneOf, copies_by, as_gathered, joined, with_joined, all_gathered, orderly_then}
 use Rattle.copy_exchange.proofs.Parts.{from}
 use Rattle.mark_exchange.specs.Pushes.{packets_in, pushes, marks_in}
 use Rattle.mark_exchange.proofs.Early.{packets_pushes}
@@ -110,8 +110,8 @@ none_left (x ∷ xs) h = absurd (part-not_nil x xs (h x.sender))
 abbrev before_all : TakerState → TakerState
 before_all d = record d { taken = []; gathered = [] }
 
-stands_before : (d : TakerState) → IsOrderly (before_all d)
-stands_before d = record {
+orderly_before : (d : TakerState) → IsOrderly (before_all d)
+orderly_before d = record {
   in_order = λ rest is s. ap (λ l. from s (copies_of l)) (none_left rest (λ k. is.1 k refl));
   begun = tt;
   unseen = λ s e. refl;
@@ -139,7 +139,7 @@ module _ (workers worker : ℕ) (sender : ℕ → Option SenderView) (d : TakerS
   }
 
   pub gathered_all : AllGathered then
-  gathered_all = all_gathered ss (before_all d) (stands_before d) tt are_open one
+  gathered_all = all_gathered ss (before_all d) (orderly_before d) tt are_open one
 
   pub whole_then : Whole then.gathered then.taken
   whole_then = joined_each (λ g. part g.number d.taken ≡ g.pushed) d.made ss [] whole tt
@@ -160,10 +160,10 @@ module _ (workers worker : ℕ) (sender : ℕ → Option SenderView) (d : TakerS
 
   -- a taker that gathered them all without taking anything
   gathered_first : IsOrderly (with_joined ss (before_all d))
-  gathered_first = stands_then ss (before_all d) (stands_before d) tt are_open one
+  gathered_first = orderly_then ss (before_all d) (orderly_before d) tt are_open one
 
-  pub stands : IsOrderly then
-  stands = record {
+  pub orderly : IsOrderly then
+  orderly = record {
     in_order = λ rest is s. gathered_first.in_order (d.taken ++ rest) (is.0, λ k e. is.1 k e ∙ no_others k e) s;
     begun = joined_each (λ g. BeginsWith g.pushed (part g.number d.taken)) d.made ss [] begun tt;
     unseen = no_others;
@@ -176,4 +176,4 @@ module _ (workers worker : ℕ) (sender : ℕ → Option SenderView) (d : TakerS
   pub same_of_each : (s : ℕ) → from s (copies_of d.taken) ≡ from s (copies_in then.gathered)
   same_of_each s =
       ap (λ l. from s (copies_of l)) (sym (append-nil d.taken))
-      ∙ stands.in_order [] (subst (λ l. Whole then.gathered l) (sym (append-nil d.taken)) whole_then, λ k e. ap (part k) (append-nil d.taken)) s
+      ∙ orderly.in_order [] (subst (λ l. Whole then.gathered l) (sym (append-nil d.taken)) whole_then, λ k e. ap (part k) (append-nil d.taken)) s

@@ -9,7 +9,7 @@ use Rattle.window_laws.specs.System.{RunsForward}
 use Rattle.window_laws.specs.Windows.{Alone, first_mote, Windows, is_at, Last}
 use Rattle.net_agenda.specs.NetSystem.{system_of}
 use Rattle.worker_cut.specs.Crossed.{is_own, is_to, copies_known, leaves}
-use Rattle.worker_cut.specs.Laws.{HasGathered}
+use Rattle.worker_cut.specs.Laws.{GatheredCopies}
 use Rattle.copy_inbox.specs.Items.{copies_of}
 use Rattle.copy_exchange.proofs.Parts.{from, from-append}
 use Rattle.mark_exchange.specs.Pushes.{sent_before}
@@ -43,7 +43,7 @@ module _ (n : NetTold) (fine : RunsForward (system_of n)) (of : List ℕ) (width
 
   pub record Reached (k : ℕ) : Type 0 where
     pub led : Windows (system_of n) 0 (bound width n.end k) (first_mote (system_of n)) (stage k)
-    pub told : (v : ℕ) → v < workers → HasGathered (system_of n) of (stage k) v (so_far v k)
+    pub told : (v : ℕ) → v < workers → GatheredCopies (system_of n) of (stage k) v (so_far v k)
 
   first_reached : Reached 0
   first_reached = record {

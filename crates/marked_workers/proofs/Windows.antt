@@ -14,14 +14,14 @@ use Rattle.copy_inbox.specs.declared.rule.TakerState.{TakerState}
 use Rattle.copy_inbox.specs.Items.{copies_of, part, OfMade}
 use Rattle.copy_inbox.specs.Handles.{InboxId, TakerView, after_taking}
 use Rattle.copy_inbox.proofs.Parts.{part-append, part-else}
-use Rattle.copy_exchange.specs.Endpoints.{IsSeated, Reaches, Stays, pushed_list, pushed_to}
+use Rattle.copy_exchange.specs.Endpoints.{IsOnInboxes, Reaches, Stays, pushed_list, pushed_to}
 use Rattle.copy_exchange.proofs.Delivered.{stays_on}
 use Rattle.copy_exchange.proofs.Marked.{marks_stay, stays_same}
 use Rattle.copy_exchange.specs.declared.endpoint.Endpoint.{Endpoint}
 use Rattle.mark_exchange.specs.declared.endpoint.MarkEndpoint.{MarkEndpoint}
 use Rattle.mark_exchange.specs.Marks.{Counts}
 use Rattle.mark_exchange.specs.Pushes.{marks_in}
-use Rattle.mark_exchange.proofs.Delivered.{takes_stays, takes_seated}
+use Rattle.mark_exchange.proofs.Delivered.{takes_stays, takes_on_inboxes}
 use Rattle.worker_window.specs.Share.{Keeps}
 use Rattle.worker_window.specs.Window.{CanRun, GoesOut, RunsWindow}
 use Rattle.all_workers.specs.Workers.{IsCut}
@@ -29,8 +29,8 @@ use Rattle.all_workers.proofs.Sent.{leaves_sent}
 use Rattle.all_workers.specs.declared.worker.Worker.{Worker}
 use Rattle.marked_workers.specs.declared.worker.MarkWorker.{MarkWorker}
 use Rattle.marked_workers.specs.Bounds.{bound, windows_of, AreWindows}
-use Rattle.marked_workers.specs.WorkerHistory.{RunsMarked}
-use Rattle.marked_workers.specs.Thread.{IsFirst, IsStarted, IsSame, SendsWindow, TakesWindow, HasRun, RunsAllWindows}
+use Rattle.marked_workers.specs.WorkerHistory.{WorkerRunsMarked}
+use Rattle.marked_workers.specs.Thread.{IsFirst, IsStarted, IsSame, SendsWindow, TakesWindow, HasRun, WorkerRunsAllWindows}
 use Rattle.marked_workers.proofs.Bounds.{are_windows, begins_before, no_wider}
 use Rattle.marked_workers.proofs.Promise.{promise_first, promise_next}
 
@@ -49,13 +49,13 @@ of_made_more : (made : ℕ) (xs ys : List Item) → OfMade made xs → Each (λ 
 of_made_more made xs ys h more s le = part-append s xs ys ∙ (ap (λ l. l ++ part s ys) (h s le) ∙ none_of_others made ys more s le)
 
 -- a worker before its first window, with its counts of marks
-pub started : (n : NetTold) (of : List ℕ) (inboxes : List InboxId) (w : Worker) (m : MarkEndpoint) → IsFirst n of inboxes w → m.endpoint ≡ w.endpoint
-    → Counts m.marks.items w.endpoint.taker.state → IsStarted n of inboxes (record { share = w.share; exchange = m })
+pub started : (n : NetTold) (of : List ℕ) (inboxes : List InboxId) (w : Worker) (m : MarkEndpoint) → IsFirst n of inboxes w → m.base ≡ w.endpoint
+    → Counts m.marks.items w.endpoint.taker.state → IsStarted n of inboxes (record { share = w.share; endpoint = m })
 started n of inboxes w m first same counts =
-    subst (λ (x : Endpoint). IsStarted n of inboxes (record { share = w.share; exchange = record m { endpoint = x } })) (sym same) (record {
+    subst (λ (x : Endpoint). IsStarted n of inboxes (record { share = w.share; endpoint = record m { base = x } })) (sym same) (record {
       cut = first.cut;
       keeps = first.keeps;
-      seated = first.seated;
+      on_inboxes = first.on_inboxes;
       marked = first.marked;
       counts = counts;
       none_taken = first.none_taken;
@@ -65,23 +65,23 @@ started n of inboxes w m first same counts =
 
 -- and behind all its windows, without them
 pub told_of : (n : NetTold) (of : List ℕ) (width windows : ℕ) (inboxes : List InboxId) (w d : Worker) (m e : MarkWorker) → IsSame w m → IsSame d e
-    → HasRun n of width windows inboxes m e → RunsAllWindows n of width windows inboxes w d
+    → HasRun n of width windows inboxes m e → WorkerRunsAllWindows n of width windows inboxes w d
 told_of n of width windows inboxes w d m e before after ran = record {
-  stays = subst (λ x. Stays x d.endpoint) before.endpoint (subst (Stays m.exchange.endpoint) after.endpoint ran.stays);
-  promise = subst (λ (x : Endpoint). RunsMarked n of width windows (length inboxes) x.worker d.share d.endpoint.taker.state (pushed_to d.endpoint)) before.endpoint
-      (subst (λ (x : Endpoint). RunsMarked n of width windows (length inboxes) m.exchange.endpoint.worker d.share x.taker.state (pushed_to x)) after.endpoint
-      (subst (λ s. RunsMarked n of width windows (length inboxes) m.exchange.endpoint.worker s e.exchange.endpoint.taker.state (pushed_to e.exchange.endpoint)) after.share ran.promise));
-  seated = subst (IsSeated inboxes) after.endpoint ran.seated;
+  stays = subst (λ x. Stays x d.endpoint) before.endpoint (subst (Stays m.endpoint.base) after.endpoint ran.stays);
+  promise = subst (λ (x : Endpoint). WorkerRunsMarked n of width windows (length inboxes) x.worker d.share d.endpoint.taker.state (pushed_to d.endpoint)) before.endpoint
+      (subst (λ (x : Endpoint). WorkerRunsMarked n of width windows (length inboxes) m.endpoint.base.worker d.share x.taker.state (pushed_to x)) after.endpoint
+      (subst (λ s. WorkerRunsMarked n of width windows (length inboxes) m.endpoint.base.worker s e.endpoint.base.taker.state (pushed_to e.endpoint.base)) after.share ran.promise));
+  on_inboxes = subst (IsOnInboxes inboxes) after.endpoint ran.on_inboxes;
 }
 
 -- before its first window
 pub no_window : (n : NetTold) (of : List ℕ) (width : ℕ) (inboxes : List InboxId) (w : MarkWorker) → IsStarted n of inboxes w → HasRun n of width 0 inboxes w w
 no_window n of width inboxes w m = record {
-  stays = stays_same w.exchange.endpoint;
-  promise = subst (λ (p : ℕ → List Carried). RunsMarked n of width 0 (length inboxes) w.exchange.endpoint.worker w.share w.exchange.endpoint.taker.state p)
+  stays = stays_same w.endpoint.base;
+  promise = subst (λ (p : ℕ → List Carried). WorkerRunsMarked n of width 0 (length inboxes) w.endpoint.base.worker w.share w.endpoint.base.taker.state p)
       (λ i v. sym (m.none_pushed v) i)
-      (promise_first n of width (length inboxes) w.exchange.endpoint.worker w.share w.exchange.endpoint.taker.state m.none_taken m.none_gathered m.keeps);
-  seated = m.seated;
+      (promise_first n of width (length inboxes) w.endpoint.base.worker w.share w.endpoint.base.taker.state m.none_taken m.none_gathered m.keeps);
+  on_inboxes = m.on_inboxes;
   marked = m.marked;
   counts = m.counts;
 }
@@ -98,22 +98,22 @@ module _ (n : NetTold) (of : List ℕ) (width k until : ℕ) (inboxes : List Inb
   -- can run through the next
   pub can_run : CanRun n of until old.share []
   can_run = record {
-    worker = first.exchange.endpoint.worker;
+    worker = first.endpoint.base.worker;
     from = bound width n.end k;
     motes = stands.promise.history.motes k;
-    taken = copies_of old.exchange.endpoint.taker.state.taken;
+    taken = copies_of old.endpoint.base.taker.state.taken;
     keeps = stands.promise.keeps;
     order = up;
     come = tt;
   }
 
   -- and once it did, it is behind one more
-  module _ (short : width ≤ (system_of n).lookahead) (between new : MarkWorker) (sends : SendsWindow n of (length inboxes) k until old between) (seated : IsSeated inboxes between.exchange.endpoint) (takes : TakesWindow of k until between new) where
+  module _ (short : width ≤ (system_of n).lookahead) (between new : MarkWorker) (sends : SendsWindow n of (length inboxes) k until old between) (on_inboxes : IsOnInboxes inboxes between.endpoint.base) (takes : TakesWindow of k until between new) where
     abbrev worker : ℕ
-    worker = first.exchange.endpoint.worker
+    worker = first.endpoint.base.worker
 
     abbrev state : TakerState
-    state = old.exchange.endpoint.taker.state
+    state = old.endpoint.base.taker.state
 
     abbrev more : List Item
     more = takes.took.items
@@ -128,10 +128,10 @@ module _ (n : NetTold) (of : List ℕ) (width k until : ℕ) (inboxes : List Inb
     goes : Each (GoesOut n of worker) sends.sent
     goes = subst (λ w. Each (GoesOut n of w) sends.sent) stands.promise.keeps.is_worker sends.out
 
-    taker_is : new.exchange.endpoint.taker ≡ after_taking old.exchange.endpoint.taker more
+    taker_is : new.endpoint.base.taker ≡ after_taking old.endpoint.base.taker more
     taker_is = takes.took.taker ∙ ap (λ t. after_taking t more) sends.pushes.taker
 
-    between_made : between.exchange.endpoint.taker.state.made ≡ state.made
+    between_made : between.endpoint.base.taker.state.made ≡ state.made
     between_made = ap (λ (t : TakerView). t.state.made) sends.pushes.taker
 
     of_made : OfMade state.made (state.taken ++ more)
@@ -139,14 +139,14 @@ module _ (n : NetTold) (of : List ℕ) (width k until : ℕ) (inboxes : List Inb
 
     lead : (s : ℕ) → s < state.made → suc k ≤ marks_in (part s (state.taken ++ more))
     lead s there =
-        let made : new.exchange.endpoint.taker.state.made ≡ state.made = ap (λ (t : TakerView). t.state.made) taker_is in
-        let taken : new.exchange.endpoint.taker.state.taken ≡ state.taken ++ more = ap (λ (t : TakerView). t.state.taken) taker_is in
+        let made : new.endpoint.base.taker.state.made ≡ state.made = ap (λ (t : TakerView). t.state.made) taker_is in
+        let taken : new.endpoint.base.taker.state.taken ≡ state.taken ++ more = ap (λ (t : TakerView). t.state.taken) taker_is in
         let all = takes.counts.all in
         let counted = takes.counts.each s 0 (omega arith) ∙ ap (λ l. marks_in (part s l)) taken in
         let past = takes.past s 0 (omega arith) in
         omega arith
 
-    pushes_more : (v : ℕ) → v < length inboxes → v ≢ worker → pushed_to new.exchange.endpoint v ≡ pushed_to old.exchange.endpoint v ++ (map Packet (filter (is_to of v) sends.sent) ++ Mark k ∷ [])
+    pushes_more : (v : ℕ) → v < length inboxes → v ≢ worker → pushed_to new.endpoint.base v ≡ pushed_to old.endpoint.base v ++ (map Packet (filter (is_to of v) sends.sent) ++ Mark k ∷ [])
     pushes_more v there other =
         ap (λ s. pushed_list (get_or s.items v None)) takes.senders
         ∙ sends.pushes.pushes v there (ap (λ w. v == w) stands.stays.worker ∙ ne_eqb v worker other)
@@ -158,16 +158,16 @@ module _ (n : NetTold) (of : List ℕ) (width k until : ℕ) (inboxes : List Inb
     keeps = subst (λ l. Keeps n of worker until ran.next (copies_of state.taken ++ l) new.share) takes.took.arrived
         (takes.keeps n of worker until ran.next (copies_of state.taken) ran.keeps arrived_come)
 
-    stays : Stays old.exchange.endpoint new.exchange.endpoint
-    stays = stays_on old.exchange.endpoint between.exchange.endpoint new.exchange.endpoint sends.pushes.stays
-        (takes_stays of until between.exchange.endpoint new.exchange.endpoint takes.arrived takes.took takes.worker takes.senders)
+    stays : Stays old.endpoint.base new.endpoint.base
+    stays = stays_on old.endpoint.base between.endpoint.base new.endpoint.base sends.pushes.stays
+        (takes_stays of until between.endpoint.base new.endpoint.base takes.arrived takes.took takes.worker takes.senders)
 
     pub one_more : HasRun n of width (suc k) inboxes first new
     one_more = record {
-      stays = stays_on first.exchange.endpoint old.exchange.endpoint new.exchange.endpoint stands.stays stays;
-      promise = subst (λ (t : TakerView). RunsMarked n of width (suc k) (length inboxes) worker new.share t.state (pushed_to new.exchange.endpoint)) (sym taker_is) promise;
-      seated = takes_seated inboxes of until between.exchange.endpoint new.exchange.endpoint takes.arrived takes.took takes.worker takes.senders seated;
-      marked = marks_stay old.exchange.endpoint new.exchange.endpoint stays stands.marked;
+      stays = stays_on first.endpoint.base old.endpoint.base new.endpoint.base stands.stays stays;
+      promise = subst (λ (t : TakerView). WorkerRunsMarked n of width (suc k) (length inboxes) worker new.share t.state (pushed_to new.endpoint.base)) (sym taker_is) promise;
+      on_inboxes = takes_on_inboxes inboxes of until between.endpoint.base new.endpoint.base takes.arrived takes.took takes.worker takes.senders on_inboxes;
+      marked = marks_stay old.endpoint.base new.endpoint.base stays stands.marked;
       counts = takes.counts;
     }
       where
@@ -178,5 +178,5 @@ module _ (n : NetTold) (of : List ℕ) (width k until : ℕ) (inboxes : List Inb
         ran_to : Ran (bound width n.end (suc k))
         ran_to = subst Ran at (ran, keeps)
 
-        promise : RunsMarked n of width (suc k) (length inboxes) worker new.share (after_taking old.exchange.endpoint.taker more).state (pushed_to new.exchange.endpoint)
-        promise = promise_next n of width (length inboxes) worker k old.share between.share new.share state (pushed_to old.exchange.endpoint) (pushed_to new.exchange.endpoint) more sends.sent stands.promise ran_to.0 goes lead of_made pushes_more ran_to.1
+        promise : WorkerRunsMarked n of width (suc k) (length inboxes) worker new.share (after_taking old.endpoint.base.taker more).state (pushed_to new.endpoint.base)
+        promise = promise_next n of width (length inboxes) worker k old.share between.share new.share state (pushed_to old.endpoint.base) (pushed_to new.endpoint.base) more sends.sent stands.promise ran_to.0 goes lead of_made pushes_more ran_to.1

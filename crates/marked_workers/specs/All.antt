@@ -8,7 +8,7 @@ use Rattle.copy_inbox.specs.Handles.{SenderView, TakerView}
 use Rattle.copy_exchange.specs.Endpoints.{pushed_list}
 use Rattle.copy_exchange.specs.Steps.{gather_senders}
 use Rattle.marked_workers.specs.Senders.{AreSenders}
-use Rattle.marked_workers.specs.WorkerHistory.{WorkerHistory, RunsWindows}
+use Rattle.marked_workers.specs.WorkerHistory.{WorkerHistory, WorkerRunsWindows}
 
 -- Each worker ran its windows as its history says, and has taken of each sender on its inbox a beginning of what was
 -- pushed.
@@ -20,21 +20,21 @@ pub record AllRan (n : NetTold) (of : List ℕ) (width windows workers : ℕ) : 
   pub senders : (inbox : ℕ) → List SenderView
   pub history : ℕ → WorkerHistory
   pub ran : (v : ℕ) → v < workers
-      → RunsWindows n of width windows workers v (made v) (taken v) (λ u. pushed_list (sender u v)) (history v)
+      → WorkerRunsWindows n of width windows workers v (made v) (taken v) (λ u. pushed_list (sender u v)) (history v)
   pub are_senders : (u : ℕ) → u < workers → AreSenders workers u (sender u) (made u) (senders u)
   pub begun : (u : ℕ) → u < workers
       → Each (λ (s : SenderView). BeginsWith s.state.pushed (part s.state.number (taken u))) (senders u)
 
--- a taker that had taken these items, of so many senders, and then gathered these
-pub record HasGathered (made : ℕ) (taken : List Item) (senders : List SenderView) (taker : TakerView) : Type 0 where
+-- a taker that had taken these items, of so many senders, and then gathered these senders
+pub record GatheredSenders (made : ℕ) (taken : List Item) (senders : List SenderView) (taker : TakerView) : Type 0 where
   pub before : TakerView
   pub is_made : before.state.made ≡ made
   pub is_taken : before.state.taken ≡ taken
   pub nobody : before.state.gathered ≡ []
   pub gathered : taker ≡ gather_senders before senders
 
--- Just that was taken by these takers, and just those senders are gathered.
+-- These takers took and gathered what `all` says, and no more.
 abbrev pub IsOfTakers : {n : NetTold} {of : List ℕ} {width windows workers : ℕ}
     → AllRan n of width windows workers → List TakerView → Type 0
 IsOfTakers {n} {of} {width} {windows} {workers} all takers = (v : ℕ) → v < workers → (taker : TakerView)
-    → slice_get takers v ≡ Some taker → HasGathered (all.made v) (all.taken v) (all.senders v) taker
+    → slice_get takers v ≡ Some taker → GatheredSenders (all.made v) (all.taken v) (all.senders v) taker

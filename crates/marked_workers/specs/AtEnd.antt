@@ -15,7 +15,7 @@ use Rattle.marked_workers.specs.Bounds.{AreWindows}
 use Rattle.copy_exchange.specs.Endpoints.{pushed_list}
 use Rattle.copy_exchange.specs.Steps.{gather_senders}
 use Rattle.marked_workers.specs.Senders.{AreSenders}
-use Rattle.marked_workers.specs.WorkerHistory.{RunsMarked}
+use Rattle.marked_workers.specs.WorkerHistory.{WorkerRunsMarked}
 
 -- One worker when all threads are joined: it ran all windows as it promised, and then gathered the senders on its
 -- inbox, of each of which it had taken a beginning of what was pushed. `sender inbox worker` is the sender of a
@@ -23,7 +23,8 @@ use Rattle.marked_workers.specs.WorkerHistory.{RunsMarked}
 pub record EndsMarked (n : NetTold) (of : List ℕ) (width windows workers : ℕ)
     (sender : (inbox worker : ℕ) → Option SenderView) (worker : ℕ) (share : Share) (taker : TakerView) : Type 0 where
   pub before : TakerView
-  pub promise : RunsMarked n of width windows workers worker share before.state (λ v. pushed_list (sender v worker))
+  pub promise : WorkerRunsMarked n of width windows workers worker share before.state
+      (λ v. pushed_list (sender v worker))
   pub senders : List SenderView
   pub are_senders : AreSenders workers worker (sender worker) before.state.made senders
   pub begun : Each (λ (s : SenderView). BeginsWith s.state.pushed (part s.state.number before.state.taken)) senders

@@ -5,7 +5,7 @@ use Rattle.mark_exchange.specs.declared.take.MarkError.{MarkError}
 use Rattle.mark_exchange.specs.declared.take.MarkError.TheVariants.{Memory, Stopped, Undue}
 
 -- where it took no further
-abbrev pub refused_of : MarkError → Refused
-refused_of Memory = why.Memory
-refused_of Stopped = why.Stopped
-refused_of Undue = why.Stopped
+abbrev pub refused_of_marks : MarkError → Refused
+refused_of_marks Memory = why.Memory
+refused_of_marks Stopped = why.Stopped
+refused_of_marks Undue = why.Stopped

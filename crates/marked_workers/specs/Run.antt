@@ -8,19 +8,19 @@ use Rattle.copy_exchange.specs.Steps.{GathersBack}
 use Rattle.all_workers.specs.declared.worker.Worker.{Worker}
 use Rattle.all_workers.specs.declared.workers.Workers.{Workers}
 use Rattle.marked_workers.specs.Bounds.{windows_of}
-use Rattle.marked_workers.specs.Thread.{RunsAllWindows}
+use Rattle.marked_workers.specs.Thread.{WorkerRunsAllWindows}
 
 abbrev pub endpoints_of : List Worker → List Endpoint
 endpoints_of workers = map (λ worker. worker.endpoint) workers
 
--- the senders of all workers were created together, each worker ran all windows in its thread, and the senders were
--- then gathered
-pub record RunsAllMarked (n : NetTold) (of : List ℕ) (width : ℕ) (old new : Workers) : Type 0 where
+-- the senders of all workers were made together, each worker ran all windows in its thread, and the senders were then
+-- gathered
+pub record GroupRunsMarked (n : NetTold) (of : List ℕ) (width : ℕ) (old new : Workers) : Type 0 where
   pub first : List Worker
   pub done : List Worker
   pub together : Together new.inboxes.items (endpoints_of first)
   pub none_gathered : Each (λ (e : Endpoint). e.taker.state.gathered ≡ []) (endpoints_of first)
-  pub ran : AllZip (RunsAllWindows n of width (windows_of width n.end) new.inboxes.items) first done
+  pub ran : AllZip (WorkerRunsAllWindows n of width (windows_of width n.end) new.inboxes.items) first done
   pub shares : new.shares.items ≡ map (λ (worker : Worker). worker.share) done
   pub back : GathersBack (endpoints_of done) new.takers.items
   pub inboxes : new.inboxes.items ≡ old.inboxes.items

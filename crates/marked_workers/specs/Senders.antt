@@ -1,4 +1,4 @@
--- The senders on one worker's inbox, for all windows of the run, and their gathering at the end.
+-- The senders on one worker's inbox, for all windows of the run.
 use Rattle.std.specs.Prelude.{ℕ, ◌≡◌, ◌≢◌, suc, ◌<◌, List, length, map, slice_get, Option, Some}
 use Rattle.std.specs.List.{range_with_len}
 use Rattle.copy_inbox.specs.Handles.{SenderView}

@@ -6,7 +6,7 @@ use Rattle.mote_net.specs.Net.{NetTold}
 use Rattle.window_laws.specs.Windows.{first_mote}
 use Rattle.net_agenda.specs.NetSystem.{system_of}
 use Rattle.copy_inbox.specs.Handles.{InboxId}
-use Rattle.copy_exchange.specs.Endpoints.{HasMarks, HasPushedNothing, IsSeated, Stays, pushed_to}
+use Rattle.copy_exchange.specs.Endpoints.{HasMarks, HasPushedNothing, IsOnInboxes, Stays, pushed_to}
 use Rattle.mark_exchange.specs.Delivers.{PushesWindow}
 use Rattle.mark_exchange.specs.Due.{TakesDue}
 use Rattle.mark_exchange.specs.Marks.{AllPast, Counts}
@@ -16,14 +16,14 @@ use Rattle.worker_cut.specs.Crossed.{IsDue}
 use Rattle.all_workers.specs.Workers.{IsCut}
 use Rattle.all_workers.specs.declared.worker.Worker.{Worker}
 use Rattle.marked_workers.specs.declared.worker.MarkWorker.{MarkWorker}
-use Rattle.marked_workers.specs.WorkerHistory.{RunsMarked}
+use Rattle.marked_workers.specs.WorkerHistory.{WorkerRunsMarked}
 
 -- A worker before its first window: its share is as it began, on its inbox a sender of each other worker was made, and
 -- nothing was pushed or taken.
 pub record IsFirst (n : NetTold) (of : List ℕ) (inboxes : List InboxId) (w : Worker) : Type 0 where
   pub cut : IsCut (length n.motes) (length inboxes) of
   pub keeps : Keeps n of w.endpoint.worker 0 (first_mote (system_of n)) [] w.share
-  pub seated : IsSeated inboxes w.endpoint
+  pub on_inboxes : IsOnInboxes inboxes w.endpoint
   pub marked : HasMarks w.endpoint
   pub made : suc w.endpoint.taker.state.made ≡ length inboxes
   pub none_taken : w.endpoint.taker.state.taken ≡ []
@@ -33,18 +33,18 @@ pub record IsFirst (n : NetTold) (of : List ℕ) (inboxes : List InboxId) (w : W
 -- the same worker, with counts of marks
 pub record IsSame (w : Worker) (m : MarkWorker) : Type 0 where
   pub share : m.share ≡ w.share
-  pub endpoint : m.exchange.endpoint ≡ w.endpoint
+  pub endpoint : m.endpoint.base ≡ w.endpoint
 
 -- a worker in its thread before its first window
 pub record IsStarted (n : NetTold) (of : List ℕ) (inboxes : List InboxId) (w : MarkWorker) : Type 0 where
   pub cut : IsCut (length n.motes) (length inboxes) of
-  pub keeps : Keeps n of w.exchange.endpoint.worker 0 (first_mote (system_of n)) [] w.share
-  pub seated : IsSeated inboxes w.exchange.endpoint
-  pub marked : HasMarks w.exchange.endpoint
-  pub counts : Counts w.exchange.marks.items w.exchange.endpoint.taker.state
-  pub none_taken : w.exchange.endpoint.taker.state.taken ≡ []
-  pub none_gathered : w.exchange.endpoint.taker.state.gathered ≡ []
-  pub none_pushed : HasPushedNothing w.exchange.endpoint
+  pub keeps : Keeps n of w.endpoint.base.worker 0 (first_mote (system_of n)) [] w.share
+  pub on_inboxes : IsOnInboxes inboxes w.endpoint.base
+  pub marked : HasMarks w.endpoint.base
+  pub counts : Counts w.endpoint.marks.items w.endpoint.base.taker.state
+  pub none_taken : w.endpoint.base.taker.state.taken ≡ []
+  pub none_gathered : w.endpoint.base.taker.state.gathered ≡ []
+  pub none_pushed : HasPushedNothing w.endpoint.base
 
 -- its motes ran through a window, and what they sent to others went out, with the window's mark after it
 pub record SendsWindow (n : NetTold) (of : List ℕ) (workers window until : ℕ) (old new : MarkWorker) : Type 0 where
@@ -53,18 +53,18 @@ pub record SendsWindow (n : NetTold) (of : List ℕ) (workers window until : ℕ
       → from ≤ until → until ≤ from + (system_of n).lookahead
       → RunsWindow n of worker from until motes taken new.share sent
   pub out : Each (GoesOut n of old.share.worker) sent
-  pub pushes : PushesWindow of workers window old.exchange.endpoint new.exchange.endpoint sent
-  pub marks : new.exchange.marks ≡ old.exchange.marks
+  pub pushes : PushesWindow of workers window old.endpoint.base new.endpoint.base sent
+  pub marks : new.endpoint.marks ≡ old.endpoint.marks
 
 -- it took items until the window's mark of each other worker had come, and what they carry is in its share
 pub record TakesWindow (of : List ℕ) (window until : ℕ) (old new : MarkWorker) : Type 0 where
   pub arrived : List RadioCopy
-  pub took : TakesDue of old.exchange.endpoint.worker until old.exchange.endpoint.taker new.exchange.endpoint.taker
+  pub took : TakesDue of old.endpoint.base.worker until old.endpoint.base.taker new.endpoint.base.taker
       arrived
-  pub counts : Counts new.exchange.marks.items new.exchange.endpoint.taker.state
-  pub past : AllPast window new.exchange.marks.items
-  pub worker : new.exchange.endpoint.worker ≡ old.exchange.endpoint.worker
-  pub senders : new.exchange.endpoint.senders ≡ old.exchange.endpoint.senders
+  pub counts : Counts new.endpoint.marks.items new.endpoint.base.taker.state
+  pub past : AllPast window new.endpoint.marks.items
+  pub worker : new.endpoint.base.worker ≡ old.endpoint.base.worker
+  pub senders : new.endpoint.base.senders ≡ old.endpoint.base.senders
   pub keeps : (n : NetTold) (whose : List ℕ) (worker from : ℕ) (motes : Motes) (taken : List RadioCopy)
       → Keeps n whose worker from motes taken old.share
       → Each (IsDue whose worker from) arrived → Keeps n whose worker from motes (taken ++ arrived) new.share
@@ -72,17 +72,17 @@ pub record TakesWindow (of : List ℕ) (window until : ℕ) (old new : MarkWorke
 -- a worker after so many windows, since its first
 pub record HasRun (n : NetTold) (of : List ℕ) (width windows : ℕ) (inboxes : List InboxId)
     (first now : MarkWorker) : Type 0 where
-  pub stays : Stays first.exchange.endpoint now.exchange.endpoint
-  pub promise : RunsMarked n of width windows (length inboxes) first.exchange.endpoint.worker now.share
-      now.exchange.endpoint.taker.state (pushed_to now.exchange.endpoint)
-  pub seated : IsSeated inboxes now.exchange.endpoint
-  pub marked : HasMarks now.exchange.endpoint
-  pub counts : Counts now.exchange.marks.items now.exchange.endpoint.taker.state
+  pub stays : Stays first.endpoint.base now.endpoint.base
+  pub promise : WorkerRunsMarked n of width windows (length inboxes) first.endpoint.base.worker now.share
+      now.endpoint.base.taker.state (pushed_to now.endpoint.base)
+  pub on_inboxes : IsOnInboxes inboxes now.endpoint.base
+  pub marked : HasMarks now.endpoint.base
+  pub counts : Counts now.endpoint.marks.items now.endpoint.base.taker.state
 
 -- all that a worker's thread does: it ran so many windows
-pub record RunsAllWindows (n : NetTold) (of : List ℕ) (width windows : ℕ) (inboxes : List InboxId)
+pub record WorkerRunsAllWindows (n : NetTold) (of : List ℕ) (width windows : ℕ) (inboxes : List InboxId)
     (first now : Worker) : Type 0 where
   pub stays : Stays first.endpoint now.endpoint
-  pub promise : RunsMarked n of width windows (length inboxes) first.endpoint.worker now.share
+  pub promise : WorkerRunsMarked n of width windows (length inboxes) first.endpoint.worker now.share
       now.endpoint.taker.state (pushed_to now.endpoint)
-  pub seated : IsSeated inboxes now.endpoint
+  pub on_inboxes : IsOnInboxes inboxes now.endpoint

@@ -35,7 +35,7 @@ pub record RunsMotes (n : NetTold) (of : List ℕ) (worker from until : ℕ) (mo
 -- So many windows of one worker, from the first moment on. Before each window it had taken, of each sender that was
 -- made on its inbox, the marks of all windows before. What it pushed to another worker is, window by window, the
 -- copies for that worker's motes and then the mark.
-pub record RunsWindows (n : NetTold) (of : List ℕ) (width windows workers worker made : ℕ) (taken : List Item)
+pub record WorkerRunsWindows (n : NetTold) (of : List ℕ) (width windows workers worker made : ℕ) (taken : List Item)
     (pushed : ℕ → List Carried) (history : WorkerHistory) : Type 0 where
   pub first : history.motes 0 ≡ first_mote (system_of n)
   pub nothing : history.taken 0 ≡ []
@@ -50,9 +50,9 @@ pub record RunsWindows (n : NetTold) (of : List ℕ) (width windows workers work
 
 -- The promise: there were such windows, and the share keeps the motes at their end. The taker has taken all this, and
 -- gathered nobody.
-pub record RunsMarked (n : NetTold) (of : List ℕ) (width windows workers worker : ℕ) (share : Share)
+pub record WorkerRunsMarked (n : NetTold) (of : List ℕ) (width windows workers worker : ℕ) (share : Share)
     (state : TakerState) (pushed : ℕ → List Carried) : Type 0 where
   pub history : WorkerHistory
-  pub ran : RunsWindows n of width windows workers worker state.made state.taken pushed history
+  pub ran : WorkerRunsWindows n of width windows workers worker state.made state.taken pushed history
   pub keeps : Keeps n of worker (bound width n.end windows) (history.motes windows) (copies_of state.taken) share
   pub nobody : state.gathered ≡ []

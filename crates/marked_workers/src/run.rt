@@ -6,21 +6,21 @@ ghost use Rattle.fork_join.specs.declared.work.Refused.TheVariants.{Memory};
 ghost use Rattle.mote_net.specs.Net.{net_of};
 ghost use Rattle.net_agenda.specs.NetSystem.{system_of};
 ghost use Rattle.copy_inbox.specs.Gathered.{Whole};
-ghost use Rattle.copy_exchange.specs.Endpoints.{IsSeated};
+ghost use Rattle.copy_exchange.specs.Endpoints.{IsOnInboxes};
 ghost use Rattle.copy_exchange.specs.Inboxes.{IsFresh};
 ghost use Rattle.copy_exchange.specs.Steps.{GathersBack};
 ghost use Rattle.all_workers.specs.Workers.{IsAt};
-ghost use Rattle.all_workers.specs.WindowLength.{length_of_window};
+ghost use Rattle.all_workers.specs.WindowWidth.{width_of_window};
 ghost use Rattle.all_workers.specs.Start.{AreFirst};
 ghost use Rattle.all_workers.specs.Workers.{IsCut};
 ghost use Rattle.marked_workers.specs.Bounds.{windows_of};
-ghost use Rattle.marked_workers.specs.Run.{RunsAllMarked};
-ghost use Rattle.marked_workers.specs.Thread.{IsFirst, RunsAllWindows};
+ghost use Rattle.marked_workers.specs.Run.{GroupRunsMarked};
+ghost use Rattle.marked_workers.specs.Thread.{IsFirst, WorkerRunsAllWindows};
 
 use crate::thread::MarkRunner;
 use crate::worker::WorkersRun;
 use all_workers::{
-    Worker, Workers, lookahead_of, make_endpoints, split_workers, window_length, workers_of,
+    Worker, Workers, lookahead_of, make_endpoints, split_workers, window_width, workers_of,
 };
 use copy_exchange::{Endpoint, gather_back};
 use copy_inbox::{Inbox, Taker};
@@ -41,7 +41,7 @@ fn gather_endpoints<R: Wait>(
     endpoints: Vec<Endpoint>,
 ) -> Result<Vec<Taker>, Refused>
     requires workers { map (λ endpoint. endpoint.worker) endpoints.items ≡ range_with_len 0 (length inboxes.now) }
-    requires seated { Each (IsSeated inboxes.now) endpoints.items }
+    requires on_inboxes { Each (IsOnInboxes inboxes.now) endpoints.items }
     ensures back { IfOk result (λ takers. GathersBack endpoints.items takers.items) }
     ensures refused { IfErr result (λ reason. reason ≡ Memory) }
 {
@@ -65,13 +65,13 @@ where
     requires wide { 0 < run.width }
     requires short { run.width ≤ (system_of (net_of run.net.now)).lookahead }
     requires first { Each (IsFirst (net_of run.net.now) run.of.now run.inboxes.now) workers.items }
-    ensures { let n = net_of run.entry.net.now in IfOk result (λ done. AllZip (RunsAllWindows n run.entry.of.now
+    ensures { let n = net_of run.entry.net.now in IfOk result (λ done. AllZip (WorkerRunsAllWindows n run.entry.of.now
         run.entry.width (windows_of run.entry.width n.end) run.entry.inboxes.now) workers.items done.items) }
 {
     fork_join(rt, alloc, workers, &MarkRunner { rt, gate, run })
 }
 
-/// Senders are created, each worker runs all its windows in its thread, and the senders are collected.
+/// Senders are made, each worker runs all its windows in its thread, and the senders are gathered.
 fn run_threads<R, G>(
     rt: &R,
     alloc: Global,
@@ -91,7 +91,7 @@ where
     requires fresh { AllZip IsFresh group.inboxes.items group.takers.items }
     requires marked { Each (λ taker. taker.state.marked ≡ true) group.takers.items }
     requires first { AreFirst (net_of net.now) of.now (length group.inboxes.items) group.shares.items }
-    ensures { IfOk result (RunsAllMarked (net_of net.now) of.now width group) }
+    ensures { IfOk result (GroupRunsMarked (net_of net.now) of.now width group) }
 {
     let Workers {
         shares,
@@ -148,10 +148,10 @@ where
     ensures inboxes { IfOk result (λ done. done.inboxes.items ≡ group.inboxes.items) }
     // Each worker ran all windows of this length.
     ensures windows { let n = net_of net.now in
-        IfOk result (RunsAllMarked n of.now (length_of_window (system_of n).lookahead longest) group) }
+        IfOk result (GroupRunsMarked n of.now (width_of_window (system_of n).lookahead longest) group) }
     ensures all_taken { IfOk result
         (λ done. Each (λ taker. Whole taker.state.gathered taker.state.taken) done.takers.items) }
 {
-    let width = window_length(lookahead_of(net), longest);
+    let width = window_width(lookahead_of(net), longest);
     run_threads(rt, alloc, net, of, width, gate, group)
 }

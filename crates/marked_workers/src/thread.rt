@@ -4,14 +4,14 @@ ghost use Rattle.std.specs.Prelude.{◌≡◌, ◌≢◌, ℕ, ◌^◌, ◌<◌,
 ghost use Rattle.fork_join.specs.declared.work.Refused.TheVariants.{Memory, Stopped, Thread};
 ghost use Rattle.mote_net.specs.Net.{net_of};
 ghost use Rattle.net_agenda.specs.NetSystem.{system_of};
-ghost use Rattle.copy_exchange.specs.Endpoints.{HasMarks, IsSeated};
+ghost use Rattle.copy_exchange.specs.Endpoints.{HasMarks, IsOnInboxes};
 ghost use Rattle.mark_exchange.specs.Marks.{Counts};
 ghost use Rattle.worker_window.specs.Window.{CanRun};
 ghost use Rattle.all_workers.specs.Workers.{IsCut};
 ghost use Rattle.marked_workers.specs.Bounds.{bound, windows_of};
-ghost use Rattle.marked_workers.specs.Refusals.{refused_of};
+ghost use Rattle.marked_workers.specs.Refusals.{refused_of_marks};
 ghost use Rattle.marked_workers.specs.declared.worker.MarkWorker.{MarkWorker as MarkWorkerOfCode};
-ghost use Rattle.marked_workers.specs.Thread.{IsFirst, IsStarted, IsSame, HasRun, RunsAllWindows};
+ghost use Rattle.marked_workers.specs.Thread.{IsFirst, IsStarted, IsSame, HasRun, WorkerRunsAllWindows};
 ghost use Rattle.marked_workers.specs.Thread.{SendsWindow, TakesWindow};
 
 use crate::worker::{MarkWorker, WorkersRun};
@@ -24,7 +24,7 @@ use std::sync::Wait;
 use std::sync::atomic::Ordering;
 use window_run::Gate;
 
-/// What each worker's thread needs besides: the runtime, the gate into its turns, and the run.
+/// What each thread needs besides its worker: the runtime, the gate into its turns, and the run.
 pub struct MarkRunner<'a, R, G> {
     pub rt: &'a R,
     pub gate: &'a G,
@@ -53,11 +53,11 @@ fn send_window<R: Wait + RandomSource + AllocGlobal, G: Gate>(
     requires early { until ≤ 2 ^ 40 }
     requires cut { IsCut (length (net_of run.now.net.now).motes) (length run.now.inboxes.now) run.now.of.now }
     requires ready { CanRun (net_of run.now.net.now) run.now.of.now until worker.old.share [] }
-    requires seated { IsSeated run.now.inboxes.now worker.old.exchange.endpoint }
-    requires marked { HasMarks worker.old.exchange.endpoint }
+    requires on_inboxes { IsOnInboxes run.now.inboxes.now worker.old.endpoint.base }
+    requires marked { HasMarks worker.old.endpoint.base }
     ensures sends { OnOk result (SendsWindow (net_of run.now.net.now) run.now.of.now (length run.now.inboxes.now)
         window until worker.old worker.new) }
-    ensures seated { OnOk result (IsSeated run.now.inboxes.now worker.new.exchange.endpoint) }
+    ensures on_inboxes { OnOk result (IsOnInboxes run.now.inboxes.now worker.new.endpoint.base) }
     ensures refused { IfErr result (λ reason. reason ≢ Stopped) }
 {
     let none = Vec::new(rt.alloc());
@@ -69,7 +69,7 @@ fn send_window<R: Wait + RandomSource + AllocGlobal, G: Gate>(
         Err(error) => return Err(refusal_of(error)),
     };
     let Ok(()) = worker
-        .exchange
+        .endpoint
         .deliver_window(rt, run.inboxes, run.of, &sent, window)
     else {
         return Err(Refused::Memory);
@@ -80,7 +80,7 @@ fn send_window<R: Wait + RandomSource + AllocGlobal, G: Gate>(
 /// Why a worker gave up that took no further. A copy that isn't due comes only where another worker has broken the
 /// protocol, which none does.
 fn gave_up(error: MarkError) -> Refused
-    ensures { result ≡ refused_of error }
+    ensures { result ≡ refused_of_marks error }
 {
     match error {
         MarkError::Memory => Refused::Memory,
@@ -96,12 +96,12 @@ fn take_window<R: Wait + AllocGlobal>(
     window: u64,
     until: u64,
 ) -> Result<(), Refused>
-    requires seated { IsSeated run.now.inboxes.now worker.old.exchange.endpoint }
-    requires counts { Counts worker.old.exchange.marks.items worker.old.exchange.endpoint.taker.state }
+    requires on_inboxes { IsOnInboxes run.now.inboxes.now worker.old.endpoint.base }
+    requires counts { Counts worker.old.endpoint.marks.items worker.old.endpoint.base.taker.state }
     ensures takes { OnOk result (TakesWindow run.now.of.now window until worker.old worker.new) }
     ensures refused { IfErr result (λ reason. reason ≢ Thread) }
 {
-    let number = worker.exchange.endpoint.worker;
+    let number = worker.endpoint.base.worker;
     let inbox = &run.inboxes[usize::from(number)];
     let standing = Standing {
         worker: number,
@@ -109,7 +109,7 @@ fn take_window<R: Wait + AllocGlobal>(
         from: until,
     };
     let took = worker
-        .exchange
+        .endpoint
         .take_window(rt, rt.alloc(), inbox, run.stop, &standing, window);
     let arrived = match took {
         Ok(arrived) => arrived,
@@ -148,7 +148,7 @@ fn run_one<R: Wait + RandomSource + AllocGlobal, G: Gate>(
 ///
 /// # Errors
 /// `Memory`; `Thread` where the executor answered an error; `Stopped` where it stopped because another worker failed.
-fn run_windows<R: Wait + RandomSource + AllocGlobal, G: Gate>(
+fn run_worker<R: Wait + RandomSource + AllocGlobal, G: Gate>(
     rt: &R,
     gate: &G,
     run: &WorkersRun<'_>,
@@ -187,7 +187,10 @@ fn with_marks(alloc: Global, run: &WorkersRun<'_>, worker: Worker) -> Result<Mar
     } = worker;
     let others = run.inboxes.len().saturating_sub(1);
     match MarkEndpoint::new(alloc, endpoint, others) {
-        Ok(exchange) => Ok(MarkWorker { share, exchange }),
+        Ok(marked) => Ok(MarkWorker {
+            share,
+            endpoint: marked,
+        }),
         Err(_) => Err(Refused::Memory),
     }
 }
@@ -196,15 +199,15 @@ fn with_marks(alloc: Global, run: &WorkersRun<'_>, worker: Worker) -> Result<Mar
 fn without_marks(worker: MarkWorker) -> Worker
     ensures { IsSame result worker }
 {
-    let MarkWorker { share, exchange } = worker;
+    let MarkWorker { share, endpoint } = worker;
     let MarkEndpoint {
-        endpoint,
+        base,
         marks: _,
         waiting: _,
-    } = exchange;
+    } = endpoint;
     Worker {
         share,
-        endpoint,
+        endpoint: base,
         first_out: None,
     }
 }
@@ -212,7 +215,7 @@ fn without_marks(worker: MarkWorker) -> Worker
 /// All that a worker does in its thread.
 ///
 /// # Errors
-/// As [`run_windows`].
+/// As [`run_worker`].
 fn run_through<R: Wait + RandomSource + AllocGlobal, G: Gate>(
     rt: &R,
     gate: &G,
@@ -222,11 +225,11 @@ fn run_through<R: Wait + RandomSource + AllocGlobal, G: Gate>(
     requires wide { 0 < run.now.width }
     requires short { run.now.width ≤ (system_of (net_of run.now.net.now)).lookahead }
     requires first { IsFirst (net_of run.now.net.now) run.now.of.now run.now.inboxes.now worker }
-    ensures { let n = net_of run.now.net.now in IfOk result
-        (RunsAllWindows n run.now.of.now run.now.width (windows_of run.now.width n.end) run.now.inboxes.now worker) }
+    ensures { let n = net_of run.now.net.now in IfOk result (WorkerRunsAllWindows
+        n run.now.of.now run.now.width (windows_of run.now.width n.end) run.now.inboxes.now worker) }
 {
     let worker = with_marks(rt.alloc(), run, worker)?;
-    let done = run_windows(rt, gate, run, worker)?;
+    let done = run_worker(rt, gate, run, worker)?;
     Ok(without_marks(done))
 }
 
@@ -234,7 +237,7 @@ impl<R: Wait + RandomSource + AllocGlobal, G: Gate> Work<Worker> for MarkRunner<
     ghost ready = { λ w worker. (0 < w.run.width) × (w.run.width ≤ (system_of (net_of w.run.net.now)).lookahead)
         × IsFirst (net_of w.run.net.now) w.run.of.now w.run.inboxes.now worker };
 
-    ghost makes = { λ w old new. let n = net_of w.run.net.now in RunsAllWindows n w.run.of.now w.run.width
+    ghost makes = { λ w old new. let n = net_of w.run.net.now in WorkerRunsAllWindows n w.run.of.now w.run.width
         (windows_of w.run.width n.end) w.run.inboxes.now old new };
 
     fn work(&self, worker: Worker) -> Result<Worker, Refused> {

@@ -10,7 +10,7 @@ use worker_window::Share;
 #[derive(Drop)]
 pub struct MarkWorker {
     pub share: Share,
-    pub exchange: MarkEndpoint,
+    pub endpoint: MarkEndpoint,
 }
 
 /// What all workers of a run have in common.

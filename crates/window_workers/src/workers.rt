@@ -25,7 +25,7 @@ use crate::traces::joined_traces;
 use all_workers::Workers;
 use copy_exchange::{make_inboxes, pair_inboxes, split_pairs};
 use copy_inbox::{Inbox, Taker};
-use joined_workers::run_windows;
+use joined_workers::run_group;
 use marked_workers::run_marked;
 use mote_net::Net;
 use net_report::Report;
@@ -103,7 +103,7 @@ where
     ensures err { IfErr result (IsAnswerTo sync None) }
 {
     let ran = match sync {
-        SyncKind::Joins => run_windows(rt, alloc, net, of, longest, gate, group),
+        SyncKind::Joins => run_group(rt, alloc, net, of, longest, gate, group),
         SyncKind::Marks => run_marked(rt, alloc, net, of, longest, gate, group),
     };
     match ran {

@@ -10,9 +10,9 @@ use Rattle.worker_cut.specs.Crossed.{is_own, crossed, copies_known}
 use Rattle.worker_cut.specs.Carried.{AreThoseTo}
 
 -- this worker gathered, of each mote, what the mote has sent across to it
-abbrev pub HasGathered : {S L : Type 0} → System S L → (of : List ℕ) → (motes : (number : ℕ) → LoneMote S L)
+abbrev pub GatheredCopies : {S L : Type 0} → System S L → (of : List ℕ) → (motes : (number : ℕ) → LoneMote S L)
     → (worker : ℕ) → List RadioCopy → Type 0
-HasGathered system of motes worker gathered =
+GatheredCopies system of motes worker gathered =
     (sender : ℕ) → filter (is_from_sender sender) gathered ≡ crossed system of motes worker sender
 
 -- what was taken is, of each mote, what was gathered
@@ -31,7 +31,7 @@ abbrev pub InboxIsWhole : {S L : Type 0} → System S L → Type 0
 InboxIsWhole {S} {L} system =
     (of : List ℕ) (motes : (number : ℕ) → LoneMote S L) (gathered taken : List RadioCopy) (worker number from bound : ℕ)
     → is_own of worker number ≡ true
-    → HasGathered system of motes worker gathered → HasTaken gathered taken
+    → GatheredCopies system of motes worker gathered → HasTaken gathered taken
     → (inbox : List RadioCopy) → IsFromSources system (is_own of worker) from bound motes taken number inbox
     → IsInbox system from bound motes number inbox
 
@@ -39,5 +39,5 @@ abbrev pub CrossedOnce : {S L : Type 0} → System S L → Type 0
 CrossedOnce {S} {L} system = RunsForward system → (of : List ℕ) (from : ℕ) (motes : (number : ℕ) → LoneMote S L)
     → Windows system 0 from (first_mote system) motes
     → (worker : ℕ) (gathered : List RadioCopy) (joined : List Sent) → IsJoined system motes joined
-    → HasGathered system of motes worker gathered
+    → GatheredCopies system of motes worker gathered
     → AreThoseTo system.copies of worker (as_log joined) gathered

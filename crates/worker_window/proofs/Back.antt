@@ -249,7 +249,7 @@ module _ (n : NetTold) (of : List ℕ) (worker from until : ℕ) (before now : M
           (λ j ne h. ap (node_at (tree_at n j)) (mote_else j ne) ∙ (stands.nodes j (same_present j ne ∙ h) ∙ ap (λ m. Some m.state) (sym (elsewhere j ne))));
       wakes = all_present (λ j m. m.wake ≡ wake_of m.state) back.wakes stands.wakes;
       quiet = all_present (λ j m. WakesFrom until m.wake) back.quiet stands.quiet;
-      behind = all_present (λ j m. is_past until m.state.last ≡ false) back.behind stands.behind;
+      turned_before = all_present (λ j m. is_past until m.state.last ≡ false) back.turned_before stands.turned_before;
       traces_kept = ret.traces_kept ∙ stands.traces_kept;
       traces =
           by_mote (λ j. own j ≡ true → (d : Vec Line Global) → (get_or share.traces.items j d).items ≡ (next j).lines)

@@ -89,7 +89,7 @@ module _ (n : NetTold) (of : List ℕ) (worker : ℕ) (long : length of ≡ leng
     nodes = λ k mine. (let h = own_there of worker k mine in nodes k (omega arith) mine ∙ ap Some (sym (first_state k)));
     wakes = λ k mine. wakes_at_0 k mine ∙ (sym (new_wakes n k) ∙ ap wake_of (sym (first_state k)));
     quiet = quiet;
-    behind = λ k mine. ap (λ s. is_past 0 s.last) (first_state k) ∙ not_begun n k 0;
+    turned_before = λ k mine. ap (λ s. is_past 0 s.last) (first_state k) ∙ not_begun n k 0;
     traces_kept = traced;
     traces = λ k mine d. (let h = own_there of worker k mine in traces k d (omega arith));
     log = λ s. ap (λ lines. filter (is_sent_by s) (packets_in lines)) log ∙ elim (cases_Bool (own s)) [ inl e ↦ rw e refl | inr e ↦ rw e refl ];

@@ -16,7 +16,7 @@ use Rattle.worker_window.specs.declared.share.Share.{Share}
 use Rattle.worker_cut.specs.Crossed.{is_own, copies_known, leaves}
 use Rattle.worker_window.specs.Share.{Motes, IsShare, wake_from}
 use Rattle.worker_window.specs.Window.{GoesOut, RunsWindow, copies_out}
-use Rattle.worker_window.specs.Leaving.{HasNumber, IsOutOfNet, MoteReturns, is_one_of, are_different, numbers_of}
+use Rattle.worker_window.specs.Leaving.{HasNumber, IsOutOfMote, MoteReturns, is_one_of, are_different, numbers_of}
 use Rattle.worker_window.proofs.Gives.{IsSentIn, IsBack, come_late}
 use Rattle.worker_window.proofs.Left.{among_more, different_less}
 use Rattle.worker_window.proofs.Back.{next, at_k, elsewhere, out_more, is_back}
@@ -29,7 +29,7 @@ pub record IsFitOwn (n : NetTold) (of : List ℕ) (worker until : ℕ) (out : Wi
   pub numbered : HasNumber number out.mote
   pub sent : AllByRecursion (IsSentIn number 0 until) out.sends.items
 
-pub fits : (n : NetTold) (of : List ℕ) (worker until motes : ℕ) (out : WindowOut) → IsFitOwn n of worker until out → motes ≡ length n.motes → until ≤ 2 ^ 40 → IsOutOfNet motes out
+pub fits : (n : NetTold) (of : List ℕ) (worker until motes : ℕ) (out : WindowOut) → IsFitOwn n of worker until out → motes ≡ length n.motes → until ≤ 2 ^ 40 → IsOutOfMote motes out
 fits n of worker until motes out fit e early = record {
   number = fit.number;
   numbered = fit.numbered;
@@ -230,7 +230,7 @@ module _ (n : NetTold) (of : List ℕ) (worker from until : ℕ) (motes : Motes)
       nodes = λ k h. coming.stands.nodes k (present k h);
       wakes = λ k h. coming.stands.wakes k (present k h);
       quiet = λ k h. coming.stands.quiet k (present k h);
-      behind = λ k h. coming.stands.behind k (present k h);
+      turned_before = λ k h. coming.stands.turned_before k (present k h);
       traces_kept = coming.stands.traces_kept;
       traces = coming.stands.traces;
       log = coming.stands.log;

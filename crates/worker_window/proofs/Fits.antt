@@ -84,7 +84,7 @@ module _ (n : NetTold) (of : List ℕ) (share : Share) (kept : IsKept n of share
           let h = number_mine r called in
           let there = number_there r called in
           let b : IsBack n mine 0 until kept.motes (λ _. r.copies.items) k out =
-          back n 0 until mine kept.motes (λ _. r.copies.items) k h there (kept.keeps.numbers k h) (kept.keeps.wakes k h) (from_0 (kept.motes k).wake) (all_from_0 r.copies.items) (past_later kept.from until order (kept.motes k).state.last (kept.keeps.behind k h)) r.mote r.copies.items (λ t. refl) out
+          back n 0 until mine kept.motes (λ _. r.copies.items) k h there (kept.keeps.numbers k h) (kept.keeps.wakes k h) (from_0 (kept.motes k).wake) (all_from_0 r.copies.items) (past_later kept.from until order (kept.motes k).state.last (kept.keeps.turned_before k h)) r.mote r.copies.items (λ t. refl) out
           (gives_open n until r out (kept.motes k).state there (ap (node_at (tree_at n k)) (sym called.mote) ∙ kept.keeps.nodes k h) gives) in
           record {
             number = k;

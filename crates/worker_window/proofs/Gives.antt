@@ -50,7 +50,7 @@ pub record IsBack (n : NetTold) (own : ℕ → Bool) (from until : ℕ) (motes :
   pub number_is : number_of last.state ≡ k
   pub wakes : last.wake ≡ wake_of last.state
   pub quiet : WakesFrom until last.wake
-  pub behind : is_past until last.state.last ≡ false
+  pub turned_before : is_past until last.state.last ≡ false
   pub sent : AllByRecursion (IsSentIn k from until) out.sends.items
 
 -- the mote that an answer tells
@@ -144,7 +144,7 @@ module _ (n : NetTold) (from until : ℕ) where
         number_is = alone_keeps (system_of n) k until later from (λ m. number_of m.state ≡ k) (λ t m g h l e. number_kept k t m g e) quiet numbered alone;
         wakes = alone_keeps (system_of n) k until later from (λ m. m.wake ≡ wake_of m.state) (λ t m g h l e. wake_kept k t m g) quiet refl alone;
         quiet = rests_quiet (system_of n) k until alone;
-        behind = alone_keeps (system_of n) k until later from (λ m. is_past until m.state.last ≡ false) (λ t m g h l e. turn_before n k t until m g l) quiet before alone;
+        turned_before = alone_keeps (system_of n) k until later from (λ m. is_past until m.state.last ≡ false) (λ t m g h l e. turn_before n k t until m g l) quiet before alone;
         sent = subst (AllByRecursion (IsSentIn k from until)) (sym told.sends)
             (alone_keeps (system_of n) k until later from (λ m. AllByRecursion (IsSentIn k from until) m.sends)
             (λ t m g h l e. every_append (IsSentIn k from until) m.sends _ e (stamps k t h l _)) quiet tt alone);

@@ -64,7 +64,7 @@ module _ (n : NetTold) (of : List ℕ) (worker from : ℕ) (motes : Motes) (take
     nodes = keeps.nodes;
     wakes = keeps.wakes;
     quiet = λ k mine. wake_then moment k mine h;
-    behind = λ k mine. past_later from moment le (motes k).state.last (keeps.behind k mine);
+    turned_before = λ k mine. past_later from moment le (motes k).state.last (keeps.turned_before k mine);
     traces_kept = keeps.traces_kept;
     traces = keeps.traces;
     log = keeps.log;

@@ -76,7 +76,7 @@ module _ (n : NetTold) (of : List ℕ) (worker from until : ℕ) (motes : Motes)
     nodes = λ k h. ap (node_at (tree_at n k)) (same_mote k h) ∙ keeps.nodes k (parts k h).0;
     wakes = λ k h. keeps.wakes k (parts k h).0;
     quiet = λ k h. quiet_else n of worker from until motes taken arrived old keeps le come k (parts k h).0 (parts k h).1;
-    behind = λ k h. past_later from until le (motes k).state.last (keeps.behind k (parts k h).0);
+    turned_before = λ k h. past_later from until le (motes k).state.last (keeps.turned_before k (parts k h).0);
     traces_kept = ap length same.1 ∙ keeps.traces_kept;
     traces = λ k h d. ap (λ l. (get_or l k d).items) same.1 ∙ keeps.traces k h d;
     log = λ s. ap (λ lines. filter (is_sent_by s) (packets_in lines)) same.2 ∙ keeps.log s;
@@ -94,7 +94,7 @@ module _ (n : NetTold) (of : List ℕ) (worker from until : ℕ) (motes : Motes)
       let k = r.number in
       let h = called_mine k (ap is_some called.copies) in
       let there : k < length n.motes = (let a = own_there of worker k h in omega arith) in
-      back n from until mine motes boxes k h there (keeps.numbers k h) (keeps.wakes k h) (keeps.quiet k h) (inbox_from n of worker from until motes taken arrived old keeps le come k) (past_later from until le (motes k).state.last (keeps.behind k h)) r.mote r.copies.items
+      back n from until mine motes boxes k h there (keeps.numbers k h) (keeps.wakes k h) (keeps.quiet k h) (inbox_from n of worker from until motes taken arrived old keeps le come k) (past_later from until le (motes k).state.last (keeps.turned_before k h)) r.mote r.copies.items
       (alike n of worker from until motes taken arrived old keeps le come k r.copies.items (gathers.copies k r.copies.items called.copies)) out
       (gives_open n until r out (motes k).state there (ap (node_at (tree_at n k)) (sym called.mote) ∙ keeps.nodes k h) gives)
 
@@ -108,7 +108,7 @@ module _ (n : NetTold) (of : List ℕ) (worker from until : ℕ) (motes : Motes)
       let quiet : IsQuiet from wake r.copies.items =
       quiet_alike (system_of n) k until from wake (boxes k) r.copies.items (λ t. sym (same t)) (record { no_wake = subst (WakesFrom from) (keeps.wakes k h) (keeps.quiet k h); no_copies = inbox_from n of worker from until motes taken arrived old keeps le come k }) in
       goes_open n until r (motes k).state there (ap (node_at (tree_at n k)) (sym called.mote) ∙ keeps.nodes k h)
-      (λ moment next. past_later from moment (not_before from moment wake r.copies.items quiet next.comes) (motes k).state.last (keeps.behind k h))
+      (λ moment next. past_later from moment (not_before from moment wake r.copies.items quiet next.comes) (motes k).state.last (keeps.turned_before k h))
 
   one_pending : (r : Resident) (wake : Option ℕ) → IsCalled calls old.motes.items r → IsWakeOf until r wake → IsPending until motes r.number wake
   one_pending r wake called told =

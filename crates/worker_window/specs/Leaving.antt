@@ -59,7 +59,7 @@ pub record HasNumber (number : ℕ) (mote : Mote) : Type 0 where
   pub number_is : number_of node ≡ number
 
 -- what a mote of a net gave in a window
-pub record IsOutOfNet (motes : ℕ) (out : WindowOut) : Type 0 where
+pub record IsOutOfMote (motes : ℕ) (out : WindowOut) : Type 0 where
   pub number : ℕ
   pub numbered : HasNumber number out.mote
   pub there : number < motes

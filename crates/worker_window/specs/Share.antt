@@ -56,15 +56,15 @@ pub record HasToCome (n : NetTold) (own : ℕ → Bool) (from : ℕ) (motes : Mo
 -- The share of a worker at a moment, before which no event is pending, while some of its motes are in it: their nodes
 -- and wakes, the lines and packets of all its motes so far, and the agenda. No mote in it has failed, and the last
 -- turn of each was before that moment. `taken` are all copies that ever came from other workers.
-pub record IsShare (n : NetTold) (of : List ℕ) (worker : ℕ) (present : ℕ → Bool) (from : ℕ) (motes : Motes)
+pub record IsShare (n : NetTold) (of : List ℕ) (worker : ℕ) (here : ℕ → Bool) (from : ℕ) (motes : Motes)
     (taken : List RadioCopy) (share : Share) : Type 0 where
   pub is_worker : share.worker ≡ worker
   pub places : length share.motes.items ≡ length n.motes
-  pub numbers : (k : ℕ) → present k ≡ true → number_of (motes k).state ≡ k
-  pub nodes : (k : ℕ) → present k ≡ true → node_at (tree_at n k) (mote_here share.motes.items k) ≡ Some (motes k).state
-  pub wakes : (k : ℕ) → present k ≡ true → (motes k).wake ≡ wake_of (motes k).state
-  pub quiet : (k : ℕ) → present k ≡ true → WakesFrom from (motes k).wake
-  pub behind : (k : ℕ) → present k ≡ true → is_past from (motes k).state.last ≡ false
+  pub numbers : (k : ℕ) → here k ≡ true → number_of (motes k).state ≡ k
+  pub nodes : (k : ℕ) → here k ≡ true → node_at (tree_at n k) (mote_here share.motes.items k) ≡ Some (motes k).state
+  pub wakes : (k : ℕ) → here k ≡ true → (motes k).wake ≡ wake_of (motes k).state
+  pub quiet : (k : ℕ) → here k ≡ true → WakesFrom from (motes k).wake
+  pub turned_before : (k : ℕ) → here k ≡ true → is_past from (motes k).state.last ≡ false
   pub traces_kept : length share.traces.items ≡ length n.motes
   pub traces : (k : ℕ) → is_own of worker k ≡ true → (d : Vec Line Global)
       → (slice_index_or share.traces.items k d).items ≡ (motes k).lines

@@ -28,16 +28,16 @@ impl Rooms {
     }
 
     /// The buffers for a window: those of an earlier one, if any are here.
-    pub(crate) fn window(&mut self) -> WindowRoom {
+    pub(crate) fn take(&mut self) -> WindowRoom {
         match self.windows.pop() {
-            Some(room) => room,
+            Some(buffers) => buffers,
             None => WindowRoom::new(self.alloc),
         }
     }
 
-    /// Keeps the buffers of a window.
-    pub(crate) fn keep(&mut self, window: WindowRoom) -> Result<(), AllocError> {
-        self.windows.push(window)?;
+    /// Puts the buffers of a window back.
+    pub(crate) fn put_back(&mut self, buffers: WindowRoom) -> Result<(), AllocError> {
+        self.windows.push(buffers)?;
         Ok(())
     }
 }

@@ -16,7 +16,7 @@ ghost use Rattle.worker_window.specs.Share.{Motes, Keeps, mote_here, wake_from};
 ghost use Rattle.worker_window.specs.Window.{CanRun, GoesOut, RunsWindow};
 ghost use Rattle.worker_window.specs.Log.{HaveFates, packets_in};
 ghost use Rattle.worker_window.specs.Sending.{copies_away, own_items};
-ghost use Rattle.worker_window.specs.Leaving.{MotesLeave, HasNumber, IsOutOfNet, MoteReturns};
+ghost use Rattle.worker_window.specs.Leaving.{MotesLeave, HasNumber, IsOutOfMote, MoteReturns};
 
 use crate::calls::{CalledMotes, gather};
 use crate::rooms::Rooms;
@@ -84,7 +84,7 @@ pub(crate) fn leave(
             number,
             mote,
             copies,
-            room: rooms.window(),
+            room: rooms.take(),
         })?;
     }
     Ok(residents)
@@ -98,7 +98,8 @@ fn last_wake(wakes: &mut Vec<Option<u64>>) -> Option<u64>
     wakes.pop().unwrap()
 }
 
-/// A copy goes on its way: one for a mote of the worker becomes a pending event, another goes away.
+/// A copy goes on its way: one for a mote of the worker becomes a pending event; one for another worker's mote is
+/// appended to `away`.
 fn send_copy(
     of: &[u16],
     worker: u16,
@@ -174,7 +175,7 @@ fn send_fates(
 }
 
 /// The packets of a mote go out, and are logged with the fates of their copies: the copies for the worker's own motes
-/// become pending events, the others go away.
+/// become pending events, the others are appended to `away`.
 pub(crate) fn send_all(
     medium: &Medium,
     of: &[u16],
@@ -201,8 +202,8 @@ pub(crate) fn send_all(
 }
 
 impl Share {
-    /// A mote comes back from its window: its next wake becomes pending in the place of the one that is, if one is; its
-    /// packets go out, and its lines and packets are kept. The copies for other workers' motes go away.
+    /// A mote comes back from its window: its old wake leaves the agenda, its next one enters; its packets go out, and
+    /// its lines and packets are kept. The copies for other workers' motes are appended to `away`.
     fn take_back(
         &mut self,
         medium: &Medium,
@@ -211,9 +212,9 @@ impl Share {
         out: WindowOut,
         away: &mut Vec<RadioCopy>,
     ) -> Result<(), AllocError>
-        requires motes { IsOutOfNet (length self.old.motes.items) out }
-        requires traces { IsOutOfNet (length self.old.traces.items) out }
-        requires places { IsOutOfNet (length medium.now.places) out }
+        requires motes { IsOutOfMote (length self.old.motes.items) out }
+        requires traces { IsOutOfMote (length self.old.traces.items) out }
+        requires places { IsOutOfMote (length medium.now.places) out }
         ensures { OnOk result ((number : ℕ) → HasNumber number out.mote
             → MoteReturns medium.now of.now number pending out self.old self.new away.old.items away.new.items) }
     {
@@ -236,7 +237,7 @@ impl Share {
             &mut self.log,
         )?;
         add_lines(&mut self.traces, number, &mut room.lines)?;
-        self.rooms.keep(room)?;
+        self.rooms.put_back(room)?;
         self.motes[usize::from(number)] = Some(mote);
         Ok(())
     }

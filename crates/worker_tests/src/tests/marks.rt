@@ -47,8 +47,8 @@ fn make(alloc: Global) -> Result<(Inbox, Taker, Sender, Sender), InboxError>
 /// The endpoint of worker 2.
 fn make_worker_2(alloc: Global, taker: Taker) -> Result<MarkEndpoint, InboxError>
     requires { taker.state ≡ make_taker_state true 2 [] [] }
-    ensures taker { IfOk result (λ worker_2. worker_2.endpoint.taker ≡ taker) }
-    ensures counts { IfOk result (λ worker_2. Counts worker_2.marks.items worker_2.endpoint.taker.state) }
+    ensures taker { IfOk result (λ worker_2. worker_2.base.taker ≡ taker) }
+    ensures counts { IfOk result (λ worker_2. Counts worker_2.marks.items worker_2.base.taker.state) }
 {
     let endpoint = Endpoint {
         worker: 2,
@@ -93,11 +93,11 @@ fn write_window<R: Wait>(
     from: u64,
     window: u64,
 ) -> Result<bool, AllocError>
-    requires inbox { worker_2.old.endpoint.taker.inbox ≡ inbox.now }
-    requires counts { Counts worker_2.old.marks.items worker_2.old.endpoint.taker.state }
-    ensures inbox { IfOk result (λ took. IsTrue took → worker_2.new.endpoint.taker.inbox ≡ inbox.now) }
+    requires inbox { worker_2.old.base.taker.inbox ≡ inbox.now }
+    requires counts { Counts worker_2.old.marks.items worker_2.old.base.taker.state }
+    ensures inbox { IfOk result (λ took. IsTrue took → worker_2.new.base.taker.inbox ≡ inbox.now) }
     ensures counts { IfOk result
-        (λ took. IsTrue took → Counts worker_2.new.marks.items worker_2.new.endpoint.taker.state) }
+        (λ took. IsTrue took → Counts worker_2.new.marks.items worker_2.new.base.taker.state) }
 {
     let standing = Standing {
         worker: 2,
@@ -130,10 +130,10 @@ fn write_windows<R: Wait>(
     first: &mut Sender,
     second: &mut Sender,
 ) -> Result<(), InboxError>
-    requires inbox { (worker_2.old.endpoint.taker.inbox ≡ inbox.now) × (first.old.inbox ≡ inbox.now)
+    requires inbox { (worker_2.old.base.taker.inbox ≡ inbox.now) × (first.old.inbox ≡ inbox.now)
         × (second.old.inbox ≡ inbox.now) }
     requires marked { (first.old.state.marked ≡ true) × (second.old.state.marked ≡ true) }
-    requires counts { Counts worker_2.old.marks.items worker_2.old.endpoint.taker.state }
+    requires counts { Counts worker_2.old.marks.items worker_2.old.base.taker.state }
 {
     // It is looked at only where a mark is missing.
     let stop = AtomicBool::new(true);

@@ -14,14 +14,14 @@ gather_all-requires-clause-senders g c =
     let rest = c.into_iter-senders-iterator.ensures.into_iter_gives in
     let len : vec_len c.in_ok-takers.rows ≡ length c.in_ok-takers.rows.items = search rules in
     let t = YieldsList-turn (YieldsList-from_vec c.in_ok-takers.rows.items rest.0 (rest.1 ∙ len)) c.loop-senders.yielded c.loop-senders.senders-iterator c.loop-senders.yielded_by c.next.result c.next.new.self c.in-Some.senders c.in-Some.is c.next.ensures.steps in
-    row_fits c.args.inboxes.now c.args.endpoints.items c.in_ok-takers.rows.items (length c.loop-senders.yielded) c.in-Some.senders c.requires.seated c.in_ok-takers.ensures.rows t.0 t.1
+    row_fits c.args.inboxes.now c.args.endpoints.items c.in_ok-takers.rows.items (length c.loop-senders.yielded) c.in-Some.senders c.requires.on_inboxes c.in_ok-takers.ensures.rows t.0 t.1
 
 pub loop-senders-init : goal.loop-senders-init
 loop-senders-init g c =
     let P : List TakerView → Type 0 = λ l. AreTakersOf c.args.inboxes.now l in
     record {
       gathered = no_rows c.in_ok-takers.takers.items;
-      takers = subst P (sym c.in_ok-takers.ensures.takers) (start_takers c.args.inboxes.now c.args.endpoints.items c.requires.workers c.requires.seated);
+      takers = subst P (sym c.in_ok-takers.ensures.takers) (start_takers c.args.inboxes.now c.args.endpoints.items c.requires.workers c.requires.on_inboxes);
     }
 
 pub loop-senders-preserved : goal.loop-senders-preserved

@@ -6,14 +6,14 @@ use Rattle.copy_inbox.specs.Handles.{TakerView}
 use Rattle.copy_exchange.specs.Endpoints.{GathersDelivered}
 use Rattle.copy_exchange.specs.Inboxes.{IsPlain, Settled}
 use Rattle.copy_exchange.specs.Steps.{GathersBack}
-use Rattle.copy_exchange.proofs.AfterWindow.{workers, all_seated, settled, plain_after, gathers_delivered}
+use Rattle.copy_exchange.proofs.AfterWindow.{workers, all_on_inboxes, settled, plain_after, gathers_delivered}
 use Rattle.copy_exchange.proofs.window.gather_window.Goals as goal
 
 pub gather_back-requires-clause-workers : goal.gather_back-requires-clause-workers
 gather_back-requires-clause-workers g c = workers c.args.inboxes.now c.args.endpoints.items c.requires
 
-pub gather_back-requires-clause-seated : goal.gather_back-requires-clause-seated
-gather_back-requires-clause-seated g c = all_seated c.args.inboxes.now c.args.endpoints.items c.requires
+pub gather_back-requires-clause-on_inboxes : goal.gather_back-requires-clause-on_inboxes
+gather_back-requires-clause-on_inboxes g c = all_on_inboxes c.args.inboxes.now c.args.endpoints.items c.requires
 
 pub returns-clause-settled : goal.returns-clause-settled
 returns-clause-settled g c = IfOk-weaker c.gather_back.result

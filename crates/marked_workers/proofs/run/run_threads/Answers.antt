@@ -5,7 +5,7 @@ use Rattle.all_workers.specs.Worker.{worker_of}
 use Rattle.all_workers.proofs.Starts.{all_settled}
 use Rattle.marked_workers.specs.Bounds.{windows_of}
 use Rattle.marked_workers.proofs.Ready.{ready, together_first, none_gathered_first}
-use Rattle.marked_workers.proofs.Runs.{all_back, all_seated}
+use Rattle.marked_workers.proofs.Runs.{all_back, all_on_inboxes}
 use Rattle.marked_workers.proofs.run.run_threads.Goals as goal
 
 pub make_endpoints-requires-clause-settled : goal.make_endpoints-requires-clause-settled
@@ -30,12 +30,12 @@ gather_endpoints-requires-clause-workers g c =
     (together_first ids c.args.group.takers.items c.requires.fresh c.in_ok-endpoints.endpoints.items together c.in_ok-endpoints.ensures.starts c.args.group.shares.items c.requires.first.count)
     ran)
 
-pub gather_endpoints-requires-clause-seated : goal.gather_endpoints-requires-clause-seated
-gather_endpoints-requires-clause-seated g c =
+pub gather_endpoints-requires-clause-on_inboxes : goal.gather_endpoints-requires-clause-on_inboxes
+gather_endpoints-requires-clause-on_inboxes g c =
     let n = net_of c.args.net.now in
     let ran = rw (c.deref-2.ensures.value, c.in_ok-workers.ensures.workers) at c.in_ok-done.ensures in
     rw (c.deref-3.ensures.value, c.in_ok-shares.ensures.endpoints)
-    (all_seated n c.args.of.now c.args.width (windows_of c.args.width n.end) c.args.group.inboxes.items (map worker_of (zip c.args.group.shares.items c.in_ok-endpoints.endpoints.items)) c.in_ok-done.done.items ran)
+    (all_on_inboxes n c.args.of.now c.args.width (windows_of c.args.width n.end) c.args.group.inboxes.items (map worker_of (zip c.args.group.shares.items c.in_ok-endpoints.endpoints.items)) c.in_ok-done.done.items ran)
 
 pub returns : goal.returns
 returns g c =

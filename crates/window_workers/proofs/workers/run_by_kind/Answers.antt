@@ -3,8 +3,8 @@ use Rattle.std.specs.List.{AllByRecursion as Each}
 use Rattle.window_workers.specs.Sync.{IsFor}
 use Rattle.window_workers.proofs.workers.run_by_kind.Goals as goal
 
-pub run_windows-ran-requires-clause-plain : goal.run_windows-ran-requires-clause-plain
-run_windows-ran-requires-clause-plain g c κs within = subst (λ s. Each (IsFor s) c.args.group.takers.items) c.in-Joins.is c.requires.kind
+pub run_group-ran-requires-clause-plain : goal.run_group-ran-requires-clause-plain
+run_group-ran-requires-clause-plain g c κs within = subst (λ s. Each (IsFor s) c.args.group.takers.items) c.in-Joins.is c.requires.kind
 
 pub run_marked-ran-requires-clause-marked : goal.run_marked-ran-requires-clause-marked
 run_marked-ran-requires-clause-marked g c κs within = subst (λ s. Each (IsFor s) c.args.group.takers.items) c.in-Marks.is c.requires.kind

@@ -3,7 +3,7 @@ use Rattle.std.proofs.Math.Seq.{take-length}
 use Rattle.std.proofs.lemmas.List.{take_more}
 use Rattle.radio_packet.specs.declared.copy.RadioCopy.{RadioCopy}
 use Rattle.copy_exchange.specs.Endpoints.{Delivers, Leaves}
-use Rattle.copy_exchange.proofs.Delivered.{delivers_none, delivers_more, seated, endpoint_again}
+use Rattle.copy_exchange.proofs.Delivered.{delivers_none, delivers_more, on_inboxes, endpoint_again}
 use Rattle.copy_exchange.proofs.Lists.{each_at}
 use Rattle.copy_exchange.proofs.endpoint.Endpoint.deliver.Goals as goal
 
@@ -21,7 +21,7 @@ deliver_one-requires-clause-leaves g c =
     subst (λ (worker : ℕ). P worker c.deref-copy-items.result.now) (sym c.loop-copy.invariant.delivers.stays.worker) there
 
 pub loop-copy-init : goal.loop-copy-init
-loop-copy-init g c = record { seated = seated c.args.inboxes.now c.args.self.now c.requires.endpoint; delivers = delivers_none c.args.of.now c.args.self.now }
+loop-copy-init g c = record { on_inboxes = on_inboxes c.args.inboxes.now c.args.self.now c.requires.endpoint; delivers = delivers_none c.args.of.now c.args.self.now }
 
 pub loop-copy-preserved : goal.loop-copy-preserved
 loop-copy-preserved g c =
@@ -31,7 +31,7 @@ loop-copy-preserved g c =
     let told = c.in_ok-deliver_one.ensures in
     let more = delivers_more c.args.of.now c.args.self.now c.loop-copy.self c.deliver_one.new.self (take index copies) _ c.loop-copy.invariant.delivers told.delivers in
     record {
-      seated = told.seated;
+      on_inboxes = told.on_inboxes;
       delivers = subst (λ (l : List RadioCopy). Delivers c.args.of.now c.args.self.now c.deliver_one.new.self l) (sym (take_more copies index none c.loop-copy-test.true)) more;
     }
 
@@ -49,4 +49,4 @@ pub returns-clause-endpoint : goal.returns-clause-endpoint
 returns-clause-endpoint g c =
     let copies : List RadioCopy = c.deref-copy-items.result.now in
     let index : ℕ = c.loop-copy.copy-index in
-    endpoint_again c.args.inboxes.now c.args.of.now c.args.self.now c.loop-copy.self (take index copies) c.requires.endpoint c.loop-copy.invariant.delivers c.loop-copy.invariant.seated
+    endpoint_again c.args.inboxes.now c.args.of.now c.args.self.now c.loop-copy.self (take index copies) c.requires.endpoint c.loop-copy.invariant.delivers c.loop-copy.invariant.on_inboxes

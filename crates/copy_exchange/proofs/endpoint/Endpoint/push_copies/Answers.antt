@@ -13,7 +13,7 @@ push_out-requires-clause-reaches g c =
     each_at (Reaches c.args.of.now (length c.args.inboxes.now)) c.args.copies.now c.loop-copy.copy-index none c.requires.reaches c.loop-copy-test.true
 
 pub loop-copy-init : goal.loop-copy-init
-loop-copy-init g c = record { seated = c.requires.seated; pushes = pushes_none c.args.of.now c.args.self.now }
+loop-copy-init g c = record { on_inboxes = c.requires.on_inboxes; pushes = pushes_none c.args.of.now c.args.self.now }
 
 pub loop-copy-preserved : goal.loop-copy-preserved
 loop-copy-preserved g c =
@@ -23,7 +23,7 @@ loop-copy-preserved g c =
     let told = c.in_ok-push_out.ensures in
     let more = pushes_more c.args.of.now c.args.self.now c.loop-copy.self c.push_out.new.self (take index copies) _ c.loop-copy.invariant.pushes told.pushes in
     record {
-      seated = told.seated;
+      on_inboxes = told.on_inboxes;
       pushes = subst (λ (l : List RadioCopy). PushesOut c.args.of.now c.args.self.now c.push_out.new.self l) (sym (take_more copies index none c.loop-copy-test.true)) more;
     }
 

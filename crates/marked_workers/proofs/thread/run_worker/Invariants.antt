@@ -2,7 +2,7 @@ use Rattle.std.proofs.Common.{◌≡◌, ◌+◌, ◌-◌, ◌≤◌}
 use Rattle.mote_net.specs.Net.{net_of}
 use Rattle.marked_workers.specs.Bounds.{bound, windows_of}
 use Rattle.marked_workers.specs.Thread.{HasRun}
-use Rattle.marked_workers.proofs.thread.run_windows.Given as goal
+use Rattle.marked_workers.proofs.thread.run_worker.Given as goal
 
 abbrev pub invariant-windows : goal.invariant-windows
 invariant-windows g l = record {

@@ -1,4 +1,4 @@
-//! What wakes a taker that waits for marks.
+//! The count of marks that wakes a taker which waits for them.
 
 use std::sync::Wait;
 use std::sync::atomic::{AtomicU64, Ordering};
@@ -7,23 +7,23 @@ use std::time::Duration;
 /// The marks of an inbox, counted, so that its taker can sleep until enough of them have come. No contract says that
 /// it is woken; it wakes by itself too.
 #[derive(Drop)]
-pub struct Bell {
+pub struct MarkCount {
     /// How many marks were pushed.
     marks: AtomicU64,
     /// How many marks the taker waits for.
     wanted: AtomicU64,
 }
 
-impl Bell {
-    pub fn new() -> Bell {
-        Bell {
+impl MarkCount {
+    pub fn new() -> MarkCount {
+        MarkCount {
             marks: AtomicU64::new(0),
             wanted: AtomicU64::new(0),
         }
     }
 
     /// A mark was pushed.
-    pub fn ring(&self) {
+    pub fn add(&self) {
         let marks = self.marks.fetch_add(1, Ordering::SeqCst).wrapping_add(1);
         if marks == self.wanted.load(Ordering::SeqCst) {
             self.marks.wake_one();

@@ -1,7 +1,7 @@
 use Rattle.mote_net.specs.Net.{net_of}
 use Rattle.joined_workers.proofs.Ready.{ready}
 use Rattle.joined_workers.proofs.Returned.{returned}
-use Rattle.joined_workers.proofs.window.run_all.Goals as goal
+use Rattle.joined_workers.proofs.window.run_threads.Goals as goal
 
 pub run_together-requires-after_bounds : goal.run_together-requires-after_bounds
 run_together-requires-after_bounds g c κs within =
