@@ -84,8 +84,8 @@ module _ (n : NetTold) (of : List ℕ) (worker from until : ℕ) (before now : M
   abbrev away : ℕ → Bool
   away j = own j && not (is_one_of j (others ++ k ∷ []))
 
-  abbrev present : ℕ → Bool
-  present j = own j && not (is_one_of j others)
+  abbrev here : ℕ → Bool
+  here j = own j && not (is_one_of j others)
 
   abbrev pub next : Motes
   next = put now k back.last
@@ -96,14 +96,14 @@ module _ (n : NetTold) (of : List ℕ) (worker from until : ℕ) (before now : M
   pub elsewhere : (j : ℕ) → (j ≡ k → ⊥) → next j ≡ now j
   elsewhere j ne = let e : eqb j k ≡ false = ne_eqb j k ne in rw e refl
 
-  present_k : present k ≡ true
-  present_k = ap (λ b. own k && not b) new ∙ (let e = back.mine in rw e refl)
+  here_k : here k ≡ true
+  here_k = ap (λ b. own k && not b) new ∙ (let e = back.mine in rw e refl)
 
   away_k : away k ≡ false
   away_k = ap (λ b. own k && not b) (among_more k others k ∙ (ap (λ b. is_one_of k others || b) (eq-eqb k k refl) ∙ or_yes (is_one_of k others))) ∙ (let e = back.mine in rw e refl)
 
-  same_present : (j : ℕ) → (j ≡ k → ⊥) → away j ≡ present j
-  same_present j ne = ap (λ b. own j && not b) (among_more j others k ∙ (ap (λ b. is_one_of j others || b) (ne_eqb k j (λ f. ne (sym f))) ∙ or_none (is_one_of j others)))
+  same_here : (j : ℕ) → (j ≡ k → ⊥) → away j ≡ here j
+  same_here j ne = ap (λ b. own j && not b) (among_more j others k ∙ (ap (λ b. is_one_of j others || b) (ne_eqb k j (λ f. ne (sym f))) ∙ or_none (is_one_of j others)))
 
   -- of the mote that is back, and of another
   by_mote : (P : ℕ → Type 0) → P k → ((j : ℕ) → (j ≡ k → ⊥) → P j) → (j : ℕ) → P j
@@ -232,24 +232,24 @@ module _ (n : NetTold) (of : List ℕ) (worker from until : ℕ) (before now : M
             ∙ (append-nil (filter (is_to_come own until) (copies_known (system_of n) own now taken s))
             ∙ ap (λ l. filter (is_to_come own until) (cond (own s) l (filter (is_from_sender s) taken))) (sym (copies_put s ne))))
 
-    -- what holds of the mote that is back, and of each that was present
-    all_present : (P : (j : ℕ) → LoneMote Node Line → Type 0) → P k back.last → ((j : ℕ) → away j ≡ true → P j (now j)) → (j : ℕ) → present j ≡ true → P j (next j)
-    all_present P one rest =
-        by_mote (λ j. present j ≡ true → P j (next j)) (λ _. subst (P k) (sym at_k) one)
-        (λ j ne h. subst (P j) (sym (elsewhere j ne)) (rest j (same_present j ne ∙ h)))
+    -- what holds of the mote that is back, and of each that was here
+    all_here : (P : (j : ℕ) → LoneMote Node Line → Type 0) → P k back.last → ((j : ℕ) → away j ≡ true → P j (now j)) → (j : ℕ) → here j ≡ true → P j (next j)
+    all_here P one rest =
+        by_mote (λ j. here j ≡ true → P j (next j)) (λ _. subst (P k) (sym at_k) one)
+        (λ j ne h. subst (P j) (sym (elsewhere j ne)) (rest j (same_here j ne ∙ h)))
 
-    pub is_back : IsShare n of worker present until next taken share
+    pub is_back : IsShare n of worker here until next taken share
     is_back = record {
       is_worker = ret.worker ∙ stands.is_worker;
       places = ap length ret.motes ∙ (length-set old.motes.items k (Some out.mote) ∙ stands.places);
-      numbers = all_present (λ j m. number_of m.state ≡ j) back.number_is stands.numbers;
+      numbers = all_here (λ j m. number_of m.state ≡ j) back.number_is stands.numbers;
       nodes =
-          by_mote (λ j. present j ≡ true → node_at (tree_at n j) (mote_here share.motes.items j) ≡ Some (next j).state)
+          by_mote (λ j. here j ≡ true → node_at (tree_at n j) (mote_here share.motes.items j) ≡ Some (next j).state)
           (λ _. ap (node_at (tree_at n k)) mote_k ∙ (back.node ∙ ap (λ m. Some m.state) (sym at_k)))
-          (λ j ne h. ap (node_at (tree_at n j)) (mote_else j ne) ∙ (stands.nodes j (same_present j ne ∙ h) ∙ ap (λ m. Some m.state) (sym (elsewhere j ne))));
-      wakes = all_present (λ j m. m.wake ≡ wake_of m.state) back.wakes stands.wakes;
-      quiet = all_present (λ j m. WakesFrom until m.wake) back.quiet stands.quiet;
-      turned_before = all_present (λ j m. is_past until m.state.last ≡ false) back.turned_before stands.turned_before;
+          (λ j ne h. ap (node_at (tree_at n j)) (mote_else j ne) ∙ (stands.nodes j (same_here j ne ∙ h) ∙ ap (λ m. Some m.state) (sym (elsewhere j ne))));
+      wakes = all_here (λ j m. m.wake ≡ wake_of m.state) back.wakes stands.wakes;
+      quiet = all_here (λ j m. WakesFrom until m.wake) back.quiet stands.quiet;
+      turned_before = all_here (λ j m. is_past until m.state.last ≡ false) back.turned_before stands.turned_before;
       traces_kept = ret.traces_kept ∙ stands.traces_kept;
       traces =
           by_mote (λ j. own j ≡ true → (d : Vec Line Global) → (get_or share.traces.items j d).items ≡ (next j).lines)

@@ -192,11 +192,11 @@ module _ (n : NetTold) (of : List ℕ) (worker from until : ℕ) (motes : Motes)
 
   -- once the motes that are called have left
   module _ (numbers : List ℕ) (all : (k : ℕ) → is_one_of k numbers ≡ called k) where
-    abbrev pub present : ℕ → Bool
-    present k = own k && not (is_one_of k numbers)
+    abbrev pub here : ℕ → Bool
+    here k = own k && not (is_one_of k numbers)
 
-    pub present_parts : (k : ℕ) → present k ≡ true → (own k ≡ true) × (called k ≡ false)
-    present_parts k e = go (own k) (is_one_of k numbers) refl refl e
+    pub here_parts : (k : ℕ) → here k ≡ true → (own k ≡ true) × (called k ≡ false)
+    here_parts k e = go (own k) (is_one_of k numbers) refl refl e
       where
         go : (a b : Bool) → own k ≡ a → is_one_of k numbers ≡ b → (a && not b) ≡ true → (own k ≡ true) × (called k ≡ false)
         go true true f g h = absurd (false≢true h)

@@ -26,7 +26,7 @@ use Rattle.worker_window.proofs.Begins.{own_there}
 use Rattle.worker_window.proofs.Behind.{past_later}
 use Rattle.worker_window.proofs.Gives.{IsBack, back, gives_open, goes_open}
 use Rattle.worker_window.proofs.Lone.{quiet_alike}
-use Rattle.worker_window.proofs.Parts.{items, inbox, inbox_from, alike, idle_alone, all_in, later, later_wakes, later_copies, quiet_else, present_parts}
+use Rattle.worker_window.proofs.Parts.{items, inbox, inbox_from, alike, idle_alone, all_in, later, later_wakes, later_copies, quiet_else, here_parts}
 use Rattle.worker_window.proofs.Comings.{Coming, IsPending, zip_numbers}
 
 -- who is called is inside
@@ -59,16 +59,16 @@ module _ (n : NetTold) (of : List ℕ) (worker from until : ℕ) (motes : Motes)
   called_mine k e =
       called_in (λ k. mine k ≡ true) until k all_items (every_weaker _ _ (λ item h. h.0) all_items (all_in n of worker from until motes taken arrived old keeps le come)) (sym (gathers.called k) ∙ e)
 
-  abbrev present : ℕ → Bool
-  present k = mine k && not (is_one_of k (numbers_of residents))
+  abbrev here : ℕ → Bool
+  here k = mine k && not (is_one_of k (numbers_of residents))
 
-  parts : (k : ℕ) → present k ≡ true → (mine k ≡ true) × (list_any (calls_for until k) all_items ≡ false)
-  parts k h = present_parts n of worker from until motes taken arrived old keeps le come (numbers_of residents) all k h
+  parts : (k : ℕ) → here k ≡ true → (mine k ≡ true) × (list_any (calls_for until k) all_items ≡ false)
+  parts k h = here_parts n of worker from until motes taken arrived old keeps le come (numbers_of residents) all k h
 
-  same_mote : (k : ℕ) → present k ≡ true → mote_here new.motes.items k ≡ mote_here old.motes.items k
+  same_mote : (k : ℕ) → here k ≡ true → mote_here new.motes.items k ≡ mote_here old.motes.items k
   same_mote k h = leaves.gone k ∙ ap (λ b. cond b None (mote_here old.motes.items k)) (all k ∙ (parts k h).1)
 
-  pub stands_left : IsLeft old new → IsShare n of worker present until motes (taken ++ arrived) new
+  pub stands_left : IsLeft old new → IsShare n of worker here until motes (taken ++ arrived) new
   stands_left same = record {
     is_worker = same.0 ∙ keeps.is_worker;
     places = leaves.places ∙ keeps.places;
