@@ -114,7 +114,7 @@ impl<G: Gate> Future for MoteWindow<'_, G> {
         };
         let Some(moment) = own.next_moment() else {
             let own = self.own.take().unwrap();
-            return Poll::Ready(Ok(own.finish()));
+            return Poll::Ready(Ok(own.finish(&mut self.room)));
         };
         if let Err(e) = own.turn(moment, self.worker, self.gate, &mut self.room) {
             self.own = None;

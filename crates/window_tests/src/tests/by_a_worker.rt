@@ -119,7 +119,7 @@ fn outs_with_a_copy<R: Wait + RandomSource + AllocGlobal>(
 {
     let copies = one_copy(rt.alloc())?;
     let share = share_of_two(rt.alloc(), net, copies)?;
-    run_share(rt, rt.alloc(), net, share, 5, &NoGate)
+    run_share(rt, rt.alloc(), net, share, 5, &NoGate, &mut None)
 }
 
 /// Writes down the lines and packets of each mote.
