@@ -60,8 +60,12 @@ pub(crate) fn keep_copies(room: &mut Option<Box<TurnRoom>>, copies: Vec<RadioCop
     let Some(room) = room else {
         return;
     };
-    if copies.capacity() <= LONGEST_KEPT && room.copies.reserve(1).is_ok() {
-        room.copies.push_reserved(copies);
+    if copies.capacity() > LONGEST_KEPT {
+        return;
+    }
+    let list = &mut room.copies;
+    if let Ok(()) = list.reserve(1) {
+        list.push_reserved(copies);
     }
 }
 

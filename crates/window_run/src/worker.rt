@@ -94,11 +94,7 @@ impl<'a, G: Gate> ShareWindow<'a, G> {
             let window = open(alloc, net, resident, until, worker, gate);
             slots.push(Slot::Running(window))?;
         }
-        Ok(ShareWindow {
-            alloc,
-            slots,
-            room,
-        })
+        Ok(ShareWindow { alloc, slots, room })
     }
 }
 
