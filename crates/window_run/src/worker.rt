@@ -92,7 +92,7 @@ impl<'a, G: Gate> ShareWindow<'a, G> {
         let mut slots = Vec::with_capacity(alloc, residents.len())?;
         for resident in residents {
             let window = open(alloc, net, resident, until, worker, gate);
-            slots.push(Slot::Running(window))?;
+            slots.push(Slot { window, out: None })?;
         }
         Ok(ShareWindow { alloc, slots, room })
     }
