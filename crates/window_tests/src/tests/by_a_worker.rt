@@ -187,7 +187,7 @@ fn order_of_turns<R: Wait + RandomSource + AllocGlobal>(
     let diary = Diary {
         motes: AtomicU64::new(0),
     };
-    let outs = run_share(rt, rt.alloc(), net, share, 3, &diary)?;
+    let outs = run_share(rt, rt.alloc(), net, share, 3, &diary, &mut None)?;
     Ok((diary.motes.load(SeqCst), outs.len()))
 }
 
