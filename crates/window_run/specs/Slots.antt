@@ -1,5 +1,5 @@
 -- What a worker's slots give.
-use Rattle.std.specs.Prelude.{◌≡◌, ℕ, Bool, true, false, List, Result, Ok, Err, Vec}
+use Rattle.std.specs.Prelude.{◌≡◌, ℕ, Bool, List, Result, Ok, Err, Vec, is_some, MatchOption}
 use Rattle.std.specs.List.{AllZip, AllByRecursion}
 use Rattle.std.specs.declared.alloc.Global.{Global}
 use Rattle.mote_node.specs.declared.mote.MoteError.{MoteError}
@@ -8,26 +8,22 @@ use Rattle.mote_net.specs.Net.{NetTold}
 use Rattle.window_run.specs.declared.out.WindowOut.{WindowOut}
 use Rattle.window_run.specs.declared.share.Resident.{Resident}
 use Rattle.window_run.specs.declared.slot.Slot.{Slot}
-use Rattle.window_run.specs.declared.slot.Slot.TheVariants.{Running, Done}
 use Rattle.window_run.specs.Shares.{ResidentGives}
 use Rattle.window_run.specs.Turns.{MayGive, HasTurns}
 
 abbrev pub is_done : {G : Type 0} → Slot G → Bool
-is_done (Running window) = false
-is_done (Done out) = true
+is_done slot = is_some slot.out
 
 -- what the slot's window may give, or what it gave
 abbrev pub SlotGives : {G : Type 0} → Slot G → WindowOut → Type 0
-SlotGives (Running window) out = MayGive window.own out
-SlotGives (Done made) out = out ≡ made
+SlotGives slot out = MatchOption slot.out (MayGive slot.window.own out) (λ made. out ≡ made)
 
 abbrev pub SlotsGive : {G : Type 0} → List (Slot G) → List WindowOut → Type 0
 SlotsGive slots outs = AllZip SlotGives slots outs
 
 -- what is left of the slot's window can be run
 abbrev pub SlotGoesOn : {G : Type 0} → Slot G → Type 0
-SlotGoesOn (Running window) = HasTurns window.own
-SlotGoesOn (Done made) = Unit {0}
+SlotGoesOn slot = MatchOption slot.out (HasTurns slot.window.own) (λ made. Unit {0})
 
 abbrev pub SlotsGoOn : {G : Type 0} → List (Slot G) → Type 0
 SlotsGoOn slots = AllByRecursion SlotGoesOn slots

@@ -16,6 +16,6 @@ pub use gate::{Gate, NoGate};
 pub use mote_window::MoteWindow;
 pub use out::WindowOut;
 pub use own::OwnWindow;
-pub use room::{TurnRoom, WindowRoom};
+pub use room::{TurnRoom, WindowRoom, copies_in};
 pub use share::{Resident, Residents, ShareError};
 pub use worker::{ShareWindow, run_share};

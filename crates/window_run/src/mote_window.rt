@@ -1,11 +1,12 @@
 //! A mote's window as a future: each poll takes one turn.
 
-ghost use Rattle.std.specs.Prelude.{◌≡◌, ◌≤◌, ◌^◌, true, Some, None, IsSomeAnd, IfOk, IfErr, ⊤};
+ghost use Rattle.std.specs.Prelude.{◌≡◌, ◌≤◌, ◌^◌, true, Some, None, IsSome, IsSomeAnd, IfSome, IfOk, IfErr, ⊤};
 ghost use Rattle.futures.specs.Poll.{IfReady, OnPending};
 ghost use Rattle.futures.specs.Task.{Covers, Keeps};
 ghost use Rattle.program_tree.specs.Program.{tree_of};
 ghost use Rattle.mote_node.specs.Public.{node_in};
-ghost use Rattle.window_run.specs.Own.{window_in, course_in, course_of};
+ghost use Rattle.window_run.specs.Out.{shown};
+ghost use Rattle.window_run.specs.Own.{window_in, course_in, course_of, StaysFailed};
 ghost use Rattle.window_run.specs.Window.{is_rising, opened};
 ghost use Rattle.window_run.specs.Turns.{MayAnswer, TakesTurn, RestsAs, ErrsAs};
 
@@ -87,6 +88,26 @@ impl<'a, G: Gate> MoteWindow<'a, G> {
     }
 }
 
+/// What a window gives, once no turn is left; it is given up. A function by itself, so that a turn clears no place on
+/// the stack for it.
+#[inline(always)]
+fn finish(own: &mut Option<OwnWindow<'_>>, room: &mut Option<Box<TurnRoom>>) -> WindowOut
+    requires { IsSome own.old }
+    ensures made { IfSome own.old (λ own. IfSome (window_in own) (λ w. shown w.program result ≡ Some w.mote)) }
+    ensures left { IfSome own.old (λ own. window_in own ≡ None → StaysFailed (course_in own) result) }
+    ensures given_up { own.new ≡ None }
+{
+    own.take().unwrap().finish(room)
+}
+
+/// Gives a window up, with its mote; by itself for the same reason.
+#[inline(always)]
+fn give_up(own: &mut Option<OwnWindow<'_>>)
+    ensures { own.new ≡ None }
+{
+    *own = None;
+}
+
 impl<G: Gate> Future for MoteWindow<'_, G> {
     type Output = Result<WindowOut, MoteError>;
 
@@ -113,11 +134,10 @@ impl<G: Gate> Future for MoteWindow<'_, G> {
             return Poll::Ready(Err(MoteError::Failed));
         };
         let Some(moment) = own.next_moment() else {
-            let own = self.own.take().unwrap();
-            return Poll::Ready(Ok(own.finish()));
+            return Poll::Ready(Ok(finish(&mut self.own, &mut self.room)));
         };
         if let Err(e) = own.turn(moment, self.worker, self.gate, &mut self.room) {
-            self.own = None;
+            give_up(&mut self.own);
             return Poll::Ready(Err(e));
         }
         cx.yield_now()

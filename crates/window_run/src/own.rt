@@ -11,7 +11,7 @@ ghost use Rattle.window_run.specs.Window.{Window, HasTurn, IsOver, IsNextOf, is_
 
 use crate::gate::Gate;
 use crate::out::WindowOut;
-use crate::room::{TurnRoom, WindowRoom, room_in};
+use crate::room::{TurnRoom, WindowRoom, keep_copies, room_in};
 use mote_node::{Mote, MoteError};
 use process_kernel::Line;
 use program_tree::Program;
@@ -142,9 +142,9 @@ impl<'a> OwnWindow<'a> {
         Ok(())
     }
 
-    /// What the window gives, once no turn is left.
+    /// What the window gives, once no turn is left. The list of its copies is left in the room, where one is there.
     #[tactic(auto, unfolding(crate::specs::Own::window_in, crate::specs::Own::course_in))]
-    pub fn finish(self) -> WindowOut
+    pub fn finish(self, room: &mut Option<Box<TurnRoom>>) -> WindowOut
         ensures made { IfSome (window_in self.entry) (λ w. shown w.program result ≡ Some w.mote) }
         ensures left { window_in self.entry ≡ None → StaysFailed (course_in self.entry) result }
     {
@@ -154,11 +154,12 @@ impl<'a> OwnWindow<'a> {
             until: _,
             mote,
             wake,
-            copies: _,
+            copies,
             next: _,
             lines,
             sends,
         } = self;
+        keep_copies(room, copies);
         WindowOut {
             mote,
             lines,

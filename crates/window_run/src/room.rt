@@ -1,16 +1,23 @@
 //! The room that a worker's turns and windows write into.
 
+ghost use Rattle.std.specs.Prelude.{◌≡◌, []};
+
 use process_kernel::{Line, Out};
-use radio_packet::{Arrival, Sent};
+use radio_packet::{Arrival, RadioCopy, Sent};
 use std::alloc::{AllocError, Global};
 
 /// Scratch buffers of a turn, for what comes to a mote and what it writes and sends. Each turn begins with both anew,
-/// so they go from turn to turn, and from mote to mote.
+/// so they go from turn to turn, and from mote to mote. With them go the lists that held the copies of windows; what
+/// those hold is unspecified.
 #[derive(Drop)]
 pub struct TurnRoom {
     pub(crate) arrivals: Vec<Arrival>,
     pub(crate) out: Out,
+    pub(crate) copies: Vec<Vec<RadioCopy>>,
 }
+
+/// The longest list of copies that is kept for a later window, so that those kept take little memory.
+const LONGEST_KEPT: usize = 32;
 
 /// The room that is there, or else one that is made.
 pub(crate) fn room_in(
@@ -21,12 +28,44 @@ pub(crate) fn room_in(
         let made = TurnRoom {
             arrivals: Vec::new(alloc),
             out: Out::new(alloc),
+            copies: Vec::new(alloc),
         };
         *room = Some(Box::new(alloc, made)?);
     }
     match room {
         Some(room) => Ok(&mut **room),
         None => Err(AllocError),
+    }
+}
+
+/// An empty list for the copies of a window: one that an earlier window left in the room, if any is there.
+pub fn copies_in(alloc: Global, room: &mut Option<Box<TurnRoom>>) -> Vec<RadioCopy>
+    ensures { result.items ≡ [] }
+{
+    let Some(room) = room else {
+        return Vec::new(alloc);
+    };
+    match room.copies.pop() {
+        Some(mut copies) => {
+            copies.clear();
+            copies
+        }
+        None => Vec::new(alloc),
+    }
+}
+
+/// Leaves a list of copies in the room for a later window. One that is long, or for which there is no place, is given
+/// up.
+pub(crate) fn keep_copies(room: &mut Option<Box<TurnRoom>>, copies: Vec<RadioCopy>) {
+    let Some(room) = room else {
+        return;
+    };
+    if copies.capacity() > LONGEST_KEPT {
+        return;
+    }
+    let list = &mut room.copies;
+    if let Ok(()) = list.reserve(1) {
+        list.push_reserved(copies);
     }
 }
 

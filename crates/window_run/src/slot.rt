@@ -1,6 +1,6 @@
-//! One mote of a worker: its window, or what the window gave.
+//! One mote of a worker: its window, and what that gave.
 
-ghost use Rattle.std.specs.Prelude.{◌≡◌, true, OnOk, IfErr};
+ghost use Rattle.std.specs.Prelude.{◌≡◌, true, Some, OnOk, IfErr};
 ghost use Rattle.futures.specs.Task.{Keeps};
 ghost use Rattle.mote_node.specs.declared.mote.MoteError.TheVariants.{Memory};
 ghost use Rattle.window_run.specs.Slots.{SlotGives, SlotGoesOn, is_done};
@@ -13,17 +13,15 @@ use futures::Future;
 use futures::task::{Context, Poll};
 use mote_node::MoteError;
 
-pub(crate) enum Slot<'a, G> {
-    Running(MoteWindow<'a, G>),
-    Done(WindowOut),
+/// What a window gave is there once the window was ready.
+pub(crate) struct Slot<'a, G> {
+    pub(crate) window: MoteWindow<'a, G>,
+    pub(crate) out: Option<WindowOut>,
 }
 
 impl<G> Drop for Slot<'_, G> {
     fn drop(self) {
-        match self {
-            Slot::Running(_window) => {}
-            Slot::Done(_out) => {}
-        }
+        let Slot { window: _, out: _ } = self;
     }
 }
 
@@ -31,21 +29,16 @@ impl<G: Gate> Slot<'_, G> {
     pub(crate) fn is_done(&self) -> bool
         ensures { result ≡ is_done self.now }
     {
-        match self {
-            Slot::Running(_) => false,
-            Slot::Done(_) => true,
-        }
+        self.out.is_some()
     }
 
     /// What the window gave.
     pub(crate) fn into_out(self) -> WindowOut
         requires { is_done self ≡ true }
-        ensures { self.entry ≡ Slot.Done result }
+        ensures { self.entry.out ≡ Some result }
     {
-        match self {
-            Slot::Running(_window) => unreachable!(),
-            Slot::Done(out) => out,
-        }
+        let Slot { window: _, out } = self;
+        out.unwrap()
     }
 
     /// Polls the window once, where it was not ready before. Its turn takes place in this room.
@@ -59,14 +52,14 @@ impl<G: Gate> Slot<'_, G> {
         ensures err { IfErr result (λ e. SlotGoesOn self.old → e ≡ Memory) }
         ensures kept { Keeps cx.old cx.new }
     {
-        let Slot::Running(window) = self else {
+        if let Some(_) = &self.out {
             return Ok(());
-        };
-        window.swap_room(room);
-        let polled = window.poll(cx);
-        window.swap_room(room);
+        }
+        self.window.swap_room(room);
+        let polled = self.window.poll(cx);
+        self.window.swap_room(room);
         if let Poll::Ready(answer) = polled {
-            *self = Slot::Done(answer?);
+            self.out = Some(answer?);
         }
         Ok(())
     }

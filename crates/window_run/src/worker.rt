@@ -33,7 +33,7 @@ pub struct ShareWindow<'a, G> {
     alloc: Global,
     slots: Vec<Slot<'a, G>>,
     /// The room of the turns, which goes from window to window.
-    room: Option<Box<TurnRoom>>,
+    room: &'a mut Option<Box<TurnRoom>>,
 }
 
 impl<G> Drop for ShareWindow<'_, G> {
@@ -72,13 +72,14 @@ fn open<'a, G: Gate>(
 
 impl<'a, G: Gate> ShareWindow<'a, G> {
     /// The worker's motes, each before its first turn in the window up to `until`, which is at most 2^40. Each is a
-    /// mote of the net.
+    /// mote of the net. The turns take place in this room.
     pub fn new(
         alloc: Global,
         net: &'a Net,
         share: Residents,
         until: u64,
         gate: &'a G,
+        room: &'a mut Option<Box<TurnRoom>>,
     ) -> Result<ShareWindow<'a, G>, AllocError>
         requires until { until ≤ 2 ^ 40 }
         requires there { AreInNet (net_of net.now) share.residents.items }
@@ -91,13 +92,9 @@ impl<'a, G: Gate> ShareWindow<'a, G> {
         let mut slots = Vec::with_capacity(alloc, residents.len())?;
         for resident in residents {
             let window = open(alloc, net, resident, until, worker, gate);
-            slots.push(Slot::Running(window))?;
+            slots.push(Slot { window, out: None })?;
         }
-        Ok(ShareWindow {
-            alloc,
-            slots,
-            room: None,
-        })
+        Ok(ShareWindow { alloc, slots, room })
     }
 }
 
@@ -107,7 +104,7 @@ impl<G: Gate> Future for ShareWindow<'_, G> {
     ghost gives = { λ w r. WorkerMayAnswer w.slots.items r };
 
     fn poll(&mut self, cx: &mut Context<'_>) -> Poll<Self::Output> {
-        if let Err(e) = advance_each(&mut self.slots, &mut self.room, cx) {
+        if let Err(e) = advance_each(&mut self.slots, self.room, cx) {
             return Poll::Ready(Err(e));
         }
         if !all_done(&self.slots) {
@@ -164,7 +161,7 @@ fn collect_outs<G: Gate>(
 
 /// Runs a worker's motes, each of them a mote of the net, through the window up to `until`, which is at most 2^40, by
 /// the worker's future. What each gives stands in the order of the residents. No mote has failed, and what comes to
-/// each comes after its last turn.
+/// each comes after its last turn. The room of the turns goes from window to window.
 ///
 /// # Errors
 /// `Memory`, and `Thread` where the executor answered an error.
@@ -175,6 +172,7 @@ pub fn run_share<R, G>(
     share: Residents,
     until: u64,
     gate: &G,
+    room: &mut Option<Box<TurnRoom>>,
 ) -> Result<Vec<WindowOut>, ShareError>
 where
     R: Wait + RandomSource + AllocGlobal,
@@ -184,7 +182,7 @@ where
     requires go_on { AreGoingOn (net_of net.now) until share.residents.items }
     ensures { IfOk result (λ outs. GivesList (net_of net.now) until share.residents.items outs.items) }
 {
-    let worker = ShareWindow::new(alloc, net, share, until, gate)?;
+    let worker = ShareWindow::new(alloc, net, share, until, gate, room)?;
     match block_on(rt, worker) {
         Ok(Ok(outs)) => Ok(outs),
         Ok(Err(MoteError::Memory)) => Err(ShareError::Memory),

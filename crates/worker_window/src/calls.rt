@@ -8,6 +8,7 @@ ghost use Rattle.window_laws.specs.Agenda.{Item};
 ghost use Rattle.net_agenda.specs.Items.{copy_at};
 ghost use Rattle.worker_window.specs.Calls.{copies_for, is_not_before, Gathers, HasItems, TakesCall};
 
+use crate::rooms::Rooms;
 use net_agenda::Agenda;
 use radio_packet::{Arrival, RadioCopy};
 use std::alloc::{AllocError, Global};
@@ -44,25 +45,31 @@ impl CalledMotes {
     }
 
     /// Takes the copies out that have come to a mote so far.
-    fn take(&mut self, mote: u16) -> Vec<RadioCopy>
+    fn take(&mut self, mote: u16, rooms: &mut Rooms) -> Vec<RadioCopy>
         requires { mote < length self.old.copies.items }
         ensures copies { result.items ≡ unwrap_or (copies_for self.old.copies.items mote) [] }
         ensures others { self.new.copies.items ≡ slice_set self.old.copies.items mote None }
     {
         match self.copies[usize::from(mote)].take() {
             Some(copies) => copies,
-            None => Vec::new(self.alloc),
+            None => rooms.copies(),
         }
     }
 
     /// A mote is called at a moment, with the copies that arrive.
-    fn add(&mut self, moment: u64, mote: u16, arrivals: &[Arrival]) -> Result<(), AllocError>
+    fn add(
+        &mut self,
+        moment: u64,
+        mote: u16,
+        arrivals: &[Arrival],
+        rooms: &mut Rooms,
+    ) -> Result<(), AllocError>
         ensures { OnOk result ((k : ℕ) → copies_for self.new.copies.items k
             ≡ (if mote == k then Some (unwrap_or (copies_for self.old.copies.items mote) []
             ++ map (copy_at moment mote) arrivals.now) else copies_for self.old.copies.items k)) }
     {
         self.reach(mote)?;
-        let mut copies = self.take(mote);
+        let mut copies = self.take(mote, rooms);
         add_copies(&mut copies, moment, mote, arrivals)?;
         self.copies[usize::from(mote)] = Some(copies);
         Ok(())
@@ -125,7 +132,12 @@ fn add_copies(
 }
 
 /// Takes all pending events before a moment out of the agenda, mote by mote.
-pub fn gather(alloc: Global, agenda: &mut Agenda, until: u64) -> Result<CalledMotes, AllocError>
+pub fn gather(
+    alloc: Global,
+    agenda: &mut Agenda,
+    until: u64,
+    rooms: &mut Rooms,
+) -> Result<CalledMotes, AllocError>
     requires { HasItems agenda.old.buckets }
     ensures gathered { IfOk result (λ calls. (items : List Item) → Holds agenda.old.buckets items
         → Gathers until items calls.copies.items) }
@@ -139,7 +151,7 @@ pub fn gather(alloc: Global, agenda: &mut Agenda, until: u64) -> Result<CalledMo
             break;
         }
         agenda.take_due_into(moment, mote, &mut arrivals)?;
-        calls.add(moment, mote, &arrivals)?;
+        calls.add(moment, mote, &arrivals, rooms)?;
     }
     Ok(calls)
 }

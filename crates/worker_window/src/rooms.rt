@@ -1,12 +1,17 @@
 //! Scratch buffers of windows, which later windows use again.
 
-use std::alloc::{AllocError, Global};
-use window_run::WindowRoom;
+ghost use Rattle.std.specs.Prelude.{◌≡◌, []};
 
-/// Buffers for the lines and packets of a mote's window. What they hold between two windows is unspecified.
+use radio_packet::RadioCopy;
+use std::alloc::{AllocError, Global};
+use window_run::{TurnRoom, WindowRoom, copies_in};
+
+/// Buffers for the lines and packets of a mote's window, and the room of the turns. What they hold between two windows
+/// is unspecified.
 pub(crate) struct Rooms {
     alloc: Global,
     windows: Vec<WindowRoom>,
+    pub(crate) turns: Option<Box<TurnRoom>>,
 }
 
 impl Drop for Rooms {
@@ -14,6 +19,7 @@ impl Drop for Rooms {
         let Rooms {
             alloc: _,
             windows: _,
+            turns: _,
         } = self;
     }
 }
@@ -24,7 +30,15 @@ impl Rooms {
         Rooms {
             alloc,
             windows: Vec::new(alloc),
+            turns: None,
         }
+    }
+
+    /// An empty list for the copies of a window: that of an earlier one, if any is here.
+    pub(crate) fn copies(&mut self) -> Vec<RadioCopy>
+        ensures { result.items ≡ [] }
+    {
+        copies_in(self.alloc, &mut self.turns)
     }
 
     /// The buffers for a window: those of an earlier one, if any are here.

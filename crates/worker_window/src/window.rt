@@ -290,14 +290,22 @@ impl Share {
             (λ sent. AllByRecursion (GoesOut n of.now self.old.worker) sent.items) }
     {
         self.agenda.put_copies(&arrived)?;
-        let calls = gather(self.alloc, &mut self.agenda, until)?;
+        let calls = gather(self.alloc, &mut self.agenda, until, &mut self.rooms)?;
         let mut wakes = Vec::new(self.alloc);
         let residents = leave(&mut self.motes, &mut wakes, until, calls, &mut self.rooms)?;
         let called = window_run::Residents {
             worker: self.worker,
             residents,
         };
-        let mut outs = run_share(rt, self.alloc, net, called, until, gate)?;
+        let mut outs = run_share(
+            rt,
+            self.alloc,
+            net,
+            called,
+            until,
+            gate,
+            &mut self.rooms.turns,
+        )?;
         let mut away = Vec::new(self.alloc);
         while let Some(out) = outs.pop() {
             let pending = last_wake(&mut wakes);

@@ -80,7 +80,7 @@ fn outs_with_a_copy<R: Wait + RandomSource + AllocGlobal>(
 {
     let copies = one_copy(rt.alloc())?;
     let share = share_of_two(rt.alloc(), net, copies)?;
-    run_share(rt, rt.alloc(), net, share, 5, &NoGate)
+    run_share(rt, rt.alloc(), net, share, 5, &NoGate, &mut None)
 }
 
 /// Writes down the lines and packets of each mote.
@@ -147,7 +147,7 @@ fn order_of_turns<R: Wait + RandomSource + AllocGlobal>(
     let diary = Diary {
         motes: AtomicU64::new(0),
     };
-    let outs = run_share(rt, rt.alloc(), net, share, 3, &diary)?;
+    let outs = run_share(rt, rt.alloc(), net, share, 3, &diary, &mut None)?;
     Ok((diary.motes.load(SeqCst), outs.len()))
 }
 

@@ -2,14 +2,14 @@ use Rattle.std.proofs.Common.{rules, ◌≡◌, sym, refl, ◌∙◌, map-id, ve
 use Rattle.std.specs.Vec.Iter.{into_iter_items}
 use Rattle.std.proofs.lemmas.Iterator.Adapters.{YieldsList-from_vec}
 use Rattle.std.proofs.lemmas.Iterator.Consumers.{YieldsList-end}
-use Rattle.window_run.specs.Slots.{is_done}
+use Rattle.window_run.specs.Slots.{SlotGives, is_done}
 use Rattle.window_run.proofs.Workers.{rest_done}
 use Rattle.window_run.proofs.Zips.{push_zip}
 use Rattle.window_run.proofs.worker.collect_outs.Goals as goal
 
 pub loop-slot-preserved : goal.loop-slot-preserved
 loop-slot-preserved g c = record {
-  given = rw c.in-Ok.ensures.items (push_zip _ c.loop-slot.yielded c.loop-slot.outs.items c.in-Some.slot c.into_out.result c.loop-slot.invariant.given (rw c.into_out.ensures refl));
+  given = rw c.in-Ok.ensures.items (push_zip SlotGives c.loop-slot.yielded c.loop-slot.outs.items c.in-Some.slot c.into_out.result c.loop-slot.invariant.given (rw c.into_out.ensures refl));
   done = rest_done is_done (into_iter_items c.loop-slot.slot-iterator) c.in-Some.slot (into_iter_items c.next.new.self) c.in-Some.ensures.steps.0 c.loop-slot.invariant.done;
 }
 

@@ -8,4 +8,4 @@ returns-in-Some-clause-copies c =
 
 pub returns-in-None-clause-copies : goal.returns-in-None-clause-copies
 returns-in-None-clause-copies c =
-    none_there c.args.self.now.copies.items c.args.mote c.from.result _ c.index_mut.result.now c.new.result.items c.requires c.from.ensures c.index_mut.ensures.value (sym c.take.ensures.value ∙ c.in-None.is) c.new.ensures.items
+    none_there c.args.self.now.copies.items c.args.mote c.from.result _ c.index_mut.result.now c.copies.result.items c.requires c.from.ensures c.index_mut.ensures.value (sym c.take.ensures.value ∙ c.in-None.is) c.copies.ensures

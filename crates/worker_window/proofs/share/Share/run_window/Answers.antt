@@ -60,7 +60,7 @@ loop-out-init g c =
     let kept = c.requires.ready.keeps in
     let base = subst (λ l. Holds c.put_copies.new.self.buckets (kept.agenda.items ++ map Packet l)) c.deref.ensures.value (c.in_ok-put_copies.ensures kept.agenda.items kept.agenda.holds) in
     let left = c.in_ok-residents.ensures in
-    let share : Share = record c.args.self.now { motes = c.leave.new.motes; agenda = c.gather.new.agenda; rooms = c.leave.new.rooms } in
+    let share : Share = record c.args.self.now { motes = c.leave.new.motes; agenda = c.gather.new.agenda; rooms = record c.leave.new.rooms { turns = c.run_share.new.room } } in
     record {
       motes = left.places ∙ kept.places;
       traces = kept.traces_kept;
