@@ -10,7 +10,7 @@ use window_run::{TurnRoom, WindowRoom, copies_in};
 /// is unspecified.
 pub(crate) struct Rooms {
     alloc: Global,
-    windows: Vec<WindowRoom>,
+    buffers: Vec<WindowRoom>,
     pub(crate) turns: Option<Box<TurnRoom>>,
 }
 
@@ -18,7 +18,7 @@ impl Drop for Rooms {
     fn drop(self) {
         let Rooms {
             alloc: _,
-            windows: _,
+            buffers: _,
             turns: _,
         } = self;
     }
@@ -29,7 +29,7 @@ impl Rooms {
     pub(crate) fn new(alloc: Global) -> Rooms {
         Rooms {
             alloc,
-            windows: Vec::new(alloc),
+            buffers: Vec::new(alloc),
             turns: None,
         }
     }
@@ -43,7 +43,7 @@ impl Rooms {
 
     /// The buffers for a window: those of an earlier one, if any are here.
     pub(crate) fn take(&mut self) -> WindowRoom {
-        match self.windows.pop() {
+        match self.buffers.pop() {
             Some(buffers) => buffers,
             None => WindowRoom::new(self.alloc),
         }
@@ -51,7 +51,7 @@ impl Rooms {
 
     /// Puts the buffers of a window back.
     pub(crate) fn put_back(&mut self, buffers: WindowRoom) -> Result<(), AllocError> {
-        self.windows.push(buffers)?;
+        self.buffers.push(buffers)?;
         Ok(())
     }
 }
