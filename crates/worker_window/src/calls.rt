@@ -102,7 +102,7 @@ fn copy_at(moment: u64, mote: u16, arrival: &Arrival) -> RadioCopy
     }
 }
 
-/// Appends the copies of packets that arrive together. Each is made once there is room for it, so straight at its place.
+/// Appends the copies of packets that arrive together. Each is made once there is room, so straight at its place.
 fn add_copies(
     copies: &mut Vec<RadioCopy>,
     moment: u64,
