@@ -1,7 +1,7 @@
 //! Which motes have a turn in a window, and the copies that come to each.
 
 ghost use Rattle.std.specs.Prelude.{◌≡◌, ◌<◌, ◌≤◌, ℕ, length, vec_len, List, [], OnOk, IfOk, MatchOption};
-ghost use Rattle.std.specs.Prelude.{if◌then◌else◌, ◌==◌, ◌++◌, ◌∷◌, Some, None, map, slice_set, unwrap_or};
+ghost use Rattle.std.specs.Prelude.{if◌then◌else◌, ◌==◌, ◌++◌, Some, None, map, slice_set, unwrap_or};
 ghost use Rattle.std.specs.List.{filter};
 ghost use Rattle.net_agenda.specs.Buckets.{Buckets, Holds};
 ghost use Rattle.window_laws.specs.Agenda.{Item};
@@ -102,21 +102,7 @@ fn copy_at(moment: u64, mote: u16, arrival: &Arrival) -> RadioCopy
     }
 }
 
-/// Appends the copy of a packet. It is made once there is room for it, so straight at its place.
-fn put_copy(
-    copies: &mut Vec<RadioCopy>,
-    moment: u64,
-    mote: u16,
-    arrival: &Arrival,
-) -> Result<(), AllocError>
-    ensures { OnOk result (copies.new.items ≡ copies.old.items ++ copy_at moment mote arrival.now ∷ []) }
-{
-    copies.reserve(1)?;
-    copies.push_reserved(copy_at(moment, mote, arrival));
-    Ok(())
-}
-
-/// Appends the copies of packets that arrive together.
+/// Appends the copies of packets that arrive together. Each is made once there is room, so straight at its place.
 fn add_copies(
     copies: &mut Vec<RadioCopy>,
     moment: u64,
@@ -125,8 +111,9 @@ fn add_copies(
 ) -> Result<(), AllocError>
     ensures { OnOk result (copies.new.items ≡ copies.old.items ++ map (copy_at moment mote) arrivals.now) }
 {
+    copies.reserve(arrivals.len())?;
     for arrival in arrivals {
-        put_copy(copies, moment, mote, arrival)?;
+        copies.push_reserved(copy_at(moment, mote, arrival));
     }
     Ok(())
 }
