@@ -13,7 +13,7 @@ use Rattle.window_laws.proofs.History.{history, unseen_since}
 use Rattle.net_agenda.specs.NetSystem.{system_of}
 use Rattle.worker_cut.specs.Crossed.{is_own, is_to, crossed, leaves}
 use Rattle.worker_cut.specs.Laws.{GatheredCopies}
-use Rattle.worker_cut.proofs.Crossed.{inbox_is, crossed_next}
+use Rattle.worker_cut.proofs.Crossed.{given_is, crossed_next}
 use Rattle.worker_cut.proofs.Windows.{one_more, same_copies}
 use Rattle.worker_window.specs.Share.{Motes}
 use Rattle.worker_window.specs.Window.{RunsOwn, GoesOut, copies_out}
@@ -75,9 +75,9 @@ module _ (n : NetTold) (fine : RunsForward (system_of n)) (of : List ℕ) (worke
           let mine = own_by of v k e in
           let ran = runs v h k mine in
           record {
-            inbox = ran.inbox;
-            is_inbox = inbox_is (system_of n) of motes (gathered v) (taken v) v k from until mine (told v h) (took v h) ran.inbox ran.is_inbox;
-            alone = subst (λ m. Alone (system_of n) k until ran.inbox (motes k) m) (next_is v k mine) ran.alone;
+            inbox = ran.given;
+            is_inbox = given_is (system_of n) of motes (gathered v) (taken v) v k from until mine (told v h) (took v h) ran.given ran.is_given;
+            alone = subst (λ m. Alone (system_of n) k until ran.given (motes k) m) (next_is v k mine) ran.alone;
           }
 
       each : (k : ℕ) → k < length n.motes → RunsAlone (system_of n) from until motes next k

@@ -72,9 +72,9 @@ module _ (n : NetTold) (fine : RunsForward (system_of n)) (of : List ℕ) (width
     own_runs v lv m mine =
         let ran = ((all.ran v lv).runs k low).runs m mine in
         record {
-          inbox = ran.inbox;
-          is_inbox = λ t s. ran.is_inbox t s ∙ ap (filter (is_at t)) (same_known v lv m s);
-          alone = subst (λ x. Alone (system_of n) m until ran.inbox x ((all.history v).motes (suc k) m)) (own_stage v lv k m mine) ran.alone;
+          inbox = ran.given;
+          is_inbox = λ t s. ran.is_given t s ∙ ap (filter (is_at t)) (same_known v lv m s);
+          alone = subst (λ x. Alone (system_of n) m until ran.given x ((all.history v).motes (suc k) m)) (own_stage v lv k m mine) ran.alone;
         }
 
     same_out : (v : ℕ) → v < workers → (s : ℕ) → copies_out n (is_own of v) ((all.history v).motes k) s ≡ copies_out n (is_own of v) (stage k) s

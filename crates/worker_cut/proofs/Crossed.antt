@@ -1,4 +1,4 @@
--- What crosses between workers makes each mote's inbox.
+-- What crosses between workers makes the copies for each mote in a window.
 use Rattle.std.proofs.Common.{◌≡◌, ◌⊎◌, ℕ, Bool, true, false, not, ◌&&◌, eqb, List, ◌++◌, refl, sym, ap, ◌∙◌, arith, inl, inr, Option, Some, None}
 use Rattle.std.specs.List.{filter, slice_get}
 use Rattle.std.specs.Option.{option_map_or}
@@ -21,13 +21,13 @@ module _ {S L : Type 0} (system : System S L) (of : List ℕ) where
       let f : c.to ≡ k = eqb-true c.to k (and_left (eqb c.to k) _ e) in
       ap (is_own of v) f ∙ h
 
-  pub inbox_is : (motes : ℕ → LoneMote S L) (gathered taken : List RadioCopy) (v k from bound : ℕ) → is_own of v k ≡ true
+  pub given_is : (motes : ℕ → LoneMote S L) (gathered taken : List RadioCopy) (v k from bound : ℕ) → is_own of v k ≡ true
       → ((s : ℕ) → filter (is_from_sender s) gathered ≡ crossed system of motes v s)
       → ((s : ℕ) → filter (is_from_sender s) taken ≡ filter (is_from_sender s) gathered)
-      → (inbox : List RadioCopy)
-      → ((t s : ℕ) → filter (is_from_sender s) (filter (is_at t) inbox) ≡ filter (is_at t) (filter (is_within k from bound) (copies_known system (is_own of v) motes taken s)))
-      → IsInbox system from bound motes k inbox
-  inbox_is motes gathered taken v k from bound h told whole inbox is t s = is t s ∙ ap (filter (is_at t)) (of_case (cases_Bool (is_own of v s)))
+      → (given : List RadioCopy)
+      → ((t s : ℕ) → filter (is_from_sender s) (filter (is_at t) given) ≡ filter (is_at t) (filter (is_within k from bound) (copies_known system (is_own of v) motes taken s)))
+      → IsInbox system from bound motes k given
+  given_is motes gathered taken v k from bound h told whole given is t s = is t s ∙ ap (filter (is_at t)) (of_case (cases_Bool (is_own of v s)))
     where
       of_case : (is_own of v s ≡ true) ⊎ (is_own of v s ≡ false) → filter (is_within k from bound) (copies_known system (is_own of v) motes taken s) ≡ filter (is_within k from bound) (copies_by system motes s)
       of_case (inl e) = rw e refl

@@ -129,21 +129,21 @@ module _ (n : NetTold) (of : List ℕ) (worker from until : ℕ) (motes : Motes)
   abbrev pub is_soon : ℕ → RadioCopy → Bool
   is_soon k copy = ltb copy.at until && eqb copy.to k
 
-  abbrev pub inbox : ℕ → List RadioCopy
-  inbox k = filter (is_soon k) (packets items)
+  abbrev pub window_copies : ℕ → List RadioCopy
+  window_copies k = filter (is_soon k) (packets items)
 
-  pub inbox_is : (k : ℕ) → own k ≡ true → (t s : ℕ) → filter (is_from_sender s) (filter (is_at t) (inbox k)) ≡ filter (is_at t) (filter (is_within k from until) (known s))
-  inbox_is k mine t s =
-      filter_filter (is_from_sender s) (is_at t) (inbox k)
+  pub window_copies_are : (k : ℕ) → own k ≡ true → (t s : ℕ) → filter (is_from_sender s) (filter (is_at t) (window_copies k)) ≡ filter (is_at t) (filter (is_within k from until) (known s))
+  window_copies_are k mine t s =
+      filter_filter (is_from_sender s) (is_at t) (window_copies k)
       ∙ ap (filter (is_at t)) (filter_filter (is_from_sender s) (is_soon k) (packets items)
       ∙ (ap (filter (is_soon k)) (known_now s)
       ∙ filter_both (is_soon k) (is_to_come own from) (is_within k from until) (λ c. within_is (eqb c.to k) (own c.to) c.at from until (λ e. ap own (eqb-true c.to k e) ∙ mine)) (known s)))
 
-  pub inbox_from : (k : ℕ) → AllByRecursion (λ c. from ≤ c.at) (inbox k)
-  inbox_from k = every_filter _ _ (is_soon k) (λ c h e. h.1) (packets items) (packets_of_all IsIn items all_in)
+  pub window_copies_from : (k : ℕ) → AllByRecursion (λ c. from ≤ c.at) (window_copies k)
+  window_copies_from k = every_filter _ _ (is_soon k) (λ c h e. h.1) (packets items) (packets_of_all IsIn items all_in)
 
-  at_inbox : (k t : ℕ) → filter (is_at t) (inbox k) ≡ cond (ltb t until) (packets (filter (comes_at t k) items)) []
-  at_inbox k t =
+  at_window_copies : (k t : ℕ) → filter (is_at t) (window_copies k) ≡ cond (ltb t until) (packets (filter (comes_at t k) items)) []
+  at_window_copies k t =
       elim (cases_Bool (ltb t until)) [
         | inl e ↦ rw e (filter_both (is_at t) (is_soon k) (λ c. comes_at t k (Packet c)) (λ c. due_soon c.at c.to t k until (soon e)) (packets items) ∙ sym (packets_filter (comes_at t k) items))
         | inr e ↦ rw e (filter_both (is_at t) (is_soon k) (λ c. false) (λ c. never_soon c.at c.to t k until (not_soon e)) (packets items) ∙ filter_never (packets items))
@@ -158,16 +158,16 @@ module _ (n : NetTold) (of : List ℕ) (worker from until : ℕ) (motes : Motes)
   in_order_again : (xs : List RadioCopy) → in_order (in_order xs) ≡ in_order xs
   in_order_again xs = sorted_rising (λ copy. copy.sender) (λ copy. copy.number) (in_order xs) (sorted_is_sorted (λ copy. copy.sender) (λ copy. copy.number) xs)
 
-  pub alike : (k : ℕ) (copies : List RadioCopy) → GathersFor until items k copies → (t : ℕ) → in_order (filter (is_at t) copies) ≡ in_order (filter (is_at t) (inbox k))
+  pub alike : (k : ℕ) (copies : List RadioCopy) → GathersFor until items k copies → (t : ℕ) → in_order (filter (is_at t) copies) ≡ in_order (filter (is_at t) (window_copies k))
   alike k copies g t =
       ap in_order (g.all t)
       ∙ (elim (cases_Bool (ltb t until)) [ inl e ↦ rw e (in_order_again (packets (filter (comes_at t k) items))) | inr e ↦ rw e refl ]
-      ∙ sym (ap in_order (at_inbox k t)))
+      ∙ sym (ap in_order (at_window_copies k t)))
 
-  pub idle_alone : (k : ℕ) → own k ≡ true → called k ≡ false → Alone (system_of n) k until (inbox k) (motes k) (motes k)
+  pub idle_alone : (k : ℕ) → own k ≡ true → called k ≡ false → Alone (system_of n) k until (window_copies k) (motes k) (motes k)
   idle_alone k mine idle = Rests (record { no_wake = quiet_else k mine idle; no_copies = subst (AllByRecursion (λ c. until ≤ c.at)) (sym empty) tt })
     where
-      empty : inbox k ≡ []
+      empty : window_copies k ≡ []
       empty = sym (packets_filter (calls_for until k) items) ∙ ap packets (unfilled (filter (calls_for until k) items) (filled_any (calls_for until k) items ∙ idle))
 
   -- what isn't before the window's end

@@ -26,7 +26,7 @@ use Rattle.worker_window.proofs.Begins.{own_there}
 use Rattle.worker_window.proofs.Behind.{past_later}
 use Rattle.worker_window.proofs.Gives.{IsBack, back, gives_open, goes_open}
 use Rattle.worker_window.proofs.Lone.{quiet_alike}
-use Rattle.worker_window.proofs.Parts.{items, inbox, inbox_from, alike, idle_alone, all_in, later, later_wakes, later_copies, quiet_else, here_parts}
+use Rattle.worker_window.proofs.Parts.{items, window_copies, window_copies_from, alike, idle_alone, all_in, later, later_wakes, later_copies, quiet_else, here_parts}
 use Rattle.worker_window.proofs.Comings.{Coming, IsPending, zip_numbers}
 
 -- who is called is inside
@@ -50,7 +50,7 @@ module _ (n : NetTold) (of : List ℕ) (worker from until : ℕ) (motes : Motes)
   all_items = items n of worker from until motes taken arrived old keeps le come
 
   abbrev pub boxes : ℕ → List RadioCopy
-  boxes = inbox n of worker from until motes taken arrived old keeps le come
+  boxes = window_copies n of worker from until motes taken arrived old keeps le come
 
   all : (k : ℕ) → is_one_of k (numbers_of residents) ≡ list_any (calls_for until k) all_items
   all k = leaves.all k ∙ gathers.called k
@@ -94,7 +94,7 @@ module _ (n : NetTold) (of : List ℕ) (worker from until : ℕ) (motes : Motes)
       let k = r.number in
       let h = called_mine k (ap is_some called.copies) in
       let there : k < length n.motes = (let a = own_there of worker k h in omega arith) in
-      back n from until mine motes boxes k h there (keeps.numbers k h) (keeps.wakes k h) (keeps.quiet k h) (inbox_from n of worker from until motes taken arrived old keeps le come k) (past_later from until le (motes k).state.last (keeps.turned_before k h)) r.mote r.copies.items
+      back n from until mine motes boxes k h there (keeps.numbers k h) (keeps.wakes k h) (keeps.quiet k h) (window_copies_from n of worker from until motes taken arrived old keeps le come k) (past_later from until le (motes k).state.last (keeps.turned_before k h)) r.mote r.copies.items
       (alike n of worker from until motes taken arrived old keeps le come k r.copies.items (gathers.copies k r.copies.items called.copies)) out
       (gives_open n until r out (motes k).state there (ap (node_at (tree_at n k)) (sym called.mote) ∙ keeps.nodes k h) gives)
 
@@ -106,7 +106,7 @@ module _ (n : NetTold) (of : List ℕ) (worker from until : ℕ) (motes : Motes)
       let same = alike n of worker from until motes taken arrived old keeps le come k r.copies.items (gathers.copies k r.copies.items called.copies) in
       let wake = wake_of (motes k).state in
       let quiet : IsQuiet from wake r.copies.items =
-      quiet_alike (system_of n) k until from wake (boxes k) r.copies.items (λ t. sym (same t)) (record { no_wake = subst (WakesFrom from) (keeps.wakes k h) (keeps.quiet k h); no_copies = inbox_from n of worker from until motes taken arrived old keeps le come k }) in
+      quiet_alike (system_of n) k until from wake (boxes k) r.copies.items (λ t. sym (same t)) (record { no_wake = subst (WakesFrom from) (keeps.wakes k h) (keeps.quiet k h); no_copies = window_copies_from n of worker from until motes taken arrived old keeps le come k }) in
       goes_open n until r (motes k).state there (ap (node_at (tree_at n k)) (sym called.mote) ∙ keeps.nodes k h)
       (λ moment next. past_later from moment (not_before from moment wake r.copies.items quiet next.comes) (motes k).state.last (keeps.turned_before k h))
 

@@ -9,16 +9,16 @@ use Rattle.worker_cut.specs.Crossed.{leaves, is_own, copies_known, IsDue}
 use Rattle.worker_window.specs.declared.share.Share.{Share}
 use Rattle.worker_window.specs.Share.{Motes, Keeps}
 
--- A mote runs alone on what the worker knows: at each moment of the window, of each sender, the copies for it, in the
--- order of sending.
+-- A mote runs alone on what it is given of the copies that the worker knows: at each moment of the window, of each
+-- sender, the copies for it, in the order of sending.
 pub record RunsOwn (n : NetTold) (own : ℕ → Bool) (from until : ℕ) (motes next : Motes) (taken : List RadioCopy)
     (number : ℕ) : Type 0 where
-  pub inbox : List RadioCopy
-  pub is_inbox : (moment sender : ℕ)
-      → filter (is_from_sender sender) (filter (is_at moment) inbox)
+  pub given : List RadioCopy
+  pub is_given : (moment sender : ℕ)
+      → filter (is_from_sender sender) (filter (is_at moment) given)
       ≡ filter (is_at moment) (filter (is_within number from until)
       (copies_known (system_of n) own motes taken sender))
-  pub alone : Alone (system_of n) number until inbox (motes number) (next number)
+  pub alone : Alone (system_of n) number until given (motes number) (next number)
 
 -- the copies of a mote's packets so far that go from this worker to others, in the order of sending
 abbrev pub copies_out : NetTold → (own : ℕ → Bool) → Motes → (sender : ℕ) → List RadioCopy

@@ -12,7 +12,7 @@ use Rattle.worker_cut.specs.Crossed.{is_own, leaves}
 use Rattle.worker_window.specs.Window.{GoesOut}
 use Rattle.window_run.specs.Shares.{ResidentGives}
 use Rattle.worker_window.specs.Leaving.{HasNumber, IsWakeOf, MoteReturns}
-use Rattle.worker_window.proofs.Parts.{inbox, inbox_is}
+use Rattle.worker_window.proofs.Parts.{window_copies, window_copies_are}
 use Rattle.worker_window.proofs.Left.{zip_length}
 use Rattle.worker_window.proofs.Comings.{Coming, IsFitOwn, fits, go_out, one_back, all_back}
 use Rattle.worker_window.proofs.Starts.{starts, go_on}
@@ -72,7 +72,7 @@ loop-out-init g c =
       go_out = subst (AllByRecursion (GoesOut n c.args.of.now c.args.self.now.worker)) (sym c.new-away.ensures.items) tt;
       coming = λ worker from motes taken keeps le short come.
           let at = subst (λ l. Holds c.put_copies.new.self.buckets (keeps.agenda.items ++ map Packet l)) c.deref.ensures.value (c.in_ok-put_copies.ensures keeps.agenda.items keeps.agenda.holds) in
-          subst (λ l. Coming n c.args.of.now worker from c.args.until motes (taken ++ c.args.arrived.items) (inbox n c.args.of.now worker from c.args.until motes taken c.args.arrived.items c.args.self.now keeps le come) share c.in_ok-outs.outs.items c.leave.new.wakes.items l)
+          subst (λ l. Coming n c.args.of.now worker from c.args.until motes (taken ++ c.args.arrived.items) (window_copies n c.args.of.now worker from c.args.until motes taken c.args.arrived.items c.args.self.now keeps le come) share c.in_ok-outs.outs.items c.leave.new.wakes.items l)
           (sym c.new-away.ensures.items)
           (starts n c.args.of.now worker from c.args.until motes taken c.args.arrived.items c.args.self.now share keeps le come c.requires.of c.in_ok-calls.calls.copies.items c.in_ok-residents.residents.items c.leave.new.wakes.items
           (c.in_ok-calls.ensures.gathered _ at) (c.in_ok-calls.ensures.rest _ at) left c.in_ok-outs.outs.items c.in_ok-outs.ensures (refl, refl, refl));
@@ -136,7 +136,7 @@ loop-out-preserved g c =
           subst (AllByRecursion (GoesOut n of self.worker)) (sym (one.away ∙ ap (λ w. c.loop-out.away.items ++ filter (leaves (is_own of w)) (flat_map (copies n.radio) out.sends.items)) inv.worker))
           (every_append _ c.loop-out.away.items _ inv.go_out (go_out n of self.worker c.args.until out placed fit));
       coming = λ worker from motes taken keeps le short come.
-          one_back n of worker from c.args.until motes (taken ++ c.args.arrived.items) (inbox n of worker from c.args.until motes taken c.args.arrived.items self keeps le come) placed short
+          one_back n of worker from c.args.until motes (taken ++ c.args.arrived.items) (window_copies n of worker from c.args.until motes taken c.args.arrived.items self keeps le come) placed short
           c.loop-out.self c.take_back.new.self c.loop-out.outs.items c.pop.new.self.items out c.in-Some.ensures.items
           c.loop-out.wakes.items c.last_wake-pending.new.wakes.items c.last_wake-pending.result c.last_wake-pending.ensures c.loop-out.away.items c.take_back.new.away.items
           (inv.coming worker from motes taken keeps le short come) returns;
@@ -149,6 +149,6 @@ returns-clause-window g c = λ worker from motes taken keeps le short come.
     let self = c.args.self.now in
     let zero = zero_from _ (λ p. subst IsSome c.in_default.is (c.pop.ensures.variant.1 p)) in
     let none = nil_from_length c.loop-out.outs.items (omega (arith, zero, c.loop-out.outs.ok.0)) in
-    all_back n of worker from c.args.until motes (taken ++ c.args.arrived.items) (inbox n of worker from c.args.until motes taken c.args.arrived.items self keeps le come)
+    all_back n of worker from c.args.until motes (taken ++ c.args.arrived.items) (window_copies n of worker from c.args.until motes taken c.args.arrived.items self keeps le come)
     c.loop-out.self c.loop-out.outs.items c.loop-out.wakes.items c.loop-out.away.items none (c.loop-out.invariant.coming worker from motes taken keeps le short come)
-    (inbox_is n of worker from c.args.until motes taken c.args.arrived.items self keeps le come)
+    (window_copies_are n of worker from c.args.until motes taken c.args.arrived.items self keeps le come)

@@ -6,7 +6,7 @@ use Rattle.net_agenda.specs.NetSystem.{system_of}
 use Rattle.worker_window.specs.Share.{Motes, Keeps}
 use Rattle.worker_window.specs.Window.{GoesOut}
 use Rattle.worker_cut.specs.Crossed.{IsDue}
-use Rattle.worker_window.proofs.Parts.{inbox}
+use Rattle.worker_window.proofs.Parts.{window_copies}
 use Rattle.worker_window.proofs.Comings.{Coming, IsFitOwn}
 use Rattle.worker_window.proofs.share.Share.run_window.Given as goal
 
@@ -20,7 +20,7 @@ invariant-loop-out g l = let n = net_of l.net in record {
   go_out : AllByRecursion (GoesOut n l.of l.fn.self.worker) l.away.items;
   coming : (worker from : ℕ) (motes : Motes) (taken : List RadioCopy) (keeps : Keeps n l.of worker from motes taken l.fn.self) (le : from ≤ l.until) → l.until ≤ from + (system_of n).lookahead
       → (come : AllByRecursion (IsDue l.of worker from) l.fn.arrived.items)
-      → Coming n l.of worker from l.until motes (taken ++ l.fn.arrived.items) (inbox n l.of worker from l.until motes taken l.fn.arrived.items l.fn.self keeps le come) l.self l.outs.items l.wakes.items l.away.items;
+      → Coming n l.of worker from l.until motes (taken ++ l.fn.arrived.items) (window_copies n l.of worker from l.until motes taken l.fn.arrived.items l.fn.self keeps le come) l.self l.outs.items l.wakes.items l.away.items;
 }
 
 abbrev pub decreases-loop-out : goal.decreases-loop-out
