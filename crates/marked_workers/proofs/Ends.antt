@@ -109,7 +109,7 @@ module _ (n : NetTold) (of : List ℕ) (width windows : ℕ) (group : Workers) (
     taken = λ v. (parts.0 v).state.taken;
     sender = h.sender;
     senders = λ u. (parts.0 u).senders;
-    history = λ v. (parts.0 v).history;
+    histories = λ v. (parts.0 v).history;
     ran = λ v low. (parts.1 v low).ran;
     are_senders = λ u low. (parts.1 u low).are_senders;
     begun = λ u low. (parts.1 u low).begun;
