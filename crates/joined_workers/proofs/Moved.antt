@@ -22,7 +22,7 @@ use Rattle.worker_window.specs.Window.{RunsOwn, GoesOut, copies_out}
 use Rattle.all_workers.specs.declared.workers.Workers.{Workers}
 use Rattle.all_workers.specs.declared.worker.Worker.{Worker}
 use Rattle.all_workers.specs.Workers.{IsAt, IsWorkerAt}
-use Rattle.all_workers.specs.Worker.{worker_of}
+use Rattle.all_workers.specs.Worker.{make_worker}
 use Rattle.joined_workers.specs.Laws.{RunsAll}
 use Rattle.all_workers.specs.Workers.{IsCut, IsNotBefore}
 use Rattle.joined_workers.specs.Worker.{IsFirstOf}
@@ -145,8 +145,8 @@ module _ (n : NetTold) (fine : RunsForward (system_of n)) (of : List ℕ) (from 
 
   done_long : length all.done ≡ workers
   done_long =
-      as_long _ (map worker_of (zip old.shares.items all.endpoints)) all.done all.ran
-      ∙ (map_long worker_of (zip old.shares.items all.endpoints) ∙ (zip_long old.shares.items all.endpoints endpoints_long ∙ at.shares))
+      as_long _ (map make_worker (zip old.shares.items all.endpoints)) all.done all.ran
+      ∙ (map_long make_worker (zip old.shares.items all.endpoints) ∙ (zip_long old.shares.items all.endpoints endpoints_long ∙ at.shares))
 
   -- of what went to a worker, what one mote sent
   to_one : (v s : ℕ) → filter (is_from_sender s) (delivered_to (map (λ (w : Worker). w.endpoint) all.done) v) ≡ out_to v s

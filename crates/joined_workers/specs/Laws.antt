@@ -10,7 +10,7 @@ use Rattle.copy_exchange.specs.Endpoints.{Together, StartsAs, GathersDelivered}
 use Rattle.copy_exchange.specs.Inboxes.{Settled}
 use Rattle.all_workers.specs.declared.workers.Workers.{Workers}
 use Rattle.all_workers.specs.declared.worker.Worker.{Worker}
-use Rattle.all_workers.specs.Worker.{worker_of}
+use Rattle.all_workers.specs.Worker.{make_worker}
 use Rattle.all_workers.specs.Workers.{IsAt}
 use Rattle.joined_workers.specs.Next.{IsNextOfAll, FirstOfAll}
 use Rattle.joined_workers.specs.Worker.{RunsWorker}
@@ -22,7 +22,7 @@ pub record RunsAll (n : NetTold) (of : List ℕ) (until : ℕ) (old new : Worker
   pub done : List Worker
   pub together : Together old.inboxes.items endpoints
   pub starts : AllZip StartsAs old.takers.items endpoints
-  pub ran : AllZip (RunsWorker n of old.inboxes.items until) (map worker_of (zip old.shares.items endpoints)) done
+  pub ran : AllZip (RunsWorker n of old.inboxes.items until) (map make_worker (zip old.shares.items endpoints)) done
   pub shares : new.shares.items ≡ map (λ worker. worker.share) done
   pub gathering : AllZip (GathersDelivered (map (λ (worker : Worker). worker.endpoint) done))
       (map (λ (worker : Worker). worker.endpoint) done) new.takers.items

@@ -65,9 +65,9 @@ pub record TakesWindow (of : List ℕ) (window until : ℕ) (old new : MarkWorke
   pub past : AllPast window new.endpoint.marks.items
   pub worker : new.endpoint.base.worker ≡ old.endpoint.base.worker
   pub senders : new.endpoint.base.senders ≡ old.endpoint.base.senders
-  pub keeps : (n : NetTold) (whose : List ℕ) (worker from : ℕ) (motes : Motes) (taken : List RadioCopy)
-      → Keeps n whose worker from motes taken old.share
-      → Each (IsDue whose worker from) arrived → Keeps n whose worker from motes (taken ++ arrived) new.share
+  pub keeps : (n : NetTold) (worker_of : List ℕ) (worker from : ℕ) (motes : Motes) (taken : List RadioCopy)
+      → Keeps n worker_of worker from motes taken old.share
+      → Each (IsDue worker_of worker from) arrived → Keeps n worker_of worker from motes (taken ++ arrived) new.share
 
 -- a worker after so many windows, since its first
 pub record HasRun (n : NetTold) (of : List ℕ) (width windows : ℕ) (inboxes : List InboxId)
