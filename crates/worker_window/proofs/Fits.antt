@@ -14,7 +14,7 @@ use Rattle.window_run.specs.declared.share.Resident.{Resident}
 use Rattle.window_run.specs.Shares.{ResidentGives, GivesList, AreInNet}
 use Rattle.net_agenda.specs.NetSystem.{tree_at}
 use Rattle.worker_window.specs.declared.share.Share.{Share}
-use Rattle.worker_window.specs.Calls.{CalledMotes, copies_for, Gathers}
+use Rattle.worker_window.specs.Calls.{CalledMotes, copies_for, TakesEventsBefore}
 use Rattle.worker_cut.specs.Crossed.{is_own}
 use Rattle.worker_window.specs.Share.{IsKept, node_at, mote_here}
 use Rattle.worker_window.specs.Leaving.{IsCalled, MotesLeave}
@@ -61,9 +61,9 @@ module _ (n : NetTold) (of : List ℕ) (share : Share) (kept : IsKept n of share
       (every_weaker _ _ (λ item h. h.0) kept.keeps.agenda.items (inside n mine kept.from kept.motes kept.taken share.agenda.buckets kept.keeps.agenda))
       (every_map _ Packet arrived (every_weaker _ _ (λ c h. same_own c.to ∙ h) arrived to_own))
 
-  module _ (until : ℕ) (calls : CalledMotes) (gathers : Gathers until all_items calls) where
+  module _ (until : ℕ) (calls : CalledMotes) (takes_events : TakesEventsBefore until all_items calls) where
     called_mine : (k : ℕ) → is_some (copies_for calls k) ≡ true → mine k ≡ true
-    called_mine k e = called_in (λ k. mine k ≡ true) until k all_items all_mine (sym (gathers.called k) ∙ e)
+    called_mine k e = called_in (λ k. mine k ≡ true) until k all_items all_mine (sym (takes_events.called k) ∙ e)
 
     pub called_here : (k : ℕ) → IsSome (copies_for calls k) → IsSome (mote_here share.motes.items k)
     called_here k h = some_mote (tree_at n k) (mote_here share.motes.items k) _ (kept.keeps.nodes k (called_mine k (is_some_of (copies_for calls k) h)))

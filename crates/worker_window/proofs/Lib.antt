@@ -3,7 +3,6 @@ pub mod Begins
 pub mod Behind
 pub mod Comings
 pub mod Fits
-pub mod Gathers
 pub mod Gives
 pub mod Idle
 pub mod Items
@@ -14,5 +13,6 @@ pub mod Places
 pub mod Rises
 pub mod Sends
 pub mod Starts
+pub mod TakesEvents
 pub mod TakesIn
 pub mod Traces

@@ -14,7 +14,7 @@ use Rattle.window_laws.proofs.Lists.{filter_filter, filter_both, filter_none, fi
 use Rattle.window_laws.proofs.Order.{sorted_rising}
 use Rattle.net_agenda.specs.NetSystem.{system_of}
 use Rattle.worker_window.specs.declared.share.Share.{Share}
-use Rattle.worker_window.specs.Calls.{is_not_before, calls_for, GathersFor}
+use Rattle.worker_window.specs.Calls.{is_not_before, calls_for, TakesCopiesFor}
 use Rattle.worker_cut.specs.Crossed.{is_own, copies_known, IsDue}
 use Rattle.worker_window.specs.Share.{Motes, Keeps, is_to_come, wake_from}
 use Rattle.worker_window.specs.Leaving.{is_one_of}
@@ -158,7 +158,7 @@ module _ (n : NetTold) (of : List ℕ) (worker from until : ℕ) (motes : Motes)
   in_order_again : (xs : List RadioCopy) → in_order (in_order xs) ≡ in_order xs
   in_order_again xs = sorted_rising (λ copy. copy.sender) (λ copy. copy.number) (in_order xs) (sorted_is_sorted (λ copy. copy.sender) (λ copy. copy.number) xs)
 
-  pub alike : (k : ℕ) (copies : List RadioCopy) → GathersFor until items k copies → (t : ℕ) → in_order (filter (is_at t) copies) ≡ in_order (filter (is_at t) (window_copies k))
+  pub alike : (k : ℕ) (copies : List RadioCopy) → TakesCopiesFor until items k copies → (t : ℕ) → in_order (filter (is_at t) copies) ≡ in_order (filter (is_at t) (window_copies k))
   alike k copies g t =
       ap in_order (g.all t)
       ∙ (elim (cases_Bool (ltb t until)) [ inl e ↦ rw e (in_order_again (packets (filter (comes_at t k) items))) | inr e ↦ rw e refl ]

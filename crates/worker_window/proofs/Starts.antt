@@ -16,7 +16,7 @@ use Rattle.window_run.proofs.Ends.{not_before}
 use Rattle.net_agenda.specs.Buckets.{Holds}
 use Rattle.net_agenda.specs.NetSystem.{tree_at, system_of}
 use Rattle.worker_window.specs.declared.share.Share.{Share}
-use Rattle.worker_window.specs.Calls.{CalledMotes, copies_for, calls_for, Gathers}
+use Rattle.worker_window.specs.Calls.{CalledMotes, copies_for, calls_for, TakesEventsBefore}
 use Rattle.worker_cut.specs.Crossed.{is_own, IsDue}
 use Rattle.worker_window.specs.Log.{HaveFates, packets_in}
 use Rattle.worker_window.specs.Share.{Motes, IsShare, Keeps, node_at, mote_here, wake_from}
@@ -40,7 +40,7 @@ IsLeft old new = (new.worker ≡ old.worker) × (new.traces.items ≡ old.traces
 
 module _ (n : NetTold) (of : List ℕ) (worker from until : ℕ) (motes : Motes) (taken arrived : List RadioCopy) (old new : Share) (keeps : Keeps n of worker from motes taken old)
     (le : from ≤ until) (come : AllByRecursion (IsDue of worker from) arrived) (long : length of ≡ length n.motes)
-    (calls : CalledMotes) (residents : List Resident) (wakes : List (Option ℕ)) (gathers : Gathers until (items n of worker from until motes taken arrived old keeps le come) calls)
+    (calls : CalledMotes) (residents : List Resident) (wakes : List (Option ℕ)) (takes_events : TakesEventsBefore until (items n of worker from until motes taken arrived old keeps le come) calls)
     (holds : Holds new.agenda.buckets (later n of worker from until motes taken arrived old keeps le come))
     (leaves : MotesLeave until calls old.motes.items new.motes.items residents wakes) where
   abbrev mine : ℕ → Bool
@@ -53,11 +53,11 @@ module _ (n : NetTold) (of : List ℕ) (worker from until : ℕ) (motes : Motes)
   boxes = window_copies n of worker from until motes taken arrived old keeps le come
 
   all : (k : ℕ) → is_one_of k (numbers_of residents) ≡ list_any (calls_for until k) all_items
-  all k = leaves.all k ∙ gathers.called k
+  all k = leaves.all k ∙ takes_events.called k
 
   called_mine : (k : ℕ) → is_some (copies_for calls k) ≡ true → mine k ≡ true
   called_mine k e =
-      called_in (λ k. mine k ≡ true) until k all_items (every_weaker _ _ (λ item h. h.0) all_items (all_in n of worker from until motes taken arrived old keeps le come)) (sym (gathers.called k) ∙ e)
+      called_in (λ k. mine k ≡ true) until k all_items (every_weaker _ _ (λ item h. h.0) all_items (all_in n of worker from until motes taken arrived old keeps le come)) (sym (takes_events.called k) ∙ e)
 
   abbrev here : ℕ → Bool
   here k = mine k && not (is_one_of k (numbers_of residents))
@@ -95,7 +95,7 @@ module _ (n : NetTold) (of : List ℕ) (worker from until : ℕ) (motes : Motes)
       let h = called_mine k (ap is_some called.copies) in
       let there : k < length n.motes = (let a = own_there of worker k h in omega arith) in
       back n from until mine motes boxes k h there (keeps.numbers k h) (keeps.wakes k h) (keeps.quiet k h) (window_copies_from n of worker from until motes taken arrived old keeps le come k) (past_later from until le (motes k).state.last (keeps.turned_before k h)) r.mote r.copies.items
-      (alike n of worker from until motes taken arrived old keeps le come k r.copies.items (gathers.copies k r.copies.items called.copies)) out
+      (alike n of worker from until motes taken arrived old keeps le come k r.copies.items (takes_events.copies k r.copies.items called.copies)) out
       (gives_open n until r out (motes k).state there (ap (node_at (tree_at n k)) (sym called.mote) ∙ keeps.nodes k h) gives)
 
   one_goes_on : (r : Resident) → IsCalled calls old.motes.items r → ResidentGoesOn n until r
@@ -103,7 +103,7 @@ module _ (n : NetTold) (of : List ℕ) (worker from until : ℕ) (motes : Motes)
       let k = r.number in
       let h = called_mine k (ap is_some called.copies) in
       let there : k < length n.motes = (let a = own_there of worker k h in omega arith) in
-      let same = alike n of worker from until motes taken arrived old keeps le come k r.copies.items (gathers.copies k r.copies.items called.copies) in
+      let same = alike n of worker from until motes taken arrived old keeps le come k r.copies.items (takes_events.copies k r.copies.items called.copies) in
       let wake = wake_of (motes k).state in
       let quiet : IsQuiet from wake r.copies.items =
       quiet_alike (system_of n) k until from wake (boxes k) r.copies.items (λ t. sym (same t)) (record { no_wake = subst (WakesFrom from) (keeps.wakes k h) (keeps.quiet k h); no_copies = window_copies_from n of worker from until motes taken arrived old keeps le come k }) in

@@ -18,7 +18,7 @@ ghost use Rattle.worker_window.specs.Log.{HaveFates, packets_in};
 ghost use Rattle.worker_window.specs.Sending.{copies_away, own_items};
 ghost use Rattle.worker_window.specs.Leaving.{MotesLeave, HasNumber, IsOutOfMote, MoteReturns};
 
-use crate::calls::{CalledMotes, gather};
+use crate::calls::{CalledMotes, take_events_before};
 use crate::rooms::Rooms;
 use crate::share::Share;
 use mote_net::Net;
@@ -290,7 +290,7 @@ impl Share {
             (λ sent. AllByRecursion (GoesOut n of.now self.old.worker) sent.items) }
     {
         self.agenda.put_copies(&arrived)?;
-        let calls = gather(self.alloc, &mut self.agenda, until, &mut self.rooms)?;
+        let calls = take_events_before(self.alloc, &mut self.agenda, until, &mut self.rooms)?;
         let mut wakes = Vec::new(self.alloc);
         let residents = leave(&mut self.motes, &mut wakes, until, calls, &mut self.rooms)?;
         let called = window_run::Residents {

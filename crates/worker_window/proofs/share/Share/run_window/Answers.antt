@@ -19,8 +19,8 @@ use Rattle.worker_window.proofs.Starts.{starts, go_on}
 use Rattle.worker_window.proofs.Fits.{kept_of, called_here, in_net, all_fit, every_split}
 use Rattle.worker_window.proofs.share.Share.run_window.Goals as goal
 
-pub gather-requires : goal.gather-requires
-gather-requires g c =
+pub take_events_before-requires : goal.take_events_before-requires
+take_events_before-requires g c =
     let kept = c.requires.ready.keeps in record {
       items = kept.agenda.items ++ map Packet c.args.arrived.items;
       holds = subst (λ l. Holds c.put_copies.new.self.buckets (kept.agenda.items ++ map Packet l)) c.deref.ensures.value (c.in_ok-put_copies.ensures kept.agenda.items kept.agenda.holds);
@@ -30,19 +30,19 @@ pub leave-requires-clause-here : goal.leave-requires-clause-here
 leave-requires-clause-here g c =
     let kept = c.requires.ready.keeps in
     let base = subst (λ l. Holds c.put_copies.new.self.buckets (kept.agenda.items ++ map Packet l)) c.deref.ensures.value (c.in_ok-put_copies.ensures kept.agenda.items kept.agenda.holds) in
-    called_here (net_of c.args.net.now) c.args.of.now c.args.self.now (kept_of c.requires.ready) c.args.arrived.items c.requires.to_own c.requires.of c.args.until c.in_ok-calls.calls.copies.items (c.in_ok-calls.ensures.gathered _ base)
+    called_here (net_of c.args.net.now) c.args.of.now c.args.self.now (kept_of c.requires.ready) c.args.arrived.items c.requires.to_own c.requires.of c.args.until c.in_ok-calls.calls.copies.items (c.in_ok-calls.ensures.taken _ base)
 
 pub leave-requires-clause-rising : goal.leave-requires-clause-rising
 leave-requires-clause-rising g c = λ k copies e.
     let kept = c.requires.ready.keeps in
     let base = subst (λ l. Holds c.put_copies.new.self.buckets (kept.agenda.items ++ map Packet l)) c.deref.ensures.value (c.in_ok-put_copies.ensures kept.agenda.items kept.agenda.holds) in
-    ((c.in_ok-calls.ensures.gathered _ base).copies k copies e).rising
+    ((c.in_ok-calls.ensures.taken _ base).copies k copies e).rising
 
 pub run_share-requires-clause-there : goal.run_share-requires-clause-there
 run_share-requires-clause-there g c =
     let kept = c.requires.ready.keeps in
     let base = subst (λ l. Holds c.put_copies.new.self.buckets (kept.agenda.items ++ map Packet l)) c.deref.ensures.value (c.in_ok-put_copies.ensures kept.agenda.items kept.agenda.holds) in
-    in_net (net_of c.args.net.now) c.args.of.now c.args.self.now (kept_of c.requires.ready) c.args.arrived.items c.requires.to_own c.requires.of c.args.until c.in_ok-calls.calls.copies.items (c.in_ok-calls.ensures.gathered _ base)
+    in_net (net_of c.args.net.now) c.args.of.now c.args.self.now (kept_of c.requires.ready) c.args.arrived.items c.requires.to_own c.requires.of c.args.until c.in_ok-calls.calls.copies.items (c.in_ok-calls.ensures.taken _ base)
     c.leave.new.motes.items c.in_ok-residents.residents.items c.leave.new.wakes.items c.in_ok-residents.ensures c.requires.ready.order
 
 pub run_share-requires-clause-go_on : goal.run_share-requires-clause-go_on
@@ -50,9 +50,9 @@ run_share-requires-clause-go_on g c =
     let n = net_of c.args.net.now in
     let r = c.requires.ready in
     let at = subst (λ l. Holds c.put_copies.new.self.buckets (r.keeps.agenda.items ++ map Packet l)) c.deref.ensures.value (c.in_ok-put_copies.ensures r.keeps.agenda.items r.keeps.agenda.holds) in
-    let share : Share = record c.args.self.now { motes = c.leave.new.motes; agenda = c.gather.new.agenda; rooms = c.leave.new.rooms } in
+    let share : Share = record c.args.self.now { motes = c.leave.new.motes; agenda = c.take_events_before.new.agenda; rooms = c.leave.new.rooms } in
     go_on n c.args.of.now r.worker r.from c.args.until r.motes r.taken c.args.arrived.items c.args.self.now share r.keeps r.order r.come c.requires.of c.in_ok-calls.calls.copies.items
-    c.in_ok-residents.residents.items c.leave.new.wakes.items (c.in_ok-calls.ensures.gathered _ at) (c.in_ok-calls.ensures.rest _ at) c.in_ok-residents.ensures
+    c.in_ok-residents.residents.items c.leave.new.wakes.items (c.in_ok-calls.ensures.taken _ at) (c.in_ok-calls.ensures.rest _ at) c.in_ok-residents.ensures
 
 pub loop-out-init : goal.loop-out-init
 loop-out-init g c =
@@ -60,14 +60,14 @@ loop-out-init g c =
     let kept = c.requires.ready.keeps in
     let base = subst (λ l. Holds c.put_copies.new.self.buckets (kept.agenda.items ++ map Packet l)) c.deref.ensures.value (c.in_ok-put_copies.ensures kept.agenda.items kept.agenda.holds) in
     let left = c.in_ok-residents.ensures in
-    let share : Share = record c.args.self.now { motes = c.leave.new.motes; agenda = c.gather.new.agenda; rooms = record c.leave.new.rooms { turns = c.run_share.new.room } } in
+    let share : Share = record c.args.self.now { motes = c.leave.new.motes; agenda = c.take_events_before.new.agenda; rooms = record c.leave.new.rooms { turns = c.run_share.new.room } } in
     record {
       motes = left.places ∙ kept.places;
       traces = kept.traces_kept;
       worker = refl;
       wakes = sym (zip_length (IsWakeOf c.args.until) _ _ left.told) ∙ zip_length (ResidentGives n c.args.until) _ _ c.in_ok-outs.ensures;
       fits =
-          all_fit n c.args.of.now c.args.self.now (kept_of c.requires.ready) c.args.arrived.items c.requires.to_own c.requires.of c.args.until c.in_ok-calls.calls.copies.items (c.in_ok-calls.ensures.gathered _ base)
+          all_fit n c.args.of.now c.args.self.now (kept_of c.requires.ready) c.args.arrived.items c.requires.to_own c.requires.of c.args.until c.in_ok-calls.calls.copies.items (c.in_ok-calls.ensures.taken _ base)
           c.leave.new.motes.items c.in_ok-residents.residents.items c.leave.new.wakes.items left c.requires.ready.order c.in_ok-outs.outs.items c.in_ok-outs.ensures;
       go_out = subst (AllByRecursion (GoesOut n c.args.of.now c.args.self.now.worker)) (sym c.new-away.ensures.items) tt;
       coming = λ worker from motes taken keeps le short come.
@@ -75,7 +75,7 @@ loop-out-init g c =
           subst (λ l. Coming n c.args.of.now worker from c.args.until motes (taken ++ c.args.arrived.items) (window_copies n c.args.of.now worker from c.args.until motes taken c.args.arrived.items c.args.self.now keeps le come) share c.in_ok-outs.outs.items c.leave.new.wakes.items l)
           (sym c.new-away.ensures.items)
           (starts n c.args.of.now worker from c.args.until motes taken c.args.arrived.items c.args.self.now share keeps le come c.requires.of c.in_ok-calls.calls.copies.items c.in_ok-residents.residents.items c.leave.new.wakes.items
-          (c.in_ok-calls.ensures.gathered _ at) (c.in_ok-calls.ensures.rest _ at) left c.in_ok-outs.outs.items c.in_ok-outs.ensures (refl, refl, refl));
+          (c.in_ok-calls.ensures.taken _ at) (c.in_ok-calls.ensures.rest _ at) left c.in_ok-outs.outs.items c.in_ok-outs.ensures (refl, refl, refl));
     }
 
 pub last_wake-pending-requires : goal.last_wake-pending-requires
