@@ -18,7 +18,7 @@ use Rattle.worker_cut.specs.Crossed.{is_own, is_to}
 use Rattle.worker_cut.specs.Laws.{GatheredCopies}
 use Rattle.worker_window.specs.declared.share.Share.{Share}
 use Rattle.worker_window.specs.Share.{Motes, Keeps}
-use Rattle.worker_window.specs.Window.{RunsOwn, GoesOut, copies_out}
+use Rattle.worker_window.specs.Window.{RunsOwn, IsOutgoing, outgoing_by}
 use Rattle.all_workers.specs.declared.workers.Workers.{Workers}
 use Rattle.all_workers.specs.declared.worker.Worker.{Worker}
 use Rattle.all_workers.specs.Workers.{IsAt, IsWorkerAt}
@@ -48,8 +48,8 @@ module _ (n : NetTold) (fine : RunsForward (system_of n)) (of : List ℕ) (from 
     told : GatheredCopies (system_of n) of at.motes v z.gathered
     took : (s : ℕ) → filter (is_from_sender s) z.taken ≡ filter (is_from_sender s) z.gathered
     runs : (k : ℕ) → is_own of v k ≡ true → RunsOwn n (is_own of v) from until at.motes z.next z.taken k
-    out : (s : ℕ) → copies_out n (is_own of v) z.next s ≡ copies_out n (is_own of v) at.motes s ++ filter (is_from_sender s) z.sent
-    goes : Each (GoesOut n of v) z.sent
+    out : (s : ℕ) → outgoing_by n (is_own of v) z.next s ≡ outgoing_by n (is_own of v) at.motes s ++ filter (is_from_sender s) z.sent
+    goes : Each (IsOutgoing n of v) z.sent
     first : (d : Worker) → slice_get all.done v ≡ Some d → IsFirstOf z.sent d.first_out
     to : (d : Worker) → slice_get all.done v ≡ Some d → (u : ℕ) → delivered d.endpoint u ≡ filter (is_to of u) z.sent
     keeps : (d : Worker) → slice_get all.done v ≡ Some d → Keeps n of v until z.next z.taken d.share
@@ -73,7 +73,7 @@ module _ (n : NetTold) (fine : RunsForward (system_of n)) (of : List ℕ) (from 
                   ap (λ t. filter (is_from_sender s) (taken_by t)) p.ran.delivers.taker ∙ (p.ran.collects.in_order s ∙ ap (filter (is_from_sender s)) gathered_is);
               runs = w.runs;
               out = w.out;
-              goes = subst (λ k. Each (GoesOut n of k) p.ran.sent) p.number p.ran.out;
+              goes = subst (λ k. Each (IsOutgoing n of k) p.ran.sent) p.number p.ran.out;
               first = λ d e. subst (λ x. IsFirstOf p.ran.sent x.first_out) (same_found _ p.done d p.done_at e) p.ran.first;
               to = λ d e u.
                   ap (λ x. delivered x.endpoint u) (sym (same_found _ p.done d p.done_at e))
@@ -122,11 +122,11 @@ module _ (n : NetTold) (fine : RunsForward (system_of n)) (of : List ℕ) (from 
   unfolding nexts taken
   runs v h = (is_part v h).runs
 
-  out : (v : ℕ) → v < workers → (s : ℕ) → copies_out n (is_own of v) (nexts v) s ≡ copies_out n (is_own of v) at.motes s ++ filter (is_from_sender s) (sent v)
+  out : (v : ℕ) → v < workers → (s : ℕ) → outgoing_by n (is_own of v) (nexts v) s ≡ outgoing_by n (is_own of v) at.motes s ++ filter (is_from_sender s) (sent v)
   unfolding nexts sent
   out v h = (is_part v h).out
 
-  goes : (v : ℕ) → v < workers → Each (GoesOut n of v) (sent v)
+  goes : (v : ℕ) → v < workers → Each (IsOutgoing n of v) (sent v)
   unfolding sent
   goes v h = (is_part v h).goes
 

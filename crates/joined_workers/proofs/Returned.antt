@@ -13,7 +13,7 @@ use Rattle.window_laws.specs.Windows.{is_from_sender}
 use Rattle.copy_exchange.proofs.Windows.{returns_from}
 use Rattle.worker_window.specs.declared.share.Share.{Share}
 use Rattle.worker_cut.specs.Crossed.{is_own}
-use Rattle.worker_window.specs.Window.{GoesOut}
+use Rattle.worker_window.specs.Window.{IsOutgoing}
 use Rattle.all_workers.specs.declared.workers.Workers.{Workers}
 use Rattle.all_workers.specs.declared.worker.Worker.{Worker}
 use Rattle.all_workers.specs.Workers.{IsAt}
@@ -23,10 +23,10 @@ use Rattle.all_workers.proofs.Lookups.{read, as_long}
 use Rattle.all_workers.proofs.Step.{own_of}
 
 -- a mote that is another worker's sent nothing of what went out
-none_from : (n : NetTold) (of : List ℕ) (w s : ℕ) → (slice_index of s == w) ≡ false → (sent : List RadioCopy) → Each (GoesOut n of w) sent → filter (is_from_sender s) sent ≡ []
-none_from n of w s other sent out = filter_none (is_from_sender s) sent (every_weaker (GoesOut n of w) (λ (c : RadioCopy). is_from_sender s c ≡ false) one sent out)
+none_from : (n : NetTold) (of : List ℕ) (w s : ℕ) → (slice_index of s == w) ≡ false → (sent : List RadioCopy) → Each (IsOutgoing n of w) sent → filter (is_from_sender s) sent ≡ []
+none_from n of w s other sent out = filter_none (is_from_sender s) sent (every_weaker (IsOutgoing n of w) (λ (c : RadioCopy). is_from_sender s c ≡ false) one sent out)
   where
-    one : (c : RadioCopy) → GoesOut n of w c → is_from_sender s c ≡ false
+    one : (c : RadioCopy) → IsOutgoing n of w c → is_from_sender s c ≡ false
     one c g = of_case (cases_Bool (is_from_sender s c))
       where
         of_case : (is_from_sender s c ≡ true) ⊎ (is_from_sender s c ≡ false) → is_from_sender s c ≡ false

@@ -12,7 +12,7 @@ use Rattle.copy_exchange.specs.Takers.{taken_by, gathered_by}
 use Rattle.copy_exchange.specs.Inboxes.{IsPlain}
 use Rattle.worker_cut.specs.Crossed.{is_own, IsDue}
 use Rattle.worker_window.specs.Share.{Motes, Keeps}
-use Rattle.worker_window.specs.Window.{CanRun, RunsWindow, GoesOut}
+use Rattle.worker_window.specs.Window.{CanRun, RunsWindow, IsOutgoing}
 use Rattle.all_workers.specs.Workers.{IsCut, IsNotBefore}
 use Rattle.all_workers.specs.declared.worker.Worker.{Worker}
 
@@ -47,5 +47,5 @@ pub record RunsWorker (n : NetTold) (of : List ℕ) (inboxes : List InboxId) (un
       → from ≤ until → until ≤ from + (system_of n).lookahead
       → Each (IsDue of old.endpoint.worker from) arrived
       → RunsWindow n of old.endpoint.worker from until motes (taken_by new.endpoint.taker) new.share sent
-  pub out : Each (GoesOut n of old.endpoint.worker) sent
+  pub out : Each (IsOutgoing n of old.endpoint.worker) sent
   pub first : IsFirstOf sent new.first_out

@@ -5,7 +5,7 @@ use Rattle.mote_net.specs.Net.{NetTold}
 use Rattle.window_laws.proofs.Lists.{every_filter, every_passes}
 use Rattle.worker_cut.specs.Crossed.{is_own, is_to}
 use Rattle.copy_inbox.specs.declared.items.Carried.TheVariants.{Packet}
-use Rattle.worker_window.specs.Window.{GoesOut}
+use Rattle.worker_window.specs.Window.{IsOutgoing}
 use Rattle.all_workers.proofs.Step.{own_of}
 use Rattle.mark_laws.specs.State.{State}
 use Rattle.mark_laws.specs.Steps.{MayTake}
@@ -35,13 +35,13 @@ module _ (n : NetTold) (of : List ℕ) (width windows workers : ℕ) (histories 
       (λ k le lt. every_passes (is_to of worker) ((histories other).sent k))
       copy may
 
-  not_own : (c : RadioCopy) → GoesOut n of other c → not (is_own of worker c.sender) ≡ true
+  not_own : (c : RadioCopy) → IsOutgoing n of other c → not (is_own of worker c.sender) ≡ true
   not_own c goes = ap not (not_other of other worker c.sender (own_of of other c.sender goes.sender) may.pair.apart)
 
   passes_not : not (is_own of worker copy.sender) ≡ true
   passes_not =
       each_taken_passes (λ k c. not (is_own of worker c.sender)) (λ k c h. h) (plan_of of windows workers histories) w reached worker other
-      (λ k le lt. every_filter (GoesOut n of other) (λ (c : RadioCopy). not (is_own of worker c.sender) ≡ true) (is_to of worker) (λ c goes yes. not_own c goes) ((histories other).sent k) (ran k le lt).goes)
+      (λ k le lt. every_filter (IsOutgoing n of other) (λ (c : RadioCopy). not (is_own of worker c.sender) ≡ true) (is_to of worker) (λ c goes yes. not_own c goes) ((histories other).sent k) (ran k le lt).goes)
       copy may
 
   not_true : (b : Bool) → not b ≡ true → b ≡ false

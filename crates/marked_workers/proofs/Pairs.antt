@@ -14,7 +14,7 @@ use Rattle.copy_inbox.specs.Handles.{SenderView}
 use Rattle.copy_exchange.proofs.Parts.{from, from-append, of_one_sender}
 use Rattle.mark_exchange.specs.Pushes.{packets_in, pushes}
 use Rattle.mark_exchange.proofs.Early.{packets_append, packets_pushes}
-use Rattle.worker_window.specs.Window.{GoesOut}
+use Rattle.worker_window.specs.Window.{IsOutgoing}
 use Rattle.all_workers.proofs.Lookups.{there, inside, read, mapped, same_found, each_at}
 use Rattle.copy_exchange.specs.Endpoints.{pushed_list}
 use Rattle.marked_workers.specs.All.{AllRan}
@@ -32,10 +32,10 @@ pub not_other : (of : List ℕ) (v w s : ℕ) → slice_get of s ≡ Some v → 
 not_other of v w s e ne = ap (λ o. option_map_or (λ x. eqb x w) o false) e ∙ ne_eqb v w ne
 
 -- what goes out of a worker is of its own motes
-foreign_none : (n : NetTold) (of : List ℕ) (v s : ℕ) → is_own of v s ≡ false → (sent : List RadioCopy) → Each (GoesOut n of v) sent → filter (is_from_sender s) sent ≡ []
+foreign_none : (n : NetTold) (of : List ℕ) (v s : ℕ) → is_own of v s ≡ false → (sent : List RadioCopy) → Each (IsOutgoing n of v) sent → filter (is_from_sender s) sent ≡ []
 foreign_none n of v s other sent goes =
     filter_none (is_from_sender s) sent
-    (every_weaker (GoesOut n of v) (λ (c : RadioCopy). is_from_sender s c ≡ false) (λ c g. ne_eqb c.sender s (λ e. false≢true (sym other ∙ (ap (is_own of v) (sym e) ∙ g.sender)))) sent goes)
+    (every_weaker (IsOutgoing n of v) (λ (c : RadioCopy). is_from_sender s c ≡ false) (λ c g. ne_eqb c.sender s (λ e. false≢true (sym other ∙ (ap (is_own of v) (sym e) ∙ g.sender)))) sent goes)
 
 module _ (n : NetTold) (of : List ℕ) (width windows workers : ℕ) (all : AllRan n of width windows workers) where
   -- what worker v sent to the motes of worker u, in each window

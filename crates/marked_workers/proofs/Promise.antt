@@ -16,7 +16,7 @@ use Rattle.copy_exchange.proofs.Parts.{copies-append}
 use Rattle.mark_exchange.specs.Pushes.{marks_in}
 use Rattle.worker_window.specs.declared.share.Share.{Share}
 use Rattle.worker_window.specs.Share.{Keeps}
-use Rattle.worker_window.specs.Window.{RunsWindow, GoesOut}
+use Rattle.worker_window.specs.Window.{RunsWindow, IsOutgoing}
 use Rattle.marked_workers.specs.Bounds.{bound}
 use Rattle.marked_workers.specs.WorkerHistory.{RunsMotes, WorkerRunsWindows, WorkerRunsMarked}
 use Rattle.marked_workers.proofs.Bounds.{at_first}
@@ -37,7 +37,7 @@ promise_first n of width workers worker share state taken nobody keeps = record 
 module _ (n : NetTold) (of : List ℕ) (width workers worker k : ℕ) (share ran_share last_share : Share) (state : TakerState) (pushed pushes_now : ℕ → List Carried) (more : List Item) (sent : List RadioCopy)
     (promise : WorkerRunsMarked n of width k workers worker share state pushed)
     (window : RunsWindow n of worker (bound width n.end k) (bound width n.end (suc k)) (promise.history.motes k) (copies_of state.taken) ran_share sent)
-    (goes : Each (GoesOut n of worker) sent)
+    (goes : Each (IsOutgoing n of worker) sent)
     (lead : (s : ℕ) → s < state.made → suc k ≤ marks_in (part s (state.taken ++ more)))
     (of_made : OfMade state.made (state.taken ++ more))
     (pushes_more : (v : ℕ) → v < workers → v ≢ worker → pushes_now v ≡ pushed v ++ (map Packet (filter (is_to of v) sent) ++ Mark k ∷ []))

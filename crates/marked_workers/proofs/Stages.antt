@@ -8,13 +8,13 @@ use Rattle.mote_net.specs.Net.{NetTold}
 use Rattle.window_laws.specs.System.{RunsForward}
 use Rattle.window_laws.specs.Windows.{Alone, first_mote, Windows, is_at, Last}
 use Rattle.net_agenda.specs.NetSystem.{system_of}
-use Rattle.worker_cut.specs.Crossed.{is_own, is_to, copies_known, leaves}
+use Rattle.worker_cut.specs.Crossed.{is_own, is_to, copies_known, is_outgoing}
 use Rattle.worker_cut.specs.Laws.{GatheredCopies}
 use Rattle.copy_inbox.specs.Items.{copies_of}
 use Rattle.copy_exchange.proofs.Parts.{from, from-append}
 use Rattle.mark_exchange.specs.Pushes.{sent_before}
 use Rattle.worker_window.specs.Share.{Motes}
-use Rattle.worker_window.specs.Window.{RunsOwn, copies_out}
+use Rattle.worker_window.specs.Window.{RunsOwn, outgoing_by}
 use Rattle.all_workers.specs.Workers.{IsCut}
 use Rattle.all_workers.proofs.Lookups.{each_at}
 use Rattle.all_workers.proofs.Same.{own_copies_same}
@@ -77,13 +77,13 @@ module _ (n : NetTold) (fine : RunsForward (system_of n)) (of : List ℕ) (width
           alone = subst (λ x. Alone (system_of n) m until ran.given x ((all.histories v).motes (suc k) m)) (own_stage v lv k m mine) ran.alone;
         }
 
-    same_out : (v : ℕ) → v < workers → (s : ℕ) → copies_out n (is_own of v) ((all.histories v).motes k) s ≡ copies_out n (is_own of v) (stage k) s
+    same_out : (v : ℕ) → v < workers → (s : ℕ) → outgoing_by n (is_own of v) ((all.histories v).motes k) s ≡ outgoing_by n (is_own of v) (stage k) s
     same_out v lv s = elim (cases_Bool (is_own of v s)) [
-      | inl e ↦ rw e (ap (filter (leaves (is_own of v))) (own_copies_same n of v ((all.histories v).motes k) (stage k) (own_stage v lv k) s e))
+      | inl e ↦ rw e (ap (filter (is_outgoing (is_own of v))) (own_copies_same n of v ((all.histories v).motes k) (stage k) (own_stage v lv k) s e))
       | inr e ↦ rw e refl
     ]
 
-    own_out : (v : ℕ) → v < workers → (s : ℕ) → copies_out n (is_own of v) ((all.histories v).motes (suc k)) s ≡ copies_out n (is_own of v) (stage k) s ++ from s ((all.histories v).sent k)
+    own_out : (v : ℕ) → v < workers → (s : ℕ) → outgoing_by n (is_own of v) ((all.histories v).motes (suc k)) s ≡ outgoing_by n (is_own of v) (stage k) s ++ from s ((all.histories v).sent k)
     own_out v lv s = ((all.ran v lv).runs k low).out s ∙ ap (λ l. l ++ from s ((all.histories v).sent k)) (same_out v lv s)
 
     -- one window more was sent

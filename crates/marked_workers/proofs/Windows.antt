@@ -23,7 +23,7 @@ use Rattle.mark_exchange.specs.Marks.{Counts}
 use Rattle.mark_exchange.specs.Pushes.{marks_in}
 use Rattle.mark_exchange.proofs.Delivered.{takes_stays, takes_on_inboxes}
 use Rattle.worker_window.specs.Share.{Keeps}
-use Rattle.worker_window.specs.Window.{CanRun, GoesOut, RunsWindow}
+use Rattle.worker_window.specs.Window.{CanRun, IsOutgoing, RunsWindow}
 use Rattle.all_workers.specs.Workers.{IsCut}
 use Rattle.all_workers.proofs.Sent.{leaves_sent}
 use Rattle.all_workers.specs.declared.worker.Worker.{Worker}
@@ -35,7 +35,7 @@ use Rattle.marked_workers.proofs.Bounds.{are_windows, begins_before, no_wider}
 use Rattle.marked_workers.proofs.Promise.{promise_first, promise_next}
 
 -- what goes out of a worker is for a mote of one of the workers
-pub reaches_sent : (n : NetTold) (of : List ℕ) (workers worker : ℕ) (sent : List RadioCopy) → IsCut (length n.motes) workers of → Each (GoesOut n of worker) sent → Each (Reaches of workers) sent
+pub reaches_sent : (n : NetTold) (of : List ℕ) (workers worker : ℕ) (sent : List RadioCopy) → IsCut (length n.motes) workers of → Each (IsOutgoing n of worker) sent → Each (Reaches of workers) sent
 reaches_sent n of workers worker sent cut out = every_weaker _ _ (λ c h. record { there = h.there; its_worker = h.its_worker }) sent (leaves_sent n of workers worker sent cut out)
 
 -- items of senders that were made have no part of another
@@ -125,8 +125,8 @@ module _ (n : NetTold) (of : List ℕ) (width k until : ℕ) (inboxes : List Inb
         let s = short in
         sends.runs worker (bound width n.end k) (stands.promise.history.motes k) (copies_of state.taken) stands.promise.keeps up (omega arith)
 
-    goes : Each (GoesOut n of worker) sends.sent
-    goes = subst (λ w. Each (GoesOut n of w) sends.sent) stands.promise.keeps.is_worker sends.out
+    goes : Each (IsOutgoing n of worker) sends.sent
+    goes = subst (λ w. Each (IsOutgoing n of w) sends.sent) stands.promise.keeps.is_worker sends.out
 
     taker_is : new.endpoint.base.taker ≡ after_taking old.endpoint.base.taker more
     taker_is = takes.took.taker ∙ ap (λ t. after_taking t more) sends.pushes.taker

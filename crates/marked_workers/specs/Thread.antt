@@ -11,7 +11,7 @@ use Rattle.mark_exchange.specs.Delivers.{PushesWindow}
 use Rattle.mark_exchange.specs.Due.{TakesDue}
 use Rattle.mark_exchange.specs.Marks.{AllPast, Counts}
 use Rattle.worker_window.specs.Share.{Keeps, Motes}
-use Rattle.worker_window.specs.Window.{GoesOut, RunsWindow}
+use Rattle.worker_window.specs.Window.{IsOutgoing, RunsWindow}
 use Rattle.worker_cut.specs.Crossed.{IsDue}
 use Rattle.all_workers.specs.Workers.{IsCut}
 use Rattle.all_workers.specs.declared.worker.Worker.{Worker}
@@ -52,7 +52,7 @@ pub record SendsWindow (n : NetTold) (of : List ℕ) (workers window until : ℕ
   pub runs : (worker from : ℕ) (motes : Motes) (taken : List RadioCopy) → Keeps n of worker from motes taken old.share
       → from ≤ until → until ≤ from + (system_of n).lookahead
       → RunsWindow n of worker from until motes taken new.share sent
-  pub out : Each (GoesOut n of old.share.worker) sent
+  pub out : Each (IsOutgoing n of old.share.worker) sent
   pub pushes : PushesWindow of workers window old.endpoint.base new.endpoint.base sent
   pub marks : new.endpoint.marks ≡ old.endpoint.marks
 

@@ -13,7 +13,7 @@ use Rattle.copy_inbox.specs.Items.{copies_of, part, OfMade}
 use Rattle.mark_exchange.specs.Pushes.{marks_in, pushes}
 use Rattle.worker_window.specs.declared.share.Share.{Share}
 use Rattle.worker_window.specs.Share.{Motes, Keeps}
-use Rattle.worker_window.specs.Window.{RunsOwn, GoesOut, copies_out}
+use Rattle.worker_window.specs.Window.{RunsOwn, IsOutgoing, outgoing_by}
 use Rattle.marked_workers.specs.Bounds.{bound}
 
 -- What a worker had before each window, its motes and all items that it had taken by then, and what its motes sent to
@@ -27,9 +27,9 @@ pub record WorkerHistory : Type 0 where
 pub record RunsMotes (n : NetTold) (of : List ℕ) (worker from until : ℕ) (motes next : Motes)
     (taken sent : List RadioCopy) : Type 0 where
   pub runs : (k : ℕ) → is_own of worker k ≡ true → RunsOwn n (is_own of worker) from until motes next taken k
-  pub out : (s : ℕ) → copies_out n (is_own of worker) next s
-      ≡ copies_out n (is_own of worker) motes s ++ filter (is_from_sender s) sent
-  pub goes : Each (GoesOut n of worker) sent
+  pub out : (s : ℕ) → outgoing_by n (is_own of worker) next s
+      ≡ outgoing_by n (is_own of worker) motes s ++ filter (is_from_sender s) sent
+  pub goes : Each (IsOutgoing n of worker) sent
   pub late : Each (λ (copy : RadioCopy). until ≤ copy.at) sent
 
 -- So many windows of one worker, from the first moment on. Before each window it had taken, of each sender that was

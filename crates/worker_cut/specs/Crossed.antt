@@ -15,8 +15,8 @@ abbrev pub is_to : (of : List ℕ) → (worker : ℕ) → RadioCopy → Bool
 is_to of worker copy = is_own of worker copy.to
 
 -- the copy is for a mote of another worker
-abbrev pub leaves : (own : ℕ → Bool) → RadioCopy → Bool
-leaves own copy = not (own copy.to)
+abbrev pub is_outgoing : (own : ℕ → Bool) → RadioCopy → Bool
+is_outgoing own copy = not (own copy.to)
 
 -- the copy is for a mote of this worker, from a mote of another, and comes at this moment or later
 pub record IsDue (of : List ℕ) (worker from : ℕ) (copy : RadioCopy) : Type 0 where

@@ -1,4 +1,4 @@
--- A worker's window: the motes that are called leave, run and come back one after another.
+-- A worker's window: the motes that are called are lent, run, and come back one after another.
 use Rattle.std.proofs.Common.{◌≡◌, ℕ, ◌+◌, ◌<◌, ◌≤◌, ◌^◌, Bool, true, false, not, ◌&&◌, ◌||◌, eqb, List, [], ◌∷◌, ◌++◌, length, refl, sym, ap, ◌∙◌, subst, inl, inr, arith, append_assoc, Option}
 use Rattle.std.specs.List.{filter, flat_map, AllByRecursion, AllZip}
 use Rattle.std.proofs.lemmas.Bool.{cases_eq, eq-eqb, ne_eqb, false≢true}
@@ -13,12 +13,12 @@ use Rattle.window_run.specs.declared.out.WindowOut.{WindowOut}
 use Rattle.window_run.specs.declared.share.Resident.{Resident}
 use Rattle.net_agenda.specs.NetSystem.{tree_at, system_of}
 use Rattle.worker_window.specs.declared.share.Share.{Share}
-use Rattle.worker_cut.specs.Crossed.{is_own, copies_known, leaves}
+use Rattle.worker_cut.specs.Crossed.{is_own, copies_known, is_outgoing}
 use Rattle.worker_window.specs.Share.{Motes, IsShare, wake_from}
-use Rattle.worker_window.specs.Window.{GoesOut, RunsWindow, copies_out}
-use Rattle.worker_window.specs.Leaving.{HasNumber, IsOutOfMote, MoteReturns, is_one_of, are_different, numbers_of}
+use Rattle.worker_window.specs.Window.{IsOutgoing, RunsWindow, outgoing_by}
+use Rattle.worker_window.specs.Lending.{HasNumber, IsOutOfMote, MoteReturns, is_one_of, are_different, numbers_of}
 use Rattle.worker_window.proofs.Gives.{IsSentIn, IsBack, come_late}
-use Rattle.worker_window.proofs.Left.{among_more, different_less}
+use Rattle.worker_window.proofs.Lent.{among_more, different_less}
 use Rattle.worker_window.proofs.Back.{next, at_k, elsewhere, out_more, is_back}
 
 -- an answer of a mote of this worker
@@ -41,9 +41,9 @@ fits n of worker until motes out fit e early = record {
     le_chain a b c h k = omega arith
 
 pub go_out : (n : NetTold) (of : List ℕ) (worker until : ℕ) (out : WindowOut) → length n.radio.places ≡ length n.motes → IsFitOwn n of worker until out
-    → AllByRecursion (GoesOut n of worker) (filter (leaves (is_own of worker)) (flat_map (copies n.radio) out.sends.items))
+    → AllByRecursion (IsOutgoing n of worker) (filter (is_outgoing (is_own of worker)) (flat_map (copies n.radio) out.sends.items))
 go_out n of worker until out placed fit =
-    every_filter _ _ (leaves (is_own of worker)) (λ c h e. record { sender = ap (is_own of worker) h.0 ∙ fit.mine; to = not_true (is_own of worker c.to) e; there = h.1 }) (flat_map (copies n.radio) out.sends.items)
+    every_filter _ _ (is_outgoing (is_own of worker)) (λ c h e. record { sender = ap (is_own of worker) h.0 ∙ fit.mine; to = not_true (is_own of worker c.to) e; there = h.1 }) (flat_map (copies n.radio) out.sends.items)
     (every_flat_map (λ c. (c.sender ≡ fit.number) × (c.to < length n.motes)) (copies n.radio) out.sends.items
     (every_weaker _ _ (λ x g. every_weaker _ _ (λ c i. (i.sender ∙ g.sender, let t = i.there in omega arith)) (copies n.radio x) (copies_later n.radio x)) out.sends.items fit.sent))
   where
@@ -100,7 +100,7 @@ abbrev pub IsPending : (until : ℕ) → Motes → (k : ℕ) → (wake : Option 
 IsPending until motes k wake = wake ≡ wake_from until (motes k).wake
 
 -- some motes are still out
-pub record Coming (n : NetTold) (of : List ℕ) (worker from until : ℕ) (motes : Motes) (taken : List RadioCopy) (window_copies : ℕ → List RadioCopy) (share : Share) (outs : List WindowOut) (wakes : List (Option ℕ)) (away : List RadioCopy) : Type 0 where
+pub record Coming (n : NetTold) (of : List ℕ) (worker from until : ℕ) (motes : Motes) (taken : List RadioCopy) (window_copies : ℕ → List RadioCopy) (share : Share) (outs : List WindowOut) (wakes : List (Option ℕ)) (outgoing : List RadioCopy) : Type 0 where
   pub rest : List ℕ
   pub different : are_different rest ≡ true
   pub now : Motes
@@ -110,8 +110,8 @@ pub record Coming (n : NetTold) (of : List ℕ) (worker from until : ℕ) (motes
   pub waits : (k : ℕ) → is_one_of k rest ≡ true → now k ≡ motes k
   pub others : (k : ℕ) → is_own of worker k ≡ false → now k ≡ motes k
   pub alone : (k : ℕ) → is_own of worker k ≡ true → is_one_of k rest ≡ false → Alone (system_of n) k until (window_copies k) (motes k) (now k)
-  pub sent : (s : ℕ) → copies_out n (is_own of worker) now s ≡ copies_out n (is_own of worker) motes s ++ filter (is_from_sender s) away
-  pub late : AllByRecursion (λ (copy : RadioCopy). until ≤ copy.at) away
+  pub sent : (s : ℕ) → outgoing_by n (is_own of worker) now s ≡ outgoing_by n (is_own of worker) motes s ++ filter (is_from_sender s) outgoing
+  pub late : AllByRecursion (λ (copy : RadioCopy). until ≤ copy.at) outgoing
 
 or_none : (b : Bool) → (b || false) ≡ b
 or_none true = refl
@@ -172,22 +172,22 @@ module _ (n : NetTold) (of : List ℕ) (worker from until : ℕ) (motes : Motes)
           | inr ne ↦ subst (λ m. Alone (system_of n) j until (window_copies j) (motes j) m) (sym (else_same j ne)) (coming.alone j h (among_else j ne ∙ e))
         ]
 
-    away_is : after ≡ before ++ filter (leaves mine) (flat_map (copies n.radio) out.sends.items)
-    away_is = ret.away ∙ ap (λ w. before ++ filter (leaves (is_own of w)) (flat_map (copies n.radio) out.sends.items)) coming.stands.is_worker
+    away_is : after ≡ before ++ filter (is_outgoing mine) (flat_map (copies n.radio) out.sends.items)
+    away_is = ret.outgoing ∙ ap (λ w. before ++ filter (is_outgoing (is_own of w)) (flat_map (copies n.radio) out.sends.items)) coming.stands.is_worker
 
-    sent_then : (s : ℕ) → copies_out n mine after_it s ≡ copies_out n mine motes s ++ filter (is_from_sender s) after
+    sent_then : (s : ℕ) → outgoing_by n mine after_it s ≡ outgoing_by n mine motes s ++ filter (is_from_sender s) after
     sent_then s =
         out_more n of worker from until motes coming.now taken window_copies placed short front k d.1 out l.last waited s
-        ∙ (ap (λ x. x ++ filter (is_from_sender s) (filter (leaves mine) (flat_map (copies n.radio) out.sends.items))) (coming.sent s)
-        ∙ (append_assoc (copies_out n mine motes s) (filter (is_from_sender s) before) (filter (is_from_sender s) (filter (leaves mine) (flat_map (copies n.radio) out.sends.items)))
-        ∙ ap (λ x. copies_out n mine motes s ++ x)
-        (sym (ap (filter (is_from_sender s)) away_is ∙ filter-append (is_from_sender s) before (filter (leaves mine) (flat_map (copies n.radio) out.sends.items))))))
+        ∙ (ap (λ x. x ++ filter (is_from_sender s) (filter (is_outgoing mine) (flat_map (copies n.radio) out.sends.items))) (coming.sent s)
+        ∙ (append_assoc (outgoing_by n mine motes s) (filter (is_from_sender s) before) (filter (is_from_sender s) (filter (is_outgoing mine) (flat_map (copies n.radio) out.sends.items)))
+        ∙ ap (λ x. outgoing_by n mine motes s ++ x)
+        (sym (ap (filter (is_from_sender s)) away_is ∙ filter-append (is_from_sender s) before (filter (is_outgoing mine) (flat_map (copies n.radio) out.sends.items))))))
 
     late_then : AllByRecursion (λ (copy : RadioCopy). until ≤ copy.at) after
     late_then =
         subst (AllByRecursion (λ (copy : RadioCopy). until ≤ copy.at)) (sym away_is)
         (every_append _ before _ coming.late
-        (every_filter _ _ (leaves mine) (λ copy h e. h.late) (flat_map (copies n.radio) out.sends.items) (come_late n from until placed short k out.sends.items l.last.sent)))
+        (every_filter _ _ (is_outgoing mine) (λ copy h e. h.late) (flat_map (copies n.radio) out.sends.items) (come_late n from until placed short k out.sends.items l.last.sent)))
 
     pub one_back : Coming n of worker from until motes taken window_copies share more less after
     one_back = record {
@@ -216,10 +216,10 @@ module _ (n : NetTold) (of : List ℕ) (worker from until : ℕ) (motes : Motes)
   and_yes true = refl
   and_yes false = refl
 
-  pub all_back : (share : Share) (outs : List WindowOut) (wakes : List (Option ℕ)) (away : List RadioCopy) → outs ≡ [] → Coming n of worker from until motes taken window_copies share outs wakes away
+  pub all_back : (share : Share) (outs : List WindowOut) (wakes : List (Option ℕ)) (outgoing : List RadioCopy) → outs ≡ [] → Coming n of worker from until motes taken window_copies share outs wakes outgoing
       → ((k : ℕ) → all_mine k ≡ true → (t s : ℕ) → filter (is_from_sender s) (filter (is_at t) (window_copies k)) ≡ filter (is_at t) (filter (is_within k from until) (copies_known (system_of n) all_mine motes taken s)))
-      → RunsWindow n of worker from until motes taken share away
-  all_back share outs wakes away e coming given_to = record {
+      → RunsWindow n of worker from until motes taken share outgoing
+  all_back share outs wakes outgoing e coming given_to = record {
     next = coming.now;
     runs = λ k h. record { given = window_copies k; is_given = given_to k h; alone = coming.alone k h (ap (is_one_of k) none) };
     others = coming.others;

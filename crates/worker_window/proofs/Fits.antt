@@ -17,7 +17,7 @@ use Rattle.worker_window.specs.declared.share.Share.{Share}
 use Rattle.worker_window.specs.Calls.{CalledMotes, copies_for, TakesEventsBefore}
 use Rattle.worker_cut.specs.Crossed.{is_own}
 use Rattle.worker_window.specs.Share.{IsKept, node_at, mote_here}
-use Rattle.worker_window.specs.Leaving.{IsCalled, MotesLeave}
+use Rattle.worker_window.specs.Lending.{IsCalled, MotesAreLent}
 use Rattle.worker_window.specs.Window.{CanRun}
 use Rattle.worker_window.proofs.Begins.{own_there}
 use Rattle.worker_window.proofs.Behind.{past_later}
@@ -68,7 +68,7 @@ module _ (n : NetTold) (of : List ℕ) (share : Share) (kept : IsKept n of share
     pub called_here : (k : ℕ) → IsSome (copies_for calls k) → IsSome (mote_here share.motes.items k)
     called_here k h = some_mote (tree_at n k) (mote_here share.motes.items k) _ (kept.keeps.nodes k (called_mine k (is_some_of (copies_for calls k) h)))
 
-    module _ (new : List (Option Mote)) (residents : List Resident) (wakes : List (Option ℕ)) (leaves : MotesLeave until calls share.motes.items new residents wakes) (order : kept.from ≤ until) where
+    module _ (new : List (Option Mote)) (residents : List Resident) (wakes : List (Option ℕ)) (lent : MotesAreLent until calls share.motes.items new residents wakes) (order : kept.from ≤ until) where
       number_mine : (r : Resident) → IsCalled calls share.motes.items r → mine r.number ≡ true
       number_mine r called = called_mine r.number (ap is_some called.copies)
 
@@ -76,7 +76,7 @@ module _ (n : NetTold) (of : List ℕ) (share : Share) (kept : IsKept n of share
       number_there r called = let a = own_there of kept.worker r.number (number_mine r called) in omega arith
 
       pub in_net : AreInNet n residents
-      in_net = every_weaker _ _ number_there residents leaves.called
+      in_net = every_weaker _ _ number_there residents lent.called
 
       one_fits : (r : Resident) (out : WindowOut) → IsCalled calls share.motes.items r → ResidentGives n until r out → IsFitOwn n of share.worker until out
       one_fits r out called gives =
@@ -95,7 +95,7 @@ module _ (n : NetTold) (of : List ℕ) (share : Share) (kept : IsKept n of share
           }
 
       pub all_fit : (outs : List WindowOut) → GivesList n until residents outs → AllByRecursion (IsFitOwn n of share.worker until) outs
-      all_fit outs gives = zip_every (IsCalled calls share.motes.items) (ResidentGives n until) (IsFitOwn n of share.worker until) one_fits residents outs leaves.called gives
+      all_fit outs gives = zip_every (IsCalled calls share.motes.items) (ResidentGives n until) (IsFitOwn n of share.worker until) one_fits residents outs lent.called gives
 
 pub every_split : {X : Type 0} (P : X → Type 0) (xs : List X) (x : X) → AllByRecursion P (xs ++ x ∷ []) → AllByRecursion P xs × P x
 every_split P [] x h = (tt, h.0)

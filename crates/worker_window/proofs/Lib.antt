@@ -6,7 +6,7 @@ pub mod Fits
 pub mod Gives
 pub mod Idle
 pub mod Items
-pub mod Left
+pub mod Lent
 pub mod Lone
 pub mod Parts
 pub mod Places

@@ -17,7 +17,7 @@ use Rattle.worker_window.specs.declared.share.Share.{Share}
 use Rattle.worker_window.specs.Calls.{is_not_before, calls_for, TakesCopiesFor}
 use Rattle.worker_cut.specs.Crossed.{is_own, copies_known, IsDue}
 use Rattle.worker_window.specs.Share.{Motes, Keeps, is_to_come, wake_from}
-use Rattle.worker_window.specs.Leaving.{is_one_of}
+use Rattle.worker_window.specs.Lending.{is_one_of}
 use Rattle.worker_window.proofs.Items.{inside, all_wakes, packets_of_all}
 use Rattle.worker_window.proofs.Rises.{sorted_is_sorted}
 
@@ -190,7 +190,7 @@ module _ (n : NetTold) (of : List ℕ) (worker from until : ℕ) (motes : Motes)
       ∙ (ap (filter (λ c. not (ltb c.at until))) (known_now s)
       ∙ filter_both (λ c. not (ltb c.at until)) (is_to_come own from) (is_to_come own until) (λ c. still_later (own c.to) c.at from until le) (known s)))
 
-  -- once the motes that are called have left
+  -- once the motes that are called are lent
   module _ (numbers : List ℕ) (all : (k : ℕ) → is_one_of k numbers ≡ called k) where
     abbrev pub here : ℕ → Bool
     here k = own k && not (is_one_of k numbers)

@@ -5,7 +5,7 @@ use Rattle.radio_packet.specs.declared.copy.RadioCopy.{RadioCopy}
 use Rattle.mote_net.specs.Net.{NetTold}
 use Rattle.window_laws.specs.Windows.{Alone, copies_by, is_at, is_from_sender, is_within}
 use Rattle.net_agenda.specs.NetSystem.{system_of}
-use Rattle.worker_cut.specs.Crossed.{leaves, is_own, copies_known, IsDue}
+use Rattle.worker_cut.specs.Crossed.{is_outgoing, is_own, copies_known, IsDue}
 use Rattle.worker_window.specs.declared.share.Share.{Share}
 use Rattle.worker_window.specs.Share.{Motes, Keeps}
 
@@ -20,25 +20,26 @@ pub record RunsOwn (n : NetTold) (own : ℕ → Bool) (from until : ℕ) (motes 
       (copies_known (system_of n) own motes taken sender))
   pub alone : Alone (system_of n) number until given (motes number) (next number)
 
--- the copies of a mote's packets so far that go from this worker to others, in the order of sending
-abbrev pub copies_out : NetTold → (own : ℕ → Bool) → Motes → (sender : ℕ) → List RadioCopy
-copies_out n own motes sender = if own sender then filter (leaves own) (copies_by (system_of n) motes sender) else []
+-- the outgoing copies of the packets that a mote of this worker has sent so far, in the order of sending
+abbrev pub outgoing_by : NetTold → (own : ℕ → Bool) → Motes → (sender : ℕ) → List RadioCopy
+outgoing_by n own motes sender =
+    if own sender then filter (is_outgoing own) (copies_by (system_of n) motes sender) else []
 
 -- The worker's motes after the window: each ran alone, and the others are as before. The new share keeps them at the
--- window's end; what went out is, of each sender, what it sent to other workers in the window, and none of it comes
--- before the window's end.
+-- window's end; the outgoing copies are, of each sender, what it sent to other workers in the window, and none of them
+-- comes before the window's end.
 pub record RunsWindow (n : NetTold) (of : List ℕ) (worker from until : ℕ) (motes : Motes) (taken : List RadioCopy)
-    (new : Share) (sent : List RadioCopy) : Type 0 where
+    (new : Share) (outgoing : List RadioCopy) : Type 0 where
   pub next : Motes
   pub runs : (k : ℕ) → is_own of worker k ≡ true → RunsOwn n (is_own of worker) from until motes next taken k
   pub others : (k : ℕ) → is_own of worker k ≡ false → next k ≡ motes k
   pub keeps : Keeps n of worker until next taken new
-  pub out : (s : ℕ) → copies_out n (is_own of worker) next s ≡ copies_out n (is_own of worker) motes s
-      ++ filter (is_from_sender s) sent
-  pub late : Each (λ (copy : RadioCopy). until ≤ copy.at) sent
+  pub out : (s : ℕ) → outgoing_by n (is_own of worker) next s ≡ outgoing_by n (is_own of worker) motes s
+      ++ filter (is_from_sender s) outgoing
+  pub late : Each (λ (copy : RadioCopy). until ≤ copy.at) outgoing
 
 -- from a mote of this worker to one of another
-pub record GoesOut (n : NetTold) (of : List ℕ) (worker : ℕ) (copy : RadioCopy) : Type 0 where
+pub record IsOutgoing (n : NetTold) (of : List ℕ) (worker : ℕ) (copy : RadioCopy) : Type 0 where
   pub sender : is_own of worker copy.sender ≡ true
   pub to : is_own of worker copy.to ≡ false
   pub there : copy.to < length n.motes
