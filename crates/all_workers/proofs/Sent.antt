@@ -28,9 +28,9 @@ there_at [] k workers h all = absurd (omega arith)
 there_at (x ∷ of) zero workers h all = all.0
 there_at (x ∷ of) (suc k) workers h all = there_at of k workers (omega arith) all.1
 
-pub leaves_sent : (n : NetTold) (of : List ℕ) (workers worker : ℕ) (sent : List RadioCopy)
-    → IsCut (length n.motes) workers of → Each (IsOutgoing n of worker) sent → Each (Leaves of workers worker) sent
-leaves_sent n of workers worker sent cut out = every_weaker _ _ one sent out
+pub leaves_sent : (n : NetTold) (of : List ℕ) (workers worker : ℕ) (outgoing : List RadioCopy)
+    → IsCut (length n.motes) workers of → Each (IsOutgoing n of worker) outgoing → Each (Leaves of workers worker) outgoing
+leaves_sent n of workers worker outgoing cut out = every_weaker _ _ one outgoing out
   where
     one : (c : RadioCopy) → IsOutgoing n of worker c → Leaves of workers worker c
     one c g =

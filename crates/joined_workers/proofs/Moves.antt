@@ -72,9 +72,9 @@ module _ (n : NetTold) (of : List ℕ) (from until : ℕ) (old new : Workers) (a
     pub comes : Each (IsDue of v from) p.ran.arrived
     comes = arrived_come n of from at.motes old.first_out v p.share p.taker p.here at.first p.endpoint p.starts p.ran.between p.ran.arrived p.ran.collects
 
-    pub window : RunsWindow n of v from until at.motes (taken_by p.done.endpoint.taker) p.done.share p.ran.sent
+    pub window : RunsWindow n of v from until at.motes (taken_by p.done.endpoint.taker) p.done.share p.ran.outgoing
     window =
-        subst (λ w. RunsWindow n of w from until at.motes (taken_by p.done.endpoint.taker) p.done.share p.ran.sent) p.number
+        subst (λ w. RunsWindow n of w from until at.motes (taken_by p.done.endpoint.taker) p.done.share p.ran.outgoing) p.number
         (p.ran.runs from at.motes
         (subst (λ w. Keeps n of w from at.motes (taken_by p.endpoint.taker) p.share) (sym p.number) (subst (λ t. Keeps n of v from at.motes t p.share) (sym taken_same) p.here.keeps))
         up short

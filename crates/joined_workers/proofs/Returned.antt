@@ -23,8 +23,8 @@ use Rattle.all_workers.proofs.Lookups.{read, as_long}
 use Rattle.all_workers.proofs.Step.{own_of}
 
 -- a mote that is another worker's sent nothing of what went out
-none_from : (n : NetTold) (of : List ℕ) (w s : ℕ) → (slice_index of s == w) ≡ false → (sent : List RadioCopy) → Each (IsOutgoing n of w) sent → filter (is_from_sender s) sent ≡ []
-none_from n of w s other sent out = filter_none (is_from_sender s) sent (every_weaker (IsOutgoing n of w) (λ (c : RadioCopy). is_from_sender s c ≡ false) one sent out)
+none_from : (n : NetTold) (of : List ℕ) (w s : ℕ) → (slice_index of s == w) ≡ false → (outgoing : List RadioCopy) → Each (IsOutgoing n of w) outgoing → filter (is_from_sender s) outgoing ≡ []
+none_from n of w s other outgoing out = filter_none (is_from_sender s) outgoing (every_weaker (IsOutgoing n of w) (λ (c : RadioCopy). is_from_sender s c ≡ false) one outgoing out)
   where
     one : (c : RadioCopy) → IsOutgoing n of w c → is_from_sender s c ≡ false
     one c g = of_case (cases_Bool (is_from_sender s c))
@@ -39,8 +39,8 @@ none_from n of w s other sent out = filter_none (is_from_sender s) sent (every_w
 module _ (n : NetTold) (of : List ℕ) (until : ℕ) (inboxes : List InboxId) where
   one_back : (t : TakerView) (s : Share) (c : Endpoint) (d : Worker) → StartsAs t c → RunsWorker n of inboxes until (make_worker (s, c)) d → Returns inboxes (slice_index of) c d.endpoint
   one_back t s c d starts ran =
-      returns_from inboxes of (slice_index of) t c ran.between d.endpoint ran.arrived ran.sent starts ran.collects ran.delivers ran.endpoint
-      (λ k other. none_from n of c.worker k other ran.sent ran.out)
+      returns_from inboxes of (slice_index of) t c ran.between d.endpoint ran.arrived ran.outgoing starts ran.collects ran.delivers ran.endpoint
+      (λ k other. none_from n of c.worker k other ran.outgoing ran.out)
 
   all_back : (takers : List TakerView) (shares : List Share) (endpoints : List Endpoint) (done : List Worker) → AllZip StartsAs takers endpoints → length endpoints ≡ length shares
       → AllZip (RunsWorker n of inboxes until) (map make_worker (zip shares endpoints)) done → AllZip (Returns inboxes (slice_index of)) endpoints (map (λ (worker : Worker). worker.endpoint) done)

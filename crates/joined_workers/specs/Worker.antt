@@ -34,18 +34,18 @@ pub record IsFirstOf (copies : List RadioCopy) (first : Option ℕ) : Type 0 whe
   pub none_before : Each (IsNotBefore first) copies
   pub greatest : (moment : ℕ) → Each (λ (copy : RadioCopy). moment ≤ copy.at) copies → WakesFrom moment first
 
--- The worker took in what was sent to it, ran its motes, and delivered what they sent to motes of others.
+-- The worker took in what was sent to it, ran its motes, and delivered the outgoing copies.
 pub record RunsWorker (n : NetTold) (of : List ℕ) (inboxes : List InboxId) (until : ℕ) (old new : Worker) : Type 0 where
   pub arrived : List RadioCopy
-  pub sent : List RadioCopy
+  pub outgoing : List RadioCopy
   pub between : Endpoint
   pub collects : Collects old.endpoint between arrived
-  pub delivers : Delivers of between new.endpoint sent
+  pub delivers : Delivers of between new.endpoint outgoing
   pub endpoint : IsEndpoint inboxes new.endpoint
   pub runs : (from : ℕ) (motes : Motes)
       → Keeps n of old.endpoint.worker from motes (taken_by old.endpoint.taker) old.share
       → from ≤ until → until ≤ from + (system_of n).lookahead
       → Each (IsDue of old.endpoint.worker from) arrived
-      → RunsWindow n of old.endpoint.worker from until motes (taken_by new.endpoint.taker) new.share sent
-  pub out : Each (IsOutgoing n of old.endpoint.worker) sent
-  pub first : IsFirstOf sent new.first_out
+      → RunsWindow n of old.endpoint.worker from until motes (taken_by new.endpoint.taker) new.share outgoing
+  pub out : Each (IsOutgoing n of old.endpoint.worker) outgoing
+  pub first : IsFirstOf outgoing new.first_out

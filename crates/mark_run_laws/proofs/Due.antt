@@ -26,13 +26,13 @@ module _ (n : NetTold) (of : List ℕ) (width windows workers : ℕ) (histories 
   later : bound width n.end (suc (w.finished worker)) ≤ copy.at
   later =
       comes_later (λ k. bound width n.end (suc k)) (λ k. bounds_rise width n.end (suc k)) (plan_of of windows workers histories) w reached worker other
-      (λ k le lt. every_filter (λ (c : RadioCopy). bound width n.end (suc k) ≤ c.at) (λ (c : RadioCopy). bound width n.end (suc k) ≤ c.at) (is_to of worker) (λ c h yes. h) ((histories other).sent k) (ran k le lt).late)
+      (λ k le lt. every_filter (λ (c : RadioCopy). bound width n.end (suc k) ≤ c.at) (λ (c : RadioCopy). bound width n.end (suc k) ≤ c.at) (is_to of worker) (λ c h yes. h) ((histories other).outgoing k) (ran k le lt).late)
       copy may
 
   to : is_own of worker copy.to ≡ true
   to =
       each_taken_passes (λ k c. is_own of worker c.to) (λ k c h. h) (plan_of of windows workers histories) w reached worker other
-      (λ k le lt. every_passes (is_to of worker) ((histories other).sent k))
+      (λ k le lt. every_passes (is_to of worker) ((histories other).outgoing k))
       copy may
 
   not_own : (c : RadioCopy) → IsOutgoing n of other c → not (is_own of worker c.sender) ≡ true
@@ -41,7 +41,7 @@ module _ (n : NetTold) (of : List ℕ) (width windows workers : ℕ) (histories 
   passes_not : not (is_own of worker copy.sender) ≡ true
   passes_not =
       each_taken_passes (λ k c. not (is_own of worker c.sender)) (λ k c h. h) (plan_of of windows workers histories) w reached worker other
-      (λ k le lt. every_filter (IsOutgoing n of other) (λ (c : RadioCopy). not (is_own of worker c.sender) ≡ true) (is_to of worker) (λ c goes yes. not_own c goes) ((histories other).sent k) (ran k le lt).goes)
+      (λ k le lt. every_filter (IsOutgoing n of other) (λ (c : RadioCopy). not (is_own of worker c.sender) ≡ true) (is_to of worker) (λ c goes yes. not_own c goes) ((histories other).outgoing k) (ran k le lt).goes)
       copy may
 
   not_true : (b : Bool) → not b ≡ true → b ≡ false

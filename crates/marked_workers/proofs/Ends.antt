@@ -97,7 +97,7 @@ module _ (n : NetTold) (of : List ℕ) (width windows : ℕ) (group : Workers) (
   no_part = record {
     state = make_taker_state false 0 [] [];
     senders = [];
-    history = record { motes = λ k. first_mote (system_of n); taken = λ k. []; sent = λ k. [] };
+    history = record { motes = λ k. first_mote (system_of n); taken = λ k. []; outgoing = λ k. [] };
   }
 
   parts : (f : ℕ → Part) × ((v : ℕ) → v < workers → IsPart v (f v))

@@ -32,20 +32,20 @@ pub not_other : (of : List ℕ) (v w s : ℕ) → slice_get of s ≡ Some v → 
 not_other of v w s e ne = ap (λ o. option_map_or (λ x. eqb x w) o false) e ∙ ne_eqb v w ne
 
 -- what goes out of a worker is of its own motes
-foreign_none : (n : NetTold) (of : List ℕ) (v s : ℕ) → is_own of v s ≡ false → (sent : List RadioCopy) → Each (IsOutgoing n of v) sent → filter (is_from_sender s) sent ≡ []
-foreign_none n of v s other sent goes =
-    filter_none (is_from_sender s) sent
-    (every_weaker (IsOutgoing n of v) (λ (c : RadioCopy). is_from_sender s c ≡ false) (λ c g. ne_eqb c.sender s (λ e. false≢true (sym other ∙ (ap (is_own of v) (sym e) ∙ g.sender)))) sent goes)
+foreign_none : (n : NetTold) (of : List ℕ) (v s : ℕ) → is_own of v s ≡ false → (outgoing : List RadioCopy) → Each (IsOutgoing n of v) outgoing → filter (is_from_sender s) outgoing ≡ []
+foreign_none n of v s other outgoing goes =
+    filter_none (is_from_sender s) outgoing
+    (every_weaker (IsOutgoing n of v) (λ (c : RadioCopy). is_from_sender s c ≡ false) (λ c g. ne_eqb c.sender s (λ e. false≢true (sym other ∙ (ap (is_own of v) (sym e) ∙ g.sender)))) outgoing goes)
 
 module _ (n : NetTold) (of : List ℕ) (width windows workers : ℕ) (all : AllRan n of width windows workers) where
   -- what worker v sent to the motes of worker u, in each window
   abbrev pub sent_to : (v u : ℕ) → ℕ → List RadioCopy
-  sent_to v u k = filter (is_to of u) ((all.histories v).sent k)
+  sent_to v u k = filter (is_to of u) ((all.histories v).outgoing k)
 
   pub none_sent : (v u s k : ℕ) → v < workers → k < windows → is_own of v s ≡ false → from s (sent_to v u k) ≡ []
   none_sent v u s k there_is low other =
-      filter_filter (is_from_sender s) (is_to of u) ((all.histories v).sent k)
-      ∙ ap (filter (is_to of u)) (foreign_none n of v s other ((all.histories v).sent k) ((all.ran v there_is).runs k low).goes)
+      filter_filter (is_from_sender s) (is_to of u) ((all.histories v).outgoing k)
+      ∙ ap (filter (is_to of u)) (foreign_none n of v s other ((all.histories v).outgoing k) ((all.ran v there_is).runs k low).goes)
 
   -- the sender of worker v on the inbox of worker u
   pub record Pair (u v : ℕ) : Type 0 where

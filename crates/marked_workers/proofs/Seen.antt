@@ -57,7 +57,7 @@ module _ (n : NetTold) (of : List ℕ) (width windows workers : ℕ) (all : AllR
       let e : k + (j - k) ≡ j = omega arith in
       let later = subst (λ i. bound width n.end (suc k) ≤ bound width n.end (suc i)) e (no_sooner width n.end windows are k (j - k) (omega arith)) in
       every_filter (λ (c : RadioCopy). bound width n.end (suc j) ≤ c.at) (λ c. sees k mote c ≡ false) (is_to of u)
-      (λ c late to. too_late _ _ c.at (bound width n.end (suc k)) (at_least _ _ c.at later late)) ((all.histories v).sent j) ((all.ran v lv).runs j low).late
+      (λ c late to. too_late _ _ c.at (bound width n.end (suc k)) (at_least _ _ c.at later late)) ((all.histories v).outgoing j) ((all.ran v lv).runs j low).late
     where
       at_least : (a b c : ℕ) → a ≤ b → b ≤ c → a ≤ c
       at_least a b c h k = omega arith

@@ -83,12 +83,12 @@ module _ (n : NetTold) (fine : RunsForward (system_of n)) (of : List ℕ) (width
       | inr e ↦ rw e refl
     ]
 
-    own_out : (v : ℕ) → v < workers → (s : ℕ) → outgoing_by n (is_own of v) ((all.histories v).motes (suc k)) s ≡ outgoing_by n (is_own of v) (stage k) s ++ from s ((all.histories v).sent k)
-    own_out v lv s = ((all.ran v lv).runs k low).out s ∙ ap (λ l. l ++ from s ((all.histories v).sent k)) (same_out v lv s)
+    own_out : (v : ℕ) → v < workers → (s : ℕ) → outgoing_by n (is_own of v) ((all.histories v).motes (suc k)) s ≡ outgoing_by n (is_own of v) (stage k) s ++ from s ((all.histories v).outgoing k)
+    own_out v lv s = ((all.ran v lv).runs k low).out s ∙ ap (λ l. l ++ from s ((all.histories v).outgoing k)) (same_out v lv s)
 
     -- one window more was sent
     sent_more : (v s : ℕ) (o : Option ℕ) → slice_get of s ≡ o
-        → from s (so_far v (suc k)) ≡ from s (so_far v k) ++ option_map_or (λ u. from s (filter (is_to of v) ((all.histories u).sent k))) o []
+        → from s (so_far v (suc k)) ≡ from s (so_far v k) ++ option_map_or (λ u. from s (filter (is_to of v) ((all.histories u).outgoing k))) o []
     sent_more v s None e =
         of_nobody n of width windows workers all cut are v (suc k) s (omega arith) e
         ∙ sym (append-nil (from s (so_far v k)) ∙ of_nobody n of width windows workers all cut are v k s (omega arith) e)
@@ -103,10 +103,10 @@ module _ (n : NetTold) (fine : RunsForward (system_of n)) (of : List ℕ) (width
 
     next_reached : Reached k → Reached (suc k)
     next_reached at = record {
-      led = led_next n fine of workers cut start until (stage k) (begins_before width n.end windows are k low) narrow (λ v. so_far v k) (λ v. so_far v k) (λ v. (all.histories v).sent k) (λ v. (all.histories v).motes (suc k)) at.told
+      led = led_next n fine of workers cut start until (stage k) (begins_before width n.end windows are k low) narrow (λ v. so_far v k) (λ v. so_far v k) (λ v. (all.histories v).outgoing k) (λ v. (all.histories v).motes (suc k)) at.told
           (λ v lv s. refl) own_runs own_out (λ v lv. ((all.ran v lv).runs k low).goes) at.led;
       told = λ v lv.
-          told_next n fine of workers cut start until (stage k) (begins_before width n.end windows are k low) narrow (λ v. so_far v k) (λ v. so_far v k) (λ v. (all.histories v).sent k) (λ v. (all.histories v).motes (suc k)) at.told
+          told_next n fine of workers cut start until (stage k) (begins_before width n.end windows are k low) narrow (λ v. so_far v k) (λ v. so_far v k) (λ v. (all.histories v).outgoing k) (λ v. (all.histories v).motes (suc k)) at.told
           (λ v lv s. refl) own_runs own_out (λ v lv. ((all.ran v lv).runs k low).goes) v lv (so_far v (suc k)) (λ s. sent_more v s (slice_get of s) refl);
     }
 

@@ -46,14 +46,14 @@ pub record IsStarted (n : NetTold) (of : List ℕ) (inboxes : List InboxId) (w :
   pub none_gathered : w.endpoint.base.taker.state.gathered ≡ []
   pub none_pushed : HasPushedNothing w.endpoint.base
 
--- its motes ran through a window, and what they sent to others went out, with the window's mark after it
+-- its motes ran through a window, and the outgoing copies were pushed, with the window's mark after them
 pub record SendsWindow (n : NetTold) (of : List ℕ) (workers window until : ℕ) (old new : MarkWorker) : Type 0 where
-  pub sent : List RadioCopy
+  pub outgoing : List RadioCopy
   pub runs : (worker from : ℕ) (motes : Motes) (taken : List RadioCopy) → Keeps n of worker from motes taken old.share
       → from ≤ until → until ≤ from + (system_of n).lookahead
-      → RunsWindow n of worker from until motes taken new.share sent
-  pub out : Each (IsOutgoing n of old.share.worker) sent
-  pub pushes : PushesWindow of workers window old.endpoint.base new.endpoint.base sent
+      → RunsWindow n of worker from until motes taken new.share outgoing
+  pub out : Each (IsOutgoing n of old.share.worker) outgoing
+  pub pushes : PushesWindow of workers window old.endpoint.base new.endpoint.base outgoing
   pub marks : new.endpoint.marks ≡ old.endpoint.marks
 
 -- it took items until the window's mark of each other worker had come, and what they carry is in its share

@@ -41,7 +41,7 @@ impl<R, G> Drop for MarkRunner<'_, R, G> {
     }
 }
 
-/// The worker's motes run through a window, and what they send to others goes out, with the window's mark after it.
+/// The worker's motes run through a window, and the outgoing copies are pushed, with the window's mark after them.
 fn send_window<R: Wait + RandomSource + AllocGlobal, G: Gate>(
     rt: &R,
     gate: &G,
@@ -64,13 +64,13 @@ fn send_window<R: Wait + RandomSource + AllocGlobal, G: Gate>(
     let ran = worker
         .share
         .run_window(rt, run.net, run.of, none, until, gate);
-    let sent = match ran {
-        Ok(sent) => sent,
+    let outgoing = match ran {
+        Ok(outgoing) => outgoing,
         Err(error) => return Err(refusal_of(error)),
     };
     let Ok(()) = worker
         .endpoint
-        .deliver_window(rt, run.inboxes, run.of, &sent, window)
+        .deliver_window(rt, run.inboxes, run.of, &outgoing, window)
     else {
         return Err(Refused::Memory);
     };
