@@ -23,7 +23,7 @@ use Rattle.all_workers.specs.declared.workers.Workers.{Workers}
 use Rattle.all_workers.specs.declared.worker.Worker.{Worker}
 use Rattle.all_workers.specs.Workers.{IsAt, IsWorkerAt}
 use Rattle.all_workers.specs.Worker.{make_worker}
-use Rattle.joined_workers.specs.Laws.{RunsAll}
+use Rattle.joined_workers.specs.Laws.{GroupRunsUntil}
 use Rattle.all_workers.specs.Workers.{IsCut, IsNotBefore}
 use Rattle.joined_workers.specs.Worker.{IsFirstOf}
 use Rattle.all_workers.proofs.Choose.{choose}
@@ -40,7 +40,7 @@ record Told : Type 0 where
   gathered : List RadioCopy
   outgoing : List RadioCopy
 
-module _ (n : NetTold) (fine : RunsForward (system_of n)) (of : List ℕ) (from until : ℕ) (old new : Workers) (at : IsAt n of from old) (up : from < until) (short : until ≤ from + (system_of n).lookahead) (all : RunsAll n of until old new) where
+module _ (n : NetTold) (fine : RunsForward (system_of n)) (of : List ℕ) (from until : ℕ) (old new : Workers) (at : IsAt n of from old) (up : from < until) (short : until ≤ from + (system_of n).lookahead) (all : GroupRunsUntil n of until old new) where
   abbrev workers : ℕ
   workers = length old.inboxes.items
 

@@ -16,13 +16,13 @@ use Rattle.all_workers.specs.declared.workers.Workers.{Workers}
 use Rattle.all_workers.specs.declared.worker.Worker.{Worker}
 use Rattle.all_workers.specs.Workers.{IsAt, IsWorkerAt}
 use Rattle.all_workers.specs.Worker.{make_worker}
-use Rattle.joined_workers.specs.Laws.{RunsAll}
+use Rattle.joined_workers.specs.Laws.{GroupRunsUntil}
 use Rattle.joined_workers.specs.Worker.{RunsWorker}
 use Rattle.all_workers.proofs.Lookups.{there, read, mapped, paired, beside, as_long}
 use Rattle.all_workers.proofs.Numbered.{numbered}
 use Rattle.joined_workers.proofs.Ready.{arrived_come}
 
-module _ (n : NetTold) (of : List ℕ) (from until : ℕ) (old new : Workers) (at : IsAt n of from old) (all : RunsAll n of until old new) where
+module _ (n : NetTold) (of : List ℕ) (from until : ℕ) (old new : Workers) (at : IsAt n of from old) (all : GroupRunsUntil n of until old new) where
   -- one worker of the window: what it had, and what it has
   pub record Piece (v : ℕ) : Type 0 where
     pub share : Share

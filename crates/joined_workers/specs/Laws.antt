@@ -17,7 +17,7 @@ use Rattle.joined_workers.specs.Worker.{RunsWorker}
 
 -- The senders of all workers were made together, each worker ran through the window with its own, and then all senders
 -- were gathered.
-pub record RunsAll (n : NetTold) (of : List ℕ) (until : ℕ) (old new : Workers) : Type 0 where
+pub record GroupRunsUntil (n : NetTold) (of : List ℕ) (until : ℕ) (old new : Workers) : Type 0 where
   pub endpoints : List Endpoint
   pub done : List Worker
   pub together : Together old.inboxes.items endpoints
@@ -34,7 +34,7 @@ pub record RunsAll (n : NetTold) (of : List ℕ) (until : ℕ) (old new : Worker
 abbrev pub WindowMovesOn : Type 0
 WindowMovesOn = (n : NetTold) → RunsForward (system_of n) → (of : List ℕ) (from until : ℕ) (old new : Workers)
     → IsAt n of from old → from < until → until ≤ from + (system_of n).lookahead
-    → RunsAll n of until old new → IsAt n of until new
+    → GroupRunsUntil n of until old new → IsAt n of until new
 
 -- the next moment at which something comes isn't sooner than where the workers stand, and until then they stand
 abbrev pub StandsUntilNext : Type 0

@@ -8,7 +8,7 @@ use Rattle.mote_net.specs.Net.{NetTold}
 use Rattle.window_laws.specs.System.{RunsForward}
 use Rattle.window_laws.specs.Windows.{Alone, first_mote, Windows, is_at, Last}
 use Rattle.net_agenda.specs.NetSystem.{system_of}
-use Rattle.worker_cut.specs.Crossed.{is_own, is_to, copies_known, is_outgoing}
+use Rattle.worker_cut.specs.Crossed.{is_own, is_to, copies_seen, is_outgoing}
 use Rattle.worker_cut.specs.Laws.{GatheredCopies}
 use Rattle.copy_inbox.specs.Items.{copies_of}
 use Rattle.copy_exchange.proofs.Parts.{from, from-append}
@@ -61,8 +61,8 @@ module _ (n : NetTold) (fine : RunsForward (system_of n)) (of : List ℕ) (width
 
     -- of its own motes and of what it could see, the worker knew what all of them were and what was sent
     same_known : (v : ℕ) → v < workers → (m s : ℕ)
-        → filter (sees n of width windows workers all cut are k m) (copies_known (system_of n) (is_own of v) ((all.histories v).motes k) (copies_of ((all.histories v).taken k)) s)
-        ≡ filter (sees n of width windows workers all cut are k m) (copies_known (system_of n) (is_own of v) (stage k) (so_far v k) s)
+        → filter (sees n of width windows workers all cut are k m) (copies_seen (system_of n) (is_own of v) ((all.histories v).motes k) (copies_of ((all.histories v).taken k)) s)
+        ≡ filter (sees n of width windows workers all cut are k m) (copies_seen (system_of n) (is_own of v) (stage k) (so_far v k) s)
     same_known v lv m s = elim (cases_Bool (is_own of v s)) [
       | inl e ↦ rw e (ap (filter (sees n of width windows workers all cut are k m)) (own_copies_same n of v ((all.histories v).motes k) (stage k) (own_stage v lv k) s e))
       | inr e ↦ rw e (seen n of width windows workers all cut are v lv k low m s e)

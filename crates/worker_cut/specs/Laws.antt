@@ -6,7 +6,7 @@ use Rattle.radio_packet.specs.declared.copy.RadioCopy.{RadioCopy}
 use Rattle.window_laws.specs.System.{System, RunsForward}
 use Rattle.window_laws.specs.Windows.{LoneMote, first_mote, Windows, is_at, is_from_sender, is_within, IsInbox}
 use Rattle.window_laws.specs.Windows.{IsJoined, as_log}
-use Rattle.worker_cut.specs.Crossed.{is_own, crossed, copies_known}
+use Rattle.worker_cut.specs.Crossed.{is_own, crossed, copies_seen}
 use Rattle.worker_cut.specs.Carried.{AreThoseTo}
 
 -- this worker gathered, of each mote, what the mote has sent across to it
@@ -25,7 +25,7 @@ abbrev pub IsFromSources : {S L : Type 0} → System S L → (own : ℕ → Bool
     → (given : List RadioCopy) → Type 0
 IsFromSources system own from bound motes taken number given = (moment sender : ℕ)
     → filter (is_from_sender sender) (filter (is_at moment) given)
-    ≡ filter (is_at moment) (filter (is_within number from bound) (copies_known system own motes taken sender))
+    ≡ filter (is_at moment) (filter (is_within number from bound) (copies_seen system own motes taken sender))
 
 abbrev pub WindowCopiesAreWhole : {S L : Type 0} → System S L → Type 0
 WindowCopiesAreWhole {S} {L} system =

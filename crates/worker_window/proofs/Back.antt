@@ -24,7 +24,7 @@ use Rattle.net_agenda.specs.Buckets.{Holds}
 use Rattle.net_agenda.specs.Changes.{without_wakes}
 use Rattle.net_agenda.specs.NetSystem.{tree_at, system_of}
 use Rattle.worker_window.specs.declared.share.Share.{Share}
-use Rattle.worker_cut.specs.Crossed.{is_own, copies_known, is_outgoing}
+use Rattle.worker_cut.specs.Crossed.{is_own, copies_seen, is_outgoing}
 use Rattle.window_run.specs.Window.{number_of}
 use Rattle.worker_window.specs.Share.{Motes, IsShare, HasToCome, node_at, mote_here, is_to_come, wake_from}
 use Rattle.worker_window.specs.Window.{outgoing_by}
@@ -212,24 +212,24 @@ module _ (n : NetTold) (of : List ℕ) (worker from until : ℕ) (before now : M
         ∙ (ap (λ l. packets (without_wakes k has.items) ++ l) (packets_wake k out.wake) ∙ (append-nil (packets (without_wakes k has.items)) ∙ packets_unwoken k has.items)))
         ∙ ap (λ l. packets has.items ++ l) (packets_map sent_own))
 
-    new_copies : (s : ℕ) → filter (is_from_sender s) (packets items) ≡ filter (is_to_come own until) (copies_known (system_of n) own next taken s)
-    new_copies = by_mote (λ s. filter (is_from_sender s) (packets items) ≡ filter (is_to_come own until) (copies_known (system_of n) own next taken s)) one other
+    new_copies : (s : ℕ) → filter (is_from_sender s) (packets items) ≡ filter (is_to_come own until) (copies_seen (system_of n) own next taken s)
+    new_copies = by_mote (λ s. filter (is_from_sender s) (packets items) ≡ filter (is_to_come own until) (copies_seen (system_of n) own next taken s)) one other
       where
-        split : (s : ℕ) → filter (is_from_sender s) (packets items) ≡ filter (is_to_come own until) (copies_known (system_of n) own now taken s) ++ filter (is_from_sender s) sent_own
+        split : (s : ℕ) → filter (is_from_sender s) (packets items) ≡ filter (is_to_come own until) (copies_seen (system_of n) own now taken s) ++ filter (is_from_sender s) sent_own
         split s = ap (filter (is_from_sender s)) packets_are ∙ (filter-append (is_from_sender s) (packets has.items) sent_own ∙ ap (λ l. l ++ filter (is_from_sender s) sent_own) (has.copies s))
 
-        one : filter (is_from_sender k) (packets items) ≡ filter (is_to_come own until) (copies_known (system_of n) own next taken k)
+        one : filter (is_from_sender k) (packets items) ≡ filter (is_to_come own until) (copies_seen (system_of n) own next taken k)
         one =
             let e = back.mine in
             split k
-            ∙ (ap (λ l. filter (is_to_come own until) (copies_known (system_of n) own now taken k) ++ l) (from_k ∙ come_own)
+            ∙ (ap (λ l. filter (is_to_come own until) (copies_seen (system_of n) own now taken k) ++ l) (from_k ∙ come_own)
             ∙ rw e (sym (filter-append (is_to_come own until) (copies_by (system_of n) now k) sent) ∙ ap (filter (is_to_come own until)) (sym copies_more)))
 
-        other : (s : ℕ) → (s ≡ k → ⊥) → filter (is_from_sender s) (packets items) ≡ filter (is_to_come own until) (copies_known (system_of n) own next taken s)
+        other : (s : ℕ) → (s ≡ k → ⊥) → filter (is_from_sender s) (packets items) ≡ filter (is_to_come own until) (copies_seen (system_of n) own next taken s)
         other s ne =
             split s
-            ∙ (ap (λ l. filter (is_to_come own until) (copies_known (system_of n) own now taken s) ++ l) (from_others (λ copy. own copy.to) s ne)
-            ∙ (append-nil (filter (is_to_come own until) (copies_known (system_of n) own now taken s))
+            ∙ (ap (λ l. filter (is_to_come own until) (copies_seen (system_of n) own now taken s) ++ l) (from_others (λ copy. own copy.to) s ne)
+            ∙ (append-nil (filter (is_to_come own until) (copies_seen (system_of n) own now taken s))
             ∙ ap (λ l. filter (is_to_come own until) (cond (own s) l (filter (is_from_sender s) taken))) (sym (copies_put s ne))))
 
     -- what holds of the mote that is back, and of each that was here

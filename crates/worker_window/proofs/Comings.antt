@@ -13,7 +13,7 @@ use Rattle.window_run.specs.declared.out.WindowOut.{WindowOut}
 use Rattle.window_run.specs.declared.share.Resident.{Resident}
 use Rattle.net_agenda.specs.NetSystem.{tree_at, system_of}
 use Rattle.worker_window.specs.declared.share.Share.{Share}
-use Rattle.worker_cut.specs.Crossed.{is_own, copies_known, is_outgoing}
+use Rattle.worker_cut.specs.Crossed.{is_own, copies_seen, is_outgoing}
 use Rattle.worker_window.specs.Share.{Motes, IsShare, wake_from}
 use Rattle.worker_window.specs.Window.{IsOutgoing, RunsWindow, outgoing_by}
 use Rattle.worker_window.specs.Lending.{HasNumber, IsOutOfMote, MoteReturns, is_one_of, are_different, numbers_of}
@@ -217,7 +217,7 @@ module _ (n : NetTold) (of : List ℕ) (worker from until : ℕ) (motes : Motes)
   and_yes false = refl
 
   pub all_back : (share : Share) (outs : List WindowOut) (wakes : List (Option ℕ)) (outgoing : List RadioCopy) → outs ≡ [] → Coming n of worker from until motes taken window_copies share outs wakes outgoing
-      → ((k : ℕ) → all_mine k ≡ true → (t s : ℕ) → filter (is_from_sender s) (filter (is_at t) (window_copies k)) ≡ filter (is_at t) (filter (is_within k from until) (copies_known (system_of n) all_mine motes taken s)))
+      → ((k : ℕ) → all_mine k ≡ true → (t s : ℕ) → filter (is_from_sender s) (filter (is_at t) (window_copies k)) ≡ filter (is_at t) (filter (is_within k from until) (copies_seen (system_of n) all_mine motes taken s)))
       → RunsWindow n of worker from until motes taken share outgoing
   all_back share outs wakes outgoing e coming given_to = record {
     next = coming.now;

@@ -15,7 +15,7 @@ use Rattle.window_laws.proofs.Order.{sorted_rising}
 use Rattle.net_agenda.specs.NetSystem.{system_of}
 use Rattle.worker_window.specs.declared.share.Share.{Share}
 use Rattle.worker_window.specs.Calls.{is_not_before, calls_for, TakesCopiesFor}
-use Rattle.worker_cut.specs.Crossed.{is_own, copies_known, IsDue}
+use Rattle.worker_cut.specs.Crossed.{is_own, copies_seen, IsDue}
 use Rattle.worker_window.specs.Share.{Motes, Keeps, is_to_come, wake_from}
 use Rattle.worker_window.specs.Lending.{is_one_of}
 use Rattle.worker_window.proofs.Items.{inside, all_wakes, packets_of_all}
@@ -71,7 +71,7 @@ module _ (n : NetTold) (of : List ℕ) (worker from until : ℕ) (motes : Motes)
   items = keeps.agenda.items ++ map Packet arrived
 
   abbrev pub known : ℕ → List RadioCopy
-  known s = copies_known (system_of n) own motes (taken ++ arrived) s
+  known s = copies_seen (system_of n) own motes (taken ++ arrived) s
 
   none_own : (s : ℕ) → own s ≡ true → filter (is_from_sender s) arrived ≡ []
   none_own s e = filter_none (is_from_sender s) arrived (every_weaker _ _ (λ c h. ne_eqb c.sender s (λ f. false≢true (sym h.sender ∙ (ap own f ∙ e)))) arrived come)
@@ -88,7 +88,7 @@ module _ (n : NetTold) (of : List ℕ) (worker from until : ℕ) (motes : Motes)
       ∙ (filter-append (is_from_sender s) (packets keeps.agenda.items) arrived
       ∙ (ap (λ l. l ++ filter (is_from_sender s) arrived) (keeps.agenda.copies s) ∙ go (own s) refl))
     where
-      go : (b : Bool) → own s ≡ b → filter (is_to_come own from) (copies_known (system_of n) own motes taken s) ++ filter (is_from_sender s) arrived ≡ filter (is_to_come own from) (known s)
+      go : (b : Bool) → own s ≡ b → filter (is_to_come own from) (copies_seen (system_of n) own motes taken s) ++ filter (is_from_sender s) arrived ≡ filter (is_to_come own from) (known s)
       go true e = rw e (ap (λ l. filter (is_to_come own from) (copies_by (system_of n) motes s) ++ l) (none_own s e) ∙ append-nil (filter (is_to_come own from) (copies_by (system_of n) motes s)))
       go false e =
           rw e (ap (λ l. filter (is_to_come own from) (filter (is_from_sender s) taken) ++ l) (sym (all_come s))

@@ -5,11 +5,11 @@ use Rattle.radio_packet.specs.declared.copy.RadioCopy.{RadioCopy}
 use Rattle.mote_net.specs.Net.{NetTold}
 use Rattle.window_laws.specs.Windows.{Alone, copies_by, is_at, is_from_sender, is_within}
 use Rattle.net_agenda.specs.NetSystem.{system_of}
-use Rattle.worker_cut.specs.Crossed.{is_outgoing, is_own, copies_known, IsDue}
+use Rattle.worker_cut.specs.Crossed.{is_outgoing, is_own, copies_seen, IsDue}
 use Rattle.worker_window.specs.declared.share.Share.{Share}
 use Rattle.worker_window.specs.Share.{Motes, Keeps}
 
--- A mote runs alone on what it is given of the copies that the worker knows: at each moment of the window, of each
+-- A mote runs alone on what it is given of the copies that the worker has seen: at each moment of the window, of each
 -- sender, the copies for it, in the order of sending.
 pub record RunsOwn (n : NetTold) (own : ℕ → Bool) (from until : ℕ) (motes next : Motes) (taken : List RadioCopy)
     (number : ℕ) : Type 0 where
@@ -17,7 +17,7 @@ pub record RunsOwn (n : NetTold) (own : ℕ → Bool) (from until : ℕ) (motes 
   pub is_given : (moment sender : ℕ)
       → filter (is_from_sender sender) (filter (is_at moment) given)
       ≡ filter (is_at moment) (filter (is_within number from until)
-      (copies_known (system_of n) own motes taken sender))
+      (copies_seen (system_of n) own motes taken sender))
   pub alone : Alone (system_of n) number until given (motes number) (next number)
 
 -- the outgoing copies of the packets that a mote of this worker has sent so far, in the order of sending
