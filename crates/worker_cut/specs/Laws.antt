@@ -7,7 +7,7 @@ use Rattle.window_laws.specs.System.{System, RunsForward}
 use Rattle.window_laws.specs.Windows.{LoneMote, first_mote, Windows, is_at, is_from_sender, is_within, IsInbox}
 use Rattle.window_laws.specs.Windows.{IsJoined, as_log}
 use Rattle.worker_cut.specs.Crossed.{is_own, crossed, copies_seen}
-use Rattle.worker_cut.specs.Carried.{AreThoseTo}
+use Rattle.worker_cut.specs.CrossesTo.{AreThoseTo}
 
 -- this worker gathered, of each mote, what the mote has sent across to it
 abbrev pub GatheredCopies : {S L : Type 0} → System S L → (of : List ℕ) → (motes : (number : ℕ) → LoneMote S L)

@@ -13,7 +13,7 @@ use Rattle.all_workers.specs.Start.{AreFirst}
 use Rattle.all_workers.specs.Workers.{IsCut}
 use Rattle.net_report.specs.declared.Report.{Report}
 use Rattle.net_report.specs.Report.{report_of}
-use Rattle.window_workers.specs.Carried.{Pair, AllCarried}
+use Rattle.window_workers.specs.Crossed.{Pair, AllCrossed}
 use Rattle.window_workers.specs.Fits.{cut_fault}
 use Rattle.serial_run.specs.NetRun.{IsReportOf}
 use Rattle.window_workers.specs.Sync.{IsFor}
@@ -79,10 +79,10 @@ returns-clause-handed_on g c =
     let n = net_of c.args.net.now in
     if_ok (λ (r : Report × Vec Pair Global). IsReportOf n (report_of r.0)) (λ (r : Report × Vec Pair Global). All (λ (v : Vec Line Global). IsInOrder v.items) r.0.traces.items) c.make_report.result (λ r h. all_hand_on n r.0 h) c.make_report.ensures.report
 
-pub returns-clause-carried : goal.returns-clause-carried
-returns-clause-carried g c =
+pub returns-clause-crossed : goal.returns-clause-crossed
+returns-clause-crossed g c =
     let n = net_of c.args.net.now in
-    subst (λ l. IfOk c.make_report.result (λ (r : Report × Vec Pair Global). AllCarried n l (report_of r.0) r.1.items)) c.as_slice-of.ensures.value c.make_report.ensures.carried
+    subst (λ l. IfOk c.make_report.result (λ (r : Report × Vec Pair Global). AllCrossed n l (report_of r.0) r.1.items)) c.as_slice-of.ensures.value c.make_report.ensures.crossed
 
 pub returns-clause-none_known : goal.returns-clause-none_known
 returns-clause-none_known g c =
