@@ -163,7 +163,7 @@ where
     let Ok((inboxes, takers)) = split_pairs(alloc, pairs) else {
         return Err(RunError::Memory);
     };
-    let Ok(group) = Workers::start(alloc, net, of, inboxes, takers) else {
+    let Ok(group) = Workers::new(alloc, net, of, inboxes, takers) else {
         return Err(RunError::Memory);
     };
     let group = run_by_kind(rt, alloc, net, of, cut.longest, sync, gate, group)?;
