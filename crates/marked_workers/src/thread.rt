@@ -11,7 +11,7 @@ ghost use Rattle.all_workers.specs.Workers.{IsCut};
 ghost use Rattle.marked_workers.specs.Bounds.{bound, windows_of};
 ghost use Rattle.marked_workers.specs.Refusals.{refused_of_marks};
 ghost use Rattle.marked_workers.specs.declared.worker.MarkWorker.{MarkWorker as MarkWorkerOfCode};
-ghost use Rattle.marked_workers.specs.Thread.{IsFirst, IsStarted, IsSame, HasRun, WorkerRunsAllWindows};
+ghost use Rattle.marked_workers.specs.Thread.{IsFirst, IsStarted, IsSame, HasRun, LeadsOn, WorkerRunsAllWindows};
 ghost use Rattle.marked_workers.specs.Thread.{SendsWindow, TakesWindow};
 
 use crate::worker::{MarkWorker, WorkersRun};
@@ -135,10 +135,8 @@ fn run_one<R: Wait + RandomSource + AllocGlobal, G: Gate>(
     requires cut { IsCut (length (net_of run.now.net.now).motes) (length run.now.inboxes.now) run.now.of.now }
     requires stands { (first : MarkWorkerOfCode) × HasRun (net_of run.now.net.now) run.now.of.now run.now.width
         window run.now.inboxes.now first worker.old }
-    ensures { let n = net_of run.now.net.now in OnOk result (run.now.width ≤ (system_of n).lookahead
-        → (first : MarkWorkerOfCode)
-        → HasRun n run.now.of.now run.now.width window run.now.inboxes.now first worker.old
-        → HasRun n run.now.of.now run.now.width (suc window) run.now.inboxes.now first worker.new) }
+    ensures { let n = net_of run.now.net.now in OnOk result
+        (LeadsOn n run.now.of.now run.now.width window run.now.inboxes.now worker.old worker.new) }
 {
     send_window(rt, gate, run, worker, window, until)?;
     take_window(rt, run, worker, window, until)

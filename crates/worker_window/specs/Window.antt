@@ -1,5 +1,5 @@
 -- What a window makes of a worker's motes, and what they send to others.
-use Rattle.std.specs.Prelude.{ℕ, ◌≡◌, ◌<◌, ◌≤◌, Bool, true, false, if◌then◌else◌, List, [], ◌++◌, length}
+use Rattle.std.specs.Prelude.{ℕ, ◌≡◌, ◌+◌, ◌<◌, ◌≤◌, Bool, true, false, if◌then◌else◌, List, [], ◌++◌, length}
 use Rattle.std.specs.List.{filter, AllByRecursion as Each}
 use Rattle.radio_packet.specs.declared.copy.RadioCopy.{RadioCopy}
 use Rattle.mote_net.specs.Net.{NetTold}
@@ -37,6 +37,22 @@ pub record RunsWindow (n : NetTold) (of : List ℕ) (worker from until : ℕ) (m
   pub out : (s : ℕ) → outgoing_by n (is_own of worker) next s ≡ outgoing_by n (is_own of worker) motes s
       ++ filter (is_from_sender s) outgoing
   pub late : Each (λ (copy : RadioCopy). until ≤ copy.at) outgoing
+
+-- Wherever the share stood, where its window is no longer than the lookahead and each copy that arrived is due: the new
+-- share is what the window makes of it, and these are the outgoing copies.
+abbrev pub RunsThrough : NetTold → (of : List ℕ) → (until : ℕ) → (arrived : List RadioCopy) → (old new : Share)
+    → (outgoing : List RadioCopy) → Type 0
+RunsThrough n of until arrived old new outgoing = (worker from : ℕ) (motes : Motes) (taken : List RadioCopy)
+    → Keeps n of worker from motes taken old → from ≤ until → until ≤ from + (system_of n).lookahead
+    → Each (IsDue of worker from) arrived
+    → RunsWindow n of worker from until motes (taken ++ arrived) new outgoing
+
+-- wherever the share stood, where each of these copies is due: the new one keeps the same, with them among what it has
+-- taken
+abbrev pub TakesIn : (arrived : List RadioCopy) → (old new : Share) → Type 0
+TakesIn arrived old new = (n : NetTold) (of : List ℕ) (worker from : ℕ) (motes : Motes) (taken : List RadioCopy)
+    → Keeps n of worker from motes taken old → Each (IsDue of worker from) arrived
+    → Keeps n of worker from motes (taken ++ arrived) new
 
 -- from a mote of this worker to one of another
 pub record IsOutgoing (n : NetTold) (of : List ℕ) (worker : ℕ) (copy : RadioCopy) : Type 0 where

@@ -1,6 +1,6 @@
 //! A worker's motes in a window: those that have a turn are lent out of the share, run, and come back.
 
-ghost use Rattle.std.specs.Prelude.{◌≡◌, ◌+◌, ◌<◌, ◌≤◌, ◌^◌, ◌++◌, ◌∷◌, ◌==◌, ℕ, true, [], length};
+ghost use Rattle.std.specs.Prelude.{◌≡◌, ◌<◌, ◌≤◌, ◌^◌, ◌++◌, ◌∷◌, ◌==◌, ℕ, true, [], length};
 ghost use Rattle.std.specs.Prelude.{map, List, Some, None, IfOk, OnOk, IsSome, slice_set};
 ghost use Rattle.std.specs.List.{filter, flat_map, list_all, AllByRecursion};
 ghost use Rattle.radio_medium.specs.Medium.{copies};
@@ -8,12 +8,10 @@ ghost use Rattle.window_laws.specs.Agenda.{Packet};
 ghost use Rattle.window_run.specs.Window.{is_rising};
 ghost use Rattle.net_agenda.specs.Changes.{Adds};
 ghost use Rattle.worker_window.specs.Calls.{copies_for};
-ghost use Rattle.mote_net.specs.Net.{NetTold, net_of};
-ghost use Rattle.net_agenda.specs.NetSystem.{system_of};
-ghost use Rattle.radio_packet.specs.declared.copy.RadioCopy.{RadioCopy as CopyOfCode};
-ghost use Rattle.worker_cut.specs.Crossed.{is_own, is_outgoing, IsDue};
-ghost use Rattle.worker_window.specs.Share.{Motes, Keeps, mote_here, wake_from};
-ghost use Rattle.worker_window.specs.Window.{CanRun, IsOutgoing, RunsWindow};
+ghost use Rattle.mote_net.specs.Net.{net_of};
+ghost use Rattle.worker_cut.specs.Crossed.{is_own, is_outgoing};
+ghost use Rattle.worker_window.specs.Share.{mote_here, wake_from};
+ghost use Rattle.worker_window.specs.Window.{CanRun, IsOutgoing, RunsThrough, TakesIn};
 ghost use Rattle.worker_window.specs.Log.{HaveFates, packets_in};
 ghost use Rattle.worker_window.specs.Sending.{outgoing_copies, own_items};
 ghost use Rattle.worker_window.specs.Lending.{MotesAreLent, HasNumber, IsOutOfMote, MoteReturns};
@@ -250,10 +248,7 @@ impl Share {
     /// # Errors
     /// `Memory` alone.
     pub fn take_in(&mut self, arrived: &[RadioCopy]) -> Result<(), AllocError>
-        ensures { OnOk result ((n : NetTold) (of : List ℕ) (worker from : ℕ) (motes : Motes) (taken : List CopyOfCode)
-            → Keeps n of worker from motes taken self.old
-            → AllByRecursion (IsDue of worker from) arrived.now
-            → Keeps n of worker from motes (taken ++ arrived.now) self.new) }
+        ensures { OnOk result (TakesIn arrived.now self.old self.new) }
     {
         self.agenda.put_copies(arrived)?;
         Ok(())
@@ -283,12 +278,8 @@ impl Share {
         requires of { length of.now ≡ length (net_of net.now).motes }
         requires ready { CanRun (net_of net.now) of.now until self.old arrived.items }
         requires to_own { AllByRecursion (λ copy. is_own of.now self.old.worker copy.to ≡ true) arrived.items }
-        ensures window { let n = net_of net.now in
-            IfOk result (λ outgoing. (worker from : ℕ) (motes : Motes) (taken : List CopyOfCode)
-            → Keeps n of.now worker from motes taken self.old
-            → from ≤ until → until ≤ from + (system_of n).lookahead
-            → AllByRecursion (IsDue of.now worker from) arrived.items
-            → RunsWindow n of.now worker from until motes (taken ++ arrived.items) self.new outgoing.items) }
+        ensures window { let n = net_of net.now in IfOk result
+            (λ outgoing. RunsThrough n of.now until arrived.items self.old self.new outgoing.items) }
         ensures out { let n = net_of net.now in IfOk result
             (λ outgoing. AllByRecursion (IsOutgoing n of.now self.old.worker) outgoing.items) }
     {
