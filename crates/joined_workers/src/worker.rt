@@ -74,7 +74,7 @@ fn first_of(copies: &[RadioCopy]) -> Option<u64>
 }
 
 /// Has a worker take in what other workers sent in earlier windows, while they may already send more; run its motes
-/// through the window; and deliver what they sent to the motes of others.
+/// through the window; and deliver the outgoing copies.
 fn run_worker<R: Wait + RandomSource + AllocGlobal, G: Gate>(
     rt: &R,
     gate: &G,
