@@ -34,8 +34,8 @@ pub record IsFirstOf (copies : List RadioCopy) (first : Option ℕ) : Type 0 whe
   pub none_before : Each (IsNotBefore first) copies
   pub greatest : (moment : ℕ) → Each (λ (copy : RadioCopy). moment ≤ copy.at) copies → WakesFrom moment first
 
--- Wherever the worker's share stood, where its window is no longer than the lookahead and each copy that arrived is due:
--- the new share is what the window makes of it, on all that the worker has then taken, and these are the outgoing copies.
+-- Wherever the share stood, where its window is no longer than the lookahead and each copy that arrived is due: the new
+-- share is what the window makes of it, on all that the worker has then taken, and these are the outgoing copies.
 abbrev pub RunsItsMotes : NetTold → (of : List ℕ) → (until : ℕ) → (arrived outgoing : List RadioCopy)
     → (old new : Worker) → Type 0
 RunsItsMotes n of until arrived outgoing old new = (from : ℕ) (motes : Motes)
